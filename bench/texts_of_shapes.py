@@ -494,6 +494,14 @@ def congruity_eighth(length: int) -> str:
 
 
 @shape()
+def congruity_routines(length: int) -> str:
+    """Routines, each with one call that compares lists of a quarter of the text."""
+    formals = formal_list(length // 4)
+    head = f"program p; procedure q(procedure a{formals});begin end; procedure r{formals};begin end; "
+    return filled(head, numbered("procedure a#;begin q(r)end;"), " begin end.\n", length)
+
+
+@shape()
 def congruity_small(length: int) -> str:
     """Calls that compare lists of 1,000 bytes."""
     return congruous(length, max(4, length // 1000))
@@ -674,6 +682,27 @@ def with_list_unknown(length: int) -> str:
     return within_list(length - 10, 5000, "a:r;y:integer", "a", "y:=1;").replace(" end end.", "zzz:=1 end end.")
 
 
+@shape()
+def with_list_wide(length: int) -> str:
+    """Records of 100 fields of one `with` list."""
+    head = f"program p; type r={wide_record(100)}; var a:r; begin with "
+    return filled(head, "a,", "a do a7:=1 end.\n", length)
+
+
+@shape()
+def with_list_fields(length: int) -> str:
+    """Assignments in a `with` of records of 100 fields that are half of the text."""
+    head = f"program p; type r={wide_record(100)}; var a:r;y:integer; begin with {','.join('a' * (length // 4))} do begin "
+    return filled(head, "y:=1;", " end end.\n", length)
+
+
+@shape(is_deep=True)
+def with_lists_deep(length: int) -> str:
+    """Assignments within as many `with` statements of two records as may be."""
+    head = "program p; type r=record x:integer end; var a:r; y:integer; begin " + "with a,a do " * DEPTH + "begin "
+    return filled(head, "y:=1;", " end end.\n", length)
+
+
 @shape(is_deep=True)
 def with_deep(length: int) -> str:
     """Assignments within as many `with` statements as may be."""
@@ -712,6 +741,12 @@ def for_deep(length: int) -> str:
 def for_deep_branches(length: int) -> str:
     """Conditions within as many `for` statements with computed ends as may be."""
     return within_for(length, "n", "if y then;", "n:integer;y:boolean;")
+
+
+@shape(is_deep=True)
+def for_deep_sum(length: int) -> str:
+    """A long sum within as many `for` statements as may be, and a call behind it."""
+    return within_for(length, "2", "y:=y" + "+y" * 1000 + ";", "y:integer;", "q", "procedure q;begin end;")
 
 
 @shape(is_deep=True)
@@ -874,6 +909,39 @@ nested(
     "members_deep", "`in` of members of one another", BOOLEAN, "true in [false..", "y", "]", " end.\n", "y:=",
     depth=DEPTH // 2,
 )
+
+
+def round_sum(length: int, opened: str, closed: str, declared: str, target: str, last: str = "", share: int = 1) -> str:
+    """A long sum in the innermost of as many expressions in one another as may be."""
+    depth = (DEPTH - 10) // share
+    head = f"program p; var y:integer;{declared} begin {target}{opened * depth}y"
+    return filled(head, "+y", f"{last}{closed * depth} end.\n", length)
+
+
+@shape(is_deep=True)
+def relations_round_sum(length: int) -> str:
+    """A long sum as the innermost operand of relations in one another."""
+    return round_sum(length, "b=(", ")", "b:boolean;", "b:=", ">0")
+
+
+@shape(is_deep=True)
+def sums_round_sum(length: int) -> str:
+    """A long sum as the innermost operand of sums in one another."""
+    return round_sum(length, "y+(", ")", "", "y:=")
+
+
+@shape(is_deep=True)
+def sums_round_call(length: int) -> str:
+    """The same with a call at the end of the long one."""
+    declared = "function f:integer;begin f:=1 end;"
+    return round_sum(length, "y+(", ")", declared, "y:=", "+f")
+
+
+@shape(is_deep=True)
+def indices_round_sum(length: int) -> str:
+    """A long sum as the innermost of indices in one another."""
+    return round_sum(length, "y+a[", "]", "a:array[1..2]of integer;", "y:=", share=2)
+
 
 OF_32 = f"function f({names('x', MOST_PARAMETERS)}:integer):integer;begin f:=1 end;"
 APPLIED_TO_32 = f"program p; var y:integer; {OF_32} begin "

@@ -1,7 +1,7 @@
 -- How a run ends.
 use Rattle.std.specs.Prelude.{ℕ, nat_eq, if◌then◌else◌, List, [], take}
 
--- what a processor could not do, or a stop whose link no trap table has
+-- what a processor could not do, or a stop whose link is in no trap table
 pub data FaultKind : Type 0 where
   BadWord : FaultKind
   BadAddress : FaultKind
@@ -25,16 +25,16 @@ pub data Ending : Type 0 where
   -- No rule of the meaning says what comes next.
   Stuck : Ending
 
--- an error, where these calls are open, innermost first: the first 16 are told
+-- an error while these calls are open, innermost first: the first 16 are reported
 abbrev pub failed : (number line : ℕ) → (calls : List ℕ) → Ending
 failed number line calls = Error number line (take 16 calls)
 
--- the ending that the number of an error stands for
+-- the ending for the number of an error
 abbrev pub ending_by : (number line : ℕ) → (calls : List ℕ) → Ending
 ending_by number line calls =
     if nat_eq number 12 then Stack line else if nat_eq number 13 then Heap line else failed number line calls
 
--- the calls that an ending tells
+-- the calls that an ending reports
 abbrev pub calls_of : Ending → List ℕ
 calls_of (Error number line calls) = calls
 calls_of _ = []

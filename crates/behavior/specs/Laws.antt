@@ -16,7 +16,7 @@ SameComposes = (a b c : ℕ → Shown) → Same a b → Same b c → Same a c
 abbrev pub SameIsWritten : Type 0
 SameIsWritten = (a b : ℕ → Shown) → Same a b → Same (λ n. written (a n)) (λ n. written (b n))
 
--- Nothing that b shows is missing in a: b at m is a at some n, or it goes on to it.
+-- Nothing that b shows is missing from a: b at m is a at some n, or goes on to it.
 abbrev pub SameHasConverse : Type 0
 SameHasConverse = (a b : ℕ → Shown) → Grows b → Same a b → (m : ℕ) → (n : ℕ) × GoesOn IsMore (b m) (a n)
 
@@ -24,8 +24,8 @@ SameHasConverse = (a b : ℕ → Shown) → Grows b → Same a b → (m : ℕ) �
 abbrev pub SameEndsAlike : Type 0
 SameEndsAlike = (a b : ℕ → Shown) → Grows b → Same a b → (m : ℕ) → (IsMore (b m).1 → ⊥) → (n : ℕ) × (a n ≡ b m)
 
--- A run b that is the same as a, which is a run c that may be stopped: b comes to what c shows, or is stopped on the way to it; and
--- what b shows is c's, or a part of it.
+-- A run b that is the same as a, which is a run c that may be stopped: b reaches what c shows, or is stopped on the way
+-- to it; and what b shows is what c shows, or a part of it.
 pub record Stopped (c b : ℕ → Shown) : Type 0 where
   pub comes : (n : ℕ) → (m : ℕ) × GoesOn IsStop (b m) (c n)
   pub shows : (m : ℕ) → (n : ℕ) × GoesOn (λ e. IsMore e ⊎ IsStop e) (b m) (c n)

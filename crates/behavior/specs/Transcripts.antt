@@ -3,7 +3,7 @@ use Rattle.std.specs.Prelude.{◌≡◌, ◌⊎◌, ℕ, ◌<◌, nat_lt, List, 
 use Rattle.std.specs.List.{All}
 use Rattle.behavior.specs.Endings.{Ending}
 
--- A transcript is the list of the bytes written, with a mark at each first look at a byte of the input, and at its end.
+-- A transcript is the list of the bytes written, with a mark at each first look at a byte of the input or at its end.
 abbrev pub mark : ℕ
 mark = 256
 
@@ -23,6 +23,6 @@ Shown = List ℕ × Ending
 abbrev pub written : Shown → List ℕ × Ending
 written x = (output x.0, x.1)
 
--- x goes on to y: it is y, or it broke off, by such an ending, after a part of y's transcript
+-- x goes on to y: it is y, or it breaks off, with such an ending, after a part of y's transcript
 abbrev pub GoesOn : {E : Type 0} → (Breaks : E → Type 0) → List ℕ × E → List ℕ × E → Type 0
 GoesOn Breaks x y = (x ≡ y) ⊎ (Breaks x.1 × ((rest : List ℕ) × (y.0 ≡ x.0 ++ rest)))

@@ -1,8 +1,9 @@
 // Laws of the definitions. Each is the contract of a function that does nothing when it runs.
 
-ghost use Rattle.behavior.specs.Laws.{OutputAppends, SameReflexive, SameComposes, SameIsWritten, SameHasConverse, SameEndsAlike, StopsCarryOver};
+ghost use Rattle.behavior.specs.Laws.{OutputAppends, SameReflexive, SameComposes, SameIsWritten, SameHasConverse};
+ghost use Rattle.behavior.specs.Laws.{SameEndsAlike, StopsCarryOver};
 
-/// What is written by two transcripts, one after the other, is what each writes.
+/// The output of two transcripts, one after the other, is the output of each in turn.
 pub fn output_appends()
     ensures { OutputAppends }
 {}
@@ -13,7 +14,7 @@ pub fn same_is_reflexive()
     ensures { SameReflexive }
 {}
 
-/// Sameness composes: this is how one layer of the compiler is put on another.
+/// Sameness is transitive: this is how one layer of the compiler is put on another.
 pub fn same_composes()
     ensures { SameComposes }
 {}
@@ -24,7 +25,7 @@ pub fn same_is_written()
     ensures { SameIsWritten }
 {}
 
-/// Where b grows and is the same as a, nothing that b shows is missing in a.
+/// Where b grows and is the same as a, whatever b shows, a shows too.
 #[tactic(auto, using(crate::proofs::Sameness::same_has_converse))]
 pub fn same_has_converse()
     ensures { SameHasConverse }
@@ -36,7 +37,7 @@ pub fn same_ends_alike()
     ensures { SameEndsAlike }
 {}
 
-/// Where the first of two runs that are the same is a third one that may be stopped, so is the second.
+/// If two runs are the same, and the first is a third run that may be stopped, then so is the second.
 pub fn stops_carry_over()
     ensures { StopsCarryOver }
 {}

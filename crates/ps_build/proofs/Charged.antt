@@ -1,11 +1,12 @@
--- What the tables of an image charge for activations and objects, by the cells and nodes of the program that it was made of.
-use Rattle.std.proofs.Common.{◌≡◌, ℕ, zero, suc, ◌+◌, ◌*◌, ◌<◌, ◌≤◌, List, [], ◌∷◌, length, map, get_or, Some, slice_get, refl, sym, ap, ◌∙◌, subst, arith}
-use Rattle.ps_tree.specs.Types.{DataType, PointerType}
+-- What the tables of an image charge for activations and objects, by the cells and nodes of the program that it was
+-- made from.
+use Rattle.std.proofs.Common.{◌≡◌, ℕ, zero, suc, ◌+◌, ◌*◌, ◌<◌, ◌≤◌, List, [], ◌∷◌, length, map, get_or, Some}
+use Rattle.std.proofs.Common.{slice_get, refl, ap, ◌∙◌, arith}
+use Rattle.ps_tree.specs.Types.{PointerType}
 use Rattle.ps_tree.specs.Sizes.{cells}
 use Rattle.ps_tree.specs.Counts.{routine_cells, routine_nodes}
-use Rattle.ps_tree.specs.Tree.{Program, Routine, no_routine, routine_at, domain_at}
+use Rattle.ps_tree.specs.Tree.{Program, no_routine, routine_at, domain_at}
 use Rattle.ps_meaning.specs.Costs.{Bounded}
-use Rattle.tac_code.specs.Meaning.{size}
 use Rattle.tac_rt.specs.Bodies.{run_time_routines}
 use Rattle.ps_lower_code.specs.Programs.{tac_of, object_bytes, code_of}
 use Rattle.ps_lower_bounds.specs.Sizes.{RoutinesAreBounded, ObjectsAreBounded}
@@ -23,21 +24,27 @@ length_mapped : {X Y : Type 0} (f : X → Y) (xs : List X) → length (map f xs)
 length_mapped f [] = refl
 length_mapped f (x ∷ xs) = ap suc (length_mapped f xs)
 
-mapped_at : {X Y : Type 0} (f : X → Y) (xs : List X) (i : ℕ) (d : X) → i < length xs → slice_get (map f xs) i ≡ Some (f (get_or xs i d))
+mapped_at : {X Y : Type 0} (f : X → Y) (xs : List X) (i : ℕ) (d : X) → i < length xs → slice_get (map f xs) i ≡ Some
+    (f (get_or xs i d))
 mapped_at f [] i d lt = absurd (omega (arith, lt))
 mapped_at f (x ∷ xs) zero d lt = refl
 mapped_at f (x ∷ xs) (suc i) d lt = mapped_at f xs i d (omega (arith, lt))
 
 module _ (routines_are_bounded : RoutinesAreBounded) (objects_are_bounded : ObjectsAreBounded) (checked : Program) (image : Image) (has : HasBounds (code_of run_time_routines checked) image) where
-  frame_within : (r : ℕ) → r < length checked.routines → (4 ≤ get_or (frame_bytes image) r 0) × (get_or (frame_bytes image) r 0 ≤ 320 + 4 * routine_cells (routine_at checked r) + 64 * routine_nodes (routine_at checked r))
+  frame_within : (r : ℕ) → r < length checked.routines → (4 ≤ get_or (frame_bytes image) r 0)
+      × (get_or (frame_bytes image) r 0 ≤ 320 + 4 * routine_cells (routine_at checked r) + 64 * routine_nodes
+      (routine_at checked r))
   frame_within r lt =
-      let cost = has.frames r (tac_of checked (routine_at checked r)) (mapped_at (tac_of checked) checked.routines r no_routine lt) in
+      let cost = has.frames r (tac_of checked (routine_at checked r))
+      (mapped_at (tac_of checked) checked.routines r no_routine lt) in
       let most = routines_are_bounded checked (routine_at checked r) in
       (omega (arith, cost), omega (arith, cost, most))
 
-  object_within : (t : ℕ) → t < length checked.domains → (4 ≤ get_or (charged_bytes image) t 0) × (get_or (charged_bytes image) t 0 ≤ 4 * cells (domain_at checked t) + 4)
+  object_within : (t : ℕ) → t < length checked.domains → (4 ≤ get_or (charged_bytes image) t 0)
+      × (get_or (charged_bytes image) t 0 ≤ 4 * cells (domain_at checked t) + 4)
   object_within t lt =
-      let cost = has.objects t (object_bytes (domain_at checked t)) (mapped_at object_bytes checked.domains t (PointerType 0) lt) in
+      let cost = has.objects t (object_bytes (domain_at checked t))
+      (mapped_at object_bytes checked.domains t (PointerType 0) lt) in
       let most = objects_are_bounded (domain_at checked t) in
       (cost.0, omega (arith, cost, most))
 

@@ -1,13 +1,13 @@
 -- The text is accepted as one program alone, or why it is refused.
-use Rattle.std.proofs.Common.{min, ◌≡◌, ◌≢◌, ◌⊎◌, inl, inr, ℕ, ◌<◌, List, length, drop, get_or, Result, Ok, Err, IfErr, refl, sym, ap, ◌∙◌, subst, arith}
+use Rattle.std.proofs.Common.{◌≡◌, ◌⊎◌, inl, inr, ℕ, ◌<◌, List, length, drop, get_or, Result, Ok, Err, IfErr, refl}
+use Rattle.std.proofs.Common.{sym, ap, ◌∙◌, subst, arith}
 use Rattle.std.specs.Prelude.{IsErrAnd}
 use Rattle.std.proofs.lemmas.Grind.{get_or_default_zero}
 use Rattle.behavior.specs.Transcripts.{AreBytes}
 use Rattle.ps_tree.specs.Tree as Tree
 use Rattle.ps_check_judgement.specs.declared.refusal.CheckRefusal.{CheckRefusal}
 use Rattle.ps_check_judgement.specs.declared.refusal.CheckRefusal.TheVariants as k
-use Rattle.ps_check_judgement.specs.declared.refusal.Rule.{Rule}
-use Rattle.ps_check_judgement.specs.Judged.{Yes, No}
+use Rattle.ps_check_judgement.specs.Judged.{Yes}
 use Rattle.ps_check_judgement.proofs.Binds.{no_yes}
 use Rattle.ps_check.specs.Checked.{IsRefusalOf}
 use Rattle.ps_check.specs.Programs.{program}
@@ -35,9 +35,11 @@ use Rattle.ps_lower_laws.specs.Fits.{ProgramFits}
 use Rattle.ps_lower_accepted.specs.Formed.{IsFormed}
 use Rattle.ps_lower_accepted.specs.Laws.{AcceptedFit, AcceptedFormed}
 use Rattle.ps_build.specs.declared.refusal.Refusal.{Refusal}
-use Rattle.ps_build.specs.declared.refusal.Refusal.TheVariants.{TooLong, TooManyLines, OutOfMemory, Scan, Parse, Check, CodeTooLarge}
+use Rattle.ps_build.specs.declared.refusal.Refusal.TheVariants.{TooLong, TooManyLines, OutOfMemory, Scan, Parse, Check}
+use Rattle.ps_build.specs.declared.refusal.Refusal.TheVariants.{CodeTooLarge}
 use Rattle.ps_build.specs.Refusals.{of_text, of_scan, of_parse, of_check, OnlyTooLarge}
-use Rattle.ps_build.specs.Accepts.{IsParsed, Accepts, IsProgramOf, span_of, HasFault, HasNoTree, HasNoProgram, HasNoRoom, IsRefused, IsFaulty, IsNotAccepted}
+use Rattle.ps_build.specs.Accepts.{IsParsed, Accepts, IsProgramOf, span_of, HasNoTree, HasNoRoom, IsRefused, IsFaulty}
+use Rattle.ps_build.specs.Accepts.{IsNotAccepted}
 use Rattle.ps_build.proofs.Short.{tokens_within}
 
 -- ---- the text is accepted as one checked program alone
@@ -63,7 +65,8 @@ module _ (text : List ℕ) (tokens : List Token) (tree : Program) (source : IsSo
 
   -- ---- why no program
 
-  pub no_program : (refusal : CheckRefusal) → IsRefusalOf text (program text tree) refusal → IsRefused text (of_check tokens refusal)
+  pub no_program : (refusal : CheckRefusal) → IsRefusalOf text (program text tree) refusal → IsRefused text
+      (of_check tokens refusal)
   no_program k.OutOfMemory told = source
   no_program (k.Broken rule at line) told = record {
     tokens = tokens;
@@ -78,7 +81,8 @@ module _ (text : List ℕ) (tokens : List Token) (tree : Program) (source : IsSo
 -- ---- why the program has no image
 
 module _ (text : List ℕ) (checked : Tree.Program) (of_text : IsProgramOf text checked) where
-  pub too_large : (refusal : Refusal) → OnlyTooLarge refusal (HasNoRoom (code_of run_time_routines checked)) → IsRefused text refusal
+  pub too_large : (refusal : Refusal) → OnlyTooLarge refusal (HasNoRoom (code_of run_time_routines checked))
+      → IsRefused text refusal
   too_large OutOfMemory h = of_text.accepts.parsed.limits
   too_large CodeTooLarge h = record { checked = checked; accepts = of_text.accepts; no_room = h }
   too_large _ h = absurd h
@@ -88,18 +92,22 @@ module _ (text : List ℕ) (checked : Tree.Program) (of_text : IsProgramOf text 
 all_bytes : (bytes : List ℕ) → ((k : ℕ) → get_or bytes k 0 < 256) → AreBytes bytes
 all_bytes bytes h k d lt = subst (λ b. b < 256) (sym (get_or_default_zero bytes k d lt)) (h k)
 
-pub fits_bytes : AcceptedFit → (text : List ℕ) (checked : Tree.Program) → AreBytes text → IsProgramOf text checked → ProgramFits checked
+pub fits_bytes : AcceptedFit → (text : List ℕ) (checked : Tree.Program) → AreBytes text → IsProgramOf text checked
+    → ProgramFits checked
 fits_bytes accepted_fit text checked bytes of_text =
     let a = of_text.accepts in
     accepted_fit text a.tokens a.tree checked bytes a.parsed.limits a.parsed.scanned a.parsed.derived a.checks
 
-pub fits : AcceptedFit → (text : List ℕ) (checked : Tree.Program) → ((k : ℕ) → get_or text k 0 < 256) → IsProgramOf text checked → ProgramFits checked
+pub fits : AcceptedFit → (text : List ℕ) (checked : Tree.Program) → ((k : ℕ) → get_or text k 0 < 256)
+    → IsProgramOf text checked → ProgramFits checked
 fits accepted_fit text checked narrow of_text = fits_bytes accepted_fit text checked (all_bytes text narrow) of_text
 
-pub formed : AcceptedFormed → (text : List ℕ) (checked : Tree.Program) → ((k : ℕ) → get_or text k 0 < 256) → IsProgramOf text checked → IsFormed checked
+pub formed : AcceptedFormed → (text : List ℕ) (checked : Tree.Program) → ((k : ℕ) → get_or text k 0 < 256)
+    → IsProgramOf text checked → IsFormed checked
 formed accepted_are_formed text checked narrow of_text =
     let a = of_text.accepts in
-    accepted_are_formed text a.tokens a.tree checked (all_bytes text narrow) a.parsed.limits a.parsed.scanned a.parsed.derived a.checks
+    accepted_are_formed text a.tokens a.tree checked
+    (all_bytes text narrow) a.parsed.limits a.parsed.scanned a.parsed.derived a.checks
 
 -- ---- why no tokens
 
@@ -115,17 +123,21 @@ module _ (text : List ℕ) (tokens : List Token) (source : IsSource text) (scann
   few = let short = tokens_within 0 text tokens scanned in omega (arith, short, source.length_fits)
 
   -- a text has no more tokens than a number counts
-  counted : (why : ParseFault) (line token : ℕ) (place : Span) (told : IsToldAt text tokens why line token place) → told.at ≡ token
-  counted why line token place told = let numbered = told.numbered in let within = told.refused.within in omega (arith, numbered, within, few)
+  counted : (why : ParseFault) (line token : ℕ) (place : Span) (told : IsToldAt text tokens why line token place)
+      → told.at ≡ token
+  counted why line token place told = let numbered = told.numbered in let within = told.refused.within in omega
+      (arith, numbered, within, few)
 
-  without_tree : (why : ParseFault) (line from to at : ℕ) → IsRefusedAt text tokens at why → line ≡ token_line text tokens at
+  without_tree : (why : ParseFault) (line from to at : ℕ) → IsRefusedAt text tokens at why → line
+      ≡ token_line text tokens at
       → span_of (record { line = line; from = from; to = to }) ≡ first_span text (drop at tokens)
       → HasNoTree text why at (record { line = line; from = from; to = to })
   without_tree why line from to at refused on_line placed = record {
     limits = source;
     tokens = tokens;
     scanned = scanned;
-    none = λ others tree a b. refused_has_none text tokens at why refused tree (subst (λ ts. IsTreeOf text ts tree) (only_tokens others a) b);
+    none = λ others tree a b. refused_has_none text tokens at why refused tree
+        (subst (λ ts. IsTreeOf text ts tree) (only_tokens others a) b);
     told = refused;
     placed = placed;
     on_line = on_line;
@@ -137,7 +149,7 @@ module _ (text : List ℕ) (tokens : List Token) (source : IsSource text) (scann
       subst (λ n. HasNoTree text why n (record { line = line; from = from; to = to })) (counted why line token _ told)
       (without_tree why line from to told.at told.refused told.on_line told.placed)
 
--- ---- what is told before code is made of a text: a fault of it, or the want of memory
+-- ---- what is reported before code is made from a text: a fault of it, or out of memory
 
 abbrev pub IsFaultyOrMemory : Refusal → Type 0
 IsFaultyOrMemory refusal = IsFaulty refusal ⊎ (refusal ≡ OutOfMemory)
@@ -158,14 +170,17 @@ pub faulty_program : (tokens : List Token) (refusal : CheckRefusal) → IsFaulty
 faulty_program tokens k.OutOfMemory = inr refl
 faulty_program tokens (k.Broken rule at line) = inl tt
 
-handed_on : {X : Type 0} (answer : Result X Refusal) (refusal : Refusal) → IsErrAnd answer (λ e. e ≡ refusal) → IsFaultyOrMemory refusal → IfErr answer IsFaultyOrMemory
+handed_on : {X : Type 0} (answer : Result X Refusal) (refusal : Refusal) → IsErrAnd answer (λ e. e ≡ refusal)
+    → IsFaultyOrMemory refusal → IfErr answer IsFaultyOrMemory
 handed_on (Ok x) refusal is h = absurd is
 handed_on (Err e) refusal is h = subst IsFaultyOrMemory (sym is) h
 
-pub text_refused : {X : Type 0} (answer : Result X Refusal) (refusal : TextRefusal) → IsErrAnd answer (λ e. e ≡ of_text refusal) → IfErr answer IsFaultyOrMemory
+pub text_refused : {X : Type 0} (answer : Result X Refusal) (refusal : TextRefusal) → IsErrAnd answer
+    (λ e. e ≡ of_text refusal) → IfErr answer IsFaultyOrMemory
 text_refused answer refusal is = handed_on answer (of_text refusal) is (faulty_text refusal)
 
-pub tokens_refused : {X : Type 0} (answer : Result X Refusal) (refusal : ScanRefusal) → IsErrAnd answer (λ e. e ≡ of_scan refusal) → IfErr answer IsFaultyOrMemory
+pub tokens_refused : {X : Type 0} (answer : Result X Refusal) (refusal : ScanRefusal) → IsErrAnd answer
+    (λ e. e ≡ of_scan refusal) → IfErr answer IsFaultyOrMemory
 tokens_refused answer refusal is = handed_on answer (of_scan refusal) is (faulty_tokens refusal)
 
 -- ---- what a refusal of a fault says: that the text is not accepted
@@ -174,13 +189,15 @@ module _ (text : List ℕ) where
   pub told : (refusal : Refusal) → IsRefused text refusal → IsFaulty refusal → IsNotAccepted text
   told TooLong h f other a = absurd (omega (arith, h, a.parsed.limits.length_fits))
   told TooManyLines h f other a = absurd (omega (arith, h.1, a.parsed.limits.lines_fit))
-  told (Scan why place) h f other a = ScanAnswers.refused_has_none text why (span_of place) h.first a.tokens a.parsed.scanned
+  told (Scan why place) h f other a = ScanAnswers.refused_has_none text why
+      (span_of place) h.first a.tokens a.parsed.scanned
   told (Parse why at place) h f other a = h.none a.tokens a.tree a.parsed.scanned a.parsed.derived
   told (Check rule place) h f other a =
       no_yes (sym h.judged ∙ ap (program text) (sym (h.only a.tokens a.tree a.parsed)) ∙ a.checks)
   told _ h f other a = absurd f
 
-  -- the same of an answer
-  pub told_of : {A : Type 0} (answer : Result A Refusal) → IfErr answer (IsRefused text) → IfErr answer (λ refusal. IsFaulty refusal → IsNotAccepted text)
+  -- the same for an answer
+  pub told_of : {A : Type 0} (answer : Result A Refusal) → IfErr answer (IsRefused text) → IfErr answer
+      (λ refusal. IsFaulty refusal → IsNotAccepted text)
   told_of (Ok x) h = tt
   told_of (Err refusal) h = told refusal h

@@ -1,5 +1,6 @@
--- Runs in slices put together: where a console tells its bytes, the slices are one run.
-use Rattle.std.proofs.Common.{◌≡◌, ◌≢◌, ◌≤◌, ℕ, zero, suc, ◌+◌, ◌-◌, List, inl, inr, Option, Some, None, refl, sym, ap, subst, ◌∙◌, arith}
+-- Runs in slices put together: where a console reports its bytes, the slices are one run.
+use Rattle.std.proofs.Common.{◌≡◌, ◌≤◌, ℕ, zero, suc, ◌+◌, ◌-◌, List, inl, inr, Option, Some, None, refl, sym, ap}
+use Rattle.std.proofs.Common.{subst, ◌∙◌, arith}
 use Rattle.std.specs.Io.KnownBytes.{Keeps}
 use Rattle.risc_machine.specs.declared.stop.Stop.{Stop}
 use Rattle.risc_machine.specs.declared.stop.Stop.TheVariants.{Normal, Trap, Steps, InputFault, OutputFault, Fault}
@@ -26,7 +27,7 @@ no_limit : (word : ℕ) → Some Steps ≡ Some (stop_of word) → ⊥
 no_limit zero e = cc
 no_limit (suc word) e = cc
 
--- no step stops for want of steps
+-- no step stops because steps ran out
 no_step : (a : Act) (s t : State) (w v : World) → Performs a s w t v (Some Steps) → ⊥
 no_step (Goes u) s t w v m = let no = m.2 in cc
 no_step (Takes r u) s t w v (inl m) = let no = m.3 in cc
@@ -37,10 +38,12 @@ no_step (Stops word u) s t w v m = no_limit word m.2
 no_step (Faults kind) s t w v m = let no = m.2 in cc
 
 -- a run that has not stopped, and one that goes on from there
-joined : (a b : ℕ) (s t s' : State) (w v w' : World) (stop : Stop) → Runs a s w t v Steps → Runs b t v s' w' stop → Runs (a + b) s w s' w' stop
+joined : (a b : ℕ) (s t s' : State) (w v w' : World) (stop : Stop) → Runs a s w t v Steps → Runs b t v s' w' stop → Runs
+    (a + b) s w s' w' stop
 joined zero b s t s' w v w' stop r q =
     let none : b ≡ 0 + b = omega arith in
-    subst (λ k. Runs k s w s' w' stop) none (subst (λ u. Runs b u w s' w' stop) r.0 (subst (λ u. Runs b t u s' w' stop) r.1 q))
+    subst (λ k. Runs k s w s' w' stop) none (subst (λ u. Runs b u w s' w' stop) r.0
+    (subst (λ u. Runs b t u s' w' stop) r.1 q))
 joined (suc a) b s t s' w v w' stop (inl r) q =
     let one : suc (a + b) ≡ suc a + b = omega arith in
     let goes : Runs (suc (a + b)) s w s' w' stop = inl (r.0, r.1, r.2, joined a b r.0 t s' r.1 v w' stop r.3 q) in
@@ -48,11 +51,13 @@ joined (suc a) b s t s' w v w' stop (inl r) q =
 joined (suc a) b s t s' w v w' stop (inr m) q = absurd (no_step (act s) s t w v m)
 
 -- a run that stopped stops so within more steps too
-longer : (n more : ℕ) (s s' : State) (w w' : World) (stop : Stop) → (stop ≡ Steps → ⊥) → Runs n s w s' w' stop → Runs (n + more) s w s' w' stop
+longer : (n more : ℕ) (s s' : State) (w w' : World) (stop : Stop) → (stop ≡ Steps → ⊥) → Runs n s w s' w' stop → Runs
+    (n + more) s w s' w' stop
 longer zero more s s' w w' stop stopped r = absurd (stopped r.2)
 longer (suc n) more s s' w w' stop stopped (inl r) =
     let one : suc (n + more) ≡ suc n + more = omega arith in
-    let goes : Runs (suc (n + more)) s w s' w' stop = inl (r.0, r.1, r.2, longer n more r.0 s' r.1 w' stop stopped r.3) in
+    let goes : Runs (suc (n + more)) s w s' w' stop = inl (r.0, r.1, r.2, longer n more r.0 s' r.1 w' stop stopped r.3)
+    in
     subst (λ k. Runs k s w s' w' stop) one goes
 longer (suc n) more s s' w w' stop stopped (inr m) =
     let one : suc (n + more) ≡ suc n + more = omega arith in
@@ -66,15 +71,18 @@ same_known None new xs e k = absurd (cc)
 same_known (Some ys) None xs e k = absurd k
 same_known (Some ys) (Some zs) xs e k = ap Some k
 
-same_world : (v v' : World) (input output : List ℕ) → v.input ≡ Some input → v.output ≡ Some output → Keeps v.input v'.input → Keeps v.output v'.output → v'.faults ≡ v.faults → v' ≡ v
+same_world : (v v' : World) (input output : List ℕ) → v.input ≡ Some input → v.output ≡ Some output
+    → Keeps v.input v'.input → Keeps v.output v'.output → v'.faults ≡ v.faults → v' ≡ v
 same_world v v' input output i o keeps_input keeps_output faults =
-    world_of (same_known v.input v'.input input i keeps_input) (same_known v.output v'.output output o keeps_output) faults
+    world_of (same_known v.input v'.input input i keeps_input)
+    (same_known v.output v'.output output o keeps_output) faults
   where
     of : Option (List ℕ) → Option (List ℕ) → ℕ → World
     of i o f = record { input = i; output = o; faults = f }
 
     world_of : v'.input ≡ v.input → v'.output ≡ v.output → v'.faults ≡ v.faults → v' ≡ v
-    world_of i o f = ap (λ x. of x v'.output v'.faults) i ∙ ap (λ x. of v.input x v'.faults) o ∙ ap (of v.input v.output) f
+    world_of i o f = ap (λ x. of x v'.output v'.faults) i ∙ ap (λ x. of v.input x v'.faults) o
+        ∙ ap (of v.input v.output) f
 
 -- ---- slices
 
@@ -90,7 +98,8 @@ pub none_made : (s : State) (w : World) → ComesTo 0 s w s w Steps
 none_made s w = record { runs = λ input before i o. (refl, refl, refl); faults = refl }
 
 -- a pause changes nothing
-pub paused : (n : ℕ) (s t : State) (w v v' : World) → Keeps v.input v'.input → Keeps v.output v'.output → v'.faults ≡ v.faults → ComesTo n s w t v Steps → ComesTo n s w t v' Steps
+pub paused : (n : ℕ) (s t : State) (w v v' : World) → Keeps v.input v'.input → Keeps v.output v'.output → v'.faults
+    ≡ v.faults → ComesTo n s w t v Steps → ComesTo n s w t v' Steps
 paused n s t w v v' keeps_input keeps_output faults h = record {
   runs = λ input before i o.
       let r = h.runs input before i o in
@@ -100,37 +109,51 @@ paused n s t w v v' keeps_input keeps_output faults h = record {
   faults = faults ∙ h.faults;
 }
 
--- one slice more
-pub slice_more : (n m : ℕ) (s t s' : State) (w v w' : World) (stop : Stop) → ComesTo n s w t v Steps → Runs m t v s' w' stop → ComesTo (n + m) s w s' w' stop
+-- one more slice
+pub slice_more : (n m : ℕ) (s t s' : State) (w v w' : World) (stop : Stop) → ComesTo n s w t v Steps
+    → Runs m t v s' w' stop → ComesTo (n + m) s w s' w' stop
 slice_more n m s t s' w v w' stop h r = record {
   runs = λ input before i o. joined n m s t s' w v w' stop (h.runs input before i o) r;
   faults = counted stop w v w' h.faults (run_counts m t s' v w' stop r);
 }
 
--- one slice more, and the pause behind it
-pub slice_and_pause : (n m : ℕ) (s t s' : State) (w v w' w'' : World) → ComesTo n s w t v Steps → Runs m t v s' w' Steps → Keeps w'.input w''.input → Keeps w'.output w''.output → w''.faults ≡ w'.faults → ComesTo (n + m) s w s' w'' Steps
+-- one more slice, and the pause after it
+pub slice_and_pause : (n m : ℕ) (s t s' : State) (w v w' w'' : World) → ComesTo n s w t v Steps → Runs m t v s' w' Steps
+    → Keeps w'.input w''.input → Keeps w'.output w''.output → w''.faults ≡ w'.faults → ComesTo (n + m) s w s' w'' Steps
 slice_and_pause n m s t s' w v w' w'' h r keeps_input keeps_output faults =
     paused (n + m) s s' w w' w'' keeps_input keeps_output faults (slice_more n m s t s' w v w' Steps h r)
 
 -- a slice that stopped
-pub stopped_in : (n m all : ℕ) (s t s' : State) (w v w' : World) (stop : Stop) → n + m ≤ all → (stop ≡ Steps → ⊥) → ComesTo n s w t v Steps → Runs m t v s' w' stop → ComesTo all s w s' w' stop
+pub stopped_in : (n m all : ℕ) (s t s' : State) (w v w' : World) (stop : Stop) → n + m ≤ all → (stop ≡ Steps → ⊥)
+    → ComesTo n s w t v Steps → Runs m t v s' w' stop → ComesTo all s w s' w' stop
 stopped_in n m all s t s' w v w' stop within stopped h r =
     let more = slice_more n m s t s' w v w' stop h r in
     let whole : n + m + (all - (n + m)) ≡ all = omega (arith, within) in
     record {
-      runs = λ input before i o. subst (λ k. Runs k s w s' w' stop) whole (longer (n + m) (all - (n + m)) s s' w w' stop stopped (more.runs input before i o));
+      runs = λ input before i o. subst (λ k. Runs k s w s' w' stop) whole
+          (longer (n + m) (all - (n + m)) s s' w w' stop stopped (more.runs input before i o));
       faults = more.faults;
     }
 
 -- ---- runs of images
 
-pub comes_runs : (of : Image) (budget : Budget) (n : ℕ) (left : State) (old new : World) (outcome : Outcome) (stop : Stop) → IsBudget of budget.heap budget.stack → ComesTo n (loaded_state of budget) old left new stop → image.IsToldBy of left stop outcome → image.Runs of budget n old new outcome
+pub comes_runs : (of : Image) (budget : Budget) (n : ℕ) (left : State) (old new : World) (outcome : Outcome)
+    (stop : Stop) → IsBudget of budget.heap budget.stack → ComesTo n (loaded_state of budget) old left new stop
+    → image.IsToldBy of left stop outcome → image.Runs of budget n old new outcome
 comes_runs of budget n left old new outcome stop fits h told =
     runs_of of budget n left old new outcome fits stop
-    (λ input before i b. run_follows_exec n (loaded_state of budget) left old new stop (h.runs input before i b) input before i b)
-    (λ input before i b. run_shows n (loaded_state of budget) left old new stop (h.runs input before i b) input before i b)
+    (λ input before i b. run_follows_exec n (loaded_state of budget) left old new stop
+    (h.runs input before i b) input before i b)
+    (λ input before i b. run_shows n (loaded_state of budget) left old new stop
+    (h.runs input before i b) input before i b)
     h.faults told
 
-pub left_runs : (of : Image) (budget : Budget) (n : ℕ) (left : State) (old new : World) → IsBudget of budget.heap budget.stack → IsLeft n (loaded_state of budget) old left new → IsRunLeft of budget n old new
+pub left_runs : (of : Image) (budget : Budget) (n : ℕ) (left : State) (old new : World)
+    → IsBudget of budget.heap budget.stack → IsLeft n (loaded_state of budget) old left new
+    → IsRunLeft of budget n old new
 left_runs of budget n left old new fits h =
-    record { steps = h.steps; fewer = h.fewer; runs = comes_runs of budget h.steps left old new o.Steps Steps fits h.comes refl }
+    record {
+      steps = h.steps;
+      fewer = h.fewer;
+      runs = comes_runs of budget h.steps left old new o.Steps Steps fits h.comes refl;
+    }

@@ -1,5 +1,5 @@
 -- An image that was made through three-address code does what its program means.
-use Rattle.std.proofs.Common.{◌≡◌, ℕ, zero, suc, ◌<◌, ◌^◌, List, [], ◌∷◌, ◌++◌, All, Some, slice_get, sym, ◌∙◌, subst, arith}
+use Rattle.std.proofs.Common.{◌≡◌, ℕ, zero, suc, ◌<◌, ◌^◌, List, [], ◌∷◌, ◌++◌, All, Some, slice_get, subst, arith}
 use Rattle.std.specs.Prelude.{get_or}
 use Rattle.behavior.specs.Transcripts.{AreBytes}
 use Rattle.behavior.specs.Same.{Same}
@@ -42,24 +42,36 @@ code_words bytes image is k w e =
 -- ---- the image does as meant
 
 module _ (checked : Tree.Program) (bytes : List ℕ) (image : Image) (is : IsImage bytes image) (made : IsMadeOf checked image) where
-  same_made : (heap stack : ℕ) → IsBudget image heap stack → (input : List ℕ) → AreBytes input → Same (run_within checked (frame_bytes image) (object_bytes image) stack heap input) (image_outcome image heap stack input)
+  same_made : (heap stack : ℕ) → IsBudget image heap stack → (input : List ℕ) → AreBytes input → Same
+      (run_within checked (frame_bytes image) (object_bytes image) stack heap input)
+      (image_outcome image heap stack input)
   same_made heap stack budget input are =
       let F = frame_bytes image in
       let G = object_bytes image in
       let lowered = made.lowered.same F G stack heap input are in
       let goes_on = made.lowered.goes_on F G stack heap input are in
-      let emitted = emission_keeps made.code made.homes image made.sound made.placed is.well_formed (code_words bytes image is) made.emitted heap stack budget input are goes_on in
-      same_composes (run_within checked F G stack heap input) (tac_run made.code (λ r. get_or F r 0) (λ t. get_or G t 0) stack heap input) (image_outcome image heap stack input) lowered emitted
+      let emitted = emission_keeps made.code made.homes image made.sound made.placed is.well_formed
+      (code_words bytes image is) made.emitted heap stack budget input are goes_on in
+      same_composes (run_within checked F G stack heap input)
+      (tac_run made.code (λ r. get_or F r 0) (λ t. get_or G t 0) stack heap input)
+      (image_outcome image heap stack input) lowered emitted
 
   pub made_as_meant : DoesAsMeant checked image
   made_as_meant = record { routines = made.routines; types = made.types; bounded = made.bounded; same = same_made }
 
   pub made_compiles : (text : List ℕ) → IsProgramOf text checked → Compiles text bytes
-  made_compiles text of_text = record { checked = checked; program = of_text; image = image; is_image = is; does = made_as_meant }
+  made_compiles text of_text = record {
+    checked = checked;
+    program = of_text;
+    image = image;
+    is_image = is;
+    does = made_as_meant;
+  }
 
 -- ---- what an image is made of
 
-pub made_of : (checked : Tree.Program) (code : Code) (image : Image) (bytes : List ℕ) → IsCodeOf checked code → IsSound code → IsEmitted code image → IsCharged checked image → IsImage bytes image → AreMadeOf checked bytes
+pub made_of : (checked : Tree.Program) (code : Code) (image : Image) (bytes : List ℕ) → IsCodeOf checked code
+    → IsSound code → IsEmitted code image → IsCharged checked image → IsImage bytes image → AreMadeOf checked bytes
 made_of checked code image bytes lowered sound emitted charged is =
     record {
       image = image;

@@ -27,5 +27,6 @@ refused_names_are_not_meant text rule place refused = record {
   tree = refused.tree;
   parsed = refused.parsed;
   unread = λ others other made parsed read.
-      no_yes (sym refused.judged ∙ ap (program text) (sym (refused.only others other parsed)) ∙ read_programs_are_checked text other made read);
+      no_yes (sym refused.judged ∙ ap (program text) (sym (refused.only others other parsed))
+      ∙ read_programs_are_checked text other made read);
 }

@@ -16,16 +16,19 @@ pub if_ok : {T E : Type 0} (r : Result T E) (P Q : T → Type 0) → ((x : T) �
 if_ok (Ok x) P Q f h = f x h
 if_ok (Err e) P Q f h = h
 
-pub if_ok_both : {T E : Type 0} (r : Result T E) (P Q R : T → Type 0) → ((x : T) → P x → Q x → R x) → IfOk r P → IfOk r Q → IfOk r R
+pub if_ok_both : {T E : Type 0} (r : Result T E) (P Q R : T → Type 0) → ((x : T) → P x → Q x → R x) → IfOk r P
+    → IfOk r Q → IfOk r R
 if_ok_both (Ok x) P Q R f h k = f x h k
 if_ok_both (Err e) P Q R f h k = h
 
-pub if_ended : {T E : Type 0} (r : Result (Option T) E) (P Q : T → Type 0) → ((x : T) → P x → Q x) → IfOk r (λ end. IfSome end P) → IfOk r (λ end. IfSome end Q)
+pub if_ended : {T E : Type 0} (r : Result (Option T) E) (P Q : T → Type 0) → ((x : T) → P x → Q x) → IfOk r
+    (λ end. IfSome end P) → IfOk r (λ end. IfSome end Q)
 if_ended (Ok (Some x)) P Q f h = f x h
 if_ended (Ok None) P Q f h = h
 if_ended (Err e) P Q f h = h
 
-pub if_left : {T E : Type 0} (r : Result (Option T) E) (P Q : Type 0) → (P → Q) → IfOk r (λ end. IfNone end P) → IfOk r (λ end. IfNone end Q)
+pub if_left : {T E : Type 0} (r : Result (Option T) E) (P Q : Type 0) → (P → Q) → IfOk r (λ end. IfNone end P) → IfOk r
+    (λ end. IfNone end Q)
 if_left (Ok (Some x)) P Q f h = h
 if_left (Ok None) P Q f h = f h
 if_left (Err e) P Q f h = h
@@ -34,14 +37,16 @@ pub if_err : {T E : Type 0} (r : Result T E) (P Q : E → Type 0) → ((e : E) �
 if_err (Ok x) P Q f h = h
 if_err (Err e) P Q f h = f e h
 
-pub no_image : (bytes : List ℕ) (budget : Budget) (refusal : ImageRefusal) → IsRefused bytes refusal → IsRunRefused bytes budget (of_image refusal)
+pub no_image : (bytes : List ℕ) (budget : Budget) (refusal : ImageRefusal) → IsRefused bytes refusal
+    → IsRunRefused bytes budget (of_image refusal)
 no_image bytes budget i.Magic h = h
 no_image bytes budget i.Truncated h = h
 no_image bytes budget i.Trailing h = h
 no_image bytes budget i.TooLarge h = h
 no_image bytes budget i.BadTable h = h
 
-pub not_loaded : (bytes : List ℕ) (budget : Budget) (image : Image) (refusal : Refusal) → IsImage bytes image → IsLoadRefused image budget refusal → IsRunRefused bytes budget refusal
+pub not_loaded : (bytes : List ℕ) (budget : Budget) (image : Image) (refusal : Refusal) → IsImage bytes image
+    → IsLoadRefused image budget refusal → IsRunRefused bytes budget refusal
 not_loaded bytes budget image OutOfMemory is_image h = record { image = image; is_image = is_image; refused = h }
 not_loaded bytes budget image BudgetTooLarge is_image h = record { image = image; is_image = is_image; refused = h }
 not_loaded bytes budget image BudgetUneven is_image h = record { image = image; is_image = is_image; refused = h }

@@ -1,5 +1,5 @@
 -- A text has no more tokens than bytes.
-use Rattle.std.proofs.Common.{◌≡◌, ℕ, ◌+◌, ◌<◌, ◌≤◌, List, [], ◌∷◌, ◌++◌, length, Some, None, length-append, refl, sym, ◌∙◌, arith}
+use Rattle.std.proofs.Common.{◌≡◌, ℕ, ◌<◌, ◌≤◌, List, [], ◌∷◌, length, Some, None, length-append, refl, sym, ◌∙◌, arith}
 use Rattle.ps_scan.specs.declared.token.Kind.{Kind}
 use Rattle.ps_scan.specs.declared.token.Token.{Token}
 use Rattle.ps_scan.specs.Tables.{Bytes, symbol_kind}
@@ -10,7 +10,7 @@ no_symbol : symbol_kind [] ≡ None
 unfolding symbol_kind
 no_symbol = refl
 
--- a token has a byte at least
+-- a token has at least one byte
 some_bytes : (w : Bytes) (kind : Kind) → IsOfKind w kind → 0 < length w
 some_bytes [] kind (of_word word e) = absurd word
 some_bytes [] kind (of_number digits small) = absurd digits

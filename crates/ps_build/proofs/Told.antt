@@ -1,5 +1,6 @@
--- An outcome tells what the machine's run over plain lists came to.
-use Rattle.std.proofs.Common.{◌≡◌, ℕ, zero, suc, ◌+◌, ◌*◌, ◌%◌, ◌≤◌, Bool, true, false, cond, List, length, take, arith, Option, Some, None, refl, sym, ap, ◌∙◌, subst}
+-- An outcome reports how the machine's run over plain lists ended.
+use Rattle.std.proofs.Common.{◌≡◌, ℕ, zero, suc, ◌+◌, ◌*◌, ◌%◌, ◌≤◌, Bool, true, false, cond, List, length, take}
+use Rattle.std.proofs.Common.{arith, Option, Some, None, refl, sym, ap, ◌∙◌, subst}
 use Rattle.std.specs.Prelude.{nat_lt, nat_eq, ◌==◌, ◌||◌, not}
 use Rattle.risc_load.specs.Refusal.{budget_fault}
 use Rattle.risc_load.specs.declared.budget.LoadRefusal.TheVariants.{BudgetUneven, BudgetTooLarge}
@@ -14,7 +15,8 @@ use Rattle.risc_image.specs.Image.{Image}
 use Rattle.risc_load.specs.declared.budget.Budget.{Budget}
 use Rattle.risc_load.specs.Loaded.{loaded_state}
 use Rattle.ps_build.specs.declared.outcome.Outcome.{Outcome}
-use Rattle.ps_build.specs.declared.outcome.Outcome.TheVariants.{Normal, Error, Stack, Heap, Steps, InputFault, OutputFault, Fault}
+use Rattle.ps_build.specs.declared.outcome.Outcome.TheVariants.{Normal, Error, Stack, Heap, Steps, InputFault}
+use Rattle.ps_build.specs.declared.outcome.Outcome.TheVariants.{OutputFault, Fault}
 use Rattle.risc_load.specs.Shows.{trap_rows, IsBudget}
 use Rattle.risc_emit_laws.specs.Outcome.{calls_at, ending_of}
 use Rattle.risc_emit_trail.specs.Told.{trail_of}
@@ -23,22 +25,27 @@ use Rattle.ps_build.specs.Devices.{AsksInput, AsksOutput}
 use Rattle.ps_build.specs.Runs.{trail_told, outcome_told, trap_told, IsToldBy, Ends, Breaks, Tells, CountsFaults, Runs}
 use Rattle.ps_build.proofs.Asked.{Asked, Left, Shows}
 
--- the outcome of a stop by a row tells the ending by that row
-row_told : (image : Image) (row : Option (ℕ × ℕ × ℕ)) (calls : List ℕ) (trail : Option (List ℕ)) → trail ≡ trail_told image (take 16 calls) → outcome_told image (trap_ending row calls) ≡ Some (trap_told row trail)
+-- the outcome of a stop by a row reports the ending by that row
+row_told : (image : Image) (row : Option (ℕ × ℕ × ℕ)) (calls : List ℕ) (trail : Option (List ℕ)) → trail
+    ≡ trail_told image (take 16 calls) → outcome_told image (trap_ending row calls) ≡ Some (trap_told row trail)
 row_told image None calls trail e = refl
 row_told image (Some row) calls trail e = by_number (nat_eq row.1 12) (nat_eq row.1 13)
   where
-    by_number : (stack heap : Bool) → outcome_told image (cond stack (ending.Stack row.2) (cond heap (ending.Heap row.2) (ending.failed row.1 row.2 calls))) ≡ Some (cond stack (Stack 12 row.2) (cond heap (Heap 13 row.2) (Error row.1 row.2 trail)))
+    by_number : (stack heap : Bool) → outcome_told image
+        (cond stack (ending.Stack row.2) (cond heap (ending.Heap row.2) (ending.failed row.1 row.2 calls))) ≡ Some
+        (cond stack (Stack 12 row.2) (cond heap (Heap 13 row.2) (Error row.1 row.2 trail)))
     by_number true heap = refl
     by_number false true = refl
     by_number false false = ap (λ t. Some (Error row.1 row.2 t)) (sym e)
 
--- the outcome of the stop that a halt is tells the halt's ending
-told_by : (image : Image) (h : Halt) (left : State) (outcome : Outcome) → IsLeftAt h left → IsToldBy image left (stop_at h) outcome → outcome_told image (ending_of image h) ≡ Some outcome
+-- the outcome of the stop that a halt is reports the halt's ending
+told_by : (image : Image) (h : Halt) (left : State) (outcome : Outcome) → IsLeftAt h left → IsToldBy image left
+    (stop_at h) outcome → outcome_told image (ending_of image h) ≡ Some outcome
 told_by image Running left outcome at e = ap Some (sym e)
 told_by image (Stopped zero s) left outcome at e = ap Some (sym e)
 told_by image (Stopped (suc k) s) left outcome at e =
-    row_told image (row_at (suc k) (trap_rows image)) (calls_at image s) (trail_of image left) (ap (trail_of image) at ∙ trail_is image s) ∙ ap Some (sym e)
+    row_told image (row_at (suc k) (trap_rows image)) (calls_at image s) (trail_of image left)
+    (ap (trail_of image) at ∙ trail_is image s) ∙ ap Some (sym e)
 told_by image (Faulted kind) left outcome at e = ap Some (sym e)
 
 -- a fault of a device is no ending
@@ -60,8 +67,10 @@ no_output image (ending.Heap line) h = cc h
 no_output image (ending.Fault kind) h = cc h
 no_output image ending.Stuck h = cc h
 
--- an outcome that tells an ending tells of a run that no device disturbed
-tells_end : (outcome : Outcome) (e : ending.Ending) (image : Image) (budget : Budget) (n : ℕ) (input before : List ℕ) (after : World) → outcome_told image e ≡ Some outcome → Ends image budget n input before after outcome → Tells outcome image budget n input before after
+-- an outcome that reports an ending is of a run that no device disturbed
+tells_end : (outcome : Outcome) (e : ending.Ending) (image : Image) (budget : Budget) (n : ℕ) (input before : List ℕ)
+    (after : World) → outcome_told image e ≡ Some outcome → Ends image budget n input before after outcome
+    → Tells outcome image budget n input before after
 tells_end Normal e image budget n input before after h ends = ends
 tells_end (Error number line trail) e image budget n input before after h ends = ends
 tells_end (Stack number line) e image budget n input before after h ends = ends
@@ -71,7 +80,8 @@ tells_end (Fault kind) e image budget n input before after h ends = ends
 tells_end InputFault e image budget n input before after h ends = absurd (no_input image e h)
 tells_end OutputFault e image budget n input before after h ends = absurd (no_output image e h)
 
-counts_end : (image : Image) (outcome : Outcome) (e : ending.Ending) (old new : World) → outcome_told image e ≡ Some outcome → new.faults ≡ old.faults → CountsFaults outcome old new
+counts_end : (image : Image) (outcome : Outcome) (e : ending.Ending) (old new : World) → outcome_told image e
+    ≡ Some outcome → new.faults ≡ old.faults → CountsFaults outcome old new
 counts_end image Normal e old new h same = same
 counts_end image (Error number line trail) e old new h same = same
 counts_end image (Stack number line) e old new h same = same
@@ -81,11 +91,13 @@ counts_end image (Fault kind) e old new h same = same
 counts_end image InputFault e old new h same = absurd (no_input image e h)
 counts_end image OutputFault e old new h same = absurd (no_output image e h)
 
-trap_counts : (row : Option (ℕ × ℕ × ℕ)) (trail : Option (List ℕ)) (old new : World) → new.faults ≡ old.faults → CountsFaults (trap_told row trail) old new
+trap_counts : (row : Option (ℕ × ℕ × ℕ)) (trail : Option (List ℕ)) (old new : World) → new.faults ≡ old.faults
+    → CountsFaults (trap_told row trail) old new
 trap_counts None trail old new same = same
 trap_counts (Some row) trail old new same = by_number (nat_eq row.1 12) (nat_eq row.1 13)
   where
-    by_number : (stack heap : Bool) → CountsFaults (cond stack (Stack 12 row.2) (cond heap (Heap 13 row.2) (Error row.1 row.2 trail))) old new
+    by_number : (stack heap : Bool) → CountsFaults
+        (cond stack (Stack 12 row.2) (cond heap (Heap 13 row.2) (Error row.1 row.2 trail))) old new
     by_number true heap = same
     by_number false true = same
     by_number false false = same
@@ -95,7 +107,9 @@ abbrev loaded : Image → Budget → State
 loaded image budget = loaded_state image budget
 
 module _ (image : Image) (budget : Budget) (n : ℕ) (left : State) (old new : World) (outcome : Outcome) (fits : IsBudget image budget.heap budget.stack) where
-  ended : (stop : Stop) (input before : List ℕ) → IsToldBy image left stop outcome → Ended n (loaded image budget) left (fresh input) before new stop → Left n (loaded image budget) (fresh input) new → Tells outcome image budget n input before new
+  ended : (stop : Stop) (input before : List ℕ) → IsToldBy image left stop outcome → Ended n (loaded image budget) left
+      (fresh input) before new stop → Left n (loaded image budget) (fresh input) new
+      → Tells outcome image budget n input before new
   ended stop input before told e rest =
       let h = (exec n (loaded image budget) (fresh input)).1 in
       let told_end = told_by image h left outcome e.state (subst (λ s. IsToldBy image left s outcome) e.ending told) in
@@ -104,7 +118,8 @@ module _ (image : Image) (budget : Budget) (n : ℕ) (left : State) (old new : W
         ending = told_end;
       })
 
-  broken : (Asks : State → Type 0) (input before : List ℕ) → Asked Asks n (loaded image budget) (fresh input) before new → Breaks Asks image budget n input before new
+  broken : (Asks : State → Type 0) (input before : List ℕ) → Asked Asks n (loaded image budget) (fresh input) before new
+      → Breaks Asks image budget n input before new
   broken Asks input before b =
       record {
         steps = b.steps;
@@ -114,63 +129,79 @@ module _ (image : Image) (budget : Budget) (n : ℕ) (left : State) (old new : W
         moved = record { written = b.output; left = b.left };
       }
 
-  -- what a run over a console that tells its bytes shows, up to a device that fails
+  -- what a run over a console that reports its bytes shows, up to a device that fails
   abbrev pub AllShown : Stop → Type 0
-  AllShown stop = (input before : List ℕ) → old.input ≡ Some input → old.output ≡ Some before → Shows stop n (loaded image budget) (fresh input) before new
+  AllShown stop = (input before : List ℕ) → old.input ≡ Some input → old.output ≡ Some before → Shows stop n
+      (loaded image budget) (fresh input) before new
 
   -- a run that follows the run over plain lists is the image's
-  pub runs_of : (stop : Stop) → FollowsExec n (loaded image budget) old left new stop → AllShown stop → Counts stop old new → IsToldBy image left stop outcome → Runs image budget n old new outcome
+  pub runs_of : (stop : Stop) → FollowsExec n (loaded image budget) old left new stop → AllShown stop
+      → Counts stop old new → IsToldBy image left stop outcome → Runs image budget n old new outcome
   runs_of m.Normal follows shows counts told =
       record {
         loaded = fits;
-        told = λ input before bytes i o. ended m.Normal input before told (follows input before i o) (shows input before i o);
+        told = λ input before bytes i o. ended m.Normal input before told (follows input before i o)
+            (shows input before i o);
         faults = counts_end image outcome ending.Normal old new (ap Some (sym told)) counts;
       }
   runs_of (m.Trap link) follows shows counts told =
       record {
         loaded = fits;
-        told = λ input before bytes i o. ended (m.Trap link) input before told (follows input before i o) (shows input before i o);
-        faults = subst (λ x. CountsFaults x old new) (sym told) (trap_counts (row_at link (trap_rows image)) (trail_of image left) old new counts);
+        told = λ input before bytes i o. ended (m.Trap link) input before told (follows input before i o)
+            (shows input before i o);
+        faults = subst (λ x. CountsFaults x old new) (sym told)
+            (trap_counts (row_at link (trap_rows image)) (trail_of image left) old new counts);
       }
   runs_of m.Steps follows shows counts told =
       record {
         loaded = fits;
-        told = λ input before bytes i o. ended m.Steps input before told (follows input before i o) (shows input before i o);
+        told = λ input before bytes i o. ended m.Steps input before told (follows input before i o)
+            (shows input before i o);
         faults = counts_end image outcome ending.More old new (ap Some (sym told)) counts;
       }
   runs_of (m.Fault kind) follows shows counts told =
       record {
         loaded = fits;
-        told = λ input before bytes i o. ended (m.Fault kind) input before told (follows input before i o) (shows input before i o);
+        told = λ input before bytes i o. ended (m.Fault kind) input before told (follows input before i o)
+            (shows input before i o);
         faults = counts_end image outcome (ending.Fault (fault_kind kind)) old new (ap Some (sym told)) counts;
       }
   runs_of m.InputFault follows shows counts told =
       record {
         loaded = fits;
-        told = λ input before bytes i o. subst (λ x. Tells x image budget n input before new) (sym told) (broken AsksInput input before (shows input before i o));
+        told = λ input before bytes i o. subst (λ x. Tells x image budget n input before new) (sym told)
+            (broken AsksInput input before (shows input before i o));
         faults = subst (λ x. CountsFaults x old new) (sym told) counts;
       }
   runs_of m.OutputFault follows shows counts told =
       record {
         loaded = fits;
-        told = λ input before bytes i o. subst (λ x. Tells x image budget n input before new) (sym told) (broken AsksOutput input before (shows input before i o));
+        told = λ input before bytes i o. subst (λ x. Tells x image budget n input before new) (sym told)
+            (broken AsksOutput input before (shows input before i o));
         faults = subst (λ x. CountsFaults x old new) (sym told) counts;
       }
 
 -- ---- the budget
 
 -- the tests of a budget that find nothing wrong
-passed : {A : Type 0} (x y : A) (a b c : Bool) → cond (not a || not b) (Some x) (cond c (Some y) None) ≡ None → (a ≡ true) × (b ≡ true) × (c ≡ false)
+passed : {A : Type 0} (x y : A) (a b c : Bool) → cond (not a || not b) (Some x) (cond c (Some y) None) ≡ None
+    → (a ≡ true) × (b ≡ true) × (c ≡ false)
 passed x y true true true e = absurd (cc e)
 passed x y true true false e = (refl, refl, refl)
 passed x y true false c e = absurd (cc e)
 passed x y false true c e = absurd (cc e)
 passed x y false false c e = absurd (cc e)
 
-pub budget_of : (image : Image) (budget : Budget) → budget_fault image budget ≡ None → IsBudget image budget.heap budget.stack
+pub budget_of : (image : Image) (budget : Budget) → budget_fault image budget ≡ None
+    → IsBudget image budget.heap budget.stack
 budget_of image budget e =
-    let p = passed BudgetUneven BudgetTooLarge (budget.stack % 4 == 0) (budget.heap % 4 == 0) (nat_lt 16777152 (4 * length image.code + image.global + budget.heap + budget.stack)) e in
-    record { heap_even = is_same (budget.heap % 4) 0 p.1; stack_even = is_same (budget.stack % 4) 0 p.0; fits = is_most 16777152 (4 * length image.code + image.global + budget.heap + budget.stack) p.2 }
+    let p = passed BudgetUneven BudgetTooLarge (budget.stack % 4 == 0) (budget.heap % 4 == 0)
+    (nat_lt 16777152 (4 * length image.code + image.global + budget.heap + budget.stack)) e in
+    record {
+      heap_even = is_same (budget.heap % 4) 0 p.1;
+      stack_even = is_same (budget.stack % 4) 0 p.0;
+      fits = is_most 16777152 (4 * length image.code + image.global + budget.heap + budget.stack) p.2;
+    }
   where
     is_same : (a b : ℕ) → nat_eq a b ≡ true → a ≡ b
     is_same a b e = grind arith

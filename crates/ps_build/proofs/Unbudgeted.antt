@@ -17,13 +17,16 @@ use Rattle.ps_meaning.proofs.Laws.{limits_only_stop}
 use Rattle.ps_build.specs.Laws.{ComesToTheMeaning}
 
 -- a run over plain lists that grows shows a transcript and an ending that grow
-told_grows : (image : Image) (a b : List ℕ × Halt) (halt : Halt) → a.1 ≡ halt → laws.Grows a b → GoesOn IsMore (outcome_of image a) (outcome_of image b)
+told_grows : (image : Image) (a b : List ℕ × Halt) (halt : Halt) → a.1 ≡ halt → laws.Grows a b → GoesOn IsMore
+    (outcome_of image a) (outcome_of image b)
 told_grows image a b Running e g =
     inr (subst (λ h. IsMore (ending_of image h)) (sym e) tt, (g.more, g.transcript))
 told_grows image a b (Stopped word at) e g =
-    inl (sym (ap (outcome_of image) (g.stays (λ running. absurd (let no : Stopped word at ≡ Running = sym e ∙ running in cc no)))))
+    inl (sym (ap (outcome_of image) (g.stays (λ running. absurd
+    (let no : Stopped word at ≡ Running = sym e ∙ running in cc no)))))
 told_grows image a b (Faulted kind) e g =
-    inl (sym (ap (outcome_of image) (g.stays (λ running. absurd (let no : Faulted kind ≡ Running = sym e ∙ running in cc no)))))
+    inl (sym (ap (outcome_of image) (g.stays (λ running. absurd
+    (let no : Faulted kind ≡ Running = sym e ∙ running in cc no)))))
 
 pub image_grows : (image : Image) (heap stack : ℕ) (input : List ℕ) → Grows (image_outcome image heap stack input)
 image_grows image heap stack input m n le =
@@ -32,4 +35,7 @@ image_grows image heap stack input m n le =
 
 pub comes_to_the_meaning : ComesToTheMeaning
 comes_to_the_meaning checked image does heap stack budget input bytes =
-    stops_carry_over (run_within checked (frame_bytes image) (object_bytes image) stack heap input) (image_outcome image heap stack input) (run checked input) (λ n. limits_only_stop checked (frame_bytes image) (object_bytes image) stack heap input n) (image_grows image heap stack input) (does.same heap stack budget input bytes)
+    stops_carry_over (run_within checked (frame_bytes image) (object_bytes image) stack heap input)
+    (image_outcome image heap stack input) (run checked input)
+    (λ n. limits_only_stop checked (frame_bytes image) (object_bytes image) stack heap input n)
+    (image_grows image heap stack input) (does.same heap stack budget input bytes)

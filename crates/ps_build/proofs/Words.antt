@@ -1,5 +1,7 @@
--- An instruction takes a word at least: code of too many instructions has too many words, whatever homes its temporaries have.
-use Rattle.std.proofs.Common.{◌≡◌, ℕ, zero, suc, ◌+◌, ◌<◌, ◌≤◌, Bool, true, false, if◌then◌else◌, List, [], ◌∷◌, ◌++◌, length, Option, Some, None, ℤ, refl, sym, ap, ◌∙◌, subst, arith, length-append}
+-- An instruction takes at least one word: code of too many instructions has too many words, whatever homes its
+-- temporaries have.
+use Rattle.std.proofs.Common.{◌≡◌, ℕ, suc, ◌<◌, ◌≤◌, Bool, true, false, if◌then◌else◌, List, [], ◌∷◌, ◌++◌, length}
+use Rattle.std.proofs.Common.{Option, Some, None, ℤ, refl, sym, subst, arith, length-append}
 use Rattle.std.specs.Prelude.{Result, Ok, Err, IfErr, IsErrAnd}
 use Rattle.tac_code.specs.declared.code.Relation.{Relation}
 use Rattle.tac_code.specs.declared.code.Relation.TheVariants.{Equal, NotEqual, Less, LessEqual, Greater, GreaterEqual}
@@ -8,7 +10,11 @@ use Rattle.tac_code.specs.declared.code.Operator.TheVariants.{Add, Subtract, Mul
 use Rattle.tac_code.specs.declared.code.Operand.{Operand}
 use Rattle.tac_code.specs.declared.code.Base.{Base}
 use Rattle.tac_code.specs.declared.code.Instruction.{Instruction}
-use Rattle.tac_code.specs.declared.code.Instruction.TheVariants.{Literal, Copy, Arithmetic, Bits, Compare, CheckRange, CheckPointer, Text, Offset, Index, RoutineValue, Load, Store, LoadByte, StoreByte, Jump, JumpBack, Branch, BranchBack, Call, CallValue, Return, Trap, Take, Put, New, End}
+use Rattle.tac_code.specs.declared.code.Instruction.TheVariants.{Literal, Copy, Arithmetic, Bits, Compare, CheckRange}
+use Rattle.tac_code.specs.declared.code.Instruction.TheVariants.{CheckPointer, Text, Offset, Index, RoutineValue, Load}
+use Rattle.tac_code.specs.declared.code.Instruction.TheVariants.{Store, LoadByte, StoreByte, Jump, JumpBack, Branch}
+use Rattle.tac_code.specs.declared.code.Instruction.TheVariants.{BranchBack, Call, CallValue, Return, Trap, Take, Put}
+use Rattle.tac_code.specs.declared.code.Instruction.TheVariants.{New, End}
 use Rattle.tac_code.specs.declared.code.TacRoutine.{TacRoutine}
 use Rattle.tac_code.specs.Meaning.{Code, routines}
 use Rattle.tac_code.specs.Sound.{IsSound}
@@ -19,10 +25,10 @@ use Rattle.risc_alloc.proofs.Whole.{every_slot_valid}
 use Rattle.risc_emit_relation.specs.Context.{Context, home, is_program}
 use Rattle.risc_emit_forms.specs.Pieces.{Label, Piece}
 use Rattle.risc_emit_forms.specs.Forms as form
-use Rattle.risc_emit_laws.specs.Drawn.{body_pieces, routine_pieces, routines_pieces, program_pieces, start_pieces, routines_texts}
+use Rattle.risc_emit_laws.specs.Drawn.{body_pieces, routine_pieces, routines_pieces, start_pieces}
 use Rattle.risc_emit.specs.Layout.{laid_out}
 use Rattle.risc_emit.specs.Emitted.{code_words}
-use Rattle.ps_lower.specs.Refused.{most_instructions, instructions_of, instruction_count, IsRefused}
+use Rattle.ps_lower.specs.Refused.{instructions_of, instruction_count, IsRefused}
 use Rattle.ps_lower.specs.declared.refusal.LowerRefusal.{LowerRefusal}
 use Rattle.ps_lower.specs.declared.refusal.LowerRefusal.TheVariants as w
 use Rattle.ps_build.specs.declared.refusal.Refusal.{Refusal}
@@ -79,7 +85,8 @@ module _ (c : Context) (r : ℕ) where
   unlike_word : (told : Option ℕ) (t a : ℕ) (b : Operand) → HasWord (form.unlike_form c r told t a b)
   unlike_word told t a b = either (form.is_own c r told t a b) _ _ (one _ _) (both_word a b _ (one _ _))
 
-  compare_word : (told : Option ℕ) (relation : Relation) (t a : ℕ) (b : Operand) → HasWord (form.compare_form c r told relation t a b)
+  compare_word : (told : Option ℕ) (relation : Relation) (t a : ℕ) (b : Operand) → HasWord
+      (form.compare_form c r told relation t a b)
   compare_word told Equal t a b = truth_word Equal t a b
   compare_word told NotEqual t a b = unlike_word told t a b
   compare_word told Less t a b = truth_word Less t a b
@@ -87,23 +94,28 @@ module _ (c : Context) (r : ℕ) where
   compare_word told Greater t a b = truth_word Greater t a b
   compare_word told GreaterEqual t a b = truth_word GreaterEqual t a b
 
-  arithmetic_word : (operator : Operator) (t a : ℕ) (b : Operand) (error line : ℕ) → HasWord (form.arithmetic_form c r operator t a b error line)
+  arithmetic_word : (operator : Operator) (t a : ℕ) (b : Operand) (error line : ℕ) → HasWord
+      (form.arithmetic_form c r operator t a b error line)
   arithmetic_word Add t a b error line = both_word a b _ (one _ _)
   arithmetic_word Subtract t a b error line = both_word a b _ (one _ _)
   arithmetic_word Multiply t a b error line = both_word a b _ (one _ _)
   arithmetic_word Divide t a b error line =
-      either (form.is_divisor b) _ _ (behind (form.fetch c r 12 _) _ (one _ _)) (behind (form.divisor c r b) _ (one _ _))
+      either (form.is_divisor b) _ _ (behind (form.fetch c r 12 _) _ (one _ _))
+      (behind (form.divisor c r b) _ (one _ _))
   arithmetic_word Modulo t a b error line =
-      either (form.is_divisor b) _ _ (behind (form.fetch c r 12 _) _ (one _ _)) (behind (form.modulus c r b) _ (one _ _))
+      either (form.is_divisor b) _ _ (behind (form.fetch c r 12 _) _ (one _ _))
+      (behind (form.modulus c r b) _ (one _ _))
 
   range_word : (a : ℕ) (low high : ℤ) (error line : ℕ) → HasWord (form.range_code c r a low high error line)
-  range_word a low high error line = either _ _ _ (one _ _) (behind (form.above c r a low) _ (at_most_word _ _ error line))
+  range_word a low high error line = either _ _ _ (one _ _)
+      (behind (form.above c r a low) _ (at_most_word _ _ error line))
 
   check_word : (a : ℕ) (low high : ℤ) (error line : ℕ) → HasWord (form.check_form c r a low high error line)
   check_word a low high error line = behind (form.fetch c r 12 _) _ (range_word _ low high error line)
 
   pointer_word : (told : Option ℕ) (a error line : ℕ) → HasWord (form.pointer_form c r told a error line)
-  pointer_word told a error line = either (form.is_told c r told a) _ _ (one _ _) (before (form.bring c r 12 _) _ (bring_word 12 _))
+  pointer_word told a error line = either (form.is_told c r told a) _ _ (one _ _)
+      (before (form.bring c r 12 _) _ (bring_word 12 _))
 
   address_word : (d : ℕ) (a : Base) (n : ℕ) → HasWord (form.address c r d a n)
   address_word d a n = behind (form.base_code c r a) _ (either _ _ _ (one _ _) (one _ _))
@@ -118,7 +130,8 @@ module _ (c : Context) (r : ℕ) where
   store_form_word : (width : _) (a : Base) (n b : ℕ) → HasWord (form.store_form c r width a n b)
   store_form_word width a n b = behind (form.reach c r a n) _ (behind (form.fetch c r 15 _) _ (one _ _))
 
-  branch_by_word : (choice : Option _) (relation : Relation) (a : ℕ) (b : Operand) (label : Label) → HasWord (form.branch_by c r choice relation a b label)
+  branch_by_word : (choice : Option _) (relation : Relation) (a : ℕ) (b : Operand) (label : Label) → HasWord
+      (form.branch_by c r choice relation a b label)
   branch_by_word None relation a b label = both_word a b _ (one _ _)
   branch_by_word (Some condition) relation a b label = one _ _
 
@@ -135,7 +148,8 @@ module _ (c : Context) (r : ℕ) where
   form_word k (CheckPointer a error line) = pointer_word _ a error line
   form_word k (Text t bytes) = one _ _
   form_word k (Offset t a n extent) = before (form.address c r _ a n) _ (address_word _ a n)
-  form_word k (Index t a i low high width error line) = before (form.check_form c r i low high error line) _ (check_word i low high error line)
+  form_word k (Index t a i low high width error line) = before (form.check_form c r i low high error line) _
+      (check_word i low high error line)
   form_word k (RoutineValue t q) = one _ _
   form_word k (Load t a n) = word_form_word _ t a n
   form_word k (Store a n b) = store_form_word _ a n b
@@ -158,12 +172,25 @@ module _ (c : Context) (r : ℕ) where
 
   body_words : (k : ℕ) (is : List Instruction) → length is ≤ length (body_pieces c r k is)
   body_words k [] = omega arith
-  body_words k (i ∷ is) = omega (arith, counted _ (form_word k i), body_words (suc k) is, length-append (form.form c r k i) (body_pieces c r (suc k) is))
+  body_words k (i ∷ is) = omega (
+    arith,
+    counted _ (form_word k i),
+    body_words (suc k) is,
+    length-append
+        (form.form c r k i) (body_pieces c r (suc k) is),
+  )
 
 routines_words : (c : Context) (r : ℕ) (rs : List TacRoutine) → instructions_of rs ≤ length (routines_pieces c r rs)
 routines_words c r [] = omega arith
 routines_words c r (x ∷ xs) =
-    omega (arith, body_words c r 0 x.body, routines_words c (suc r) xs, length-append (form.entry_form c r x) (body_pieces c r 0 x.body), length-append (routine_pieces c r x) (routines_pieces c (suc r) xs))
+    omega (
+      arith,
+      body_words c r 0 x.body,
+      routines_words c (suc r) xs,
+      length-append (form.entry_form c r x)
+          (body_pieces c r 0 x.body),
+      length-append (routine_pieces c r x) (routines_pieces c (suc r) xs),
+    )
 
 -- with the run-time routines there are no fewer
 both_counted : (xs ys : List TacRoutine) → instructions_of xs ≤ instructions_of (xs ++ ys)
@@ -173,12 +200,19 @@ both_counted (x ∷ xs) ys = omega (arith, both_counted xs ys)
 pub words_of_instructions : (code : Code) (homes : List Home) → instruction_count code ≤ code_words code homes
 words_of_instructions code homes =
     let c = laid_out code homes in
-    omega (arith, both_counted code.program code.run_time, routines_words c 0 (routines code), length-append (start_pieces c (routines code)) (routines_pieces c 0 (routines code)))
+    omega (
+      arith,
+      both_counted code.program code.run_time,
+      routines_words c 0 (routines code),
+      length-append
+          (start_pieces c (routines code)) (routines_pieces c 0 (routines code)),
+    )
 
 -- ---- what is refused
 
 -- homes there are for every sound code: a slot of its own for each temporary
-pub no_room : (code : Code) → IsSound code → (refusal : LowerRefusal) → IsRefused refusal (instruction_count code) → OnlyTooLarge (of_lower refusal) (HasNoRoom code)
+pub no_room : (code : Code) → IsSound code → (refusal : LowerRefusal) → IsRefused refusal (instruction_count code)
+    → OnlyTooLarge (of_lower refusal) (HasNoRoom code)
 no_room code sound w.OutOfMemory h = tt
 no_room code sound w.CodeTooLarge h = record {
   homes = every_slot (routines code);
@@ -186,6 +220,9 @@ no_room code sound w.CodeTooLarge h = record {
   words = omega (arith, h, words_of_instructions code (every_slot (routines code)));
 }
 
-pub refused : {X : Type 0} (result : Result X Refusal) (code : Code) (refusal : LowerRefusal) → IsSound code → IsErrAnd result (λ e. e ≡ of_lower refusal) → IsRefused refusal (instruction_count code) → IfErr result (λ e. OnlyTooLarge e (HasNoRoom code))
+pub refused : {X : Type 0} (result : Result X Refusal) (code : Code) (refusal : LowerRefusal) → IsSound code
+    → IsErrAnd result (λ e. e ≡ of_lower refusal) → IsRefused refusal (instruction_count code) → IfErr result
+    (λ e. OnlyTooLarge e (HasNoRoom code))
 refused (Ok x) code refusal sound is h = absurd is
-refused (Err e) code refusal sound is h = subst (λ y. OnlyTooLarge y (HasNoRoom code)) (sym is) (no_room code sound refusal h)
+refused (Err e) code refusal sound is h = subst (λ y. OnlyTooLarge y (HasNoRoom code)) (sym is)
+    (no_room code sound refusal h)

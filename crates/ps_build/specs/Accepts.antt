@@ -18,7 +18,8 @@ use Rattle.ps_check_names.specs.Spelling.{line_in}
 use Rattle.ps_build.specs.declared.refusal.Place.{Place}
 use Rattle.ps_build.specs.Refusals.{end_of_token}
 use Rattle.ps_build.specs.declared.refusal.Refusal.{Refusal}
-use Rattle.ps_build.specs.declared.refusal.Refusal.TheVariants.{TooLong, TooManyLines, OutOfMemory, Scan, Parse, Check, CodeTooLarge}
+use Rattle.ps_build.specs.declared.refusal.Refusal.TheVariants.{TooLong, TooManyLines, OutOfMemory, Scan, Parse, Check}
+use Rattle.ps_build.specs.declared.refusal.Refusal.TheVariants.{CodeTooLarge}
 use Rattle.ps_tree.specs.Tree as Tree
 use Rattle.ps_check.specs.Programs.{program}
 use Rattle.ps_lower_code.specs.Programs.{code_of}
@@ -66,7 +67,8 @@ pub record HasFault (text : List ℕ) (why : ScanFault) (place : Place) : Type 0
   pub first : RefusedFrom 0 text why (span_of place)
   pub on_line : place.line ≡ line_at text place.from
 
--- The text has tokens, of which no tree derives that is not too high. What is told is the first token that no derivation takes, by its number, from 0, and its place, and why none does.
+-- The text has tokens, and no tree that is not too high derives them. Reported are the first token that no derivation
+-- takes, by its number, from 0, and its place, and why none does.
 pub record HasNoTree (text : List ℕ) (why : ParseFault) (at : ℕ) (place : Place) : Type 0 where
   pub limits : IsSource text
   pub tokens : List Token
@@ -76,7 +78,7 @@ pub record HasNoTree (text : List ℕ) (why : ParseFault) (at : ℕ) (place : Pl
   pub placed : span_of place ≡ first_span text (drop at tokens)
   pub on_line : place.line ≡ token_line text tokens at
 
--- The text has a tree, and its judgement is that it breaks a rule or a limit, which is told at a token.
+-- The text has a tree, and its judgement is that it breaks a rule or a limit, which is reported at a token.
 pub record HasNoProgram (text : List ℕ) (rule : Rule) (place : Place) : Type 0 where
   pub tokens : List Token
   pub tree : Program
@@ -103,7 +105,8 @@ pub record IsCodeTooLarge (text : List ℕ) : Type 0 where
   pub accepts : Accepts text checked
   pub no_room : HasNoRoom (code_of run_time_routines checked)
 
--- What each refusal of a text says of it; the others are never told. Memory is wanted only for a text within the limits.
+-- What each refusal of a text says about it; the others are never reported. A text may be refused as out of memory only
+-- within the limits.
 abbrev pub IsRefused : List ℕ → Refusal → Type 0
 IsRefused text TooLong = MAX_LENGTH < length text
 IsRefused text TooManyLines = (length text ≤ MAX_LENGTH) × (MAX_LINES < line_count text)
@@ -114,7 +117,7 @@ IsRefused text (Check rule place) = HasNoProgram text rule place
 IsRefused text CodeTooLarge = IsCodeTooLarge text
 IsRefused text _ = ⊥
 
--- a refusal that tells a fault of the text: 1, 2, and 10 to 45
+-- a refusal that reports a fault of the text: 1, 2, and 10 to 45
 abbrev pub IsFaulty : Refusal → Type 0
 IsFaulty TooLong = Unit {0}
 IsFaulty TooManyLines = Unit {0}

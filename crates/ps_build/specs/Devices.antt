@@ -1,4 +1,4 @@
--- Where a run over plain lists stands after so many steps, and which device its next step asks.
+-- Where a run over plain lists is after a number of steps, and which device its next step uses.
 use Rattle.std.specs.Prelude.{ℕ, zero, suc}
 use Rattle.risc_machine.specs.Step.{State, Act, Goes, Takes, Puts, Stops, Faults, act, taken}
 use Rattle.risc_machine.specs.Exec.{Tape, told, take_tape}

@@ -1,4 +1,4 @@
--- The faults of a run, as an outcome tells them.
+-- The faults of a run, as an outcome reports them.
 use Rattle.behavior.specs.Endings as ending
 use Rattle.ps_build.specs.declared.outcome.FaultKind.{FaultKind}
 use Rattle.ps_build.specs.declared.outcome.FaultKind.TheVariants.{BadWord, BadAddress, BadDivisor, BadJump, UnknownTrap}

@@ -1,4 +1,4 @@
--- What a text comes to that is built and run.
+-- What happens to a text that is built and run.
 use Rattle.std.specs.Prelude.{ℕ, ◌⊎◌, List}
 use Rattle.risc_machine.specs.Console.{World}
 use Rattle.risc_load.specs.declared.budget.Budget.{Budget}
@@ -9,7 +9,8 @@ use Rattle.ps_build.specs.Headline.{Compiles}
 use Rattle.ps_build.specs.Made.{IsBuilt}
 use Rattle.ps_build.specs.Runs.{Runs, IsLoadRefused}
 
--- The text has an image that was made of it as `build` makes one, and that does what its program means; and this image was run.
+-- The text has an image that was made from it as `build` makes one, and that does what its program means; and this
+-- image was run.
 pub record Goes (text : List ℕ) (budget : Budget) (n : ℕ) (old new : World) (outcome : Outcome) : Type 0 where
   pub bytes : List ℕ
   pub built : IsBuilt text bytes

@@ -11,15 +11,18 @@ use Rattle.ps_meaning.specs.Run.{run_within}
 use Rattle.ps_meaning.specs.Costs.{Bounded}
 use Rattle.ps_build.specs.Accepts.{IsProgramOf}
 
--- The image does what the checked program means: under each budget and on each input of bytes, whatever the program shows at some
--- fuel the image shows after some steps, and nothing else: errors with the lines of the calls that are open there too.
+-- The image does what the checked program means: under each budget and on each input of bytes, the image shows after
+-- some number of steps whatever the program shows at some fuel, and nothing else; this includes errors with the lines
+-- of the calls open there.
 pub record DoesAsMeant (checked : Program) (image : Image) : Type 0 where
   pub routines : length image.frames ≡ length checked.routines
   pub types : length image.objects ≡ length checked.domains
   pub bounded : Bounded checked (frame_bytes image) (object_bytes image)
-  pub same : (heap stack : ℕ) → IsBudget image heap stack → (input : List ℕ) → AreBytes input → Same (run_within checked (frame_bytes image) (object_bytes image) stack heap input) (image_outcome image heap stack input)
+  pub same : (heap stack : ℕ) → IsBudget image heap stack → (input : List ℕ) → AreBytes input → Same
+      (run_within checked (frame_bytes image) (object_bytes image) stack heap input)
+      (image_outcome image heap stack input)
 
--- The bytes are an image that does what the program of the text means. The text is accepted as this one checked program.
+-- The bytes are an image that does what the text's program means. The text is accepted as this one checked program.
 pub record Compiles (text bytes : List ℕ) : Type 0 where
   pub checked : Program
   pub program : IsProgramOf text checked

@@ -22,18 +22,22 @@ use Rattle.ps_build.specs.Goes.{Goes}
 use Rattle.ps_build.specs.Headline.{DoesAsMeant, Compiles}
 use Rattle.ps_build.specs.Made.{IsCodeOf, IsMadeOf}
 
--- An image that does what a program means comes to all that the program shows without costs and budgets, or is stopped for stack or
--- heap on the way to it; and all that the image shows is the program's, or a part of it. Where the image ends otherwise than by a stop it
--- shows just what the program shows.
+-- An image that does what a program means shows all that the program shows without costs and budgets, or is stopped for
+-- stack or heap on the way to it; and all that the image shows is the program's, or a prefix of it. Where the image
+-- ends otherwise than by a stop it shows just what the program shows.
 abbrev pub ComesToTheMeaning : Type 0
-ComesToTheMeaning = (checked : Program) (image : Image) → DoesAsMeant checked image → (heap stack : ℕ) → IsBudget image heap stack → (input : List ℕ) → AreBytes input → Stopped (run checked input) (image_outcome image heap stack input)
+ComesToTheMeaning = (checked : Program) (image : Image) → DoesAsMeant checked image → (heap stack : ℕ)
+    → IsBudget image heap stack → (input : List ℕ) → AreBytes input → Stopped (run checked input)
+    (image_outcome image heap stack input)
 
--- An image that does what the program of a text means never comes to a machine fault, under any budget and on any input of bytes: the
--- processor can always go on, and no stop has a link that the image's trap table doesn't have.
+-- An image that does what the program of a text means never reaches a machine fault, under any budget and on any input
+-- of bytes: the processor can always go on, and no stop has a link that isn't in the image's trap table.
 abbrev pub NeverFaults : Type 0
-NeverFaults = (text bytes : List ℕ) → AreBytes text → (compiles : Compiles text bytes) → (heap stack : ℕ) → IsBudget compiles.image heap stack → (input : List ℕ) → AreBytes input → (steps : ℕ) (kind : ending.FaultKind) → (image_outcome compiles.image heap stack input steps).1 ≢ ending.Fault kind
+NeverFaults = (text bytes : List ℕ) → AreBytes text → (compiles : Compiles text bytes) → (heap stack : ℕ)
+    → IsBudget compiles.image heap stack → (input : List ℕ) → AreBytes input → (steps : ℕ) (kind : ending.FaultKind)
+    → (image_outcome compiles.image heap stack input steps).1 ≢ ending.Fault kind
 
--- the console tells its bytes
+-- the console reports its bytes
 pub record TellsBytes (world : World) : Type 0 where
   pub input : List ℕ
   pub bytes : AreBytes input
@@ -41,16 +45,18 @@ pub record TellsBytes (world : World) : Type 0 where
   pub before : List ℕ
   pub written : world.output ≡ Some before
 
--- So no text that was built and run over such a console comes to one.
+-- So no text that was built and run over such a console reaches one.
 abbrev pub GoesWithoutFault : Type 0
-GoesWithoutFault = (text : List ℕ) (budget : Budget) (n : ℕ) (old new : World) (outcome : Outcome) → AreBytes text → Goes text budget n old new outcome → TellsBytes old → (kind : FaultKind) → outcome ≢ Fault kind
+GoesWithoutFault = (text : List ℕ) (budget : Budget) (n : ℕ) (old new : World) (outcome : Outcome) → AreBytes text
+    → Goes text budget n old new outcome → TellsBytes old → (kind : FaultKind) → outcome ≢ Fault kind
 
--- The three-address code of a program that has all that the lowering needs, with the run-time routines behind it, does what the program
--- means.
+-- The three-address code of a program that has all that the lowering needs, followed by the run-time routines, does
+-- what the program means.
 abbrev pub CodeDoes : Type 0
 CodeDoes = (checked : Program) → ProgramFits checked → IsCodeOf checked (code_of run_time_routines checked)
 
--- An image that was made through three-address code does what its program means: the runs of the program, of its code and of its image are
--- the same.
+-- An image that was made through three-address code does what its program means: the runs of the program, of its code
+-- and of its image are the same.
 abbrev pub MadeCompiles : Type 0
-MadeCompiles = (text bytes : List ℕ) (checked : Program) (image : Image) → IsProgramOf text checked → IsImage bytes image → IsMadeOf checked image → Compiles text bytes
+MadeCompiles = (text bytes : List ℕ) (checked : Program) (image : Image) → IsProgramOf text checked
+    → IsImage bytes image → IsMadeOf checked image → Compiles text bytes

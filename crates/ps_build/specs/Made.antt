@@ -18,13 +18,16 @@ use Rattle.risc_emit_laws.specs.Emits.{Emits}
 use Rattle.risc_emit.specs.Emitted.{HasBounds}
 use Rattle.ps_build.specs.Accepts.{IsCodeOfText}
 
--- The code does what the program means, under any costs and budgets and on any input of bytes, and there is a next step wherever it has
--- not come to its end.
+-- The code does what the program means, under any costs and budgets and on any input of bytes, and there is a next step
+-- wherever it has not reached its end.
 pub record IsCodeOf (checked : Program) (code : Code) : Type 0 where
-  pub same : (F G : List ℕ) (S H : ℕ) (input : List ℕ) → AreBytes input → Same (run_within checked F G S H input) (tac_run code (λ r. get_or F r 0) (λ t. get_or G t 0) S H input)
-  pub goes_on : (F G : List ℕ) (S H : ℕ) (input : List ℕ) → AreBytes input → (n : ℕ) → (tac_run code (λ r. get_or F r 0) (λ t. get_or G t 0) S H input n).1 ≡ Stuck → ⊥
+  pub same : (F G : List ℕ) (S H : ℕ) (input : List ℕ) → AreBytes input → Same (run_within checked F G S H input)
+      (tac_run code (λ r. get_or F r 0) (λ t. get_or G t 0) S H input)
+  pub goes_on : (F G : List ℕ) (S H : ℕ) (input : List ℕ) → AreBytes input → (n : ℕ)
+      → (tac_run code (λ r. get_or F r 0) (λ t. get_or G t 0) S H input n).1 ≡ Stuck → ⊥
 
--- The image is that of code of the program, whose temporaries have homes, and its tables keep the bounds on frames and objects.
+-- The image is that of code of the program, whose temporaries have homes, and its tables keep the bounds on frames and
+-- objects.
 pub record IsMadeOf (checked : Program) (image : Image) : Type 0 where
   pub code : Code
   pub lowered : IsCodeOf checked code
@@ -49,13 +52,13 @@ pub record AreEmitted (code : Code) (bytes : List ℕ) : Type 0 where
   pub emitted : IsEmitted code image
   pub bounds : HasBounds code image
 
--- What `build` gives of a text: the bytes are an image of the three-address code of its program.
+-- What `build` gives for a text: the bytes are an image of the three-address code of its program.
 pub record IsBuilt (text bytes : List ℕ) : Type 0 where
   pub code : Code
   pub is_code : IsCodeOfText text code
   pub emitted : AreEmitted code bytes
 
--- the bytes are an image that was made so of the program
+-- the bytes are an image that was made so from the program
 pub record AreMadeOf (checked : Program) (bytes : List ℕ) : Type 0 where
   pub image : Image
   pub is_image : IsImage bytes image

@@ -1,4 +1,5 @@
--- What the names of a text denote, told of its tree, for the texts that are built and for those that break a rule (6.2.2).
+-- What the names of a text denote, in terms of its tree, for the texts that are built and for those that break a rule
+-- (6.2.2).
 use Rattle.std.specs.Prelude.{ℕ, List}
 use Rattle.ps_scan.specs.declared.token.Token.{Token}
 use Rattle.ps_syntax.specs.declared.program.Program.{Program}
@@ -12,8 +13,8 @@ use Rattle.ps_build.specs.declared.refusal.Refusal.TheVariants.{Check}
 use Rattle.ps_build.specs.Accepts.{IsParsed, IsRefused}
 use Rattle.ps_build.specs.Headline.{Compiles}
 
--- The text has a tree that is read as the checked program: each block is read in the regions of the blocks round it, where each use of a name denotes its point. Forward headings have their
--- blocks.
+-- The text has a tree that is read as the checked program: each block is read in the regions of the blocks enclosing
+-- it, where each use of a name denotes its point. Forward headings have their blocks.
 pub record NamesAreMeant (text : List ℕ) (checked : Tree.Program) : Type 0 where
   pub tokens : List Token
   pub tree : Program
@@ -27,12 +28,14 @@ pub record NamesAreNotMeant (text : List ℕ) : Type 0 where
   pub tokens : List Token
   pub tree : Program
   pub parsed : IsParsed text tokens tree
-  pub unread : (others : List Token) (other : Program) (made : Tree.Program) → IsParsed text others other → ProgramIsRead text other made → ⊥
+  pub unread : (others : List Token) (other : Program) (made : Tree.Program) → IsParsed text others other
+      → ProgramIsRead text other made → ⊥
 
--- of the checked program of which an image is built
+-- for the checked program from which an image is built
 abbrev pub NamesOfBuiltTexts : Type 0
 NamesOfBuiltTexts = (text bytes : List ℕ) (compiles : Compiles text bytes) → NamesAreMeant text compiles.checked
 
--- of a text that breaks a rule or a limit of the check (refusals 22 and 30 to 45)
+-- for a text that breaks a rule or a limit of the check (refusals 22 and 30 to 45)
 abbrev pub NamesOfRefusedTexts : Type 0
-NamesOfRefusedTexts = (text : List ℕ) (rule : Rule) (place : Place) → IsRefused text (Check rule place) → NamesAreNotMeant text
+NamesOfRefusedTexts = (text : List ℕ) (rule : Rule) (place : Place) → IsRefused text (Check rule place)
+    → NamesAreNotMeant text

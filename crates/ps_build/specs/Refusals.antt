@@ -1,4 +1,5 @@
--- The table of refusals: their numbers, their names, and the place in the text that some of them have (this project's format).
+-- The table of refusals: their numbers, their names, and the place in the text that some of them have (this project's
+-- format).
 use Rattle.std.specs.Prelude.{ℕ, nat_eq, if◌then◌else◌, List, [], ◌∷◌, Option, Some, None, option_map, codes}
 use Rattle.ps_text.specs.declared.TextRefusal.{TextRefusal}
 use Rattle.ps_text.specs.declared.TextRefusal.TheVariants as t
@@ -28,7 +29,9 @@ use Rattle.risc_load.specs.declared.budget.LoadRefusal.{LoadRefusal}
 use Rattle.risc_load.specs.declared.budget.LoadRefusal.TheVariants as l
 use Rattle.ps_build.specs.declared.refusal.Place.{Place}
 use Rattle.ps_build.specs.declared.refusal.Refusal.{Refusal}
-use Rattle.ps_build.specs.declared.refusal.Refusal.TheVariants.{TooLong, TooManyLines, OutOfMemory, Scan, Parse, Check, CodeTooLarge, BadPlacement, Magic, Truncated, Trailing, TooLarge, BadTable, BudgetTooLarge, BudgetUneven}
+use Rattle.ps_build.specs.declared.refusal.Refusal.TheVariants.{TooLong, TooManyLines, OutOfMemory, Scan, Parse, Check}
+use Rattle.ps_build.specs.declared.refusal.Refusal.TheVariants.{CodeTooLarge, BadPlacement, Magic, Truncated, Trailing}
+use Rattle.ps_build.specs.declared.refusal.Refusal.TheVariants.{TooLarge, BadTable, BudgetTooLarge, BudgetUneven}
 
 abbrev pub number_of : Refusal → ℕ
 number_of TooLong = 1
@@ -97,7 +100,7 @@ name_of BadTable = codes "BadTable"
 name_of BudgetTooLarge = codes "BudgetTooLarge"
 name_of BudgetUneven = codes "BudgetUneven"
 
--- the place of those that tell a fault of the text: 10 to 45
+-- the place of those that report a fault of the text: 10 to 45
 abbrev pub place_of : Refusal → Option Place
 place_of (Scan fault place) = Some place
 place_of (Parse fault token place) = Some place
@@ -107,7 +110,7 @@ place_of _ = None
 abbrev pub line_of : Refusal → Option ℕ
 line_of refusal = option_map (λ (place : Place). place.line) (place_of refusal)
 
--- CodeTooLarge is told only where a fact holds; no other refusal is told but the want of memory
+-- CodeTooLarge is reported only where a fact holds; no other refusal is reported but out of memory
 abbrev pub OnlyTooLarge : Refusal → Type 0 → Type 0
 OnlyTooLarge OutOfMemory fact = Unit {0}
 OnlyTooLarge CodeTooLarge fact = fact
@@ -132,7 +135,7 @@ abbrev pub end_of_token : List Token → (at : ℕ) → ℕ
 end_of_token [] at = at
 end_of_token (t ∷ ts) at = if nat_eq t.span.from at then t.span.to else end_of_token ts at
 
--- the checker tells a token by the offset at which it begins
+-- the checker gives a token by the offset at which it begins
 abbrev pub of_check : List Token → CheckRefusal → Refusal
 of_check tokens c.OutOfMemory = OutOfMemory
 of_check tokens (c.Broken rule at line) = Check rule (record { line = line; from = at; to = end_of_token tokens at })

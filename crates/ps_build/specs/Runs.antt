@@ -1,4 +1,4 @@
--- What a run of an image over a console comes to.
+-- What a run of an image over a console does.
 use Rattle.std.specs.Prelude.{◌≡◌, ℕ, ◌<◌, nat_eq, if◌then◌else◌, List, ◌++◌, Option, Some, None, option_map}
 use Rattle.behavior.specs.Endings as ending
 use Rattle.behavior.specs.Transcripts.{output, AreBytes}
@@ -16,9 +16,11 @@ use Rattle.risc_load.specs.Refusal as load
 use Rattle.risc_load.specs.Loaded.{loaded_state}
 use Rattle.risc_image.specs.declared.refusal.ImageRefusal.TheVariants as i
 use Rattle.ps_build.specs.declared.refusal.Refusal.{Refusal}
-use Rattle.ps_build.specs.declared.refusal.Refusal.TheVariants.{OutOfMemory, Magic, Truncated, Trailing, TooLarge, BadTable, BudgetTooLarge, BudgetUneven}
+use Rattle.ps_build.specs.declared.refusal.Refusal.TheVariants.{OutOfMemory, Magic, Truncated, Trailing, TooLarge}
+use Rattle.ps_build.specs.declared.refusal.Refusal.TheVariants.{BadTable, BudgetTooLarge, BudgetUneven}
 use Rattle.ps_build.specs.declared.outcome.Outcome.{Outcome}
-use Rattle.ps_build.specs.declared.outcome.Outcome.TheVariants.{Normal, Error, Stack, Heap, Steps, InputFault, OutputFault, Fault}
+use Rattle.ps_build.specs.declared.outcome.Outcome.TheVariants.{Normal, Error, Stack, Heap, Steps, InputFault}
+use Rattle.ps_build.specs.declared.outcome.Outcome.TheVariants.{OutputFault, Fault}
 use Rattle.risc_load.specs.Shows.{trap_rows, IsBudget}
 use Rattle.risc_emit_laws.specs.Outcome.{image_outcome}
 use Rattle.risc_emit_trail.specs.Told.{trail_of}
@@ -26,11 +28,11 @@ use Rattle.ps_build.specs.declared.outcome.FaultKind.TheVariants.{UnknownTrap}
 use Rattle.ps_build.specs.Faults.{kind_told}
 use Rattle.ps_build.specs.Devices.{reached, AsksInput, AsksOutput}
 
--- the lines of the open calls as an outcome has them: none of an image without a table of calls
+-- the lines of the open calls as an outcome has them: none for an image without a table of calls
 abbrev pub trail_told : Image → List ℕ → Option (List ℕ)
 trail_told image calls = option_map (λ rows. calls) image.calls
 
--- The outcome that tells an ending of an image. No run of an image is stuck.
+-- The outcome that reports an ending of an image. No run of an image is stuck.
 abbrev pub outcome_told : Image → ending.Ending → Option Outcome
 outcome_told image ending.More = Some Steps
 outcome_told image ending.Normal = Some Normal
@@ -40,22 +42,22 @@ outcome_told image (ending.Heap line) = Some (Heap 13 line)
 outcome_told image (ending.Fault kind) = Some (Fault (kind_told kind))
 outcome_told image ending.Stuck = None
 
--- the loaded machine and its tape after at most so many steps
+-- the loaded machine and its tape after at most n steps
 abbrev pub stands_at : Image → Budget → List ℕ → ℕ → State × Tape
 stands_at image budget input steps = reached steps (loaded_state image budget) (fresh input)
 
--- after so many steps the console was given what the image shows, and has left what the image has not taken
+-- after `steps` steps the console was given what the image shows, and has left what the image has not taken
 pub record Moved (image : Image) (budget : Budget) (input before : List ℕ) (steps : ℕ) (after : World) : Type 0 where
   pub written : after.output ≡ Some (before ++ output (image_outcome image budget.heap budget.stack input steps).0)
   pub left : after.input ≡ Some (stands_at image budget input steps).1.input
 
--- No device failed: the console is as the image leaves it after n steps, and the outcome tells how the image ends.
+-- No device failed: the console is as the image leaves it after n steps, and the outcome reports how the image ends.
 pub record Ends (image : Image) (budget : Budget) (n : ℕ) (input before : List ℕ) (after : World) (outcome : Outcome) : Type 0 where
   pub moved : Moved image budget input before n after
   pub ending : outcome_told image (image_outcome image budget.heap budget.stack input n).1 ≡ Some outcome
 
--- A device failed: the console is as the image leaves it after some fewer steps, of which the next asks just that device. So nothing
--- that was written before is held back or lost, and nothing was taken that the image had not asked for.
+-- A device failed: the console is as the image leaves it after fewer steps, and the next step uses just that device. So
+-- nothing that was written before is held back or lost, and nothing was taken that the image had not asked for.
 pub record Breaks (Asks : State → Type 0) (image : Image) (budget : Budget) (n : ℕ) (input before : List ℕ) (after : World) : Type 0 where
   pub steps : ℕ
   pub fewer : steps < n
@@ -67,13 +69,14 @@ abbrev pub Tells : Outcome → Image → Budget → ℕ → (input before : List
 Tells InputFault image budget n input before after = Breaks AsksInput image budget n input before after
 Tells OutputFault image budget n input before after = Breaks AsksOutput image budget n input before after
 Tells Normal image budget n input before after = Ends image budget n input before after Normal
-Tells (Error number line trail) image budget n input before after = Ends image budget n input before after (Error number line trail)
+Tells (Error number line trail) image budget n input before after = Ends image budget n input before after
+    (Error number line trail)
 Tells (Stack number line) image budget n input before after = Ends image budget n input before after (Stack number line)
 Tells (Heap number line) image budget n input before after = Ends image budget n input before after (Heap number line)
 Tells Steps image budget n input before after = Ends image budget n input before after Steps
 Tells (Fault kind) image budget n input before after = Ends image budget n input before after (Fault kind)
 
--- the count of faults rises by one where a device failed, and else stays
+-- the count of faults rises by one where a device failed, and otherwise stays
 abbrev pub CountsFaults : Outcome → World → World → Type 0
 CountsFaults InputFault old new = new.faults ≡ one_more old.faults
 CountsFaults OutputFault old new = new.faults ≡ one_more old.faults
@@ -84,10 +87,12 @@ CountsFaults (Heap number line) old new = new.faults ≡ old.faults
 CountsFaults Steps old new = new.faults ≡ old.faults
 CountsFaults (Fault kind) old new = new.faults ≡ old.faults
 
--- The budget loads the image, and it was run for at most n steps: on a console that tells its bytes, as the image shows.
+-- The budget loads the image, and it was run for at most n steps: on a console that reports its bytes, as the image
+-- shows.
 pub record Runs (image : Image) (budget : Budget) (n : ℕ) (old new : World) (outcome : Outcome) : Type 0 where
   pub loaded : IsBudget image budget.heap budget.stack
-  pub told : (input before : List ℕ) → AreBytes input → old.input ≡ Some input → old.output ≡ Some before → Tells outcome image budget n input before new
+  pub told : (input before : List ℕ) → AreBytes input → old.input ≡ Some input → old.output ≡ Some before
+      → Tells outcome image budget n input before new
   pub faults : CountsFaults outcome old new
 
 -- The bytes are this one image, which was run so.
@@ -97,13 +102,13 @@ pub record RunsImage (bytes : List ℕ) (budget : Budget) (n : ℕ) (old new : W
   pub only : (other : Image) → IsImage bytes other → image ≡ other
   pub runs : Runs image budget n old new outcome
 
--- the outcome of a stop by a row of the trap table, where these calls are open
+-- the outcome of a stop by a row of the trap table, with these calls open
 abbrev pub trap_told : Option (ℕ × ℕ × ℕ) → (trail : Option (List ℕ)) → Outcome
 trap_told None trail = Fault UnknownTrap
 trap_told (Some row) trail =
     if nat_eq row.1 12 then Stack 12 row.2 else if nat_eq row.1 13 then Heap 13 row.2 else Error row.1 row.2 trail
 
--- what an outcome tells of a stop, in which the image's machine was left
+-- what an outcome reports for a stop that the image's machine was left in
 abbrev pub IsToldBy : Image → State → Stop → Outcome → Type 0
 IsToldBy image left m.Normal outcome = outcome ≡ Normal
 IsToldBy image left (m.Trap link) outcome = outcome ≡ trap_told (row_at link (trap_rows image)) (trail_of image left)
@@ -112,20 +117,20 @@ IsToldBy image left m.InputFault outcome = outcome ≡ InputFault
 IsToldBy image left m.OutputFault outcome = outcome ≡ OutputFault
 IsToldBy image left (m.Fault kind) outcome = outcome ≡ Fault (kind_told (fault_kind kind))
 
--- why an image isn't loaded under a budget; memory is wanted only for a budget that fits
+-- why an image isn't loaded under a budget; out of memory is reported only for a budget that fits
 abbrev pub IsLoadRefused : Image → Budget → Refusal → Type 0
 IsLoadRefused image budget OutOfMemory = IsBudget image budget.heap budget.stack
 IsLoadRefused image budget BudgetTooLarge = load.IsRefused image budget l.BudgetTooLarge
 IsLoadRefused image budget BudgetUneven = load.IsRefused image budget l.BudgetUneven
 IsLoadRefused image budget _ = ⊥
 
--- the same of the image that bytes are
+-- the same for the image that bytes are
 pub record IsBudgetRefused (bytes : List ℕ) (budget : Budget) (refusal : Refusal) : Type 0 where
   pub image : Image
   pub is_image : IsImage bytes image
   pub refused : IsLoadRefused image budget refusal
 
--- why bytes aren't run under a budget: the first check of the format that they fail, and else the budget
+-- why bytes aren't run under a budget: the first check of the format that they fail, and otherwise the budget
 abbrev pub IsRunRefused : List ℕ → Budget → Refusal → Type 0
 IsRunRefused bytes budget OutOfMemory = IsBudgetRefused bytes budget OutOfMemory
 IsRunRefused bytes budget Magic = IsRefused bytes i.Magic

@@ -1,4 +1,4 @@
--- What runs in slices come to.
+-- What runs in slices do.
 use Rattle.std.specs.Prelude.{◌≡◌, ℕ, ◌<◌, List, Some}
 use Rattle.risc_machine.specs.declared.stop.Stop.{Stop}
 use Rattle.risc_machine.specs.declared.stop.Stop.TheVariants as m
@@ -12,7 +12,8 @@ use Rattle.ps_build.specs.declared.outcome.Outcome.TheVariants.{Steps}
 use Rattle.ps_build.specs.Runs.{Runs, RunsImage}
 use Rattle.ps_build.specs.Goes.{Goes}
 
--- At most n steps: those of one run, where the console tells its bytes. The count of faults is one run's for every console.
+-- At most n steps: those of one run, where the console reports its bytes. The count of faults is one run's for every
+-- console.
 pub record ComesTo (n : ℕ) (s : State) (w : World) (s' : State) (w' : World) (stop : Stop) : Type 0 where
   pub runs : (input before : List ℕ) → w.input ≡ Some input → w.output ≡ Some before → exec.Runs n s w s' w' stop
   pub faults : Counts stop w w'
@@ -23,8 +24,8 @@ pub record IsLeft (n : ℕ) (s : State) (w : World) (s' : State) (w' : World) : 
   pub fewer : steps < n
   pub comes : ComesTo steps s w s' w' m.Steps
 
--- A run that was left at a pause is the run of some fewer steps, which has not ended: of an image, of the image that bytes are, and of the
--- program of a text.
+-- A run that was left at a pause is the run of fewer steps, which has not ended: of an image, of the image that bytes
+-- are, and of the program of a text.
 pub record IsRunLeft (image : Image) (budget : Budget) (n : ℕ) (old new : World) : Type 0 where
   pub steps : ℕ
   pub fewer : steps < n

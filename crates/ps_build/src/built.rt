@@ -113,7 +113,7 @@ fn image_built<P: Placer>(alloc: Global, text: &[u8], placer: &P) -> Result<Vec<
 
 /// Whether a text is accepted: it is read and checked as `build` does, and no code is made of it.
 ///
-/// Refused is a text that isn't accepted, as `build` refuses it: with a refusal of 1, 2 or 10 to 45.
+/// A text that isn't accepted is refused as `build` refuses it: with a refusal of 1, 2 or 10 to 45.
 pub fn accepted(alloc: Global, text: &[u8]) -> Result<(), Refusal>
     ensures accepted { OnOk result (IsAccepted text.now) }
     ensures refused { IfErr result (IsRefused text.now) }
@@ -127,7 +127,8 @@ pub fn accepted(alloc: Global, text: &[u8]) -> Result<(), Refusal>
 
 /// The three-address code of the program of a text, from which its image is built.
 ///
-/// Refused are a text that isn't accepted, as `build` refuses it, and one whose code is too large whatever homes its temporaries have.
+/// A text that isn't accepted is refused as `build` refuses it, and so is one whose code is too large whatever homes
+/// its temporaries have.
 pub fn code_of_text(alloc: Global, text: &[u8]) -> Result<Tac, Refusal>
     ensures code { IfOk result (IsCodeOfText text.now) }
     ensures refused { IfErr result (IsRefused text.now) }
@@ -138,10 +139,10 @@ pub fn code_of_text(alloc: Global, text: &[u8]) -> Result<Tac, Refusal>
     code_made(alloc, &program)
 }
 
-/// Builds the program of a text, with homes for its temporaries that a placer chooses: the image does on every input and under every
-/// budget what the program means.
+/// Builds the program of a text, with homes for its temporaries that a placer chooses: on every input and under every
+/// budget the image does what the program means.
 ///
-/// Refused are a text that isn't accepted, with a refusal of 1, 2 or 10 to 45, and one whose code would be too large.
+/// A text that isn't accepted is refused, with 1, 2 or 10 to 45, and so is one whose code would be too large.
 pub fn build_with<P: Placer>(alloc: Global, text: &[u8], placer: &P) -> Result<Built, Refusal>
     ensures compiles { IfOk result (Compiles text.now) }
     ensures built { IfOk result (IsBuilt text.now) }

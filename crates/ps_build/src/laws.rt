@@ -7,14 +7,14 @@ use ps_lower_accepted::accepted_fit;
 use ps_lower_laws::{programs_go_on, programs_lower};
 use ps_lower_run_time::writes_are_done;
 
-/// An image that was built comes to all that its program means without budgets, or is stopped for stack or heap on the way; and what it
-/// shows is what the program shows, or a part of it.
+/// An image that was built shows all that its program means without budgets, or is stopped for stack or heap on the
+/// way; and what it shows is what the program shows, or a prefix of it.
 pub fn comes_to_the_meaning()
     ensures { ComesToTheMeaning }
 {}
 
-/// An image that was built never comes to a machine fault, under any budget and on any input: the processor can always go on, and no stop
-/// has a link that the image's trap table doesn't have.
+/// An image that was built never reaches a machine fault, under any budget and on any input: the processor can always
+/// go on, and no stop has a link that isn't in the image's trap table.
 pub fn never_faults()
     ensures { NeverFaults }
 {
@@ -22,15 +22,15 @@ pub fn never_faults()
     code_does();
 }
 
-/// So `go` never answers `Outcome::Fault`, over a console that tells its bytes.
+/// So `go` never answers `Outcome::Fault`, over a console that reports its bytes.
 pub fn goes_without_fault()
     ensures { GoesWithoutFault }
 {
     never_faults();
 }
 
-/// The three-address code of a program that has all that the lowering needs does what the program means, and there is a next step wherever it
-/// has not come to its end.
+/// The three-address code of a program that has all that the lowering needs does what the program means, and there is a
+/// next step wherever it has not reached its end.
 pub fn code_does()
     ensures { CodeDoes }
 {
@@ -39,12 +39,14 @@ pub fn code_does()
     programs_go_on();
 }
 
-/// An image that was made of code that does what a program means, with homes of its temporaries, does what the program means.
+/// An image that was made from code that does what a program means, with homes of its temporaries, does what the
+/// program means.
 pub fn made_compiles()
     ensures { MadeCompiles }
 {}
 
-/// Of a text that isn't accepted one refusal can be told, unless memory ran out: its number and its place are given by the text.
+/// For a text that isn't accepted only one refusal can be reported, unless out of memory: the text determines its
+/// number and place.
 #[tactic(auto, using(crate::proofs::OneRefusal::refusals_are_one))]
 pub fn refusals_are_one()
     ensures { RefusalsAreOne }

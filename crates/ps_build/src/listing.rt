@@ -7,8 +7,8 @@ ghost use Rattle.ps_build.specs.Listed.{IsListed};
 use crate::built::Built;
 use std::alloc::{AllocError, Global};
 
-/// The listing of a program's image, for people: a line for each word of its code, with the address, the word, the instruction, and
-/// the line of the text where a stop behind it belongs to one.
+/// The listing of a program's image, for people: a line for each word of its code, with the address, the word, the
+/// instruction, and the line of the text where a stop after it belongs to one.
 pub fn list(alloc: Global, built: &Built) -> Result<String, AllocError>
     ensures { IfOk result (λ text. IsListed built.now (string_bytes text)) }
 {

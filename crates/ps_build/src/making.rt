@@ -35,7 +35,7 @@ fn parts_of<P: Placer>(alloc: Global, tac: &Tac, placer: &P) -> Result<Parts, Re
     Ok(parts)
 }
 
-/// The three-address code of a checked program. One that is refused is too large whatever homes its temporaries have.
+/// The three-address code of a checked program. If refused, it is too large whatever homes its temporaries have.
 pub(crate) fn code_made(alloc: Global, checked: &Checked) -> Result<Tac, Refusal>
     requires { IsFormed (program_in checked.now) }
     ensures ok { IfOk result (λ tac. tac ≡ code_of run_time_routines (program_in checked.now)) }

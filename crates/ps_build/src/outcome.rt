@@ -7,7 +7,7 @@ ghost use Rattle.ps_build.specs.Faults.{kind_told};
 use risc_emit_trail::Trail;
 use risc_machine::Fault;
 
-/// What a processor could not do, or a stop whose link the trap table doesn't have.
+/// What a processor could not do, or a stop whose link isn't in the trap table.
 #[derive(Clone, Copy, Debug)]
 pub enum FaultKind {
     BadWord,
@@ -20,21 +20,21 @@ pub enum FaultKind {
 /// How a run ended. Errors and stops have their number and their line of the text.
 #[derive(Clone, Copy, Debug)]
 pub enum Outcome {
-    /// The program came to its end.
+    /// The program reached its end.
     Normal,
-    /// An error of the program, 1 to 11, with the lines of the calls that were open there, innermost first, 16 at most. An image of
-    /// the first version of the format has no table of calls and tells no lines.
+    /// An error of the program, 1 to 11, with the lines of the calls that were open there, innermost first, 16 at most.
+    /// An image of the first version of the format has no table of calls and reports no lines.
     Error {
         number: u32,
         line: u32,
         trail: Option<Trail>,
     },
-    /// The frames would have passed the stack: 12, at the `begin` of the block that would have been entered.
+    /// The frames would have exceeded the stack: 12, at the `begin` of the block that would have been entered.
     Stack {
         number: u32,
         line: u32,
     },
-    /// The objects would have passed the heap: 13, at the name `new`.
+    /// The objects would have exceeded the heap: 13, at the name `new`.
     Heap {
         number: u32,
         line: u32,
@@ -45,7 +45,7 @@ pub enum Outcome {
     InputFault,
     /// The console took no byte.
     OutputFault,
-    /// The processor could not go on. No image that `build` makes comes to this (`laws::never_faults`).
+    /// The processor could not go on. No image that `build` makes reaches this (`laws::never_faults`).
     Fault(FaultKind),
 }
 

@@ -1,7 +1,9 @@
 //! Why a text, an image or a budget is refused.
 
 ghost use Rattle.std.specs.Prelude.{◌≡◌};
-ghost use Rattle.ps_build.specs.Refusals.{number_of, name_of, name_of_scan, name_of_parse, name_of_rule, place_of, line_of, end_of_token, of_text, of_scan, of_parse, of_check, of_lower, of_emit, of_image, of_load};
+ghost use Rattle.ps_build.specs.Refusals.{number_of, name_of, name_of_scan, name_of_parse, name_of_rule, place_of};
+ghost use Rattle.ps_build.specs.Refusals.{line_of, end_of_token, of_text, of_scan, of_parse, of_check, of_lower};
+ghost use Rattle.ps_build.specs.Refusals.{of_emit, of_image, of_load};
 ghost use Rattle.ps_build.specs.declared.refusal.Refusal.TheVariants.{OutOfMemory};
 
 use ps_check_judgement::refusal::{CheckRefusal, Rule};
@@ -16,7 +18,7 @@ use std::alloc::{AllocError, AllocFailed};
 use std::fmt;
 use thiserror::Error;
 
-/// Where a fault of a text is told: at the bytes from an offset on up to another, and the line of the first of them,
+/// Where a fault of a text is reported: the bytes from one offset up to another, and the line of the first of them,
 /// counted from 1.
 #[derive(Clone, Copy, Debug, PartialEq, Eq)]
 pub struct Place {
@@ -30,7 +32,7 @@ pub struct Place {
 pub enum Refusal {
     /// A text of more than 1,048,576 bytes.
     TooLong,
-    /// A text of more than 65,535 lines, which isn't too long.
+    /// A text of more than 65,535 lines that isn't too long.
     TooManyLines,
     /// A growth of memory was refused.
     OutOfMemory,
@@ -46,7 +48,7 @@ pub enum Refusal {
         token: u32,
         place: Place,
     },
-    /// A rule of the language or a limit that the program breaks, at the token that tells it (22 and 30 to 45).
+    /// A rule of the language or a limit that the program breaks, at the token where it is reported (22 and 30 to 45).
     Check {
         rule: Rule,
         place: Place,
@@ -57,9 +59,9 @@ pub enum Refusal {
     BadPlacement,
     /// An image that doesn't begin as one.
     Magic,
-    /// An image with fewer bytes than it tells.
+    /// An image with fewer bytes than it states.
     Truncated,
-    /// An image with more bytes than it tells.
+    /// An image with more bytes than it states.
     Trailing,
     /// An image, or a count in it, above its limit.
     TooLarge,
@@ -77,7 +79,7 @@ impl fmt::Display for Refusal {
     }
 }
 
-// The name of the refusal that tells a fault of the tokens.
+// The name of the refusal that reports a fault of the tokens.
 fn name_of_scan(fault: ScanFault) -> &'static str
     ensures { result.now ≡ name_of_scan fault }
 {
@@ -92,7 +94,7 @@ fn name_of_scan(fault: ScanFault) -> &'static str
     }
 }
 
-// The name of the refusal that tells why no derivation takes a token.
+// The name of the refusal that reports why no derivation takes a token.
 fn name_of_parse(fault: ParseFault) -> &'static str
     ensures { result.now ≡ name_of_parse fault }
 {
@@ -103,7 +105,7 @@ fn name_of_parse(fault: ParseFault) -> &'static str
     }
 }
 
-// The name of the refusal that tells that a rule is broken.
+// The name of the refusal that reports that a rule is broken.
 fn name_of_rule(rule: Rule) -> &'static str
     ensures { result.now ≡ name_of_rule rule }
 {
@@ -265,7 +267,7 @@ impl From<ParseRefusal> for Refusal {
     }
 }
 
-// Where the token ends that begins at an offset.
+// The end of the token that begins at an offset.
 fn end_of_token(mut tokens: &[Token], at: u32) -> u32
     ensures { result ≡ end_of_token tokens.entry.now at }
 {
@@ -279,7 +281,7 @@ fn end_of_token(mut tokens: &[Token], at: u32) -> u32
 }
 
 impl Refusal {
-    /// What the checker refuses, told at the whole token that it tells by its offset.
+    /// What the checker refuses, reported at the whole token whose offset it gives.
     pub fn of_check(refusal: CheckRefusal, tokens: &[Token]) -> Refusal
         ensures { result ≡ of_check tokens.now refusal }
     {

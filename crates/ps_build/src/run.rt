@@ -14,7 +14,7 @@ use risc_load::{Budget, load};
 use risc_machine::{Console, Machine, Stop, run};
 use std::alloc::Global;
 
-// The outcome of a stop with this row, where these calls are open.
+// The outcome of a stop with this row, with these calls open.
 fn trap_outcome(row: Option<TrapRow>, trail: Option<Trail>) -> Outcome
     ensures { result ≡ trap_told (option_map trap_row row) trail }
 {
@@ -38,7 +38,7 @@ fn trap_outcome(row: Option<TrapRow>, trail: Option<Trail>) -> Outcome
     }
 }
 
-// The outcome of a stop, in which the image's machine was left.
+// The outcome of a stop that the image's machine was left in.
 #[tactic(auto, using(crate::proofs::Rows::row_of_link))]
 pub(crate) fn outcome_of(image: &ImageView<'_>, machine: &Machine, stop: Stop) -> Outcome
     ensures { IsToldBy image.now machine.now stop result }
@@ -72,8 +72,8 @@ fn run_view<C: Console>(
 
 /// Runs an image on a console for at most `max_steps` steps.
 ///
-/// The image is refused as its format's checks name the fault, and the budget as BudgetUneven or BudgetTooLarge; then the console
-/// is as it was.
+/// The image is refused as its format's checks name the fault, and the budget as BudgetUneven or BudgetTooLarge; the
+/// console is then as it was.
 pub fn run_image<C: Console>(
     alloc: Global,
     image: &[u8],
@@ -92,10 +92,10 @@ pub fn run_image<C: Console>(
     run_view(alloc, &view, budget, console, max_steps)
 }
 
-/// Builds the program of a text and runs it on a console for at most `max_steps` steps: what is written, and the outcome, are what
-/// the program means under the budget, as far as the steps reach.
+/// Builds the program of a text and runs it on a console for at most `max_steps` steps: what is written, and the
+/// outcome, are what the program means under the budget, as far as the steps reach.
 ///
-/// Refused are what `build` refuses, and the budget; then the console is as it was.
+/// What `build` refuses is refused, and so is the budget; the console is then as it was.
 pub fn go<C: Console>(
     alloc: Global,
     text: &[u8],

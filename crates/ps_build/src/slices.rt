@@ -15,12 +15,13 @@ use risc_load::{Budget, load};
 use risc_machine::{Console, DeviceFault, Machine, Stop, run};
 use std::alloc::Global;
 
-/// A console that puts off some of its work, as to hand on what it was given, and is asked to do it between the slices of a run.
+/// A console that puts off some of its work, such as passing on what it was given, and is asked to do it between the
+/// slices of a run.
 pub trait Paced: Console {
     // It failed to do something that it had put off.
     ghost has_failed: { Self → Bool };
 
-    /// Does what was put off. What was taken and put stays as it was; a fault asks that the run goes no further.
+    /// Does what was put off. What was taken and put stays as it was; a fault requests that the run go no further.
     fn pause(&mut self) -> Result<(), DeviceFault>
         ensures failed { OnErr result (has_failed self.new ≡ true) }
         ensures input { Keeps (Self.world self.old).input (Self.world self.new).input }
@@ -28,10 +29,10 @@ pub trait Paced: Console {
         ensures faults { (Self.world self.new).faults ≡ (Self.world self.old).faults };
 }
 
-// The steps of a slice, which take some 10 ms.
+// The steps of a slice, which take about 10 ms.
 const SLICE: u64 = 1_000_000;
 
-// At most `max_steps` steps, in slices of so many. None where the console asked to go no further.
+// At most `max_steps` steps, in slices of `slice`. None where the console asked to go no further.
 fn run_in_slices<C: Paced>(
     machine: &mut Machine,
     console: &mut C,
@@ -39,7 +40,8 @@ fn run_in_slices<C: Paced>(
     slice: u64,
 ) -> Option<Stop>
     requires { 0 < slice }
-    ensures stopped { IfSome result (λ stop. ComesTo max_steps machine.old (C.world console.old) machine.new (C.world console.new) stop) }
+    ensures stopped { IfSome result (λ stop. ComesTo max_steps machine.old (C.world console.old) machine.new
+        (C.world console.new) stop) }
     ensures left { IfNone result (IsLeft max_steps machine.old (C.world console.old) machine.new (C.world console.new)) }
     ensures failed { IfNone result (C.has_failed console.new ≡ true) }
 {
@@ -65,8 +67,10 @@ fn run_view_in_slices<C: Paced>(
     console: &mut C,
     max_steps: u64,
 ) -> Result<Option<Outcome>, Refusal>
-    ensures runs { IfOk result (λ end. IfSome end (Runs image.now budget max_steps (C.world console.old) (C.world console.new))) }
-    ensures left { IfOk result (λ end. IfNone end (IsRunLeft image.now budget max_steps (C.world console.old) (C.world console.new))) }
+    ensures runs { IfOk result (λ end. IfSome end
+        (Runs image.now budget max_steps (C.world console.old) (C.world console.new))) }
+    ensures left { IfOk result (λ end. IfNone end
+        (IsRunLeft image.now budget max_steps (C.world console.old) (C.world console.new))) }
     ensures failed { IfOk result (λ end. IfNone end (C.has_failed console.new ≡ true)) }
     ensures refused { IfErr result (IsLoadRefused image.now budget) }
     ensures unchanged { OnErr result (C.world console.new ≡ C.world console.old) }
@@ -80,7 +84,7 @@ fn run_view_in_slices<C: Paced>(
 
 /// Runs an image as `run_image` does, with a pause of the console after each million steps.
 ///
-/// None where a fault at a pause ended the run: then the console is as the image leaves it after some fewer steps.
+/// `None` where a fault at a pause ended the run: the console is then as the image leaves it after fewer steps.
 pub fn run_image_in_slices<C: Paced>(
     alloc: Global,
     image: &[u8],
@@ -88,8 +92,10 @@ pub fn run_image_in_slices<C: Paced>(
     console: &mut C,
     max_steps: u64,
 ) -> Result<Option<Outcome>, Refusal>
-    ensures runs { IfOk result (λ end. IfSome end (RunsImage image.now budget max_steps (C.world console.old) (C.world console.new))) }
-    ensures left { IfOk result (λ end. IfNone end (IsImageLeft image.now budget max_steps (C.world console.old) (C.world console.new))) }
+    ensures runs { IfOk result (λ end. IfSome end
+        (RunsImage image.now budget max_steps (C.world console.old) (C.world console.new))) }
+    ensures left { IfOk result (λ end. IfNone end
+        (IsImageLeft image.now budget max_steps (C.world console.old) (C.world console.new))) }
     ensures failed { IfOk result (λ end. IfNone end (C.has_failed console.new ≡ true)) }
     ensures refused { IfErr result (IsRunRefused image.now budget) }
     ensures unchanged { OnErr result (C.world console.new ≡ C.world console.old) }
@@ -103,7 +109,8 @@ pub fn run_image_in_slices<C: Paced>(
 
 /// Builds the program of a text and runs it as `go` does, with a pause of the console after each million steps.
 ///
-/// None where a fault at a pause ended the run: then the console is as the program's image leaves it after some fewer steps.
+/// `None` where a fault at a pause ended the run: the console is then as the program's image leaves it after fewer
+/// steps.
 pub fn go_in_slices<C: Paced>(
     alloc: Global,
     text: &[u8],
@@ -111,8 +118,10 @@ pub fn go_in_slices<C: Paced>(
     console: &mut C,
     max_steps: u64,
 ) -> Result<Option<Outcome>, Refusal>
-    ensures runs { IfOk result (λ end. IfSome end (Goes text.now budget max_steps (C.world console.old) (C.world console.new))) }
-    ensures left { IfOk result (λ end. IfNone end (IsGoLeft text.now budget max_steps (C.world console.old) (C.world console.new))) }
+    ensures runs { IfOk result (λ end. IfSome end
+        (Goes text.now budget max_steps (C.world console.old) (C.world console.new))) }
+    ensures left { IfOk result (λ end. IfNone end
+        (IsGoLeft text.now budget max_steps (C.world console.old) (C.world console.new))) }
     ensures failed { IfOk result (λ end. IfNone end (C.has_failed console.new ≡ true)) }
     ensures refused { IfErr result (IsGoRefused text.now budget) }
     ensures unchanged { OnErr result (C.world console.new ≡ C.world console.old) }

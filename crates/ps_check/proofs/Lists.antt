@@ -1,5 +1,6 @@
 -- Loops that gather what the items of a list have.
-use Rattle.std.proofs.Common.{◌≡◌, ℕ, suc, ◌+◌, ◌-◌, ◌==◌, Bool, true, false, ◌<◌, ◌≤◌, List, [], ◌∷◌, ◌++◌, append_assoc, length, drop, get_or, map, refl, sym, ap, ◌∙◌, arith}
+use Rattle.std.proofs.Common.{◌≡◌, ℕ, suc, ◌+◌, ◌-◌, ◌==◌, Bool, true, false, ◌<◌, ◌≤◌, List, [], ◌∷◌, ◌++◌}
+use Rattle.std.proofs.Common.{append_assoc, length, drop, get_or, map, refl, sym, ap, ◌∙◌, arith}
 use Rattle.std.specs.Prelude.{if◌then◌else◌}
 use Rattle.std.proofs.Math.Seq.{drop-cons}
 use Rattle.std.proofs.lemmas.Bool.{ne_eqb}
@@ -20,7 +21,8 @@ module _ {A C : Type 0} (f : Span → C) (parts : A → Points) (xs : List A) wh
   pub gained_start : Gained 0 []
   gained_start = record { rest = refl }
 
-  pub gained_next : (i : ℕ) (done new : List C) (x : A) → i < length xs → x ≡ get_or xs i x → Gained i done → new ≡ done ++ map f (parts x) → Gained (i + 1) new
+  pub gained_next : (i : ℕ) (done new : List C) (x : A) → i < length xs → x ≡ get_or xs i x → Gained i done → new ≡ done
+      ++ map f (parts x) → Gained (i + 1) new
   gained_next i done new x lt at g n = record {
     rest =
         ap (λ d. d ++ map f (all (map parts (drop (i + 1) xs)))) n
@@ -33,17 +35,20 @@ module _ {A C : Type 0} (f : Span → C) (parts : A → Points) (xs : List A) wh
   }
 
   pub gained_end : (i : ℕ) (done : List C) → length xs ≤ i → Gained i done → done ≡ map f (all (map parts xs))
-  gained_end i done le g = sym (append-nil done) ∙ ap (λ d. done ++ map f (all (map parts d))) (sym (drop_all i xs le)) ∙ g.rest
+  gained_end i done le g = sym (append-nil done) ∙ ap (λ d. done ++ map f (all (map parts d))) (sym (drop_all i xs le))
+      ∙ g.rest
 
 -- the headings of a list of routines from index i on have their names still to come
 pub record Headed {A : Type 0} (text : List ℕ) (f : A → RoutineReading) (s : List (List ℕ)) (xs : List A) (i : ℕ) (t : List (List ℕ)) : Type 0 where
   pub rest : add_routines text s (map f xs) ≡ add_routines text t (map f (drop i xs))
 
-pub headed_start : {A : Type 0} (text : List ℕ) (f : A → RoutineReading) (s : List (List ℕ)) (xs : List A) → Headed text f s xs 0 s
+pub headed_start : {A : Type 0} (text : List ℕ) (f : A → RoutineReading) (s : List (List ℕ)) (xs : List A)
+    → Headed text f s xs 0 s
 headed_start text f s xs = record { rest = refl }
 
 module _ {A : Type 0} (text : List ℕ) (f : A → RoutineReading) (s : List (List ℕ)) (xs : List A) (i : ℕ) (t : List (List ℕ)) where
-  pub headed_next : (x : A) (u : List (List ℕ)) → i < length xs → x ≡ get_or xs i x → Headed text f s xs i t → u ≡ add_routine text t (f x) → Headed text f s xs (i + 1) u
+  pub headed_next : (x : A) (u : List (List ℕ)) → i < length xs → x ≡ get_or xs i x → Headed text f s xs i t → u
+      ≡ add_routine text t (f x) → Headed text f s xs (i + 1) u
   headed_next x u lt at w e = record {
     rest =
         w.rest
@@ -64,7 +69,8 @@ pub named_start : {A : Type 0} (f : A → List ℕ) (s : List (List ℕ)) (xs : 
 named_start f s xs = record { rest = refl }
 
 module _ {A : Type 0} (f : A → List ℕ) (s : List (List ℕ)) (xs : List A) (i : ℕ) (t : List (List ℕ)) where
-  pub named_next : (x : A) (u : List (List ℕ)) → i < length xs → x ≡ get_or xs i x → Named f s xs i t → u ≡ add_name t (f x) → Named f s xs (i + 1) u
+  pub named_next : (x : A) (u : List (List ℕ)) → i < length xs → x ≡ get_or xs i x → Named f s xs i t → u ≡ add_name t
+      (f x) → Named f s xs (i + 1) u
   named_next x u lt at w e = record {
     rest =
         w.rest
@@ -85,7 +91,11 @@ one_out x = record { up = x.up - 1; entry = x.entry; at = x.at }
 
 pub outward_own : (x : Change) → x.up ≡ 0 → (l : List Change) → l ≡ l ++ outward (x ∷ [])
 unfolding outward
-outward_own x e l = sym (append-nil l) ∙ ap (λ n. l ++ (if n == 0 then [] else record { up = x.up - 1; entry = x.entry; at = x.at } ∷ [])) (sym e)
+outward_own x e l = sym (append-nil l) ∙ ap (λ n. l ++ (if n == 0 then [] else record {
+  up = x.up - 1;
+  entry = x.entry;
+  at = x.at;
+} ∷ [])) (sym e)
 
 pub outward_far : (x : Change) → (x.up ≡ 0 → ⊥) → outward (x ∷ []) ≡ one_out x ∷ []
 unfolding outward
@@ -95,7 +105,8 @@ outward_more : (x : Change) (xs : List Change) → outward (x ∷ xs) ≡ outwar
 unfolding outward
 outward_more x xs = at (x.up == 0)
   where
-    at : (b : Bool) → (if b then outward xs else one_out x ∷ outward xs) ≡ (if b then [] else one_out x ∷ []) ++ outward xs
+    at : (b : Bool) → (if b then outward xs else one_out x ∷ outward xs) ≡ (if b then [] else one_out x ∷ [])
+        ++ outward xs
     at true = refl
     at false = refl
 
@@ -107,7 +118,8 @@ pub reached_start : (s xs : List Change) → Reached s xs 0 s
 reached_start s xs = record { rest = refl }
 
 module _ (s xs : List Change) (i : ℕ) (t : List Change) where
-  pub reached_next : (x : Change) (u : List Change) → i < length xs → x ≡ get_or xs i x → Reached s xs i t → u ≡ t ++ outward (x ∷ []) → Reached s xs (i + 1) u
+  pub reached_next : (x : Change) (u : List Change) → i < length xs → x ≡ get_or xs i x → Reached s xs i t → u ≡ t
+      ++ outward (x ∷ []) → Reached s xs (i + 1) u
   reached_next x u lt at w e = record {
     rest =
         w.rest

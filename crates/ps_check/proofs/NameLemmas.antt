@@ -1,5 +1,7 @@
 -- The names of an accepted block's region are the spellings of its defining points, each once.
-use Rattle.std.proofs.Common.{◌≡◌, ℕ, Bool, true, false, ◌||◌, List, [], ◌∷◌, ◌++◌, map, Option, Some, None, is_none, is_some, ◌⊎◌, inl, inr, refl, sym, ap, ◌∙◌, subst, append_assoc, append-nil, arith, slice_get}
+use Rattle.std.proofs.Common.{◌≡◌, ℕ, Bool, true, false, ◌||◌, List, [], ◌∷◌, ◌++◌, map, Option, Some, None, is_none}
+use Rattle.std.proofs.Common.{is_some, ◌⊎◌, inl, inr, refl, sym, ap, ◌∙◌, subst, append_assoc, append-nil, arith}
+use Rattle.std.proofs.Common.{slice_get}
 use Rattle.std.specs.Prelude.{if◌then◌else◌, option_and_then}
 use Rattle.std.proofs.lemmas.List.Elements.{Contains-append_left, Contains-append_right}
 use Rattle.ps_syntax.specs.declared.program.Heading as syntax
@@ -34,13 +36,15 @@ nothing_then [] ys x e = cc
 nothing_then (y ∷ xs) ys x e = cc
 
 -- an element of a list with one more at its end is that one, or is one of the list
-last_or_before : (xs before after : List (List ℕ)) (s u : List ℕ) → xs ++ s ∷ [] ≡ before ++ u ∷ after → ((before ≡ xs) × (u ≡ s)) ⊎ ((rest : List (List ℕ)) × (xs ≡ before ++ u ∷ rest))
+last_or_before : (xs before after : List (List ℕ)) (s u : List ℕ) → xs ++ s ∷ [] ≡ before ++ u ∷ after
+    → ((before ≡ xs) × (u ≡ s)) ⊎ ((rest : List (List ℕ)) × (xs ≡ before ++ u ∷ rest))
 last_or_before [] [] after s u e = inl (refl, sym (ap (head_or s) e))
 last_or_before [] (b ∷ before) after s u e = absurd (nothing_then before after u (ap tail_of e))
 last_or_before (x ∷ xs) [] after s u e = inr (xs, ap (λ y. y ∷ xs) (ap (head_or s) e))
 last_or_before (x ∷ xs) (b ∷ before) after s u e = at (last_or_before xs before after s u (ap tail_of e))
   where
-    at : ((before ≡ xs) × (u ≡ s)) ⊎ ((rest : List (List ℕ)) × (xs ≡ before ++ u ∷ rest)) → ((b ∷ before ≡ x ∷ xs) × (u ≡ s)) ⊎ ((rest : List (List ℕ)) × (x ∷ xs ≡ (b ∷ before) ++ u ∷ rest))
+    at : ((before ≡ xs) × (u ≡ s)) ⊎ ((rest : List (List ℕ)) × (xs ≡ before ++ u ∷ rest))
+        → ((b ∷ before ≡ x ∷ xs) × (u ≡ s)) ⊎ ((rest : List (List ℕ)) × (x ∷ xs ≡ (b ∷ before) ++ u ∷ rest))
     at (inl h) = inl (ap (λ y. y ∷ before) (sym (ap (head_or s) e)) ∙ ap (λ l. x ∷ l) h.0, h.1)
     at (inr h) = inr (h.0, ap (λ y. y ∷ xs) (ap (head_or s) e) ∙ ap (λ l. b ∷ l) h.1)
 
@@ -66,7 +70,7 @@ module _ (text : List ℕ) where
   points_apart [] names a = a
   points_apart (p ∷ ps) names a = points_apart ps (add_point text names p) (name_apart names (spelled text p) a)
 
-  -- the names that routines add behind those that are there
+  -- the names that routines add after those that are there
   record Grown (rs : List RoutineReading) (from to : List (List ℕ)) : Type 0 where
     routines : List (List ℕ)
     are : to ≡ from ++ routines
@@ -75,7 +79,9 @@ module _ (text : List ℕ) where
     headings : Each (λ r. is_none r.heading ≡ false → has to (spelled text r.name) ≡ true) rs
     apart : AreApart from → AreApart to
 
-  grown_at : (r : RoutineReading) (from to : List (List ℕ)) (n h : Bool) → is_none r.heading ≡ n → has from (spelled text r.name) ≡ h → to ≡ (if n || h then from else (from ++ spelled text r.name ∷ [])) → Grown (r ∷ []) from to
+  grown_at : (r : RoutineReading) (from to : List (List ℕ)) (n h : Bool) → is_none r.heading ≡ n → has from
+      (spelled text r.name) ≡ h → to ≡ (if n || h then from else (from ++ spelled text r.name ∷ [])) → Grown
+      (r ∷ []) from to
   grown_at r from to true h n e is = record {
     routines = [];
     are = is ∙ sym (append-nil from);
@@ -100,17 +106,35 @@ module _ (text : List ℕ) where
 
   grown_one : (r : RoutineReading) (from : List (List ℕ)) → Grown (r ∷ []) from (add_routine text from r)
   unfolding add_routine
-  grown_one r from = grown_at r from (add_routine text from r) (is_none r.heading) (has from (spelled text r.name)) refl refl refl
+  grown_one r from = grown_at r from (add_routine text from r) (is_none r.heading)
+      (has from (spelled text r.name)) refl refl refl
 
-  among_more : (xs ys : List RoutineReading) (ss : List (List ℕ)) → Each (IsOfRoutine text ys) ss → Each (IsOfRoutine text (xs ++ ys)) ss
+  among_more : (xs ys : List RoutineReading) (ss : List (List ℕ)) → Each (IsOfRoutine text ys) ss → Each
+      (IsOfRoutine text (xs ++ ys)) ss
   among_more xs ys [] a = tt
-  among_more xs ys (s ∷ ss) a = (record { routine = a.0.routine; among = Contains-append_right xs ys a.0.routine a.0.among; spelling = a.0.spelling }, among_more xs ys ss a.1)
+  among_more xs ys (s ∷ ss) a = (
+    record {
+      routine = a.0.routine;
+      among = Contains-append_right xs ys a.0.routine a.0.among;
+      spelling = a.0.spelling;
+    },
+    among_more xs ys ss a.1,
+  )
 
-  among_first : (xs ys : List RoutineReading) (ss : List (List ℕ)) → Each (IsOfRoutine text xs) ss → Each (IsOfRoutine text (xs ++ ys)) ss
+  among_first : (xs ys : List RoutineReading) (ss : List (List ℕ)) → Each (IsOfRoutine text xs) ss → Each
+      (IsOfRoutine text (xs ++ ys)) ss
   among_first xs ys [] a = tt
-  among_first xs ys (s ∷ ss) a = (record { routine = a.0.routine; among = Contains-append_left xs ys a.0.routine a.0.among; spelling = a.0.spelling }, among_first xs ys ss a.1)
+  among_first xs ys (s ∷ ss) a = (
+    record {
+      routine = a.0.routine;
+      among = Contains-append_left xs ys a.0.routine a.0.among;
+      spelling = a.0.spelling;
+    },
+    among_first xs ys ss a.1,
+  )
 
-  all_both : (rs : List RoutineReading) (xs ys : List (List ℕ)) → Each (IsOfRoutine text rs) xs → Each (IsOfRoutine text rs) ys → Each (IsOfRoutine text rs) (xs ++ ys)
+  all_both : (rs : List RoutineReading) (xs ys : List (List ℕ)) → Each (IsOfRoutine text rs) xs → Each
+      (IsOfRoutine text rs) ys → Each (IsOfRoutine text rs) (xs ++ ys)
   all_both rs [] ys a b = b
   all_both rs (x ∷ xs) ys a b = (a.0, all_both rs xs ys a.1 b)
 
@@ -122,8 +146,14 @@ module _ (text : List ℕ) where
       record {
         routines = one.routines ++ rest.routines;
         are = rest.are ∙ ap (λ l. l ++ rest.routines) one.are ∙ append_assoc from one.routines rest.routines;
-        of_routines = all_both (r ∷ rs) one.routines rest.routines (among_first (r ∷ []) rs one.routines one.of_routines) (among_more (r ∷ []) rs rest.routines rest.of_routines);
-        headings = ((λ q. ap (λ l. has l (spelled text r.name)) rest.are ∙ has_more (add_routine text from r) rest.routines (spelled text r.name) (one.headings.0 q)), rest.headings);
+        of_routines = all_both (r ∷ rs) one.routines rest.routines
+            (among_first (r ∷ []) rs one.routines one.of_routines)
+            (among_more (r ∷ []) rs rest.routines rest.of_routines);
+        headings = (
+          (λ q. ap (λ l. has l (spelled text r.name)) rest.are ∙ has_more
+              (add_routine text from r) rest.routines (spelled text r.name) (one.headings.0 q)),
+          rest.headings,
+        );
         apart = λ a. rest.apart (one.apart a);
       }
 
@@ -139,10 +169,15 @@ module _ (f : Frame) (x : RoutineReading) (r w : Routines) where
   unheaded_known none e = at (place f.names (spelled f.text x.name)) refl
     where
       at : (o : Option ℕ) → place f.names (spelled f.text x.name) ≡ o → has f.names (spelled f.text x.name) ≡ true
-      at None q = absurd (no_yes (sym (ap (λ h. introduce f (record { name = x.name; heading = h; block = x.block }) r None) none) ∙ sym (ap (λ o. introduce f x r (option_and_then (slice_get r.known) o)) q) ∙ e))
+      at None q = absurd (no_yes (sym (ap (λ h. introduce f (record {
+        name = x.name;
+        heading = h;
+        block = x.block;
+      }) r None) none) ∙ sym (ap (λ o. introduce f x r (option_and_then (slice_get r.known) o)) q) ∙ e))
       at (Some i) q = sym (has_place f.names (spelled f.text x.name)) ∙ ap (λ o. is_some o) q
 
-  name_known : (is_none x.heading ≡ false → has f.names (spelled f.text x.name) ≡ true) → introduced f x r ≡ Yes w → has f.names (spelled f.text x.name) ≡ true
+  name_known : (is_none x.heading ≡ false → has f.names (spelled f.text x.name) ≡ true) → introduced f x r ≡ Yes w
+      → has f.names (spelled f.text x.name) ≡ true
   name_known headed e = at x.heading refl
     where
       at : (h : Option syntax.Heading) → x.heading ≡ h → has f.names (spelled f.text x.name) ≡ true
@@ -150,7 +185,9 @@ module _ (f : Frame) (x : RoutineReading) (r w : Routines) where
       at (Some h) q = headed (ap is_none q)
 
 module _ (f : Frame) (chain : List ℕ) where
-  all_known : (xs : List RoutineReading) (r w : Routines) → steps (one_routine f chain) r xs ≡ Yes w → Each (λ x. is_none x.heading ≡ false → has f.names (spelled f.text x.name) ≡ true) xs → Each (λ x. has f.names (spelled f.text x.name) ≡ true) xs
+  all_known : (xs : List RoutineReading) (r w : Routines) → steps (one_routine f chain) r xs ≡ Yes w → Each
+      (λ x. is_none x.heading ≡ false → has f.names (spelled f.text x.name) ≡ true) xs → Each
+      (λ x. has f.names (spelled f.text x.name) ≡ true) xs
   unfolding one_routine
   all_known [] r w e a = tt
   all_known (x ∷ xs) r w e a =
@@ -162,41 +199,65 @@ module _ (f : Frame) (chain : List ℕ) where
 
 -- the frame in which a block is read
 abbrev pub frame_in : Context → BlockLayer → List Region → Start → Frame
-frame_in c b Γ s = record { text = c.text; routine = own_number s.chain; names = block_names c.text b s.names; begun = []; outer = Γ }
+frame_in c b Γ s = record {
+  text = c.text;
+  routine = own_number s.chain;
+  names = block_names c.text b s.names;
+  begun = [];
+  outer = Γ;
+}
 
 abbrev pub first_declared : Start → Gathered → Declared
 first_declared s g = record { known = s.known; domains = g.domains; pending = []; variables = [] }
 
 pub record BlockParts (c : Context) (b : BlockLayer) (Γ : List Region) (s : Start) (g : Gathered) : Type 0 where
   pub made : Declared
-  pub declarations_read : declarations (frame_in c b Γ s) s.first (first_declared s g) b.constants b.types b.variables ≡ Yes made
+  pub declarations_read : declarations (frame_in c b Γ s) s.first (first_declared s g) b.constants b.types b.variables
+      ≡ Yes made
   pub before : Routines
   pub known : before.known ≡ made.known
   pub behind : Routines
   pub routines_read : steps (one_routine (frame_in c b Γ s) s.chain) before b.routines ≡ Yes behind
 
-pub block_parts : (c : Context) (b : BlockLayer) (Γ : List Region) (s : Start) (g : Gathered) (d : Done) → block_step c b Γ s g ≡ Yes d → BlockParts c b Γ s g
+pub block_parts : (c : Context) (b : BlockLayer) (Γ : List Region) (s : Start) (g : Gathered) (d : Done)
+    → block_step c b Γ s g ≡ Yes d → BlockParts c b Γ s g
 unfolding block_step declared
 block_parts c b Γ s g d e =
     let o = then_yes (declared (frame_in c b Γ s) b s.first s.known g) _ d e in
-    let m = then_yes (declarations (frame_in c b Γ s) s.first (first_declared s g) b.constants b.types b.variables) _ o.0 o.1 in
+    let m = then_yes (declarations (frame_in c b Γ s) s.first (first_declared s g) b.constants b.types b.variables) _
+    o.0 o.1 in
     let r = then_yes (steps (one_routine (frame_in c b Γ s) s.chain) o.0.0 b.routines) _ d o.2 in
-    record { made = m.0; declarations_read = m.1; before = o.0.0; known = sym (ap (λ z. z.0.known) (inside_yes _ o.0 m.2)); behind = r.0; routines_read = r.1 }
+    record {
+      made = m.0;
+      declarations_read = m.1;
+      before = o.0.0;
+      known = sym (ap (λ z. z.0.known) (inside_yes _ o.0 m.2));
+      behind = r.0;
+      routines_read = r.1;
+    }
 
 pub names_are_points : NamesArePoints
 unfolding block_names
 names_are_points c b Γ s g d lengths e =
     let parts = block_parts c b Γ s g d e in
     let points : Points = block_points b.constants b.types b.variables in
-    let part : Part (frame_in c b Γ s) (first_declared s g) points parts.made = declarations_part (frame_in c b Γ s) s.first (first_declared s g) parts.made b.constants b.types b.variables parts.declarations_read in
+    let part : Part (frame_in c b Γ s) (first_declared s g) points parts.made = declarations_part
+    (frame_in c b Γ s) s.first (first_declared s g) parts.made b.constants b.types b.variables
+    parts.declarations_read in
     let routines = grown c.text b.routines (add_points c.text s.names points) in
     let spellings : List (List ℕ) = map (spelled c.text) points in
-    let ahead : Ahead (block_names c.text b s.names) s.names (spellings ++ []) = record { behind = routines.routines; are = routines.are ∙ ap (λ l. l ++ routines.routines) (points_names c.text s.names points ∙ ap (add_names s.names) (sym (append-nil spellings))) } in
+    let ahead : Ahead (block_names c.text b s.names) s.names (spellings ++ []) = record {
+      behind = routines.routines;
+      are = routines.are ∙ ap (λ l. l ++ routines.routines)
+          (points_names c.text s.names points ∙ ap (add_names s.names) (sym (append-nil spellings)));
+    } in
     let fresh : Fresh s.names spellings = part.fresh s.names [] lengths ahead in
     record {
       routines = routines.routines;
-      are = routines.are ∙ ap (λ l. l ++ routines.routines) (points_names c.text s.names points ∙ fresh_added s.names spellings fresh);
+      are = routines.are ∙ ap (λ l. l ++ routines.routines)
+          (points_names c.text s.names points ∙ fresh_added s.names spellings fresh);
       of_routines = routines.of_routines;
-      every_routine = all_known (frame_in c b Γ s) s.chain b.routines parts.before parts.behind parts.routines_read routines.headings;
+      every_routine = all_known (frame_in c b Γ s) s.chain b.routines parts.before parts.behind parts.routines_read
+          routines.headings;
       apart = λ a. routines.apart (points_apart c.text points s.names a);
     }

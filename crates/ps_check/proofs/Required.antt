@@ -2,7 +2,8 @@
 use Rattle.std.proofs.Common.{◌≡◌, map, refl}
 use Rattle.ps_check_names.specs.Regions.{BlockRegion}
 use Rattle.ps_check.specs.declared.program.TheConstants.{REQUIRED}
-use Rattle.ps_check.specs.Programs.{Files, no_files, add_required, add_all_required, required, required_names, required_types, required_routines, left_out}
+use Rattle.ps_check.specs.Programs.{Files, no_files, add_required, add_all_required, required, required_names}
+use Rattle.ps_check.specs.Programs.{required_types, required_routines, left_out}
 use Rattle.ps_check.specs.Views.{standard_meaning}
 
 abbrev all_files : Files

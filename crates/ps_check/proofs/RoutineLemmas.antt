@@ -1,5 +1,6 @@
 -- Routines: their headings, and what their blocks begin with.
-use Rattle.std.proofs.Common.{◌≡◌, ◌⊎◌, inl, inr, ℕ, Bool, true, false, List, [], ◌∷◌, length, nat_lt, Option, Some, None, option_map, Ok, Err, Result, refl, sym, ap, ◌∙◌, subst}
+use Rattle.std.proofs.Common.{◌≡◌, ◌⊎◌, inl, inr, ℕ, Bool, true, false, List, [], ◌∷◌, length, nat_lt, Option, Some}
+use Rattle.std.proofs.Common.{None, option_map, Ok, Err, Result, refl, sym, ap, ◌∙◌, subst}
 use Rattle.std.specs.Prelude.{IfOk}
 use Rattle.ps_text.specs.declared.Span.{Span}
 use Rattle.ps_syntax.specs.declared.program.Heading.{Heading}
@@ -19,13 +20,15 @@ use Rattle.ps_check.specs.declared.state.Start as Rust
 use Rattle.ps_check.specs.Readings.{RoutineReading, Routines, Start}
 use Rattle.ps_check.specs.Forwards.{is_waiting}
 use Rattle.ps_check.specs.Entries.{Entries, add_names, add_sections, first_entry, start}
-use Rattle.ps_check.specs.Blocks.{routine, block, known_as, new_heading, unheaded, introduce, introduced, read_block, one_routine}
+use Rattle.ps_check.specs.Blocks.{routine, block, known_as, new_heading, unheaded, introduce, introduced, read_block}
+use Rattle.ps_check.specs.Blocks.{one_routine}
 use Rattle.ps_check.specs.Views.{entries_of, start_of}
 use Rattle.ps_check.proofs.Equations.{routine_Whole, routine_Forward, routine_Completion}
 
 -- ---- answers of equal judgements
 
-pub answered : {X A : Type 0} (result : Result X Fault) (view : X → A) (i j : Judged A) → i ≡ j → Answers result view j → Answers result view i
+pub answered : {X A : Type 0} (result : Result X Fault) (view : X → A) (i j : Judged A) → i ≡ j → Answers result view j
+    → Answers result view i
 answered result view i j e h = subst (λ k. Answers result view k) (sym e) h
 
 pub told_as : {A : Type 0} (fault : Fault) (i j : Judged A) → i ≡ j → Told fault j → Told fault i
@@ -34,15 +37,22 @@ told_as fault i j e h = subst (λ k. Told fault k) (sym e) h
 -- ---- headings
 
 module _ (f : Frame) (c : Context) (r : Routines) where
-  pub introduce_Whole : (x : Routine) (h : Heading) (b : Block) → x ≡ v.Whole h b → introduce f (routine c x) r None ≡ new_heading f false r h
+  pub introduce_Whole : (x : Routine) (h : Heading) (b : Block) → x ≡ v.Whole h b → introduce f (routine c x) r None
+      ≡ new_heading f false r h
   unfolding introduce
   introduce_Whole x h b e = ap (λ y. introduce f y r None) (ap (routine c) e ∙ routine_Whole c h b)
 
-  pub introduce_Forward : (x : Routine) (h : Heading) → x ≡ v.Forward h → introduce f (routine c x) r None ≡ new_heading f true r h
+  pub introduce_Forward : (x : Routine) (h : Heading) → x ≡ v.Forward h → introduce f (routine c x) r None
+      ≡ new_heading f true r h
   unfolding introduce
   introduce_Forward x h e = ap (λ y. introduce f y r None) (ap (routine c) e ∙ routine_Forward c h)
 
-  pub introduce_Completion : (x : Routine) (name : Span) (b : Block) → x ≡ v.Completion name b → introduce f (routine c x) r None ≡ unheaded f (record { name = name; heading = None; block = None })
+  pub introduce_Completion : (x : Routine) (name : Span) (b : Block) → x ≡ v.Completion name b → introduce f
+      (routine c x) r None ≡ unheaded f (record {
+        name = name;
+        heading = None;
+        block = None;
+      })
   unfolding introduce
   introduce_Completion x name b e = ap (λ y. introduce f y r None) (ap (routine c) e ∙ routine_Completion c name b)
 
@@ -56,7 +66,7 @@ some_none q = cc
 none_some : {A : Type 0} {x : A} → (let n : Option A = None in n) ≡ Some x → ⊥
 none_some q = cc
 
--- whether the routine completes a forward heading, where its name is known
+-- whether the routine completes a forward heading, if its name is known
 module _ (f : Frame) (x : RoutineReading) (r : Routines) where
   abbrev waits : Option Meaning → Option Bool
   waits o = option_map (is_waiting r.gathered x) o
@@ -69,7 +79,8 @@ module _ (f : Frame) (x : RoutineReading) (r : Routines) where
       at None h = absurd (some_none h)
       at (Some m) h = ap (λ b. provided b Twice x.name.from r) (sym (ap (some_or_else true) h))
 
-  pub introduced_twice : Some false ≡ waits (known_as f r.known (spelled f.text x.name)) → introduced f x r ≡ No Twice x.name.from
+  pub introduced_twice : Some false ≡ waits (known_as f r.known (spelled f.text x.name)) → introduced f x r
+      ≡ No Twice x.name.from
   unfolding introduce
   introduced_twice e = at (known_as f r.known (spelled f.text x.name)) e
     where
@@ -77,7 +88,8 @@ module _ (f : Frame) (x : RoutineReading) (r : Routines) where
       at None h = absurd (some_none h)
       at (Some m) h = ap (λ b. provided b Twice x.name.from r) (sym (ap (some_or_else true) h))
 
-  pub introduced_new : None ≡ waits (known_as f r.known (spelled f.text x.name)) → introduced f x r ≡ introduce f x r None
+  pub introduced_new : None ≡ waits (known_as f r.known (spelled f.text x.name)) → introduced f x r
+      ≡ introduce f x r None
   introduced_new e = at (known_as f r.known (spelled f.text x.name)) e
     where
       at : (o : Option Meaning) → None ≡ waits o → introduce f x r o ≡ introduce f x r None
@@ -87,13 +99,18 @@ module _ (f : Frame) (x : RoutineReading) (r : Routines) where
 -- ---- a routine that has its block
 
 module _ (f : Frame) (chain : List ℕ) (c : Context) (x : Routine) (b : Block) (r s : Routines) where
-  pub whole_answers : {X : Type 0} (result : Result X Fault) (view : X → Routines) (name : Span) → introduced f (routine c x) r ≡ Yes s → name ≡ (routine c x).name → (routine c x).block ≡ Some (block c b)
-      → ((y : RoutineReading) → y.name ≡ name → Answers result view (read_block f chain y s (Some (block c b)))) → Answers result view (one_routine f chain r (routine c x))
+  pub whole_answers : {X : Type 0} (result : Result X Fault) (view : X → Routines) (name : Span) → introduced f
+      (routine c x) r ≡ Yes s → name ≡ (routine c x).name → (routine c x).block ≡ Some (block c b)
+      → ((y : RoutineReading) → y.name ≡ name → Answers result view (read_block f chain y s (Some (block c b))))
+      → Answers result view (one_routine f chain r (routine c x))
   unfolding one_routine
   whole_answers result view name e is own answers =
-      answered result view (one_routine f chain r (routine c x)) (read_block f chain (routine c x) s (Some (block c b))) (ap (λ j. j >>= (λ s. read_block f chain (routine c x) s (routine c x).block)) e ∙ ap (read_block f chain (routine c x) s) own) (answers (routine c x) (sym is))
+      answered result view (one_routine f chain r (routine c x)) (read_block f chain (routine c x) s (Some (block c b)))
+      (ap (λ j. j >>= (λ s. read_block f chain (routine c x) s (routine c x).block)) e
+      ∙ ap (read_block f chain (routine c x) s) own) (answers (routine c x) (sym is))
 
-pub block_there : (c : Context) (x : Routine) (b : Block) → ((h : Heading) × (x ≡ v.Whole h b)) ⊎ ((name : Span) × (x ≡ v.Completion name b)) → (routine c x).block ≡ Some (block c b)
+pub block_there : (c : Context) (x : Routine) (b : Block) → ((h : Heading) × (x ≡ v.Whole h b))
+    ⊎ ((name : Span) × (x ≡ v.Completion name b)) → (routine c x).block ≡ Some (block c b)
 block_there c x b (inl e) = ap (λ (y : RoutineReading). y.block) (ap (routine c) e.1 ∙ routine_Whole c e.0 b)
 block_there c x b (inr e) = ap (λ (y : RoutineReading). y.block) (ap (routine c) e.1 ∙ routine_Completion c e.0 b)
 
@@ -112,13 +129,19 @@ module _ (whence : ℕ) (chain : List ℕ) (h : regions.Heading) (result : Resul
   pub start_answers : (x : Result Chain Fault) (y : Result Rust.Start Fault) → result ≡ both x y
       → Answers x (λ c. c) (provided (nat_lt (length chain) 16) Limit whence (h.number ∷ chain))
       → IfOk y (λ s. s.names ≡ add_names [] h.names)
-      → Answers y (λ s. entries_of s.first s.known.items) (add_sections whence (entries_of (first_entry h.result) []) h.sections)
+      → Answers y (λ s. entries_of s.first s.known.items)
+      (add_sections whence (entries_of (first_entry h.result) []) h.sections)
       → Answers result (λ s. start_of s.0 s.1) (start whence chain h)
   unfolding start
-  start_answers (Err e) y is first names second = subst (λ (r : Result (Chain × Rust.Start) Fault). Answers r (λ s. start_of s.0 s.1) (start whence chain h)) (sym is) (told_bind e _ _ first)
-  start_answers (Ok c) (Err e) is first names second = subst (λ (r : Result (Chain × Rust.Start) Fault). Answers r (λ s. start_of s.0 s.1) (start whence chain h)) (sym is) (subst (λ j. Told e (j >>= next whence h)) (sym first) (told_bind e _ _ second))
+  start_answers (Err e) y is first names second = subst
+      (λ (r : Result (Chain × Rust.Start) Fault). Answers r (λ s. start_of s.0 s.1) (start whence chain h)) (sym is)
+      (told_bind e _ _ first)
+  start_answers (Ok c) (Err e) is first names second = subst
+      (λ (r : Result (Chain × Rust.Start) Fault). Answers r (λ s. start_of s.0 s.1) (start whence chain h)) (sym is)
+      (subst (λ j. Told e (j >>= next whence h)) (sym first) (told_bind e _ _ second))
   start_answers (Ok c) (Ok s) is first names second =
-      subst (λ (r : Result (Chain × Rust.Start) Fault). Answers r (λ s. start_of s.0 s.1) (start whence chain h)) (sym is)
+      subst (λ (r : Result (Chain × Rust.Start) Fault). Answers r (λ s. start_of s.0 s.1) (start whence chain h))
+      (sym is)
       (ap (λ j. j >>= next whence h) first
       ∙ ap (λ j. j >>= last h c) second
       ∙ ap (λ (n : List (List ℕ)). Yes (with_names c n (entries_of s.first s.known.items))) (sym names))

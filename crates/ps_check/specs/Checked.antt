@@ -1,4 +1,4 @@
--- What `check` answers of a program: what the judgement says.
+-- What `check` returns for a program: what the judgement says.
 use Rattle.std.specs.Prelude.{◌≡◌, ℕ, List, Result}
 use Rattle.std.specs.Result.{MatchResult}
 use Rattle.ps_tree.specs.declared.program.Checked as Rust
@@ -16,7 +16,7 @@ abbrev pub refusal_of : List ℕ → Fault → CheckRefusal
 refusal_of text fault.OutOfMemory = refusal.OutOfMemory
 refusal_of text (fault.Broken rule at) = refusal.Broken rule at (line_in text at)
 
--- the refusal is what is judged; want of memory is none of the program
+-- the refusal is what is judged; running out of memory says nothing of the program
 abbrev pub IsRefusalOf : {A : Type 0} → List ℕ → Judged A → CheckRefusal → Type 0
 IsRefusalOf text j refusal.OutOfMemory = Unit {0}
 IsRefusalOf text j (refusal.Broken rule at line) = (j ≡ No rule at) × (line ≡ line_in text at)

@@ -3,7 +3,9 @@ use Rattle.std.specs.Prelude.{ℕ, zero, suc, List, [], ◌∷◌, ◌++◌, len
 use Rattle.ps_tree.specs.Types.{DataType}
 use Rattle.ps_check_judgement.specs.declared.refusal.Rule.TheVariants.{Limit}
 use Rattle.ps_check_judgement.specs.Judged.{Judged, Yes, ◌>>=◌, provided, some_or}
-use Rattle.ps_check_names.specs.Regions.{Meaning, ParameterMeaning, RoutineParameterMeaning, Heading, Section, ValueSection, VariableSection, RoutineSection, Sections, no_section, section_before, one_more}
+use Rattle.ps_check_names.specs.Regions.{Meaning, ParameterMeaning, RoutineParameterMeaning, Heading, Section}
+use Rattle.ps_check_names.specs.Regions.{ValueSection, VariableSection, RoutineSection, Sections, no_section}
+use Rattle.ps_check_names.specs.Regions.{section_before, one_more}
 use Rattle.ps_check_declarations.specs.Points.{add_name}
 use Rattle.ps_check.specs.Readings.{Start}
 
@@ -12,11 +14,14 @@ pub record Entries : Type 0 where
   pub next : ℕ
   pub known : List Meaning
 
--- one more, of a routine whose name is at `at`
+-- one more, for a routine whose name is at `at`
 abbrev pub add_entry : (at : ℕ) → (ℕ → Meaning) → Entries → Judged Entries
-add_entry at meaning e = some_or Limit at (one_more e.next) >>= (λ n. Yes (record { next = n; known = e.known ++ meaning e.next ∷ [] }))
+add_entry at meaning e = some_or Limit at (one_more e.next) >>= (λ n. Yes (record {
+  next = n;
+  known = e.known ++ meaning e.next ∷ [];
+}))
 
--- as many of one type
+-- the given number of one type
 unfoldable pub add_parameters : (at : ℕ) → DataType → ℕ → Entries → Judged Entries
 add_parameters at type zero e = Yes e
 add_parameters at type (suc n) e = add_entry at (λ i. ParameterMeaning i type) e >>= add_parameters at type n
@@ -41,8 +46,8 @@ abbrev pub first_entry : Option DataType → ℕ
 first_entry None = 0
 first_entry (Some type) = 1
 
--- The names of the formal parameters are defined for the block too. A routine is nested at most 15 deep within the program block (this project's limit). Its name
--- is at `at`.
+-- The names of the formal parameters are defined for the block too. A routine is nested at most 15 deep within the
+-- program block (this project's limit). Its name is at `at`.
 unfoldable pub start : (at : ℕ) → List ℕ → Heading → Judged Start
 start at chain h = do
   inner ← provided (nat_lt (length chain) 16) Limit at (h.number ∷ chain)

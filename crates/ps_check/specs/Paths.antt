@@ -21,17 +21,22 @@ layer_block (Routine-F.Completion name b) = Some b
 unfoldable pub routine_block : Routine → Option Block
 routine_block r = layer_block (out-Routine r)
 
--- The block at a path, which tells the routines from the inside out: of k before a path v, that of routine k of the block at v.
+-- The block at a path, which lists routines from the inside out: at k before a path v, that of routine k of the block
+-- at v.
 unfoldable pub block_at : Block → List ℕ → Option Block
 block_at b [] = Some b
-block_at b (k ∷ v) = option_and_then (λ a. option_and_then routine_block (slice_get (out-Block a).routines k)) (block_at b v)
+block_at b (k ∷ v) = option_and_then (λ a. option_and_then routine_block (slice_get (out-Block a).routines k))
+    (block_at b v)
 
--- The regions that enclose the block at a path, from the inside out: those of the blocks round it, each with all its defining points in the tree,
--- those after the place too, and the region of the required names round the program. Left open are the numbers of the blocks' routines, the meanings of
--- the names, and which names stand before a block's own.
+-- The regions that enclose the block at a path, from the inside out: those of the blocks around it, each with all its
+-- defining points in the tree, including those after the place, and the region of the required names around the
+-- program. Left open are the numbers of the blocks' routines, the meanings of the names, and which names come before a
+-- block's own.
 pub data IsEnclosed (c : Context) (root : Block) : List ℕ → List Region → Type 0 where
   outermost : IsEnclosed c root [] (required ∷ [])
-  within : (k number : ℕ) (v : List ℕ) (a : Block) (first names : List (List ℕ)) (known : List Meaning) (Γ : List Region) → block_at root v ≡ Some a → AreNames c.text (layer c a) first names → IsEnclosed c root v Γ → IsEnclosed c root (k ∷ v) (BlockRegion number names known ∷ Γ)
+  within : (k number : ℕ) (v : List ℕ) (a : Block) (first names : List (List ℕ)) (known : List Meaning)
+      (Γ : List Region) → block_at root v ≡ Some a → AreNames c.text (layer c a) first names → IsEnclosed c root v Γ
+      → IsEnclosed c root (k ∷ v) (BlockRegion number names known ∷ Γ)
 
 -- a block of the tree is read in the regions that enclose it
 pub record IsRead (c : Context) (root : Block) (v : List ℕ) (b : Block) : Type 0 where
@@ -49,4 +54,5 @@ pub record BlocksAreRead (text : List ℕ) (p : syntax.Program) : Type 0 where
   pub each : (v : List ℕ) (b : Block) → block_at p.block v ≡ Some b → IsRead (program_context text files) p.block v b
 
 abbrev pub BlocksAreEnclosed : Type 0
-BlocksAreEnclosed = (text : List ℕ) (p : syntax.Program) (made : Tree.Program) → program text p ≡ Yes made → BlocksAreRead text p
+BlocksAreEnclosed = (text : List ℕ) (p : syntax.Program) (made : Tree.Program) → program text p ≡ Yes made
+    → BlocksAreRead text p

@@ -14,22 +14,23 @@ use Rattle.ps_check_names.specs.Regions.{Region, Meaning}
 
 -- ---- what is read
 
--- The whole program so far: the domain types of its pointer types by their numbers, and its routines by theirs, which follow the order of their first
--- headings. A routine whose block hasn't come, or is being read, has none yet.
+-- The whole program so far: the domain types of its pointer types by their numbers, and its routines by theirs, which
+-- follow the order of their first headings. A routine whose block hasn't come, or is being read, has none yet.
 pub record Gathered : Type 0 where
   pub domains : List DataType
   pub routines : List (Option Tree.Routine)
 
--- What a block begins with: the numbers of its routine and of those round it, the innermost first; the names that its region has before its own
--- (formal parameters, or the files of a program heading) with their meanings; and the entry of its first variable.
+-- What a block begins with: the numbers of its routine and of those around it, innermost first; the names that its
+-- region has before its own (formal parameters, or the files of a program heading) with their meanings; and the entry
+-- of its first variable.
 pub record Start : Type 0 where
   pub chain : List ℕ
   pub names : List (List ℕ)
   pub known : List Meaning
   pub first : ℕ
 
--- What a block gives: the types of its variables, its statements, the line of its `begin`, what its statements and the routines within it change, as the
--- block sees it, and the program with the routines within it.
+-- What a block gives: the types of its variables, its statements, the line of its `begin`, what its statements and the
+-- routines within it change, as the block sees it, and the program with the routines within it.
 pub record Done : Type 0 where
   pub variables : List DataType
   pub body : Tree.Statements
@@ -37,7 +38,8 @@ pub record Done : Type 0 where
   pub changes : List Change
   pub gathered : Gathered
 
--- What the routines of a block so far give: the meanings of the block's names, what they change, as the block sees it, and the program.
+-- What the routines of a block so far give: the meanings of the block's names, what they change, as the block sees it,
+-- and the program.
 pub record Routines : Type 0 where
   pub known : List Meaning
   pub changes : List Change
@@ -46,7 +48,7 @@ pub record Routines : Type 0 where
 abbrev pub BlockReading : Type 0
 BlockReading = List Region → Start → Gathered → Judged Done
 
--- a routine: its name, its heading, unless it is `function` and the name alone, and its block, unless it is forward
+-- a routine: its name, its heading, unless it is `function` and only the name, and its block, unless it is forward
 pub record RoutineReading : Type 0 where
   pub name : Span
   pub heading : Option syntax.Heading
@@ -82,11 +84,11 @@ layer_is_bare (Heading-F.Procedure name []) = true
 layer_is_bare (Heading-F.Procedure name (x ∷ xs)) = false
 layer_is_bare (Heading-F.Function name xs type) = false
 
--- a procedure's heading with its name alone
+-- a procedure's heading with only its name
 unfoldable pub is_bare : syntax.Heading → Bool
 is_bare h = layer_is_bare (out-Heading h)
 
--- `procedure` or `function` with the name alone
+-- `procedure` or `function` with only the name
 abbrev pub is_name_alone : Option syntax.Heading → Bool
 is_name_alone None = true
 is_name_alone (Some h) = is_bare h

@@ -1,4 +1,4 @@
--- What the values of the program stand for in the definitions.
+-- What the values of the program denote in the definitions.
 use Rattle.std.specs.Prelude.{ℕ, List, map, Option, option_map}
 use Rattle.ps_tree.specs.View.{type_of, statements_of, routine_of}
 use Rattle.ps_tree.specs.Tree as Tree
@@ -28,7 +28,13 @@ abbrev pub start_of : List ℕ → RustStart.Start → Start
 start_of chain s = record { chain = chain; names = s.names; known = map meaning_of s.known.items; first = s.first }
 
 abbrev pub done_of : RustDone.Done → RustGathered.Gathered → Done
-done_of b g = record { variables = map type_of b.variables.items; body = statements_of b.body.items; line = b.line.number; changes = b.changes.items; gathered = gathered_of g }
+done_of b g = record {
+  variables = map type_of b.variables.items;
+  body = statements_of b.body.items;
+  line = b.line.number;
+  changes = b.changes.items;
+  gathered = gathered_of g;
+}
 
 abbrev pub routines_of : RustLocal.Local → RustGathered.Gathered → Routines
 routines_of l g = record { known = map meaning_of l.known.items; changes = l.changes.items; gathered = gathered_of g }
@@ -39,7 +45,7 @@ entries_of next known = record { next = next; known = map meaning_of known }
 abbrev pub files_of : RustFiles.Files → Files
 files_of f = record { names = f.names; known = map meaning_of f.known.items }
 
--- what a required name stands for
+-- what a required name denotes
 unfoldable pub standard_meaning : Standard.Standard → Meaning
 standard_meaning (s.«Type» ordinal) = TypeMeaning (OrdinalType ordinal)
 standard_meaning (s.Constant ordinal value) = ConstantMeaning ordinal value

@@ -10,7 +10,8 @@ ghost use Rattle.ps_check_declarations.specs.Views.{frame_of};
 ghost use Rattle.ps_check_statements.specs.Statements.{statements};
 ghost use Rattle.ps_check.specs.Readings.{RoutineReading};
 ghost use Rattle.ps_check.specs.Forwards.{block_names};
-ghost use Rattle.ps_check.specs.Blocks.{of_statements, one_routine, read_block, declared, block_body, block, routine, layer};
+ghost use Rattle.ps_check.specs.Blocks.{of_statements, one_routine, read_block, declared, block_body, block, routine};
+ghost use Rattle.ps_check.specs.Blocks.{layer};
 ghost use Rattle.ps_check.specs.Views.{gathered_of, start_of, done_of, routines_of};
 
 use crate::chain::Chain;
@@ -39,7 +40,7 @@ use ps_tree::types::Ty;
 use std::alloc::{AllocError, Global};
 use std::mem;
 
-/// The same reading, where these domain types are known.
+/// The same reading, with these domain types known.
 fn reading_with<'a>(reading: &Reading<'a>, domains: &'a [Ty]) -> Reading<'a>
     ensures { context_of result ≡ of_statements (context_of reading.now) (map type_of domains.now) [] }
 {
@@ -52,10 +53,11 @@ fn reading_with<'a>(reading: &Reading<'a>, domains: &'a [Ty]) -> Reading<'a>
     }
 }
 
-/// The regions that enclose a place of a block, whose names have these meanings so far.
+/// The regions that enclose a place of a block whose names have these meanings so far.
 #[tactic(auto, unfolding(ps_check_names::specs::Views::scope_of))]
 fn scope_within<'a>(frame: &'a Frame<'a>, known: &'a [Meaning]) -> Scope<'a>
-    ensures { scope_of result ≡ BlockRegion frame.now.routine frame.now.names.now (map meaning_of known.now) ∷ scope_of frame.now.outer.now }
+    ensures { scope_of result ≡ BlockRegion frame.now.routine frame.now.names.now (map meaning_of known.now)
+        ∷ scope_of frame.now.outer.now }
 {
     Scope::Block {
         routine: frame.routine,
@@ -65,7 +67,8 @@ fn scope_within<'a>(frame: &'a Frame<'a>, known: &'a [Meaning]) -> Scope<'a>
     }
 }
 
-/// The statements of a block and what they change, where its names have these meanings and the routines in it change that.
+/// The statements of a block and what they change, where its names have these meanings and the routines in it make
+/// these changes.
 #[tactic(auto, unfolding(ps_check_expressions::specs::View::controls_of))]
 fn read_statements(
     list: &[Statement],
@@ -74,7 +77,10 @@ fn read_statements(
     local: &Local,
     domains: &[Ty],
 ) -> Result<(Vec<StatementTree>, Vec<Change>), Fault>
-    ensures { Answers result (λ read. (statements_of read.0.items, read.1.items)) (statements (of_statements (context_of frame.now.reading.now) (map type_of domains.now) local.now.changes.items) (BlockRegion frame.now.routine frame.now.names.now (map meaning_of local.now.known.items) ∷ scope_of frame.now.outer.now) list.now []) }
+    ensures { Answers result (λ read. (statements_of read.0.items, read.1.items))
+        (statements (of_statements (context_of frame.now.reading.now) (map type_of domains.now) local.now.changes.items)
+        (BlockRegion frame.now.routine frame.now.names.now (map meaning_of local.now.known.items)
+        ∷ scope_of frame.now.outer.now) list.now []) }
 {
     let reading = reading_with(frame.reading, domains);
     let scope = scope_within(frame, &local.known);
@@ -104,20 +110,21 @@ fn parts_of<'a>(written: &'a Block) -> Parts<'a>
     }
 }
 
-/// The names of a block's region, behind those that are there.
+/// The names of a block's region, after those that are there.
 fn add_block_names(
     written: &Block,
     reading: &Reading,
     alloc: Global,
     names: &mut Names,
 ) -> Result<(), AllocError>
-    ensures { OnOk result (names.new ≡ block_names reading.now.source.now (layer (context_of reading.now) written.now) names.old) }
+    ensures { OnOk result (names.new ≡ block_names reading.now.source.now
+        (layer (context_of reading.now) written.now) names.old) }
 {
     add_block(reading, alloc, names, &parts_of(written))?;
     add_routines(reading, alloc, names, written.routines.as_slice())
 }
 
-/// The declarations of a block: the meanings of its names, behind those that are there, and the types of its variables.
+/// The declarations of a block: the meanings of its names, after those that are there, and the types of its variables.
 fn declare(
     written: &Block,
     frame: &Frame,
@@ -125,7 +132,9 @@ fn declare(
     start: (Vec<Meaning>, u32),
     gathered: &mut Gathered,
 ) -> Result<(Local, Vec<Ty>), Fault>
-    ensures { Answers result (λ made. (routines_of made.0 gathered.new, map type_of made.1.items)) (declared (frame_of frame.now) (layer (context_of frame.now.reading.now) written.now) start.1 (map meaning_of start.0.items) (gathered_of gathered.old)) }
+    ensures { Answers result (λ made. (routines_of made.0 gathered.new, map type_of made.1.items))
+        (declared (frame_of frame.now) (layer (context_of frame.now.reading.now) written.now) start.1
+        (map meaning_of start.0.items) (gathered_of gathered.old)) }
 {
     let (known, first) = start;
     let mut declared = Declared {
@@ -146,7 +155,7 @@ fn declare(
     Ok((Local { known, changes }, variables))
 }
 
-/// The statements of a block, whose routines have their blocks, and what they change.
+/// The statements of a block whose routines have their blocks, and what they change.
 #[tactic(auto, unfolding(crate::specs::Blocks::block_body))]
 fn read_body(
     written: &Block,
@@ -155,7 +164,9 @@ fn read_body(
     local: &Local,
     gathered: &Gathered,
 ) -> Result<(Vec<StatementTree>, Vec<Change>), Fault>
-    ensures { Answers result (λ read. (statements_of read.0.items, read.1.items)) (block_body (context_of frame.now.reading.now) (frame_of frame.now) (layer (context_of frame.now.reading.now) written.now) (routines_of local.now gathered.now)) }
+    ensures { Answers result (λ read. (statements_of read.0.items, read.1.items))
+        (block_body (context_of frame.now.reading.now) (frame_of frame.now)
+        (layer (context_of frame.now.reading.now) written.now) (routines_of local.now gathered.now)) }
 {
     all_complete(gathered, &local.known)?;
     let list = written.statements.as_slice();
@@ -175,7 +186,9 @@ pub fn block(
     start: &mut Start,
     gathered: &mut Gathered,
 ) -> Result<Done, Fault>
-    ensures { Answers result (λ done. done_of done gathered.new) (block (context_of reading.now) written.now (scope_of outer.now) (start_of chain.now start.old) (gathered_of gathered.old)) }
+    ensures { Answers result (λ done. done_of done gathered.new)
+        (block (context_of reading.now) written.now (scope_of outer.now) (start_of chain.now start.old)
+        (gathered_of gathered.old)) }
 {
     add_block_names(written, reading, alloc, &mut start.names)?;
     let known = mem::replace(&mut start.known, Vec::new(alloc));
@@ -219,7 +232,9 @@ fn read_routines(
     local: &mut Local,
     gathered: &mut Gathered,
 ) -> Result<(), Fault>
-    ensures { Answers result (λ _. routines_of local.new gathered.new) (steps (one_routine (frame_of frame.now) chain.now) (routines_of local.old gathered.old) (map (routine (context_of frame.now.reading.now)) list.now)) }
+    ensures { Answers result (λ _. routines_of local.new gathered.new)
+        (steps (one_routine (frame_of frame.now) chain.now) (routines_of local.old gathered.old)
+        (map (routine (context_of frame.now.reading.now)) list.now)) }
 {
     for written in list {
         read_routine(written, frame, alloc, chain, local, gathered)?;
@@ -238,7 +253,9 @@ fn read_routine(
     local: &mut Local,
     gathered: &mut Gathered,
 ) -> Result<(), Fault>
-    ensures { Answers result (λ _. routines_of local.new gathered.new) (one_routine (frame_of frame.now) chain.now (routines_of local.old gathered.old) (routine (context_of frame.now.reading.now) written.now)) }
+    ensures { Answers result (λ _. routines_of local.new gathered.new)
+        (one_routine (frame_of frame.now) chain.now (routines_of local.old gathered.old)
+        (routine (context_of frame.now.reading.now) written.now)) }
 {
     introduce(written, frame, alloc, local, gathered)?;
     let name = routine_name(written);
@@ -262,7 +279,9 @@ fn read_block(
     name: Span,
     gathered: &mut Gathered,
 ) -> Result<(), Fault>
-    ensures { (x : RoutineReading) → x.name ≡ name → Answers result (λ _. routines_of local.new gathered.new) (read_block (frame_of frame.now) chain.now x (routines_of local.old gathered.old) (Some (block (context_of frame.now.reading.now) written.now))) }
+    ensures { (x : RoutineReading) → x.name ≡ name → Answers result (λ _. routines_of local.new gathered.new)
+        (read_block (frame_of frame.now) chain.now x (routines_of local.old gathered.old)
+        (Some (block (context_of frame.now.reading.now) written.now))) }
 {
     let heading = heading_of_routine(frame, alloc, &local.known, name)?;
     let (inner, mut start) = start(heading, chain, alloc, name.from)?;
@@ -276,7 +295,7 @@ fn read_block(
         &mut start,
         gathered,
     );
-    // It goes before the fault is passed on: so it is dropped in one place.
+    // It is dropped before the fault is passed on, so that this happens in one place.
     drop(start);
     let done = done?;
     add_outward(&done.changes, &mut local.changes)?;

@@ -8,7 +8,7 @@ use ps_tree::tree::Routine;
 use std::alloc::{AllocError, Global};
 use std::marker::Model;
 
-/// The numbers of a block's routine and of those round it, the innermost first. A contract sees the list of them.
+/// The numbers of a block's routine and of those around it, innermost first. A contract sees the list of them.
 #[derive(Drop)]
 pub struct Chain {
     numbers: Vec<u32>,
@@ -40,9 +40,10 @@ impl Chain {
         Ok(Chain { numbers })
     }
 
-    /// That of a routine of the block, which may not be too deep. `at` is where a fault is told.
+    /// That of a routine of the block, which must not be too deep. `at` is where a fault is reported.
     pub fn inner(&self, alloc: Global, number: u32, at: u32) -> Result<Chain, Fault>
-        ensures { Answers result (λ inner. inner) (provided (nat_lt (length self.now) 16) Limit at (number ∷ self.now)) }
+        ensures { Answers result (λ inner. inner)
+            (provided (nat_lt (length self.now) 16) Limit at (number ∷ self.now)) }
     {
         if self.numbers.len() >= 16 {
             return Err(broken(Rule::Limit, at));
@@ -64,7 +65,7 @@ impl Chain {
         }
     }
 
-    /// How many numbers there are.
+    /// The length of the list.
     pub fn depth(&self) -> usize
         ensures { result ≡ length self.now }
     {
@@ -81,7 +82,7 @@ impl Chain {
     }
 }
 
-/// A routine whose block was read.
+/// A routine whose block has been read.
 #[derive(Drop)]
 pub struct Finished {
     pub routine: Routine,

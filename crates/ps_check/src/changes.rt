@@ -1,4 +1,4 @@
-//! What a block changes: its function's result, and variables of the blocks round it.
+//! What a block changes: its function's result, and variables of the blocks around it.
 
 ghost use Rattle.std.specs.Prelude.{◌≡◌, ◌++◌, ◌∷◌, [], OnOk, option_map};
 ghost use Rattle.std.specs.List.{list_any};
@@ -34,7 +34,7 @@ pub fn assigns(result_type: &Option<Ty>, changes: &[Change]) -> bool
     }
 }
 
-/// Adds a change of a block as the block round it sees it, if it reaches further out.
+/// Adds a change of a block as the block around it sees it, if it reaches further out.
 #[tactic(auto, using(crate::proofs::Lists::outward_own))]
 fn add_one_outward(change: &Change, outer: &mut Vec<Change>) -> Result<(), AllocError>
     ensures { OnOk result (outer.new.items ≡ outer.old.items ++ outward (change.now ∷ [])) }
@@ -50,7 +50,7 @@ fn add_one_outward(change: &Change, outer: &mut Vec<Change>) -> Result<(), Alloc
     Ok(())
 }
 
-/// Adds those changes of a block that reach further out, as the block round it sees them.
+/// Adds those changes of a block that reach further out, as the block around it sees them.
 #[tactic(auto, using(crate::proofs::Lists::reached_start, crate::proofs::Lists::reached_next, crate::proofs::Lists::reached_end))]
 pub fn add_outward(changes: &[Change], outer: &mut Vec<Change>) -> Result<(), AllocError>
     ensures { OnOk result (outer.new.items ≡ outer.old.items ++ outward changes.now) }

@@ -23,7 +23,7 @@ use ps_text::{LineTable, Source};
 use ps_tree::program::Checked;
 use std::alloc::{AllocError, Global};
 
-/// The block of a program within this region, and all that is read with it.
+/// The block of a program within this region, and everything that is read with it.
 fn read_program(
     alloc: Global,
     reading: &Reading,
@@ -31,7 +31,9 @@ fn read_program(
     start: &mut Start,
     written: &Program,
 ) -> Result<(Done, Gathered), Fault>
-    ensures { Answers result (λ read. done_of read.0 read.1) (block (context_of reading.now) written.now.block (scope_of outer.now) (start_of program_chain start.old) nothing_gathered) }
+    ensures { Answers result (λ read. done_of read.0 read.1)
+        (block (context_of reading.now) written.now.block (scope_of outer.now)
+        (start_of program_chain start.old) nothing_gathered) }
 {
     let (chain, mut gathered) = paired(Chain::program(alloc), nothing_gathered(alloc))?;
     let done = block(
@@ -57,7 +59,8 @@ fn check_block(
     requires input { reading.now.has_input ≡ has files.names (codes "input") }
     requires output { reading.now.has_output ≡ has files.names (codes "output") }
     requires domains { reading.now.domains.now ≡ [] }
-    ensures { Answers result (λ checked. program_in checked) (program_with reading.now.source.now written.now (files_of files)) }
+    ensures { Answers result (λ checked. program_in checked)
+        (program_with reading.now.source.now written.now (files_of files)) }
 {
     let around = required(alloc)?;
     let outer = Scope::Block {
@@ -72,14 +75,14 @@ fn check_block(
         first: 0,
     };
     let read = read_program(alloc, reading, &outer, &mut start, written);
-    // They go before the fault is passed on: so they are dropped in one place.
+    // They are dropped before the fault is passed on, so that this happens in one place.
     drop(around);
     drop(start);
     let (done, gathered) = read?;
     program_of(alloc, done, gathered, written.name.from)
 }
 
-/// The program before anything of it is read: routine 0 is that of the program block.
+/// The program before any of it is read: routine 0 is that of the program block.
 fn nothing_gathered(alloc: Global) -> Result<Gathered, AllocError>
     ensures { IfOk result (λ g. gathered_of g ≡ nothing_gathered) }
 {
@@ -91,7 +94,7 @@ fn nothing_gathered(alloc: Global) -> Result<Gathered, AllocError>
     })
 }
 
-/// The checked tree of a program, by a reading of the text in which its heading lists no file.
+/// The checked tree of a program, given a reading of the text in which its heading lists no file.
 #[tactic(auto, unfolding(crate::specs::Programs::program))]
 fn check_text(alloc: Global, heading: &Reading, written: &Program) -> Result<Checked, Fault>
     ensures { Answers result (λ checked. program_in checked) (program heading.now.source.now written.now) }
@@ -109,8 +112,8 @@ fn check_text(alloc: Global, heading: &Reading, written: &Program) -> Result<Che
 
 /// The checked tree of a program, or why it is refused: what the judgement of programs says.
 ///
-/// `Broken` tells the rule that the program breaks, and the token at which that is told: the first fault of the text, in the
-/// order that the judgement has. `OutOfMemory` is answered where a growth was refused.
+/// `Broken` gives the rule that the program breaks, and the token at which that is reported: the first fault of the
+/// text, in the judgement's order. `OutOfMemory` is returned where the allocator refused memory.
 pub fn check(alloc: Global, source: &Source, written: &Program) -> Result<Checked, CheckRefusal>
     ensures { IsChecked source.now (program source.now written.now) result }
 {

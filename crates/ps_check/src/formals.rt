@@ -33,7 +33,8 @@ pub fn copy_result(ty: &Option<Ty>) -> Result<Option<Ty>, AllocError>
 
 /// More value parameters of a type.
 fn add_values(count: u32, ty: &Ty, formals: &mut Vec<Formal>) -> Result<(), AllocError>
-    ensures { OnOk result (map formal_of formals.new.items ≡ map formal_of formals.old.items ++ replicate count (ValueFormal (type_of ty.now))) }
+    ensures { OnOk result (map formal_of formals.new.items ≡ map formal_of formals.old.items ++ replicate count
+        (ValueFormal (type_of ty.now))) }
 {
     for _ in 0..count {
         formals.push(Formal::Value(ty.copy()?))?;
@@ -43,7 +44,8 @@ fn add_values(count: u32, ty: &Ty, formals: &mut Vec<Formal>) -> Result<(), Allo
 
 /// More variable parameters of a type.
 fn add_variables(count: u32, ty: &Ty, formals: &mut Vec<Formal>) -> Result<(), AllocError>
-    ensures { OnOk result (map formal_of formals.new.items ≡ map formal_of formals.old.items ++ replicate count (VariableFormal (type_of ty.now))) }
+    ensures { OnOk result (map formal_of formals.new.items ≡ map formal_of formals.old.items ++ replicate count
+        (VariableFormal (type_of ty.now))) }
 {
     for _ in 0..count {
         formals.push(Formal::Variable(ty.copy()?))?;
@@ -59,7 +61,8 @@ fn add_formals(
     alloc: Global,
     formals: &mut Vec<Formal>,
 ) -> Result<(), AllocError>
-    ensures { OnOk result (map formal_of formals.new.items ≡ map formal_of formals.old.items ++ section_formals (section_of section.now)) }
+    ensures { OnOk result (map formal_of formals.new.items ≡ map formal_of formals.old.items ++ section_formals
+        (section_of section.now)) }
 {
     match section {
         Section::Value { count, ty } => add_values(*count, ty, formals),
@@ -87,7 +90,7 @@ pub fn formals_of(sections: &[Section], alloc: Global) -> Result<Vec<Formal>, Al
     Ok(formals)
 }
 
-/// The number of the entry behind this one, where there may be one.
+/// The number of the entry after this one, if there may be one.
 fn entry_behind(entry: u32, at: u32) -> Result<u32, Fault>
     ensures { Answers result (λ next. next) (some_or Limit at (one_more entry)) }
 {
@@ -100,7 +103,8 @@ fn entry_behind(entry: u32, at: u32) -> Result<u32, Fault>
 /// One more value or variable parameter.
 #[tactic(auto, unfolding(ps_check_names::specs::Views::meaning_of))]
 fn add_parameter(ty: &Ty, entry: u32, known: &mut Vec<Meaning>, at: u32) -> Result<u32, Fault>
-    ensures { Answers result (λ next. entries_of next known.new.items) (add_entry at (λ i. ParameterMeaning i (type_of ty.now)) (entries_of entry known.old.items)) }
+    ensures { Answers result (λ next. entries_of next known.new.items)
+        (add_entry at (λ i. ParameterMeaning i (type_of ty.now)) (entries_of entry known.old.items)) }
 {
     let next = entry_behind(entry, at)?;
     known.push(Meaning::Parameter {
@@ -110,7 +114,7 @@ fn add_parameter(ty: &Ty, entry: u32, known: &mut Vec<Meaning>, at: u32) -> Resu
     Ok(next)
 }
 
-/// Parameters of one type.
+/// Parameters of the same type.
 fn add_parameters(
     ty: &Ty,
     count: u32,
@@ -118,7 +122,8 @@ fn add_parameters(
     known: &mut Vec<Meaning>,
     at: u32,
 ) -> Result<u32, Fault>
-    ensures { Answers result (λ next. entries_of next known.new.items) (add_parameters at (type_of ty.now) count (entries_of entry known.old.items)) }
+    ensures { Answers result (λ next. entries_of next known.new.items)
+        (add_parameters at (type_of ty.now) count (entries_of entry known.old.items)) }
 {
     let mut next = entry;
     for _ in 0..count {
@@ -135,7 +140,8 @@ fn add_section(
     known: &mut Vec<Meaning>,
     at: u32,
 ) -> Result<u32, Fault>
-    ensures { Answers result (λ next. entries_of next known.new.items) (add_section at (entries_of entry known.old.items) (section_of section.now)) }
+    ensures { Answers result (λ next. entries_of next known.new.items)
+        (add_section at (entries_of entry known.old.items) (section_of section.now)) }
 {
     match section {
         Section::Value { count, ty } | Section::Variable { count, ty } => {
@@ -154,15 +160,16 @@ fn add_section(
     }
 }
 
-/// The meanings of the formal parameters, whose entries begin with this one, and the entry behind them. `at` is where
-/// a fault is told.
+/// The meanings of the formal parameters, whose entries begin with this one, and the entry after them. `at` is where a
+/// fault is reported.
 pub fn add_sections(
     sections: &[Section],
     entry: u32,
     known: &mut Vec<Meaning>,
     at: u32,
 ) -> Result<u32, Fault>
-    ensures { Answers result (λ next. entries_of next known.new.items) (add_sections at (entries_of entry known.old.items) (sections_of sections.now)) }
+    ensures { Answers result (λ next. entries_of next known.new.items)
+        (add_sections at (entries_of entry known.old.items) (sections_of sections.now)) }
 {
     let mut next = entry;
     for section in sections {

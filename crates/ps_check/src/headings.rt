@@ -47,7 +47,7 @@ fn heading_list(written: &HeadingDenoter) -> &[Section]
     }
 }
 
-/// Whether it is a procedure's heading with the name alone.
+/// Whether it is a procedure's heading with only the name.
 #[tactic(auto, using(crate::proofs::Equations::bare_Procedure, crate::proofs::Equations::bare_Function))]
 pub fn is_bare(written: &HeadingDenoter) -> bool
     ensures { result ≡ is_bare written.now }
@@ -65,7 +65,8 @@ fn add_spellings(
     names: &mut Vec<Vec<u8>>,
     points: &[Span],
 ) -> Result<(), AllocError>
-    ensures { OnOk result (map (λ name. name.items) names.new.items ≡ map (λ name. name.items) names.old.items ++ map (spelled reading.now.source.now) points.now) }
+    ensures { OnOk result (map (λ name. name.items) names.new.items ≡ map (λ name. name.items) names.old.items ++ map
+        (spelled reading.now.source.now) points.now) }
 {
     for point in points {
         names.push(reading.name(alloc, *point)?)?;
@@ -82,7 +83,9 @@ fn add_names(
     known: &[Meaning],
     names: &mut Vec<Vec<u8>>,
 ) -> Result<(), AllocError>
-    ensures { OnOk result (map (λ name. name.items) names.new.items ≡ map (λ name. name.items) names.old.items ++ map (spelled frame.now.reading.now.source.now) (section_points (frame_of frame.now) (map meaning_of known.now) written.now)) }
+    ensures { OnOk result (map (λ name. name.items) names.new.items ≡ map (λ name. name.items) names.old.items ++ map
+        (spelled frame.now.reading.now.source.now)
+        (section_points (frame_of frame.now) (map meaning_of known.now) written.now)) }
 {
     let _known = known;
     match written {
@@ -104,7 +107,9 @@ fn parameter_names(
     alloc: Global,
     known: &[Meaning],
 ) -> Result<Vec<Vec<u8>>, AllocError>
-    ensures { IfOk result (λ names. map (λ name. name.items) names.items ≡ map (spelled frame.now.reading.now.source.now) (all (map (section_points (frame_of frame.now) (map meaning_of known.now)) list.now))) }
+    ensures { IfOk result (λ names. map (λ name. name.items) names.items ≡ map
+        (spelled frame.now.reading.now.source.now)
+        (all (map (section_points (frame_of frame.now) (map meaning_of known.now)) list.now))) }
 {
     let mut names = Vec::new(alloc);
     for written in list {
@@ -115,7 +120,8 @@ fn parameter_names(
 
 /// The number of the next routine, of at most 1,048,576.
 fn next_number(gathered: &Gathered, at: u32) -> Result<u32, Fault>
-    ensures { Answers result (λ number. number) (provided (nat_lt (length gathered.now.routines.items) 1048576) Limit at (length gathered.now.routines.items)) }
+    ensures { Answers result (λ number. number)
+        (provided (nat_lt (length gathered.now.routines.items) 1048576) Limit at (length gathered.now.routines.items)) }
 {
     if gathered.routines.len() < 1_048_576 {
         Ok(gathered.routines.len() as u32)
@@ -124,7 +130,7 @@ fn next_number(gathered: &Gathered, at: u32) -> Result<u32, Fault>
     }
 }
 
-/// The meaning of the name of a routine, whose heading says this.
+/// The meaning of the name of a routine whose heading has this content.
 #[tactic(auto, using(ps_check_declarations::proofs::HeadingLemmas::list_of_sections), unfolding(ps_check_names::specs::Views::meaning_of))]
 fn routine_meaning(
     written: &HeadingDenoter,
@@ -135,7 +141,18 @@ fn routine_meaning(
     alloc: Global,
     known: &[Meaning],
 ) -> Result<Meaning, AllocError>
-    ensures { IfOk result (λ meaning. meaning_of meaning ≡ RoutineMeaning (record { number = number; at = (heading_name written.now).from; sections = section_list (signature_of signature).0; result = (signature_of signature).1; names = map (spelled frame.now.reading.now.source.now) (all (map (section_points (frame_of frame.now) (map meaning_of known.now)) (heading_list written.now))); is_forward = is_forward })) }
+    ensures { IfOk result (λ meaning. meaning_of meaning ≡ RoutineMeaning
+        (record {
+          number = number;
+          at = (heading_name written.now).from;
+          sections = section_list
+              (signature_of signature).0;
+          result = (signature_of signature).1;
+          names = map
+              (spelled frame.now.reading.now.source.now)
+              (all (map (section_points (frame_of frame.now) (map meaning_of known.now)) (heading_list written.now)));
+          is_forward = is_forward;
+        })) }
 {
     let Signature { sections, result } = signature;
     let names = parameter_names(heading_list(written), frame, alloc, known)?;
@@ -159,7 +176,8 @@ pub fn new_heading(
     local: &mut Local,
     gathered: &mut Gathered,
 ) -> Result<(), Fault>
-    ensures { Answers result (λ _. routines_of local.new gathered.new) (new_heading (frame_of frame.now) is_forward (routines_of local.old gathered.old) written.now) }
+    ensures { Answers result (λ _. routines_of local.new gathered.new)
+        (new_heading (frame_of frame.now) is_forward (routines_of local.old gathered.old) written.now) }
 {
     let number = next_number(gathered, heading_name(written).from)?;
     let hidden = Hidden::Nothing;

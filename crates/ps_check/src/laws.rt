@@ -1,4 +1,4 @@
-//! Laws of the definitions: what a block's region is, apart from how it is come to.
+//! Laws of the definitions: what a block's region is, apart from how it is computed.
 
 ghost use Rattle.ps_check.specs.RegionNames.{NamesArePoints};
 ghost use Rattle.ps_check.specs.Paths.{BlocksAreEnclosed};

@@ -8,7 +8,8 @@ ghost use Rattle.ps_check_judgement.specs.declared.refusal.Rule.TheVariants.{Lim
 ghost use Rattle.ps_check_names.specs.Spelling.{has};
 ghost use Rattle.ps_check_names.specs.Regions.{BlockRegion, FileMeaning};
 ghost use Rattle.ps_check_names.specs.Views.{meaning_of};
-ghost use Rattle.ps_check.specs.Programs.{required, add_required, add_all_required, file_named, list_file, no_files, assembled, program_routine, program_of};
+ghost use Rattle.ps_check.specs.Programs.{required, add_required, add_all_required, file_named, list_file, no_files};
+ghost use Rattle.ps_check.specs.Programs.{assembled, program_routine, program_of};
 ghost use Rattle.ps_check.specs.declared.state.Gathered.{Gathered};
 ghost use Rattle.ps_check.specs.Views.{standard_meaning, files_of, finished_of, gathered_of, done_of};
 
@@ -27,7 +28,7 @@ use ps_tree::tree::Routine;
 use ps_tree::types::Ty;
 use std::alloc::{AllocError, Global};
 
-/// What a required name stands for.
+/// What a required name denotes.
 #[derive(Clone, Copy)]
 enum Standard {
     Type(ps_tree::types::Ordinal),
@@ -78,7 +79,7 @@ const REQUIRED: [(&[u8], Standard); 38] = [
     (b"dispose", Standard::LeftOut),
 ];
 
-/// What a required name stands for, to be kept.
+/// What a required name denotes, to be kept.
 #[tactic(auto, unfolding(crate::specs::Views::standard_meaning, ps_check_names::specs::Views::meaning_of, ps_tree::specs::View::type_of))]
 fn meaning(standard: Standard) -> Meaning
     ensures { meaning_of result ≡ standard_meaning standard }
@@ -91,14 +92,14 @@ fn meaning(standard: Standard) -> Meaning
     }
 }
 
-/// Names with what they stand for.
+/// Names with what they denote.
 #[derive(Drop)]
 pub struct Files {
     pub names: Names,
     pub known: Vec<Meaning>,
 }
 
-/// One more name, unless it is there.
+/// One more name, unless it is present.
 #[tactic(auto, unfolding(crate::specs::Programs::add_required))]
 fn add_required(
     alloc: Global,
@@ -106,7 +107,8 @@ fn add_required(
     name: &[u8],
     standard: Standard,
 ) -> Result<(), AllocError>
-    ensures { OnOk result (files_of region.new ≡ add_required (files_of region.old) (name.now, standard_meaning standard)) }
+    ensures { OnOk result (files_of region.new ≡ add_required (files_of region.old)
+        (name.now, standard_meaning standard)) }
 {
     let spelling = Vec::from_slice(alloc, name)?;
     if region.names.add(spelling)? {
@@ -121,7 +123,8 @@ fn add_all_required(
     region: &mut Files,
     mut table: &[(&[u8], Standard)],
 ) -> Result<(), AllocError>
-    ensures { OnOk result (files_of region.new ≡ add_all_required (files_of region.old) (map (λ e. (e.0.now, standard_meaning e.1)) table.entry.now)) }
+    ensures { OnOk result (files_of region.new ≡ add_all_required (files_of region.old)
+        (map (λ e. (e.0.now, standard_meaning e.1)) table.entry.now)) }
 {
     while let [entry, rest @ ..] = table {
         add_required(alloc, region, entry.0, entry.1)?;
@@ -155,10 +158,16 @@ fn file_named(name: &[u8], at: u32) -> Result<File, Fault>
     }
 }
 
-/// One more file, whose name at an offset is new.
+/// One more file, whose name, at an offset, is new.
 #[tactic(auto, unfolding(ps_check_names::specs::Views::meaning_of))]
 fn add_file(files: &mut Files, name: Vec<u8>, file: File, at: u32) -> Result<(), Fault>
-    ensures { Answers result (λ _. files_of files.new) (provided (not (has files.old.names name.items)) Twice at (record { names = files.old.names ++ name.items ∷ []; known = map meaning_of files.old.known.items ++ FileMeaning file ∷ [] })) }
+    ensures { Answers result (λ _. files_of files.new)
+        (provided (not (has files.old.names name.items)) Twice at
+        (record {
+          names = files.old.names ++ name.items ∷ [];
+          known = map meaning_of files.old.known.items
+              ++ FileMeaning file ∷ [];
+        })) }
 {
     if !files.names.add(name)? {
         return Err(broken(Rule::Twice, at));
@@ -180,7 +189,8 @@ fn list_file(reading: &Reading, alloc: Global, files: &mut Files, at: Span) -> R
 /// The files that a program heading lists.
 #[tactic(auto, using(ps_check_judgement::proofs::Lists::stepped_start, ps_check_judgement::proofs::Lists::stepped_next, ps_check_judgement::proofs::Lists::stepped_fault, ps_check_judgement::proofs::Lists::stepped_end))]
 pub fn list_files(reading: &Reading, alloc: Global, parameters: &[Span]) -> Result<Files, Fault>
-    ensures { Answers result (λ files. files_of files) (steps (list_file reading.now.source.now) no_files parameters.now) }
+    ensures { Answers result (λ files. files_of files)
+        (steps (list_file reading.now.source.now) no_files parameters.now) }
 {
     let mut files = Files {
         names: Names::new(alloc),
@@ -192,13 +202,14 @@ pub fn list_files(reading: &Reading, alloc: Global, parameters: &[Span]) -> Resu
     Ok(files)
 }
 
-/// The routines by their numbers, where each has its block. The program's name is at `at`.
+/// The routines by their numbers, if each has its block. The program's name is at `at`.
 fn all_routines(
     alloc: Global,
     gathered: Vec<Option<Finished>>,
     at: u32,
 ) -> Result<Vec<Routine>, Fault>
-    ensures { Answers result (λ routines. map routine_of routines.items) (traverse (some_or Limit at) (map finished_of gathered.items)) }
+    ensures { Answers result (λ routines. map routine_of routines.items)
+        (traverse (some_or Limit at) (map finished_of gathered.items)) }
 {
     let mut routines = Vec::new(alloc);
     for finished in gathered {
@@ -210,7 +221,7 @@ fn all_routines(
     Ok(routines)
 }
 
-/// The program of these parts, where each routine has its block, and it keeps the limits. The program's name is at `at`.
+/// The program of these parts, if each routine has its block and it keeps the limits. The program's name is at `at`.
 #[tactic(auto, using(crate::proofs::Collected::limited_is), unfolding(crate::specs::Programs::assembled))]
 fn assembled(alloc: Global, gathered: Gathered, at: u32) -> Result<Checked, Fault>
     ensures { Answers result (λ checked. program_in checked) (assembled at (gathered_of gathered)) }

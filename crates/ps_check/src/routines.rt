@@ -11,7 +11,8 @@ ghost use Rattle.ps_check_declarations.specs.Points.{add_name};
 ghost use Rattle.ps_check_declarations.specs.Views.{frame_of};
 ghost use Rattle.ps_check.specs.Forwards.{add_routine, add_routines, is_open, is_waiting, one_complete, all_complete};
 ghost use Rattle.ps_check.specs.Entries.{start, add_sections, add_names, first_entry};
-ghost use Rattle.ps_check.specs.Blocks.{known_as, unheaded, headed, introduce, introduced, heading_at, routine_tree, is_small_routine, finished, routine};
+ghost use Rattle.ps_check.specs.Blocks.{known_as, unheaded, headed, introduce, introduced, heading_at, routine_tree};
+ghost use Rattle.ps_check.specs.Blocks.{is_small_routine, finished, routine};
 ghost use Rattle.ps_check.specs.declared.state.Gathered.{Gathered};
 ghost use Rattle.ps_check.specs.Views.{finished_of, gathered_of, routines_of, entries_of, start_of, done_of};
 
@@ -42,7 +43,7 @@ pub fn routine_name(written: &Routine) -> Span
     }
 }
 
-/// The name of a routine, unless it is there already; a heading defines it.
+/// Adds the name of a routine unless it is present; a heading defines it.
 #[tactic(auto, using(crate::proofs::Equations::routine_Whole, crate::proofs::Equations::routine_Forward, crate::proofs::Equations::routine_Completion), unfolding(crate::specs::Forwards::add_routine))]
 fn add_routine(
     reading: &Reading,
@@ -50,7 +51,8 @@ fn add_routine(
     names: &mut Names,
     written: &Routine,
 ) -> Result<(), AllocError>
-    ensures { OnOk result (names.new ≡ add_routine reading.now.source.now names.old (routine (context_of reading.now) written.now)) }
+    ensures { OnOk result (names.new ≡ add_routine reading.now.source.now names.old
+        (routine (context_of reading.now) written.now)) }
 {
     match written {
         Routine::Completion(..) => Ok(()),
@@ -61,7 +63,7 @@ fn add_routine(
     }
 }
 
-/// The names of a block's routines, behind those that are there.
+/// The names of a block's routines, after those that are there.
 #[tactic(auto, using(crate::proofs::Lists::headed_start, crate::proofs::Lists::headed_next, crate::proofs::Lists::headed_end))]
 pub fn add_routines(
     reading: &Reading,
@@ -69,7 +71,8 @@ pub fn add_routines(
     names: &mut Names,
     list: &[Routine],
 ) -> Result<(), AllocError>
-    ensures { OnOk result (names.new ≡ add_routines reading.now.source.now names.old (map (routine (context_of reading.now)) list.now)) }
+    ensures { OnOk result (names.new ≡ add_routines reading.now.source.now names.old
+        (map (routine (context_of reading.now)) list.now)) }
 {
     for written in list {
         add_routine(reading, alloc, names, written)?;
@@ -77,14 +80,15 @@ pub fn add_routines(
     Ok(())
 }
 
-/// What a name of the block stands for, if that is known.
+/// What a name of the block denotes, if that is known.
 fn known_as<'k>(
     frame: &Frame,
     alloc: Global,
     known: &'k [Meaning],
     name: Span,
 ) -> Result<Option<&'k Meaning>, AllocError>
-    ensures { IfOk result (λ found. option_map (λ m. meaning_of m.now) found ≡ known_as (frame_of frame.now) (map meaning_of known.now) (spelled frame.now.reading.now.source.now name)) }
+    ensures { IfOk result (λ found. option_map (λ m. meaning_of m.now) found ≡ known_as (frame_of frame.now)
+        (map meaning_of known.now) (spelled frame.now.reading.now.source.now name)) }
 {
     let spelling = frame.reading.spelling(alloc, name)?;
     match frame.names.find(spelling.as_slice()) {
@@ -103,10 +107,11 @@ fn is_open(gathered: &Gathered, heading: &Heading) -> bool
     }
 }
 
-/// Whether the meaning is that of a forward heading without its block, which the routine completes.
+/// Whether the meaning is that of a forward heading that lacks its block, and the routine completes it.
 #[tactic(auto, using(crate::proofs::Equations::routine_Whole, crate::proofs::Equations::routine_Forward, crate::proofs::Equations::routine_Completion), unfolding(crate::specs::Forwards::is_waiting, ps_check_names::specs::Views::meaning_of))]
 fn is_waiting(gathered: &Gathered, written: &Routine, meaning: &Meaning) -> bool
-    ensures { (c : Context) → result ≡ is_waiting (gathered_of gathered.now) (routine c written.now) (meaning_of meaning.now) }
+    ensures { (c : Context) → result ≡ is_waiting (gathered_of gathered.now) (routine c written.now)
+        (meaning_of meaning.now) }
 {
     match meaning {
         Meaning::Routine(heading) => {
@@ -164,9 +169,10 @@ pub fn all_complete(gathered: &Gathered, known: &[Meaning]) -> Result<(), Fault>
     Ok(())
 }
 
-/// The refusal of `function` with a name that is none of a forward heading.
+/// The refusal of `function` with a name that is not that of a forward heading.
 fn unheaded(frame: &Frame, alloc: Global, name: Span) -> Result<Rule, AllocError>
-    ensures { IfOk result (λ rule. rule ≡ (if has frame.now.names.now (spelled frame.now.reading.now.source.now name) then UsedBefore else Unknown)) }
+    ensures { IfOk result (λ rule. rule ≡ (if has frame.now.names.now (spelled frame.now.reading.now.source.now name)
+        then UsedBefore else Unknown)) }
 {
     let spelling = frame.reading.spelling(alloc, name)?;
     Ok(if frame.names.contains(spelling.as_slice()) {
@@ -185,7 +191,9 @@ fn add_heading(
     local: &mut Local,
     gathered: &mut Gathered,
 ) -> Result<(), Fault>
-    ensures { Answers result (λ _. routines_of local.new gathered.new) (introduce (frame_of frame.now) (routine (context_of frame.now.reading.now) written.now) (routines_of local.old gathered.old) None) }
+    ensures { Answers result (λ _. routines_of local.new gathered.new)
+        (introduce (frame_of frame.now) (routine (context_of frame.now.reading.now) written.now)
+        (routines_of local.old gathered.old) None) }
 {
     match written {
         Routine::Whole(heading, _) => new_heading(heading, false, frame, alloc, local, gathered),
@@ -197,7 +205,7 @@ fn add_heading(
     }
 }
 
-/// Whether a routine completes a forward heading, where its name is known.
+/// Whether a routine completes a forward heading, if its name is known.
 fn completes(
     written: &Routine,
     frame: &Frame,
@@ -205,7 +213,10 @@ fn completes(
     known: &[Meaning],
     gathered: &Gathered,
 ) -> Result<Option<bool>, AllocError>
-    ensures { IfOk result (λ waits. (c : Context) → waits ≡ option_map (is_waiting (gathered_of gathered.now) (routine c written.now)) (known_as (frame_of frame.now) (map meaning_of known.now) (spelled frame.now.reading.now.source.now (routine c written.now).name))) }
+    ensures { IfOk result (λ waits. (c : Context) → waits ≡ option_map
+        (is_waiting (gathered_of gathered.now) (routine c written.now))
+        (known_as (frame_of frame.now) (map meaning_of known.now)
+        (spelled frame.now.reading.now.source.now (routine c written.now).name))) }
 {
     match known_as(frame, alloc, known, routine_name(written))? {
         None => Ok(None),
@@ -221,7 +232,9 @@ pub fn introduce(
     local: &mut Local,
     gathered: &mut Gathered,
 ) -> Result<(), Fault>
-    ensures { Answers result (λ _. routines_of local.new gathered.new) (introduced (frame_of frame.now) (routine (context_of frame.now.reading.now) written.now) (routines_of local.old gathered.old)) }
+    ensures { Answers result (λ _. routines_of local.new gathered.new)
+        (introduced (frame_of frame.now) (routine (context_of frame.now.reading.now) written.now)
+        (routines_of local.old gathered.old)) }
 {
     match completes(written, frame, alloc, &local.known, gathered)? {
         Some(true) => Ok(()),
@@ -238,7 +251,9 @@ pub fn heading_of_routine<'k>(
     known: &'k [Meaning],
     name: Span,
 ) -> Result<&'k Heading, Fault>
-    ensures { Answers result (λ heading. heading_of heading.now) (heading_at name.from (known_as (frame_of frame.now) (map meaning_of known.now) (spelled frame.now.reading.now.source.now name))) }
+    ensures { Answers result (λ heading. heading_of heading.now)
+        (heading_at name.from (known_as (frame_of frame.now) (map meaning_of known.now)
+        (spelled frame.now.reading.now.source.now name))) }
 {
     match known_as(frame, alloc, known, name)? {
         Some(Meaning::Routine(heading)) => Ok(heading),
@@ -246,7 +261,7 @@ pub fn heading_of_routine<'k>(
     }
 }
 
-/// One more name, unless it is there.
+/// One more name, unless it is present.
 fn add_name(names: &mut Names, name: &[u8], alloc: Global) -> Result<(), AllocError>
     ensures { OnOk result (names.new ≡ add_name names.old name.now) }
 {
@@ -266,11 +281,13 @@ fn names_of(list: &[Vec<u8>], alloc: Global) -> Result<Names, AllocError>
     Ok(names)
 }
 
-/// The names of a heading's formal parameters with what they stand for, and the entry behind theirs. The routine's name is
+/// The names of a heading's formal parameters with what they denote, and the entry after theirs. The routine's name is
 /// at `at`.
 fn parameters(heading: &Heading, alloc: Global, at: u32) -> Result<Start, Fault>
     ensures names { IfOk result (λ s. s.names ≡ add_names [] (heading_of heading.now).names) }
-    ensures entries { Answers result (λ s. entries_of s.first s.known.items) (add_sections at (entries_of (first_entry (heading_of heading.now).result) []) (heading_of heading.now).sections) }
+    ensures entries { Answers result (λ s. entries_of s.first s.known.items)
+        (add_sections at (entries_of (first_entry (heading_of heading.now).result) [])
+        (heading_of heading.now).sections) }
 {
     let names = names_of(&heading.names, alloc)?;
     let mut known = Vec::new(alloc);
@@ -297,7 +314,7 @@ pub fn start(
     paired(inner, parameters(heading, alloc, at))
 }
 
-/// Puts an item to its place, where there is one.
+/// Puts an item in its place, if there is one.
 fn put_at<A: Drop>(list: &mut Vec<A>, index: usize, item: A)
     ensures { list.new.items ≡ slice_set list.old.items index item }
 {
@@ -306,10 +323,11 @@ fn put_at<A: Drop>(list: &mut Vec<A>, index: usize, item: A)
     }
 }
 
-/// Puts a routine to its number.
+/// Puts a routine at its number.
 pub fn put(gathered: &mut Gathered, number: u32, routine: Finished)
     ensures domains { gathered.new.domains ≡ gathered.old.domains }
-    ensures routines { map finished_of gathered.new.routines.items ≡ slice_set (map finished_of gathered.old.routines.items) number (Some (routine_of routine.routine)) }
+    ensures routines { map finished_of gathered.new.routines.items ≡ slice_set
+        (map finished_of gathered.old.routines.items) number (Some (routine_of routine.routine)) }
 {
     put_at(&mut gathered.routines, number as usize, Some(routine));
 }
@@ -322,7 +340,8 @@ fn routine_tree(
     block: Done,
     alloc: Global,
 ) -> Result<Finished, AllocError>
-    ensures { IfOk result (λ finished. (g : Gathered) → routine_of finished.routine ≡ routine_tree chain (heading_of heading.now) (done_of block g)) }
+    ensures { IfOk result (λ finished. (g : Gathered) → routine_of finished.routine ≡ routine_tree chain
+        (heading_of heading.now) (done_of block g)) }
 {
     let (formals, result) = paired(
         formals_of(&heading.sections, alloc),
@@ -348,9 +367,15 @@ fn is_small(routine: &RoutineTree) -> bool
     routine.cells() <= 100_000 && routine.nodes() <= 4_194_304
 }
 
-/// Puts a routine to its number, where it keeps the limits. Its name is at `at`.
+/// Puts a routine at its number, if it keeps the limits. Its name is at `at`.
 fn put_small(gathered: &mut Gathered, number: u32, routine: Finished, at: u32) -> Result<(), Fault>
-    ensures { Answers result (λ _. gathered_of gathered.new) (provided (is_small_routine (routine_of routine.routine)) Limit at (record { domains = map type_of gathered.old.domains.items; routines = slice_set (map finished_of gathered.old.routines.items) number (Some (routine_of routine.routine)) })) }
+    ensures { Answers result (λ _. gathered_of gathered.new)
+        (provided (is_small_routine (routine_of routine.routine)) Limit at
+        (record {
+          domains = map type_of gathered.old.domains.items;
+          routines = slice_set
+              (map finished_of gathered.old.routines.items) number (Some (routine_of routine.routine));
+        })) }
 {
     if is_small(&routine.routine) {
         put(gathered, number, routine);
@@ -361,7 +386,7 @@ fn put_small(gathered: &mut Gathered, number: u32, routine: Finished, at: u32) -
     }
 }
 
-/// The routine of a heading and a block is whole. Its name is at `at`.
+/// The routine of a heading and a block is complete. Its name is at `at`.
 #[tactic(auto, unfolding(crate::specs::Blocks::finished))]
 pub fn finish(
     heading: &Heading,
@@ -371,7 +396,8 @@ pub fn finish(
     alloc: Global,
     at: u32,
 ) -> Result<(), Fault>
-    ensures { Answers result (λ _. gathered_of gathered.new) (finished at (heading_of heading.now) chain (done_of block gathered.old)) }
+    ensures { Answers result (λ _. gathered_of gathered.new)
+        (finished at (heading_of heading.now) chain (done_of block gathered.old)) }
 {
     if !assigns(&heading.result, &block.changes) {
         drop(block);

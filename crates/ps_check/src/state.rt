@@ -1,4 +1,4 @@
-//! What is read so far.
+//! What has been read so far.
 
 use crate::chain::Finished;
 use ps_check_judgement::change::Change;
@@ -25,7 +25,7 @@ pub struct Start {
     pub first: u32,
 }
 
-/// What is known of a block so far: the meanings of its names, in the order of these, and what the routines in it change,
+/// What is known of a block so far: the meanings of its names, in the same order, and what the routines in it change,
 /// as the block sees it.
 #[derive(Drop)]
 pub struct Local {
@@ -33,8 +33,8 @@ pub struct Local {
     pub changes: Vec<Change>,
 }
 
-/// What a block gives: the types of its variables, its statements, the line of its `begin`, and what it and the routines
-/// within it change, as the block sees it.
+/// What a block gives: the types of its variables, its statements, the line of its `begin`, and what it and the
+/// routines within it change, as the block sees it.
 #[derive(Drop)]
 pub struct Done {
     pub variables: Vec<Ty>,

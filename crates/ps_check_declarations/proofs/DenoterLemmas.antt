@@ -1,5 +1,6 @@
 -- Loops over the parts of a type denoter.
-use Rattle.std.proofs.Common.{◌≡◌, ℕ, pos, suc, ◌+◌, ◌<◌, ◌≤◌, Bool, List, [], ◌∷◌, ◌++◌, length, drop, map, refl, sym, ap, ◌∙◌, arith, append_assoc}
+use Rattle.std.proofs.Common.{◌≡◌, ℕ, pos, suc, ◌+◌, ◌<◌, ◌≤◌, Bool, List, [], ◌∷◌, ◌++◌, length, drop, map, refl, sym}
+use Rattle.std.proofs.Common.{ap, ◌∙◌, arith, append_assoc}
 use Rattle.std.proofs.Math.Seq.{drop-cons}
 use Rattle.std.proofs.lemmas.List.{drop_all, append-nil}
 use Rattle.ps_text.specs.declared.Span.{Span}
@@ -11,7 +12,8 @@ use Rattle.ps_check_judgement.specs.declared.refusal.Fault.TheVariants.{OutOfMem
 use Rattle.ps_check_judgement.specs.Judged.{Judged, Yes, No, Told, ◌>>=◌}
 use Rattle.ps_check_names.specs.Regions.{Meaning, ConstantMeaning}
 use Rattle.ps_check_declarations.specs.Points.{Points, all, add_points}
-use Rattle.ps_check_declarations.specs.Denoters.{Frame, FieldsReading, Indices, FieldTypes, constants_from, array_of, small, fields_of_type, fields, section_names, record_names}
+use Rattle.ps_check_declarations.specs.Denoters.{Frame, FieldsReading, Indices, FieldTypes, constants_from, array_of}
+use Rattle.ps_check_declarations.specs.Denoters.{small, fields_of_type, fields, section_names, record_names}
 use Rattle.ps_check_declarations.proofs.Walks.{Walked, walked_end}
 
 -- the constants that are still to come
@@ -25,12 +27,14 @@ abbrev no_name : Span
 no_name = record { from = 0; to = 0 }
 
 module _ (o : Ordinal) (start : List Meaning) (names : Points) (i : ℕ) (done : List Meaning) where
-  pub values_next : (new : List Meaning) → i < length names → Values o start names i done → new ≡ done ++ ConstantMeaning o (pos i) ∷ [] → Values o start names (i + 1) new
+  pub values_next : (new : List Meaning) → i < length names → Values o start names i done → new ≡ done
+      ++ ConstantMeaning o (pos i) ∷ [] → Values o start names (i + 1) new
   values_next new lt v n = record {
     rest =
         ap (λ l. l ++ constants_from o (i + 1) (drop (i + 1) names)) n
         ∙ append_assoc done (ConstantMeaning o (pos i) ∷ []) (constants_from o (i + 1) (drop (i + 1) names))
-        ∙ (let e : i + 1 ≡ suc i = omega arith in ap (λ k. done ++ ConstantMeaning o (pos i) ∷ constants_from o (i + 1) (drop k names)) e)
+        ∙ (let e : i + 1 ≡ suc i = omega arith in ap (λ k. done ++ ConstantMeaning o (pos i) ∷ constants_from o (i + 1)
+        (drop k names)) e)
         ∙ ap (λ l. done ++ constants_from o i l) (sym (drop-cons names i no_name lt))
         ∙ v.rest;
   }
@@ -46,7 +50,8 @@ pub of_type_start : (type : DataType) (start : FieldTypes) (names : Points) → 
 of_type_start type start names = record { rest = refl }
 
 module _ (type : DataType) (start : FieldTypes) (names : Points) (i : ℕ) (done : FieldTypes) where
-  pub of_type_next : (new : FieldTypes) → i < length names → OfType type start names i done → new ≡ done ++ type ∷ [] → OfType type start names (i + 1) new
+  pub of_type_next : (new : FieldTypes) → i < length names → OfType type start names i done → new ≡ done ++ type ∷ []
+      → OfType type start names (i + 1) new
   of_type_next new lt v n = record {
     rest =
         ap (λ l. l ++ fields_of_type type (drop (i + 1) names)) n
@@ -57,23 +62,27 @@ module _ (type : DataType) (start : FieldTypes) (names : Points) (i : ℕ) (done
   }
 
   pub of_type_end : length names ≤ i → OfType type start names i done → done ≡ start ++ fields_of_type type names
-  of_type_end le v = sym (append-nil done) ∙ ap (λ l. done ++ fields_of_type type l) (sym (drop_all i names le)) ∙ v.rest
+  of_type_end le v = sym (append-nil done) ∙ ap (λ l. done ++ fields_of_type type l) (sym (drop_all i names le))
+      ∙ v.rest
 
--- arrays in one another, from the innermost out
-then_arrays : (packed : Bool) (i : ℕ × Ordinal) (xs : Indices) (type : DataType) → array_of packed (xs ++ i ∷ []) type ≡ (small i.0 (ArrayType i.0 packed i.1 type) >>= array_of packed xs)
+-- nested arrays, from the innermost out
+then_arrays : (packed : Bool) (i : ℕ × Ordinal) (xs : Indices) (type : DataType) → array_of packed (xs ++ i ∷ []) type
+    ≡ (small i.0 (ArrayType i.0 packed i.1 type) >>= array_of packed xs)
 unfolding array_of
 then_arrays packed i [] type = at (small i.0 (ArrayType i.0 packed i.1 type))
   where
     at : (o : Judged DataType) → o ≡ (o >>= (λ t. Yes t))
     at (No rule where_) = refl
     at (Yes t) = refl
-then_arrays packed i (x ∷ xs) type = ap (λ o. o >>= (λ t. small x.0 (ArrayType x.0 packed x.1 t))) (then_arrays packed i xs type) ∙ at (small i.0 (ArrayType i.0 packed i.1 type))
+then_arrays packed i (x ∷ xs) type = ap (λ o. o >>= (λ t. small x.0 (ArrayType x.0 packed x.1 t)))
+    (then_arrays packed i xs type) ∙ at (small i.0 (ArrayType i.0 packed i.1 type))
   where
-    at : (o : Judged DataType) → ((o >>= array_of packed xs) >>= (λ t. small x.0 (ArrayType x.0 packed x.1 t))) ≡ (o >>= (λ s. array_of packed xs s >>= (λ t. small x.0 (ArrayType x.0 packed x.1 t))))
+    at : (o : Judged DataType) → ((o >>= array_of packed xs) >>= (λ t. small x.0 (ArrayType x.0 packed x.1 t)))
+        ≡ (o >>= (λ s. array_of packed xs s >>= (λ t. small x.0 (ArrayType x.0 packed x.1 t))))
     at (No rule where_) = refl
     at (Yes s) = refl
 
--- the arrays of the indices xs are still to come round the type
+-- the arrays of the indices xs are still to come around the type
 pub record Inside (packed : Bool) (all : Indices) (component : DataType) (xs : Indices) (type : DataType) : Type 0 where
   pub rest : array_of packed all component ≡ array_of packed xs type
 
@@ -81,23 +90,33 @@ pub arrays_start : (packed : Bool) (all : Indices) (component : DataType) → In
 arrays_start packed all component = record { rest = refl }
 
 module _ (packed : Bool) (all : Indices) (component : DataType) (before xs : Indices) (at : ℕ) (o : Ordinal) (type : DataType) where
-  pub arrays_inside : (made : DataType) → before ≡ xs ++ (at, o) ∷ [] → small at (ArrayType at packed o type) ≡ Yes made → Inside packed all component before type → Inside packed all component xs made
-  arrays_inside made is e r = record { rest = r.rest ∙ ap (λ l. array_of packed l type) is ∙ then_arrays packed (at, o) xs type ∙ ap (λ o. o >>= array_of packed xs) e }
+  pub arrays_inside : (made : DataType) → before ≡ xs ++ (at, o) ∷ [] → small at (ArrayType at packed o type) ≡ Yes made
+      → Inside packed all component before type → Inside packed all component xs made
+  arrays_inside made is e r = record {
+    rest = r.rest ∙ ap (λ l. array_of packed l type) is ∙ then_arrays packed (at, o) xs type
+        ∙ ap (λ o. o >>= array_of packed xs) e;
+  }
 
-  pub arrays_fault : (fault : Fault) → before ≡ xs ++ (at, o) ∷ [] → Told fault (small at (ArrayType at packed o type)) → Inside packed all component before type → Told fault (array_of packed all component)
+  pub arrays_fault : (fault : Fault) → before ≡ xs ++ (at, o) ∷ [] → Told fault (small at (ArrayType at packed o type))
+      → Inside packed all component before type → Told fault (array_of packed all component)
   arrays_fault OutOfMemory is e r = e
-  arrays_fault (Broken rule where_) is e r = r.rest ∙ ap (λ l. array_of packed l type) is ∙ then_arrays packed (at, o) xs type ∙ ap (λ o. o >>= array_of packed xs) e
+  arrays_fault (Broken rule where_) is e r = r.rest ∙ ap (λ l. array_of packed l type) is ∙ then_arrays packed
+      (at, o) xs type ∙ ap (λ o. o >>= array_of packed xs) e
 
-pub arrays_done : (packed : Bool) (all : Indices) (component : DataType) (xs : Indices) (type : DataType) → Inside packed all component xs type → xs ≡ [] → array_of packed all component ≡ Yes type
+pub arrays_done : (packed : Bool) (all : Indices) (component : DataType) (xs : Indices) (type : DataType)
+    → Inside packed all component xs type → xs ≡ [] → array_of packed all component ≡ Yes type
 unfolding array_of
 arrays_done packed all component xs type r e = r.rest ∙ ap (λ l. array_of packed l type) e
 
 -- the names of all sections
-names_of_sections : (f : Frame) (xs : List Fields) → all (map (λ (x : FieldsReading). x.0) (map (fields f) xs)) ≡ all (map (section_names f) xs)
+names_of_sections : (f : Frame) (xs : List Fields) → all (map (λ (x : FieldsReading). x.0) (map (fields f) xs)) ≡ all
+    (map (section_names f) xs)
 unfolding section_names
 names_of_sections f [] = refl
 names_of_sections f (x ∷ xs) = ap (λ l. section_names f x ++ l) (names_of_sections f xs)
 
-pub names_end : (f : Frame) (xs : List Fields) (i : ℕ) (t : List (List ℕ)) → length xs ≤ i → Walked f.text (section_names f) [] xs i t → t ≡ record_names f (map (fields f) xs)
+pub names_end : (f : Frame) (xs : List Fields) (i : ℕ) (t : List (List ℕ)) → length xs ≤ i → Walked f.text
+    (section_names f) [] xs i t → t ≡ record_names f (map (fields f) xs)
 unfolding record_names
-names_end f xs i t le w = walked_end f.text (section_names f) [] xs i t le w ∙ ap (add_points f.text []) (sym (names_of_sections f xs))
+names_end f xs i t le w = walked_end f.text (section_names f) [] xs i t le w ∙ ap (add_points f.text [])
+    (sym (names_of_sections f xs))

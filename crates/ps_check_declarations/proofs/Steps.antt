@@ -14,15 +14,18 @@ module _ {S A B : Type 0} (f : S → B → Judged S) (g : A → B) (s : S) (xs :
     mapped_at : (x : A) → x ≡ get_or xs i x → g x ≡ get_or (map g xs) i (g x)
     mapped_at x e = sym (get_or-map g xs i x ∙ ap g (sym e))
 
-    pub mapped_next : (x : A) (u : S) → i < length xs → x ≡ get_or xs i x → Stepped f s (map g xs) i t → f t (g x) ≡ Yes u → Stepped f s (map g xs) (i + 1) u
+    pub mapped_next : (x : A) (u : S) → i < length xs → x ≡ get_or xs i x → Stepped f s (map g xs) i t → f t (g x)
+        ≡ Yes u → Stepped f s (map g xs) (i + 1) u
     mapped_next x u lt at r e =
         let n : i < length (map g xs) = omega (arith, length-map xs g) in
         stepped_next f s (map g xs) i t (g x) u n (mapped_at x at) r e
 
-    pub mapped_fault : (x : A) (e : Fault) → i < length xs → x ≡ get_or xs i x → Stepped f s (map g xs) i t → Told e (f t (g x)) → Told e (steps f s (map g xs))
+    pub mapped_fault : (x : A) (e : Fault) → i < length xs → x ≡ get_or xs i x → Stepped f s (map g xs) i t → Told e
+        (f t (g x)) → Told e (steps f s (map g xs))
     mapped_fault x e lt at r told =
         let n : i < length (map g xs) = omega (arith, length-map xs g) in
         stepped_fault f s (map g xs) i t (g x) e n (mapped_at x at) r told
 
     pub mapped_end : length xs ≤ i → Stepped f s (map g xs) i t → steps f s (map g xs) ≡ Yes t
-    mapped_end le r = let n : length (map g xs) ≤ i = omega (arith, length-map xs g) in stepped_end f s (map g xs) i t n r
+    mapped_end le r = let n : length (map g xs) ≤ i = omega (arith, length-map xs g) in stepped_end f s
+        (map g xs) i t n r

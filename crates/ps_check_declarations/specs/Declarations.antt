@@ -10,7 +10,8 @@ use Rattle.ps_check_judgement.specs.declared.refusal.Rule.{Rule}
 use Rattle.ps_check_judgement.specs.declared.refusal.Rule.TheVariants.{UsedBefore, Limit}
 use Rattle.ps_check_judgement.specs.Judged.{Judged, Yes, No, ◌>>=◌, some_or, steps}
 use Rattle.ps_check_names.specs.Spelling.{spelled}
-use Rattle.ps_check_names.specs.Regions.{Point, BlockPoint, Meaning, ConstantMeaning, TextMeaning, TypeMeaning, VariableMeaning, one_more}
+use Rattle.ps_check_names.specs.Regions.{Point, BlockPoint, Meaning, ConstantMeaning, TextMeaning, TypeMeaning}
+use Rattle.ps_check_names.specs.Regions.{VariableMeaning, one_more}
 use Rattle.ps_check_names.specs.Constants.{ConstantValue, OrdinalConstant, TextConstant, denoted, misplaced, constant}
 use Rattle.ps_check_declarations.specs.Points.{is_later}
 use Rattle.ps_check_declarations.specs.Denoters.{Frame, begin, within, Declared, with_known, regions, denoter}
@@ -25,20 +26,21 @@ unfoldable pub is_limit : Rule → Bool
 is_limit Limit = true
 is_limit _ = false
 
--- A limit that a definition passes where its denoter begins is told at the name that is defined.
+-- A limit that a definition exceeds where its denoter begins is reported at the name that is defined.
 unfoldable pub told_at_name : {A : Type 0} → (first name : ℕ) → Judged A → Judged A
 told_at_name first name (Yes a) = Yes a
 told_at_name first name (No rule at) = No rule (if is_limit rule && nat_eq at first then name else at)
 
 -- ---- domain types (6.4.4)
 
--- The domain type that a name denotes at the end of its part. What is no type was used before its point, where that stands behind the use.
+-- The domain type that a name denotes at the end of its part. If it is not a type, it was used before its point, where
+-- that comes after the use.
 unfoldable pub domain_at : (later : Bool) → (at : ℕ) → Point → Judged DataType
 domain_at later at (BlockPoint up (TypeMeaning type)) = Yes type
 domain_at later at p = if later then No UsedBefore at else misplaced at p
 
 module _ (f : Frame) where
-  -- a constant is known behind its definition
+  -- a constant is known after its definition
   unfoldable pub define_constant : Declared → ConstantDefinition → Judged Declared
   define_constant d c = do
     begun ← begin f d.known [] c.name
@@ -58,7 +60,7 @@ module _ (f : Frame) where
     type ← domain_at (is_later f.names waits.1 (spelled f.text waits.0)) waits.0.from point
     Yes (record { known = d.known; domains = d.domains ++ type ∷ []; pending = d.pending; variables = d.variables })
 
-  -- at the end of a part each domain type that is waited for is the type that its name denotes there
+  -- at the end of a part each pending domain type is the type that its name denotes there
   unfoldable pub resolve_domains : Declared → Judged Declared
   resolve_domains d = do
     e ← steps resolve_domain d d.pending
@@ -66,14 +68,20 @@ module _ (f : Frame) where
 
 -- ---- variables (6.5.1)
 
--- One more variable of a type, whose entry comes behind those of the result and the formal parameters, which are `first` in number.
+-- One more variable of a type, whose entry comes after those of the result and the formal parameters, which are `first`
+-- in number.
 abbrev pub declare_variable : ℕ → DataType → Declared → Span → Judged Declared
 declare_variable first type d name = do
   next ← some_or Limit name.from (one_more (first + length d.variables))
-  Yes (record { known = d.known ++ VariableMeaning (first + length d.variables) type ∷ []; domains = d.domains; pending = d.pending; variables = d.variables ++ type ∷ [] })
+  Yes (record {
+    known = d.known ++ VariableMeaning (first + length d.variables) type ∷ [];
+    domains = d.domains;
+    pending = d.pending;
+    variables = d.variables ++ type ∷ [];
+  })
 
 module _ (f : Frame) (first : ℕ) where
-  -- the names stand before the denoter, and are no types or constants
+  -- the names come before the denoter, and are not types or constants
   unfoldable pub declare_variables : Declared → Variables → Judged Declared
   declare_variables d v = do
     begun ← steps (begin f d.known) [] v.names
@@ -81,7 +89,8 @@ module _ (f : Frame) (first : ℕ) where
     steps (declare_variable first r.0) r.1 v.names
 
   -- the constants, types and variables of a block
-  unfoldable pub declarations : Declared → List ConstantDefinition → List TypeDefinition → List Variables → Judged Declared
+  unfoldable pub declarations : Declared → List ConstantDefinition → List TypeDefinition → List Variables
+      → Judged Declared
   declarations d cs ts vs = do
     a ← steps (define_constant f) d cs
     b ← steps (define_type f) a ts

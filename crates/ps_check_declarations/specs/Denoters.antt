@@ -1,5 +1,6 @@
 -- Type denoters (6.4): the type that each makes, and what it defines for its block.
-use Rattle.std.specs.Prelude.{ℕ, ◌+◌, ◌-◌, pos, int_le, Bool, true, false, ◌&&◌, List, [], ◌∷◌, ◌++◌, length, map, Option, Some, None, nat_lt, if◌then◌else◌}
+use Rattle.std.specs.Prelude.{ℕ, ◌+◌, ◌-◌, pos, int_le, Bool, true, false, ◌&&◌, List, [], ◌∷◌, ◌++◌, length, map}
+use Rattle.std.specs.Prelude.{Option, Some, None, nat_lt, if◌then◌else◌}
 use Rattle.ps_text.specs.declared.Span.{Span}
 use Rattle.ps_syntax.specs.First.{first_of_ordinal}
 use Rattle.ps_syntax.specs.declared.program.Ordinal as syntax
@@ -15,17 +16,19 @@ use Rattle.ps_tree.specs.declared.types.Host.TheVariants.{Enumeration}
 use Rattle.ps_tree.specs.declared.types.Ordinal.{Ordinal}
 use Rattle.ps_tree.specs.declared.types.Packing.{Packing}
 use Rattle.ps_tree.specs.declared.types.Packing.TheVariants.{Packed, Unpacked}
-use Rattle.ps_tree.specs.Types.{DataType, OrdinalType, PointerType, SetType, ArrayType, RecordType, field_list, listed, is_same_host}
+use Rattle.ps_tree.specs.Types.{DataType, OrdinalType, PointerType, SetType, ArrayType, RecordType, field_list, listed}
+use Rattle.ps_tree.specs.Types.{is_same_host}
 use Rattle.ps_tree.specs.Counts.{is_small}
 use Rattle.ps_check_judgement.specs.declared.refusal.Rule.TheVariants.{WrongType, BadSubrange, SetBase, Twice, Limit}
 use Rattle.ps_check_judgement.specs.Judged.{Judged, Yes, No, ◌>>=◌, provided, steps}
 use Rattle.ps_check_names.specs.Spelling.{spelled, place}
-use Rattle.ps_check_names.specs.Regions.{Region, BlockRegion, OwnNames, Point, BlockPoint, Meaning, ConstantMeaning, TypeMeaning, in_own}
+use Rattle.ps_check_names.specs.Regions.{Region, BlockRegion, OwnNames, Point, BlockPoint, Meaning, ConstantMeaning}
+use Rattle.ps_check_names.specs.Regions.{TypeMeaning, in_own}
 use Rattle.ps_check_names.specs.Constants.{ConstantValue, OrdinalConstant, denoted, misplaced, constant}
 use Rattle.ps_check_declarations.specs.Points.{Points, all, add_points, is_new, new_points}
 
--- Where the declarations of a block stand: the text, the number of the block's routine, the names of the block's region, those whose
--- definition is under way, and the regions outside the block.
+-- Where the declarations of a block are: the text, the number of the block's routine, the names of the block's region,
+-- those whose definition is in progress, and the regions outside the block.
 pub record Frame : Type 0 where
   pub text : List ℕ
   pub routine : ℕ
@@ -33,9 +36,9 @@ pub record Frame : Type 0 where
   pub begun : List (List ℕ)
   pub outer : List Region
 
--- What the declarations so far give: the meanings of the block's names, the domain types of the pointer types, the names of the domain types
--- of those pointer types that still wait for them, each with how many names of the block were known before it, and the types of the block's
--- variables.
+-- What the declarations so far give: the meanings of the block's names, the domain types of the pointer types, the
+-- names of the domain types still pending, each with the number of the block's names known before it, and the types of
+-- the block's variables.
 pub record Declared : Type 0 where
   pub known : List Meaning
   pub domains : List DataType
@@ -45,16 +48,17 @@ pub record Declared : Type 0 where
 abbrev pub with_known : Declared → List Meaning → Declared
 with_known d known = record { known = known; domains = d.domains; pending = d.pending; variables = d.variables }
 
--- one more definition under way
+-- one more definition in progress
 abbrev pub begin : Frame → List Meaning → (begun : List (List ℕ)) → Span → Judged (List (List ℕ))
-begin f known begun name = provided (is_new f.names begun (length known) (spelled f.text name)) Twice name.from (begun ++ spelled f.text name ∷ [])
+begin f known begun name = provided (is_new f.names begun (length known) (spelled f.text name)) Twice name.from
+    (begun ++ spelled f.text name ∷ [])
 
 -- a place within these definitions
 abbrev pub within : Frame → (begun : List (List ℕ)) → Frame
 within f begun = record { text = f.text; routine = f.routine; names = f.names; begun = begun; outer = f.outer }
 
--- What a place stands within: the denoters of records, the lists of formal parameters and the declaration of variables, from the inside
--- out, each by its names and how many of them stand before the place.
+-- What a place lies within: the denoters of records, the lists of formal parameters and the declaration of variables,
+-- from the inside out, each by its names and how many of them come before the place.
 abbrev pub Hidden : Type 0
 Hidden = List (List (List ℕ) × ℕ)
 
@@ -89,18 +93,29 @@ ordinal_at at _ = No WrongType at
 
 -- ---- ordinal types (6.4.2)
 
--- 6.4.2.3: the type with that many constants, which begins there; no text has 2147483648 names
+-- 6.4.2.3: the type with the given number of constants, which begins there; no text has 2147483648 names
 abbrev pub enumerated : (at count : ℕ) → Ordinal
-enumerated at count = record { host = Enumeration at (pos (count - 1)); subrange = None; low = pos 0; high = pos (count - 1) }
+enumerated at count = record {
+  host = Enumeration at (pos (count - 1));
+  subrange = None;
+  low = pos 0;
+  high = pos (count - 1);
+}
 
--- its constants, from one on
+-- its constants, from the given one on
 abbrev pub constants_from : Ordinal → ℕ → Points → List Meaning
 constants_from o n [] = []
 constants_from o n (at ∷ rest) = ConstantMeaning o (pos n) ∷ constants_from o (n + 1) rest
 
--- 6.4.2.4: two constants of one ordinal type, the second not below the first
+-- 6.4.2.4: two constants of the same ordinal type, the second not below the first
 unfoldable pub subrange : (at : ℕ) → ConstantValue → ConstantValue → Judged Ordinal
-subrange at (OrdinalConstant o m) (OrdinalConstant p n) = if is_same_host o.host p.host then provided (int_le m n) BadSubrange at (record { host = o.host; subrange = Some at; low = m; high = n }) else No WrongType at
+subrange at (OrdinalConstant o m) (OrdinalConstant p n) = if is_same_host o.host p.host then provided
+    (int_le m n) BadSubrange at (record {
+      host = o.host;
+      subrange = Some at;
+      low = m;
+      high = n;
+    }) else No WrongType at
 subrange at _ _ = No WrongType at
 
 -- the subrange of two constants, which begins at an offset
@@ -114,7 +129,8 @@ module _ (f : Frame) where
   abbrev pub enumeration : (at : ℕ) → Points → Declared → Judged (Ordinal × Declared)
   enumeration at names d = do
     count ← new_points f.text f.names f.begun (length d.known) names
-    provided (nat_lt (length names) 2147483648) Limit at (enumerated at (length names), with_known d (d.known ++ constants_from (enumerated at (length names)) 0 names))
+    provided (nat_lt (length names) 2147483648) Limit at
+        (enumerated at (length names), with_known d (d.known ++ constants_from (enumerated at (length names)) 0 names))
 
   unfoldable pub ordinal : Hidden → Declared → syntax.Ordinal → Judged (Ordinal × Declared)
   ordinal hidden d (o.Name at) = do
@@ -128,11 +144,19 @@ module _ (f : Frame) where
 
 -- ---- pointer types (6.4.4)
 
--- A pointer type waits for its domain type.
+-- The domain type of a pointer type is pending.
 abbrev pub waiting : Declared → Span → DataType × Declared
-waiting d domain = (PointerType (length d.domains + length d.pending), record { known = d.known; domains = d.domains; pending = d.pending ++ (domain, length d.known) ∷ []; variables = d.variables })
+waiting d domain = (
+  PointerType (length d.domains + length d.pending),
+  record {
+    known = d.known;
+    domains = d.domains;
+    pending = d.pending ++ (domain, length d.known) ∷ [];
+    variables = d.variables;
+  },
+)
 
--- The names within whose definitions it stands are no types.
+-- A name within whose definition it lies is not a type.
 abbrev pub pointer : Frame → Hidden → Declared → Span → Judged (DataType × Declared)
 pointer f hidden d domain = do
   free ← passes hidden (spelled f.text domain) domain.from
@@ -147,7 +171,7 @@ small at type = provided (is_small type) Limit at type
 abbrev pub packing_of : Bool → Packing
 packing_of packed = if packed then Packed else Unpacked
 
--- the `packed` before a structure, if there is one, and else its own first token
+-- the `packed` before a structure, if there is one, or else its own first token
 abbrev pub begins : Option ℕ → ℕ → ℕ
 begins None at = at
 begins (Some packed_at) at = packed_at
@@ -156,7 +180,8 @@ abbrev pub is_packed : Option ℕ → Bool
 is_packed None = false
 is_packed (Some packed_at) = true
 
--- Index types, each with the place where the array type of that index begins: the first array's, and of those within it their index's first token.
+-- Index types, each with the place where the array type of that index begins: that of the first array, and for those
+-- within it the first token of their index.
 abbrev pub Indices : Type 0
 Indices = List (ℕ × Ordinal)
 
@@ -167,33 +192,35 @@ index_begins at (i ∷ is) x = first_of_ordinal x
 abbrev pub index_type : Frame → Hidden → ℕ → Indices × Declared → syntax.Ordinal → Judged (Indices × Declared)
 index_type f hidden at s x = ordinal f hidden s.1 x >>= (λ r. Yes (s.0 ++ (index_begins at s.0 x, r.0) ∷ [], r.1))
 
--- 6.4.3.2: arrays in one another
+-- 6.4.3.2: nested arrays
 unfoldable pub array_of : Bool → Indices → DataType → Judged DataType
 array_of packed [] component = Yes component
-array_of packed (i ∷ rest) component = array_of packed rest component >>= (λ type. small i.0 (ArrayType i.0 packed i.1 type))
+array_of packed (i ∷ rest) component = array_of packed rest component
+    >>= (λ type. small i.0 (ArrayType i.0 packed i.1 type))
 
 -- 6.4.3.3: the types of the fields so far
 abbrev pub FieldTypes : Type 0
 FieldTypes = List DataType
 
--- of fields of one type, one for each name
+-- for fields of the same type, one for each name
 abbrev pub fields_of_type : DataType → Points → FieldTypes
 fields_of_type type names = map (λ at. type) names
 
--- 6.4.3.4: the ordinals of a set's base lie in 0..255. The word `set` stands at an offset of its own.
+-- 6.4.3.4: the ordinals of a set's base lie in 0..255. The offset of the word `set` is given separately.
 abbrev pub set_of : (word at : ℕ) → Bool → Ordinal → Judged DataType
-set_of word at packed o = provided (int_le (pos 0) o.low && int_le o.high (pos 255)) SetBase word (SetType (Some at) (packing_of packed) o)
+set_of word at packed o = provided (int_le (pos 0) o.low && int_le o.high (pos 255)) SetBase word
+    (SetType (Some at) (packing_of packed) o)
 
 -- ---- the denoters: each part gives a reading of the declarations before it
 
 abbrev pub Reading : Type 0
 Reading = Hidden → Declared → Judged (DataType × Declared)
 
--- of a structure, with the `packed` before it
+-- for a structure, with the `packed` before it
 abbrev pub StructureReading : Type 0
 StructureReading = Option ℕ → Reading
 
--- of fields, with their names
+-- for fields, with their names
 abbrev pub FieldsReading : Type 0
 FieldsReading = Points × Reading
 
@@ -201,8 +228,9 @@ module _ (f : Frame) where
   abbrev pub fields_step : Fields-F StructureReading Reading FieldsReading → FieldsReading
   fields_step x = (x.names, x.ty)
 
-  -- One more section of fields of a record that has these names. They stand before its type.
-  abbrev pub add_fields : List (List ℕ) → Hidden → FieldTypes × Declared → FieldsReading → Judged (FieldTypes × Declared)
+  -- One more section of fields of a record with these names. They come before its type.
+  abbrev pub add_fields : List (List ℕ) → Hidden → FieldTypes × Declared → FieldsReading → Judged
+      (FieldTypes × Declared)
   add_fields names hidden s x = do
     defined ← new_points f.text names [] (length s.0) x.0
     r ← x.1 ((names, defined) ∷ hidden) s.1
@@ -212,17 +240,20 @@ module _ (f : Frame) where
   unfoldable pub record_names : List FieldsReading → List (List ℕ)
   record_names xs = add_points f.text [] (all (map (λ x. x.0) xs))
 
-  unfoldable pub array_type : Option ℕ → Hidden → Declared → (at : ℕ) → List syntax.Ordinal → Reading → Judged (DataType × Declared)
+  unfoldable pub array_type : Option ℕ → Hidden → Declared → (at : ℕ) → List syntax.Ordinal → Reading → Judged
+      (DataType × Declared)
   array_type packed hidden d at indices component = do
     is ← steps (index_type f hidden (begins packed at)) ([], d) indices
     c ← component hidden is.1
     type ← array_of (is_packed packed) is.0 c.0
     Yes (type, c.1)
 
-  unfoldable pub record_type : Option ℕ → Hidden → Declared → (at : ℕ) → List FieldsReading → Judged (DataType × Declared)
+  unfoldable pub record_type : Option ℕ → Hidden → Declared → (at : ℕ) → List FieldsReading → Judged
+      (DataType × Declared)
   record_type packed hidden d at fields = do
     types ← steps (add_fields (record_names fields) hidden) ([], d) fields
-    type ← small (begins packed at) (RecordType (begins packed at) (is_packed packed) (field_list (record_names fields) (listed types.0)))
+    type ← small (begins packed at) (RecordType (begins packed at) (is_packed packed)
+        (field_list (record_names fields) (listed types.0)))
     Yes (type, types.1)
 
   unfoldable pub set_type : Option ℕ → Hidden → Declared → (at : ℕ) → syntax.Ordinal → Judged (DataType × Declared)
@@ -232,14 +263,17 @@ module _ (f : Frame) where
     Yes (type, o.1)
 
   unfoldable pub structure_step : Structure-F StructureReading Reading FieldsReading → StructureReading
-  structure_step (Structure-F.Array at indices component) packed hidden d = array_type packed hidden d at.from indices component
+  structure_step (Structure-F.Array at indices component) packed hidden d = array_type packed hidden d at.from indices
+      component
   structure_step (Structure-F.Record at fields) packed hidden d = record_type packed hidden d at.from fields
   structure_step (Structure-F.Set at base) packed hidden d = set_type packed hidden d at.from base
 
   unfoldable pub simple_type : Hidden → Declared → syntax.Ordinal → Judged (DataType × Declared)
   simple_type hidden d (o.Name at) = type_named f.text (regions f hidden d.known) at >>= (λ type. Yes (type, d))
-  simple_type hidden d (o.Enumeration at names) = ordinal f hidden d (o.Enumeration at names) >>= (λ r. Yes (OrdinalType r.0, r.1))
-  simple_type hidden d (o.Subrange low high) = ordinal f hidden d (o.Subrange low high) >>= (λ r. Yes (OrdinalType r.0, r.1))
+  simple_type hidden d (o.Enumeration at names) = ordinal f hidden d (o.Enumeration at names)
+      >>= (λ r. Yes (OrdinalType r.0, r.1))
+  simple_type hidden d (o.Subrange low high) = ordinal f hidden d (o.Subrange low high)
+      >>= (λ r. Yes (OrdinalType r.0, r.1))
 
   unfoldable pub type_step : TypeDenoter-F StructureReading Reading FieldsReading → Reading
   type_step (TypeDenoter-F.Ordinal x) hidden d = simple_type hidden d x

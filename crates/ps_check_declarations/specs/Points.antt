@@ -1,4 +1,5 @@
--- The defining points of a block's constants, types and variables (6.2.2.1), in the order in which their definitions end: a walk over the tree.
+-- The defining points of a block's constants, types and variables (6.2.2.1), in the order in which their definitions
+-- end: a walk over the tree.
 use Rattle.std.specs.Prelude.{ℕ, ◌+◌, Bool, if◌then◌else◌, not, ◌&&◌, List, [], ◌∷◌, ◌++◌, take, map}
 use Rattle.ps_text.specs.declared.Span.{Span}
 use Rattle.ps_syntax.specs.declared.program.Ordinal.{Ordinal}
@@ -53,7 +54,7 @@ structure_points = fold-Structure Points Points Points structure_points_step typ
 abbrev pub fields_points : Fields → Points
 fields_points = fold-Fields Points Points Points structure_points_step type_points_step fields_points_step
 
--- a definition ends behind the constants in it
+-- a definition ends after the constants in it
 unfoldable pub constant_points : ConstantDefinition → Points
 constant_points c = c.name ∷ []
 
@@ -64,7 +65,8 @@ unfoldable pub variables_points : Variables → Points
 variables_points v = type_points v.ty ++ v.names
 
 unfoldable pub block_points : List ConstantDefinition → List TypeDefinition → List Variables → Points
-block_points cs ts vs = (all (map constant_points cs) ++ all (map definition_points ts)) ++ all (map variables_points vs)
+block_points cs ts vs = (all (map constant_points cs) ++ all (map definition_points ts)) ++ all
+    (map variables_points vs)
 
 -- ---- the names of a region: those of all its points are known before any of them is used, each once
 
@@ -78,17 +80,17 @@ unfoldable pub add_points : List ℕ → List (List ℕ) → Points → List (Li
 add_points text names [] = names
 add_points text names (at ∷ rest) = add_points text (add_point text names at) rest
 
--- ---- a name has one defining point in a region (6.2.2.7): a second one is told where it stands
+-- ---- a name has one defining point in a region (6.2.2.7): a second one is reported where it is
 
 -- the region has this name, and not among its first `count`
 abbrev pub is_later : List (List ℕ) → (count : ℕ) → List ℕ → Bool
 is_later names count s = has names s && not (has (take count names) s)
 
--- it has no definition before the place, where the first `count` are defined, nor is one under way
+-- it has no definition before the place, where the first `count` are defined, nor is one in progress
 abbrev pub is_new : List (List ℕ) → (begun : List (List ℕ)) → (count : ℕ) → List ℕ → Bool
 is_new names begun count s = is_later names count s && not (has begun s)
 
--- one more point: how many names of the region stand before what follows
+-- one more point: the number of names of the region before what follows
 abbrev pub new_point : List ℕ → List (List ℕ) → (begun : List (List ℕ)) → (count : ℕ) → Span → Judged ℕ
 new_point text names begun count at = provided (is_new names begun count (spelled text at)) Twice at.from (count + 1)
 

@@ -1,4 +1,4 @@
--- What the values of the program stand for in the definitions.
+-- What the values of the program denote in the definitions.
 use Rattle.std.specs.Prelude.{[], ◌∷◌, map, option_map}
 use Rattle.ps_tree.specs.View.{type_of}
 use Rattle.ps_check_names.specs.Views.{scope_of, meaning_of, section_of}
@@ -11,10 +11,21 @@ use Rattle.ps_check_declarations.specs.Denoters.{Frame, Declared, Hidden}
 use Rattle.ps_check_declarations.specs.Headings.{Signature}
 
 abbrev pub frame_of : RustFrame.Frame → Frame
-frame_of f = record { text = f.reading.now.source.now; routine = f.routine; names = f.names.now; begun = f.begun.now; outer = scope_of f.outer.now }
+frame_of f = record {
+  text = f.reading.now.source.now;
+  routine = f.routine;
+  names = f.names.now;
+  begun = f.begun.now;
+  outer = scope_of f.outer.now;
+}
 
 abbrev pub declared_of : RustDeclared.Declared → Declared
-declared_of d = record { known = map meaning_of d.known.items; domains = map type_of d.domains.items; pending = d.pending.items; variables = map type_of d.variables.items }
+declared_of d = record {
+  known = map meaning_of d.known.items;
+  domains = map type_of d.domains.items;
+  pending = d.pending.items;
+  variables = map type_of d.variables.items;
+}
 
 unfoldable pub hidden_of : RustHidden.Hidden → Hidden
 hidden_of Nothing = []

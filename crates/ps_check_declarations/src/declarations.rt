@@ -8,7 +8,10 @@ ghost use Rattle.ps_check_judgement.specs.Judged.{Judged, Told, Answers, steps};
 ghost use Rattle.ps_check_names.specs.Regions.{one_more};
 ghost use Rattle.ps_check_names.specs.Views.{constant_of, meaning_of, point_of};
 ghost use Rattle.ps_check_declarations.specs.Denoters.{Declared as DeclaredSpec, begin, denoter};
-ghost use Rattle.ps_check_declarations.specs.Declarations.{meaning_of_constant, is_limit, told_at_name, domain_at, define_constant, define_type, resolve_domain, resolve_domains, declare_variable, declare_variables, declarations};
+ghost use Rattle.ps_check_declarations.specs.Declarations.{meaning_of_constant, is_limit, told_at_name, domain_at};
+ghost use Rattle.ps_check_declarations.specs.Declarations.{define_constant, define_type, resolve_domain};
+ghost use Rattle.ps_check_declarations.specs.Declarations.{resolve_domains, declare_variable, declare_variables};
+ghost use Rattle.ps_check_declarations.specs.Declarations.{declarations};
 ghost use Rattle.ps_check_declarations.specs.Views.{frame_of, declared_of, hidden_of};
 
 use crate::denoters::{constant_in, denoter};
@@ -36,7 +39,7 @@ fn meaning_of_constant(value: ConstantValue) -> Meaning
     }
 }
 
-/// One more definition under way, of a name that is new.
+/// Begins one more definition, of a name that is new.
 fn begin(
     frame: &Frame,
     alloc: Global,
@@ -64,7 +67,8 @@ fn begin_all(
     known: &[Meaning],
     names: &[Span],
 ) -> Result<Names, Fault>
-    ensures { Answers result (λ begun. begun) (steps (begin (frame_of frame.now) (map meaning_of known.now)) [] names.now) }
+    ensures { Answers result (λ begun. begun)
+        (steps (begin (frame_of frame.now) (map meaning_of known.now)) [] names.now) }
 {
     let mut begun = Names::new(alloc);
     for name in names {
@@ -73,7 +77,7 @@ fn begin_all(
     Ok(begun)
 }
 
-/// One definition under way.
+/// One definition in progress.
 fn begin_one(frame: &Frame, alloc: Global, known: &[Meaning], name: Span) -> Result<Names, Fault>
     ensures { Answers result (λ begun. begun) (begin (frame_of frame.now) (map meaning_of known.now) [] name) }
 {
@@ -90,7 +94,8 @@ fn define_constant(
     declared: &mut Declared,
     definition: &ConstantDefinition,
 ) -> Result<(), Fault>
-    ensures { Answers result (λ _. declared_of declared.new) (define_constant (frame_of frame.now) (declared_of declared.old) definition.now) }
+    ensures { Answers result (λ _. declared_of declared.new)
+        (define_constant (frame_of frame.now) (declared_of declared.old) definition.now) }
 {
     let known = declared.known.as_slice();
     let _begun = begin_one(frame, alloc, known, definition.name)?;
@@ -104,8 +109,8 @@ fn define_constant(
     Ok(())
 }
 
-/// What is told of a type definition whose denoter's first token is at `first`: a limit that is passed there is told at
-/// the name that is defined.
+/// What is reported of a type definition whose denoter's first token is at `first`: a limit that is exceeded there is
+/// reported at the name that is defined.
 #[tactic(auto, unfolding(crate::specs::Declarations::is_limit, crate::specs::Declarations::told_at_name))]
 fn told_at_name(fault: Fault, first: u32, name: u32) -> Fault
     ensures { (j : Judged (DataType × DeclaredSpec)) → Told fault j → Told result (told_at_name first name j) }
@@ -126,7 +131,9 @@ fn defined_type(
     declared: &mut Declared,
     definition: &TypeDefinition,
 ) -> Result<Ty, Fault>
-    ensures { Answers result (λ ty. (type_of ty, declared_of declared.new)) (told_at_name (first_of_type definition.now.ty) definition.now.name.from (denoter (frame_of place.now.frame) definition.now.ty (hidden_of place.now.hidden) (declared_of declared.old))) }
+    ensures { Answers result (λ ty. (type_of ty, declared_of declared.new))
+        (told_at_name (first_of_type definition.now.ty) definition.now.name.from
+        (denoter (frame_of place.now.frame) definition.now.ty (hidden_of place.now.hidden) (declared_of declared.old))) }
 {
     match denoter(&definition.ty, place, declared) {
         Ok(ty) => Ok(ty),
@@ -145,7 +152,8 @@ fn define_type(
     declared: &mut Declared,
     definition: &TypeDefinition,
 ) -> Result<(), Fault>
-    ensures { Answers result (λ _. declared_of declared.new) (define_type (frame_of frame.now) (declared_of declared.old) definition.now) }
+    ensures { Answers result (λ _. declared_of declared.new)
+        (define_type (frame_of frame.now) (declared_of declared.old) definition.now) }
 {
     let begun = begin_one(frame, alloc, declared.known.as_slice(), definition.name)?;
     let hidden = Hidden::Nothing;
@@ -165,7 +173,7 @@ fn define_type(
     Ok(())
 }
 
-/// The domain type that a denoted name stands for.
+/// The domain type denoted by what a name was found to be.
 #[tactic(auto, unfolding(crate::specs::Declarations::domain_at, crate::specs::Denoters::type_at, ps_check_names::specs::Views::meaning_of))]
 fn domain_at(found: &Found, later: bool, at: u32) -> Result<Ty, Fault>
     ensures { Answers result (λ ty. type_of ty) (domain_at later at (point_of found.now)) }
@@ -186,7 +194,7 @@ fn domain_at(found: &Found, later: bool, at: u32) -> Result<Ty, Fault>
     }
 }
 
-/// A domain type that was waited for behind the first `count` names, at the end of its part.
+/// A pending domain type, at the end of its part; the first `count` names were known before it.
 #[tactic(auto, unfolding(crate::specs::Declarations::resolve_domain, ps_check_names::specs::Views::scope_of))]
 fn resolve_domain(
     frame: &Frame,
@@ -195,7 +203,8 @@ fn resolve_domain(
     name: Span,
     count: usize,
 ) -> Result<(), Fault>
-    ensures { Answers result (λ _. declared_of declared.new) (resolve_domain (frame_of frame.now) (declared_of declared.old) (name, count)) }
+    ensures { Answers result (λ _. declared_of declared.new)
+        (resolve_domain (frame_of frame.now) (declared_of declared.old) (name, count)) }
 {
     let scope = Scope::Block {
         routine: frame.routine,
@@ -211,10 +220,11 @@ fn resolve_domain(
     Ok(())
 }
 
-/// The end of a part: each domain type that is waited for is the type that its name denotes there.
+/// The end of a part: each pending domain type is the type that its name denotes there.
 #[tactic(auto, using(ps_check_judgement::proofs::Lists::stepped_start, ps_check_judgement::proofs::Lists::stepped_next, ps_check_judgement::proofs::Lists::stepped_fault, ps_check_judgement::proofs::Lists::stepped_end), unfolding(crate::specs::Declarations::resolve_domains))]
 fn resolve_domains(frame: &Frame, alloc: Global, declared: &mut Declared) -> Result<(), Fault>
-    ensures { Answers result (λ _. declared_of declared.new) (resolve_domains (frame_of frame.now) (declared_of declared.old)) }
+    ensures { Answers result (λ _. declared_of declared.new)
+        (resolve_domains (frame_of frame.now) (declared_of declared.old)) }
 {
     for i in 0..declared.pending.len() {
         let (name, count) = declared.pending[i];
@@ -224,10 +234,11 @@ fn resolve_domains(frame: &Frame, alloc: Global, declared: &mut Declared) -> Res
     Ok(())
 }
 
-/// One more variable of a type, behind `first` entries and the variables before it.
+/// One more variable of a type, after `first` entries and the variables before it.
 #[tactic(auto, unfolding(ps_check_names::specs::Views::meaning_of))]
 fn declare_variable(first: u32, ty: &Ty, declared: &mut Declared, name: Span) -> Result<(), Fault>
-    ensures { Answers result (λ _. declared_of declared.new) (declare_variable first (type_of ty.now) (declared_of declared.old) name) }
+    ensures { Answers result (λ _. declared_of declared.new)
+        (declare_variable first (type_of ty.now) (declared_of declared.old) name) }
 {
     let Some(entry) = entry_behind(first, declared.variables.len()) else {
         return Err(broken(Rule::Limit, name.from));
@@ -240,10 +251,11 @@ fn declare_variable(first: u32, ty: &Ty, declared: &mut Declared, name: Span) ->
     Ok(())
 }
 
-/// The entry behind these, where there may be one more.
+/// The entry after these, if there may be one more.
 fn entry_behind(first: u32, variables: usize) -> Option<u32>
     ensures none { IfNone result (one_more (first + variables) ≡ None) }
-    ensures some { IfSome result (λ entry. (entry ≡ first + variables) × (one_more (first + variables) ≡ Some (first + variables + 1))) }
+    ensures some { IfSome result (λ entry. (entry ≡ first + variables)
+        × (one_more (first + variables) ≡ Some (first + variables + 1))) }
 {
     if variables >= (u32::MAX - first) as usize {
         None
@@ -255,7 +267,8 @@ fn entry_behind(first: u32, variables: usize) -> Option<u32>
 /// The variables of one declaration.
 #[tactic(auto, using(ps_check_judgement::proofs::Lists::stepped_start, ps_check_judgement::proofs::Lists::stepped_next, ps_check_judgement::proofs::Lists::stepped_fault, ps_check_judgement::proofs::Lists::stepped_end))]
 fn declare_names(first: u32, ty: &Ty, declared: &mut Declared, names: &[Span]) -> Result<(), Fault>
-    ensures { Answers result (λ _. declared_of declared.new) (steps (declare_variable first (type_of ty.now)) (declared_of declared.old) names.now) }
+    ensures { Answers result (λ _. declared_of declared.new)
+        (steps (declare_variable first (type_of ty.now)) (declared_of declared.old) names.now) }
 {
     for name in names {
         declare_variable(first, ty, declared, *name)?;
@@ -272,7 +285,8 @@ fn declare_variables(
     declared: &mut Declared,
     declaration: &Variables,
 ) -> Result<(), Fault>
-    ensures { Answers result (λ _. declared_of declared.new) (declare_variables (frame_of frame.now) first (declared_of declared.old) declaration.now) }
+    ensures { Answers result (λ _. declared_of declared.new)
+        (declare_variables (frame_of frame.now) first (declared_of declared.old) declaration.now) }
 {
     let names = declaration.names.as_slice();
     let begun = begin_all(frame, alloc, declared.known.as_slice(), names)?;
@@ -302,7 +316,8 @@ fn define_constants(
     declared: &mut Declared,
     definitions: &[ConstantDefinition],
 ) -> Result<(), Fault>
-    ensures { Answers result (λ _. declared_of declared.new) (steps (define_constant (frame_of frame.now)) (declared_of declared.old) definitions.now) }
+    ensures { Answers result (λ _. declared_of declared.new)
+        (steps (define_constant (frame_of frame.now)) (declared_of declared.old) definitions.now) }
 {
     for definition in definitions {
         define_constant(frame, alloc, declared, definition)?;
@@ -317,7 +332,8 @@ fn define_types(
     declared: &mut Declared,
     definitions: &[TypeDefinition],
 ) -> Result<(), Fault>
-    ensures { Answers result (λ _. declared_of declared.new) (steps (define_type (frame_of frame.now)) (declared_of declared.old) definitions.now) }
+    ensures { Answers result (λ _. declared_of declared.new)
+        (steps (define_type (frame_of frame.now)) (declared_of declared.old) definitions.now) }
 {
     for definition in definitions {
         define_type(frame, alloc, declared, definition)?;
@@ -333,7 +349,8 @@ fn declare_all(
     declared: &mut Declared,
     declarations: &[Variables],
 ) -> Result<(), Fault>
-    ensures { Answers result (λ _. declared_of declared.new) (steps (declare_variables (frame_of frame.now) first) (declared_of declared.old) declarations.now) }
+    ensures { Answers result (λ _. declared_of declared.new)
+        (steps (declare_variables (frame_of frame.now) first) (declared_of declared.old) declarations.now) }
 {
     for declaration in declarations {
         declare_variables(frame, alloc, first, declared, declaration)?;
@@ -341,7 +358,7 @@ fn declare_all(
     Ok(())
 }
 
-/// The constants, types and variables of a block, whose variables' entries come behind the first ones.
+/// The constants, types and variables of a block. The variables' entries come after the first `first` ones.
 #[tactic(auto, unfolding(crate::specs::Declarations::declarations))]
 pub fn declarations(
     frame: &Frame,
@@ -350,7 +367,9 @@ pub fn declarations(
     declared: &mut Declared,
     parts: &Parts,
 ) -> Result<(), Fault>
-    ensures { Answers result (λ _. declared_of declared.new) (declarations (frame_of frame.now) first (declared_of declared.old) parts.now.constants.now parts.now.types.now parts.now.variables.now) }
+    ensures { Answers result (λ _. declared_of declared.new)
+        (declarations (frame_of frame.now) first
+        (declared_of declared.old) parts.now.constants.now parts.now.types.now parts.now.variables.now) }
 {
     define_constants(frame, alloc, declared, parts.constants)?;
     define_types(frame, alloc, declared, parts.types)?;

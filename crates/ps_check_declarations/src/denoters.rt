@@ -9,7 +9,12 @@ ghost use Rattle.ps_check_names.specs.Regions.{ConstantMeaning};
 ghost use Rattle.ps_check_names.specs.Constants.{constant};
 ghost use Rattle.ps_check_names.specs.Views.{scope_of, point_of, meaning_of, constant_of};
 ghost use Rattle.ps_check_declarations.specs.Points.{add_points, new_points};
-ghost use Rattle.ps_check_declarations.specs.Denoters.{regions, passes, passes_in, type_at, type_named, ordinal_at, constants_from, enumeration, subrange, subrange_of, ordinal, index_begins, pointer, small, begins, is_packed, index_type, array_of, fields_of_type, set_of, add_fields, record_names, array_type, record_type, set_type, simple_type, denoter, structure, fields, section_names};
+ghost use Rattle.ps_check_declarations.specs.Denoters.{regions, passes, passes_in, type_at, type_named, ordinal_at};
+ghost use Rattle.ps_check_declarations.specs.Denoters.{constants_from, enumeration, subrange, subrange_of, ordinal};
+ghost use Rattle.ps_check_declarations.specs.Denoters.{index_begins, pointer, small, begins, is_packed, index_type};
+ghost use Rattle.ps_check_declarations.specs.Denoters.{array_of, fields_of_type, set_of, add_fields, record_names};
+ghost use Rattle.ps_check_declarations.specs.Denoters.{array_type, record_type, set_type, simple_type, denoter};
+ghost use Rattle.ps_check_declarations.specs.Denoters.{structure, fields, section_names};
 ghost use Rattle.ps_check_declarations.specs.Views.{frame_of, declared_of, hidden_of};
 
 use crate::frame::{Declared, Frame, Hidden, Place};
@@ -27,7 +32,7 @@ use ps_tree::types::{Component, Fields as RecordFields, Host, Ordinal, Packing, 
 use std::alloc::{AllocError, Global};
 use std::rc::Rc;
 
-/// A name that begins at an offset, which nothing hides within whose definition the place stands.
+/// A name that begins at an offset, and is hidden by no definition within which the place lies.
 #[tactic(auto, unfolding(crate::specs::Denoters::passes, crate::specs::Views::hidden_of))]
 fn passes(hidden: &Hidden, name: &[u8], at: u32) -> Result<(), Fault>
     ensures { Answers result (λ _. tt) (passes (hidden_of hidden.now) name.now at) }
@@ -45,7 +50,7 @@ fn passes(hidden: &Hidden, name: &[u8], at: u32) -> Result<(), Fault>
     }
 }
 
-/// The same of the name that stands there.
+/// The same for the name at this place.
 #[tactic(auto, unfolding(crate::specs::Denoters::passes, crate::specs::Views::hidden_of))]
 fn pass_hidden(reading: &Reading, alloc: Global, hidden: &Hidden, name: Span) -> Result<(), Fault>
     ensures { Answers result (λ _. tt) (passes (hidden_of hidden.now) (spelled reading.now.source.now name) name.from) }
@@ -59,7 +64,7 @@ fn pass_hidden(reading: &Reading, alloc: Global, hidden: &Hidden, name: Span) ->
     }
 }
 
-/// The type that a denoted name stands for.
+/// The type denoted by what a name was found to be.
 #[tactic(auto, unfolding(crate::specs::Denoters::type_at, ps_check_names::specs::Views::meaning_of))]
 fn type_at(found: &Found, at: u32) -> Result<Ty, Fault>
     ensures { Answers result (λ ty. type_of ty) (type_at at (point_of found.now)) }
@@ -92,7 +97,9 @@ fn type_named(reading: &Reading, alloc: Global, scope: &Scope, name: Span) -> Re
 /// The type that a name denotes at a place of a block.
 #[tactic(auto, using(crate::proofs::HiddenLemmas::type_named_past), unfolding(ps_check_names::specs::Views::scope_of))]
 pub(crate) fn type_in(place: &Place, known: &[Meaning], name: Span) -> Result<Ty, Fault>
-    ensures { Answers result (λ ty. type_of ty) (type_named place.now.frame.reading.now.source.now (regions (frame_of place.now.frame) (hidden_of place.now.hidden) (map meaning_of known.now)) name) }
+    ensures { Answers result (λ ty. type_of ty)
+        (type_named place.now.frame.reading.now.source.now
+        (regions (frame_of place.now.frame) (hidden_of place.now.hidden) (map meaning_of known.now)) name) }
 {
     let Frame {
         reading,
@@ -111,7 +118,7 @@ pub(crate) fn type_in(place: &Place, known: &[Meaning], name: Span) -> Result<Ty
     type_named(reading, place.alloc, &scope, name)
 }
 
-/// No name is hidden that the constant is.
+/// The constant is none of the hidden names.
 #[tactic(auto, unfolding(crate::specs::Denoters::passes_in))]
 fn pass_hidden_in(
     reading: &Reading,
@@ -134,7 +141,9 @@ pub(crate) fn constant_in(
     known: &[Meaning],
     written: Constant,
 ) -> Result<ConstantValue, Fault>
-    ensures { Answers result (λ value. constant_of value) (constant place.now.frame.reading.now.source.now (regions (frame_of place.now.frame) (hidden_of place.now.hidden) (map meaning_of known.now)) written) }
+    ensures { Answers result (λ value. constant_of value)
+        (constant place.now.frame.reading.now.source.now
+        (regions (frame_of place.now.frame) (hidden_of place.now.hidden) (map meaning_of known.now)) written) }
 {
     let Frame {
         reading,
@@ -170,7 +179,7 @@ fn ordinal_at(ty: &Ty, at: u32) -> Result<Ordinal, Fault>
     }
 }
 
-/// A subrange of these constants, which begins there.
+/// A subrange of these constants, which begins at this place.
 #[tactic(auto, unfolding(crate::specs::Denoters::subrange, ps_check_names::specs::Views::constant_of))]
 fn subrange(at: u32, low: &ConstantValue, high: &ConstantValue) -> Result<Ordinal, Fault>
     ensures { Answers result (λ ordinal. ordinal) (subrange at (constant_of low.now) (constant_of high.now)) }
@@ -205,7 +214,8 @@ fn define_values(
     known: &mut Vec<Meaning>,
 ) -> Result<(), AllocError>
     requires { length names.now < 2 ^ 31 }
-    ensures { OnOk result (map meaning_of known.new.items ≡ map meaning_of known.old.items ++ constants_from ordinal 0 names.now) }
+    ensures { OnOk result (map meaning_of known.new.items ≡ map meaning_of known.old.items
+        ++ constants_from ordinal 0 names.now) }
 {
     for value in 0..names.len() {
         define_value(ordinal, value as i32, known)?;
@@ -215,7 +225,8 @@ fn define_values(
 
 #[tactic(auto, unfolding(ps_check_names::specs::Views::meaning_of))]
 fn define_value(ordinal: Ordinal, value: i32, known: &mut Vec<Meaning>) -> Result<(), AllocError>
-    ensures { OnOk result (map meaning_of known.new.items ≡ map meaning_of known.old.items ++ ConstantMeaning ordinal value ∷ []) }
+    ensures { OnOk result (map meaning_of known.new.items ≡ map meaning_of known.old.items
+        ++ ConstantMeaning ordinal value ∷ []) }
 {
     known.push(Meaning::Constant { ordinal, value })?;
     Ok(())
@@ -228,7 +239,8 @@ fn enumeration(
     at: u32,
     constants: &[Span],
 ) -> Result<Ordinal, Fault>
-    ensures { Answers result (λ ordinal. (ordinal, declared_of declared.new)) (enumeration (frame_of place.now.frame) at constants.now (declared_of declared.old)) }
+    ensures { Answers result (λ ordinal. (ordinal, declared_of declared.new))
+        (enumeration (frame_of place.now.frame) at constants.now (declared_of declared.old)) }
 {
     let Frame {
         reading,
@@ -260,7 +272,8 @@ fn subrange_of(
     low: Constant,
     high: Constant,
 ) -> Result<Ordinal, Fault>
-    ensures { Answers result (λ o. o) (subrange_of (frame_of place.now.frame) (hidden_of place.now.hidden) (map meaning_of known.now) at low high) }
+    ensures { Answers result (λ o. o) (subrange_of (frame_of place.now.frame) (hidden_of place.now.hidden)
+        (map meaning_of known.now) at low high) }
 {
     let first = constant_in(place, known, low)?;
     let second = constant_in(place, known, high)?;
@@ -274,7 +287,8 @@ fn ordinal(
     declared: &mut Declared,
     denoter: &OrdinalDenoter,
 ) -> Result<Ordinal, Fault>
-    ensures { Answers result (λ o. (o, declared_of declared.new)) (ordinal (frame_of place.now.frame) (hidden_of place.now.hidden) (declared_of declared.old) denoter.now) }
+    ensures { Answers result (λ o. (o, declared_of declared.new))
+        (ordinal (frame_of place.now.frame) (hidden_of place.now.hidden) (declared_of declared.old) denoter.now) }
 {
     match denoter {
         OrdinalDenoter::Name(at) => {
@@ -298,7 +312,8 @@ fn simple_type(
     declared: &mut Declared,
     denoter: &OrdinalDenoter,
 ) -> Result<Ty, Fault>
-    ensures { Answers result (λ ty. (type_of ty, declared_of declared.new)) (simple_type (frame_of place.now.frame) (hidden_of place.now.hidden) (declared_of declared.old) denoter.now) }
+    ensures { Answers result (λ ty. (type_of ty, declared_of declared.new))
+        (simple_type (frame_of place.now.frame) (hidden_of place.now.hidden) (declared_of declared.old) denoter.now) }
 {
     match denoter {
         OrdinalDenoter::Name(at) => type_in(place, declared.known.as_slice(), *at),
@@ -309,10 +324,11 @@ fn simple_type(
     }
 }
 
-/// A pointer type, which waits for its domain type.
+/// A pointer type, whose domain type is resolved later.
 #[tactic(auto, unfolding(ps_tree::specs::View::type_of))]
 fn pointer(place: &Place, declared: &mut Declared, domain: Span) -> Result<Ty, Fault>
-    ensures { Answers result (λ ty. (type_of ty, declared_of declared.new)) (pointer (frame_of place.now.frame) (hidden_of place.now.hidden) (declared_of declared.old) domain) }
+    ensures { Answers result (λ ty. (type_of ty, declared_of declared.new))
+        (pointer (frame_of place.now.frame) (hidden_of place.now.hidden) (declared_of declared.old) domain) }
 {
     pass_hidden(place.frame.reading, place.alloc, &place.hidden, domain)?;
     let settled = declared.domains.len();
@@ -360,7 +376,9 @@ fn index_type(
     done: &mut Vec<(u32, Ordinal)>,
     index: &OrdinalDenoter,
 ) -> Result<(), Fault>
-    ensures { Answers result (λ _. (done.new.items, declared_of declared.new)) (index_type (frame_of place.now.frame) (hidden_of place.now.hidden) at (done.old.items, declared_of declared.old) index.now) }
+    ensures { Answers result (λ _. (done.new.items, declared_of declared.new))
+        (index_type (frame_of place.now.frame) (hidden_of place.now.hidden) at
+        (done.old.items, declared_of declared.old) index.now) }
 {
     let begin = index_begins(at, done.as_slice(), index);
     let ordinal = ordinal(place, declared, index)?;
@@ -386,7 +404,9 @@ fn index_types(
     at: u32,
     indices: &[OrdinalDenoter],
 ) -> Result<Vec<(u32, Ordinal)>, Fault>
-    ensures { Answers result (λ done. (done.items, declared_of declared.new)) (steps (index_type (frame_of place.now.frame) (hidden_of place.now.hidden) at) ([], declared_of declared.old) indices.now) }
+    ensures { Answers result (λ done. (done.items, declared_of declared.new))
+        (steps (index_type (frame_of place.now.frame) (hidden_of place.now.hidden) at)
+        ([], declared_of declared.old) indices.now) }
 {
     let mut done = Vec::new(place.alloc);
     for index in indices {
@@ -418,7 +438,7 @@ fn one_array(
     )
 }
 
-/// Arrays in one another.
+/// Nested arrays.
 #[tactic(auto, using(crate::proofs::DenoterLemmas::arrays_start, crate::proofs::DenoterLemmas::arrays_inside, crate::proofs::DenoterLemmas::arrays_fault, crate::proofs::DenoterLemmas::arrays_done))]
 fn array_of(
     alloc: Global,
@@ -435,7 +455,7 @@ fn array_of(
     Ok(ty)
 }
 
-/// The base of a set type, whose word `set` is at `word`, has ordinals within 0..255.
+/// The base of a set type, whose word `set` is at `word`; its ordinals are within 0..255.
 #[tactic(auto, unfolding(ps_tree::specs::View::type_of))]
 fn set_of(word: u32, at: u32, packed: bool, base: Ordinal) -> Result<Ty, Fault>
     ensures { Answers result (λ ty. type_of ty) (set_of word at packed base) }
@@ -463,7 +483,8 @@ fn set_type(
     at: u32,
     base: &OrdinalDenoter,
 ) -> Result<Ty, Fault>
-    ensures { Answers result (λ ty. (type_of ty, declared_of declared.new)) (set_type (frame_of place.now.frame) packed (hidden_of place.now.hidden) (declared_of declared.old) at base.now) }
+    ensures { Answers result (λ ty. (type_of ty, declared_of declared.new))
+        (set_type (frame_of place.now.frame) packed (hidden_of place.now.hidden) (declared_of declared.old) at base.now) }
 {
     let base = ordinal(place, declared, base)?;
     set_of(at, begins(packed, at), is_packed(packed), base)
@@ -473,7 +494,8 @@ fn set_type(
 #[cycle(denoter)]
 #[tactic(auto, using(crate::proofs::FoldLemmas::denoter_Ordinal, crate::proofs::FoldLemmas::denoter_Pointer, crate::proofs::FoldLemmas::denoter_Structure, crate::proofs::FoldLemmas::denoter_Packed))]
 pub(crate) fn denoter(ty: &TypeDenoter, place: &Place, declared: &mut Declared) -> Result<Ty, Fault>
-    ensures { Answers result (λ made. (type_of made, declared_of declared.new)) (denoter (frame_of place.now.frame) ty.now (hidden_of place.now.hidden) (declared_of declared.old)) }
+    ensures { Answers result (λ made. (type_of made, declared_of declared.new))
+        (denoter (frame_of place.now.frame) ty.now (hidden_of place.now.hidden) (declared_of declared.old)) }
 {
     match ty {
         TypeDenoter::Ordinal(ordinal) => simple_type(place, declared, ordinal),
@@ -491,7 +513,8 @@ fn structure(
     declared: &mut Declared,
     packed: Option<u32>,
 ) -> Result<Ty, Fault>
-    ensures { Answers result (λ ty. (type_of ty, declared_of declared.new)) (structure (frame_of place.now.frame) made.now packed (hidden_of place.now.hidden) (declared_of declared.old)) }
+    ensures { Answers result (λ ty. (type_of ty, declared_of declared.new))
+        (structure (frame_of place.now.frame) made.now packed (hidden_of place.now.hidden) (declared_of declared.old)) }
 {
     match made {
         Structure::Array(at, indices, component) => array_type(
@@ -519,7 +542,9 @@ fn array_type(
     packed: Option<u32>,
     at: u32,
 ) -> Result<Ty, Fault>
-    ensures { Answers result (λ ty. (type_of ty, declared_of declared.new)) (array_type (frame_of place.now.frame) packed (hidden_of place.now.hidden) (declared_of declared.old) at indices.now (denoter (frame_of place.now.frame) component.now)) }
+    ensures { Answers result (λ ty. (type_of ty, declared_of declared.new))
+        (array_type (frame_of place.now.frame) packed (hidden_of place.now.hidden)
+        (declared_of declared.old) at indices.now (denoter (frame_of place.now.frame) component.now)) }
 {
     let mut indices = index_types(place, declared, begins(packed, at), indices)?;
     let component = denoter(component, place, declared)?;
@@ -529,7 +554,8 @@ fn array_type(
 /// The names of a record's fields.
 #[tactic(auto, using(crate::proofs::Walks::walked_start, crate::proofs::Walks::walked_next, crate::proofs::DenoterLemmas::names_end))]
 fn record_names(frame: &Frame, alloc: Global, sections: &[Fields]) -> Result<Names, AllocError>
-    ensures { IfOk result (λ names. names ≡ record_names (frame_of frame.now) (map (fields (frame_of frame.now)) sections.now)) }
+    ensures { IfOk result (λ names. names ≡ record_names (frame_of frame.now)
+        (map (fields (frame_of frame.now)) sections.now)) }
 {
     let mut names = Names::new(alloc);
     for section in sections {
@@ -545,7 +571,8 @@ fn section_names(
     names: &mut Names,
     section: &Fields,
 ) -> Result<(), AllocError>
-    ensures { OnOk result (names.new ≡ add_points frame.now.reading.now.source.now names.old (section_names (frame_of frame.now) section.now)) }
+    ensures { OnOk result (names.new ≡ add_points frame.now.reading.now.source.now names.old
+        (section_names (frame_of frame.now) section.now)) }
 {
     add_points(frame.reading, alloc, names, section.names.as_slice())
 }
@@ -553,7 +580,8 @@ fn section_names(
 /// Fields of one type.
 #[tactic(auto, using(crate::proofs::DenoterLemmas::of_type_start, crate::proofs::DenoterLemmas::of_type_next, crate::proofs::DenoterLemmas::of_type_end))]
 fn fields_of_type(done: &mut Vec<Ty>, ty: &Ty, names: &[Span]) -> Result<(), AllocError>
-    ensures { OnOk result (map type_of done.new.items ≡ map type_of done.old.items ++ fields_of_type (type_of ty.now) names.now) }
+    ensures { OnOk result (map type_of done.new.items ≡ map type_of done.old.items ++ fields_of_type
+        (type_of ty.now) names.now) }
 {
     for _name in names {
         field_of_type(done, ty)?;
@@ -569,8 +597,8 @@ fn field_of_type(done: &mut Vec<Ty>, ty: &Ty) -> Result<(), AllocError>
     Ok(())
 }
 
-/// The points of a section of a record or a parameter list that has these names, of which `count` stand before the
-/// section: how many stand before what follows.
+/// The points of a section of a record or a parameter list with these names, `count` of which come before the section.
+/// Returns how many come before what follows.
 pub(crate) fn own_points(
     place: &Place,
     names: &Names,
@@ -590,7 +618,7 @@ pub(crate) fn own_points(
     )
 }
 
-/// One more section of fields of a record that has these names.
+/// One more section of fields of a record with these names.
 #[cycle(denoter)]
 #[tactic(auto, unfolding(crate::specs::Views::hidden_of))]
 fn add_fields(
@@ -600,7 +628,9 @@ fn add_fields(
     names: &Names,
     done: &mut Vec<Ty>,
 ) -> Result<(), Fault>
-    ensures { Answers result (λ _. (map type_of done.new.items, declared_of declared.new)) (add_fields (frame_of place.now.frame) names.now (hidden_of place.now.hidden) (map type_of done.old.items, declared_of declared.old) (fields (frame_of place.now.frame) section.now)) }
+    ensures { Answers result (λ _. (map type_of done.new.items, declared_of declared.new))
+        (add_fields (frame_of place.now.frame) names.now (hidden_of place.now.hidden)
+        (map type_of done.old.items, declared_of declared.old) (fields (frame_of place.now.frame) section.now)) }
 {
     let points = section.names.as_slice();
     let defined = own_points(place, names, done.len(), points)?;
@@ -618,7 +648,7 @@ fn add_fields(
     Ok(())
 }
 
-/// The types of the fields of a record that has these names.
+/// The types of the fields of a record with these names.
 #[cycle(denoter)]
 #[tactic(auto, using(crate::proofs::Steps::mapped_start, crate::proofs::Steps::mapped_next, crate::proofs::Steps::mapped_fault, crate::proofs::Steps::mapped_end))]
 fn all_fields(
@@ -627,7 +657,9 @@ fn all_fields(
     declared: &mut Declared,
     names: &Names,
 ) -> Result<Vec<Ty>, Fault>
-    ensures { Answers result (λ done. (map type_of done.items, declared_of declared.new)) (steps (add_fields (frame_of place.now.frame) names.now (hidden_of place.now.hidden)) ([], declared_of declared.old) (map (fields (frame_of place.now.frame)) sections.now)) }
+    ensures { Answers result (λ done. (map type_of done.items, declared_of declared.new))
+        (steps (add_fields (frame_of place.now.frame) names.now (hidden_of place.now.hidden))
+        ([], declared_of declared.old) (map (fields (frame_of place.now.frame)) sections.now)) }
 {
     let mut done = Vec::new(place.alloc);
     for section in sections {
@@ -645,7 +677,8 @@ fn one_record(
     names: Names,
     types: Vec<Ty>,
 ) -> Result<Ty, Fault>
-    ensures { Answers result (λ ty. type_of ty) (small at (RecordType at packed (field_list names (types_of types.items)))) }
+    ensures { Answers result (λ ty. type_of ty)
+        (small at (RecordType at packed (field_list names (types_of types.items)))) }
 {
     let fields = Rc::new(alloc, RecordFields::new(alloc, names, types)?)?;
     small(Ty::Record { at, packed, fields }, at)
@@ -660,7 +693,9 @@ fn record_type(
     packed: Option<u32>,
     at: u32,
 ) -> Result<Ty, Fault>
-    ensures { Answers result (λ ty. (type_of ty, declared_of declared.new)) (record_type (frame_of place.now.frame) packed (hidden_of place.now.hidden) (declared_of declared.old) at (map (fields (frame_of place.now.frame)) sections.now)) }
+    ensures { Answers result (λ ty. (type_of ty, declared_of declared.new))
+        (record_type (frame_of place.now.frame) packed (hidden_of place.now.hidden) (declared_of declared.old) at
+        (map (fields (frame_of place.now.frame)) sections.now)) }
 {
     let names = record_names(&place.frame, place.alloc, sections)?;
     let types = all_fields(sections, place, declared, &names)?;

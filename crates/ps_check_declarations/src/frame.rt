@@ -1,4 +1,4 @@
-//! Where declarations stand, and what they give.
+//! Where declarations are, and what they give.
 
 use ps_check_names::meaning::Meaning;
 use ps_check_names::reading::Reading;
@@ -17,8 +17,8 @@ pub struct Parts<'a> {
     pub variables: &'a [Variables],
 }
 
-/// Where the declarations of a block stand: the number of the block's routine, all names of the block's region, those
-/// whose definition is under way, and the regions outside the block.
+/// Where the declarations of a block are: the number of the block's routine, all names of the block's region, those
+/// whose definition is in progress, and the regions outside the block.
 #[derive(Clone, Copy)]
 pub struct Frame<'a> {
     pub reading: &'a Reading<'a>,
@@ -29,8 +29,8 @@ pub struct Frame<'a> {
 }
 
 /// What the declarations so far give: the meanings of the block's names, the domain types of the pointer types, the
-/// names of the domain types of those pointer types that still wait for them, each with how many names of the block
-/// were known before it, and the types of the block's variables.
+/// names of the domain types still pending, each with the number of the block's names known before it, and the types of
+/// the block's variables.
 #[derive(Drop)]
 pub struct Declared {
     pub known: Vec<Meaning>,
@@ -39,12 +39,12 @@ pub struct Declared {
     pub variables: Vec<Ty>,
 }
 
-/// What a place of a block's declarations stands within, from the inside out.
+/// What a place in a block's declarations lies within, from the inside out.
 #[derive(Clone, Copy)]
 pub enum Hidden<'a> {
     Nothing,
-    /// The denoter of a record, a parameter list or the declaration of variables, by its names, of which the first
-    /// `defined` stand before the place.
+    /// The denoter of a record, a parameter list or the declaration of variables, by its names, the first `defined` of
+    /// which come before the place.
     Own {
         names: &'a Names,
         defined: usize,

@@ -5,7 +5,8 @@ ghost use Rattle.ps_tree.specs.View.{type_of};
 ghost use Rattle.ps_check_judgement.specs.Judged.{Answers, steps};
 ghost use Rattle.ps_check_names.specs.Views.{meaning_of, section_of};
 ghost use Rattle.ps_check_declarations.specs.Points.{add_points, new_points};
-ghost use Rattle.ps_check_declarations.specs.Headings.{is_result, few, add_section, list_names, sections_of, result_type, section, heading, section_points};
+ghost use Rattle.ps_check_declarations.specs.Headings.{is_result, few, add_section, list_names, sections_of};
+ghost use Rattle.ps_check_declarations.specs.Headings.{result_type, section, heading, section_points};
 ghost use Rattle.ps_check_declarations.specs.Views.{frame_of, hidden_of, signature_of};
 
 use crate::denoters::{own_points, type_in};
@@ -21,7 +22,7 @@ use ps_tree::types::Ty;
 use std::alloc::AllocError;
 use std::rc::Rc;
 
-/// What a heading says: its sections, and a function's result.
+/// The content of a heading: its sections, and a function's result.
 #[derive(Drop)]
 pub struct Signature {
     pub sections: Vec<Section>,
@@ -54,9 +55,10 @@ fn is_result(ty: &Ty) -> bool
     }
 }
 
-/// The type of a function's result, which is a name of an ordinal or pointer type.
+/// The type of a function's result, which is the name of an ordinal or pointer type.
 fn result_type(place: &Place, known: &[Meaning], name: Span) -> Result<Ty, Fault>
-    ensures { Answers result (λ ty. type_of ty) (result_type (frame_of place.now.frame) (map meaning_of known.now) (hidden_of place.now.hidden) name) }
+    ensures { Answers result (λ ty. type_of ty)
+        (result_type (frame_of place.now.frame) (map meaning_of known.now) (hidden_of place.now.hidden) name) }
 {
     let ty = type_in(place, known, name)?;
     if is_result(&ty) {
@@ -66,11 +68,12 @@ fn result_type(place: &Place, known: &[Meaning], name: Span) -> Result<Ty, Fault
     }
 }
 
-/// What a heading says.
+/// The content of a heading.
 #[cycle(heading)]
 #[tactic(auto, using(crate::proofs::HeadingLemmas::heading_Procedure, crate::proofs::HeadingLemmas::heading_Function))]
 pub fn heading(written: &Heading, place: &Place, known: &[Meaning]) -> Result<Signature, Fault>
-    ensures { Answers result (λ s. signature_of s) ((heading (frame_of place.now.frame) (map meaning_of known.now) written.now).1 (hidden_of place.now.hidden)) }
+    ensures { Answers result (λ s. signature_of s)
+        ((heading (frame_of place.now.frame) (map meaning_of known.now) written.now).1 (hidden_of place.now.hidden)) }
 {
     match written {
         Heading::Procedure(name, list) => {
@@ -91,7 +94,7 @@ pub fn heading(written: &Heading, place: &Place, known: &[Meaning]) -> Result<Si
     }
 }
 
-/// The sections of a list, in which the parameters' names hide others. `at` is the routine's name.
+/// The sections of a list, where the parameters' names hide others. `at` is the routine's name.
 #[cycle(heading)]
 #[tactic(auto, unfolding(crate::specs::Headings::sections_of))]
 fn sections(
@@ -100,7 +103,9 @@ fn sections(
     known: &[Meaning],
     at: u32,
 ) -> Result<Vec<Section>, Fault>
-    ensures { Answers result (λ done. map section_of done.items) (sections_of (frame_of place.now.frame) (map meaning_of known.now) (map (section (frame_of place.now.frame) (map meaning_of known.now)) list.now) at (hidden_of place.now.hidden)) }
+    ensures { Answers result (λ done. map section_of done.items)
+        (sections_of (frame_of place.now.frame) (map meaning_of known.now)
+        (map (section (frame_of place.now.frame) (map meaning_of known.now)) list.now) at (hidden_of place.now.hidden)) }
 {
     let names = list_names(list, place, known)?;
     let _count = few(names.len(), at)?;
@@ -108,7 +113,7 @@ fn sections(
     Ok(sections)
 }
 
-/// The sections of a list whose parameters have these names, and how many they are.
+/// The sections of a list whose parameters have these names, and their number.
 #[cycle(heading)]
 #[tactic(auto, using(crate::proofs::Steps::mapped_start, crate::proofs::Steps::mapped_next, crate::proofs::Steps::mapped_fault, crate::proofs::Steps::mapped_end))]
 fn all_sections(
@@ -117,7 +122,10 @@ fn all_sections(
     known: &[Meaning],
     names: &Names,
 ) -> Result<(Vec<Section>, usize), Fault>
-    ensures { Answers result (λ done. (map section_of done.0.items, done.1)) (steps (add_section (frame_of place.now.frame) (map meaning_of known.now) names.now (hidden_of place.now.hidden)) ([], 0) (map (section (frame_of place.now.frame) (map meaning_of known.now)) list.now)) }
+    ensures { Answers result (λ done. (map section_of done.0.items, done.1))
+        (steps (add_section (frame_of place.now.frame) (map meaning_of known.now) names.now
+        (hidden_of place.now.hidden)) ([], 0) (map
+        (section (frame_of place.now.frame) (map meaning_of known.now)) list.now)) }
 {
     let mut done = Vec::new(place.alloc);
     let mut defined = 0;
@@ -127,7 +135,8 @@ fn all_sections(
     Ok((done, defined))
 }
 
-/// One more section, behind those that have the first `count` names of the list: how many stand before what follows.
+/// One more section, after those that have the first `count` names of the list. Returns how many come before what
+/// follows.
 #[cycle(heading)]
 #[tactic(auto, unfolding(crate::specs::Headings::section_points, crate::specs::Views::hidden_of))]
 fn add_section(
@@ -138,7 +147,10 @@ fn add_section(
     count: usize,
     done: &mut Vec<Section>,
 ) -> Result<usize, Fault>
-    ensures { Answers result (λ n. (map section_of done.new.items, n)) (add_section (frame_of place.now.frame) (map meaning_of known.now) names.now (hidden_of place.now.hidden) (map section_of done.old.items, count) (section (frame_of place.now.frame) (map meaning_of known.now) written.now)) }
+    ensures { Answers result (λ n. (map section_of done.new.items, n))
+        (add_section (frame_of place.now.frame) (map meaning_of known.now) names.now (hidden_of place.now.hidden)
+        (map section_of done.old.items, count) (section (frame_of place.now.frame)
+        (map meaning_of known.now) written.now)) }
 {
     let defined = section_points(written, place, known, names, count)?;
     let inside = Place {
@@ -158,7 +170,8 @@ fn add_section(
 #[cycle(heading)]
 #[tactic(auto, using(crate::proofs::HeadingLemmas::section_Value, crate::proofs::HeadingLemmas::section_Variable, crate::proofs::HeadingLemmas::section_Routine, crate::proofs::HeadingLemmas::routine_made), unfolding(ps_check_names::specs::Views::section_of))]
 fn section(written: &SectionDenoter, place: &Place, known: &[Meaning]) -> Result<Section, Fault>
-    ensures { Answers result (λ s. section_of s) ((section (frame_of place.now.frame) (map meaning_of known.now) written.now).1 (hidden_of place.now.hidden)) }
+    ensures { Answers result (λ s. section_of s)
+        ((section (frame_of place.now.frame) (map meaning_of known.now) written.now).1 (hidden_of place.now.hidden)) }
 {
     match written {
         SectionDenoter::Value(names, name) => {
@@ -181,7 +194,7 @@ fn section(written: &SectionDenoter, place: &Place, known: &[Meaning]) -> Result
     }
 }
 
-/// The points of a section of a list that has these names, of which `count` stand before the section: how many stand
+/// The points of a section of a list with these names, `count` of which come before the section. Returns how many come
 /// before what follows.
 #[tactic(auto, using(crate::proofs::HeadingLemmas::points_Value, crate::proofs::HeadingLemmas::points_Variable, crate::proofs::HeadingLemmas::points_Procedure, crate::proofs::HeadingLemmas::points_Function))]
 fn section_points(
@@ -191,7 +204,8 @@ fn section_points(
     names: &Names,
     count: usize,
 ) -> Result<usize, Fault>
-    ensures { Answers result (λ n. n) (new_points place.now.frame.reading.now.source.now names.now [] count (section_points (frame_of place.now.frame) (map meaning_of known.now) written.now)) }
+    ensures { Answers result (λ n. n) (new_points place.now.frame.reading.now.source.now names.now [] count
+        (section_points (frame_of place.now.frame) (map meaning_of known.now) written.now)) }
 {
     let _known = known;
     match written {
@@ -213,7 +227,8 @@ fn list_names(
     place: &Place,
     known: &[Meaning],
 ) -> Result<Names, AllocError>
-    ensures { IfOk result (λ names. names ≡ list_names (frame_of place.now.frame) (map meaning_of known.now) (map (section (frame_of place.now.frame) (map meaning_of known.now)) list.now)) }
+    ensures { IfOk result (λ names. names ≡ list_names (frame_of place.now.frame) (map meaning_of known.now)
+        (map (section (frame_of place.now.frame) (map meaning_of known.now)) list.now)) }
 {
     let mut names = Names::new(place.alloc);
     for written in list {
@@ -230,7 +245,8 @@ fn add_names(
     known: &[Meaning],
     names: &mut Names,
 ) -> Result<(), AllocError>
-    ensures { OnOk result (names.new ≡ add_points place.now.frame.reading.now.source.now names.old (section_points (frame_of place.now.frame) (map meaning_of known.now) written.now)) }
+    ensures { OnOk result (names.new ≡ add_points place.now.frame.reading.now.source.now names.old
+        (section_points (frame_of place.now.frame) (map meaning_of known.now) written.now)) }
 {
     let _known = known;
     let reading = place.frame.reading;

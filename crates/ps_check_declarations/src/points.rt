@@ -2,7 +2,10 @@
 
 ghost use Rattle.std.specs.Prelude.{◌≡◌, OnOk, map, ◌++◌};
 ghost use Rattle.ps_check_judgement.specs.Judged.{Answers};
-ghost use Rattle.ps_check_declarations.specs.Points.{all, ordinal_points, type_points, structure_points, fields_points, constant_points, definition_points, variables_points, block_points, add_point, add_points, is_later, new_point, new_points};
+ghost use Rattle.ps_check_declarations.specs.Points.{all, ordinal_points, type_points, structure_points, fields_points};
+ghost use Rattle.ps_check_declarations.specs.Points.{constant_points, definition_points, variables_points};
+ghost use Rattle.ps_check_declarations.specs.Points.{block_points, add_point, add_points, is_later, new_point};
+ghost use Rattle.ps_check_declarations.specs.Points.{new_points};
 
 use crate::frame::Parts;
 use ps_check_judgement::answer::broken;
@@ -15,7 +18,7 @@ use ps_text::Span;
 use ps_tree::names::Names;
 use std::alloc::{AllocError, Global};
 
-/// One more name, unless it is there.
+/// One more name, unless it is present.
 fn add_point(
     reading: &Reading,
     alloc: Global,
@@ -56,8 +59,8 @@ pub fn is_later(names: &Names, count: usize, name: &[u8]) -> bool
     }
 }
 
-/// One more point of a region, which is told where it is a second one of its name: how many names of the region stand
-/// before what follows, where `count` stand before it.
+/// One more point of a region, reported if it is a second one with its name. Returns how many names of the region come
+/// before what follows, if `count` come before it.
 #[tactic(auto, using(crate::proofs::NewLemmas::none_later))]
 fn new_point(
     reading: &Reading,
@@ -71,7 +74,7 @@ fn new_point(
 {
     let spelling = reading.spelling(alloc, at)?;
     let name = spelling.as_slice();
-    // behind the last name there is none, so one more can be counted
+    // there is none after the last name, so one more can be counted
     if count < names.len() && is_later(names, count, name) && !begun.contains(name) {
         Ok(count + 1)
     } else {
@@ -126,7 +129,8 @@ fn add_ordinals(
     names: &mut Names,
     ordinals: &[Ordinal],
 ) -> Result<(), AllocError>
-    ensures { OnOk result (names.new ≡ add_points reading.now.source.now names.old (all (map ordinal_points ordinals.now))) }
+    ensures { OnOk result (names.new ≡ add_points reading.now.source.now names.old
+        (all (map ordinal_points ordinals.now))) }
 {
     for ordinal in ordinals {
         add_ordinal(reading, alloc, names, ordinal)?;
@@ -185,7 +189,8 @@ fn add_array(
     indices: &[Ordinal],
     component: &TypeDenoter,
 ) -> Result<(), AllocError>
-    ensures { OnOk result (names.new ≡ add_points reading.now.source.now names.old (all (map ordinal_points indices.now) ++ type_points component.now)) }
+    ensures { OnOk result (names.new ≡ add_points reading.now.source.now names.old
+        (all (map ordinal_points indices.now) ++ type_points component.now)) }
 {
     add_ordinals(reading, alloc, names, indices)?;
     add_type(reading, alloc, names, component)
@@ -211,7 +216,8 @@ fn add_fields(
     names: &mut Names,
     sections: &[Fields],
 ) -> Result<(), AllocError>
-    ensures { OnOk result (names.new ≡ add_points reading.now.source.now names.old (all (map fields_points sections.now))) }
+    ensures { OnOk result (names.new ≡ add_points reading.now.source.now names.old
+        (all (map fields_points sections.now))) }
 {
     for fields in sections {
         add_section(reading, alloc, names, fields)?;
@@ -239,7 +245,8 @@ fn add_constants(
     names: &mut Names,
     definitions: &[ConstantDefinition],
 ) -> Result<(), AllocError>
-    ensures { OnOk result (names.new ≡ add_points reading.now.source.now names.old (all (map constant_points definitions.now))) }
+    ensures { OnOk result (names.new ≡ add_points reading.now.source.now names.old
+        (all (map constant_points definitions.now))) }
 {
     for definition in definitions {
         add_constant(reading, alloc, names, definition)?;
@@ -268,7 +275,8 @@ fn add_definitions(
     names: &mut Names,
     definitions: &[TypeDefinition],
 ) -> Result<(), AllocError>
-    ensures { OnOk result (names.new ≡ add_points reading.now.source.now names.old (all (map definition_points definitions.now))) }
+    ensures { OnOk result (names.new ≡ add_points reading.now.source.now names.old
+        (all (map definition_points definitions.now))) }
 {
     for definition in definitions {
         add_definition(reading, alloc, names, definition)?;
@@ -297,7 +305,8 @@ fn add_variables(
     names: &mut Names,
     declarations: &[Variables],
 ) -> Result<(), AllocError>
-    ensures { OnOk result (names.new ≡ add_points reading.now.source.now names.old (all (map variables_points declarations.now))) }
+    ensures { OnOk result (names.new ≡ add_points reading.now.source.now names.old
+        (all (map variables_points declarations.now))) }
 {
     for declaration in declarations {
         add_declaration(reading, alloc, names, declaration)?;
@@ -305,7 +314,7 @@ fn add_variables(
     Ok(())
 }
 
-/// The names of a block's constants, types and variables, behind those that are there, in the order in which their
+/// The names of a block's constants, types and variables, after those that are there, in the order in which their
 /// definitions end, each once.
 #[tactic(auto, using(crate::proofs::Walks::added_both), unfolding(crate::specs::Points::block_points))]
 pub fn add_block(
@@ -314,7 +323,8 @@ pub fn add_block(
     names: &mut Names,
     parts: &Parts,
 ) -> Result<(), AllocError>
-    ensures { OnOk result (names.new ≡ add_points reading.now.source.now names.old (block_points parts.now.constants.now parts.now.types.now parts.now.variables.now)) }
+    ensures { OnOk result (names.new ≡ add_points reading.now.source.now names.old
+        (block_points parts.now.constants.now parts.now.types.now parts.now.variables.now)) }
 {
     add_constants(reading, alloc, names, parts.constants)?;
     add_definitions(reading, alloc, names, parts.types)?;

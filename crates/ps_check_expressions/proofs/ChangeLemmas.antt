@@ -17,20 +17,24 @@ none_there [] n l e = refl
 none_there (x ∷ xs) n l e = let z : n ≡ 0 = eqb-true n 0 e in let f : ⊥ = omega (arith, z, l) in absurd f
 
 module _ (c : Context) (at : ℕ) (cs : List Change) where
-  part_of : (base : PlaceBase) (ss : List Selector) → (ss ≡ [] → ⊥) → changed c (Tree.Variable (base_of base) (selectors_of ss)) at cs ≡ Yes (tt, cs)
+  part_of : (base : PlaceBase) (ss : List Selector) → (ss ≡ [] → ⊥) → changed c
+      (Tree.Variable (base_of base) (selectors_of ss)) at cs ≡ Yes (tt, cs)
   unfolding changed selectors_of
   part_of base [] h = absurd (h refl)
   part_of (Entry up entry) (s ∷ ss) h = refl
   part_of (Opened which ty number) (s ∷ ss) h = refl
 
-  -- a component is no whole variable
+  -- a component is not a whole variable
   pub changed_part : (p : Place) → (p.selectors.items ≡ [] → ⊥) → changed c (place_of p) at cs ≡ Yes (tt, cs)
   changed_part p h = part_of p.base p.selectors.items h
 
-  whole : (up entry : ℕ) (ss : List Selector) → ss ≡ [] → changed c (Tree.Variable (Tree.Entry up entry) (selectors_of ss)) at cs ≡ changed_entry c up entry at cs
+  whole : (up entry : ℕ) (ss : List Selector) → ss ≡ [] → changed c
+      (Tree.Variable (Tree.Entry up entry) (selectors_of ss)) at cs ≡ changed_entry c up entry at cs
   unfolding changed selectors_of
   whole up entry [] e = refl
   whole up entry (s ∷ ss) e = cc
 
-  pub changed_whole : (p : Place) (up entry : ℕ) → p.base ≡ Entry up entry → p.selectors.items ≡ [] → changed c (place_of p) at cs ≡ changed_entry c up entry at cs
-  changed_whole p up entry b e = ap (λ l. changed c (Tree.Variable (base_of l) (selectors_of p.selectors.items)) at cs) b ∙ whole up entry p.selectors.items e
+  pub changed_whole : (p : Place) (up entry : ℕ) → p.base ≡ Entry up entry → p.selectors.items ≡ [] → changed c
+      (place_of p) at cs ≡ changed_entry c up entry at cs
+  changed_whole p up entry b e = ap (λ l. changed c (Tree.Variable (base_of l) (selectors_of p.selectors.items)) at cs)
+      b ∙ whole up entry p.selectors.items e

@@ -1,5 +1,6 @@
 -- Lists of sections, and the formal parameters in them.
-use Rattle.std.proofs.Common.{◌≡◌, ℕ, zero, suc, ◌+◌, ◌<◌, ◌≤◌, Bool, true, false, ◌&&◌, List, [], ◌∷◌, ◌++◌, length, drop, get_or, map, Option, Vec, Global, refl, sym, ap, ◌∙◌, arith, append_assoc}
+use Rattle.std.proofs.Common.{◌≡◌, ℕ, zero, suc, ◌+◌, ◌<◌, ◌≤◌, Bool, true, false, ◌&&◌, List, [], ◌∷◌, ◌++◌, length}
+use Rattle.std.proofs.Common.{drop, get_or, map, Option, Vec, Global, refl, sym, ap, ◌∙◌, arith, append_assoc}
 use Rattle.std.specs.Prelude.{option_map}
 use Rattle.std.proofs.Math.Seq.{drop-cons}
 use Rattle.std.proofs.lemmas.List.{drop_all, append-nil, map_push}
@@ -14,12 +15,14 @@ use Rattle.ps_check_expressions.specs.Calls.{are_one_type, congruous, are_alike,
 
 -- ---- congruous lists
 
-pub congruous_uneven : (xs ys : List Rust.Section) → (length xs ≡ length ys → ⊥) → congruous (sections_of xs) (sections_of ys) ≡ false
+pub congruous_uneven : (xs ys : List Rust.Section) → (length xs ≡ length ys → ⊥) → congruous (sections_of xs)
+    (sections_of ys) ≡ false
 unfolding congruous sections_of
 congruous_uneven [] [] h = absurd (h refl)
 congruous_uneven [] (y ∷ ys) h = refl
 congruous_uneven (x ∷ xs) [] h = refl
-congruous_uneven (x ∷ xs) (y ∷ ys) h = both (are_alike (section_of x) (section_of y)) _ (congruous_uneven xs ys (λ e. h (ap suc e)))
+congruous_uneven (x ∷ xs) (y ∷ ys) h = both (are_alike (section_of x) (section_of y)) _
+    (congruous_uneven xs ys (λ e. h (ap suc e)))
   where
     both : (a b : Bool) → b ≡ false → (a && b) ≡ false
     both true b e = e
@@ -33,29 +36,40 @@ pub alike_start : (xs ys : List Rust.Section) → Alike xs ys 0
 alike_start xs ys = record { rest = refl }
 
 module _ (xs ys : List Rust.Section) (i : ℕ) where
-  alike_here : (x y : Rust.Section) → i < length xs → i < length ys → x ≡ get_or xs i x → y ≡ get_or ys i y → Alike xs ys i → congruous (sections_of xs) (sections_of ys) ≡ (are_alike (section_of x) (section_of y) && congruous (sections_of (drop (suc i) xs)) (sections_of (drop (suc i) ys)))
+  alike_here : (x y : Rust.Section) → i < length xs → i < length ys → x ≡ get_or xs i x → y ≡ get_or ys i y
+      → Alike xs ys i → congruous (sections_of xs) (sections_of ys)
+      ≡ (are_alike (section_of x) (section_of y) && congruous (sections_of (drop (suc i) xs))
+      (sections_of (drop (suc i) ys)))
   unfolding congruous sections_of
   alike_here x y ltx lty atx aty r =
       r.rest
-      ∙ ap (λ l. congruous (sections_of l) (sections_of (drop i ys))) (drop-cons xs i x ltx ∙ ap (λ a. a ∷ drop (suc i) xs) (sym atx))
-      ∙ ap (λ l. congruous (sections_of (x ∷ drop (suc i) xs)) (sections_of l)) (drop-cons ys i y lty ∙ ap (λ a. a ∷ drop (suc i) ys) (sym aty))
+      ∙ ap (λ l. congruous (sections_of l) (sections_of (drop i ys)))
+      (drop-cons xs i x ltx ∙ ap (λ a. a ∷ drop (suc i) xs) (sym atx))
+      ∙ ap (λ l. congruous (sections_of (x ∷ drop (suc i) xs)) (sections_of l))
+      (drop-cons ys i y lty ∙ ap (λ a. a ∷ drop (suc i) ys) (sym aty))
 
-  pub alike_next : (x y : Rust.Section) → i < length xs → i < length ys → x ≡ get_or xs i x → y ≡ get_or ys i y → are_alike (section_of x) (section_of y) ≡ true → Alike xs ys i → Alike xs ys (i + 1)
+  pub alike_next : (x y : Rust.Section) → i < length xs → i < length ys → x ≡ get_or xs i x → y ≡ get_or ys i y
+      → are_alike (section_of x) (section_of y) ≡ true → Alike xs ys i → Alike xs ys (i + 1)
   alike_next x y ltx lty atx aty e r = record {
     rest =
         alike_here x y ltx lty atx aty r
         ∙ ap (λ b. b && congruous (sections_of (drop (suc i) xs)) (sections_of (drop (suc i) ys))) e
-        ∙ (let n : suc i ≡ i + 1 = omega arith in ap (λ k. congruous (sections_of (drop k xs)) (sections_of (drop k ys))) n);
+        ∙ (let n : suc i ≡ i + 1 = omega arith in ap (λ k. congruous (sections_of (drop k xs))
+        (sections_of (drop k ys))) n);
   }
 
-  pub alike_fault : (x y : Rust.Section) → i < length xs → i < length ys → x ≡ get_or xs i x → y ≡ get_or ys i y → are_alike (section_of x) (section_of y) ≡ false → Alike xs ys i → congruous (sections_of xs) (sections_of ys) ≡ false
+  pub alike_fault : (x y : Rust.Section) → i < length xs → i < length ys → x ≡ get_or xs i x → y ≡ get_or ys i y
+      → are_alike (section_of x) (section_of y) ≡ false → Alike xs ys i → congruous (sections_of xs) (sections_of ys)
+      ≡ false
   alike_fault x y ltx lty atx aty e r =
-      alike_here x y ltx lty atx aty r ∙ ap (λ b. b && congruous (sections_of (drop (suc i) xs)) (sections_of (drop (suc i) ys))) e
+      alike_here x y ltx lty atx aty r ∙ ap (λ b. b && congruous (sections_of (drop (suc i) xs))
+      (sections_of (drop (suc i) ys))) e
 
   pub alike_end : length xs ≤ i → length ys ≤ i → Alike xs ys i → congruous (sections_of xs) (sections_of ys) ≡ true
   unfolding congruous sections_of
   alike_end lex ley r =
-      r.rest ∙ ap (λ l. congruous (sections_of l) (sections_of (drop i ys))) (drop_all i xs lex) ∙ ap (λ l. congruous (sections_of []) (sections_of l)) (drop_all i ys ley)
+      r.rest ∙ ap (λ l. congruous (sections_of l) (sections_of (drop i ys))) (drop_all i xs lex)
+      ∙ ap (λ l. congruous (sections_of []) (sections_of l)) (drop_all i ys ley)
 
 -- ---- formal parameters
 
@@ -78,13 +92,16 @@ pub listed_start : (xs : List Rust.Section) → Listed xs 0 []
 listed_start xs = record { rest = refl }
 
 module _ (xs : List Rust.Section) (i : ℕ) where
-  pub listed_next : (done new : List Section) (x : Rust.Section) (n : ℕ) → i < length xs → x ≡ get_or xs i x → ((rest : List Section) → with_parameters (section_of x) rest ≡ times n (section_of x) rest) → new ≡ done ++ times n (section_of x) [] → Listed xs i done → Listed xs (i + 1) new
+  pub listed_next : (done new : List Section) (x : Rust.Section) (n : ℕ) → i < length xs → x ≡ get_or xs i x
+      → ((rest : List Section) → with_parameters (section_of x) rest ≡ times n (section_of x) rest) → new ≡ done
+      ++ times n (section_of x) [] → Listed xs i done → Listed xs (i + 1) new
   unfolding parameters sections_of
   listed_next done new x n lt at count e r = record {
     rest =
         r.rest
         ∙ ap (λ l. done ++ parameters (sections_of l)) (drop-cons xs i x lt ∙ ap (λ a. a ∷ drop (suc i) xs) (sym at))
-        ∙ ap (λ l. done ++ l) (count (parameters (sections_of (drop (suc i) xs))) ∙ times_append n (section_of x) (parameters (sections_of (drop (suc i) xs))))
+        ∙ ap (λ l. done ++ l) (count (parameters (sections_of (drop (suc i) xs))) ∙ times_append n (section_of x)
+        (parameters (sections_of (drop (suc i) xs))))
         ∙ sym (append_assoc done (times n (section_of x) []) (parameters (sections_of (drop (suc i) xs))))
         ∙ ap (λ l. l ++ parameters (sections_of (drop (suc i) xs))) (sym e)
         ∙ (let m : suc i ≡ i + 1 = omega arith in ap (λ k. new ++ parameters (sections_of (drop k xs))) m);
@@ -92,30 +109,44 @@ module _ (xs : List Rust.Section) (i : ℕ) where
 
   pub listed_end : (done : List Section) → length xs ≤ i → Listed xs i done → done ≡ parameters (sections_of xs)
   unfolding parameters sections_of
-  listed_end done le r = sym (r.rest ∙ ap (λ l. done ++ parameters (sections_of l)) (drop_all i xs le) ∙ append-nil done)
+  listed_end done le r = sym (r.rest ∙ ap (λ l. done ++ parameters (sections_of l)) (drop_all i xs le)
+      ∙ append-nil done)
 
 -- ---- two procedural or functional parameters
 
 module _ (a b : Rust.Section) (s t : Rc (Vec Rust.Section Global) Global) (r q : Option Ty) (xs ys : List Rust.Section) where
-  both_routines : a ≡ Rust.Routine s r → b ≡ Rust.Routine t q → xs ≡ s.value.items → ys ≡ t.value.items → are_alike (section_of a) (section_of b) ≡ (congruous (sections_of xs) (sections_of ys) && are_one_type (option_map type_of r) (option_map type_of q))
+  both_routines : a ≡ Rust.Routine s r → b ≡ Rust.Routine t q → xs ≡ s.value.items → ys ≡ t.value.items → are_alike
+      (section_of a) (section_of b) ≡ (congruous (sections_of xs) (sections_of ys) && are_one_type
+      (option_map type_of r) (option_map type_of q))
   unfolding are_alike
   both_routines ea eb ex ey =
       ap (λ x. are_alike (section_of x) (section_of b)) ea
       ∙ ap (λ x. are_alike (section_of (Rust.Routine s r)) (section_of x)) eb
       ∙ ap (λ x. are_alike x (section_of (Rust.Routine t q))) (section_of_Routine s r)
-      ∙ ap (λ x. are_alike (RoutineSection (sections_of s.value.items) (option_map type_of r)) x) (section_of_Routine t q)
-      ∙ ap (λ l. congruous (sections_of l) (sections_of t.value.items) && are_one_type (option_map type_of r) (option_map type_of q)) (sym ex)
-      ∙ ap (λ l. congruous (sections_of xs) (sections_of l) && are_one_type (option_map type_of r) (option_map type_of q)) (sym ey)
+      ∙ ap (λ x. are_alike (RoutineSection (sections_of s.value.items) (option_map type_of r)) x)
+      (section_of_Routine t q)
+      ∙ ap (λ l. congruous (sections_of l) (sections_of t.value.items) && are_one_type (option_map type_of r)
+      (option_map type_of q)) (sym ex)
+      ∙ ap (λ l. congruous (sections_of xs) (sections_of l) && are_one_type (option_map type_of r)
+      (option_map type_of q)) (sym ey)
 
-  pub routines_alike : (x y : Bool) → a ≡ Rust.Routine s r → b ≡ Rust.Routine t q → xs ≡ s.value.items → ys ≡ t.value.items → x ≡ congruous (sections_of xs) (sections_of ys) → x ≡ true → y ≡ are_one_type (option_map type_of r) (option_map type_of q) → y ≡ are_alike (section_of a) (section_of b)
+  pub routines_alike : (x y : Bool) → a ≡ Rust.Routine s r → b ≡ Rust.Routine t q → xs ≡ s.value.items → ys
+      ≡ t.value.items → x ≡ congruous (sections_of xs) (sections_of ys) → x ≡ true → y ≡ are_one_type
+      (option_map type_of r) (option_map type_of q) → y ≡ are_alike (section_of a) (section_of b)
   routines_alike x y ea eb ex ey ec et eo =
-      eo ∙ sym (both_routines ea eb ex ey ∙ ap (λ z. z && are_one_type (option_map type_of r) (option_map type_of q)) (sym ec ∙ et))
+      eo ∙ sym (both_routines ea eb ex ey ∙ ap (λ z. z && are_one_type (option_map type_of r) (option_map type_of q))
+      (sym ec ∙ et))
 
-  pub routines_unlike : (x : Bool) → a ≡ Rust.Routine s r → b ≡ Rust.Routine t q → xs ≡ s.value.items → ys ≡ t.value.items → x ≡ congruous (sections_of xs) (sections_of ys) → x ≡ false → x ≡ are_alike (section_of a) (section_of b)
+  pub routines_unlike : (x : Bool) → a ≡ Rust.Routine s r → b ≡ Rust.Routine t q → xs ≡ s.value.items → ys
+      ≡ t.value.items → x ≡ congruous (sections_of xs) (sections_of ys) → x ≡ false → x ≡ are_alike (section_of a)
+      (section_of b)
   routines_unlike x ea eb ex ey ec ef =
-      ef ∙ sym (both_routines ea eb ex ey ∙ ap (λ z. z && are_one_type (option_map type_of r) (option_map type_of q)) (sym ec ∙ ef))
+      ef ∙ sym (both_routines ea eb ex ey ∙ ap (λ z. z && are_one_type (option_map type_of r) (option_map type_of q))
+      (sym ec ∙ ef))
 
 -- a section that is listed once more
-pub pushed_time : {A : Type 0} (h : A → Section) (old new : List A) (x : A) (done : List Section) (n : ℕ) → new ≡ old ++ x ∷ [] → map h old ≡ done ++ times n (h x) [] → map h new ≡ done ++ times (n + 1) (h x) []
+pub pushed_time : {A : Type 0} (h : A → Section) (old new : List A) (x : A) (done : List Section) (n : ℕ) → new ≡ old
+    ++ x ∷ [] → map h old ≡ done ++ times n (h x) [] → map h new ≡ done ++ times (n + 1) (h x) []
 pushed_time h old new x done n e r =
-    ap (map h) e ∙ map_push h old x ∙ ap (λ l. l ++ h x ∷ []) r ∙ append_assoc done (times n (h x) []) (h x ∷ []) ∙ ap (λ l. done ++ l) (sym (times_more n (h x)))
+    ap (map h) e ∙ map_push h old x ∙ ap (λ l. l ++ h x ∷ []) r ∙ append_assoc done (times n (h x) []) (h x ∷ [])
+    ∙ ap (λ l. done ++ l) (sym (times_more n (h x)))

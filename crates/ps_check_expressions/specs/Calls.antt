@@ -1,5 +1,6 @@
 -- Calls (6.6.3, 6.6.6, 6.7.3): actual parameters, and the required functions.
-use Rattle.std.specs.Prelude.{ℕ, suc, zero, Bool, true, false, not, ◌&&◌, ◌==◌, List, [], ◌∷◌, length, Option, Some, None, if◌then◌else◌}
+use Rattle.std.specs.Prelude.{ℕ, suc, zero, Bool, true, false, not, ◌&&◌, ◌==◌, List, [], ◌∷◌, length, Option, Some}
+use Rattle.std.specs.Prelude.{None, if◌then◌else◌}
 use Rattle.ps_text.specs.declared.Span.{Span}
 use Rattle.ps_tree.specs.declared.types.Ordinal.{Ordinal}
 use Rattle.ps_tree.specs.declared.types.Host.TheVariants.{Integer}
@@ -11,13 +12,18 @@ use Rattle.ps_check_names.specs.declared.meaning.File.TheVariants.{Input}
 use Rattle.ps_check_names.specs.declared.meaning.Required.{Required}
 use Rattle.ps_check_names.specs.declared.meaning.Required.TheVariants as required
 use Rattle.ps_check_judgement.specs.declared.refusal.Rule.{Rule}
-use Rattle.ps_check_judgement.specs.declared.refusal.Rule.TheVariants.{NotInProfile, WrongKind, WrongType, NotAssignable, PackedVariable, NotCongruous, NoInputOutput}
+use Rattle.ps_check_judgement.specs.declared.refusal.Rule.TheVariants.{NotInProfile, WrongKind, WrongType}
+use Rattle.ps_check_judgement.specs.declared.refusal.Rule.TheVariants.{NotAssignable, PackedVariable, NotCongruous}
+use Rattle.ps_check_judgement.specs.declared.refusal.Rule.TheVariants.{NoInputOutput}
 use Rattle.ps_check_judgement.specs.Judged as j
 use Rattle.ps_check_judgement.specs.Judged.{Judged, Yes, No, provided, holds, some_or}
 use Rattle.ps_check_judgement.specs.Changing.{Changing, ◌>>=◌, same, still, each_both}
 use Rattle.ps_check_names.specs.Spelling.{line_in}
-use Rattle.ps_check_names.specs.Regions.{Context, Region, Point, BlockPoint, Section, ValueSection, VariableSection, RoutineSection, Sections, no_section, section_before, RoutineMeaning, RoutineParameterMeaning, RequiredMeaning, FileMeaning}
-use Rattle.ps_check_expressions.specs.Values.{Value, SimpleValue, SetValue, StructureValue, Variable, Operand, host_type, ordinal_of, range_of, argument_list}
+use Rattle.ps_check_names.specs.Regions.{Context, Region, Point, BlockPoint, Section, ValueSection, VariableSection}
+use Rattle.ps_check_names.specs.Regions.{RoutineSection, Sections, no_section, section_before, RoutineMeaning}
+use Rattle.ps_check_names.specs.Regions.{RoutineParameterMeaning, RequiredMeaning, FileMeaning}
+use Rattle.ps_check_expressions.specs.Values.{Value, SimpleValue, SetValue, StructureValue, Variable, Operand}
+use Rattle.ps_check_expressions.specs.Values.{host_type, ordinal_of, range_of, argument_list}
 use Rattle.ps_check_names.specs.Constants.{integer, char, boolean, misplaced}
 use Rattle.ps_check_expressions.specs.Names.{denoted}
 use Rattle.ps_check_expressions.specs.Changed.{changed}
@@ -29,7 +35,7 @@ are_one_type None None = true
 are_one_type (Some s) (Some t) = is_same_type s t
 are_one_type _ _ = false
 
--- 6.6.3.6: congruous lists have equally many sections, and each two sections are of one kind
+-- 6.6.3.6: congruous lists have the same number of sections, and each two sections are of one kind
 unfoldable mutual
   pub congruous : Sections → Sections → Bool
   congruous no_section no_section = true
@@ -59,14 +65,17 @@ parameters (section_before s rest) = with_parameters s (parameters rest)
 
 -- 6.6.3.2: by value; the actual parameter begins at `at`
 unfoldable pub by_value : (at : ℕ) → DataType → Value → ℕ → Judged Tree.Argument
-by_value at type (SimpleValue e from) line = provided (is_assignable from type) NotAssignable at (Tree.ByValue e (range_of type) line)
-by_value at (SetType a k o) (SetValue e from) line = provided (is_assignable from (SetType a k o)) NotAssignable at (Tree.BySet e o.low o.high line)
+by_value at type (SimpleValue e from) line = provided (is_assignable from type) NotAssignable at
+    (Tree.ByValue e (range_of type) line)
+by_value at (SetType a k o) (SetValue e from) line = provided (is_assignable from (SetType a k o)) NotAssignable at
+    (Tree.BySet e o.low o.high line)
 by_value at type (SetValue e from) line = No NotAssignable at
 by_value at type (StructureValue e from) line = provided (is_assignable from type) NotAssignable at (Tree.ByCopy e type)
 
--- 6.6.3.3: a variable of the same type that is no component of a packed variable
+-- 6.6.3.3: a variable of the same type that is not a component of a packed variable
 unfoldable pub by_variable : (at : ℕ) → DataType → Variable → Judged Tree.Argument
-by_variable at type v = if is_same_type v.type type then provided (not v.in_packed) PackedVariable at (Tree.ByVariable v.place) else No WrongType at
+by_variable at type v = if is_same_type v.type type then provided (not v.in_packed) PackedVariable at
+    (Tree.ByVariable v.place) else No WrongType at
 
 -- a procedure is of another kind than a function
 abbrev pub unlike_routine : Option DataType → Option DataType → Rule
@@ -75,21 +84,26 @@ unlike_routine (Some s) (Some t) = NotCongruous
 unlike_routine _ _ = WrongKind
 
 -- a routine with these sections and result for a parameter with those
-abbrev pub exchanged : (at : ℕ) → (wanted : Sections) → Option DataType → Sections → Option DataType → Tree.Argument → Judged Tree.Argument
-exchanged at wanted result sections outcome a = provided (congruous wanted sections && are_one_type result outcome) (unlike_routine result outcome) at a
+abbrev pub exchanged : (at : ℕ) → (wanted : Sections) → Option DataType → Sections → Option DataType → Tree.Argument
+    → Judged Tree.Argument
+exchanged at wanted result sections outcome a = provided (congruous wanted sections && are_one_type result outcome)
+    (unlike_routine result outcome) at a
 
--- 6.6.3.4, 6.6.3.5: a routine with a congruous list and the same result type; a required one is none
+-- 6.6.3.4, 6.6.3.5: a routine with a congruous list and the same result type; a required one is not allowed
 unfoldable pub by_routine : (at : ℕ) → Sections → Option DataType → Point → Judged Tree.Argument
-by_routine at sections result (BlockPoint up (RoutineMeaning h)) = exchanged at sections result h.sections h.result (Tree.ByRoutine h.number up)
-by_routine at sections result (BlockPoint up (RoutineParameterMeaning entry s r)) = exchanged at sections result s r (Tree.ByFormal up entry)
+by_routine at sections result (BlockPoint up (RoutineMeaning h)) = exchanged at sections result h.sections h.result
+    (Tree.ByRoutine h.number up)
+by_routine at sections result (BlockPoint up (RoutineParameterMeaning entry s r)) = exchanged at sections result s r
+    (Tree.ByFormal up entry)
 by_routine at sections result p = misplaced at p
 
 -- A list of actual parameters has as many as there are formal ones; the called name is at `at`.
 abbrev pub congruent : {A B C : Type 0} → (at : ℕ) → (A → B → Changing C) → List A → List B → Changing (List C)
-congruent at f formals actuals = still (holds (length formals == length actuals) NotCongruous at) >>= (λ _. each_both f formals actuals)
+congruent at f formals actuals = still (holds (length formals == length actuals) NotCongruous at)
+    >>= (λ _. each_both f formals actuals)
 
 module _ (c : Context) (Γ : List Region) where
-  -- a variable that is passed as a variable parameter is changed where it stands
+  -- a variable that is passed as a variable parameter is changed at its place
   abbrev pub passed_variable : (at : ℕ) → DataType → Variable → Changing Tree.Argument
   passed_variable at type v = do
     _ ← changed c v.place at
@@ -98,7 +112,7 @@ module _ (c : Context) (Γ : List Region) where
   abbrev pub passed : DataType → Operand → Changing Tree.Argument
   passed type x = x.variable >>= passed_variable x.first type
 
-  -- what is no name is no routine
+  -- what is not a name is not a routine
   abbrev pub named_routine : Sections → Option DataType → (at : ℕ) → Option Span → Judged Tree.Argument
   named_routine sections result at None = No WrongKind at
   named_routine sections result at (Some name) = j.◌>>=◌ (denoted c Γ name) (by_routine name.from sections result)
@@ -124,7 +138,8 @@ needs_integer required.Odd = true
 needs_integer required.Chr = true
 needs_integer _ = false
 
--- 6.6.6.2 to 6.6.6.4: the function of an ordinal, and the type of its value; succ and pred are of the operand's host type
+-- 6.6.6.2 to 6.6.6.4: the function of an ordinal, and the type of its value; for succ and pred that is the operand's
+-- host type
 abbrev pub function_of : Required → Ordinal → Option (RequiredFunction × Ordinal)
 function_of required.Abs o = Some (f.Abs, integer)
 function_of required.Sqr o = Some (f.Sqr, integer)
@@ -135,12 +150,13 @@ function_of required.Succ o = Some (f.Succ (host_type o.host).high, host_type o.
 function_of required.Pred o = Some (f.Pred (host_type o.host).low, host_type o.host)
 function_of _ o = None
 
--- the value of a function that there is, of an operand that it takes
+-- the value of a function that exists, for an operand that it takes
 abbrev pub applied : (at : ℕ) → Required → ℕ → Tree.Expr × Ordinal → Option (RequiredFunction × Ordinal) → Judged Value
 applied at r line x None = No WrongType at
-applied at r line x (Some f) = if needs_integer r && not (is_same_host x.1.host Integer) then No WrongType at else Yes (ordinal_value (Tree.Apply f.0 x.0 line) f.1)
+applied at r line x (Some f) = if needs_integer r && not (is_same_host x.1.host Integer) then No WrongType at else Yes
+    (ordinal_value (Tree.Apply f.0 x.0 line) f.1)
 
--- of an operand that begins at `at`
+-- for an operand that begins at `at`
 unfoldable pub required_value : (at : ℕ) → Required → ℕ → Value → Judged Value
 required_value at r line v = j.◌>>=◌ (ordinal_of at v) (λ x. applied at r line x (function_of r x.1))
 
@@ -150,7 +166,7 @@ look required.Eof line = Some (ordinal_value Tree.Eof boolean)
 look required.Eoln line = Some (ordinal_value (Tree.Eoln line) boolean)
 look _ line = None
 
--- the required procedures (6.6.5) are no functions
+-- the required procedures (6.6.5) are not functions
 abbrev pub is_procedure : Required → Bool
 is_procedure required.Read = true
 is_procedure required.Readln = true

@@ -1,4 +1,4 @@
--- The operators (6.7.2): what they give of their operands, where the types are right.
+-- The operators (6.7.2): their results for given operands, if the types are right.
 use Rattle.std.specs.Prelude.{ℕ, Bool, true, false, ◌&&◌, if◌then◌else◌, Option, Some, None, is_some}
 use Rattle.ps_syntax.specs.declared.expression.Sign.{Sign}
 use Rattle.ps_syntax.specs.declared.expression.Sign.TheVariants as sign
@@ -20,7 +20,8 @@ use Rattle.ps_tree.specs.declared.tree.PointerRelation.{PointerRelation}
 use Rattle.ps_tree.specs.declared.tree.PointerRelation.TheVariants as pointers
 use Rattle.ps_tree.specs.declared.tree.SetRelation.{SetRelation}
 use Rattle.ps_tree.specs.declared.tree.SetRelation.TheVariants as sets
-use Rattle.ps_tree.specs.Types.{DataType, OrdinalType, PointerType, NilType, SetType, EmptySetType, is_same_host, are_same, string_length, is_compatible}
+use Rattle.ps_tree.specs.Types.{DataType, OrdinalType, PointerType, NilType, SetType, EmptySetType, is_same_host}
+use Rattle.ps_tree.specs.Types.{are_same, string_length, is_compatible}
 use Rattle.ps_tree.specs.declared.types.Host.{Host}
 use Rattle.ps_tree.specs.declared.types.Host.TheVariants.{Integer, Boolean}
 use Rattle.ps_tree.specs.Tree as Tree
@@ -28,10 +29,11 @@ use Rattle.ps_check_judgement.specs.declared.refusal.Rule.TheVariants.{WrongType
 use Rattle.ps_check_judgement.specs.Judged.{Judged, Yes, No, ◌>>=◌, provided}
 use Rattle.ps_tree.specs.Chains.{calculated, connected, combined}
 use Rattle.ps_check_expressions.specs.declared.operators.Operands.{Operands}
-use Rattle.ps_check_expressions.specs.Values.{Value, SimpleValue, SetValue, StructureValue, has_host, set_type_of_both, type_of_value}
+use Rattle.ps_check_expressions.specs.Values.{Value, SimpleValue, SetValue, StructureValue, has_host, set_type_of_both}
+use Rattle.ps_check_expressions.specs.Values.{type_of_value}
 use Rattle.ps_check_names.specs.Constants.{integer, boolean}
 
--- ---- operands, and what an operator on them gives
+-- ---- operands, and the result of an operator on them
 
 abbrev pub number : Tree.Expr → Value
 number e = SimpleValue e (OrdinalType integer)
@@ -57,7 +59,8 @@ negated at v = operand_of Boolean at v >>= (λ e. Yes (truth (Tree.Not e)))
 
 -- on integers (6.7.2.2)
 unfoldable pub arithmetic : Operands → ArithmeticOperator → ℕ → Value → Value → Judged Value
-arithmetic at operator line v w = operand_of Integer at.first v >>= (λ a. operand_of Integer at.second w >>= (λ b. Yes (number (calculated operator line a b))))
+arithmetic at operator line v w = operand_of Integer at.first v
+    >>= (λ a. operand_of Integer at.second w >>= (λ b. Yes (number (calculated operator line a b))))
 
 -- on integers or on sets of compatible types (6.7.2.4)
 unfoldable pub arithmetic_or_set : Operands → ArithmeticOperator → SetOperator → ℕ → Value → Value → Judged Value
@@ -68,7 +71,8 @@ arithmetic_or_set at operator sets line v w = arithmetic at operator line v w
 
 -- on Boolean operands (6.7.2.3)
 unfoldable pub logic : Operands → BooleanOperator → Value → Value → Judged Value
-logic at operator v w = operand_of Boolean at.first v >>= (λ a. operand_of Boolean at.second w >>= (λ b. Yes (truth (connected operator a b))))
+logic at operator v w = operand_of Boolean at.first v
+    >>= (λ a. operand_of Boolean at.second w >>= (λ b. Yes (truth (connected operator a b))))
 
 unfoldable pub added : Operands → Adding → ℕ → Value → Value → Judged Value
 added at adding.Plus line a b = arithmetic_or_set at Add Union line a b
@@ -116,7 +120,7 @@ may_be_first relation (SetType a k o) = is_some (of_sets relation)
 may_be_first relation EmptySetType = is_some (of_sets relation)
 may_be_first relation type = is_some (ordered relation) && is_some (string_length type)
 
--- Operands that don't go together: the second is told, unless the first can't stand there by itself.
+-- Operands that don't go together: the second is reported, unless the first isn't allowed there by itself.
 abbrev pub unlike : {A : Type 0} → Operands → Relation → DataType → Judged A
 unlike at relation first = No WrongType (if may_be_first relation first then at.second else at.first)
 
@@ -140,14 +144,18 @@ abbrev pub is_in : Relation → Bool
 is_in relation.In = true
 is_in _ = false
 
--- of operands that go together, and a relation that is one of theirs
+-- for operands that go together, and a relation that is one of theirs
 abbrev pub together : {R : Type 0} → Operands → Relation → DataType → Bool → Option R → (R → Tree.Expr) → Judged Value
 together at relation first fit None make = unlike at relation first
 together at relation first fit (Some s) make = if fit then Yes (truth (make s)) else unlike at relation first
 
 unfoldable pub compared : Operands → Relation → Value → Value → Judged Value
-compared at relation (SimpleValue a s) (SimpleValue b t) = if is_compatible s t then simple_comparison at relation a b s else unlike at relation s
-compared at relation (SimpleValue a s) (SetValue b t) = if is_in relation then provided (may_be_member s t) WrongType at.first (truth (Tree.In a b)) else unlike at relation s
-compared at relation (SetValue a s) (SetValue b t) = together at relation s (is_compatible s t) (of_sets relation) (λ c. Tree.CompareSets c a b)
-compared at relation (StructureValue a s) (StructureValue b t) = together at relation s (are_same (string_length s) (string_length t)) (ordered relation) (λ c. Tree.CompareStrings c a b)
+compared at relation (SimpleValue a s) (SimpleValue b t) = if is_compatible s t then simple_comparison at relation a b s
+    else unlike at relation s
+compared at relation (SimpleValue a s) (SetValue b t) = if is_in relation then provided
+    (may_be_member s t) WrongType at.first (truth (Tree.In a b)) else unlike at relation s
+compared at relation (SetValue a s) (SetValue b t) = together at relation s (is_compatible s t) (of_sets relation)
+    (λ c. Tree.CompareSets c a b)
+compared at relation (StructureValue a s) (StructureValue b t) = together at relation s
+    (are_same (string_length s) (string_length t)) (ordered relation) (λ c. Tree.CompareStrings c a b)
 compared at relation v w = unlike at relation (type_of_value v)

@@ -1,4 +1,4 @@
--- What variables and expressions stand for: the checked tree, and the type.
+-- What variables and expressions denote: the checked tree, and the type.
 use Rattle.std.specs.Prelude.{ℕ, pos, Bool, false, List, [], ◌∷◌, Option, None}
 use Rattle.ps_text.specs.declared.Span.{Span}
 use Rattle.ps_tree.specs.declared.types.Host.{Host}
@@ -8,14 +8,16 @@ use Rattle.ps_tree.specs.declared.types.Packing.{Packing}
 use Rattle.ps_tree.specs.declared.types.Packing.TheVariants.{Either}
 use Rattle.ps_tree.specs.declared.tree.Range.{Range}
 use Rattle.ps_tree.specs.declared.tree.Range.TheVariants.{Any, Within}
-use Rattle.ps_tree.specs.Types.{DataType, OrdinalType, PointerType, SetType, EmptySetType, ArrayType, RecordType, is_same_host}
+use Rattle.ps_tree.specs.Types.{DataType, OrdinalType, PointerType, SetType, EmptySetType, ArrayType, RecordType}
+use Rattle.ps_tree.specs.Types.{is_same_host}
 use Rattle.ps_tree.specs.Tree as Tree
 use Rattle.ps_check_judgement.specs.declared.refusal.Rule.TheVariants.{WrongKind, WrongType}
 use Rattle.ps_check_judgement.specs.Judged.{Judged, Yes, No}
 use Rattle.ps_check_judgement.specs.Changing.{Changing, still}
 use Rattle.ps_check_names.specs.Constants.{integer, char, boolean}
 
--- An expression is of one of three kinds by its values: ordinals and pointers, sets, and arrays, records and strings.
+-- An expression is of one of three kinds according to its values: ordinals and pointers, sets, and arrays, records and
+-- strings.
 pub data Value : Type 0 where
   SimpleValue : Tree.Expr → DataType → Value
   SetValue : Tree.SetExpr → DataType → Value
@@ -27,7 +29,8 @@ pub record Variable : Type 0 where
   pub type : DataType
   pub in_packed : Bool
 
--- What an expression is seen as: where it begins, its value, the variable that it is, where it is one alone, and the name, where it is one alone.
+-- The view of an expression: where it begins, its value, the variable that it is, if it is one alone, and the name, if
+-- it is one alone.
 pub record Operand : Type 0 where
   pub first : ℕ
   pub value : Changing Value
@@ -43,7 +46,12 @@ abbrev pub host_type : Host → Ordinal
 host_type Integer = integer
 host_type Char = char
 host_type Boolean = boolean
-host_type (Enumeration at greatest) = record { host = Enumeration at greatest; subrange = None; low = pos 0; high = greatest }
+host_type (Enumeration at greatest) = record {
+  host = Enumeration at greatest;
+  subrange = None;
+  low = pos 0;
+  high = greatest;
+}
 
 -- ---- the kinds of types
 
@@ -74,7 +82,7 @@ ordinal_of at _ = No WrongType at
 
 -- ---- sets (6.7.2.4)
 
--- two sets are taken together: the one that is packed or not settles it
+-- two sets are taken together: if one is packed or not, that decides
 abbrev pub packing_of_both : Packing → Packing → Packing
 packing_of_both Either l = l
 packing_of_both k l = k

@@ -1,4 +1,4 @@
--- What the values of the program stand for in the definitions.
+-- What the values of the program denote in the definitions.
 use Rattle.std.specs.Prelude.{ℕ, List, [], ◌∷◌, map}
 use Rattle.ps_tree.specs.View.{type_of, place_of, expr_of, set_of, structure_of}
 use Rattle.ps_check_names.specs.Regions.{Context, Region}
@@ -35,7 +35,14 @@ context_at site = record {
 }
 
 abbrev pub with_controls : Context → Controls → Context
-with_controls c controls = record { text = c.text; domains = c.domains; has_input = c.has_input; has_output = c.has_output; controls = controls_of controls; inner = c.inner }
+with_controls c controls = record {
+  text = c.text;
+  domains = c.domains;
+  has_input = c.has_input;
+  has_output = c.has_output;
+  controls = controls_of controls;
+  inner = c.inner;
+}
 
 abbrev pub regions_at : Site → List Region
 regions_at site = scope_of site.scope.now

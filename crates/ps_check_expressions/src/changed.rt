@@ -1,5 +1,5 @@
-//! What is changed: variables that are assigned to, read, counted or passed as variable parameters (ISO 7185, 6.8.3.9), and
-//! results of functions (6.6.2).
+//! What is changed: variables that are assigned to, read, counted or passed as variable parameters (ISO 7185, 6.8.3.9),
+//! and results of functions (6.6.2).
 
 ghost use Rattle.std.specs.Prelude.{◌≡◌, ◌==◌};
 ghost use Rattle.std.specs.List.{list_any};
@@ -14,7 +14,7 @@ use ps_check_judgement::change::Change;
 use ps_check_judgement::refusal::{Fault, Rule};
 use ps_tree::tree::{Place, PlaceBase};
 
-/// The control variables of the `for` statements round a place, by their entries, the innermost first.
+/// The control variables of the `for` statements around a place, by their entries, innermost first.
 #[derive(Clone, Copy)]
 pub enum Controls<'a> {
     Outside,
@@ -43,10 +43,11 @@ fn has_entry(controls: &Controls, entry: u32) -> bool
     }
 }
 
-/// Adds the change of an entry, which is that of no control variable of a `for` statement round the place.
+/// Adds the change of an entry that is not the control variable of an enclosing `for` statement.
 #[tactic(auto, unfolding(crate::specs::Changed::changed_entry))]
 pub fn changed_entry(site: Site<'_>, changes: &mut Vec<Change>, change: Change) -> Result<(), Fault>
-    ensures { Answers result (λ _. (tt, changes.new.items)) (changed_entry (context_at site.entry) change.up change.entry change.at changes.old.items) }
+    ensures { Answers result (λ _. (tt, changes.new.items))
+        (changed_entry (context_at site.entry) change.up change.entry change.at changes.old.items) }
 {
     if change.up == 0 && has_entry(site.controls, change.entry) {
         return Err(broken(Rule::ControlVariable, change.at));
@@ -55,7 +56,7 @@ pub fn changed_entry(site: Site<'_>, changes: &mut Vec<Change>, change: Change) 
     Ok(())
 }
 
-/// Adds the change of a variable that is changed at `at`, where it is a whole one.
+/// Adds the change of a variable that is changed at `at`, if it is a whole one.
 #[tactic(auto, using(crate::proofs::ChangeLemmas::changed_part, crate::proofs::ChangeLemmas::changed_whole), unfolding(crate::specs::Changed::changed))]
 pub fn changed(
     site: Site<'_>,
@@ -63,7 +64,8 @@ pub fn changed(
     place: &Place,
     at: u32,
 ) -> Result<(), Fault>
-    ensures { Answers result (λ _. (tt, changes.new.items)) (changed (context_at site.entry) (place_of place.now) at changes.old.items) }
+    ensures { Answers result (λ _. (tt, changes.new.items))
+        (changed (context_at site.entry) (place_of place.now) at changes.old.items) }
 {
     if !place.selectors.is_empty() {
         return Ok(());

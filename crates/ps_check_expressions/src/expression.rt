@@ -1,6 +1,7 @@
 //! The typing of variables and expressions (ISO 7185, 6.5 and 6.7).
 
-ghost use Rattle.std.specs.Prelude.{◌≡◌, List, [], ◌∷◌, ◌++◌, map, option_map, Ok, Err, IfOk, IfErr, IsTrue, Some, None};
+ghost use Rattle.std.specs.Prelude.{◌≡◌, List, [], ◌∷◌, ◌++◌, map, option_map, Ok, Err, IfOk, IfErr, IsTrue, Some};
+ghost use Rattle.std.specs.Prelude.{None};
 ghost use Rattle.ps_tree.specs.View.{type_of, expr_of, argument_of, member_of};
 ghost use Rattle.ps_syntax.specs.declared.expression.Simple.{out-Simple};
 ghost use Rattle.ps_syntax.specs.declared.expression.Term.{out-Term};
@@ -16,9 +17,13 @@ ghost use Rattle.ps_check_names.specs.Spelling.{line_in};
 ghost use Rattle.ps_check_names.specs.Views.{point_of, section_of, sections_of};
 ghost use Rattle.ps_tree.specs.Tree as Tree;
 ghost use Rattle.ps_check_expressions.specs.Values.{Value, SimpleValue, argument_list};
-ghost use Rattle.ps_check_expressions.specs.Calls.{passed_variable, actual, actuals, parameters, called, required_call, standing_alone, look, names_input};
+ghost use Rattle.ps_check_expressions.specs.Calls.{passed_variable, actual, actuals, parameters, called, required_call};
+ghost use Rattle.ps_check_expressions.specs.Calls.{standing_alone, look, names_input};
 ghost use Rattle.ps_check_expressions.specs.Expressions as spec;
-ghost use Rattle.ps_check_expressions.specs.Expressions.{negation, gathered, constructed, first_term, standing, set_value, indexed, operand, factor_operand, member_at, select, add_term, multiply_factor, simple_operand, term_operand, variable_operand};
+ghost use Rattle.ps_check_expressions.specs.Expressions.{negation, gathered, constructed, first_term, standing};
+ghost use Rattle.ps_check_expressions.specs.Expressions.{set_value, indexed, operand, factor_operand, member_at};
+ghost use Rattle.ps_check_expressions.specs.Expressions.{select, add_term, multiply_factor, simple_operand};
+ghost use Rattle.ps_check_expressions.specs.Expressions.{term_operand, variable_operand};
 ghost use Rattle.ps_check_expressions.specs.View.{context_at, regions_at, value_of, variable_of};
 
 use crate::changed::changed;
@@ -54,7 +59,8 @@ fn first_term(
     term: TypedValue,
     at: u32,
 ) -> Result<TypedValue, Fault>
-    ensures { Answers result (λ v. value_of v) (first_term (context_at site.entry) (regions_at site.entry) at sign.now (value_of term)) }
+    ensures { Answers result (λ v. value_of v)
+        (first_term (context_at site.entry) (regions_at site.entry) at sign.now (value_of term)) }
 {
     match sign {
         None => Ok(term),
@@ -68,7 +74,8 @@ fn first_term(
 /// The type of a set's members so far, the last of which begins at `at`.
 #[tactic(auto, unfolding(crate::specs::Expressions::gathered))]
 fn joined(base: Option<Ordinal>, ordinal: Ordinal, at: u32) -> Result<Ordinal, Fault>
-    ensures { (ms : List Tree.Member) (m : Tree.Member) → Answers result (λ o. (ms ++ m ∷ [], Some o)) (gathered at (ms, base) (m, ordinal)) }
+    ensures { (ms : List Tree.Member) (m : Tree.Member) → Answers result (λ o. (ms ++ m ∷ [], Some o))
+        (gathered at (ms, base) (m, ordinal)) }
 {
     match base {
         None => Ok(ordinal),
@@ -81,7 +88,7 @@ fn joined(base: Option<Ordinal>, ordinal: Ordinal, at: u32) -> Result<Ordinal, F
     }
 }
 
-/// The set of some members, of which `base` is the type of the first.
+/// The set of some members; `base` is the type of the first.
 #[tactic(auto, using(crate::proofs::Judgement::members_listed, ps_tree::proofs::TreeLemmas::set_of_Constructor), unfolding(crate::specs::Expressions::constructed, crate::specs::View::value_of, ps_tree::specs::View::type_of))]
 fn constructed(members: Vec<Member>, base: Option<Ordinal>) -> TypedValue
     ensures { value_of result ≡ constructed (map member_of members.items, base) }
@@ -105,7 +112,9 @@ fn range(
     to: (Expr, Ordinal),
     at: Operands,
 ) -> Result<(Member, Ordinal), Fault>
-    ensures { Answers result (λ m. (member_of m.0, m.1)) (spec.both at.second (expr_of from.0, from.1) (expr_of to.0, to.1) (line_in (context_at site.entry).text at.first)) }
+    ensures { Answers result (λ m. (member_of m.0, m.1))
+        (spec.both at.second (expr_of from.0, from.1) (expr_of to.0, to.1)
+        (line_in (context_at site.entry).text at.first)) }
 {
     if !same_host(from.1.host, to.1.host) {
         drop((from, to));
@@ -129,7 +138,7 @@ fn result_type(ty: &Option<Ty>, at: u32) -> Result<Ty, Fault>
     }
 }
 
-/// The name that a term is, where it is one alone.
+/// The name that a term is, if it is nothing else.
 #[tactic(auto, using(crate::proofs::Judgement::term_name, crate::proofs::Equations::factor_call, crate::proofs::Equations::factor_number, crate::proofs::Equations::factor_text, crate::proofs::Equations::factor_nil, crate::proofs::Equations::factor_set, crate::proofs::Equations::factor_group, crate::proofs::Equations::factor_not))]
 fn term_name(x: &Term) -> Option<Span>
     ensures { (c : Context) (Γ : List Region) → (term_operand c Γ x.now).name ≡ result }
@@ -155,7 +164,7 @@ fn term_name(x: &Term) -> Option<Span>
     }
 }
 
-/// The name that an expression is, where it is one alone.
+/// The name that an expression is, if it is nothing else.
 #[tactic(auto, using(crate::proofs::Equations::operand_simple, crate::proofs::Equations::operand_compare, crate::proofs::Judgement::simple_name, crate::proofs::Judgement::simple_no_name, crate::proofs::Judgement::signed_no_name))]
 pub fn name_alone(x: &Syntax) -> Option<Span>
     ensures { (c : Context) (Γ : List Region) → (operand c Γ x.now).name ≡ result }
@@ -178,7 +187,8 @@ pub fn name_alone(x: &Syntax) -> Option<Span>
 /// Whether an expression is the name of the input.
 #[tactic(auto)]
 fn is_the_input(site: Site<'_>, x: &Syntax) -> Result<bool, AllocError>
-    ensures { IfOk result (λ b. b ≡ names_input (context_at site.entry) (regions_at site.entry) (operand (context_at site.entry) (regions_at site.entry) x.now)) }
+    ensures { IfOk result (λ b. b ≡ names_input (context_at site.entry) (regions_at site.entry)
+        (operand (context_at site.entry) (regions_at site.entry) x.now)) }
 {
     match name_alone(x) {
         None => Ok(false),
@@ -192,10 +202,11 @@ fn is_the_input(site: Site<'_>, x: &Syntax) -> Result<bool, AllocError>
     }
 }
 
-/// The call of a declared function, whose result is of this type.
+/// The call of a declared function whose result is of this type.
 #[tactic(auto, using(crate::proofs::Judgement::arguments_listed, ps_tree::proofs::TreeLemmas::expr_of_Call), unfolding(crate::specs::View::value_of))]
 fn declared_call(routine: u32, up: u32, line: Line, ty: Ty, arguments: Vec<Argument>) -> TypedValue
-    ensures { value_of result ≡ SimpleValue (Tree.Call routine up (argument_list (map argument_of arguments.items)) line.number) (type_of ty) }
+    ensures { value_of result ≡ SimpleValue (Tree.Call routine up
+        (argument_list (map argument_of arguments.items)) line.number) (type_of ty) }
 {
     let call = Expr::Call {
         routine,
@@ -206,10 +217,11 @@ fn declared_call(routine: u32, up: u32, line: Line, ty: Ty, arguments: Vec<Argum
     TypedValue::Simple(call, ty)
 }
 
-/// The call of a functional parameter, whose result is of this type.
+/// The call of a functional parameter whose result is of this type.
 #[tactic(auto, using(crate::proofs::Judgement::arguments_listed, ps_tree::proofs::TreeLemmas::expr_of_CallFormal), unfolding(crate::specs::View::value_of))]
 fn formal_call(up: u32, index: u32, line: Line, ty: Ty, arguments: Vec<Argument>) -> TypedValue
-    ensures { value_of result ≡ SimpleValue (Tree.CallFormal up index (argument_list (map argument_of arguments.items)) line.number) (type_of ty) }
+    ensures { value_of result ≡ SimpleValue (Tree.CallFormal up index
+        (argument_list (map argument_of arguments.items)) line.number) (type_of ty) }
 {
     let call = Expr::CallFormal {
         up,
@@ -220,13 +232,14 @@ fn formal_call(up: u32, index: u32, line: Line, ty: Ty, arguments: Vec<Argument>
     TypedValue::Simple(call, ty)
 }
 
-/// No actual parameters, where there are no formal ones. The called name is at `at`.
+/// No actual parameters, if there are no formal ones. The called name is at `at`.
 pub(crate) fn no_arguments(
     site: Site<'_>,
     sections: &[Section],
     at: u32,
 ) -> Result<Vec<Argument>, Fault>
-    ensures { (changes : List Change) → Answers result (λ list. (map argument_of list.items, changes)) (actuals (context_at site.entry) (regions_at site.entry) at (sections_of sections.now) [] changes) }
+    ensures { (changes : List Change) → Answers result (λ list. (map argument_of list.items, changes))
+        (actuals (context_at site.entry) (regions_at site.entry) at (sections_of sections.now) [] changes) }
 {
     let formals = parameters(site.alloc, sections)?;
     if formals.len() != 0 {
@@ -238,7 +251,8 @@ pub(crate) fn no_arguments(
 /// The value of an unsigned integer.
 #[tactic(auto, unfolding(crate::specs::View::value_of, ps_tree::specs::View::type_of, ps_tree::specs::View::expr_of))]
 fn number_value(site: Site<'_>, at: Span) -> TypedValue
-    ensures { value_of result ≡ SimpleValue (Tree.Number (number_at (context_at site.entry).text at)) (OrdinalType integer) }
+    ensures { value_of result ≡ SimpleValue (Tree.Number (number_at (context_at site.entry).text at))
+        (OrdinalType integer) }
 {
     let value = number_at(site.reading, at);
     TypedValue::Simple(Expr::Number(value), Ty::Simple(INTEGER))
@@ -256,7 +270,8 @@ fn look_at_name(required: Required, line: Line, at: u32) -> Result<TypedValue, F
 
 /// A required function without actual parameters: eof or eoln of the input, which the program heading has to list.
 fn look_at_input(site: Site<'_>, required: Required, at: u32) -> Result<TypedValue, Fault>
-    ensures { Answers result (λ v. value_of v) (standing_alone at (context_at site.entry).has_input (look required (line_in (context_at site.entry).text at))) }
+    ensures { Answers result (λ v. value_of v)
+        (standing_alone at (context_at site.entry).has_input (look required (line_in (context_at site.entry).text at))) }
 {
     match look(required, site.reading.line(at)) {
         None => Err(broken(Rule::NotCongruous, at)),
@@ -270,10 +285,11 @@ fn look_at_input(site: Site<'_>, required: Required, at: u32) -> Result<TypedVal
     }
 }
 
-/// A required routine whose name stands alone; a procedure has no value.
+/// A required routine whose name is used alone; a procedure has no value.
 #[tactic(auto, unfolding(crate::specs::Calls::required_call, crate::specs::Calls::function_call))]
 fn required_alone(site: Site<'_>, required: Required, at: u32) -> Result<TypedValue, Fault>
-    ensures { (changes : List Change) → Answers result (λ v. (value_of v, changes)) (required_call (context_at site.entry) (regions_at site.entry) at required [] changes) }
+    ensures { (changes : List Change) → Answers result (λ v. (value_of v, changes))
+        (required_call (context_at site.entry) (regions_at site.entry) at required [] changes) }
 {
     if is_procedure(required) {
         return Err(broken(Rule::WrongKind, at));
@@ -284,7 +300,8 @@ fn required_alone(site: Site<'_>, required: Required, at: u32) -> Result<TypedVa
 /// The value of a function that a name denotes, without actual parameters.
 #[tactic(auto, unfolding(crate::specs::Calls::called, ps_check_names::specs::Views::meaning_of))]
 fn call_alone(site: Site<'_>, found: Found<'_>, name: Span) -> Result<TypedValue, Fault>
-    ensures { (changes : List Change) → Answers result (λ v. (value_of v, changes)) (called (context_at site.entry) (regions_at site.entry) name.from (point_of found.entry) [] changes) }
+    ensures { (changes : List Change) → Answers result (λ v. (value_of v, changes))
+        (called (context_at site.entry) (regions_at site.entry) name.from (point_of found.entry) [] changes) }
 {
     let line = site.reading.line(name.from);
     match found {
@@ -318,10 +335,11 @@ fn call_alone(site: Site<'_>, found: Found<'_>, name: Span) -> Result<TypedValue
     }
 }
 
-/// What a name alone stands for: a constant, the contents of a variable, or a function's value.
+/// What a name alone denotes: a constant, the contents of a variable, or a function's value.
 #[tactic(auto, unfolding(crate::specs::Expressions::standing, ps_check_names::specs::Views::constant_of, ps_check_names::specs::Views::meaning_of))]
 fn standing(site: Site<'_>, found: Found<'_>, name: Span) -> Result<TypedValue, Fault>
-    ensures { (changes : List Change) → Answers result (λ v. (value_of v, changes)) (standing (context_at site.entry) (regions_at site.entry) name.from (point_of found.entry) changes) }
+    ensures { (changes : List Change) → Answers result (λ v. (value_of v, changes))
+        (standing (context_at site.entry) (regions_at site.entry) name.from (point_of found.entry) changes) }
 {
     match found {
         Found::Field { .. } => loaded(
@@ -358,12 +376,14 @@ fn standing(site: Site<'_>, found: Found<'_>, name: Span) -> Result<TypedValue, 
 /// Whether a simple expression is one factor, without sign and operators, as most are.
 #[tactic(auto, using(crate::proofs::Judgement::value_of_one_factor))]
 fn is_one_factor(x: &Simple) -> bool
-    ensures { IsTrue result → (c : Context) (Γ : List Region) → (simple_operand c Γ x.now).value ≡ (factor_operand c Γ (out-Term (out-Simple x.now).first).first).value }
+    ensures { IsTrue result → (c : Context) (Γ : List Region) → (simple_operand c Γ x.now).value
+        ≡ (factor_operand c Γ (out-Term (out-Simple x.now).first).first).value }
 {
     x.sign.is_none() && x.more.is_empty() && x.first.more.is_empty()
 }
 
-/// The value of an expression. One that is a factor alone goes straight to it: parentheses lie in one another hundreds of levels deep.
+/// The value of an expression. One that is a factor alone goes straight to it: parentheses are nested hundreds of
+/// levels deep.
 #[cycle(expression)]
 #[tactic(auto, using(crate::proofs::Equations::operand_simple))]
 pub fn expr_value(
@@ -371,7 +391,8 @@ pub fn expr_value(
     site: Site<'_>,
     changes: &mut Vec<Change>,
 ) -> Result<TypedValue, Fault>
-    ensures { Answers result (λ v. (value_of v, changes.new.items)) ((operand (context_at site.entry) (regions_at site.entry) x.now).value changes.old.items) }
+    ensures { Answers result (λ v. (value_of v, changes.new.items))
+        ((operand (context_at site.entry) (regions_at site.entry) x.now).value changes.old.items) }
 {
     match x {
         Syntax::Simple(only) => {
@@ -385,7 +406,7 @@ pub fn expr_value(
     }
 }
 
-/// The same, through all levels of operators: that of a relation of two simple expressions (6.7.2.5), or of one alone.
+/// The same, through all levels of operators: a relation of two simple expressions (6.7.2.5), or one alone.
 #[cycle(expression)]
 #[tactic(auto, using(crate::proofs::Equations::operand_simple, crate::proofs::Judgement::compare_value))]
 fn compared_value(
@@ -393,7 +414,8 @@ fn compared_value(
     site: Site<'_>,
     changes: &mut Vec<Change>,
 ) -> Result<TypedValue, Fault>
-    ensures { Answers result (λ v. (value_of v, changes.new.items)) ((operand (context_at site.entry) (regions_at site.entry) x.now).value changes.old.items) }
+    ensures { Answers result (λ v. (value_of v, changes.new.items))
+        ((operand (context_at site.entry) (regions_at site.entry) x.now).value changes.old.items) }
 {
     match x {
         Syntax::Simple(only) => simple_value(only, site, changes),
@@ -413,7 +435,8 @@ fn compared_value(
 #[cycle(expression)]
 #[tactic(auto, using(crate::proofs::Judgement::simple_value))]
 fn simple_value(x: &Simple, site: Site<'_>, changes: &mut Vec<Change>) -> Result<TypedValue, Fault>
-    ensures { Answers result (λ v. (value_of v, changes.new.items)) ((simple_operand (context_at site.entry) (regions_at site.entry) x.now).value changes.old.items) }
+    ensures { Answers result (λ v. (value_of v, changes.new.items))
+        ((simple_operand (context_at site.entry) (regions_at site.entry) x.now).value changes.old.items) }
 {
     let term = term_value(&x.first, site, changes)?;
     let first = first_term(site, &x.sign, term, x.first.first_token())?;
@@ -430,7 +453,9 @@ fn add_terms(
     first: TypedValue,
     at: u32,
 ) -> Result<TypedValue, Fault>
-    ensures { Answers result (λ v. (value_of v, changes.new.items)) (through (λ v t. add_term (context_at site.entry) (regions_at site.entry) t at v) (value_of first) terms.now changes.old.items) }
+    ensures { Answers result (λ v. (value_of v, changes.new.items))
+        (through (λ v t. add_term (context_at site.entry) (regions_at site.entry) t at v)
+        (value_of first) terms.now changes.old.items) }
 {
     let mut value = first;
     for term in terms {
@@ -448,7 +473,8 @@ fn add_term(
     value: TypedValue,
     at: u32,
 ) -> Result<TypedValue, Fault>
-    ensures { Answers result (λ v. (value_of v, changes.new.items)) (add_term (context_at site.entry) (regions_at site.entry) added_term.now at (value_of value) changes.old.items) }
+    ensures { Answers result (λ v. (value_of v, changes.new.items))
+        (add_term (context_at site.entry) (regions_at site.entry) added_term.now at (value_of value) changes.old.items) }
 {
     let right = term_value(&added_term.term, site, changes)?;
     let line = site.reading.line(added_term.at.from);
@@ -462,7 +488,8 @@ fn add_term(
 #[cycle(expression)]
 #[tactic(auto, using(crate::proofs::Judgement::term_value))]
 fn term_value(x: &Term, site: Site<'_>, changes: &mut Vec<Change>) -> Result<TypedValue, Fault>
-    ensures { Answers result (λ v. (value_of v, changes.new.items)) ((term_operand (context_at site.entry) (regions_at site.entry) x.now).value changes.old.items) }
+    ensures { Answers result (λ v. (value_of v, changes.new.items))
+        ((term_operand (context_at site.entry) (regions_at site.entry) x.now).value changes.old.items) }
 {
     let first = factor_value(&x.first, site, changes)?;
     multiply_factors(x.more.as_slice(), site, changes, first, x.first_token())
@@ -478,7 +505,9 @@ fn multiply_factors(
     first: TypedValue,
     at: u32,
 ) -> Result<TypedValue, Fault>
-    ensures { Answers result (λ v. (value_of v, changes.new.items)) (through (λ v f. multiply_factor (context_at site.entry) (regions_at site.entry) f at v) (value_of first) factors.now changes.old.items) }
+    ensures { Answers result (λ v. (value_of v, changes.new.items))
+        (through (λ v f. multiply_factor (context_at site.entry) (regions_at site.entry) f at v)
+        (value_of first) factors.now changes.old.items) }
 {
     let mut value = first;
     for factor in factors {
@@ -496,7 +525,8 @@ fn multiply_factor(
     value: TypedValue,
     at: u32,
 ) -> Result<TypedValue, Fault>
-    ensures { Answers result (λ v. (value_of v, changes.new.items)) (multiply_factor (context_at site.entry) (regions_at site.entry) by.now at (value_of value) changes.old.items) }
+    ensures { Answers result (λ v. (value_of v, changes.new.items))
+        (multiply_factor (context_at site.entry) (regions_at site.entry) by.now at (value_of value) changes.old.items) }
 {
     let right = factor_value(&by.factor, site, changes)?;
     let line = site.reading.line(by.at.from);
@@ -510,7 +540,8 @@ fn multiply_factor(
 #[cycle(expression)]
 #[tactic(auto, using(crate::proofs::Equations::factor_variable, crate::proofs::Equations::factor_call, crate::proofs::Equations::factor_number, crate::proofs::Equations::factor_text, crate::proofs::Equations::factor_nil, crate::proofs::Equations::factor_set, crate::proofs::Equations::factor_group, crate::proofs::Equations::factor_not))]
 fn factor_value(x: &Factor, site: Site<'_>, changes: &mut Vec<Change>) -> Result<TypedValue, Fault>
-    ensures { Answers result (λ v. (value_of v, changes.new.items)) ((factor_operand (context_at site.entry) (regions_at site.entry) x.now).value changes.old.items) }
+    ensures { Answers result (λ v. (value_of v, changes.new.items))
+        ((factor_operand (context_at site.entry) (regions_at site.entry) x.now).value changes.old.items) }
 {
     match x {
         Factor::Variable(variable) => variable_value(variable, site, changes),
@@ -531,7 +562,8 @@ fn factor_value(x: &Factor, site: Site<'_>, changes: &mut Vec<Change>) -> Result
 #[cycle(expression)]
 #[tactic(auto, using(crate::proofs::Judgement::negation_value))]
 fn negated_value(x: &Factor, site: Site<'_>, changes: &mut Vec<Change>) -> Result<TypedValue, Fault>
-    ensures { Answers result (λ v. (value_of v, changes.new.items)) (negation (factor_operand (context_at site.entry) (regions_at site.entry) x.now) changes.old.items) }
+    ensures { Answers result (λ v. (value_of v, changes.new.items))
+        (negation (factor_operand (context_at site.entry) (regions_at site.entry) x.now) changes.old.items) }
 {
     let at = x.first_token();
     let operand = factor_value(x, site, changes)?;
@@ -546,7 +578,8 @@ fn set_value(
     site: Site<'_>,
     changes: &mut Vec<Change>,
 ) -> Result<TypedValue, Fault>
-    ensures { Answers result (λ v. (value_of v, changes.new.items)) (set_value (map (member_at (context_at site.entry) (regions_at site.entry)) members.now) changes.old.items) }
+    ensures { Answers result (λ v. (value_of v, changes.new.items))
+        (set_value (map (member_at (context_at site.entry) (regions_at site.entry)) members.now) changes.old.items) }
 {
     let mut list = Vec::new(site.alloc);
     let mut base = None;
@@ -565,7 +598,8 @@ fn member_value(
     site: Site<'_>,
     changes: &mut Vec<Change>,
 ) -> Result<(Member, Ordinal), Fault>
-    ensures { Answers result (λ m. ((member_of m.0, m.1), changes.new.items)) ((member_at (context_at site.entry) (regions_at site.entry) x.now).member changes.old.items) }
+    ensures { Answers result (λ m. ((member_of m.0, m.1), changes.new.items))
+        ((member_at (context_at site.entry) (regions_at site.entry) x.now).member changes.old.items) }
 {
     match x {
         SyntaxMember::One(only) => {
@@ -596,7 +630,8 @@ fn variable_value(
     site: Site<'_>,
     changes: &mut Vec<Change>,
 ) -> Result<TypedValue, Fault>
-    ensures { Answers result (λ v. (value_of v, changes.new.items)) ((variable_operand (context_at site.entry) (regions_at site.entry) x.now).value changes.old.items) }
+    ensures { Answers result (λ v. (value_of v, changes.new.items))
+        ((variable_operand (context_at site.entry) (regions_at site.entry) x.now).value changes.old.items) }
 {
     if x.selectors.is_empty() {
         let found = site.denoted(x.name)?;
@@ -615,14 +650,15 @@ pub fn variable_place(
     site: Site<'_>,
     changes: &mut Vec<Change>,
 ) -> Result<TypedPlace, Fault>
-    ensures { Answers result (λ v. (variable_of v, changes.new.items)) ((variable_operand (context_at site.entry) (regions_at site.entry) x.now).variable changes.old.items) }
+    ensures { Answers result (λ v. (variable_of v, changes.new.items))
+        ((variable_operand (context_at site.entry) (regions_at site.entry) x.now).variable changes.old.items) }
 {
     let found = site.denoted(x.name)?;
     let entire = variable_found(site.alloc, found, x.name.from)?;
     select_all(x.selectors.as_slice(), site, changes, entire, x.name.from)
 }
 
-/// What selectors pick from a variable, which begins at `at`.
+/// What selectors select of a variable that begins at `at`.
 #[cycle(expression)]
 #[tactic(auto, using(ps_check_judgement::proofs::Lists::stepped_start, ps_check_judgement::proofs::Lists::stepped_next, ps_check_judgement::proofs::Lists::stepped_fault, ps_check_judgement::proofs::Lists::stepped_end))]
 fn select_all(
@@ -632,7 +668,9 @@ fn select_all(
     variable: TypedPlace,
     at: u32,
 ) -> Result<TypedPlace, Fault>
-    ensures { Answers result (λ v. (variable_of v, changes.new.items)) (through (λ v s. select (context_at site.entry) (regions_at site.entry) s at v) (variable_of variable) selectors.now changes.old.items) }
+    ensures { Answers result (λ v. (variable_of v, changes.new.items))
+        (through (λ v s. select (context_at site.entry) (regions_at site.entry) s at v)
+        (variable_of variable) selectors.now changes.old.items) }
 {
     let mut place = variable;
     for selector in selectors {
@@ -650,7 +688,9 @@ fn select(
     variable: TypedPlace,
     at: u32,
 ) -> Result<TypedPlace, Fault>
-    ensures { Answers result (λ v. (variable_of v, changes.new.items)) (select (context_at site.entry) (regions_at site.entry) selector.now at (variable_of variable) changes.old.items) }
+    ensures { Answers result (λ v. (variable_of v, changes.new.items))
+        (select (context_at site.entry) (regions_at site.entry) selector.now at
+        (variable_of variable) changes.old.items) }
 {
     match selector {
         Selector::Index(indices) => index_all(indices.as_slice(), site, changes, variable, at),
@@ -675,7 +715,9 @@ fn index_all(
     variable: TypedPlace,
     at: u32,
 ) -> Result<TypedPlace, Fault>
-    ensures { Answers result (λ v. (variable_of v, changes.new.items)) (through (indexed (context_at site.entry) (regions_at site.entry) at) (variable_of variable) (map (operand (context_at site.entry) (regions_at site.entry)) indices.now) changes.old.items) }
+    ensures { Answers result (λ v. (variable_of v, changes.new.items))
+        (through (indexed (context_at site.entry) (regions_at site.entry) at) (variable_of variable)
+        (map (operand (context_at site.entry) (regions_at site.entry)) indices.now) changes.old.items) }
 {
     let mut place = variable;
     for index in indices {
@@ -693,7 +735,9 @@ fn index_one(
     variable: TypedPlace,
     at: u32,
 ) -> Result<TypedPlace, Fault>
-    ensures { Answers result (λ v. (variable_of v, changes.new.items)) (indexed (context_at site.entry) (regions_at site.entry) at (variable_of variable) (operand (context_at site.entry) (regions_at site.entry) index.now) changes.old.items) }
+    ensures { Answers result (λ v. (variable_of v, changes.new.items))
+        (indexed (context_at site.entry) (regions_at site.entry) at (variable_of variable)
+        (operand (context_at site.entry) (regions_at site.entry) index.now) changes.old.items) }
 {
     let first = index.first_token();
     let line = site.reading.line(first);
@@ -715,7 +759,9 @@ fn call_value(
     found: Found<'_>,
     name: Span,
 ) -> Result<TypedValue, Fault>
-    ensures { Answers result (λ v. (value_of v, changes.new.items)) (called (context_at site.entry) (regions_at site.entry) name.from (point_of found.entry) (map (operand (context_at site.entry) (regions_at site.entry)) operands.now) changes.old.items) }
+    ensures { Answers result (λ v. (value_of v, changes.new.items))
+        (called (context_at site.entry) (regions_at site.entry) name.from (point_of found.entry)
+        (map (operand (context_at site.entry) (regions_at site.entry)) operands.now) changes.old.items) }
 {
     let line = site.reading.line(name.from);
     match found {
@@ -760,7 +806,9 @@ fn required_call(
     required: Required,
     name: Span,
 ) -> Result<TypedValue, Fault>
-    ensures { Answers result (λ v. (value_of v, changes.new.items)) (required_call (context_at site.entry) (regions_at site.entry) name.from required (map (operand (context_at site.entry) (regions_at site.entry)) operands.now) changes.old.items) }
+    ensures { Answers result (λ v. (value_of v, changes.new.items))
+        (required_call (context_at site.entry) (regions_at site.entry) name.from required
+        (map (operand (context_at site.entry) (regions_at site.entry)) operands.now) changes.old.items) }
 {
     let at = name.from;
     if is_procedure(required) {
@@ -781,7 +829,7 @@ fn required_call(
     }
 }
 
-/// The actual parameters of a call, whose name is at `at`.
+/// The actual parameters of a call whose name is at `at`.
 #[cycle(expression)]
 pub(crate) fn argument_all(
     operands: &[Syntax],
@@ -790,7 +838,9 @@ pub(crate) fn argument_all(
     sections: &[Section],
     at: u32,
 ) -> Result<Vec<Argument>, Fault>
-    ensures { Answers result (λ list. (map argument_of list.items, changes.new.items)) (actuals (context_at site.entry) (regions_at site.entry) at (sections_of sections.now) (map (operand (context_at site.entry) (regions_at site.entry)) operands.now) changes.old.items) }
+    ensures { Answers result (λ list. (map argument_of list.items, changes.new.items))
+        (actuals (context_at site.entry) (regions_at site.entry) at (sections_of sections.now)
+        (map (operand (context_at site.entry) (regions_at site.entry)) operands.now) changes.old.items) }
 {
     let formals = parameters(site.alloc, sections)?;
     if formals.len() != operands.len() {
@@ -811,7 +861,9 @@ fn passed(
     variable: TypedPlace,
     at: u32,
 ) -> Result<Argument, Fault>
-    ensures { Answers result (λ a. (argument_of a, changes.new.items)) (passed_variable (context_at site.entry) (regions_at site.entry) at (type_of ty.now) (variable_of variable) changes.old.items) }
+    ensures { Answers result (λ a. (argument_of a, changes.new.items))
+        (passed_variable (context_at site.entry) (regions_at site.entry) at (type_of ty.now)
+        (variable_of variable) changes.old.items) }
 {
     changed(site, changes, &variable.place, at)?;
     by_variable(ty, variable, at)
@@ -825,7 +877,9 @@ pub fn argument(
     changes: &mut Vec<Change>,
     section: &Section,
 ) -> Result<Argument, Fault>
-    ensures { Answers result (λ a. (argument_of a, changes.new.items)) (actual (context_at site.entry) (regions_at site.entry) (section_of section.now) (operand (context_at site.entry) (regions_at site.entry) x.now) changes.old.items) }
+    ensures { Answers result (λ a. (argument_of a, changes.new.items))
+        (actual (context_at site.entry) (regions_at site.entry) (section_of section.now)
+        (operand (context_at site.entry) (regions_at site.entry) x.now) changes.old.items) }
 {
     let at = x.first_token();
     match section {
@@ -853,7 +907,8 @@ pub fn argument(
 /// An expression that is a variable alone.
 #[cycle(expression)]
 pub fn referent(x: &Syntax, site: Site<'_>, changes: &mut Vec<Change>) -> Result<TypedPlace, Fault>
-    ensures { Answers result (λ v. (variable_of v, changes.new.items)) ((operand (context_at site.entry) (regions_at site.entry) x.now).variable changes.old.items) }
+    ensures { Answers result (λ v. (variable_of v, changes.new.items))
+        ((operand (context_at site.entry) (regions_at site.entry) x.now).variable changes.old.items) }
 {
     match x {
         Syntax::Compare(..) => Err(broken(Rule::WrongKind, x.first_token())),
@@ -874,7 +929,8 @@ pub fn referent(x: &Syntax, site: Site<'_>, changes: &mut Vec<Change>) -> Result
 #[cycle(expression)]
 #[tactic(auto, using(crate::proofs::Judgement::term_variable, crate::proofs::Equations::factor_call, crate::proofs::Equations::factor_number, crate::proofs::Equations::factor_text, crate::proofs::Equations::factor_nil, crate::proofs::Equations::factor_set, crate::proofs::Equations::factor_group, crate::proofs::Equations::factor_not))]
 fn term_referent(x: &Term, site: Site<'_>, changes: &mut Vec<Change>) -> Result<TypedPlace, Fault>
-    ensures { Answers result (λ v. (variable_of v, changes.new.items)) ((term_operand (context_at site.entry) (regions_at site.entry) x.now).variable changes.old.items) }
+    ensures { Answers result (λ v. (variable_of v, changes.new.items))
+        ((term_operand (context_at site.entry) (regions_at site.entry) x.now).variable changes.old.items) }
 {
     if !x.more.is_empty() {
         return Err(broken(Rule::WrongKind, x.first_token()));

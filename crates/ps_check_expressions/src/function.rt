@@ -7,7 +7,8 @@ ghost use Rattle.ps_tree.specs.declared.types.Host.TheVariants.{Integer};
 ghost use Rattle.ps_check_judgement.specs.Judged.{Answers};
 ghost use Rattle.ps_check_names.specs.Views.{point_of};
 ghost use Rattle.ps_check_expressions.specs.Values.{ordinal_of};
-ghost use Rattle.ps_check_expressions.specs.Calls.{needs_integer, function_of, is_procedure, required_value, look, is_input};
+ghost use Rattle.ps_check_expressions.specs.Calls.{needs_integer, function_of, is_procedure, required_value, look};
+ghost use Rattle.ps_check_expressions.specs.Calls.{is_input};
 ghost use Rattle.ps_check_expressions.specs.Expressions.{constant_value};
 ghost use Rattle.ps_check_expressions.specs.View.{context_at, value_of};
 ghost use Rattle.ps_scan.specs.Values.{characters};
@@ -110,7 +111,7 @@ pub(crate) fn is_procedure(required: Required) -> bool
     }
 }
 
-/// Whether a required function needs an integer, and the host type of its operand is another.
+/// Whether a required function needs an integer, and its operand has another host type.
 fn lacks_integer(required: Required, host: Host) -> bool
     ensures { result ≡ (needs_integer required && not (is_same_host host Integer)) }
 {
@@ -193,7 +194,7 @@ pub(crate) fn required_value(
     Ok(TypedValue::Simple(value, Ty::Simple(ty)))
 }
 
-/// What eof or eoln tells of the input; another routine tells nothing.
+/// The value of eof or eoln of the input; none for another routine.
 #[tactic(auto, unfolding(crate::specs::Calls::look, crate::specs::View::value_of, ps_tree::specs::View::type_of, ps_tree::specs::View::expr_of))]
 pub(crate) fn look(required: Required, line: Line) -> Option<TypedValue>
     ensures { option_map value_of result ≡ look required line.number }

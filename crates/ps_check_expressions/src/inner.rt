@@ -6,8 +6,8 @@ ghost use Rattle.ps_check_expressions.specs.Changed.{is_change_of, first_or, fir
 use ps_check_judgement::change::Change;
 use std::alloc::{AllocError, Global};
 
-/// What the routines of a block change, as the block sees it, with a table of where they first change each of its own
-/// entries.
+/// What the routines of a block change, as the block sees it, with a table of where they first change each of the
+/// block's own entries.
 #[derive(Drop)]
 pub struct Inner<'a> {
     pub changes: &'a [Change],
@@ -15,7 +15,7 @@ pub struct Inner<'a> {
     ghost table: { (k : ℕ) → get_or firsts.items k None ≡ first_at k changes.now },
 }
 
-/// Fills up with places that are none, so that the entry has one.
+/// Extends the table with `None`s until it has the entry.
 fn reach(firsts: &mut Vec<Option<u32>>, entry: u32) -> Result<(), AllocError>
     ensures long { OnOk result (entry < length firsts.new.items) }
     ensures same { OnOk result ((k : ℕ) → get_or firsts.new.items k None ≡ get_or firsts.old.items k None) }
@@ -27,9 +27,10 @@ fn reach(firsts: &mut Vec<Option<u32>>, entry: u32) -> Result<(), AllocError>
     Ok(())
 }
 
-/// Notes where a change is, if it is the first of an entry of the block.
+/// Records where a change is, if it is the first of an entry of the block.
 fn note(firsts: &mut Vec<Option<u32>>, change: &Change) -> Result<(), AllocError>
-    ensures { OnOk result ((k : ℕ) → get_or firsts.new.items k None ≡ first_or (get_or firsts.old.items k None) (if is_change_of k change.now then Some change.now.at else None)) }
+    ensures { OnOk result ((k : ℕ) → get_or firsts.new.items k None ≡ first_or (get_or firsts.old.items k None)
+        (if is_change_of k change.now then Some change.now.at else None)) }
 {
     if change.up != 0 {
         return Ok(());

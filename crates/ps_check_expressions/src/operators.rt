@@ -7,8 +7,12 @@ ghost use Rattle.ps_tree.specs.Chains.{combined};
 ghost use Rattle.ps_check_judgement.specs.Judged.{Answers, provided};
 ghost use Rattle.ps_check_judgement.specs.declared.refusal.Fault.TheVariants.{Broken};
 ghost use Rattle.ps_check_judgement.specs.declared.refusal.Rule.TheVariants.{WrongType};
-ghost use Rattle.ps_check_expressions.specs.Values.{SimpleValue, SetValue, StructureValue, set_type_of_both, type_of_value};
-ghost use Rattle.ps_check_expressions.specs.Operators.{operand_of, number, with_sign, negated, arithmetic, arithmetic_or_set, logic, added, multiplied, ordered, of_pointers, of_sets, simple_comparison, may_be_first, may_be_member, is_in, compared, truth};
+ghost use Rattle.ps_check_expressions.specs.Values.{SimpleValue, SetValue, StructureValue, set_type_of_both};
+ghost use Rattle.ps_check_expressions.specs.Values.{type_of_value};
+ghost use Rattle.ps_check_expressions.specs.Operators.{operand_of, number, with_sign, negated, arithmetic};
+ghost use Rattle.ps_check_expressions.specs.Operators.{arithmetic_or_set, logic, added, multiplied, ordered};
+ghost use Rattle.ps_check_expressions.specs.Operators.{of_pointers, of_sets, simple_comparison, may_be_first};
+ghost use Rattle.ps_check_expressions.specs.Operators.{may_be_member, is_in, compared, truth};
 ghost use Rattle.ps_check_expressions.specs.View.{value_of};
 
 use crate::value::{TypedValue, has_host, set_type_of_both};
@@ -38,7 +42,8 @@ pub fn wrong_type(at: u32) -> Fault
     broken(Rule::WrongType, at)
 }
 
-/// Operands that don't go together: the second is told, unless the first, of this type, can't stand there by itself.
+/// Operands that don't go together: the second is reported, unless the first, of this type, isn't allowed there by
+/// itself.
 fn unlike(relation: Relation, first: &Ty, at: Operands) -> Fault
     ensures { result ≡ Broken WrongType (if may_be_first relation (type_of first.now) then at.second else at.first) }
 {
@@ -150,7 +155,10 @@ fn set_operation(
     right: (SetExpr, Ty),
     at: Operands,
 ) -> Result<TypedValue, Fault>
-    ensures { Answers result (λ v. value_of v) (provided (is_compatible (type_of left.1) (type_of right.1)) WrongType at.second (SetValue (combined operator (set_of left.0) (set_of right.0)) (set_type_of_both (type_of left.1) (type_of right.1)))) }
+    ensures { Answers result (λ v. value_of v)
+        (provided (is_compatible (type_of left.1) (type_of right.1)) WrongType at.second
+        (SetValue (combined operator (set_of left.0) (set_of right.0))
+        (set_type_of_both (type_of left.1) (type_of right.1)))) }
 {
     if !compatible(&left.1, &right.1) {
         drop((left, right));
@@ -171,7 +179,8 @@ fn arithmetic_or_set(
     right: TypedValue,
     at: Operands,
 ) -> Result<TypedValue, Fault>
-    ensures { Answers result (λ v. value_of v) (arithmetic_or_set at operators.0 operators.1 line.number (value_of left) (value_of right)) }
+    ensures { Answers result (λ v. value_of v)
+        (arithmetic_or_set at operators.0 operators.1 line.number (value_of left) (value_of right)) }
 {
     match (left, right) {
         (TypedValue::Set(a, s), TypedValue::Set(b, t)) => {
@@ -320,7 +329,9 @@ fn simple_comparison(
     right: (Expr, &Ty),
     at: Operands,
 ) -> Result<TypedValue, Fault>
-    ensures { Answers result (λ v. value_of v) (compared at relation (SimpleValue (expr_of left.entry.0) (type_of left.entry.1.now)) (SimpleValue (expr_of right.entry.0) (type_of right.entry.1.now))) }
+    ensures { Answers result (λ v. value_of v)
+        (compared at relation (SimpleValue (expr_of left.entry.0) (type_of left.entry.1.now))
+        (SimpleValue (expr_of right.entry.0) (type_of right.entry.1.now))) }
 {
     let ((left, s), (right, t)) = (left, right);
     let (left, right) = boxed_pair(alloc, left, right)?;
@@ -375,7 +386,7 @@ fn may_be_member(ty: &Ty, set: &Ty) -> bool
     }
 }
 
-/// String types of one length.
+/// String types of the same length.
 fn are_equally_long(a: &Ty, b: &Ty) -> bool
     ensures { result ≡ are_same (string_length (type_of a.now)) (string_length (type_of b.now)) }
 {
@@ -394,7 +405,9 @@ fn set_comparison(
     right: (SetExpr, &Ty),
     at: Operands,
 ) -> Result<TypedValue, Fault>
-    ensures { Answers result (λ v. value_of v) (compared at relation (SetValue (set_of left.entry.0) (type_of left.entry.1.now)) (SetValue (set_of right.entry.0) (type_of right.entry.1.now))) }
+    ensures { Answers result (λ v. value_of v)
+        (compared at relation (SetValue (set_of left.entry.0) (type_of left.entry.1.now))
+        (SetValue (set_of right.entry.0) (type_of right.entry.1.now))) }
 {
     let ((left, s), (right, t)) = (left, right);
     let (left, right) = boxed_pair(alloc, left, right)?;
@@ -408,7 +421,7 @@ fn set_comparison(
     }
 }
 
-/// A comparison of two strings of one length.
+/// A comparison of two strings of the same length.
 #[tactic(auto, unfolding(ps_tree::specs::View::expr_of, crate::specs::Operators::compared, crate::specs::View::value_of))]
 fn string_comparison(
     alloc: Global,
@@ -417,7 +430,9 @@ fn string_comparison(
     right: (Structure, &Ty),
     at: Operands,
 ) -> Result<TypedValue, Fault>
-    ensures { Answers result (λ v. value_of v) (compared at relation (StructureValue (structure_of left.entry.0) (type_of left.entry.1.now)) (StructureValue (structure_of right.entry.0) (type_of right.entry.1.now))) }
+    ensures { Answers result (λ v. value_of v)
+        (compared at relation (StructureValue (structure_of left.entry.0) (type_of left.entry.1.now))
+        (StructureValue (structure_of right.entry.0) (type_of right.entry.1.now))) }
 {
     let ((left, s), (right, t)) = (left, right);
     let (left, right) = boxed_pair(alloc, left, right)?;
@@ -431,7 +446,7 @@ fn string_comparison(
     }
 }
 
-/// A test whether an ordinal is in a set.
+/// A test of whether an ordinal is in a set.
 #[tactic(auto, unfolding(ps_tree::specs::View::expr_of, crate::specs::Operators::compared, crate::specs::View::value_of))]
 fn membership(
     alloc: Global,
@@ -440,7 +455,9 @@ fn membership(
     right: (SetExpr, &Ty),
     at: Operands,
 ) -> Result<TypedValue, Fault>
-    ensures { Answers result (λ v. value_of v) (compared at relation (SimpleValue (expr_of left.entry.0) (type_of left.entry.1.now)) (SetValue (set_of right.entry.0) (type_of right.entry.1.now))) }
+    ensures { Answers result (λ v. value_of v)
+        (compared at relation (SimpleValue (expr_of left.entry.0) (type_of left.entry.1.now))
+        (SetValue (set_of right.entry.0) (type_of right.entry.1.now))) }
 {
     let ((left, s), (right, t)) = (left, right);
     let (left, right) = boxed_pair(alloc, left, right)?;
@@ -464,7 +481,8 @@ fn membership(
 /// Why no relation compares two operands, the first of which is `left`.
 #[tactic(auto, unfolding(crate::specs::View::value_of))]
 fn unlike_values(relation: Relation, left: &TypedValue, at: Operands) -> Fault
-    ensures { result ≡ Broken WrongType (if may_be_first relation (type_of_value (value_of left.now)) then at.second else at.first) }
+    ensures { result ≡ Broken WrongType (if may_be_first relation (type_of_value (value_of left.now)) then at.second
+        else at.first) }
 {
     match left {
         TypedValue::Simple(_, ty) | TypedValue::Set(_, ty) | TypedValue::Structure(_, ty) => {

@@ -6,7 +6,8 @@ ghost use Rattle.ps_check_judgement.specs.Judged.{Answers};
 ghost use Rattle.ps_check_names.specs.Regions.{Section as SectionOf};
 ghost use Rattle.ps_check_names.specs.Views.{point_of, section_of, sections_of};
 ghost use Rattle.ps_check_expressions.specs.Values.{SetValue};
-ghost use Rattle.ps_check_expressions.specs.Calls.{are_one_type, congruous, are_alike, times, with_parameters, parameters, by_value, by_variable, unlike_routine, by_routine};
+ghost use Rattle.ps_check_expressions.specs.Calls.{are_one_type, congruous, are_alike, times, with_parameters};
+ghost use Rattle.ps_check_expressions.specs.Calls.{parameters, by_value, by_variable, unlike_routine, by_routine};
 ghost use Rattle.ps_check_expressions.specs.View.{value_of, variable_of};
 
 use crate::operators::wrong_type;
@@ -78,7 +79,8 @@ fn are_alike(a: &Section, b: &Section) -> bool
 /// An actual parameter by value that is a set, which begins at `at`.
 #[tactic(auto, unfolding(crate::specs::Calls::by_value, ps_tree::specs::View::type_of, ps_tree::specs::View::argument_of))]
 fn set_by_value(ty: &Ty, value: SetExpr, from: Ty, line: Line, at: u32) -> Result<Argument, Fault>
-    ensures { Answers result (λ a. argument_of a) (by_value at (type_of ty.now) (SetValue (set_of value) (type_of from)) line.number) }
+    ensures { Answers result (λ a. argument_of a)
+        (by_value at (type_of ty.now) (SetValue (set_of value) (type_of from)) line.number) }
 {
     match ty {
         Ty::Set { base, .. } => {
@@ -151,19 +153,20 @@ pub fn by_variable(ty: &Ty, variable: TypedPlace, at: u32) -> Result<Argument, F
     Ok(Argument::Variable(place))
 }
 
-/// Whether routines with these formal parameters and results may stand for one another (6.6.3.4, 6.6.3.5).
+/// Whether routines with these formal parameters and results may be passed for one another (6.6.3.4, 6.6.3.5).
 fn are_exchangeable(
     sections: &[Section],
     result_type: &Option<Ty>,
     others: &[Section],
     other: &Option<Ty>,
 ) -> bool
-    ensures { result ≡ (congruous (sections_of sections.now) (sections_of others.now) && are_one_type (option_map type_of result_type.now) (option_map type_of other.now)) }
+    ensures { result ≡ (congruous (sections_of sections.now) (sections_of others.now) && are_one_type
+        (option_map type_of result_type.now) (option_map type_of other.now)) }
 {
     congruous(sections, others) && are_one_type(result_type, other)
 }
 
-/// The rule that a routine breaks that can't stand for a parameter: a procedure is of another kind than a function.
+/// The rule broken by a routine that can't be passed for a parameter: a procedure is of another kind than a function.
 fn unlike_routine(a: &Option<Ty>, b: &Option<Ty>) -> Rule
     ensures { result ≡ unlike_routine (option_map type_of a.now) (option_map type_of b.now) }
 {
@@ -181,7 +184,8 @@ pub fn by_routine(
     found: Found<'_>,
     at: u32,
 ) -> Result<Argument, Fault>
-    ensures { Answers result (λ a. argument_of a) (by_routine at (sections_of sections.now) (option_map type_of result_type.now) (point_of found.entry)) }
+    ensures { Answers result (λ a. argument_of a)
+        (by_routine at (sections_of sections.now) (option_map type_of result_type.now) (point_of found.entry)) }
 {
     match found {
         Found::Field { .. } => Err(broken(misplacement(&found), at)),
@@ -217,13 +221,14 @@ pub fn by_routine(
     }
 }
 
-/// Adds a section to the list as often as it has names.
+/// Adds a section to the list once for each of its names.
 fn push_times<'a>(
     list: &mut Vec<&'a Section>,
     section: &'a Section,
     count: u32,
 ) -> Result<(), AllocError>
-    ensures { IfOk result (λ _. map (λ s. section_of s.now) list.new.items ≡ map (λ s. section_of s.now) list.old.items ++ times count (section_of section.now) []) }
+    ensures { IfOk result (λ _. map (λ s. section_of s.now) list.new.items ≡ map (λ s. section_of s.now) list.old.items
+        ++ times count (section_of section.now) []) }
 {
     for time in 0..count {
         list.push(section)?;
@@ -231,10 +236,11 @@ fn push_times<'a>(
     Ok(())
 }
 
-/// How many formal parameters a section has.
+/// The number of a section's formal parameters.
 #[tactic(auto, using(ps_check_names::proofs::ViewLemmas::section_of_Routine), unfolding(ps_check_names::specs::Views::section_of))]
 fn count_of(section: &Section) -> u32
-    ensures { (rest : List SectionOf) → with_parameters (section_of section.now) rest ≡ times result (section_of section.now) rest }
+    ensures { (rest : List SectionOf) → with_parameters (section_of section.now) rest ≡ times result
+        (section_of section.now) rest }
 {
     match section {
         Section::Value { count, .. } | Section::Variable { count, .. } => *count,

@@ -113,11 +113,16 @@ fn copy_of(ty: &Ty) -> Result<Ty, Fault>
     Ok(ty.copy()?)
 }
 
-/// The index of an element of an array of type `ty`, which begins at `at.first`, and the element's type. The index begins
-/// at `at.second`.
+/// The index of an element of an array of type `ty`, which begins at `at.first`, and the element's type. The index
+/// begins at `at.second`.
 #[tactic(auto, unfolding(crate::specs::Places::element, ps_tree::specs::View::type_of))]
 fn index_of(ty: &Ty, index: TypedValue, at: Operands) -> Result<(Expr, Ty), Fault>
-    ensures { (place : Tree.Place) (line : ℕ) → Answers result (λ e. record { place = selected place (Tree.Element (type_of ty.now) (expr_of e.0) line); type = type_of e.1; in_packed = is_packed (type_of ty.now) }) (element at place (type_of ty.now) (value_of index) line) }
+    ensures { (place : Tree.Place) (line : ℕ) → Answers result
+        (λ e. record {
+          place = selected place (Tree.Element (type_of ty.now) (expr_of e.0) line);
+          type = type_of e.1;
+          in_packed = is_packed (type_of ty.now);
+        }) (element at place (type_of ty.now) (value_of index) line) }
 {
     match ty {
         Ty::Array {
@@ -149,7 +154,8 @@ pub(crate) fn element(
     line: Line,
     at: Operands,
 ) -> Result<TypedPlace, Fault>
-    ensures { Answers result (λ v. variable_of v) (element at (place_of array.place) (type_of array.ty) (value_of index) line.number) }
+    ensures { Answers result (λ v. variable_of v)
+        (element at (place_of array.place) (type_of array.ty) (value_of index) line.number) }
 {
     let TypedPlace { place, ty, .. } = array;
     let in_packed = is_packed(&ty);
@@ -165,7 +171,13 @@ pub(crate) fn element(
 /// The place and the type of a field of a record of type `ty`, which begins at `first`; the field's name is at `at`.
 #[tactic(auto, unfolding(crate::specs::Places::component, ps_tree::specs::View::type_of))]
 fn field_of(ty: &Ty, name: &[u8], first: u32, at: u32) -> Result<(u32, Ty), Fault>
-    ensures { (place : Tree.Place) → Answers result (λ f. record { place = selected place (Tree.Field (type_of ty.now) f.0); type = type_of f.1; in_packed = is_packed (type_of ty.now) }) (component first at place (type_of ty.now) name.now) }
+    ensures { (place : Tree.Place) → Answers result
+        (λ f. record {
+          place = selected place (Tree.Field (type_of ty.now) f.0);
+          type = type_of f.1;
+          in_packed =
+              is_packed (type_of ty.now);
+        }) (component first at place (type_of ty.now) name.now) }
 {
     match ty {
         Ty::Record { fields, .. } => match fields.find(name) {
@@ -190,7 +202,8 @@ pub(crate) fn component(
     first: u32,
     at: u32,
 ) -> Result<TypedPlace, Fault>
-    ensures { Answers result (λ v. variable_of v) (component first at (place_of base.place) (type_of base.ty) name.now) }
+    ensures { Answers result (λ v. variable_of v)
+        (component first at (place_of base.place) (type_of base.ty) name.now) }
 {
     let TypedPlace { place, ty, .. } = base;
     let (number, field) = field_of(&ty, name, first, at)?;
@@ -206,7 +219,9 @@ pub(crate) fn component(
 /// The number of a pointer's type, and the type of what a pointer of type `ty`, which begins at `first`, identifies.
 #[tactic(auto, unfolding(crate::specs::Places::target, ps_tree::specs::View::type_of))]
 fn domain_of(site: Site<'_>, ty: &Ty, first: u32) -> Result<(u32, Ty), Fault>
-    ensures { (place : Tree.Place) (line : ℕ) → Answers result (λ d. record { place = selected place (Tree.Target d.0 line); type = type_of d.1; in_packed = false }) (target first (context_at site.entry).domains place (type_of ty.now) line) }
+    ensures { (place : Tree.Place) (line : ℕ) → Answers result
+        (λ d. record { place = selected place (Tree.Target d.0 line); type = type_of d.1; in_packed = false })
+        (target first (context_at site.entry).domains place (type_of ty.now) line) }
 {
     match ty {
         Ty::Pointer { number } => match site.reading.domains.get(*number as usize) {
@@ -231,7 +246,8 @@ pub(crate) fn target(
     line: Line,
     first: u32,
 ) -> Result<TypedPlace, Fault>
-    ensures { Answers result (λ v. variable_of v) (target first (context_at site.entry).domains (place_of variable.place) (type_of variable.ty) line.number) }
+    ensures { Answers result (λ v. variable_of v)
+        (target first (context_at site.entry).domains (place_of variable.place) (type_of variable.ty) line.number) }
 {
     let TypedPlace { place, ty, .. } = variable;
     let (pointer, domain) = domain_of(site, &ty, first)?;

@@ -14,8 +14,8 @@ use ps_check_names::scope::{Found, Scope};
 use ps_text::Span;
 use std::alloc::Global;
 
-/// What the typing at a place of the program needs: the text that is read, the regions that enclose the place, the control
-/// variables of the `for` statements round it, and what the routines of its block change.
+/// What the typing at a place of the program needs: the text that is read, the regions that enclose the place, the
+/// control variables of the enclosing `for` statements, and what the routines of its block change.
 #[derive(Clone, Copy)]
 pub struct Site<'a> {
     pub alloc: Global,
@@ -28,7 +28,8 @@ pub struct Site<'a> {
 impl<'a> Site<'a> {
     /// The defining point that a name denotes there.
     pub fn denoted(self, name: Span) -> Result<Found<'a>, Fault>
-        ensures { Answers result (λ found. point_of found) (denoted (context_at self.entry) (regions_at self.entry) name) }
+        ensures { Answers result (λ found. point_of found)
+            (denoted (context_at self.entry) (regions_at self.entry) name) }
     {
         self.reading.denoted(self.alloc, self.scope, name)
     }

@@ -1,9 +1,10 @@
-//! What variables and expressions stand for: the checked tree, and the type.
+//! What variables and expressions denote: the checked tree, and the type.
 
 ghost use Rattle.std.specs.Prelude.{◌≡◌};
 ghost use Rattle.ps_tree.specs.View.{type_of, place_of};
 ghost use Rattle.ps_check_judgement.specs.Judged.{Answers};
-ghost use Rattle.ps_check_expressions.specs.Values.{host_type, has_host, is_integer, is_boolean, is_packed, range_of, packing_of_both, set_type_of_both, contents, loaded};
+ghost use Rattle.ps_check_expressions.specs.Values.{host_type, has_host, is_integer, is_boolean, is_packed, range_of};
+ghost use Rattle.ps_check_expressions.specs.Values.{packing_of_both, set_type_of_both, contents, loaded};
 ghost use Rattle.ps_check_names.specs.Constants.{integer, char, boolean};
 ghost use Rattle.ps_check_expressions.specs.View.{value_of, variable_of};
 
@@ -14,7 +15,7 @@ use ps_tree::tree::{Expr, Place, Range, SetExpr, Structure};
 use ps_tree::types::{Host, Ordinal, Packing, Ty, same_host};
 use std::alloc::Global;
 
-/// An expression, of one of three kinds by its values, with its type (ISO 7185, 6.7.1).
+/// An expression, of one of three kinds according to its values, with its type (ISO 7185, 6.7.1).
 #[derive(Drop)]
 pub enum TypedValue {
     /// of an ordinal or pointer type
@@ -24,7 +25,7 @@ pub enum TypedValue {
     Structure(Structure, Ty),
 }
 
-/// A variable (6.5), with its type. `in_packed` tells that it ends in an index or a field of a packed variable.
+/// A variable (6.5), with its type. `in_packed` says that it ends in an index or a field of a packed variable.
 #[derive(Drop)]
 pub struct TypedPlace {
     pub place: Place,
@@ -32,7 +33,7 @@ pub struct TypedPlace {
     pub in_packed: bool,
 }
 
-/// The type of a host: an operand of a subrange type counts as of it (6.7.1).
+/// The type of a host: an operand of a subrange type counts as one of the host type (6.7.1).
 pub(crate) fn host_type(host: Host) -> Ordinal
     ensures { result ≡ host_type host }
 {

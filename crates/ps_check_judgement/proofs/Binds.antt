@@ -27,11 +27,13 @@ pub inside_yes : {A : Type 0} (a b : A) → Yes a ≡ Yes b → a ≡ b
 inside_yes a b e = ap (yes_or a) e
 
 -- what two parts give that are accepted, one after the other
-pub then_yes : {A B : Type 0} (j : Judged A) (f : A → Judged B) (b : B) → (j >>= f) ≡ Yes b → (a : A) × (j ≡ Yes a) × (f a ≡ Yes b)
+pub then_yes : {A B : Type 0} (j : Judged A) (f : A → Judged B) (b : B) → (j >>= f) ≡ Yes b → (a : A) × (j ≡ Yes a)
+    × (f a ≡ Yes b)
 then_yes (Yes a) f b e = (a, refl, e)
 then_yes (No rule at) f b e = absurd (no_yes e)
 
-pub provided_yes : {A : Type 0} (b : Bool) (rule : Rule) (at : ℕ) (x y : A) → provided b rule at x ≡ Yes y → (b ≡ true) × (x ≡ y)
+pub provided_yes : {A : Type 0} (b : Bool) (rule : Rule) (at : ℕ) (x y : A) → provided b rule at x ≡ Yes y → (b ≡ true)
+    × (x ≡ y)
 provided_yes true rule at x y e = (refl, inside_yes x y e)
 provided_yes false rule at x y e = absurd (no_yes e)
 
@@ -39,7 +41,8 @@ pub holds_yes : (b : Bool) (rule : Rule) (at : ℕ) (u : Unit {0}) → holds b r
 holds_yes true rule at u e = refl
 holds_yes false rule at u e = absurd (no_yes e)
 
-pub if_yes : {A : Type 0} (b : Bool) (j : Judged A) (rule : Rule) (at : ℕ) (y : A) → (if b then j else No rule at) ≡ Yes y → (b ≡ true) × (j ≡ Yes y)
+pub if_yes : {A : Type 0} (b : Bool) (j : Judged A) (rule : Rule) (at : ℕ) (y : A) → (if b then j else No rule at)
+    ≡ Yes y → (b ≡ true) × (j ≡ Yes y)
 if_yes true j rule at y e = (refl, e)
 if_yes false j rule at y e = absurd (no_yes e)
 

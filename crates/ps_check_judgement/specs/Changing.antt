@@ -1,4 +1,4 @@
--- Judgements of parts that change variables: the changes so far are handed along, in the order of the text.
+-- Judgements of parts that change variables: the changes so far are passed along, in the order of the text.
 use Rattle.std.specs.Prelude.{ℕ, List, [], ◌∷◌, ◌++◌}
 use Rattle.ps_check_judgement.specs.declared.change.Change.{Change}
 use Rattle.ps_check_judgement.specs.Judged as j
@@ -18,7 +18,7 @@ same a changes = Yes (a, changes)
 abbrev pub still : {A : Type 0} → Judged A → Changing A
 still m changes = j.◌>>=◌ m (λ a. Yes (a, changes))
 
--- one step more, behind the images so far
+-- one more step, after the images so far
 abbrev pub one_more : {A B : Type 0} → (A → Changing B) → List B × List Change → A → Judged (List B × List Change)
 one_more f s x = j.◌>>=◌ (f x s.1) (λ p. Yes (s.0 ++ p.0 ∷ [], p.1))
 
@@ -26,7 +26,7 @@ one_more f s x = j.◌>>=◌ (f x s.1) (λ p. Yes (s.0 ++ p.0 ∷ [], p.1))
 abbrev pub each : {A B : Type 0} → (A → Changing B) → List A → Changing (List B)
 each f xs changes = steps (one_more f) ([], changes) xs
 
--- the items of two lists side by side, as far as both go
+-- the items of two lists in pairs, as far as both go
 abbrev pub pairs : {A B : Type 0} → List A → List B → List (A × B)
 pairs [] ys = []
 pairs (x ∷ xs) [] = []

@@ -1,4 +1,5 @@
--- What a rule of the language says of a part of a program: what it stands for, or the rule that is broken and the token at which that is told.
+-- What a rule of the language says of a part of a program: what it denotes, or the rule that is broken and the token at
+-- which that is reported.
 use Rattle.std.specs.Prelude.{◌≡◌, ℕ, List, [], ◌∷◌, ◌++◌, Option, Some, None, Bool, if◌then◌else◌, Result, Ok, Err}
 use Rattle.std.specs.Result.{MatchResult}
 use Rattle.ps_check_judgement.specs.declared.refusal.Rule.{Rule}
@@ -10,13 +11,13 @@ pub data Judged (A : Type 0) : Type 0 where
   -- the rule, and the offset of the token
   No : Rule → (at : ℕ) → Judged A
 
--- one after the other: the first refusal is told
+-- one after the other: the first refusal is reported
 infixl 10 ◌>>=◌
 abbrev pub ◌>>=◌ : {A B : Type 0} → Judged A → (A → Judged B) → Judged B
 Yes a >>= f = f a
 No rule at >>= f = No rule at
 
--- the value, where the test holds
+-- the value, if the test holds
 abbrev pub provided : {A : Type 0} → Bool → Rule → (at : ℕ) → A → Judged A
 provided b rule at x = if b then Yes x else No rule at
 
@@ -24,7 +25,7 @@ provided b rule at x = if b then Yes x else No rule at
 abbrev pub holds : Bool → Rule → (at : ℕ) → Judged (Unit {0})
 holds b rule at = if b then Yes tt else No rule at
 
--- what is there
+-- what is there, if anything is
 abbrev pub some_or : {A : Type 0} → Rule → (at : ℕ) → Option A → Judged A
 some_or rule at None = No rule at
 some_or rule at (Some x) = Yes x
@@ -42,7 +43,7 @@ traverse f (x ∷ xs) = do
   ys ← traverse f xs
   Yes (y ∷ ys)
 
--- the image of each pair, of lists that are equally long
+-- the image of each pair, for lists of the same length
 abbrev pub traverse_both : {A B C : Type 0} → (A → B → Judged C) → List A → List B → Judged (List C)
 traverse_both f [] ys = Yes []
 traverse_both f (x ∷ xs) [] = Yes []
@@ -56,16 +57,16 @@ abbrev pub steps : {S A : Type 0} → (S → A → Judged S) → S → List A �
 steps f s [] = Yes s
 steps f s (x ∷ xs) = f s x >>= (λ t. steps f t xs)
 
--- the refusal that is told; want of memory tells nothing
+-- the refusal that is reported; running out of memory reports nothing
 abbrev pub Told : {A : Type 0} → Fault → Judged A → Type 0
 Told OutOfMemory j = Unit {0}
 Told (Broken rule at) j = j ≡ No rule at
 
--- an answer that says what is judged: the value, or the very refusal, or that memory was refused
+-- an answer that says what is judged: the value, or that very refusal, or that memory ran out
 abbrev pub Answers : {X A : Type 0} → Result X Fault → (X → A) → Judged A → Type 0
 Answers answer view j = MatchResult answer (λ v. j ≡ Yes (view v)) (λ fault. Told fault j)
 
--- two answers as one, the first refusal told
+-- two answers as one, with the first refusal reported
 abbrev pub both : {A B E : Type 0} → Result A E → Result B E → Result (A × B) E
 both (Ok a) (Ok b) = Ok (a, b)
 both (Ok a) (Err e) = Err e

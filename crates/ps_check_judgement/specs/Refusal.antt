@@ -1,7 +1,12 @@
 -- The numbers and lines of the checker's refusals (this project's format).
 use Rattle.std.specs.Prelude.{◌≡◌, ℕ, Option, Some, None}
 use Rattle.ps_check_judgement.specs.declared.refusal.Rule.{Rule}
-use Rattle.ps_check_judgement.specs.declared.refusal.Rule.TheVariants.{NotInProfile, Unknown, Twice, UsedBefore, WrongKind, WrongType, NotAssignable, BadSubrange, SetBase, CaseTwice, ControlVariable, PackedVariable, NotCongruous, ForwardOpen, NoResultAssigned, NoInputOutput, Limit}
+use Rattle.ps_check_judgement.specs.declared.refusal.Rule.TheVariants.{NotInProfile, Unknown, Twice, UsedBefore}
+use Rattle.ps_check_judgement.specs.declared.refusal.Rule.TheVariants.{WrongKind, WrongType, NotAssignable}
+use Rattle.ps_check_judgement.specs.declared.refusal.Rule.TheVariants.{BadSubrange, SetBase, CaseTwice}
+use Rattle.ps_check_judgement.specs.declared.refusal.Rule.TheVariants.{ControlVariable, PackedVariable, NotCongruous}
+use Rattle.ps_check_judgement.specs.declared.refusal.Rule.TheVariants.{ForwardOpen, NoResultAssigned, NoInputOutput}
+use Rattle.ps_check_judgement.specs.declared.refusal.Rule.TheVariants.{Limit}
 use Rattle.ps_check_judgement.specs.declared.refusal.Fault.{Fault}
 use Rattle.ps_check_judgement.specs.declared.refusal.Fault.TheVariants as fault
 use Rattle.ps_check_judgement.specs.declared.refusal.CheckRefusal.{CheckRefusal}
@@ -34,7 +39,7 @@ abbrev pub line_of : CheckRefusal → Option ℕ
 line_of refusal.OutOfMemory = None
 line_of (refusal.Broken rule at line) = Some line
 
--- a fault of the program, and not want of memory
+-- a fault of the program, and not lack of memory
 abbrev pub IsFault : Fault → Type 0
 IsFault fault.OutOfMemory = ⊥
 IsFault (fault.Broken rule at) = Unit {0}

@@ -1,4 +1,4 @@
-//! Answers of calls that may fail, put together. What an answer holds goes on as it is, whatever its type.
+//! Combines the answers of calls that may fail. What an answer holds is passed on as it is, whatever its type.
 
 ghost use Rattle.std.specs.Prelude.{◌≡◌, ◌++◌, ◌∷◌, [], IfOk, IfErr, Ok, Err};
 ghost use Rattle.std.specs.Result.{IsOkAnd};
@@ -9,7 +9,7 @@ ghost use Rattle.ps_check_judgement.specs.declared.refusal.Fault.TheVariants.{Br
 use crate::refusal::{Fault, Rule};
 use std::alloc::Global;
 
-/// The fault of a rule that is broken, by the offset of the token that it is told at.
+/// The fault of a broken rule, with the offset of the token at which it is reported.
 pub fn broken(rule: Rule, at: u32) -> Fault
     ensures { result ≡ Broken rule at }
 {
@@ -37,7 +37,7 @@ pub fn boxed_answer<A: Drop>(alloc: Global, answer: Result<A, Fault>) -> Result<
     Ok(Box::new(alloc, answer?)?)
 }
 
-/// Adds what an answer holds to a list, which stays as it was where that fails.
+/// Adds what an answer holds to a list, which stays as it was if that fails.
 pub fn push_answer<A: Drop>(list: &mut Vec<A>, answer: Result<A, Fault>) -> Result<(), Fault>
     ensures ok { IfOk result (λ _. IsOkAnd answer (λ part. list.new.items ≡ list.old.items ++ part ∷ [])) }
     ensures err { IfErr result (λ fault. IsFault fault → answer ≡ Err fault) }

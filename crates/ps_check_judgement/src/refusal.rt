@@ -7,7 +7,7 @@ use std::alloc::{AllocError, AllocFailed};
 use std::fmt;
 use thiserror::Error;
 
-/// A rule of the language that a program breaks. It is shown by its name.
+/// A rule of the language that a program breaks. It is displayed as its name.
 #[derive(Clone, Copy, Debug, PartialEq, Eq)]
 pub enum Rule {
     /// A required name that the profile leaves out, or a program parameter other than input and output.
@@ -18,7 +18,7 @@ pub enum Rule {
     Twice,
     /// A use before the name's defining point in its region, or within the name's own definition.
     UsedBefore,
-    /// A name of another kind than its place needs.
+    /// A name of another kind than its place requires.
     WrongKind,
     /// An operand, index, condition or parameter of a wrong type.
     WrongType,
@@ -53,7 +53,7 @@ impl fmt::Display for Rule {
 }
 
 impl Rule {
-    /// The number of the refusal that tells that the rule is broken.
+    /// The number of the refusal that reports the broken rule.
     pub fn number(self) -> u32
         ensures { result ≡ number_of_rule self }
     {
@@ -82,10 +82,10 @@ impl Rule {
 /// Why a program is refused.
 #[derive(Clone, Copy, Debug, Error)]
 pub enum CheckRefusal {
-    /// A growth was refused.
+    /// The allocator refused memory.
     #[error("OutOfMemory")]
     OutOfMemory,
-    /// The program breaks a rule, which is told at the token that begins at the offset `at`, on this line.
+    /// The program breaks a rule, which is reported at the token that begins at the offset `at`, on this line.
     #[error("{rule}")]
     Broken { rule: Rule, at: u32, line: u32 },
 }
@@ -101,7 +101,7 @@ impl CheckRefusal {
         }
     }
 
-    /// The line that it is told at, if it has one.
+    /// The line at which it is reported, if it has one.
     pub fn line(self) -> Option<u32>
         ensures { result ≡ line_of self }
     {
@@ -112,7 +112,7 @@ impl CheckRefusal {
     }
 }
 
-/// The same, by the offset `at` of the token that it is told at.
+/// The same, with the offset `at` of the token at which it is reported.
 #[derive(Clone, Copy)]
 pub enum Fault {
     OutOfMemory,

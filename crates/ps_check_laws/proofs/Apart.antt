@@ -1,5 +1,6 @@
 -- A name has one defining point in a block's region.
-use Rattle.std.proofs.Common.{◌≡◌, ℕ, Bool, true, false, not, ◌||◌, List, [], ◌∷◌, ◌++◌, length, map, nat_lt, is_none, ◌⊎◌, inl, inr, refl, sym, ap, ◌∙◌, subst, append_assoc, append-nil}
+use Rattle.std.proofs.Common.{◌≡◌, ℕ, Bool, true, false, not, ◌||◌, List, [], ◌∷◌, ◌++◌, length, map, nat_lt, is_none}
+use Rattle.std.proofs.Common.{◌⊎◌, inl, inr, refl, sym, ap, ◌∙◌, subst, append_assoc, append-nil}
 use Rattle.std.specs.Prelude.{if◌then◌else◌}
 use Rattle.ps_check_judgement.specs.declared.refusal.Rule.TheVariants.{Twice, Limit}
 use Rattle.ps_check_judgement.specs.Judged.{Yes, provided, steps}
@@ -29,13 +30,15 @@ pub none_apart : AreApart []
 none_apart before after s e = absurd (nothing_then before after s e)
 
 -- an element of a list with one more at its end is that one, or is one of the list
-last_or_before : (xs before after : List (List ℕ)) (s u : List ℕ) → xs ++ s ∷ [] ≡ before ++ u ∷ after → ((before ≡ xs) × (u ≡ s)) ⊎ ((rest : List (List ℕ)) × (xs ≡ before ++ u ∷ rest))
+last_or_before : (xs before after : List (List ℕ)) (s u : List ℕ) → xs ++ s ∷ [] ≡ before ++ u ∷ after
+    → ((before ≡ xs) × (u ≡ s)) ⊎ ((rest : List (List ℕ)) × (xs ≡ before ++ u ∷ rest))
 last_or_before [] [] after s u e = inl (refl, sym (ap (head_or s) e))
 last_or_before [] (b ∷ before) after s u e = absurd (nothing_then before after u (ap tail_of e))
 last_or_before (x ∷ xs) [] after s u e = inr (xs, ap (λ y. y ∷ xs) (ap (head_or s) e))
 last_or_before (x ∷ xs) (b ∷ before) after s u e = at (last_or_before xs before after s u (ap tail_of e))
   where
-    at : ((before ≡ xs) × (u ≡ s)) ⊎ ((rest : List (List ℕ)) × (xs ≡ before ++ u ∷ rest)) → ((b ∷ before ≡ x ∷ xs) × (u ≡ s)) ⊎ ((rest : List (List ℕ)) × (x ∷ xs ≡ (b ∷ before) ++ u ∷ rest))
+    at : ((before ≡ xs) × (u ≡ s)) ⊎ ((rest : List (List ℕ)) × (xs ≡ before ++ u ∷ rest))
+        → ((b ∷ before ≡ x ∷ xs) × (u ≡ s)) ⊎ ((rest : List (List ℕ)) × (x ∷ xs ≡ (b ∷ before) ++ u ∷ rest))
     at (inl h) = inl (ap (λ y. y ∷ before) (sym (ap (head_or s) e)) ∙ ap (λ l. x ∷ l) h.0, h.1)
     at (inr h) = inr (h.0, ap (λ y. y ∷ xs) (ap (head_or s) e) ∙ ap (λ l. b ∷ l) h.1)
 
@@ -50,7 +53,7 @@ not_true : (b : Bool) → not b ≡ true → b ≡ false
 not_true true h = absurd (cc)
 not_true false h = refl
 
--- a name that is added is new, or there already
+-- a name that is added is new, or present already
 pub one_apart : (xs : List (List ℕ)) (s : List ℕ) → AreApart xs → AreApart (add_name xs s)
 one_apart xs s apart = at (has xs s) refl
   where
@@ -64,12 +67,13 @@ names_apart (n ∷ ns) xs apart = names_apart ns (add_name xs n) (one_apart xs n
 
 -- ---- names that are apart are added as they are
 
--- a name is none of those before it
+-- a name is not among those before it
 pub apart_new : (xs : List (List ℕ)) (s : List ℕ) (ys : List (List ℕ)) → AreApart (xs ++ s ∷ ys) → has xs s ≡ false
 apart_new xs s ys apart = apart xs ys s refl
 
 pub apart_first : (xs ys : List (List ℕ)) → AreApart (xs ++ ys) → AreApart xs
-apart_first xs ys apart before after s e = apart before (after ++ ys) s (ap (λ l. l ++ ys) e ∙ append_assoc before (s ∷ after) ys)
+apart_first xs ys apart before after s e = apart before (after ++ ys) s
+    (ap (λ l. l ++ ys) e ∙ append_assoc before (s ∷ after) ys)
 
 name_new : (xs : List (List ℕ)) (s : List ℕ) → has xs s ≡ false → add_name xs s ≡ xs ++ s ∷ []
 name_new xs s new = ap (λ b. if b then xs else xs ++ s ∷ []) new
@@ -78,7 +82,8 @@ pub names_added : (xs ys : List (List ℕ)) → AreApart (xs ++ ys) → add_name
 names_added xs [] apart = sym (append-nil xs)
 names_added xs (y ∷ ys) apart =
     let longer = append_assoc xs (y ∷ []) ys in
-    ap (λ l. add_names l ys) (name_new xs y (apart_new xs y ys apart)) ∙ names_added (xs ++ y ∷ []) ys (subst AreApart (sym longer) apart) ∙ longer
+    ap (λ l. add_names l ys) (name_new xs y (apart_new xs y ys apart)) ∙ names_added (xs ++ y ∷ []) ys
+    (subst AreApart (sym longer) apart) ∙ longer
 
 module _ (text : List ℕ) where
   pub points_apart : (ps : Points) (xs : List (List ℕ)) → AreApart xs → AreApart (add_points text xs ps)
@@ -86,19 +91,22 @@ module _ (text : List ℕ) where
   points_apart [] xs apart = apart
   points_apart (p ∷ ps) xs apart = points_apart ps (add_point text xs p) (one_apart xs (spelled text p) apart)
 
-  pub points_added : (ps : Points) (xs : List (List ℕ)) → AreApart (xs ++ map (spelled text) ps) → add_points text xs ps ≡ xs ++ map (spelled text) ps
+  pub points_added : (ps : Points) (xs : List (List ℕ)) → AreApart (xs ++ map (spelled text) ps) → add_points text xs ps
+      ≡ xs ++ map (spelled text) ps
   unfolding add_points
   points_added [] xs apart = sym (append-nil xs)
   points_added (p ∷ ps) xs apart =
       let s = spelled text p in
       let longer = append_assoc xs (s ∷ []) (map (spelled text) ps) in
-      ap (λ l. add_points text l ps) (name_new xs s (apart_new xs s (map (spelled text) ps) apart)) ∙ points_added ps (xs ++ s ∷ []) (subst AreApart (sym longer) apart) ∙ longer
+      ap (λ l. add_points text l ps) (name_new xs s (apart_new xs s (map (spelled text) ps) apart)) ∙ points_added ps
+      (xs ++ s ∷ []) (subst AreApart (sym longer) apart) ∙ longer
 
   routine_apart : (r : RoutineReading) (xs : List (List ℕ)) → AreApart xs → AreApart (add_routine text xs r)
   unfolding add_routine
   routine_apart r xs apart = at (is_none r.heading) (has xs (spelled text r.name)) refl
     where
-      at : (b c : Bool) → has xs (spelled text r.name) ≡ c → AreApart (if b || c then xs else xs ++ spelled text r.name ∷ [])
+      at : (b c : Bool) → has xs (spelled text r.name) ≡ c → AreApart
+          (if b || c then xs else xs ++ spelled text r.name ∷ [])
       at true c g = apart
       at false true g = apart
       at false false g = apart_more xs (spelled text r.name) g apart
@@ -109,24 +117,37 @@ module _ (text : List ℕ) where
 
   pub block_apart : (b : BlockLayer) (first : List (List ℕ)) → AreApart first → AreApart (block_names text b first)
   unfolding block_names
-  block_apart b first apart = routines_apart b.routines (add_points text first (block_points b.constants b.types b.variables)) (points_apart (block_points b.constants b.types b.variables) first apart)
+  block_apart b first apart = routines_apart b.routines
+      (add_points text first (block_points b.constants b.types b.variables))
+      (points_apart (block_points b.constants b.types b.variables) first apart)
 
-  pub files_apart : (ps : Points) (files last : Files) → steps (list_file text) files ps ≡ Yes last → AreApart files.names → AreApart last.names
+  pub files_apart : (ps : Points) (files last : Files) → steps (list_file text) files ps ≡ Yes last
+      → AreApart files.names → AreApart last.names
   unfolding list_file
   files_apart [] files last e apart = subst (λ (z : Files). AreApart z.names) (inside_yes files last e) apart
   files_apart (p ∷ ps) files last e apart =
       let s = spelled text p in
       let one = then_yes (list_file text files p) _ last e in
       let meaning = then_yes (file_named p.from s) _ one.0 one.1 in
-      let names = then_yes (provided (not (has files.names s)) Twice p.from (files.names ++ s ∷ [])) _ one.0 meaning.2 in
+      let names = then_yes (provided (not (has files.names s)) Twice p.from (files.names ++ s ∷ [])) _ one.0 meaning.2
+      in
       let is = provided_yes (not (has files.names s)) Twice p.from (files.names ++ s ∷ []) names.0 names.1 in
-      files_apart ps one.0 last one.2 (subst (λ (z : Files). AreApart z.names) (inside_yes _ one.0 names.2) (subst AreApart is.1 (apart_more files.names s (not_true (has files.names s) is.0) apart)))
+      files_apart ps one.0 last one.2 (subst (λ (z : Files). AreApart z.names) (inside_yes _ one.0 names.2)
+      (subst AreApart is.1 (apart_more files.names s (not_true (has files.names s) is.0) apart)))
 
 -- the formal parameters of a routine
 pub start_apart : (at : ℕ) (chain : List ℕ) (h : Heading) (s : Start) → start at chain h ≡ Yes s → AreApart s.names
 unfolding start
 start_apart at chain h s e =
     let inner = then_yes (provided (nat_lt (length chain) 16) Limit at (h.number ∷ chain)) _ s e in
-    let entries = then_yes (add_sections at (record { next = first_entry h.result; known = [] }) h.sections) _ s inner.2 in
-    let made : Start = record { chain = inner.0; names = add_names [] h.names; known = entries.0.known; first = entries.0.next } in
+    let entries = then_yes (add_sections at (record {
+      next = first_entry h.result;
+      known = [];
+    }) h.sections) _ s inner.2 in
+    let made : Start = record {
+      chain = inner.0;
+      names = add_names [] h.names;
+      known = entries.0.known;
+      first = entries.0.next;
+    } in
     subst (λ (z : Start). AreApart z.names) (inside_yes made s entries.2) (names_apart h.names [] none_apart)

@@ -1,5 +1,8 @@
--- Reading a type denoter lets just the names of the domain types within it wait; where the part ends they are read.
-use Rattle.std.proofs.Common.{◌≡◌, ℕ, zero, suc, ◌+◌, ◌≤◌, Bool, true, false, List, [], ◌∷◌, ◌++◌, length, map, take, nat_lt, Option, Some, None, slice_get, refl, sym, ap, ◌∙◌, subst, append_assoc, append-nil, length-append, arith}
+-- Reading a type denoter makes exactly the names of the domain types within it pending; they are read at the end of the
+-- part.
+use Rattle.std.proofs.Common.{◌≡◌, ℕ, zero, suc, ◌+◌, ◌≤◌, Bool, true, false, List, [], ◌∷◌, ◌++◌, length, map, take}
+use Rattle.std.proofs.Common.{nat_lt, Option, Some, None, slice_get, refl, sym, ap, ◌∙◌, subst, append_assoc}
+use Rattle.std.proofs.Common.{append-nil, length-append, arith}
 use Rattle.std.proofs.lemmas.List.{map-append}
 use Rattle.ps_text.specs.declared.Span.{Span}
 use Rattle.ps_syntax.specs.First.{first_of_ordinal}
@@ -12,7 +15,9 @@ use Rattle.ps_syntax.specs.declared.program.Structure.{Structure, roll-Structure
 use Rattle.ps_syntax.specs.declared.program.TypeDenoter.{TypeDenoter, roll-TypeDenoter, map-TypeDenoter}
 use Rattle.ps_syntax.specs.declared.program.Fields.{Fields, roll-Fields, map-Fields}
 use Rattle.ps_syntax.specs.declared.program.Structure.TheOpen.{Structure-F, TypeDenoter-F, Fields-F}
-use Rattle.ps_syntax.specs.declared.program.Structure.TheFolds.{fold-Structure, fold-Fields, fold-roll-Structure, fold-roll-TypeDenoter, fold-roll-Fields, ind-TypeDenoter}
+use Rattle.ps_syntax.specs.declared.program.Structure.TheFolds.{fold-Structure, fold-Fields, fold-roll-Structure}
+use Rattle.ps_syntax.specs.declared.program.Structure.TheFolds.{fold-roll-TypeDenoter, fold-roll-Fields}
+use Rattle.ps_syntax.specs.declared.program.Structure.TheFolds.{ind-TypeDenoter}
 use Rattle.ps_tree.specs.Types.{DataType, OrdinalType, RecordType, field_list, listed}
 use Rattle.ps_tree.specs.declared.types.Ordinal.{Ordinal}
 use Rattle.ps_check_judgement.specs.declared.refusal.Rule.TheVariants.{Limit}
@@ -23,10 +28,20 @@ use Rattle.ps_check_names.specs.Regions.{Point, BlockPoint, Meaning, TypeMeaning
 use Rattle.ps_check_names.specs.Constants.{constant, denoted}
 use Rattle.ps_check_declarations.specs.Points.{Points, all, is_later, new_points}
 use Rattle.ps_check_declarations.specs.Denoters as denoters
-use Rattle.ps_check_declarations.specs.Denoters.{Frame, Declared, Hidden, Reading, StructureReading, FieldsReading, Indices, FieldTypes, begin, within, regions, passes, type_at, type_named, ordinal_at, enumerated, constants_from, subrange_of, begins, is_packed, index_begins, index_type, array_of, set_of, small, fields_of_type, ordinal, pointer, add_fields, record_names, array_type, record_type, set_type, simple_type, denoter, structure, fields}
-use Rattle.ps_check_declarations.specs.Declarations.{meaning_of_constant, domain_at, define_constant, define_type, resolve_domain, resolve_domains, declare_variable, declare_variables, declarations}
-use Rattle.ps_check_laws.specs.Domains.{fields_step, structure_step, type_step, domain_names, type_domains, variable_domains, AreDomains}
-use Rattle.ps_check_laws.specs.Definitions.{Declarations, OfConstant, OfDeclaration, joined, type_declarations, definition_declarations}
+use Rattle.ps_check_declarations.specs.Denoters.{Frame, Declared, Hidden, Reading, StructureReading, FieldsReading}
+use Rattle.ps_check_declarations.specs.Denoters.{Indices, FieldTypes, begin, within, regions, passes, type_at}
+use Rattle.ps_check_declarations.specs.Denoters.{type_named, ordinal_at, enumerated, constants_from, subrange_of}
+use Rattle.ps_check_declarations.specs.Denoters.{begins, is_packed, index_begins, index_type, array_of, set_of, small}
+use Rattle.ps_check_declarations.specs.Denoters.{fields_of_type, ordinal, pointer, add_fields, record_names}
+use Rattle.ps_check_declarations.specs.Denoters.{array_type, record_type, set_type, simple_type, denoter, structure}
+use Rattle.ps_check_declarations.specs.Denoters.{fields}
+use Rattle.ps_check_declarations.specs.Declarations.{meaning_of_constant, domain_at, define_constant, define_type}
+use Rattle.ps_check_declarations.specs.Declarations.{resolve_domain, resolve_domains, declare_variable}
+use Rattle.ps_check_declarations.specs.Declarations.{declare_variables, declarations}
+use Rattle.ps_check_laws.specs.Domains.{fields_step, structure_step, type_step, domain_names, type_domains}
+use Rattle.ps_check_laws.specs.Domains.{variable_domains, AreDomains}
+use Rattle.ps_check_laws.specs.Definitions.{Declarations, OfConstant, OfDeclaration, joined, type_declarations}
+use Rattle.ps_check_laws.specs.Definitions.{definition_declarations}
 use Rattle.ps_check_laws.proofs.TypePoints.{constant_of, types_told}
 use Rattle.ps_check_laws.specs.Meanings.{variable_names, hidden_by}
 use Rattle.ps_check_laws.proofs.Declared.{type_defined, variables_declared, Stand, constants_stand, types_stand}
@@ -42,20 +57,21 @@ pub declarations_length : (xs : Declarations) → length (map OfDeclaration xs) 
 declarations_length [] = refl
 declarations_length (x ∷ xs) = ap suc (declarations_length xs)
 
--- where more domain types come behind
-pub domains_stay : (f : Frame) (known : List Meaning) (base : ℕ) (names : Points) (domains more whole : List DataType) → whole ≡ domains ++ more → AreDomains f known base names domains → AreDomains f known base names whole
+-- where more domain types come after
+pub domains_stay : (f : Frame) (known : List Meaning) (base : ℕ) (names : Points) (domains more whole : List DataType)
+    → whole ≡ domains ++ more → AreDomains f known base names domains → AreDomains f known base names whole
 domains_stay f known base names domains more whole e are i name at =
     let r = are i name at in
     (r.0, r.1, ap (λ l. slice_get l (base + i)) e ∙ get_stays domains more (base + i) r.0 r.2)
 
--- the names that wait
+-- the names that are pending
 abbrev pub pending_names : List (Span × ℕ) → Points
 pending_names ws = map (λ w. w.0) ws
 
 abbrev pub waiting : Declared → Points
 waiting d = pending_names d.pending
 
--- these names wait besides
+-- these names are pending too
 pub record Waits (d : Declared) (names : Points) (e : Declared) : Type 0 where
   pub pending : waiting e ≡ waiting d ++ names
   pub domains : e.domains ≡ d.domains
@@ -63,28 +79,38 @@ pub record Waits (d : Declared) (names : Points) (e : Declared) : Type 0 where
 waits_none : (d : Declared) → Waits d [] d
 waits_none d = record { pending = sym (append-nil (waiting d)); domains = refl }
 
-waits_at : {A : Type 0} (d : Declared) (names : Points) (x y : A × Declared) → Yes x ≡ Yes y → Waits d names x.1 → Waits d names y.1
+waits_at : {A : Type 0} (d : Declared) (names : Points) (x y : A × Declared) → Yes x ≡ Yes y → Waits d names x.1
+    → Waits d names y.1
 waits_at d names x y e a = subst (λ (z : _ × Declared). Waits d names z.1) (inside_yes x y e) a
 
 pub waits_both : (d e g : Declared) (xs ys : Points) → Waits d xs e → Waits e ys g → Waits d (xs ++ ys) g
-waits_both d e g xs ys a b = record { pending = b.pending ∙ ap (λ l. l ++ ys) a.pending ∙ append_assoc (waiting d) xs ys; domains = b.domains ∙ a.domains }
+waits_both d e g xs ys a b = record {
+  pending = b.pending ∙ ap (λ l. l ++ ys) a.pending ∙ append_assoc (waiting d) xs ys;
+  domains = b.domains ∙ a.domains;
+}
 
 -- a domain type is the type that its name denotes
-domain_is : (later : Bool) (at : ℕ) (p : Point) (type : DataType) → domain_at later at p ≡ Yes type → type_at at p ≡ Yes type
+domain_is : (later : Bool) (at : ℕ) (p : Point) (type : DataType) → domain_at later at p ≡ Yes type → type_at at p
+    ≡ Yes type
 unfolding domain_at type_at
 domain_is later at (BlockPoint up (TypeMeaning t)) type e = e
 domain_is true at p type e = absurd (no_yes e)
 domain_is false at p type e = e
 
 module _ (f : Frame) where
-  ordinal_waits : (hidden : Hidden) (d : Declared) (x : syntax.Ordinal) (r : Ordinal × Declared) → ordinal f hidden d x ≡ Yes r → Waits d [] r.1
+  ordinal_waits : (hidden : Hidden) (d : Declared) (x : syntax.Ordinal) (r : Ordinal × Declared) → ordinal f hidden d x
+      ≡ Yes r → Waits d [] r.1
   unfolding ordinal
   ordinal_waits hidden d (o.Name at) r e =
       let t = then_yes (type_named f.text (regions f hidden d.known) at) _ r e in
       let q = then_yes (ordinal_at at.from t.0) _ r t.2 in
       waits_at d [] (q.0, d) r q.2 (waits_none d)
   ordinal_waits hidden d (o.Enumeration at names) r e =
-      let made : Ordinal × Declared = (enumerated at.from (length names), denoters.with_known d (d.known ++ constants_from (enumerated at.from (length names)) 0 names)) in
+      let made : Ordinal × Declared = (
+        enumerated at.from (length names),
+        denoters.with_known d
+            (d.known ++ constants_from (enumerated at.from (length names)) 0 names),
+      ) in
       let n = then_yes (new_points f.text f.names f.begun (length d.known) names) _ r e in
       let q = provided_yes (nat_lt (length names) 2147483648) _ _ made r n.2 in
       waits_at d [] made r (ap (λ z. Yes z) q.1) (record { pending = sym (append-nil (waiting d)); domains = refl })
@@ -92,14 +118,17 @@ module _ (f : Frame) where
       let q = then_yes (subrange_of f hidden d.known (first_of_ordinal (o.Subrange low high)) low high) _ r e in
       waits_at d [] (q.0, d) r q.2 (waits_none d)
 
-  indices_wait : (hidden : Hidden) (at : ℕ) (xs : List syntax.Ordinal) (s t : Indices × Declared) → steps (index_type f hidden at) s xs ≡ Yes t → Waits s.1 [] t.1
+  indices_wait : (hidden : Hidden) (at : ℕ) (xs : List syntax.Ordinal) (s t : Indices × Declared) → steps
+      (index_type f hidden at) s xs ≡ Yes t → Waits s.1 [] t.1
   indices_wait hidden at [] s t e = waits_at s.1 [] s t e (waits_none s.1)
   indices_wait hidden at (x ∷ xs) s t e =
       let one = then_yes (index_type f hidden at s x) _ t e in
       let r = then_yes (ordinal f hidden s.1 x) _ one.0 one.1 in
-      waits_both s.1 one.0.1 t.1 [] [] (waits_at s.1 [] (s.0 ++ (index_begins at s.0 x, r.0.0) ∷ [], r.0.1) one.0 r.2 (ordinal_waits hidden s.1 x r.0 r.1)) (indices_wait hidden at xs one.0 t one.2)
+      waits_both s.1 one.0.1 t.1 [] [] (waits_at s.1 [] (s.0 ++ (index_begins at s.0 x, r.0.0) ∷ [], r.0.1) one.0 r.2
+      (ordinal_waits hidden s.1 x r.0 r.1)) (indices_wait hidden at xs one.0 t one.2)
 
-  simple_waits : (hidden : Hidden) (d : Declared) (x : syntax.Ordinal) (r : DataType × Declared) → simple_type f hidden d x ≡ Yes r → Waits d [] r.1
+  simple_waits : (hidden : Hidden) (d : Declared) (x : syntax.Ordinal) (r : DataType × Declared)
+      → simple_type f hidden d x ≡ Yes r → Waits d [] r.1
   unfolding simple_type
   simple_waits hidden d (o.Name at) r e =
       let t = then_yes (type_named f.text (regions f hidden d.known) at) _ r e in
@@ -114,13 +143,16 @@ module _ (f : Frame) where
   -- ---- all parts of denoters
 
   abbrev TypeWaits : TypeDenoter → Type 0
-  TypeWaits t = (hidden : Hidden) (d : Declared) (r : DataType × Declared) → denoter f t hidden d ≡ Yes r → Waits d (domain_names t) r.1
+  TypeWaits t = (hidden : Hidden) (d : Declared) (r : DataType × Declared) → denoter f t hidden d ≡ Yes r → Waits d
+      (domain_names t) r.1
 
   abbrev StructureWaits : Structure → Type 0
-  StructureWaits s = (packed : Option ℕ) (hidden : Hidden) (d : Declared) (r : DataType × Declared) → structure f s packed hidden d ≡ Yes r → Waits d (structure_domains s) r.1
+  StructureWaits s = (packed : Option ℕ) (hidden : Hidden) (d : Declared) (r : DataType × Declared)
+      → structure f s packed hidden d ≡ Yes r → Waits d (structure_domains s) r.1
 
   abbrev FieldsWait : Fields → Type 0
-  FieldsWait x = (hidden : Hidden) (d : Declared) (r : DataType × Declared) → (fields f x).1 hidden d ≡ Yes r → Waits d (fields_domains x) r.1
+  FieldsWait x = (hidden : Hidden) (d : Declared) (r : DataType × Declared) → (fields f x).1 hidden d ≡ Yes r → Waits d
+      (fields_domains x) r.1
 
   abbrev AtStructure : Type 0
   AtStructure = (x : Structure) × StructureWaits x
@@ -134,90 +166,135 @@ module _ (f : Frame) where
   abbrev first_of : List AtFields → List Fields
   first_of ys = map (λ y. y.0) ys
 
-  all_wait : (names : List (List ℕ)) (hidden : Hidden) (ys : List AtFields) (s t : FieldTypes × Declared) → steps (add_fields f names hidden) s (map (fields f) (first_of ys)) ≡ Yes t → Waits s.1 (all (map fields_domains (first_of ys))) t.1
+  all_wait : (names : List (List ℕ)) (hidden : Hidden) (ys : List AtFields) (s t : FieldTypes × Declared) → steps
+      (add_fields f names hidden) s (map (fields f) (first_of ys)) ≡ Yes t → Waits s.1
+      (all (map fields_domains (first_of ys))) t.1
   all_wait names hidden [] s t e = waits_at s.1 [] s t e (waits_none s.1)
   all_wait names hidden (y ∷ ys) s t e =
       let one = then_yes (add_fields f names hidden s (fields f y.0)) _ t e in
       let n = then_yes (new_points f.text names [] (length s.0) (fields f y.0).0) _ one.0 one.1 in
       let r = then_yes ((fields f y.0).1 ((names, n.0) ∷ hidden) s.1) _ one.0 n.2 in
-      waits_both s.1 one.0.1 t.1 (fields_domains y.0) (all (map fields_domains (first_of ys))) (waits_at s.1 (fields_domains y.0) (s.0 ++ fields_of_type r.0.0 (fields f y.0).0, r.0.1) one.0 r.2 (y.1 ((names, n.0) ∷ hidden) s.1 r.0 r.1)) (all_wait names hidden ys one.0 t one.2)
+      waits_both s.1 one.0.1 t.1 (fields_domains y.0) (all (map fields_domains (first_of ys)))
+      (waits_at s.1 (fields_domains y.0) (s.0 ++ fields_of_type r.0.0 (fields f y.0).0, r.0.1) one.0 r.2
+      (y.1 ((names, n.0) ∷ hidden) s.1 r.0 r.1)) (all_wait names hidden ys one.0 t one.2)
 
-  structure_by : (x : Structure) (names : Points) (reading : StructureReading) → structure_domains x ≡ names → structure f x ≡ reading
-      → ((packed : Option ℕ) (hidden : Hidden) (d : Declared) (r : DataType × Declared) → reading packed hidden d ≡ Yes r → Waits d names r.1) → StructureWaits x
-  structure_by x names reading a c waits packed hidden d r e = subst (λ l. Waits d l r.1) (sym a) (waits packed hidden d r (ap (λ (q : StructureReading). q packed hidden d) (sym c) ∙ e))
+  structure_by : (x : Structure) (names : Points) (reading : StructureReading) → structure_domains x ≡ names
+      → structure f x ≡ reading
+      → ((packed : Option ℕ) (hidden : Hidden) (d : Declared) (r : DataType × Declared) → reading packed hidden d
+      ≡ Yes r → Waits d names r.1) → StructureWaits x
+  structure_by x names reading a c waits packed hidden d r e = subst (λ l. Waits d l r.1) (sym a)
+      (waits packed hidden d r (ap (λ (q : StructureReading). q packed hidden d) (sym c) ∙ e))
 
   type_by : (x : TypeDenoter) (names : Points) (reading : Reading) → domain_names x ≡ names → denoter f x ≡ reading
-      → ((hidden : Hidden) (d : Declared) (r : DataType × Declared) → reading hidden d ≡ Yes r → Waits d names r.1) → TypeWaits x
-  type_by x names reading a c waits hidden d r e = subst (λ l. Waits d l r.1) (sym a) (waits hidden d r (ap (λ (q : Reading). q hidden d) (sym c) ∙ e))
+      → ((hidden : Hidden) (d : Declared) (r : DataType × Declared) → reading hidden d ≡ Yes r → Waits d names r.1)
+      → TypeWaits x
+  type_by x names reading a c waits hidden d r e = subst (λ l. Waits d l r.1) (sym a)
+      (waits hidden d r (ap (λ (q : Reading). q hidden d) (sym c) ∙ e))
 
-  array_waits : (packed : Option ℕ) (hidden : Hidden) (d : Declared) (at : ℕ) (xs : List syntax.Ordinal) (c : TypeDenoter) → TypeWaits c → (r : DataType × Declared) → array_type f packed hidden d at xs (denoter f c) ≡ Yes r → Waits d (domain_names c) r.1
+  array_waits : (packed : Option ℕ) (hidden : Hidden) (d : Declared) (at : ℕ) (xs : List syntax.Ordinal)
+      (c : TypeDenoter) → TypeWaits c → (r : DataType × Declared) → array_type f packed hidden d at xs (denoter f c)
+      ≡ Yes r → Waits d (domain_names c) r.1
   unfolding array_type
   array_waits packed hidden d at xs c told r e =
       let is = then_yes (steps (index_type f hidden (begins packed at)) ([], d) xs) _ r e in
       let q = then_yes (denoter f c hidden is.0.1) _ r is.2 in
       let t = then_yes (array_of (is_packed packed) is.0.0 q.0.0) _ r q.2 in
-      waits_both d is.0.1 r.1 [] (domain_names c) (indices_wait hidden (begins packed at) xs ([], d) is.0 is.1) (waits_at is.0.1 (domain_names c) (t.0, q.0.1) r t.2 (told hidden is.0.1 q.0 q.1))
+      waits_both d is.0.1 r.1 [] (domain_names c) (indices_wait hidden (begins packed at) xs ([], d) is.0 is.1)
+      (waits_at is.0.1 (domain_names c) (t.0, q.0.1) r t.2 (told hidden is.0.1 q.0 q.1))
 
-  record_waits : (packed : Option ℕ) (hidden : Hidden) (d : Declared) (at : ℕ) (ys : List AtFields) (r : DataType × Declared) → record_type f packed hidden d at (map (fields f) (first_of ys)) ≡ Yes r → Waits d (all (map fields_domains (first_of ys))) r.1
+  record_waits : (packed : Option ℕ) (hidden : Hidden) (d : Declared) (at : ℕ) (ys : List AtFields)
+      (r : DataType × Declared) → record_type f packed hidden d at (map (fields f) (first_of ys)) ≡ Yes r → Waits d
+      (all (map fields_domains (first_of ys))) r.1
   unfolding record_type
   record_waits packed hidden d at ys r e =
       let names = record_names f (map (fields f) (first_of ys)) in
       let types = then_yes (steps (add_fields f names hidden) ([], d) (map (fields f) (first_of ys))) _ r e in
-      let t = then_yes (small (begins packed at) (RecordType (begins packed at) (is_packed packed) (field_list names (listed types.0.0)))) _ r types.2 in
-      waits_at d (all (map fields_domains (first_of ys))) (t.0, types.0.1) r t.2 (all_wait names hidden ys ([], d) types.0 types.1)
+      let t = then_yes (small (begins packed at)
+      (RecordType (begins packed at) (is_packed packed) (field_list names (listed types.0.0)))) _ r types.2 in
+      waits_at d (all (map fields_domains (first_of ys))) (t.0, types.0.1) r t.2
+      (all_wait names hidden ys ([], d) types.0 types.1)
 
-  set_waits : (packed : Option ℕ) (hidden : Hidden) (d : Declared) (at : ℕ) (x : syntax.Ordinal) (r : DataType × Declared) → set_type f packed hidden d at x ≡ Yes r → Waits d [] r.1
+  set_waits : (packed : Option ℕ) (hidden : Hidden) (d : Declared) (at : ℕ) (x : syntax.Ordinal)
+      (r : DataType × Declared) → set_type f packed hidden d at x ≡ Yes r → Waits d [] r.1
   unfolding set_type
   set_waits packed hidden d at x r e =
       let q = then_yes (ordinal f hidden d x) _ r e in
       let t = then_yes (set_of at (begins packed at) (is_packed packed) q.0.0) _ r q.2 in
       waits_at d [] (t.0, q.0.1) r t.2 (ordinal_waits hidden d x q.0 q.1)
 
-  pointer_waits : (hidden : Hidden) (d : Declared) (domain : Span) (r : DataType × Declared) → pointer f hidden d domain ≡ Yes r → Waits d (domain ∷ []) r.1
+  pointer_waits : (hidden : Hidden) (d : Declared) (domain : Span) (r : DataType × Declared) → pointer f hidden d domain
+      ≡ Yes r → Waits d (domain ∷ []) r.1
   pointer_waits hidden d domain r e =
       let free = then_yes (passes hidden (spelled f.text domain) domain.from) _ r e in
       let q = provided_yes _ _ _ _ r free.2 in
-      waits_at d (domain ∷ []) _ r (ap (λ z. Yes z) q.1) (record { pending = map-append (λ (w : Span × ℕ). w.0) d.pending ((domain, length d.known) ∷ []); domains = refl })
+      waits_at d (domain ∷ []) _ r (ap (λ z. Yes z) q.1) (record {
+        pending = map-append (λ (w : Span × ℕ). w.0) d.pending ((domain, length d.known) ∷ []);
+        domains = refl;
+      })
 
-  structure_layer : (y : Structure-F AtStructure AtType AtFields) → StructureWaits (roll-Structure (map-Structure AtStructure AtType AtFields Structure TypeDenoter Fields (λ e. e.0) (λ e. e.0) (λ e. e.0) y))
+  structure_layer : (y : Structure-F AtStructure AtType AtFields) → StructureWaits
+      (roll-Structure (map-Structure AtStructure AtType AtFields Structure TypeDenoter Fields (λ e. e.0) (λ e. e.0)
+      (λ e. e.0) y))
   unfolding denoters.structure_step
   structure_layer (Structure-F.Array at xs c) =
       let x : Structure-F Structure TypeDenoter Fields = Structure-F.Array at xs c.0 in
-      structure_by (roll-Structure x) (domain_names c.0) (λ packed hidden d. array_type f packed hidden d at.from xs (denoter f c.0)) (fold-roll-Structure Points Points Points structure_step type_step fields_step x)
-      (fold-roll-Structure StructureReading Reading FieldsReading (denoters.structure_step f) (denoters.type_step f) (denoters.fields_step f) x) (λ packed hidden d r e. array_waits packed hidden d at.from xs c.0 c.1 r e)
+      structure_by (roll-Structure x) (domain_names c.0)
+      (λ packed hidden d. array_type f packed hidden d at.from xs (denoter f c.0))
+      (fold-roll-Structure Points Points Points structure_step type_step fields_step x)
+      (fold-roll-Structure StructureReading Reading FieldsReading (denoters.structure_step f) (denoters.type_step f)
+      (denoters.fields_step f) x) (λ packed hidden d r e. array_waits packed hidden d at.from xs c.0 c.1 r e)
   structure_layer (Structure-F.Record at ys) =
       let x : Structure-F Structure TypeDenoter Fields = Structure-F.Record at (first_of ys) in
-      structure_by (roll-Structure x) (all (map fields_domains (first_of ys))) (λ packed hidden d. record_type f packed hidden d at.from (map (fields f) (first_of ys))) (fold-roll-Structure Points Points Points structure_step type_step fields_step x)
-      (fold-roll-Structure StructureReading Reading FieldsReading (denoters.structure_step f) (denoters.type_step f) (denoters.fields_step f) x) (λ packed hidden d r e. record_waits packed hidden d at.from ys r e)
+      structure_by (roll-Structure x) (all (map fields_domains (first_of ys)))
+      (λ packed hidden d. record_type f packed hidden d at.from (map (fields f) (first_of ys)))
+      (fold-roll-Structure Points Points Points structure_step type_step fields_step x)
+      (fold-roll-Structure StructureReading Reading FieldsReading (denoters.structure_step f) (denoters.type_step f)
+      (denoters.fields_step f) x) (λ packed hidden d r e. record_waits packed hidden d at.from ys r e)
   structure_layer (Structure-F.Set at base) =
       let x : Structure-F Structure TypeDenoter Fields = Structure-F.Set at base in
-      structure_by (roll-Structure x) [] (λ packed hidden d. set_type f packed hidden d at.from base) (fold-roll-Structure Points Points Points structure_step type_step fields_step x)
-      (fold-roll-Structure StructureReading Reading FieldsReading (denoters.structure_step f) (denoters.type_step f) (denoters.fields_step f) x) (λ packed hidden d r e. set_waits packed hidden d at.from base r e)
+      structure_by (roll-Structure x) [] (λ packed hidden d. set_type f packed hidden d at.from base)
+      (fold-roll-Structure Points Points Points structure_step type_step fields_step x)
+      (fold-roll-Structure StructureReading Reading FieldsReading (denoters.structure_step f) (denoters.type_step f)
+      (denoters.fields_step f) x) (λ packed hidden d r e. set_waits packed hidden d at.from base r e)
 
-  type_layer : (y : TypeDenoter-F AtStructure AtType AtFields) → TypeWaits (roll-TypeDenoter (map-TypeDenoter AtStructure AtType AtFields Structure TypeDenoter Fields (λ e. e.0) (λ e. e.0) (λ e. e.0) y))
+  type_layer : (y : TypeDenoter-F AtStructure AtType AtFields) → TypeWaits
+      (roll-TypeDenoter (map-TypeDenoter AtStructure AtType AtFields Structure TypeDenoter Fields (λ e. e.0) (λ e. e.0)
+      (λ e. e.0) y))
   unfolding denoters.type_step
   type_layer (TypeDenoter-F.Ordinal o) =
       let x : TypeDenoter-F Structure TypeDenoter Fields = TypeDenoter-F.Ordinal o in
-      type_by (roll-TypeDenoter x) [] (λ hidden d. simple_type f hidden d o) (fold-roll-TypeDenoter Points Points Points structure_step type_step fields_step x)
-      (fold-roll-TypeDenoter StructureReading Reading FieldsReading (denoters.structure_step f) (denoters.type_step f) (denoters.fields_step f) x) (λ hidden d r e. simple_waits hidden d o r e)
+      type_by (roll-TypeDenoter x) [] (λ hidden d. simple_type f hidden d o)
+      (fold-roll-TypeDenoter Points Points Points structure_step type_step fields_step x)
+      (fold-roll-TypeDenoter StructureReading Reading FieldsReading (denoters.structure_step f) (denoters.type_step f)
+      (denoters.fields_step f) x) (λ hidden d r e. simple_waits hidden d o r e)
   type_layer (TypeDenoter-F.Pointer at domain) =
       let x : TypeDenoter-F Structure TypeDenoter Fields = TypeDenoter-F.Pointer at domain in
-      type_by (roll-TypeDenoter x) (domain ∷ []) (λ hidden d. pointer f hidden d domain) (fold-roll-TypeDenoter Points Points Points structure_step type_step fields_step x)
-      (fold-roll-TypeDenoter StructureReading Reading FieldsReading (denoters.structure_step f) (denoters.type_step f) (denoters.fields_step f) x) (λ hidden d r e. pointer_waits hidden d domain r e)
+      type_by (roll-TypeDenoter x) (domain ∷ []) (λ hidden d. pointer f hidden d domain)
+      (fold-roll-TypeDenoter Points Points Points structure_step type_step fields_step x)
+      (fold-roll-TypeDenoter StructureReading Reading FieldsReading (denoters.structure_step f) (denoters.type_step f)
+      (denoters.fields_step f) x) (λ hidden d r e. pointer_waits hidden d domain r e)
   type_layer (TypeDenoter-F.Structure s) =
       let x : TypeDenoter-F Structure TypeDenoter Fields = TypeDenoter-F.Structure s.0 in
-      type_by (roll-TypeDenoter x) (structure_domains s.0) (λ hidden d. structure f s.0 None hidden d) (fold-roll-TypeDenoter Points Points Points structure_step type_step fields_step x)
-      (fold-roll-TypeDenoter StructureReading Reading FieldsReading (denoters.structure_step f) (denoters.type_step f) (denoters.fields_step f) x) (λ hidden d r e. s.1 None hidden d r e)
+      type_by (roll-TypeDenoter x) (structure_domains s.0) (λ hidden d. structure f s.0 None hidden d)
+      (fold-roll-TypeDenoter Points Points Points structure_step type_step fields_step x)
+      (fold-roll-TypeDenoter StructureReading Reading FieldsReading (denoters.structure_step f) (denoters.type_step f)
+      (denoters.fields_step f) x) (λ hidden d r e. s.1 None hidden d r e)
   type_layer (TypeDenoter-F.Packed at s) =
       let x : TypeDenoter-F Structure TypeDenoter Fields = TypeDenoter-F.Packed at s.0 in
-      type_by (roll-TypeDenoter x) (structure_domains s.0) (λ hidden d. structure f s.0 (Some at.from) hidden d) (fold-roll-TypeDenoter Points Points Points structure_step type_step fields_step x)
-      (fold-roll-TypeDenoter StructureReading Reading FieldsReading (denoters.structure_step f) (denoters.type_step f) (denoters.fields_step f) x) (λ hidden d r e. s.1 (Some at.from) hidden d r e)
+      type_by (roll-TypeDenoter x) (structure_domains s.0) (λ hidden d. structure f s.0 (Some at.from) hidden d)
+      (fold-roll-TypeDenoter Points Points Points structure_step type_step fields_step x)
+      (fold-roll-TypeDenoter StructureReading Reading FieldsReading (denoters.structure_step f) (denoters.type_step f)
+      (denoters.fields_step f) x) (λ hidden d r e. s.1 (Some at.from) hidden d r e)
 
-  fields_layer : (y : Fields-F AtStructure AtType AtFields) → FieldsWait (roll-Fields (map-Fields AtStructure AtType AtFields Structure TypeDenoter Fields (λ e. e.0) (λ e. e.0) (λ e. e.0) y))
+  fields_layer : (y : Fields-F AtStructure AtType AtFields) → FieldsWait
+      (roll-Fields (map-Fields AtStructure AtType AtFields Structure TypeDenoter Fields (λ e. e.0) (λ e. e.0)
+      (λ e. e.0) y))
   fields_layer y hidden d r e =
       let x : Fields-F Structure TypeDenoter Fields = record { names = y.names; ty = y.ty.0 } in
-      let a : fields_domains (roll-Fields x) ≡ domain_names y.ty.0 = fold-roll-Fields Points Points Points structure_step type_step fields_step x in
-      let c : fields f (roll-Fields x) ≡ (y.names, denoter f y.ty.0) = fold-roll-Fields StructureReading Reading FieldsReading (denoters.structure_step f) (denoters.type_step f) (denoters.fields_step f) x in
+      let a : fields_domains (roll-Fields x) ≡ domain_names y.ty.0 = fold-roll-Fields Points Points Points
+      structure_step type_step fields_step x in
+      let c : fields f (roll-Fields x) ≡ (y.names, denoter f y.ty.0) = fold-roll-Fields StructureReading Reading
+      FieldsReading (denoters.structure_step f) (denoters.type_step f) (denoters.fields_step f) x in
       subst (λ l. Waits d l r.1) (sym a) (y.ty.1 hidden d r (ap (λ (q : FieldsReading). q.1 hidden d) (sym c) ∙ e))
 
   pub type_waits : (t : TypeDenoter) → TypeWaits t
@@ -229,7 +306,8 @@ module _ (f : Frame) where
 -- ---- the parts of a block
 
 module _ (f : Frame) where
-  constants_wait : (cs : List ConstantDefinition) (d e : Declared) → steps (define_constant f) d cs ≡ Yes e → Waits d [] e
+  constants_wait : (cs : List ConstantDefinition) (d e : Declared) → steps (define_constant f) d cs ≡ Yes e
+      → Waits d [] e
   unfolding define_constant
   constants_wait [] d e q = subst (Waits d []) (inside_yes d e q) (waits_none d)
   constants_wait (c ∷ cs) d e q =
@@ -237,45 +315,79 @@ module _ (f : Frame) where
       let begun = then_yes (begin f d.known [] c.name) _ one.0 one.1 in
       let v = then_yes (constant f.text (regions f [] d.known) c.value) _ one.0 begun.2 in
       let n : Declared = denoters.with_known d (d.known ++ meaning_of_constant v.0 ∷ []) in
-      waits_both d one.0 e [] [] (subst (Waits d []) (inside_yes n one.0 v.2) (record { pending = sym (append-nil (waiting d)); domains = refl })) (constants_wait cs one.0 e one.2)
+      waits_both d one.0 e [] [] (subst (Waits d []) (inside_yes n one.0 v.2) (record {
+        pending = sym (append-nil (waiting d));
+        domains = refl;
+      })) (constants_wait cs one.0 e one.2)
 
-  types_wait : (ts : List TypeDefinition) (d e : Declared) → steps (define_type f) d ts ≡ Yes e → Waits d (type_domains ts) e
+  types_wait : (ts : List TypeDefinition) (d e : Declared) → steps (define_type f) d ts ≡ Yes e → Waits d
+      (type_domains ts) e
   types_wait [] d e q = subst (Waits d []) (inside_yes d e q) (waits_none d)
   types_wait (t ∷ ts) d e q =
       let one = then_yes (define_type f d t) _ e q in
       let r = type_defined f d t one.0 one.1 in
       let inner = type_waits (within f (spelled f.text t.name ∷ [])) t.ty [] d r.read r.reading in
-      waits_both d one.0 e (domain_names t.ty) (type_domains ts) (subst (Waits d (domain_names t.ty)) r.is (record { pending = inner.pending; domains = inner.domains })) (types_wait ts one.0 e one.2)
+      waits_both d one.0 e (domain_names t.ty) (type_domains ts) (subst (Waits d (domain_names t.ty)) r.is (record {
+        pending = inner.pending;
+        domains = inner.domains;
+      })) (types_wait ts one.0 e one.2)
 
   module _ (first : ℕ) where
-    names_wait : (type : DataType) (names : List Span) (d e : Declared) → steps (declare_variable first type) d names ≡ Yes e → Waits d [] e
+    names_wait : (type : DataType) (names : List Span) (d e : Declared) → steps (declare_variable first type) d names
+        ≡ Yes e → Waits d [] e
     names_wait type [] d e q = subst (Waits d []) (inside_yes d e q) (waits_none d)
     names_wait type (name ∷ names) d e q =
         let one = then_yes (declare_variable first type d name) _ e q in
         let next = then_yes (some_or Limit name.from (one_more (first + length d.variables))) _ one.0 one.1 in
-        let made : Declared = record { known = d.known ++ VariableMeaning (first + length d.variables) type ∷ []; domains = d.domains; pending = d.pending; variables = d.variables ++ type ∷ [] } in
-        waits_both d one.0 e [] [] (subst (Waits d []) (inside_yes made one.0 next.2) (record { pending = sym (append-nil (waiting d)); domains = refl })) (names_wait type names one.0 e one.2)
+        let made : Declared = record {
+          known = d.known ++ VariableMeaning (first + length d.variables) type ∷ [];
+          domains = d.domains;
+          pending = d.pending;
+          variables = d.variables ++ type ∷ [];
+        } in
+        waits_both d one.0 e [] [] (subst (Waits d []) (inside_yes made one.0 next.2) (record {
+          pending = sym (append-nil (waiting d));
+          domains = refl;
+        })) (names_wait type names one.0 e one.2)
 
-    variables_wait : (vs : List Variables) (d e : Declared) → steps (declare_variables f first) d vs ≡ Yes e → Waits d (variable_domains vs) e
+    variables_wait : (vs : List Variables) (d e : Declared) → steps (declare_variables f first) d vs ≡ Yes e → Waits d
+        (variable_domains vs) e
     variables_wait [] d e q = subst (Waits d []) (inside_yes d e q) (waits_none d)
     variables_wait (v ∷ vs) d e q =
         let one = then_yes (declare_variables f first d v) _ e q in
         let r = variables_declared f first d v one.0 one.1 in
         let names : List Span = domain_names v.ty in
-        let both = waits_both d r.read.1 one.0 names [] (type_waits (within f (variable_names f v)) v.ty (hidden_by f v) d r.read r.reading) (names_wait r.read.0 v.names r.read.1 one.0 r.names) in
-        waits_both d one.0 e names (variable_domains vs) (subst (λ l. Waits d l one.0) (append-nil names) both) (variables_wait vs one.0 e one.2)
+        let both = waits_both d r.read.1 one.0 names []
+        (type_waits (within f (variable_names f v)) v.ty (hidden_by f v) d r.read r.reading)
+        (names_wait r.read.0 v.names r.read.1 one.0 r.names) in
+        waits_both d one.0 e names (variable_domains vs) (subst (λ l. Waits d l one.0) (append-nil names) both)
+        (variables_wait vs one.0 e one.2)
 
-    names_extend : (type : DataType) (names : List Span) (d e : Declared) → steps (declare_variable first type) d names ≡ Yes e → (more : List Meaning) × (e.known ≡ d.known ++ more)
-    names_extend type [] d e q = ([], ap (λ (z : Declared). z.known) (sym (inside_yes d e q)) ∙ sym (append-nil d.known))
+    names_extend : (type : DataType) (names : List Span) (d e : Declared) → steps (declare_variable first type) d names
+        ≡ Yes e → (more : List Meaning) × (e.known ≡ d.known ++ more)
+    names_extend type [] d e q = (
+      [],
+      ap (λ (z : Declared). z.known) (sym (inside_yes d e q)) ∙ sym
+          (append-nil d.known),
+    )
     names_extend type (name ∷ names) d e q =
         let one = then_yes (declare_variable first type d name) _ e q in
         let next = then_yes (some_or Limit name.from (one_more (first + length d.variables))) _ one.0 one.1 in
         let m = VariableMeaning (first + length d.variables) type in
-        let made : Declared = record { known = d.known ++ m ∷ []; domains = d.domains; pending = d.pending; variables = d.variables ++ type ∷ [] } in
-        let rest = names_extend type names one.0 e one.2 in
-        (m ∷ rest.0, rest.1 ∙ ap (λ (z : Declared). z.known ++ rest.0) (sym (inside_yes made one.0 next.2)) ∙ append_assoc d.known (m ∷ []) rest.0)
+        let made : Declared = record {
+          known = d.known ++ m ∷ [];
+          domains = d.domains;
+          pending = d.pending;
+          variables = d.variables ++ type ∷ [];
+        } in
+        let rest = names_extend type names one.0 e one.2 in (
+          m ∷ rest.0,
+          rest.1 ∙ ap (λ (z : Declared). z.known ++ rest.0) (sym (inside_yes made one.0 next.2))
+              ∙ append_assoc d.known (m ∷ []) rest.0,
+        )
 
-    variables_extend : (vs : List Variables) (d e : Declared) → steps (declare_variables f first) d vs ≡ Yes e → (more : List Meaning) × (e.known ≡ d.known ++ more)
+    variables_extend : (vs : List Variables) (d e : Declared) → steps (declare_variables f first) d vs ≡ Yes e
+        → (more : List Meaning) × (e.known ≡ d.known ++ more)
     variables_extend [] d e q = ([], ap (λ (z : Declared). z.known) (sym (inside_yes d e q)) ∙ sym (append-nil d.known))
     variables_extend (v ∷ vs) d e q =
         let one = then_yes (declare_variables f first d v) _ e q in
@@ -283,10 +395,15 @@ module _ (f : Frame) where
         let constants : List Meaning = map constant_of (type_declarations v.ty) in
         let a = (types_told (within f (variable_names f v)) v.ty).adds (hidden_by f v) d r.read r.reading in
         let b = names_extend r.read.0 v.names r.read.1 one.0 r.names in
-        let c = variables_extend vs one.0 e one.2 in
-        ((constants ++ b.0) ++ c.0, c.1 ∙ ap (λ l. l ++ c.0) (b.1 ∙ ap (λ l. l ++ b.0) a.0 ∙ append_assoc d.known constants b.0) ∙ append_assoc d.known (constants ++ b.0) c.0)
+        let c = variables_extend vs one.0 e one.2 in (
+          (constants ++ b.0) ++ c.0,
+          c.1 ∙ ap (λ l. l ++ c.0)
+              (b.1 ∙ ap (λ l. l ++ b.0) a.0 ∙ append_assoc d.known constants b.0) ∙ append_assoc d.known
+              (constants ++ b.0) c.0,
+        )
 
-  constants_extend : (cs : List ConstantDefinition) (d e : Declared) → steps (define_constant f) d cs ≡ Yes e → (more : List Meaning) × (e.known ≡ d.known ++ more)
+  constants_extend : (cs : List ConstantDefinition) (d e : Declared) → steps (define_constant f) d cs ≡ Yes e
+      → (more : List Meaning) × (e.known ≡ d.known ++ more)
   unfolding define_constant
   constants_extend [] d e q = ([], ap (λ (z : Declared). z.known) (sym (inside_yes d e q)) ∙ sym (append-nil d.known))
   constants_extend (c ∷ cs) d e q =
@@ -294,10 +411,15 @@ module _ (f : Frame) where
       let begun = then_yes (begin f d.known [] c.name) _ one.0 one.1 in
       let v = then_yes (constant f.text (regions f [] d.known) c.value) _ one.0 begun.2 in
       let m = meaning_of_constant v.0 in
-      let rest = constants_extend cs one.0 e one.2 in
-      (m ∷ rest.0, rest.1 ∙ ap (λ (z : Declared). z.known ++ rest.0) (sym (inside_yes (denoters.with_known d (d.known ++ m ∷ [])) one.0 v.2)) ∙ append_assoc d.known (m ∷ []) rest.0)
+      let rest = constants_extend cs one.0 e one.2 in (
+        m ∷ rest.0,
+        rest.1 ∙ ap (λ (z : Declared). z.known ++ rest.0)
+            (sym (inside_yes (denoters.with_known d (d.known ++ m ∷ [])) one.0 v.2)) ∙ append_assoc d.known
+            (m ∷ []) rest.0,
+      )
 
-  types_extend : (ts : List TypeDefinition) (d e : Declared) → steps (define_type f) d ts ≡ Yes e → (more : List Meaning) × (e.known ≡ d.known ++ more)
+  types_extend : (ts : List TypeDefinition) (d e : Declared) → steps (define_type f) d ts ≡ Yes e
+      → (more : List Meaning) × (e.known ≡ d.known ++ more)
   types_extend [] d e q = ([], ap (λ (z : Declared). z.known) (sym (inside_yes d e q)) ∙ sym (append-nil d.known))
   types_extend (t ∷ ts) d e q =
       let one = then_yes (define_type f d t) _ e q in
@@ -307,57 +429,97 @@ module _ (f : Frame) where
       let a = (types_told (within f (spelled f.text t.name ∷ [])) t.ty).adds [] d r.read r.reading in
       let rest = types_extend ts one.0 e one.2 in (
         (constants ++ m ∷ []) ++ rest.0,
-        rest.1 ∙ ap (λ (z : Declared). z.known ++ rest.0) (sym r.is) ∙ ap (λ l. (l ++ m ∷ []) ++ rest.0) a.0 ∙ ap (λ l. l ++ rest.0) (append_assoc d.known constants (m ∷ [])) ∙ append_assoc d.known (constants ++ m ∷ []) rest.0,
+        rest.1 ∙ ap (λ (z : Declared). z.known ++ rest.0) (sym r.is) ∙ ap (λ l. (l ++ m ∷ []) ++ rest.0) a.0
+            ∙ ap (λ l. l ++ rest.0) (append_assoc d.known constants (m ∷ [])) ∙ append_assoc d.known
+            (constants ++ m ∷ []) rest.0,
       )
 
   -- ---- where a part ends
 
-  -- the names that waited denote the domain types that come behind
+  -- the names that were pending denote the domain types that come after
   pub record Settled (names : Points) (d e : Declared) : Type 0 where
     pub types : List DataType
     pub known : e.known ≡ d.known
     domains : e.domains ≡ d.domains ++ types
     many : length types ≡ length names
-    are : (i : ℕ) (name : Span) → slice_get names i ≡ Some name → (type : DataType) × (type_named f.text (regions f [] d.known) name ≡ Yes type) × (slice_get types i ≡ Some type)
+    are : (i : ℕ) (name : Span) → slice_get names i ≡ Some name → (type : DataType)
+        × (type_named f.text (regions f [] d.known) name ≡ Yes type) × (slice_get types i ≡ Some type)
 
   abbrev AreNamed : Points → List DataType → List Meaning → Type 0
-  AreNamed names types known = (i : ℕ) (name : Span) → slice_get names i ≡ Some name → (type : DataType) × (type_named f.text (regions f [] known) name ≡ Yes type) × (slice_get types i ≡ Some type)
+  AreNamed names types known = (i : ℕ) (name : Span) → slice_get names i ≡ Some name → (type : DataType)
+      × (type_named f.text (regions f [] known) name ≡ Yes type) × (slice_get types i ≡ Some type)
 
-  settled_at : (x : Span) (xs : Points) (type : DataType) (types : List DataType) (known : List Meaning) → type_named f.text (regions f [] known) x ≡ Yes type → AreNamed xs types known → AreNamed (x ∷ xs) (type ∷ types) known
-  settled_at x xs type types known e further zero name g = (type, ap (type_named f.text (regions f [] known)) (sym (inside x name g)) ∙ e, refl)
+  settled_at : (x : Span) (xs : Points) (type : DataType) (types : List DataType) (known : List Meaning)
+      → type_named f.text (regions f [] known) x ≡ Yes type → AreNamed xs types known → AreNamed (x ∷ xs)
+      (type ∷ types) known
+  settled_at x xs type types known e further zero name g =
+      (type, ap (type_named f.text (regions f [] known)) (sym (inside x name g)) ∙ e, refl)
   settled_at x xs type types known e further (suc i) name g = further i name g
 
-  all_settled : (ws : List (Span × ℕ)) (d e : Declared) → steps (resolve_domain f) d ws ≡ Yes e → Settled (pending_names ws) d e
+  all_settled : (ws : List (Span × ℕ)) (d e : Declared) → steps (resolve_domain f) d ws ≡ Yes e → Settled
+      (pending_names ws) d e
   unfolding resolve_domain
-  all_settled [] d e q = subst (Settled [] d) (inside_yes d e q) (record { types = []; known = refl; domains = sym (append-nil d.domains); many = refl; are = λ i name g. absurd (none_some g) })
+  all_settled [] d e q = subst (Settled [] d) (inside_yes d e q) (record {
+    types = [];
+    known = refl;
+    domains = sym (append-nil d.domains);
+    many = refl;
+    are = λ i name g. absurd (none_some g);
+  })
   all_settled (w ∷ ws) d e q =
       let one = then_yes (resolve_domain f d w) _ e q in
       let point = then_yes (denoted f.text (regions f [] d.known) w.0) _ one.0 one.1 in
       let t = then_yes (domain_at (is_later f.names w.1 (spelled f.text w.0)) w.0.from point.0) _ one.0 point.2 in
-      let made : Declared = record { known = d.known; domains = d.domains ++ t.0 ∷ []; pending = d.pending; variables = d.variables } in
+      let made : Declared = record {
+        known = d.known;
+        domains = d.domains ++ t.0 ∷ [];
+        pending = d.pending;
+        variables = d.variables;
+      } in
       let is : made ≡ one.0 = inside_yes made one.0 t.2 in
       let rest = all_settled ws one.0 e one.2 in
       let same_known : one.0.known ≡ d.known = ap (λ (z : Declared). z.known) (sym is) in
-      let named : type_named f.text (regions f [] d.known) w.0 ≡ Yes t.0 = ap (λ j. j >>= type_at w.0.from) point.1 ∙ domain_is (is_later f.names w.1 (spelled f.text w.0)) w.0.from point.0 t.0 t.1 in
+      let named : type_named f.text (regions f [] d.known) w.0 ≡ Yes t.0 = ap (λ j. j >>= type_at w.0.from) point.1
+      ∙ domain_is (is_later f.names w.1 (spelled f.text w.0)) w.0.from point.0 t.0 t.1 in
       record {
         types = t.0 ∷ rest.types;
         known = rest.known ∙ same_known;
-        domains = rest.domains ∙ ap (λ (z : Declared). z.domains ++ rest.types) (sym is) ∙ append_assoc d.domains (t.0 ∷ []) rest.types;
+        domains = rest.domains ∙ ap (λ (z : Declared). z.domains ++ rest.types) (sym is) ∙ append_assoc d.domains
+            (t.0 ∷ []) rest.types;
         many = ap suc rest.many;
-        are = settled_at w.0 (pending_names ws) t.0 rest.types d.known named (λ j n h. let r = rest.are j n h in (r.0, ap (λ k. type_named f.text (regions f [] k) n) (sym same_known) ∙ r.1, r.2));
+        are = settled_at w.0 (pending_names ws) t.0 rest.types d.known named
+            (λ j n h. let r = rest.are j n h in (
+              r.0,
+              ap (λ k. type_named f.text (regions f [] k) n) (sym same_known)
+                  ∙ r.1,
+              r.2,
+            ));
       }
 
   pub settled : (d e : Declared) → resolve_domains f d ≡ Yes e → Settled (waiting d) d e × (e.pending ≡ [])
   unfolding resolve_domains
   settled d e q =
       let t = then_yes (steps (resolve_domain f) d d.pending) _ e q in
-      let is = inside_yes (record { known = t.0.known; domains = t.0.domains; pending = []; variables = t.0.variables }) e t.2 in
-      let a = all_settled d.pending d t.0 t.1 in
-      (record { types = a.types; known = ap (λ (z : Declared). z.known) (sym is) ∙ a.known; domains = ap (λ (z : Declared). z.domains) (sym is) ∙ a.domains; many = a.many; are = a.are }, ap (λ (z : Declared). z.pending) (sym is))
+      let is = inside_yes (record {
+        known = t.0.known;
+        domains = t.0.domains;
+        pending = [];
+        variables = t.0.variables;
+      }) e t.2 in
+      let a = all_settled d.pending d t.0 t.1 in (
+        record {
+          types = a.types;
+          known = ap (λ (z : Declared). z.known) (sym is) ∙ a.known;
+          domains = ap (λ (z : Declared). z.domains) (sym is) ∙ a.domains;
+          many = a.many;
+          are = a.are;
+        },
+        ap (λ (z : Declared). z.pending) (sym is),
+      )
 
   -- ---- a block
 
-  -- the domain types that the declarations of a block give, behind those before
+  -- the domain types that the declarations of a block give, after those before
   pub record DomainsTold (n : ℕ) (ts : List TypeDefinition) (vs : List Variables) (d e : Declared) : Type 0 where
     pub more : List DataType
     pub longer : e.domains ≡ d.domains ++ more
@@ -367,13 +529,19 @@ module _ (f : Frame) where
     pub types : AreDomains f (take n e.known) (length d.domains) (type_domains ts) e.domains
     pub variables : AreDomains f e.known (length d.domains + length (type_domains ts)) (variable_domains vs) e.domains
 
-  shifted : (n : ℕ) (before types : List DataType) (more domains : List DataType) (i : ℕ) (type : DataType) → n ≡ length before → domains ≡ (before ++ types) ++ more → slice_get types i ≡ Some type → slice_get domains (n + i) ≡ Some type
-  shifted n [] types more domains i type e is g = (let z : n + i ≡ i = omega (arith, e) in ap (slice_get domains) z) ∙ ap (λ l. slice_get l i) is ∙ get_stays types more i type g
+  shifted : (n : ℕ) (before types : List DataType) (more domains : List DataType) (i : ℕ) (type : DataType) → n
+      ≡ length before → domains ≡ (before ++ types) ++ more → slice_get types i ≡ Some type → slice_get domains (n + i)
+      ≡ Some type
+  shifted n [] types more domains i type e is g = (let z : n + i ≡ i = omega (arith, e) in ap (slice_get domains) z)
+      ∙ ap (λ l. slice_get l i) is ∙ get_stays types more i type g
   shifted n (x ∷ before) types more domains i type e is g =
       let m : n + i ≡ suc (length before + i) = omega (arith, e) in
-      ap (slice_get domains) m ∙ ap (λ l. slice_get l (suc (length before + i))) is ∙ shifted (length before) before types more ((before ++ types) ++ more) i type refl refl g
+      ap (slice_get domains) m ∙ ap (λ l. slice_get l (suc (length before + i))) is ∙ shifted
+      (length before) before types more ((before ++ types) ++ more) i type refl refl g
 
-  pub declarations_told : (first : ℕ) (cs : List ConstantDefinition) (ts : List TypeDefinition) (vs : List Variables) (numbers : ℕ → ℕ) (xs : Declarations) (d e : Declared) → declarations f first d cs ts vs ≡ Yes e → d.pending ≡ [] → Stand f first numbers xs d.known
+  pub declarations_told : (first : ℕ) (cs : List ConstantDefinition) (ts : List TypeDefinition) (vs : List Variables)
+      (numbers : ℕ → ℕ) (xs : Declarations) (d e : Declared) → declarations f first d cs ts vs ≡ Yes e → d.pending ≡ []
+      → Stand f first numbers xs d.known
       → DomainsTold (length ((xs ++ map OfConstant cs) ++ joined (map definition_declarations ts))) ts vs d e
   unfolding declarations
   declarations_told first cs ts vs numbers xs d e q none stands =
@@ -386,11 +554,15 @@ module _ (f : Frame) where
       let three = settled b.0 c.0 c.1 in
       let four = variables_wait first vs c.0 g.0 g.1 in
       let five = settled g.0 e g.2 in
-      let in_types : waiting b.0 ≡ type_domains ts = two.pending ∙ ap (λ l. l ++ type_domains ts) (one.pending ∙ ap (λ l. pending_names l ++ []) none) in
-      let in_variables : waiting g.0 ≡ variable_domains vs = four.pending ∙ ap (λ l. pending_names l ++ variable_domains vs) three.1 in
+      let in_types : waiting b.0 ≡ type_domains ts = two.pending ∙ ap (λ l. l ++ type_domains ts)
+      (one.pending ∙ ap (λ l. pending_names l ++ []) none) in
+      let in_variables : waiting g.0 ≡ variable_domains vs = four.pending
+      ∙ ap (λ l. pending_names l ++ variable_domains vs) three.1 in
       let before : b.0.domains ≡ d.domains = two.domains ∙ one.domains in
-      let middle : g.0.domains ≡ d.domains ++ three.0.types = four.domains ∙ three.0.domains ∙ ap (λ l. l ++ three.0.types) before in
-      let whole : e.domains ≡ (d.domains ++ three.0.types) ++ five.0.types = five.0.domains ∙ ap (λ l. l ++ five.0.types) middle in
+      let middle : g.0.domains ≡ d.domains ++ three.0.types = four.domains ∙ three.0.domains
+      ∙ ap (λ l. l ++ three.0.types) before in
+      let whole : e.domains ≡ (d.domains ++ three.0.types) ++ five.0.types = five.0.domains
+      ∙ ap (λ l. l ++ five.0.types) middle in
       let count = ap length middle in
       let l = length-append d.domains three.0.types in
       let m = three.0.many in
@@ -399,28 +571,38 @@ module _ (f : Frame) where
       let points = (xs ++ map OfConstant cs) ++ joined (map definition_declarations ts) in
       let many : length b.0.known ≡ length points = behind_types.stands.many ∙ declarations_length points in
       let further = variables_extend first vs c.0 g.0 g.1 in
-      let known : e.known ≡ b.0.known ++ further.0 = five.0.known ∙ further.1 ∙ ap (λ l. l ++ further.0) three.0.known in
-      let taken : b.0.known ≡ take (length points) e.known = sym (take_whole b.0.known further.0) ∙ ap (take (length b.0.known)) (sym known) ∙ ap (λ k. take k e.known) many in
+      let known : e.known ≡ b.0.known ++ further.0 = five.0.known ∙ further.1 ∙ ap (λ l. l ++ further.0) three.0.known
+      in
+      let taken : b.0.known ≡ take (length points) e.known = sym (take_whole b.0.known further.0)
+      ∙ ap (take (length b.0.known)) (sym known) ∙ ap (λ k. take k e.known) many in
       let n = ap length in_types in
       record {
         more = three.0.types ++ five.0.types;
         below = (let z = ap length known in let y = length-append b.0.known further.0 in omega (arith, z, y, many));
         longer = whole ∙ append_assoc d.domains three.0.types five.0.types;
-        count = (let y = length-append three.0.types five.0.types in let w = five.0.many in let u = ap length in_variables in omega (arith, y, w, u, m, n));
+        count = (let y = length-append three.0.types five.0.types in let w = five.0.many
+            in let u = ap length in_variables in omega (arith, y, w, u, m, n));
         none_waits = five.1;
         types = λ i name at.
-            let r = three.0.are i name (ap (λ l. slice_get l i) in_types ∙ at) in
-            (r.0, ap (λ k. type_named f.text (regions f [] k) name) (sym taken) ∙ r.1, shifted (length d.domains) d.domains three.0.types five.0.types e.domains i r.0 refl whole r.2);
+            let r = three.0.are i name (ap (λ l. slice_get l i) in_types ∙ at) in (
+              r.0,
+              ap (λ k. type_named f.text (regions f [] k) name) (sym taken) ∙ r.1,
+              shifted
+                  (length d.domains) d.domains three.0.types five.0.types e.domains i r.0 refl whole r.2,
+            );
         variables = λ i name at.
             let r = five.0.are i name (ap (λ l. slice_get l i) in_variables ∙ at) in (
               r.0,
               ap (λ k. type_named f.text (regions f [] k) name) five.0.known ∙ r.1,
-              shifted (length d.domains + length (type_domains ts)) (d.domains ++ three.0.types) five.0.types [] e.domains i r.0 (omega (arith, l, m, n)) (whole ∙ sym (append-nil ((d.domains ++ three.0.types) ++ five.0.types))) r.2,
+              shifted (length d.domains + length (type_domains ts))
+                  (d.domains ++ three.0.types) five.0.types [] e.domains i r.0 (omega (arith, l, m, n))
+                  (whole ∙ sym (append-nil ((d.domains ++ three.0.types) ++ five.0.types))) r.2,
             );
       }
 
   -- the points that were known stay the first
-  pub declarations_extend : (first : ℕ) (cs : List ConstantDefinition) (ts : List TypeDefinition) (vs : List Variables) (d e : Declared) → declarations f first d cs ts vs ≡ Yes e → (more : List Meaning) × (e.known ≡ d.known ++ more)
+  pub declarations_extend : (first : ℕ) (cs : List ConstantDefinition) (ts : List TypeDefinition) (vs : List Variables)
+      (d e : Declared) → declarations f first d cs ts vs ≡ Yes e → (more : List Meaning) × (e.known ≡ d.known ++ more)
   unfolding declarations
   declarations_extend first cs ts vs d e q =
       let a = then_yes (steps (define_constant f) d cs) _ e q in
@@ -431,5 +613,9 @@ module _ (f : Frame) where
       let two = types_extend ts a.0 b.0 b.1 in
       let three = (settled b.0 c.0 c.1).0.known in
       let four = variables_extend first vs c.0 g.0 g.1 in
-      let five = (settled g.0 e g.2).0.known in
-      ((one.0 ++ two.0) ++ four.0, five ∙ four.1 ∙ ap (λ l. l ++ four.0) (three ∙ two.1 ∙ ap (λ l. l ++ two.0) one.1 ∙ append_assoc d.known one.0 two.0) ∙ append_assoc d.known (one.0 ++ two.0) four.0)
+      let five = (settled g.0 e g.2).0.known in (
+        (one.0 ++ two.0) ++ four.0,
+        five ∙ four.1 ∙ ap (λ l. l ++ four.0)
+            (three ∙ two.1 ∙ ap (λ l. l ++ two.0) one.1 ∙ append_assoc d.known one.0 two.0) ∙ append_assoc d.known
+            (one.0 ++ two.0) four.0,
+      )

@@ -1,5 +1,7 @@
 -- Formal parameters and program parameters: the first points of a block, and what they give their names there.
-use Rattle.std.proofs.Common.{◌≡◌, ℕ, zero, suc, ◌+◌, ◌<◌, ◌≤◌, Bool, true, false, not, if◌then◌else◌, List, [], ◌∷◌, ◌++◌, length, map, take, nat_lt, nat_le, Option, Some, None, is_some, slice_get, refl, sym, ap, ◌∙◌, subst, append_assoc, append-nil, length-append, ltb-true, arith}
+use Rattle.std.proofs.Common.{◌≡◌, ℕ, zero, suc, ◌+◌, ◌<◌, ◌≤◌, Bool, true, false, not, if◌then◌else◌, List, [], ◌∷◌}
+use Rattle.std.proofs.Common.{◌++◌, length, map, take, nat_lt, nat_le, Option, Some, None, is_some, slice_get, refl}
+use Rattle.std.proofs.Common.{sym, ap, ◌∙◌, subst, append_assoc, append-nil, length-append, ltb-true, arith}
 use Rattle.std.proofs.lemmas.List.{map-append, length-map}
 use Rattle.ps_text.specs.declared.Span.{Span}
 use Rattle.ps_syntax.specs.declared.program.Heading as syntax
@@ -15,16 +17,24 @@ use Rattle.ps_check_judgement.specs.declared.refusal.Rule.TheVariants.{NotInProf
 use Rattle.ps_check_judgement.specs.Judged.{Judged, Yes, No, ◌>>=◌, provided, some_or, steps}
 use Rattle.ps_check_judgement.proofs.Binds.{no_yes, inside_yes, then_yes, provided_yes, some_or_yes}
 use Rattle.ps_check_names.specs.Spelling.{spelled, same, has}
-use Rattle.ps_check_names.specs.Regions.{Meaning, ParameterMeaning, RoutineParameterMeaning, RoutineMeaning, FileMeaning, Heading, Section, ValueSection, VariableSection, RoutineSection, Sections, no_section, section_before, BlockPoint, find, one_more}
+use Rattle.ps_check_names.specs.Regions.{Meaning, ParameterMeaning, RoutineParameterMeaning, RoutineMeaning}
+use Rattle.ps_check_names.specs.Regions.{FileMeaning, Heading, Section, ValueSection, VariableSection, RoutineSection}
+use Rattle.ps_check_names.specs.Regions.{Sections, no_section, section_before, BlockPoint, find, one_more}
 use Rattle.ps_check_declarations.specs.Points.{Points, all, add_points, add_point, new_points}
 use Rattle.ps_check_declarations.specs.Denoters.{Frame, Hidden}
 use Rattle.ps_check_declarations.specs.Headings as headings
-use Rattle.ps_check_declarations.specs.Headings.{HeadingReading, SectionReading, Signature, section_list, few, formal_type, list_names, sections_of, result_type, heading_step, section_step, heading, section, parameters, section_meanings, section_count, formal_meanings}
+use Rattle.ps_check_declarations.specs.Headings.{HeadingReading, SectionReading, Signature, section_list, few}
+use Rattle.ps_check_declarations.specs.Headings.{formal_type, list_names, sections_of, result_type, heading_step}
+use Rattle.ps_check_declarations.specs.Headings.{section_step, heading, section, parameters, section_meanings}
+use Rattle.ps_check_declarations.specs.Headings.{section_count, formal_meanings}
 use Rattle.ps_check.specs.Readings.{layer_list, heading_name, heading_list, Start}
-use Rattle.ps_check.specs.Entries.{Entries, add_names, add_entry, add_parameters, add_section, add_sections, first_entry, start}
+use Rattle.ps_check.specs.Entries.{Entries, add_names, add_entry, add_parameters, add_section, add_sections}
+use Rattle.ps_check.specs.Entries.{first_entry, start}
 use Rattle.ps_check.specs.Readings as readings
 use Rattle.ps_check.specs.Programs.{Files, file_named, list_file}
-use Rattle.ps_check_laws.specs.Definitions.{Declarations, OfFile, OfFormal, Definition, OfDeclaration, numbered, layer_points, section_points, formal_points, formal_declarations, layer_entries, entries_before, names_of, point}
+use Rattle.ps_check_laws.specs.Definitions.{Declarations, OfFile, OfFormal, Definition, OfDeclaration, numbered}
+use Rattle.ps_check_laws.specs.Definitions.{layer_points, section_points, formal_points, formal_declarations}
+use Rattle.ps_check_laws.specs.Definitions.{layer_entries, entries_before, names_of, point}
 use Rattle.std.specs.Prelude.{codes}
 use Rattle.ps_check_laws.specs.Forward.{layer_is_function, is_function}
 use Rattle.ps_check_laws.specs.Meanings.{IsHeading, Defines}
@@ -32,7 +42,7 @@ use Rattle.ps_check_laws.proofs.New.{Names, are_new, points_append, points_both}
 use Rattle.ps_check_laws.proofs.Lists.{inside, none_some, Each, each_append}
 use Rattle.ps_check_laws.proofs.Declared.{Stand, one_more_declared}
 
--- how many parameters sections have
+-- the number of parameters in sections
 abbrev pub total : List Section → ℕ
 total [] = 0
 total (s ∷ ss) = section_count s + total ss
@@ -53,43 +63,62 @@ names_points text (p ∷ ps) A = names_points text ps (add_point text A p)
 -- ---- headings
 
 module _ (f : Frame) (known : List Meaning) where
-  name_at : (h : syntax.Heading) (x : Heading-F syntax.Heading syntax_section.Section) → out-Heading h ≡ x → (heading f known h).0 ≡ readings.layer_name x
+  name_at : (h : syntax.Heading) (x : Heading-F syntax.Heading syntax_section.Section) → out-Heading h ≡ x
+      → (heading f known h).0 ≡ readings.layer_name x
   unfolding heading_step
-  name_at h (Heading-F.Procedure name xs) o = ap (λ y. (heading f known y).0) (sym (roll-out-Heading h) ∙ ap roll-Heading o) ∙ ap (λ (r : HeadingReading). r.0) (fold-roll-Heading HeadingReading SectionReading (heading_step f known) (section_step f known) (Heading-F.Procedure name xs))
-  name_at h (Heading-F.Function name xs type) o = ap (λ y. (heading f known y).0) (sym (roll-out-Heading h) ∙ ap roll-Heading o) ∙ ap (λ (r : HeadingReading). r.0) (fold-roll-Heading HeadingReading SectionReading (heading_step f known) (section_step f known) (Heading-F.Function name xs type))
+  name_at h (Heading-F.Procedure name xs) o = ap (λ y. (heading f known y).0)
+      (sym (roll-out-Heading h) ∙ ap roll-Heading o) ∙ ap (λ (r : HeadingReading). r.0)
+      (fold-roll-Heading HeadingReading SectionReading (heading_step f known) (section_step f known)
+      (Heading-F.Procedure name xs))
+  name_at h (Heading-F.Function name xs type) o = ap (λ y. (heading f known y).0)
+      (sym (roll-out-Heading h) ∙ ap roll-Heading o) ∙ ap (λ (r : HeadingReading). r.0)
+      (fold-roll-Heading HeadingReading SectionReading (heading_step f known) (section_step f known)
+      (Heading-F.Function name xs type))
 
-  -- what is told of a section: its points, and their number
+  -- what is known of a section: its points, and their number
   record SectionTold (s : syntax_section.Section) : Type 0 where
     points : (section f known s).0 ≡ section_points s
-    count : (hidden : Hidden) (x : Section) → (section f known s).1 hidden ≡ Yes x → section_count x ≡ length (section_points s)
+    count : (hidden : Hidden) (x : Section) → (section f known s).1 hidden ≡ Yes x → section_count x ≡ length
+        (section_points s)
 
-  by_reading : (s : syntax_section.Section) (points : Points) (reading : Hidden → Judged Section) → section f known s ≡ (points, reading) → section_points s ≡ points → ((hidden : Hidden) (x : Section) → reading hidden ≡ Yes x → section_count x ≡ length points) → SectionTold s
+  by_reading : (s : syntax_section.Section) (points : Points) (reading : Hidden → Judged Section) → section f known s
+      ≡ (points, reading) → section_points s ≡ points
+      → ((hidden : Hidden) (x : Section) → reading hidden ≡ Yes x → section_count x ≡ length points) → SectionTold s
   by_reading s points reading e p count = record {
     points = ap (λ (r : SectionReading). r.0) e ∙ sym p;
     count = λ hidden x q. count hidden x (ap (λ (r : SectionReading). r.1 hidden) (sym e) ∙ q) ∙ ap length (sym p);
   }
 
-  section_at : (s : syntax_section.Section) (x : Section-F syntax.Heading syntax_section.Section) → out-Section s ≡ x → SectionTold s
+  section_at : (s : syntax_section.Section) (x : Section-F syntax.Heading syntax_section.Section) → out-Section s ≡ x
+      → SectionTold s
   unfolding section_step section_points section_count heading_name
   section_at s (Section-F.Value names type) o = by_reading s names _
-      (ap (section f known) (sym (roll-out-Section s) ∙ ap roll-Section o) ∙ fold-roll-Section HeadingReading SectionReading (heading_step f known) (section_step f known) (Section-F.Value names type))
+      (ap (section f known) (sym (roll-out-Section s) ∙ ap roll-Section o)
+      ∙ fold-roll-Section HeadingReading SectionReading (heading_step f known) (section_step f known)
+      (Section-F.Value names type))
       (ap layer_points o)
       (λ hidden x q.
       let n = then_yes (few type.from (length names)) _ x q in
       let t = then_yes (formal_type f known hidden type) _ x n.2 in
-      ap section_count (sym (inside_yes (ValueSection n.0 t.0) x t.2)) ∙ sym (provided_yes (nat_le (length names) 32) _ _ (length names) n.0 n.1).1)
+      ap section_count (sym (inside_yes (ValueSection n.0 t.0) x t.2)) ∙ sym
+      (provided_yes (nat_le (length names) 32) _ _ (length names) n.0 n.1).1)
   section_at s (Section-F.Variable names type) o = by_reading s names _
-      (ap (section f known) (sym (roll-out-Section s) ∙ ap roll-Section o) ∙ fold-roll-Section HeadingReading SectionReading (heading_step f known) (section_step f known) (Section-F.Variable names type))
+      (ap (section f known) (sym (roll-out-Section s) ∙ ap roll-Section o)
+      ∙ fold-roll-Section HeadingReading SectionReading (heading_step f known) (section_step f known)
+      (Section-F.Variable names type))
       (ap layer_points o)
       (λ hidden x q.
       let n = then_yes (few type.from (length names)) _ x q in
       let t = then_yes (formal_type f known hidden type) _ x n.2 in
-      ap section_count (sym (inside_yes (VariableSection n.0 t.0) x t.2)) ∙ sym (provided_yes (nat_le (length names) 32) _ _ (length names) n.0 n.1).1)
+      ap section_count (sym (inside_yes (VariableSection n.0 t.0) x t.2)) ∙ sym
+      (provided_yes (nat_le (length names) 32) _ _ (length names) n.0 n.1).1)
   section_at s (Section-F.Routine h) o =
       let r = heading f known h in
       let named : r.0 ≡ heading_name h = name_at h (out-Heading h) refl in
       by_reading s (r.0 ∷ []) _
-      (ap (section f known) (sym (roll-out-Section s) ∙ ap roll-Section o) ∙ fold-roll-Section HeadingReading SectionReading (heading_step f known) (section_step f known) (Section-F.Routine h))
+      (ap (section f known) (sym (roll-out-Section s) ∙ ap roll-Section o)
+      ∙ fold-roll-Section HeadingReading SectionReading (heading_step f known) (section_step f known)
+      (Section-F.Routine h))
       (ap layer_points o ∙ ap (λ n. n ∷ []) (sym named))
       (λ hidden x q.
       let t = then_yes (r.1 hidden) _ x q in
@@ -99,30 +128,38 @@ module _ (f : Frame) (known : List Meaning) where
   section_told s = section_at s (out-Section s) refl
 
   -- the spellings of the formal parameters are those of their points
-  pub points_told : (xs : List syntax_section.Section) → all (map (headings.section_points f known) xs) ≡ all (map section_points xs)
+  pub points_told : (xs : List syntax_section.Section) → all (map (headings.section_points f known) xs) ≡ all
+      (map section_points xs)
   unfolding headings.section_points
   points_told [] = refl
-  points_told (x ∷ xs) = ap (λ l. l ++ all (map (headings.section_points f known) xs)) (section_told x).points ∙ ap (λ l. section_points x ++ l) (points_told xs)
+  points_told (x ∷ xs) = ap (λ l. l ++ all (map (headings.section_points f known) xs)) (section_told x).points
+      ∙ ap (λ l. section_points x ++ l) (points_told xs)
 
-  -- ---- how many there are
+  -- ---- their number
 
   abbrev Sections' : Type 0
   Sections' = List Section × ℕ
 
-  sections_count : (names : Names) (hidden : Hidden) (xs : List syntax_section.Section) (done ss : Sections') → steps (headings.add_section f known names hidden) done (map (section f known) xs) ≡ Yes ss → total ss.0 ≡ total done.0 + length (all (map section_points xs))
-  sections_count names hidden [] done ss e = ap (λ (z : Sections'). total z.0) (sym (inside_yes done ss e)) ∙ (let z : total done.0 ≡ total done.0 + 0 = omega arith in z)
+  sections_count : (names : Names) (hidden : Hidden) (xs : List syntax_section.Section) (done ss : Sections') → steps
+      (headings.add_section f known names hidden) done (map (section f known) xs) ≡ Yes ss → total ss.0 ≡ total done.0
+      + length (all (map section_points xs))
+  sections_count names hidden [] done ss e = ap (λ (z : Sections'). total z.0) (sym (inside_yes done ss e))
+      ∙ (let z : total done.0 ≡ total done.0 + 0 = omega arith in z)
   sections_count names hidden (x ∷ xs) done ss e =
       let one = then_yes (headings.add_section f known names hidden done (section f known x)) _ ss e in
       let n = then_yes (new_points f.text names [] done.1 (section f known x).0) _ one.0 one.1 in
       let s = then_yes ((section f known x).1 ((names, n.0) ∷ hidden)) _ one.0 n.2 in
-      let made : total one.0.0 ≡ total done.0 + section_count s.0 = ap (λ (z : Sections'). total z.0) (sym (inside_yes (done.0 ++ s.0 ∷ [], n.0) one.0 s.2)) ∙ total_more done.0 s.0 in
+      let made : total one.0.0 ≡ total done.0 + section_count s.0 = ap (λ (z : Sections'). total z.0)
+      (sym (inside_yes (done.0 ++ s.0 ∷ [], n.0) one.0 s.2)) ∙ total_more done.0 s.0 in
       let count = (section_told x).count ((names, n.0) ∷ hidden) s.0 s.1 in
       let rest = sections_count names hidden xs one.0 ss one.2 in
       let l = length-append (section_points x) (all (map section_points xs)) in
       omega (arith, made, count, rest, l)
 
   -- the names of a list that is read are those of its parameters
-  sections_new : (N : Names) (hidden : Hidden) (xs : List SectionReading) (A : Names) (done ss : Sections') → N ≡ add_points f.text A (all (map (λ x. x.0) xs)) → length A ≡ done.1 → steps (headings.add_section f known N hidden) done xs ≡ Yes ss
+  sections_new : (N : Names) (hidden : Hidden) (xs : List SectionReading) (A : Names) (done ss : Sections') → N
+      ≡ add_points f.text A (all (map (λ x. x.0) xs)) → length A ≡ done.1 → steps
+      (headings.add_section f known N hidden) done xs ≡ Yes ss
       → N ≡ A ++ map (spelled f.text) (all (map (λ x. x.0) xs))
   unfolding add_points
   sections_new N hidden [] A done ss whole many e = whole ∙ sym (append-nil A)
@@ -132,50 +169,64 @@ module _ (f : Frame) (known : List Meaning) where
       let s = then_yes (x.1 ((N, n.0) ∷ hidden)) _ one.0 n.2 in
       let more : Points = all (map (λ (y : SectionReading). y.0) xs) in
       let split = points_both f.text x.0 more A in
-      let new = are_new f.text N [] (λ B. add_points f.text B more) (points_append f.text more) x.0 A done.1 n.0 (whole ∙ split) many n.1 in
+      let new = are_new f.text N [] (λ B. add_points f.text B more) (points_append f.text more) x.0 A done.1 n.0
+      (whole ∙ split) many n.1 in
       let mine = map (spelled f.text) x.0 in
       let next = ap (λ (z : Sections'). z.1) (sym (inside_yes (done.0 ++ s.0 ∷ [], n.0) one.0 s.2)) in
       let count = new.many in
       let names = length-map x.0 (spelled f.text) in
       let l = length-append A mine in
-      sections_new N hidden xs (A ++ mine) one.0 ss (whole ∙ split ∙ ap (λ B. add_points f.text B more) new.added) (omega (arith, many, next, count, names, l)) one.2
+      sections_new N hidden xs (A ++ mine) one.0 ss (whole ∙ split ∙ ap (λ B. add_points f.text B more) new.added)
+      (omega (arith, many, next, count, names, l)) one.2
       ∙ append_assoc A mine (map (spelled f.text) more) ∙ ap (λ l. A ++ l) (sym (map-append (spelled f.text) x.0 more))
 
-  pub list_names_are : (at : ℕ) (hidden : Hidden) (xs : List SectionReading) (ss : List Section) → sections_of f known xs at hidden ≡ Yes ss → list_names f known xs ≡ map (spelled f.text) (all (map (λ x. x.0) xs))
+  pub list_names_are : (at : ℕ) (hidden : Hidden) (xs : List SectionReading) (ss : List Section)
+      → sections_of f known xs at hidden ≡ Yes ss → list_names f known xs ≡ map (spelled f.text)
+      (all (map (λ x. x.0) xs))
   unfolding sections_of list_names
   list_names_are at hidden xs ss e =
       let n = then_yes (few at (length (list_names f known xs))) _ ss e in
       let done = then_yes (steps (headings.add_section f known (list_names f known xs) hidden) ([], 0) xs) _ ss n.2 in
       sections_new (list_names f known xs) hidden xs [] ([], 0) done.0 refl refl done.1
 
-  pub list_points : (xs : List syntax_section.Section) → all (map (λ (x : SectionReading). x.0) (map (section f known) xs)) ≡ all (map section_points xs)
+  pub list_points : (xs : List syntax_section.Section) → all
+      (map (λ (x : SectionReading). x.0) (map (section f known) xs)) ≡ all (map section_points xs)
   list_points [] = refl
-  list_points (x ∷ xs) = ap (λ l. l ++ all (map (λ (x : SectionReading). x.0) (map (section f known) xs))) (section_told x).points ∙ ap (λ l. section_points x ++ l) (list_points xs)
+  list_points (x ∷ xs) = ap (λ l. l ++ all (map (λ (x : SectionReading). x.0) (map (section f known) xs)))
+      (section_told x).points ∙ ap (λ l. section_points x ++ l) (list_points xs)
 
   -- a list has at most 32 of them
-  list_few : (at : ℕ) (hidden : Hidden) (xs : List syntax_section.Section) (ss : List Section) → sections_of f known (map (section f known) xs) at hidden ≡ Yes ss → length (all (map section_points xs)) ≤ 32
+  list_few : (at : ℕ) (hidden : Hidden) (xs : List syntax_section.Section) (ss : List Section) → sections_of f known
+      (map (section f known) xs) at hidden ≡ Yes ss → length (all (map section_points xs)) ≤ 32
   unfolding sections_of
   list_few at hidden xs ss e =
       let names = list_names f known (map (section f known) xs) in
       let n = then_yes (few at (length names)) _ ss e in
       let q = at_most (length names) 32 (provided_yes (nat_le (length names) 32) _ _ (length names) n.0 n.1).0 in
-      let l = ap length (list_names_are at hidden (map (section f known) xs) ss e ∙ ap (map (spelled f.text)) (list_points xs)) in
+      let l = ap length (list_names_are at hidden (map (section f known) xs) ss e ∙ ap (map (spelled f.text))
+      (list_points xs)) in
       let m = length-map (all (map section_points xs)) (spelled f.text) in
       omega (arith, q, l, m)
 
-  list_count : (at : ℕ) (hidden : Hidden) (xs : List syntax_section.Section) (ss : List Section) → sections_of f known (map (section f known) xs) at hidden ≡ Yes ss → total ss ≡ length (all (map section_points xs))
+  list_count : (at : ℕ) (hidden : Hidden) (xs : List syntax_section.Section) (ss : List Section) → sections_of f known
+      (map (section f known) xs) at hidden ≡ Yes ss → total ss ≡ length (all (map section_points xs))
   unfolding sections_of
   list_count at hidden xs ss e =
       let names = list_names f known (map (section f known) xs) in
       let n = then_yes (few at (length names)) _ ss e in
-      let done = then_yes (steps (headings.add_section f known names hidden) ([], 0) (map (section f known) xs)) _ ss n.2 in
-      ap total (sym (inside_yes done.0.0 ss done.2)) ∙ sections_count names hidden xs ([], 0) done.0 done.1 ∙ (let m = length (all (map section_points xs)) in let z : 0 + m ≡ m = omega arith in z)
+      let done = then_yes (steps (headings.add_section f known names hidden) ([], 0) (map (section f known) xs)) _ ss
+      n.2 in
+      ap total (sym (inside_yes done.0.0 ss done.2)) ∙ sections_count names hidden xs ([], 0) done.0 done.1
+      ∙ (let m = length (all (map section_points xs)) in let z : 0 + m ≡ m = omega arith in z)
 
-  list_added : (at : ℕ) (hidden : Hidden) (xs : List syntax_section.Section) (ss : List Section) → sections_of f known (map (section f known) xs) at hidden ≡ Yes ss
-      → add_names [] (map (spelled f.text) (all (map section_points xs))) ≡ map (spelled f.text) (all (map section_points xs))
+  list_added : (at : ℕ) (hidden : Hidden) (xs : List syntax_section.Section) (ss : List Section) → sections_of f known
+      (map (section f known) xs) at hidden ≡ Yes ss
+      → add_names [] (map (spelled f.text) (all (map section_points xs))) ≡ map (spelled f.text)
+      (all (map section_points xs))
   unfolding list_names
   list_added at hidden xs ss e =
-      names_points f.text (all (map section_points xs)) [] ∙ ap (add_points f.text []) (sym (list_points xs)) ∙ list_names_are at hidden (map (section f known) xs) ss e ∙ ap (map (spelled f.text)) (list_points xs)
+      names_points f.text (all (map section_points xs)) [] ∙ ap (add_points f.text []) (sym (list_points xs))
+      ∙ list_names_are at hidden (map (section f known) xs) ss e ∙ ap (map (spelled f.text)) (list_points xs)
 
   -- what a heading says of its formal parameters and its result
   pub record HeadingTold (h : syntax.Heading) (said : Signature) : Type 0 where
@@ -186,32 +237,49 @@ module _ (f : Frame) (known : List Meaning) where
     -- a parameter's name has one defining point
     pub added : add_names [] (map (spelled f.text) (formal_points h)) ≡ map (spelled f.text) (formal_points h)
 
-  heading_at : (h : syntax.Heading) (x : Heading-F syntax.Heading syntax_section.Section) (said : Signature) → out-Heading h ≡ x → (heading f known h).1 [] ≡ Yes said → HeadingTold h said
+  heading_at : (h : syntax.Heading) (x : Heading-F syntax.Heading syntax_section.Section) (said : Signature)
+      → out-Heading h ≡ x → (heading f known h).1 [] ≡ Yes said → HeadingTold h said
   unfolding heading_step formal_points entries_before heading_list is_function
   heading_at h (Heading-F.Procedure name xs) said o e =
-      let is = ap (λ y. (heading f known y).1 []) (sym (roll-out-Heading h) ∙ ap roll-Heading o) ∙ ap (λ (r : HeadingReading). r.1 []) (fold-roll-Heading HeadingReading SectionReading (heading_step f known) (section_step f known) (Heading-F.Procedure name xs)) in
+      let is = ap (λ y. (heading f known y).1 []) (sym (roll-out-Heading h) ∙ ap roll-Heading o)
+      ∙ ap (λ (r : HeadingReading). r.1 []) (fold-roll-Heading HeadingReading SectionReading (heading_step f known)
+      (section_step f known) (Heading-F.Procedure name xs)) in
       let ss = then_yes (sections_of f known (map (section f known) xs) name.from []) _ said (sym is ∙ e) in
       let same_said : (ss.0, None) ≡ said = inside_yes (ss.0, None) said ss.2 in
       let list : heading_list h ≡ xs = ap layer_list o in
       record {
-        count = ap (λ (r : Signature). total r.0) (sym same_said) ∙ list_count name.from [] xs ss.0 ss.1 ∙ ap (λ l. length (all (map section_points l))) (sym list);
-        is_short = (let z = ap (λ l. length (all (map section_points l))) list in let y = list_few name.from [] xs ss.0 ss.1 in omega (arith, z, y));
-        entries = ap (layer_entries (length (formal_points h))) o ∙ (let n = length (formal_points h) in let z : n ≡ 0 + n = omega arith in z) ∙ ap (λ (r : Signature). first_entry r.1 + length (formal_points h)) same_said;
+        count = ap (λ (r : Signature). total r.0) (sym same_said) ∙ list_count name.from [] xs ss.0 ss.1
+            ∙ ap (λ l. length (all (map section_points l))) (sym list);
+        is_short = (let z = ap (λ l. length (all (map section_points l))) list
+            in let y = list_few name.from [] xs ss.0 ss.1 in omega (arith, z, y));
+        entries = ap (layer_entries (length (formal_points h))) o
+            ∙ (let n = length (formal_points h) in let z : n ≡ 0 + n = omega arith in z)
+            ∙ ap (λ (r : Signature). first_entry r.1 + length (formal_points h)) same_said;
         result = ap (λ (r : Signature). is_some r.1) (sym same_said) ∙ ap layer_is_function (sym o);
-        added = ap (λ l. add_names [] (map (spelled f.text) (all (map section_points l)))) list ∙ list_added name.from [] xs ss.0 ss.1 ∙ ap (λ l. map (spelled f.text) (all (map section_points l))) (sym list);
+        added = ap (λ l. add_names [] (map (spelled f.text) (all (map section_points l)))) list
+            ∙ list_added name.from [] xs ss.0 ss.1 ∙ ap (λ l. map (spelled f.text) (all (map section_points l)))
+            (sym list);
       }
   heading_at h (Heading-F.Function name xs type) said o e =
-      let is = ap (λ y. (heading f known y).1 []) (sym (roll-out-Heading h) ∙ ap roll-Heading o) ∙ ap (λ (r : HeadingReading). r.1 []) (fold-roll-Heading HeadingReading SectionReading (heading_step f known) (section_step f known) (Heading-F.Function name xs type)) in
+      let is = ap (λ y. (heading f known y).1 []) (sym (roll-out-Heading h) ∙ ap roll-Heading o)
+      ∙ ap (λ (r : HeadingReading). r.1 []) (fold-roll-Heading HeadingReading SectionReading (heading_step f known)
+      (section_step f known) (Heading-F.Function name xs type)) in
       let ss = then_yes (sections_of f known (map (section f known) xs) name.from []) _ said (sym is ∙ e) in
       let t = then_yes (result_type f known [] type) _ said ss.2 in
       let same_said : (ss.0, Some t.0) ≡ said = inside_yes (ss.0, Some t.0) said t.2 in
       let list : heading_list h ≡ xs = ap layer_list o in
       record {
-        count = ap (λ (r : Signature). total r.0) (sym same_said) ∙ list_count name.from [] xs ss.0 ss.1 ∙ ap (λ l. length (all (map section_points l))) (sym list);
-        is_short = (let z = ap (λ l. length (all (map section_points l))) list in let y = list_few name.from [] xs ss.0 ss.1 in omega (arith, z, y));
-        entries = ap (layer_entries (length (formal_points h))) o ∙ (let n = length (formal_points h) in let z : n + 1 ≡ 1 + n = omega arith in z) ∙ ap (λ (r : Signature). first_entry r.1 + length (formal_points h)) same_said;
+        count = ap (λ (r : Signature). total r.0) (sym same_said) ∙ list_count name.from [] xs ss.0 ss.1
+            ∙ ap (λ l. length (all (map section_points l))) (sym list);
+        is_short = (let z = ap (λ l. length (all (map section_points l))) list
+            in let y = list_few name.from [] xs ss.0 ss.1 in omega (arith, z, y));
+        entries = ap (layer_entries (length (formal_points h))) o
+            ∙ (let n = length (formal_points h) in let z : n + 1 ≡ 1 + n = omega arith in z)
+            ∙ ap (λ (r : Signature). first_entry r.1 + length (formal_points h)) same_said;
         result = ap (λ (r : Signature). is_some r.1) (sym same_said) ∙ ap layer_is_function (sym o);
-        added = ap (λ l. add_names [] (map (spelled f.text) (all (map section_points l)))) list ∙ list_added name.from [] xs ss.0 ss.1 ∙ ap (λ l. map (spelled f.text) (all (map section_points l))) (sym list);
+        added = ap (λ l. add_names [] (map (spelled f.text) (all (map section_points l)))) list
+            ∙ list_added name.from [] xs ss.0 ss.1 ∙ ap (λ l. map (spelled f.text) (all (map section_points l)))
+            (sym list);
       }
 
   pub heading_told : (h : syntax.Heading) (said : Signature) → (heading f known h).1 [] ≡ Yes said → HeadingTold h said
@@ -256,20 +324,24 @@ section_plain entry (RoutineSection sections result) = (tt, tt)
 pub formals_plain : (entry : ℕ) (ss : Sections) → Each IsPlain (formal_meanings entry ss)
 unfolding formal_meanings
 formals_plain entry no_section = tt
-formals_plain entry (section_before s rest) = each_append IsPlain (section_meanings entry s) (formal_meanings (entry + section_count s) rest) (section_plain entry s) (formals_plain (entry + section_count s) rest)
+formals_plain entry (section_before s rest) = each_append IsPlain (section_meanings entry s)
+    (formal_meanings (entry + section_count s) rest) (section_plain entry s)
+    (formals_plain (entry + section_count s) rest)
 
 -- what a step adds
 pub record Entered (e : Entries) (ms : List Meaning) (n : ℕ) (d : Entries) : Type 0 where
   pub known : d.known ≡ e.known ++ ms
   pub next : d.next ≡ e.next + n
 
-entered_at : (e : Entries) (ms : List Meaning) (n : ℕ) (d g : Entries) → Yes d ≡ Yes g → Entered e ms n d → Entered e ms n g
+entered_at : (e : Entries) (ms : List Meaning) (n : ℕ) (d g : Entries) → Yes d ≡ Yes g → Entered e ms n d
+    → Entered e ms n g
 entered_at e ms n d g q x = subst (Entered e ms n) (inside_yes d g q) x
 
 entered_none : (e : Entries) → Entered e [] 0 e
 entered_none e = record { known = sym (append-nil e.known); next = omega arith }
 
-entered_both : (e d g : Entries) (ms ns : List Meaning) (m n : ℕ) → Entered e ms m d → Entered d ns n g → Entered e (ms ++ ns) (m + n) g
+entered_both : (e d g : Entries) (ms ns : List Meaning) (m n : ℕ) → Entered e ms m d → Entered d ns n g → Entered e
+    (ms ++ ns) (m + n) g
 entered_both e d g ms ns m n a b = record {
   known = b.known ∙ ap (λ l. l ++ ns) a.known ∙ append_assoc e.known ms ns;
   next = (let x = a.next in let y = b.next in omega (arith, x, y));
@@ -280,13 +352,21 @@ next_is true n m e = inside n m e
 next_is false n m e = absurd (none_some e)
 
 module _ (at : ℕ) where
-  one_entered : (meaning : ℕ → Meaning) (e d : Entries) → add_entry at meaning e ≡ Yes d → Entered e (meaning e.next ∷ []) 1 d
+  one_entered : (meaning : ℕ → Meaning) (e d : Entries) → add_entry at meaning e ≡ Yes d → Entered e
+      (meaning e.next ∷ []) 1 d
   one_entered meaning e d q =
       let n = then_yes (some_or Limit at (one_more e.next)) _ d q in
       let next = next_is (nat_lt e.next 4294967295) (e.next + 1) n.0 (some_or_yes Limit at (one_more e.next) n.0 n.1) in
-      entered_at e (meaning e.next ∷ []) 1 (record { next = n.0; known = e.known ++ meaning e.next ∷ [] }) d n.2 (record { known = refl; next = sym next })
+      entered_at e (meaning e.next ∷ []) 1 (record {
+        next = n.0;
+        known = e.known ++ meaning e.next ∷ [];
+      }) d n.2 (record {
+        known = refl;
+        next = sym next;
+      })
 
-  parameters_entered : (type : DataType) (n : ℕ) (e d : Entries) → add_parameters at type n e ≡ Yes d → Entered e (parameters e.next n type) n d
+  parameters_entered : (type : DataType) (n : ℕ) (e d : Entries) → add_parameters at type n e ≡ Yes d → Entered e
+      (parameters e.next n type) n d
   unfolding add_parameters
   parameters_entered type zero e d q = entered_at e [] 0 e d q (entered_none e)
   parameters_entered type (suc n) e d q =
@@ -299,46 +379,72 @@ module _ (at : ℕ) where
         next = (let x = c.next in omega (arith, x));
       }
 
-  pub section_entered : (s : Section) (e d : Entries) → add_section at e s ≡ Yes d → Entered e (section_meanings e.next s) (section_count s) d
+  pub section_entered : (s : Section) (e d : Entries) → add_section at e s ≡ Yes d → Entered e
+      (section_meanings e.next s) (section_count s) d
   unfolding add_section section_meanings section_count
   section_entered (ValueSection count type) e d q = parameters_entered type count e d q
   section_entered (VariableSection count type) e d q = parameters_entered type count e d q
-  section_entered (RoutineSection sections result) e d q = one_entered (λ i. RoutineParameterMeaning i sections result) e d q
+  section_entered (RoutineSection sections result) e d q = one_entered
+      (λ i. RoutineParameterMeaning i sections result) e d q
 
-  pub sections_entered : (ss : List Section) (e d : Entries) → add_sections at e (section_list ss) ≡ Yes d → Entered e (formal_meanings e.next (section_list ss)) (total ss) d
+  pub sections_entered : (ss : List Section) (e d : Entries) → add_sections at e (section_list ss) ≡ Yes d → Entered e
+      (formal_meanings e.next (section_list ss)) (total ss) d
   unfolding add_sections formal_meanings
   sections_entered [] e d q = entered_at e [] 0 e d q (entered_none e)
   sections_entered (s ∷ ss) e d q =
       let one = then_yes (add_section at e s) _ d q in
       let a = section_entered s e one.0 one.1 in
       let b = sections_entered ss one.0 d one.2 in
-      let c = entered_both e one.0 d (section_meanings e.next s) (formal_meanings one.0.next (section_list ss)) (section_count s) (total ss) a b in
-      record { known = c.known ∙ ap (λ k. e.known ++ (section_meanings e.next s ++ formal_meanings k (section_list ss))) a.next; next = c.next }
+      let c = entered_both e one.0 d (section_meanings e.next s) (formal_meanings one.0.next (section_list ss))
+      (section_count s) (total ss) a b in
+      record {
+        known = c.known ∙ ap (λ k. e.known ++ (section_meanings e.next s ++ formal_meanings k (section_list ss)))
+            a.next;
+        next = c.next;
+      }
 
--- ---- there are entries enough
+-- ---- there are enough entries
 
 less_so : (m n : ℕ) → m < n → nat_lt m n ≡ true
 less_so m n l = grind (arith, l)
 
 module _ (at : ℕ) where
-  entry_enters : (meaning : ℕ → Meaning) (e : Entries) → e.next < 4294967295 → add_entry at meaning e ≡ Yes (record { next = e.next + 1; known = e.known ++ meaning e.next ∷ [] })
-  entry_enters meaning e l = ap (λ b. some_or Limit at (if b then Some (e.next + 1) else None) >>= (λ n. Yes (record { next = n; known = e.known ++ meaning e.next ∷ [] }))) (less_so e.next 4294967295 l)
+  entry_enters : (meaning : ℕ → Meaning) (e : Entries) → e.next < 4294967295 → add_entry at meaning e ≡ Yes (record {
+    next = e.next + 1;
+    known = e.known ++ meaning e.next ∷ [];
+  })
+  entry_enters meaning e l = ap (λ b. some_or Limit at (if b then Some (e.next + 1) else None) >>= (λ n. Yes (record {
+    next = n;
+    known = e.known ++ meaning e.next ∷ [];
+  }))) (less_so e.next 4294967295 l)
 
-  parameters_enter : (type : DataType) (n : ℕ) (e : Entries) → e.next + n ≤ 4294967295 → (d : Entries) × (add_parameters at type n e ≡ Yes d)
+  parameters_enter : (type : DataType) (n : ℕ) (e : Entries) → e.next + n ≤ 4294967295 → (d : Entries)
+      × (add_parameters at type n e ≡ Yes d)
   unfolding add_parameters
   parameters_enter type zero e l = (e, refl)
   parameters_enter type (suc n) e l =
       let next : Entries = record { next = e.next + 1; known = e.known ++ ParameterMeaning e.next type ∷ [] } in
-      let rest = parameters_enter type n next (omega (arith, l)) in
-      (rest.0, ap (λ o. o >>= add_parameters at type n) (entry_enters (λ i. ParameterMeaning i type) e (omega (arith, l))) ∙ rest.1)
+      let rest = parameters_enter type n next (omega (arith, l)) in (
+        rest.0,
+        ap (λ o. o >>= add_parameters at type n)
+            (entry_enters (λ i. ParameterMeaning i type) e (omega (arith, l))) ∙ rest.1,
+      )
 
-  section_enters : (s : Section) (e : Entries) → e.next + section_count s ≤ 4294967295 → (d : Entries) × (add_section at e s ≡ Yes d)
+  section_enters : (s : Section) (e : Entries) → e.next + section_count s ≤ 4294967295 → (d : Entries)
+      × (add_section at e s ≡ Yes d)
   unfolding add_section section_count
   section_enters (ValueSection count type) e l = parameters_enter type count e l
   section_enters (VariableSection count type) e l = parameters_enter type count e l
-  section_enters (RoutineSection sections result) e l = (record { next = e.next + 1; known = e.known ++ RoutineParameterMeaning e.next sections result ∷ [] }, entry_enters (λ i. RoutineParameterMeaning i sections result) e (omega (arith, l)))
+  section_enters (RoutineSection sections result) e l = (
+    record {
+      next = e.next + 1;
+      known = e.known ++ RoutineParameterMeaning e.next sections result ∷ [];
+    },
+    entry_enters (λ i. RoutineParameterMeaning i sections result) e (omega (arith, l)),
+  )
 
-  pub sections_enter : (ss : List Section) (e : Entries) → e.next + total ss ≤ 4294967295 → (d : Entries) × (add_sections at e (section_list ss) ≡ Yes d)
+  pub sections_enter : (ss : List Section) (e : Entries) → e.next + total ss ≤ 4294967295 → (d : Entries)
+      × (add_sections at e (section_list ss) ≡ Yes d)
   unfolding add_sections
   sections_enter [] e l = (e, refl)
   sections_enter (s ∷ ss) e l =
@@ -358,10 +464,13 @@ pub record Begins (chain : List ℕ) (h : Heading) (x : syntax.Heading) (s : Sta
   pub first : s.first ≡ entries_before x
 
 -- the names of a heading's formal parameters are added as they are
-heading_names : (f : Frame) (before : List Meaning) (x : syntax.Heading) (h : Heading) → IsHeading f before x h → add_names [] h.names ≡ h.names
-heading_names f before x h is = ap (add_names []) is.names ∙ (heading_told f before x is.said is.reading).added ∙ sym is.names
+heading_names : (f : Frame) (before : List Meaning) (x : syntax.Heading) (h : Heading) → IsHeading f before x h
+    → add_names [] h.names ≡ h.names
+heading_names f before x h is = ap (add_names []) is.names ∙ (heading_told f before x is.said is.reading).added
+    ∙ sym is.names
 
-pub begun : (f : Frame) (before : List Meaning) (x : syntax.Heading) (h : Heading) (at : ℕ) (chain : List ℕ) (s : Start) → IsHeading f before x h → start at chain h ≡ Yes s → Begins chain h x s
+pub begun : (f : Frame) (before : List Meaning) (x : syntax.Heading) (h : Heading) (at : ℕ) (chain : List ℕ) (s : Start)
+    → IsHeading f before x h → start at chain h ≡ Yes s → Begins chain h x s
 unfolding start
 begun f before x h at chain s is e =
     let inner = then_yes (provided (nat_lt (length chain) 16) Limit at (h.number ∷ chain)) _ s e in
@@ -372,29 +481,41 @@ begun f before x h at chain s is e =
     let same_start : made ≡ s = inside_yes made s d.2 in
     let entered = sections_entered at is.said.0 begin d.0 (ap (add_sections at begin) (sym is.sections) ∙ d.1) in
     let told = heading_told f before x is.said is.reading in
-    let known : d.0.known ≡ formal_meanings (first_entry h.result) h.sections = entered.known ∙ ap (formal_meanings (first_entry h.result)) (sym is.sections) in
-    let count : length d.0.known ≡ length (formal_points x) = ap length entered.known ∙ formals_length (first_entry h.result) is.said.0 ∙ told.count in
+    let known : d.0.known ≡ formal_meanings (first_entry h.result) h.sections = entered.known
+    ∙ ap (formal_meanings (first_entry h.result)) (sym is.sections) in
+    let count : length d.0.known ≡ length (formal_points x) = ap length entered.known ∙ formals_length
+    (first_entry h.result) is.said.0 ∙ told.count in
     record {
       chain_is = ap (λ (z : Start). z.chain) (sym same_start) ∙ sym chained.1;
       deep = ltb-true (length chain) 16 chained.0;
       names = ap (λ (z : Start). z.names) (sym same_start) ∙ heading_names f before x h is;
       known = ap (λ (z : Start). z.known) (sym same_start) ∙ known;
       many = ap (λ (z : Start). length z.known) (sym same_start) ∙ count;
-      first = ap (λ (z : Start). z.first) (sym same_start) ∙ entered.next ∙ ap (λ n. first_entry h.result + n) told.count ∙ ap (λ r. first_entry r + length (formal_points x)) is.result ∙ sym told.entries;
+      first = ap (λ (z : Start). z.first) (sym same_start) ∙ entered.next
+          ∙ ap (λ n. first_entry h.result + n) told.count ∙ ap (λ r. first_entry r + length (formal_points x)) is.result
+          ∙ sym told.entries;
     }
 
 start_parts : (a b : Start) → a.chain ≡ b.chain → a.names ≡ b.names → a.known ≡ b.known → a.first ≡ b.first → a ≡ b
 start_parts a b c n k f =
-    let as_start : List ℕ → List (List ℕ) → List Meaning → ℕ → Start = λ c n k f. record { chain = c; names = n; known = k; first = f } in
-    ap (λ x. as_start x a.names a.known a.first) c ∙ ap (λ x. as_start b.chain x a.known a.first) n ∙ ap (λ x. as_start b.chain b.names x a.first) k ∙ ap (as_start b.chain b.names b.known) f
+    let as_start : List ℕ → List (List ℕ) → List Meaning → ℕ → Start = λ c n k f. record {
+      chain = c;
+      names = n;
+      known = k;
+      first = f;
+    } in
+    ap (λ x. as_start x a.names a.known a.first) c ∙ ap (λ x. as_start b.chain x a.known a.first) n
+    ∙ ap (λ x. as_start b.chain b.names x a.first) k ∙ ap (as_start b.chain b.names b.known) f
 
 short_entry : (r : Option DataType) → first_entry r ≤ 1
 short_entry None = omega arith
 short_entry (Some type) = omega arith
 
 -- and that is how it begins
-pub begins_so : (f : Frame) (before : List Meaning) (x : syntax.Heading) (h : Heading) (at : ℕ) (chain : List ℕ) (s : Start) → IsHeading f before x h → length chain < 16 → s.chain ≡ h.number ∷ chain → s.names ≡ h.names
-    → s.known ≡ formal_meanings (first_entry h.result) h.sections → s.first ≡ entries_before x → start at chain h ≡ Yes s
+pub begins_so : (f : Frame) (before : List Meaning) (x : syntax.Heading) (h : Heading) (at : ℕ) (chain : List ℕ)
+    (s : Start) → IsHeading f before x h → length chain < 16 → s.chain ≡ h.number ∷ chain → s.names ≡ h.names
+    → s.known ≡ formal_meanings (first_entry h.result) h.sections → s.first ≡ entries_before x → start at chain h
+    ≡ Yes s
 unfolding start
 begins_so f before x h at chain s is deep chained names known first =
     let told = heading_told f before x is.said is.reading in
@@ -403,39 +524,73 @@ begins_so f before x h at chain s is deep chained names known first =
     let count = told.count in
     let short = told.is_short in
     let d = sections_enter at is.said.0 begin (omega (arith, entry, count, short)) in
-    let made : Start = record { chain = h.number ∷ chain; names = add_names [] h.names; known = d.0.known; first = d.0.next } in
+    let made : Start = record {
+      chain = h.number ∷ chain;
+      names = add_names [] h.names;
+      known = d.0.known;
+      first = d.0.next;
+    } in
     let starts : start at chain h ≡ Yes made =
-    ap (λ b. provided b Limit at (h.number ∷ chain) >>= (λ inner. add_sections at begin h.sections >>= (λ e. Yes (record { chain = inner; names = add_names [] h.names; known = e.known; first = e.next })))) (less_so (length chain) 16 deep)
-    ∙ ap (λ o. o >>= (λ e. Yes (record { chain = h.number ∷ chain; names = add_names [] h.names; known = e.known; first = e.next }))) (ap (add_sections at begin) is.sections ∙ d.1) in
+    ap (λ b. provided b Limit at (h.number ∷ chain)
+    >>= (λ inner. add_sections at begin h.sections >>= (λ e. Yes (record {
+      chain = inner;
+      names = add_names [] h.names;
+      known = e.known;
+      first = e.next;
+    })))) (less_so (length chain) 16 deep)
+    ∙ ap (λ o. o >>= (λ e. Yes (record {
+      chain = h.number ∷ chain;
+      names = add_names [] h.names;
+      known = e.known;
+      first = e.next;
+    }))) (ap (add_sections at begin) is.sections ∙ d.1) in
     let b = begun f before x h at chain made is starts in
-    starts ∙ ap (λ z. Yes z) (start_parts made s (sym chained) (b.names ∙ sym names) (b.known ∙ sym known) (b.first ∙ sym first))
+    starts ∙ ap (λ z. Yes z) (start_parts made s (sym chained) (b.names ∙ sym names) (b.known ∙ sym known)
+    (b.first ∙ sym first))
 
 -- ---- they are the first points
 
-numbered_at : (x : syntax.Heading) (n : ℕ) (names : Points) (i : ℕ) (d : Definition) → slice_get (map OfDeclaration (numbered (OfFormal x) n names)) i ≡ Some d → (name : Span) × (d ≡ OfDeclaration (OfFormal x (n + i) name))
+numbered_at : (x : syntax.Heading) (n : ℕ) (names : Points) (i : ℕ) (d : Definition) → slice_get
+    (map OfDeclaration (numbered (OfFormal x) n names)) i ≡ Some d → (name : Span)
+    × (d ≡ OfDeclaration (OfFormal x (n + i) name))
 numbered_at x n [] i d e = absurd (none_some e)
-numbered_at x n (name ∷ names) zero d e = (name, sym (inside (OfDeclaration (OfFormal x n name)) d e) ∙ (let z : n ≡ n + 0 = omega arith in ap (λ k. OfDeclaration (OfFormal x k name)) z))
+numbered_at x n (name ∷ names) zero d e = (
+  name,
+  sym (inside (OfDeclaration (OfFormal x n name)) d e)
+      ∙ (let z : n ≡ n + 0 = omega arith in ap (λ k. OfDeclaration (OfFormal x k name)) z),
+)
 numbered_at x n (name ∷ names) (suc i) d e =
     let r = numbered_at x (n + 1) names i d e in
     (r.0, r.1 ∙ (let z : (n + 1) + i ≡ n + suc i = omega arith in ap (λ k. OfDeclaration (OfFormal x k r.0)) z))
 
-numbered_length : (x : syntax.Heading) (n : ℕ) (names : Points) → length (map OfDeclaration (numbered (OfFormal x) n names)) ≡ length names
+numbered_length : (x : syntax.Heading) (n : ℕ) (names : Points) → length
+    (map OfDeclaration (numbered (OfFormal x) n names)) ≡ length names
 numbered_length x n [] = refl
 numbered_length x n (name ∷ names) = ap suc (numbered_length x (n + 1) names)
 
-pub formals_stand : (f : Frame) (first : ℕ) (numbers : ℕ → ℕ) (x : syntax.Heading) (h : Heading) (known : List Meaning) → find f.outer (spelled f.text (heading_name x)) (heading_name x).from ≡ Yes (BlockPoint 0 (RoutineMeaning h))
-    → known ≡ formal_meanings (first_entry h.result) h.sections → length known ≡ length (formal_points x) → Stand f first numbers (formal_declarations x) known
+pub formals_stand : (f : Frame) (first : ℕ) (numbers : ℕ → ℕ) (x : syntax.Heading) (h : Heading) (known : List Meaning)
+    → find f.outer (spelled f.text (heading_name x)) (heading_name x).from ≡ Yes (BlockPoint 0 (RoutineMeaning h))
+    → known ≡ formal_meanings (first_entry h.result) h.sections → length known ≡ length (formal_points x)
+    → Stand f first numbers (formal_declarations x) known
 unfolding formal_declarations
 formals_stand f first numbers x h known found is many = record {
   many = many ∙ sym (numbered_length x 0 (formal_points x));
   are = λ i d m e g.
       let r = numbered_at x 0 (formal_points x) i d e in
-      subst (λ y. Defines f first numbers (take i known) y m) (sym r.1) (h, found, (let z : 0 + i ≡ i = omega arith in ap (slice_get (formal_meanings (first_entry h.result) h.sections)) z) ∙ ap (λ l. slice_get l i) (sym is) ∙ g);
+      subst (λ y. Defines f first numbers (take i known) y m) (sym r.1) (
+        h,
+        found,
+        (let z : 0 + i ≡ i = omega arith
+            in ap (slice_get (formal_meanings (first_entry h.result) h.sections)) z) ∙ ap (λ l. slice_get l i) (sym is)
+            ∙ g,
+      );
 }
 
 -- ---- program parameters
 
-file_is : (b c : Bool) (at : ℕ) (m : Meaning) → (if b then Yes (FileMeaning Input) else (if c then Yes (FileMeaning Output) else No NotInProfile at)) ≡ Yes m → (file : File) × (m ≡ FileMeaning file)
+file_is : (b c : Bool) (at : ℕ) (m : Meaning)
+    → (if b then Yes (FileMeaning Input) else (if c then Yes (FileMeaning Output) else No NotInProfile at)) ≡ Yes m
+    → (file : File) × (m ≡ FileMeaning file)
 file_is true c at m e = (Input, sym (inside_yes (FileMeaning Input) m e))
 file_is false true at m e = (Output, sym (inside_yes (FileMeaning Output) m e))
 file_is false false at m e = absurd (no_yes e)
@@ -445,9 +600,11 @@ module _ (f : Frame) (first : ℕ) (numbers : ℕ → ℕ) where
     pub names : files.names ≡ names_of f.text (map OfDeclaration xs)
     pub stands : Stand f first numbers xs files.known
 
-  pub files_listed : (ps : Points) (xs : Declarations) (files all : Files) → steps (list_file f.text) files ps ≡ Yes all → Listed xs files → Listed (xs ++ map OfFile ps) all
+  pub files_listed : (ps : Points) (xs : Declarations) (files all : Files) → steps (list_file f.text) files ps ≡ Yes all
+      → Listed xs files → Listed (xs ++ map OfFile ps) all
   unfolding list_file names_of
-  files_listed [] xs files all e l = subst (Listed (xs ++ [])) (inside_yes files all e) (subst (λ y. Listed y files) (sym (append-nil xs)) l)
+  files_listed [] xs files all e l = subst (Listed (xs ++ [])) (inside_yes files all e)
+      (subst (λ y. Listed y files) (sym (append-nil xs)) l)
   files_listed (at ∷ ps) xs files all e l =
       let s = spelled f.text at in
       let one = then_yes (list_file f.text files at) _ all e in
@@ -458,7 +615,10 @@ module _ (f : Frame) (first : ℕ) (numbers : ℕ → ℕ) where
       let is : made ≡ one.0 = inside_yes made one.0 names.2 in
       let file = file_is (same s (codes "input")) (same s (codes "output")) at.from m.0 m.1 in
       let here : Listed (xs ++ OfFile at ∷ []) made = record {
-        names = sym added.1 ∙ ap (λ n. n ++ s ∷ []) l.names ∙ sym (map-append (λ d. spelled f.text (point d)) (map OfDeclaration xs) (OfDeclaration (OfFile at) ∷ [])) ∙ ap (names_of f.text) (sym (map-append OfDeclaration xs (OfFile at ∷ [])));
+        names = sym added.1 ∙ ap (λ n. n ++ s ∷ []) l.names ∙ sym
+            (map-append (λ d. spelled f.text (point d)) (map OfDeclaration xs) (OfDeclaration (OfFile at) ∷ []))
+            ∙ ap (names_of f.text) (sym (map-append OfDeclaration xs (OfFile at ∷ [])));
         stands = one_more_declared f first numbers xs files.known (OfFile at) m.0 l.stands (file.0, file.1, m.1);
       } in
-      subst (λ y. Listed y all) (append_assoc xs (OfFile at ∷ []) (map OfFile ps)) (files_listed ps (xs ++ OfFile at ∷ []) one.0 all one.2 (subst (Listed (xs ++ OfFile at ∷ [])) is here))
+      subst (λ y. Listed y all) (append_assoc xs (OfFile at ∷ []) (map OfFile ps))
+      (files_listed ps (xs ++ OfFile at ∷ []) one.0 all one.2 (subst (Listed (xs ++ OfFile at ∷ [])) is here))

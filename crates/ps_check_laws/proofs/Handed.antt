@@ -1,5 +1,6 @@
--- What the judgement of an expression hands on as changed is what the checked expression threatens.
-use Rattle.std.proofs.Common.{◌≡◌, ℕ, Bool, true, false, not, ◌&&◌, ◌==◌, List, [], ◌∷◌, ◌++◌, length, map, Option, Some, None, refl, sym, ap, ◌∙◌, subst, append-nil, append_assoc}
+-- What the judgement of an expression passes on as changed is what the checked expression threatens.
+use Rattle.std.proofs.Common.{◌≡◌, ℕ, Bool, true, false, not, ◌&&◌, ◌==◌, List, [], ◌∷◌, ◌++◌, length, map, Option}
+use Rattle.std.proofs.Common.{Some, None, refl, sym, ap, ◌∙◌, subst, append-nil, append_assoc}
 use Rattle.std.proofs.lemmas.List.{map-append}
 use Rattle.std.specs.Prelude.{if◌then◌else◌}
 use Rattle.ps_text.specs.declared.Span.{Span}
@@ -10,12 +11,14 @@ use Rattle.ps_syntax.specs.declared.expression.Factor.{Factor, roll-Factor, map-
 use Rattle.ps_syntax.specs.declared.expression.Member.{Member, roll-Member, map-Member}
 use Rattle.ps_syntax.specs.declared.expression.Selector.{Selector, roll-Selector, map-Selector}
 use Rattle.ps_syntax.specs.declared.expression.AddedTerm.{AddedTerm, roll-AddedTerm, map-AddedTerm, out-roll-AddedTerm}
-use Rattle.ps_syntax.specs.declared.expression.MultipliedFactor.{MultipliedFactor, roll-MultipliedFactor, map-MultipliedFactor}
+use Rattle.ps_syntax.specs.declared.expression.MultipliedFactor.{MultipliedFactor, roll-MultipliedFactor}
+use Rattle.ps_syntax.specs.declared.expression.MultipliedFactor.{map-MultipliedFactor}
 use Rattle.ps_syntax.specs.declared.expression.Simple.{Simple, roll-Simple, map-Simple, out-roll-Simple}
 use Rattle.ps_syntax.specs.declared.expression.Term.{Term, roll-Term, map-Term, out-roll-Term}
 use Rattle.ps_syntax.specs.declared.expression.Variable as syntax
 use Rattle.ps_syntax.specs.declared.expression.Variable.{roll-Variable, map-Variable}
-use Rattle.ps_syntax.specs.declared.expression.Expr.TheOpen.{Expr-F, Factor-F, Member-F, Selector-F, AddedTerm-F, MultipliedFactor-F, Simple-F, Term-F, Variable-F}
+use Rattle.ps_syntax.specs.declared.expression.Expr.TheOpen.{Expr-F, Factor-F, Member-F, Selector-F, AddedTerm-F}
+use Rattle.ps_syntax.specs.declared.expression.Expr.TheOpen.{MultipliedFactor-F, Simple-F, Term-F, Variable-F}
 use Rattle.ps_syntax.specs.declared.expression.Expr.TheFolds.{ind-Expr, ind-Variable}
 use Rattle.ps_syntax.specs.declared.expression.Expr.TheVariants as e
 use Rattle.ps_syntax.specs.declared.expression.Factor.TheVariants as f
@@ -27,7 +30,9 @@ use Rattle.ps_tree.specs.declared.types.Host.TheVariants.{Integer}
 use Rattle.ps_tree.specs.Types.{DataType, OrdinalType, SetType, NilType, is_same_host, is_same_type, is_assignable}
 use Rattle.ps_tree.specs.Tree as Tree
 use Rattle.ps_check_judgement.specs.declared.change.Change.{Change}
-use Rattle.ps_check_judgement.specs.declared.refusal.Rule.TheVariants.{NotInProfile, WrongKind, WrongType, NotAssignable, PackedVariable, NotCongruous, ControlVariable}
+use Rattle.ps_check_judgement.specs.declared.refusal.Rule.TheVariants.{NotInProfile, WrongKind, WrongType}
+use Rattle.ps_check_judgement.specs.declared.refusal.Rule.TheVariants.{NotAssignable, PackedVariable, NotCongruous}
+use Rattle.ps_check_judgement.specs.declared.refusal.Rule.TheVariants.{ControlVariable}
 use Rattle.ps_check_judgement.specs.Judged as j
 use Rattle.ps_check_judgement.specs.Judged.{Judged, Yes, No, provided, holds, some_or, steps}
 use Rattle.ps_check_judgement.specs.Changing.{Changing, ◌>>=◌, still, one_more, pairs, through}
@@ -36,22 +41,41 @@ use Rattle.ps_check_names.specs.declared.meaning.Required.{Required}
 use Rattle.ps_check_names.specs.declared.meaning.Required.TheVariants as required
 use Rattle.ps_check_names.specs.Spelling.{line_in}
 use Rattle.ps_check_names.specs.Constants.{OrdinalConstant, TextConstant}
-use Rattle.ps_check_names.specs.Regions.{Context, Region, Point, BlockPoint, FieldPoint, Section, ValueSection, VariableSection, RoutineSection, Sections, ConstantMeaning, TextMeaning, VariableMeaning, ParameterMeaning, RoutineMeaning, RoutineParameterMeaning, RequiredMeaning}
-use Rattle.ps_check_expressions.specs.Values.{Value, SimpleValue, SetValue, StructureValue, Variable, Operand, plain, ordinal_of, loaded, argument_list, member_list}
+use Rattle.ps_check_names.specs.Regions.{Context, Region, Point, BlockPoint, FieldPoint, Section, ValueSection}
+use Rattle.ps_check_names.specs.Regions.{VariableSection, RoutineSection, Sections, ConstantMeaning, TextMeaning}
+use Rattle.ps_check_names.specs.Regions.{VariableMeaning, ParameterMeaning, RoutineMeaning, RoutineParameterMeaning}
+use Rattle.ps_check_names.specs.Regions.{RequiredMeaning}
+use Rattle.ps_check_expressions.specs.Values.{Value, SimpleValue, SetValue, StructureValue, Variable, Operand, plain}
+use Rattle.ps_check_expressions.specs.Values.{ordinal_of, loaded, argument_list, member_list}
 use Rattle.ps_check_expressions.specs.Names.{denoted}
 use Rattle.ps_check_expressions.specs.Changed.{is_control, changed, changed_entry}
 use Rattle.ps_check_expressions.specs.Operators.{added}
 use Rattle.ps_check_expressions.specs.Places.{variable_at}
-use Rattle.ps_check_expressions.specs.Calls.{by_value, by_variable, by_routine, named_routine, actual, actuals, parameters, is_procedure, needs_integer, function_of, applied, required_value, look, standing_alone, names_input, function_call, required_call, called}
-use Rattle.ps_check_expressions.specs.Expressions.{Step, TypedMember, SeenMember, Gathered, gathered, constructed, gather, single, several, alone, operands, standing, named_variable, selected_variable, indexed, first_term, variable_seen, term_seen, simple_seen, operand, factor_operand, member_at, select, add_term, multiply_factor, simple_operand, term_operand, variable_operand}
-use Rattle.ps_check_expressions.proofs.Equations.{operand_simple, operand_compare, factor_variable, factor_call, factor_number, factor_text, factor_nil, factor_set, factor_group, factor_not, member_single, member_several, select_index, select_field, select_content, simple_is, term_is, add_term_is, multiply_factor_is, variable_is}
-use Rattle.ps_check_laws.specs.Threats.{Threatened, whole, place_threatens, expr_threatens, set_threatens, member_threatens, members_threaten, argument_threatens, arguments_threaten, entries_of}
+use Rattle.ps_check_expressions.specs.Calls.{by_value, by_variable, by_routine, named_routine, actual, actuals}
+use Rattle.ps_check_expressions.specs.Calls.{parameters, is_procedure, needs_integer, function_of, applied}
+use Rattle.ps_check_expressions.specs.Calls.{required_value, look, standing_alone, names_input, function_call}
+use Rattle.ps_check_expressions.specs.Calls.{required_call, called}
+use Rattle.ps_check_expressions.specs.Expressions.{Step, TypedMember, SeenMember, Gathered, gathered, constructed}
+use Rattle.ps_check_expressions.specs.Expressions.{gather, single, several, alone, operands, standing, named_variable}
+use Rattle.ps_check_expressions.specs.Expressions.{selected_variable, indexed, first_term, variable_seen, term_seen}
+use Rattle.ps_check_expressions.specs.Expressions.{simple_seen, operand, factor_operand, member_at, select, add_term}
+use Rattle.ps_check_expressions.specs.Expressions.{multiply_factor, simple_operand, term_operand, variable_operand}
+use Rattle.ps_check_expressions.proofs.Equations.{operand_simple, operand_compare, factor_variable, factor_call}
+use Rattle.ps_check_expressions.proofs.Equations.{factor_number, factor_text, factor_nil, factor_set, factor_group}
+use Rattle.ps_check_expressions.proofs.Equations.{factor_not, member_single, member_several, select_index}
+use Rattle.ps_check_expressions.proofs.Equations.{select_field, select_content, simple_is, term_is, add_term_is}
+use Rattle.ps_check_expressions.proofs.Equations.{multiply_factor_is, variable_is}
+use Rattle.ps_check_laws.specs.Threats.{Threatened, whole, place_threatens, expr_threatens, set_threatens}
+use Rattle.ps_check_laws.specs.Threats.{member_threatens, members_threaten, argument_threatens, arguments_threaten}
+use Rattle.ps_check_laws.specs.Threats.{entries_of}
 use Rattle.ps_check_laws.proofs.Lists.{none_some, inside, then_still, last_still, never, Each, each_append}
-use Rattle.ps_check_laws.proofs.Values.{value_threatens, ordinal_is, contents_threaten, constant_threatens, negated_threatens, first_term_threatens, added_both, multiplied_both, compared_both, variable_none, element_both, component_same, target_same}
+use Rattle.ps_check_laws.proofs.Values.{value_threatens, ordinal_is, contents_threaten, constant_threatens}
+use Rattle.ps_check_laws.proofs.Values.{negated_threatens, first_term_threatens, added_both, multiplied_both}
+use Rattle.ps_check_laws.proofs.Values.{compared_both, variable_none, element_both, component_same, target_same}
 
 -- ---- more changes
 
--- none of these entries is a control variable of a `for` statement round the place
+-- none of these entries is a control variable of an enclosing `for` statement
 abbrev pub Free : Context → Threatened → Type 0
 Free c a = Each (λ (e : ℕ × ℕ). is_control c e.0 e.1 ≡ false) a
 
@@ -63,11 +87,18 @@ pub record Adds (c : Context) (cs ds : List Change) (a : Threatened) : Type 0 wh
 pub adds_none : {c : Context} (cs : List Change) → Adds c cs cs []
 adds_none cs = record { entries = sym (append-nil (entries_of cs)); free = tt }
 
-pub adds_both : {c : Context} (cs ds es : List Change) (a b : Threatened) → Adds c cs ds a → Adds c ds es b → Adds c cs es (a ++ b)
-adds_both {c = c} cs ds es a b x y = record { entries = y.entries ∙ ap (λ l. l ++ b) x.entries ∙ append_assoc (entries_of cs) a b; free = each_append (λ (e : ℕ × ℕ). is_control c e.0 e.1 ≡ false) a b x.free y.free }
+pub adds_both : {c : Context} (cs ds es : List Change) (a b : Threatened) → Adds c cs ds a → Adds c ds es b
+    → Adds c cs es (a ++ b)
+adds_both {c = c} cs ds es a b x y = record {
+  entries = y.entries ∙ ap (λ l. l ++ b) x.entries ∙ append_assoc (entries_of cs) a b;
+  free = each_append (λ (e : ℕ × ℕ). is_control c e.0 e.1 ≡ false) a b x.free y.free;
+}
 
 pub adds_as : {c : Context} (cs ds : List Change) (a b : Threatened) → a ≡ b → Adds c cs ds a → Adds c cs ds b
-adds_as {c = c} cs ds a b e x = record { entries = x.entries ∙ ap (λ l. entries_of cs ++ l) e; free = subst (Free c) e x.free }
+adds_as {c = c} cs ds a b e x = record {
+  entries = x.entries ∙ ap (λ l. entries_of cs ++ l) e;
+  free = subst (Free c) e x.free;
+}
 
 -- what is added to what is threatened already
 pub record More (c : Context) (cs ds : List Change) (a b : Threatened) : Type 0 where
@@ -78,10 +109,16 @@ pub record More (c : Context) (cs ds : List Change) (a b : Threatened) : Type 0 
 pub more_none : {c : Context} (cs : List Change) (a : Threatened) → More c cs cs a a
 more_none cs a = record { more = []; grown = sym (append-nil a); adds = adds_none cs }
 
-pub more_both : {c : Context} (cs ds es : List Change) (a b d : Threatened) → More c cs ds a b → More c ds es b d → More c cs es a d
-more_both cs ds es a b d x y = record { more = x.more ++ y.more; grown = y.grown ∙ ap (λ l. l ++ y.more) x.grown ∙ append_assoc a x.more y.more; adds = adds_both cs ds es x.more y.more x.adds y.adds }
+pub more_both : {c : Context} (cs ds es : List Change) (a b d : Threatened) → More c cs ds a b → More c ds es b d
+    → More c cs es a d
+more_both cs ds es a b d x y = record {
+  more = x.more ++ y.more;
+  grown = y.grown ∙ ap (λ l. l ++ y.more) x.grown ∙ append_assoc a x.more y.more;
+  adds = adds_both cs ds es x.more y.more x.adds y.adds;
+}
 
-pub adds_more : {c : Context} (cs ds es : List Change) (a b : Threatened) → Adds c cs ds a → More c ds es a b → Adds c cs es b
+pub adds_more : {c : Context} (cs ds es : List Change) (a b : Threatened) → Adds c cs ds a → More c ds es a b
+    → Adds c cs es b
 adds_more cs ds es a b x m = adds_as cs es (a ++ m.more) b (sym m.grown) (adds_both cs ds es a m.more x m.adds)
 
 -- from nothing on
@@ -89,31 +126,51 @@ pub adds_all : {c : Context} (cs ds : List Change) (b : Threatened) → More c c
 adds_all cs ds b m = adds_as cs ds m.more b (sym m.grown) m.adds
 
 module _ {c : Context} {A : Type 0} (f : A → Threatened) where
-  pub made_adds : (v : A) (cs ds : List Change) (p : A × List Change) → Yes (v, ds) ≡ Yes p → Adds c cs ds (f v) → Adds c cs p.1 (f p.0)
+  pub made_adds : (v : A) (cs ds : List Change) (p : A × List Change) → Yes (v, ds) ≡ Yes p → Adds c cs ds (f v)
+      → Adds c cs p.1 (f p.0)
   made_adds v cs ds p e x = subst (λ (z : A × List Change). Adds c cs z.1 (f z.0)) (inside_yes (v, ds) p e) x
 
-  pub still_adds : (q : Judged A) (cs ds : List Change) (b : Threatened) (p : A × List Change) → still q ds ≡ Yes p → Adds c cs ds b → ((v : A) → q ≡ Yes v → f v ≡ b) → Adds c cs p.1 (f p.0)
-  still_adds q cs ds b p e x h = (let a = last_still q ds p e in subst (λ (z : A × List Change). Adds c cs z.1 (f z.0)) a.2 (adds_as cs ds b (f a.0) (sym (h a.0 a.1)) x))
+  pub still_adds : (q : Judged A) (cs ds : List Change) (b : Threatened) (p : A × List Change) → still q ds ≡ Yes p
+      → Adds c cs ds b → ((v : A) → q ≡ Yes v → f v ≡ b) → Adds c cs p.1 (f p.0)
+  still_adds q cs ds b p e x h = (let a = last_still q ds p e in subst
+      (λ (z : A × List Change). Adds c cs z.1 (f z.0)) a.2 (adds_as cs ds b (f a.0) (sym (h a.0 a.1)) x))
 
-  pub still_more : (q : Judged A) (cs ds : List Change) (a b : Threatened) (p : A × List Change) → still q ds ≡ Yes p → Adds c cs ds b → ((v : A) → q ≡ Yes v → f v ≡ a ++ b) → More c cs p.1 a (f p.0)
-  still_more q cs ds a b p e x h = (let v = last_still q ds p e in subst (λ (z : A × List Change). More c cs z.1 a (f z.0)) v.2 (record { more = b; grown = h v.0 v.1; adds = x }))
+  pub still_more : (q : Judged A) (cs ds : List Change) (a b : Threatened) (p : A × List Change) → still q ds ≡ Yes p
+      → Adds c cs ds b → ((v : A) → q ≡ Yes v → f v ≡ a ++ b) → More c cs p.1 a (f p.0)
+  still_more q cs ds a b p e x h = (let v = last_still q ds p e in subst
+      (λ (z : A × List Change). More c cs z.1 a (f z.0)) v.2 (record {
+        more = b;
+        grown = h v.0 v.1;
+        adds = x;
+      }))
 
   -- steps one after the other
-  pub through_more : {B : Type 0} (step : A → B → Changing A) (bs : List B) → Each (λ b. (s : A) (cs : List Change) (p : A × List Change) → step s b cs ≡ Yes p → More c cs p.1 (f s) (f p.0)) bs → (s : A) (cs : List Change) (p : A × List Change) → through step s bs cs ≡ Yes p → More c cs p.1 (f s) (f p.0)
-  through_more step [] h s cs p e = subst (λ (z : A × List Change). More c cs z.1 (f s) (f z.0)) (inside_yes (s, cs) p e) (more_none cs (f s))
+  pub through_more : {B : Type 0} (step : A → B → Changing A) (bs : List B) → Each
+      (λ b. (s : A) (cs : List Change) (p : A × List Change) → step s b cs ≡ Yes p → More c cs p.1 (f s) (f p.0)) bs
+      → (s : A) (cs : List Change) (p : A × List Change) → through step s bs cs ≡ Yes p → More c cs p.1 (f s) (f p.0)
+  through_more step [] h s cs p e = subst (λ (z : A × List Change). More c cs z.1 (f s) (f z.0))
+      (inside_yes (s, cs) p e) (more_none cs (f s))
   through_more step (b ∷ bs) h s cs p e =
       let q = then_yes (step s b cs) _ p e in
       more_both cs q.0.1 p.1 (f s) (f q.0.0) (f p.0) (h.0 s cs q.0 q.1) (through_more step bs h.1 q.0.0 q.0.1 p q.2)
 
--- the images of each, which threaten together what each does
-pub each_more : {c : Context} {X B : Type 0} (g : X → Changing B) (h : B → Threatened) (F : List B → Threatened) → ((ys : List B) (y : B) → F (ys ++ y ∷ []) ≡ F ys ++ h y) → (xs : List X) → Each (λ x. (cs : List Change) (p : B × List Change) → g x cs ≡ Yes p → Adds c cs p.1 (h p.0)) xs
+-- the images of each, which together threaten what each does
+pub each_more : {c : Context} {X B : Type 0} (g : X → Changing B) (h : B → Threatened) (F : List B → Threatened)
+    → ((ys : List B) (y : B) → F (ys ++ y ∷ []) ≡ F ys ++ h y) → (xs : List X) → Each
+    (λ x. (cs : List Change) (p : B × List Change) → g x cs ≡ Yes p → Adds c cs p.1 (h p.0)) xs
     → (s t : List B × List Change) → steps (one_more g) s xs ≡ Yes t → More c s.1 t.1 (F s.0) (F t.0)
-each_more {c = c} g h F last [] all s t e = subst (λ z. More c s.1 z.1 (F s.0) (F z.0)) (inside_yes s t e) (more_none s.1 (F s.0))
+each_more {c = c} g h F last [] all s t e = subst (λ z. More c s.1 z.1 (F s.0) (F z.0)) (inside_yes s t e)
+    (more_none s.1 (F s.0))
 each_more {c = c} g h F last (x ∷ xs) all s t e =
     let one = then_yes (one_more g s x) _ t e in
     let a = then_yes (g x s.1) _ one.0 one.1 in
-    let here : More c s.1 a.0.1 (F s.0) (F (s.0 ++ a.0.0 ∷ [])) = record { more = h a.0.0; grown = last s.0 a.0.0; adds = all.0 s.1 a.0 a.1 } in
-    let first : More c s.1 one.0.1 (F s.0) (F one.0.0) = subst (λ z. More c s.1 z.1 (F s.0) (F z.0)) (inside_yes (s.0 ++ a.0.0 ∷ [], a.0.1) one.0 a.2) here in
+    let here : More c s.1 a.0.1 (F s.0) (F (s.0 ++ a.0.0 ∷ [])) = record {
+      more = h a.0.0;
+      grown = last s.0 a.0.0;
+      adds = all.0 s.1 a.0 a.1;
+    } in
+    let first : More c s.1 one.0.1 (F s.0) (F one.0.0) = subst (λ z. More c s.1 z.1 (F s.0) (F z.0))
+    (inside_yes (s.0 ++ a.0.0 ∷ [], a.0.1) one.0 a.2) here in
     more_both s.1 one.0.1 t.1 (F s.0) (F one.0.0) (F t.0) first (each_more g h F last xs all.1 one.0 t one.2)
 
 pub each_all : {X : Type 0} (P : X → Type 0) → ((x : X) → P x) → (xs : List X) → Each P xs
@@ -125,45 +182,71 @@ turned true e = never e
 turned false e = refl
 
 -- a variable that is changed
-pub changed_adds : (c : Context) (place : Tree.Place) (at : ℕ) (cs : List Change) (p : Unit {0} × List Change) → changed c place at cs ≡ Yes p → Adds c cs p.1 (whole place)
+pub changed_adds : (c : Context) (place : Tree.Place) (at : ℕ) (cs : List Change) (p : Unit {0} × List Change)
+    → changed c place at cs ≡ Yes p → Adds c cs p.1 (whole place)
 unfolding changed changed_entry
 changed_adds c (Tree.Variable (Tree.Entry up entry) Tree.no_selector) at cs p e =
-    let is = provided_yes (not (is_control c up entry)) ControlVariable at (tt, cs ++ record { up = up; entry = entry; at = at } ∷ []) p e in
+    let is = provided_yes (not (is_control c up entry)) ControlVariable at (
+      tt,
+      cs ++ record {
+        up = up;
+        entry = entry;
+        at = at;
+      } ∷ [],
+    ) p e in
     let x : Change = record { up = up; entry = entry; at = at } in
-    subst (λ (z : Unit {0} × List Change). Adds c cs z.1 ((up, entry) ∷ [])) is.1 (record { entries = map-append (λ (x : Change). (x.up, x.entry)) cs (x ∷ []); free = (turned (is_control c up entry) is.0, tt) })
-changed_adds c place at cs p e = subst (λ (z : Unit {0} × List Change). Adds c cs z.1 []) (inside_yes (tt, cs) p e) (adds_none cs)
+    subst (λ (z : Unit {0} × List Change). Adds c cs z.1 ((up, entry) ∷ [])) is.1 (record {
+      entries = map-append (λ (x : Change). (x.up, x.entry)) cs (x ∷ []);
+      free = (turned (is_control c up entry) is.0, tt);
+    })
+changed_adds c place at cs p e = subst (λ (z : Unit {0} × List Change). Adds c cs z.1 []) (inside_yes (tt, cs) p e)
+    (adds_none cs)
 
 -- ---- lists of the checked tree
 
-pub arguments_last : (xs : List Tree.Argument) (a : Tree.Argument) → arguments_threaten (argument_list (xs ++ a ∷ [])) ≡ arguments_threaten (argument_list xs) ++ argument_threatens a
+pub arguments_last : (xs : List Tree.Argument) (a : Tree.Argument) → arguments_threaten (argument_list (xs ++ a ∷ []))
+    ≡ arguments_threaten (argument_list xs) ++ argument_threatens a
 unfolding arguments_threaten
 arguments_last [] a = append-nil (argument_threatens a)
-arguments_last (x ∷ xs) a = ap (λ l. argument_threatens x ++ l) (arguments_last xs a) ∙ sym (append_assoc (argument_threatens x) (arguments_threaten (argument_list xs)) (argument_threatens a))
+arguments_last (x ∷ xs) a = ap (λ l. argument_threatens x ++ l) (arguments_last xs a) ∙ sym
+    (append_assoc (argument_threatens x) (arguments_threaten (argument_list xs)) (argument_threatens a))
 
-members_last : (xs : List Tree.Member) (m : Tree.Member) → members_threaten (member_list (xs ++ m ∷ [])) ≡ members_threaten (member_list xs) ++ member_threatens m
+members_last : (xs : List Tree.Member) (m : Tree.Member) → members_threaten (member_list (xs ++ m ∷ []))
+    ≡ members_threaten (member_list xs) ++ member_threatens m
 unfolding members_threaten
 members_last [] m = append-nil (member_threatens m)
-members_last (x ∷ xs) m = ap (λ l. member_threatens x ++ l) (members_last xs m) ∙ sym (append_assoc (member_threatens x) (members_threaten (member_list xs)) (member_threatens m))
+members_last (x ∷ xs) m = ap (λ l. member_threatens x ++ l) (members_last xs m) ∙ sym
+    (append_assoc (member_threatens x) (members_threaten (member_list xs)) (member_threatens m))
 
 -- ---- actual parameters and required functions
 
-value_passed : (at : ℕ) (type : DataType) (v : Value) (line : ℕ) (a : Tree.Argument) → by_value at type v line ≡ Yes a → argument_threatens a ≡ value_threatens v
+value_passed : (at : ℕ) (type : DataType) (v : Value) (line : ℕ) (a : Tree.Argument) → by_value at type v line ≡ Yes a
+    → argument_threatens a ≡ value_threatens v
 unfolding by_value argument_threatens
-value_passed at type (SimpleValue e from) line a h = ap argument_threatens (sym (provided_yes (is_assignable from type) NotAssignable at _ a h).1)
-value_passed at (SetType b k o) (SetValue e from) line a h = ap argument_threatens (sym (provided_yes (is_assignable from (SetType b k o)) NotAssignable at _ a h).1)
+value_passed at type (SimpleValue e from) line a h = ap argument_threatens
+    (sym (provided_yes (is_assignable from type) NotAssignable at _ a h).1)
+value_passed at (SetType b k o) (SetValue e from) line a h = ap argument_threatens
+    (sym (provided_yes (is_assignable from (SetType b k o)) NotAssignable at _ a h).1)
 value_passed at type (SetValue e from) line a h = absurd (no_yes h)
-value_passed at type (StructureValue e from) line a h = ap argument_threatens (sym (provided_yes (is_assignable from type) NotAssignable at _ a h).1)
+value_passed at type (StructureValue e from) line a h = ap argument_threatens
+    (sym (provided_yes (is_assignable from type) NotAssignable at _ a h).1)
 
-variable_passed : (at : ℕ) (type : DataType) (v : Variable) (a : Tree.Argument) → by_variable at type v ≡ Yes a → argument_threatens a ≡ place_threatens v.place ++ whole v.place
+variable_passed : (at : ℕ) (type : DataType) (v : Variable) (a : Tree.Argument) → by_variable at type v ≡ Yes a
+    → argument_threatens a ≡ place_threatens v.place ++ whole v.place
 unfolding by_variable argument_threatens
 variable_passed at type v a h =
-    let same_type = if_yes (is_same_type v.type type) (provided (not v.in_packed) PackedVariable at (Tree.ByVariable v.place)) WrongType at a h in
-    ap argument_threatens (sym (provided_yes (not v.in_packed) PackedVariable at (Tree.ByVariable v.place) a same_type.1).1)
+    let same_type = if_yes (is_same_type v.type type)
+    (provided (not v.in_packed) PackedVariable at (Tree.ByVariable v.place)) WrongType at a h in
+    ap argument_threatens (sym (provided_yes (not v.in_packed) PackedVariable at
+    (Tree.ByVariable v.place) a same_type.1).1)
 
-routine_passed : (at : ℕ) (sections : Sections) (result : Option DataType) (p : Point) (a : Tree.Argument) → by_routine at sections result p ≡ Yes a → argument_threatens a ≡ []
+routine_passed : (at : ℕ) (sections : Sections) (result : Option DataType) (p : Point) (a : Tree.Argument)
+    → by_routine at sections result p ≡ Yes a → argument_threatens a ≡ []
 unfolding by_routine argument_threatens
-routine_passed at sections result (BlockPoint up (RoutineMeaning h)) a e = ap argument_threatens (sym (provided_yes _ _ at (Tree.ByRoutine h.number up) a e).1)
-routine_passed at sections result (BlockPoint up (RoutineParameterMeaning entry s r)) a e = ap argument_threatens (sym (provided_yes _ _ at (Tree.ByFormal up entry) a e).1)
+routine_passed at sections result (BlockPoint up (RoutineMeaning h)) a e = ap argument_threatens
+    (sym (provided_yes _ _ at (Tree.ByRoutine h.number up) a e).1)
+routine_passed at sections result (BlockPoint up (RoutineParameterMeaning entry s r)) a e = ap argument_threatens
+    (sym (provided_yes _ _ at (Tree.ByFormal up entry) a e).1)
 routine_passed at sections result p a e = absurd (no_yes e)
 
 looked : (r : Required) (line : ℕ) (v : Value) → look r line ≡ Some v → value_threatens v ≡ []
@@ -172,28 +255,36 @@ looked required.Eof line v e = ap value_threatens (sym (inside _ v e))
 looked required.Eoln line v e = ap value_threatens (sym (inside _ v e))
 looked r line v e = absurd (none_some e)
 
-applied_threatens : (at : ℕ) (r : Required) (line : ℕ) (x : Tree.Expr × Ordinal) (o : Option (RequiredFunction × Ordinal)) (w : Value) → applied at r line x o ≡ Yes w → value_threatens w ≡ expr_threatens x.0
+applied_threatens : (at : ℕ) (r : Required) (line : ℕ) (x : Tree.Expr × Ordinal)
+    (o : Option (RequiredFunction × Ordinal)) (w : Value) → applied at r line x o ≡ Yes w → value_threatens w
+    ≡ expr_threatens x.0
 unfolding expr_threatens
 applied_threatens at r line x None w e = absurd (no_yes e)
 applied_threatens at r line x (Some f) w e = by (needs_integer r && not (is_same_host x.1.host Integer)) e
   where
-    by : (b : Bool) → (if b then No WrongType at else Yes (SimpleValue (Tree.Apply f.0 x.0 line) (OrdinalType f.1))) ≡ Yes w → value_threatens w ≡ expr_threatens x.0
+    by : (b : Bool) → (if b then No WrongType at else Yes (SimpleValue (Tree.Apply f.0 x.0 line) (OrdinalType f.1)))
+        ≡ Yes w → value_threatens w ≡ expr_threatens x.0
     by true h = absurd (no_yes h)
     by false h = ap value_threatens (sym (inside_yes _ w h))
 
-required_threatens : (at : ℕ) (r : Required) (line : ℕ) (v w : Value) → required_value at r line v ≡ Yes w → value_threatens w ≡ value_threatens v
+required_threatens : (at : ℕ) (r : Required) (line : ℕ) (v w : Value) → required_value at r line v ≡ Yes w
+    → value_threatens w ≡ value_threatens v
 unfolding required_value
-required_threatens at r line v w e = (let x = then_yes (ordinal_of at v) _ w e in applied_threatens at r line x.0 (function_of r x.0.1) w x.2 ∙ sym (ordinal_is at v x.0 x.1))
+required_threatens at r line v w e = (let x = then_yes (ordinal_of at v) _ w e in applied_threatens at r line x.0
+    (function_of r x.0.1) w x.2 ∙ sym (ordinal_is at v x.0 x.1))
 
 -- ---- members of sets
 
 abbrev gathered_threatens : Gathered → Threatened
 gathered_threatens g = members_threaten (member_list g.0)
 
-gathered_both : (at : ℕ) (g : Gathered) (m : TypedMember) (h : Gathered) → gathered at g m ≡ Yes h → gathered_threatens h ≡ gathered_threatens g ++ member_threatens m.0
+gathered_both : (at : ℕ) (g : Gathered) (m : TypedMember) (h : Gathered) → gathered at g m ≡ Yes h
+    → gathered_threatens h ≡ gathered_threatens g ++ member_threatens m.0
 unfolding gathered
-gathered_both at (ms, None) (m, o) h e = ap gathered_threatens (sym (inside_yes (ms ++ m ∷ [], Some o) h e)) ∙ members_last ms m
-gathered_both at (ms, Some p) (m, o) h e = ap gathered_threatens (sym (provided_yes (is_same_host p.host o.host) WrongType at (ms ++ m ∷ [], Some p) h e).1) ∙ members_last ms m
+gathered_both at (ms, None) (m, o) h e = ap gathered_threatens (sym (inside_yes (ms ++ m ∷ [], Some o) h e))
+    ∙ members_last ms m
+gathered_both at (ms, Some p) (m, o) h e = ap gathered_threatens
+    (sym (provided_yes (is_same_host p.host o.host) WrongType at (ms ++ m ∷ [], Some p) h e).1) ∙ members_last ms m
 
 constructed_threatens : (g : Gathered) → value_threatens (constructed g) ≡ gathered_threatens g
 unfolding constructed set_threatens
@@ -203,49 +294,60 @@ constructed_threatens (ms, Some o) = refl
 abbrev member_of : TypedMember → Threatened
 member_of m = member_threatens m.0
 
-single_threatens : (at : ℕ) (v : Value) (line : ℕ) (m : TypedMember) → single at v line ≡ Yes m → member_of m ≡ value_threatens v
+single_threatens : (at : ℕ) (v : Value) (line : ℕ) (m : TypedMember) → single at v line ≡ Yes m → member_of m
+    ≡ value_threatens v
 unfolding member_threatens
-single_threatens at v line m e = (let a = then_yes (ordinal_of at v) _ m e in ap member_of (sym (inside_yes (Tree.One a.0.0 line, a.0.1) m a.2)) ∙ sym (ordinal_is at v a.0 a.1))
+single_threatens at v line m e = (let a = then_yes (ordinal_of at v) _ m e in ap member_of
+    (sym (inside_yes (Tree.One a.0.0 line, a.0.1) m a.2)) ∙ sym (ordinal_is at v a.0 a.1))
 
-several_threaten : (first second : ℕ) (v w : Value) (line : ℕ) (m : TypedMember) → several (operands first second) v w line ≡ Yes m → member_of m ≡ value_threatens v ++ value_threatens w
+several_threaten : (first second : ℕ) (v w : Value) (line : ℕ) (m : TypedMember) → several
+    (operands first second) v w line ≡ Yes m → member_of m ≡ value_threatens v ++ value_threatens w
 unfolding member_threatens
 several_threaten first second v w line m e =
     let a = then_yes (ordinal_of first v) _ m e in
     let b = then_yes (ordinal_of second w) _ m a.2 in
     ap member_of (sym (provided_yes _ WrongType second (Tree.Several a.0.0 b.0.0 line, a.0.1) m b.2).1)
-    ∙ ap (λ l. l ++ expr_threatens b.0.0) (sym (ordinal_is first v a.0 a.1)) ∙ ap (λ l. value_threatens v ++ l) (sym (ordinal_is second w b.0 b.1))
+    ∙ ap (λ l. l ++ expr_threatens b.0.0) (sym (ordinal_is first v a.0 a.1)) ∙ ap (λ l. value_threatens v ++ l)
+    (sym (ordinal_is second w b.0 b.1))
 
 abbrev pub place_of : Variable → Threatened
 place_of v = place_threatens v.place
 
--- the parts of a construct, of which something is told
+-- the parts of a construct, each with what holds of it
 abbrev pub parts : {X : Type 0} {T : X → Type 0} → List ((x : X) × T x) → List X
 parts ys = map (λ y. y.0) ys
 
--- what is told of each holds of what each is read as
-pub read_each : {X B : Type 0} {T : X → Type 0} (read : X → B) (P : B → Type 0) → ((y : (x : X) × T x) → P (read y.0)) → (ys : List ((x : X) × T x)) → Each P (map read (parts ys))
+-- what holds of each holds of what each is read as
+pub read_each : {X B : Type 0} {T : X → Type 0} (read : X → B) (P : B → Type 0) → ((y : (x : X) × T x) → P (read y.0))
+    → (ys : List ((x : X) × T x)) → Each P (map read (parts ys))
 read_each read P h [] = tt
 read_each read P h (y ∷ ys) = (h y, read_each read P h ys)
 
 module _ (c : Context) (Γ : List Region) where
   pub record Hands (o : Operand) : Type 0 where
     pub value : (cs : List Change) (p : Value × List Change) → o.value cs ≡ Yes p → Adds c cs p.1 (value_threatens p.0)
-    pub variable : (cs : List Change) (p : Variable × List Change) → o.variable cs ≡ Yes p → Adds c cs p.1 (place_of p.0)
+    pub variable : (cs : List Change) (p : Variable × List Change) → o.variable cs ≡ Yes p → Adds c cs p.1
+        (place_of p.0)
 
   hands_by : (o q : Operand) → o ≡ q → Hands q → Hands o
   hands_by o q e t = subst Hands (sym e) t
 
-  of_plain : (first : ℕ) (m : Changing Value) → ((cs : List Change) (p : Value × List Change) → m cs ≡ Yes p → Adds c cs p.1 (value_threatens p.0)) → Hands (plain first m)
+  of_plain : (first : ℕ) (m : Changing Value)
+      → ((cs : List Change) (p : Value × List Change) → m cs ≡ Yes p → Adds c cs p.1 (value_threatens p.0)) → Hands
+      (plain first m)
   of_plain first m h = record { value = h; variable = λ cs p e. absurd (no_yes e) }
 
   abbrev ValueStep : Step Value → Type 0
-  ValueStep s = (first : ℕ) (v : Value) (cs : List Change) (p : Value × List Change) → s first v cs ≡ Yes p → More c cs p.1 (value_threatens v) (value_threatens p.0)
+  ValueStep s = (first : ℕ) (v : Value) (cs : List Change) (p : Value × List Change) → s first v cs ≡ Yes p
+      → More c cs p.1 (value_threatens v) (value_threatens p.0)
 
   abbrev VariableStep : Step Variable → Type 0
-  VariableStep s = (first : ℕ) (v : Variable) (cs : List Change) (p : Variable × List Change) → s first v cs ≡ Yes p → More c cs p.1 (place_of v) (place_of p.0)
+  VariableStep s = (first : ℕ) (v : Variable) (cs : List Change) (p : Variable × List Change) → s first v cs ≡ Yes p
+      → More c cs p.1 (place_of v) (place_of p.0)
 
   abbrev MemberStep : SeenMember → Type 0
-  MemberStep m = (cs : List Change) (p : TypedMember × List Change) → m.member cs ≡ Yes p → Adds c cs p.1 (member_of p.0)
+  MemberStep m = (cs : List Change) (p : TypedMember × List Change) → m.member cs ≡ Yes p → Adds c cs p.1
+      (member_of p.0)
 
   abbrev ExprHands : Expr → Type 0
   ExprHands x = Hands (operand c Γ x)
@@ -303,55 +405,79 @@ module _ (c : Context) (Γ : List Region) where
 
   -- ---- actual parameters and calls
 
-  pub actual_adds : (section : Section) (o : Operand) → Hands o → (cs : List Change) (p : Tree.Argument × List Change) → actual c Γ section o cs ≡ Yes p → Adds c cs p.1 (argument_threatens p.0)
+  pub actual_adds : (section : Section) (o : Operand) → Hands o → (cs : List Change) (p : Tree.Argument × List Change)
+      → actual c Γ section o cs ≡ Yes p → Adds c cs p.1 (argument_threatens p.0)
   unfolding actual
   actual_adds (ValueSection n type) o t cs p e =
       let v = then_yes (o.value cs) _ p e in
-      still_adds argument_threatens _ cs v.0.1 (value_threatens v.0.0) p v.2 (t.value cs v.0 v.1) (λ a h. value_passed o.first type v.0.0 _ a h)
+      still_adds argument_threatens _ cs v.0.1 (value_threatens v.0.0) p v.2 (t.value cs v.0 v.1)
+      (λ a h. value_passed o.first type v.0.0 _ a h)
   actual_adds (VariableSection n type) o t cs p e =
       let v = then_yes (o.variable cs) _ p e in
       let d = then_yes (changed c v.0.0.place o.first v.0.1) _ p v.2 in
-      let x = adds_both cs v.0.1 d.0.1 (place_of v.0.0) (whole v.0.0.place) (t.variable cs v.0 v.1) (changed_adds c v.0.0.place o.first v.0.1 d.0 d.1) in
-      still_adds argument_threatens _ cs d.0.1 (place_of v.0.0 ++ whole v.0.0.place) p d.2 x (λ a h. variable_passed o.first type v.0.0 a h)
-  actual_adds (RoutineSection sections result) o t cs p e = still_adds argument_threatens (named_routine c Γ sections result o.first o.name) cs cs [] p e (adds_none cs) (λ a h. by o.name a h)
+      let x = adds_both cs v.0.1 d.0.1 (place_of v.0.0) (whole v.0.0.place) (t.variable cs v.0 v.1)
+      (changed_adds c v.0.0.place o.first v.0.1 d.0 d.1) in
+      still_adds argument_threatens _ cs d.0.1 (place_of v.0.0 ++ whole v.0.0.place) p d.2 x
+      (λ a h. variable_passed o.first type v.0.0 a h)
+  actual_adds (RoutineSection sections result) o t cs p e = still_adds argument_threatens
+      (named_routine c Γ sections result o.first o.name) cs cs [] p e (adds_none cs) (λ a h. by o.name a h)
     where
-      by : (name : Option Span) (a : Tree.Argument) → named_routine c Γ sections result o.first name ≡ Yes a → argument_threatens a ≡ []
+      by : (name : Option Span) (a : Tree.Argument) → named_routine c Γ sections result o.first name ≡ Yes a
+          → argument_threatens a ≡ []
       by None a h = absurd (no_yes h)
-      by (Some n) a h = (let q = then_yes (denoted c Γ n) (by_routine n.from sections result) a h in routine_passed n.from sections result q.0 a q.2)
+      by (Some n) a h = (let q = then_yes (denoted c Γ n) (by_routine n.from sections result) a h
+          in routine_passed n.from sections result q.0 a q.2)
 
   abbrev pub ActualAdds : Section × Operand → Type 0
-  ActualAdds x = (cs : List Change) (p : Tree.Argument × List Change) → actual c Γ x.0 x.1 cs ≡ Yes p → Adds c cs p.1 (argument_threatens p.0)
+  ActualAdds x = (cs : List Change) (p : Tree.Argument × List Change) → actual c Γ x.0 x.1 cs ≡ Yes p → Adds c cs p.1
+      (argument_threatens p.0)
 
-  pair_each : (sections : List Section) (ys : List AtExpr) → Each ActualAdds (pairs sections (map (operand c Γ) (parts ys)))
+  pair_each : (sections : List Section) (ys : List AtExpr) → Each ActualAdds
+      (pairs sections (map (operand c Γ) (parts ys)))
   pair_each [] ys = tt
   pair_each (section ∷ sections) [] = tt
   pair_each (section ∷ sections) (y ∷ ys) = (actual_adds section (operand c Γ y.0) y.1, pair_each sections ys)
 
-  actuals_add : (at : ℕ) (sections : Sections) (ys : List AtExpr) (cs : List Change) (p : List Tree.Argument × List Change) → actuals c Γ at sections (map (operand c Γ) (parts ys)) cs ≡ Yes p → Adds c cs p.1 (arguments_threaten (argument_list p.0))
+  actuals_add : (at : ℕ) (sections : Sections) (ys : List AtExpr) (cs : List Change)
+      (p : List Tree.Argument × List Change) → actuals c Γ at sections (map (operand c Γ) (parts ys)) cs ≡ Yes p
+      → Adds c cs p.1 (arguments_threaten (argument_list p.0))
   unfolding arguments_threaten
   actuals_add at sections ys cs p e =
       let xs = map (operand c Γ) (parts ys) in
       let h = then_still (holds (length (parameters sections) == length xs) NotCongruous at) cs _ p e in
       adds_all cs p.1 (arguments_threaten (argument_list p.0))
-      (each_more (λ (x : Section × Operand). actual c Γ x.0 x.1) argument_threatens (λ l. arguments_threaten (argument_list l)) arguments_last (pairs (parameters sections) xs) (pair_each (parameters sections) ys) ([], cs) p h.2)
+      (each_more (λ (x : Section × Operand). actual c Γ x.0 x.1) argument_threatens
+      (λ l. arguments_threaten (argument_list l)) arguments_last (pairs (parameters sections) xs)
+      (pair_each (parameters sections) ys) ([], cs) p h.2)
 
-  function_adds : (at : ℕ) (r : Required) (ys : List AtExpr) (cs : List Change) (p : Value × List Change) → function_call c Γ at r (map (operand c Γ) (parts ys)) cs ≡ Yes p → Adds c cs p.1 (value_threatens p.0)
+  function_adds : (at : ℕ) (r : Required) (ys : List AtExpr) (cs : List Change) (p : Value × List Change)
+      → function_call c Γ at r (map (operand c Γ) (parts ys)) cs ≡ Yes p → Adds c cs p.1 (value_threatens p.0)
   unfolding function_call
-  function_adds at r [] cs p e = still_adds value_threatens _ cs cs [] p e (adds_none cs) (λ v h. by (look r (line_in c.text at)) refl v h)
+  function_adds at r [] cs p e = still_adds value_threatens _ cs cs [] p e (adds_none cs)
+      (λ v h. by (look r (line_in c.text at)) refl v h)
     where
-      by : (o : Option Value) → look r (line_in c.text at) ≡ o → (v : Value) → standing_alone at c.has_input o ≡ Yes v → value_threatens v ≡ []
+      by : (o : Option Value) → look r (line_in c.text at) ≡ o → (v : Value) → standing_alone at c.has_input o ≡ Yes v
+          → value_threatens v ≡ []
       by None g v h = absurd (no_yes h)
-      by (Some w) g v h = ap value_threatens (sym (provided_yes c.has_input _ at w v h).1) ∙ looked r (line_in c.text at) w g
+      by (Some w) g v h = ap value_threatens (sym (provided_yes c.has_input _ at w v h).1) ∙ looked r
+          (line_in c.text at) w g
   function_adds at r (y ∷ []) cs p e = by (names_input c Γ (operand c Γ y.0)) e
     where
-      by : (b : Bool) → (if b then still (some_or NotInProfile (operand c Γ y.0).first (look r (line_in c.text at))) else ((operand c Γ y.0).value >>= (λ v. still (required_value (operand c Γ y.0).first r (line_in c.text at) v)))) cs ≡ Yes p → Adds c cs p.1 (value_threatens p.0)
-      by true h = still_adds value_threatens _ cs cs [] p h (adds_none cs) (λ v g. looked r (line_in c.text at) v (some_or_yes NotInProfile (operand c Γ y.0).first (look r (line_in c.text at)) v g))
+      by : (b : Bool) → (if b then still (some_or NotInProfile (operand c Γ y.0).first (look r (line_in c.text at)))
+          else ((operand c Γ y.0).value >>= (λ v. still
+          (required_value (operand c Γ y.0).first r (line_in c.text at) v)))) cs ≡ Yes p → Adds c cs p.1
+          (value_threatens p.0)
+      by true h = still_adds value_threatens _ cs cs [] p h (adds_none cs)
+          (λ v g. looked r (line_in c.text at) v (some_or_yes NotInProfile (operand c Γ y.0).first
+          (look r (line_in c.text at)) v g))
       by false h =
           let w = then_yes ((operand c Γ y.0).value cs) _ p h in
-          still_adds value_threatens _ cs w.0.1 (value_threatens w.0.0) p w.2 (y.1.value cs w.0 w.1) (λ v g. required_threatens (operand c Γ y.0).first r (line_in c.text at) w.0.0 v g)
+          still_adds value_threatens _ cs w.0.1 (value_threatens w.0.0) p w.2 (y.1.value cs w.0 w.1)
+          (λ v g. required_threatens (operand c Γ y.0).first r (line_in c.text at) w.0.0 v g)
   function_adds at r (y ∷ z ∷ ys) cs p e = absurd (no_yes e)
 
-  called_adds : (at : ℕ) (q : Point) (ys : List AtExpr) (cs : List Change) (p : Value × List Change) → called c Γ at q (map (operand c Γ) (parts ys)) cs ≡ Yes p → Adds c cs p.1 (value_threatens p.0)
+  called_adds : (at : ℕ) (q : Point) (ys : List AtExpr) (cs : List Change) (p : Value × List Change) → called c Γ at q
+      (map (operand c Γ) (parts ys)) cs ≡ Yes p → Adds c cs p.1 (value_threatens p.0)
   unfolding called required_call expr_threatens
   called_adds at (BlockPoint up (RoutineMeaning h)) ys cs p e =
       let type = then_still (some_or WrongKind at h.result) cs _ p e in
@@ -367,23 +493,35 @@ module _ (c : Context) (Γ : List Region) where
   called_adds at q ys cs p e = absurd (no_yes e)
 
   -- a name alone
-  loaded_adds : (at : ℕ) (q : Point) (cs : List Change) (p : Value × List Change) → still (j.◌>>=◌ (variable_at at q) (loaded at)) cs ≡ Yes p → Adds c cs p.1 (value_threatens p.0)
-  loaded_adds at q cs p e = still_adds value_threatens (j.◌>>=◌ (variable_at at q) (loaded at)) cs cs [] p e (adds_none cs)
-      (λ v h. (let x = then_yes (variable_at at q) (loaded at) v h in contents_threaten at x.0.place x.0.type v x.2 ∙ variable_none at q x.0 x.1))
+  loaded_adds : (at : ℕ) (q : Point) (cs : List Change) (p : Value × List Change) → still
+      (j.◌>>=◌ (variable_at at q) (loaded at)) cs ≡ Yes p → Adds c cs p.1 (value_threatens p.0)
+  loaded_adds at q cs p e = still_adds value_threatens (j.◌>>=◌ (variable_at at q) (loaded at)) cs cs [] p e
+      (adds_none cs)
+      (λ v h. (let x = then_yes (variable_at at q) (loaded at) v h in contents_threaten at x.0.place x.0.type v x.2
+      ∙ variable_none at q x.0 x.1))
 
-  standing_adds : (at : ℕ) (q : Point) (cs : List Change) (p : Value × List Change) → standing c Γ at q cs ≡ Yes p → Adds c cs p.1 (value_threatens p.0)
+  standing_adds : (at : ℕ) (q : Point) (cs : List Change) (p : Value × List Change) → standing c Γ at q cs ≡ Yes p
+      → Adds c cs p.1 (value_threatens p.0)
   unfolding standing
-  standing_adds at (BlockPoint up (ConstantMeaning o n)) cs p e = still_adds value_threatens _ cs cs [] p e (adds_none cs) (λ v h. constant_threatens at (OrdinalConstant o n) v h)
-  standing_adds at (BlockPoint up (TextMeaning w)) cs p e = still_adds value_threatens _ cs cs [] p e (adds_none cs) (λ v h. constant_threatens at (TextConstant w) v h)
-  standing_adds at (BlockPoint up (VariableMeaning entry type)) cs p e = loaded_adds at (BlockPoint up (VariableMeaning entry type)) cs p e
-  standing_adds at (BlockPoint up (ParameterMeaning entry type)) cs p e = loaded_adds at (BlockPoint up (ParameterMeaning entry type)) cs p e
-  standing_adds at (FieldPoint which record_type number type) cs p e = loaded_adds at (FieldPoint which record_type number type) cs p e
+  standing_adds at (BlockPoint up (ConstantMeaning o n)) cs p e = still_adds value_threatens _ cs cs [] p e
+      (adds_none cs) (λ v h. constant_threatens at (OrdinalConstant o n) v h)
+  standing_adds at (BlockPoint up (TextMeaning w)) cs p e = still_adds value_threatens _ cs cs [] p e (adds_none cs)
+      (λ v h. constant_threatens at (TextConstant w) v h)
+  standing_adds at (BlockPoint up (VariableMeaning entry type)) cs p e = loaded_adds at
+      (BlockPoint up (VariableMeaning entry type)) cs p e
+  standing_adds at (BlockPoint up (ParameterMeaning entry type)) cs p e = loaded_adds at
+      (BlockPoint up (ParameterMeaning entry type)) cs p e
+  standing_adds at (FieldPoint which record_type number type) cs p e = loaded_adds at
+      (FieldPoint which record_type number type) cs p e
   standing_adds at q cs p e = called_adds at q [] cs p e
 
   -- ---- variables
 
-  named_adds : (name : Span) (cs : List Change) (p : Variable × List Change) → named_variable c Γ name cs ≡ Yes p → Adds c cs p.1 (place_of p.0)
-  named_adds name cs p e = still_adds place_of (j.◌>>=◌ (denoted c Γ name) (variable_at name.from)) cs cs [] p e (adds_none cs) (λ v h. (let q = then_yes (denoted c Γ name) (variable_at name.from) v h in variable_none name.from q.0 v q.2))
+  named_adds : (name : Span) (cs : List Change) (p : Variable × List Change) → named_variable c Γ name cs ≡ Yes p
+      → Adds c cs p.1 (place_of p.0)
+  named_adds name cs p e = still_adds place_of (j.◌>>=◌ (denoted c Γ name) (variable_at name.from)) cs cs [] p e
+      (adds_none cs) (λ v h. (let q = then_yes (denoted c Γ name) (variable_at name.from) v h
+      in variable_none name.from q.0 v q.2))
 
   seen_variable : (name : Span) (ys : List AtSelector) → Hands (variable_seen c Γ name (map (select c Γ) (parts ys)))
   unfolding variable_seen
@@ -393,44 +531,61 @@ module _ (c : Context) (Γ : List Region) where
   }
   seen_variable name (y ∷ ys) =
       let fs = map (select c Γ) (parts (y ∷ ys)) in
-      let there : (cs : List Change) (w : Variable × List Change) → selected_variable c Γ name fs cs ≡ Yes w → Adds c cs w.1 (place_of w.0) =
+      let there : (cs : List Change) (w : Variable × List Change) → selected_variable c Γ name fs cs ≡ Yes w
+      → Adds c cs w.1 (place_of w.0) =
       λ cs w e. (let v = then_yes (named_variable c Γ name cs) _ w e in
       adds_more cs v.0.1 w.1 (place_of v.0.0) (place_of w.0) (named_adds name cs v.0 v.1)
       (through_more place_of (λ (v : Variable) (f : Step Variable). f name.from v) fs
-      (read_each (select c Γ) (λ (f : Step Variable). (s : Variable) (cs : List Change) (p : Variable × List Change) → f name.from s cs ≡ Yes p → More c cs p.1 (place_of s) (place_of p.0)) (λ y s cs p h. y.1 name.from s cs p h) (y ∷ ys)) v.0.0 v.0.1 w v.2)) in
+      (read_each (select c Γ) (λ (f : Step Variable). (s : Variable) (cs : List Change) (p : Variable × List Change)
+      → f name.from s cs ≡ Yes p → More c cs p.1 (place_of s) (place_of p.0)) (λ y s cs p h. y.1 name.from s cs p h)
+      (y ∷ ys)) v.0.0 v.0.1 w v.2)) in
       record {
-        value = λ cs p e. (let w = then_yes (selected_variable c Γ name fs cs) _ p e in still_adds value_threatens _ cs w.0.1 (place_of w.0.0) p w.2 (there cs w.0 w.1) (λ v h. contents_threaten name.from w.0.0.place w.0.0.type v h));
+        value = λ cs p e. (let w = then_yes (selected_variable c Γ name fs cs) _ p e
+            in still_adds value_threatens _ cs w.0.1 (place_of w.0.0) p w.2 (there cs w.0 w.1)
+            (λ v h. contents_threaten name.from w.0.0.place w.0.0.type v h));
         variable = there;
       }
 
   -- ---- chains
 
-  lone_variable : {X B : Type 0} {T : X → Type 0} (sign : Option (Sign × Span)) (read : X → B) (ys : List ((x : X) × T x)) (first : ℕ) (m : Changing Variable) (cs : List Change) (p : Variable × List Change)
+  lone_variable : {X B : Type 0} {T : X → Type 0} (sign : Option (Sign × Span)) (read : X → B)
+      (ys : List ((x : X) × T x)) (first : ℕ) (m : Changing Variable) (cs : List Change) (p : Variable × List Change)
       → alone (still (No WrongKind first)) sign (map read (parts ys)) m cs ≡ Yes p → m cs ≡ Yes p
   lone_variable None read [] first m cs p e = e
   lone_variable None read (z ∷ ys) first m cs p e = absurd (no_yes e)
   lone_variable (Some s) read ys first m cs p e = absurd (no_yes e)
 
-  seen_term : (o : Operand) → Hands o → (ys : List AtMultipliedFactor) → Hands (term_seen c Γ o (map (multiply_factor c Γ) (parts ys)))
+  seen_term : (o : Operand) → Hands o → (ys : List AtMultipliedFactor) → Hands
+      (term_seen c Γ o (map (multiply_factor c Γ) (parts ys)))
   unfolding term_seen
   seen_term o t ys = record {
     value = λ cs p e. (let w = then_yes (o.value cs) _ p e in
         adds_more cs w.0.1 p.1 (value_threatens w.0.0) (value_threatens p.0) (t.value cs w.0 w.1)
-        (through_more value_threatens (λ (v : Value) (f : Step Value). f o.first v) (map (multiply_factor c Γ) (parts ys))
-        (read_each (multiply_factor c Γ) (λ (f : Step Value). (s : Value) (cs : List Change) (p : Value × List Change) → f o.first s cs ≡ Yes p → More c cs p.1 (value_threatens s) (value_threatens p.0)) (λ y s cs p h. y.1 o.first s cs p h) ys) w.0.0 w.0.1 p w.2));
+        (through_more value_threatens (λ (v : Value) (f : Step Value). f o.first v)
+        (map (multiply_factor c Γ) (parts ys))
+        (read_each (multiply_factor c Γ) (λ (f : Step Value). (s : Value) (cs : List Change) (p : Value × List Change)
+        → f o.first s cs ≡ Yes p → More c cs p.1 (value_threatens s) (value_threatens p.0))
+        (λ y s cs p h. y.1 o.first s cs p h) ys) w.0.0 w.0.1 p w.2));
     variable = λ cs p e. t.variable cs p (lone_variable None (multiply_factor c Γ) ys o.first o.variable cs p e);
   }
 
-  seen_simple : (sign : Option (Sign × Span)) (o : Operand) → Hands o → (ys : List AtAddedTerm) → Hands (simple_seen c Γ sign o (map (add_term c Γ) (parts ys)))
+  seen_simple : (sign : Option (Sign × Span)) (o : Operand) → Hands o → (ys : List AtAddedTerm) → Hands
+      (simple_seen c Γ sign o (map (add_term c Γ) (parts ys)))
   unfolding simple_seen
   seen_simple sign o t ys = record {
     value = λ cs p e. (let u = then_yes ((o.value >>= (λ v. still (first_term c Γ o.first sign v))) cs) _ p e in
         let w = then_yes (o.value cs) _ u.0 u.1 in
-        let first = still_adds value_threatens (first_term c Γ o.first sign w.0.0) cs w.0.1 (value_threatens w.0.0) u.0 w.2 (t.value cs w.0 w.1) (λ v h. first_term_threatens c Γ o.first sign w.0.0 v h) in
+        let first = still_adds value_threatens (first_term c Γ o.first sign w.0.0) cs w.0.1
+        (value_threatens w.0.0) u.0 w.2 (t.value cs w.0 w.1)
+        (λ v h. first_term_threatens c Γ o.first sign w.0.0 v h) in
         adds_more cs u.0.1 p.1 (value_threatens u.0.0) (value_threatens p.0) first
-        (through_more value_threatens (λ (v : Value) (f : Step Value). f (sign_or sign o.first) v) (map (add_term c Γ) (parts ys))
-        (read_each (add_term c Γ) (λ (f : Step Value). (s : Value) (cs : List Change) (p : Value × List Change) → f (sign_or sign o.first) s cs ≡ Yes p → More c cs p.1 (value_threatens s) (value_threatens p.0)) (λ y s cs p h. y.1 (sign_or sign o.first) s cs p h) ys) u.0.0 u.0.1 p u.2));
-    variable = λ cs p e. t.variable cs p (lone_variable sign (add_term c Γ) ys (sign_or sign o.first) o.variable cs p e);
+        (through_more value_threatens (λ (v : Value) (f : Step Value). f (sign_or sign o.first) v)
+        (map (add_term c Γ) (parts ys))
+        (read_each (add_term c Γ) (λ (f : Step Value). (s : Value) (cs : List Change) (p : Value × List Change) → f
+        (sign_or sign o.first) s cs ≡ Yes p → More c cs p.1 (value_threatens s) (value_threatens p.0))
+        (λ y s cs p h. y.1 (sign_or sign o.first) s cs p h) ys) u.0.0 u.0.1 p u.2));
+    variable = λ cs p e. t.variable cs p (lone_variable sign (add_term c Γ) ys
+        (sign_or sign o.first) o.variable cs p e);
   }
 
   -- ---- each construct
@@ -439,105 +594,207 @@ module _ (c : Context) (Γ : List Region) where
   unfolding expr_threatens
   nil_adds cs = adds_none cs
 
-  members_more : (ys : List AtMember) (cs : List Change) (p : Gathered × List Change) → through gather ([], None) (map (member_at c Γ) (parts ys)) cs ≡ Yes p → More c cs p.1 [] (gathered_threatens p.0)
+  members_more : (ys : List AtMember) (cs : List Change) (p : Gathered × List Change) → through gather ([], None)
+      (map (member_at c Γ) (parts ys)) cs ≡ Yes p → More c cs p.1 [] (gathered_threatens p.0)
   unfolding members_threaten
   members_more ys cs p e = through_more gathered_threatens gather (map (member_at c Γ) (parts ys))
-      (read_each (member_at c Γ) (λ (m : SeenMember). (s : Gathered) (cs : List Change) (p : Gathered × List Change) → gather s m cs ≡ Yes p → More c cs p.1 (gathered_threatens s) (gathered_threatens p.0))
+      (read_each (member_at c Γ) (λ (m : SeenMember). (s : Gathered) (cs : List Change) (p : Gathered × List Change)
+      → gather s m cs ≡ Yes p → More c cs p.1 (gathered_threatens s) (gathered_threatens p.0))
       (λ y s cs p h. (let m = then_yes ((member_at c Γ y.0).member cs) _ p h in
-      still_more gathered_threatens _ cs m.0.1 (gathered_threatens s) (member_of m.0.0) p m.2 (y.1 cs m.0 m.1) (λ g k. gathered_both (member_at c Γ y.0).first s m.0.0 g k))) ys) ([], None) cs p e
+      still_more gathered_threatens _ cs m.0.1 (gathered_threatens s) (member_of m.0.0) p m.2 (y.1 cs m.0 m.1)
+      (λ g k. gathered_both (member_at c Γ y.0).first s m.0.0 g k))) ys) ([], None) cs p e
 
-  expr_layer : (y : Expr-F AtExpr AtFactor AtMember AtSelector AtAddedTerm AtMultipliedFactor AtSimple AtTerm AtVariable) → ExprHands (roll-Expr (map-Expr AtExpr AtFactor AtMember AtSelector AtAddedTerm AtMultipliedFactor AtSimple AtTerm AtVariable Expr Factor Member Selector AddedTerm MultipliedFactor Simple Term syntax.Variable (λ x. x.0) (λ x. x.0) (λ x. x.0) (λ x. x.0) (λ x. x.0) (λ x. x.0) (λ x. x.0) (λ x. x.0) (λ x. x.0) y))
-  expr_layer (Expr-F.Simple x) = hands_by (operand c Γ (roll-Expr (Expr-F.Simple x.0))) (simple_operand c Γ x.0) (ap (operand c Γ) (e.rolls-Simple x.0) ∙ operand_simple c Γ x.0) x.1
+  expr_layer : (y : Expr-F AtExpr AtFactor AtMember AtSelector AtAddedTerm AtMultipliedFactor AtSimple AtTerm
+      AtVariable) → ExprHands (roll-Expr (map-Expr AtExpr AtFactor AtMember AtSelector AtAddedTerm AtMultipliedFactor
+      AtSimple AtTerm AtVariable Expr Factor Member Selector AddedTerm MultipliedFactor Simple Term syntax.Variable
+      (λ x. x.0) (λ x. x.0) (λ x. x.0) (λ x. x.0) (λ x. x.0) (λ x. x.0) (λ x. x.0) (λ x. x.0) (λ x. x.0) y))
+  expr_layer (Expr-F.Simple x) = hands_by (operand c Γ (roll-Expr (Expr-F.Simple x.0))) (simple_operand c Γ x.0)
+      (ap (operand c Γ) (e.rolls-Simple x.0) ∙ operand_simple c Γ x.0) x.1
   expr_layer (Expr-F.Compare x r at y) =
-      hands_by (operand c Γ (roll-Expr (Expr-F.Compare x.0 r at y.0))) _ (ap (operand c Γ) (e.rolls-Compare x.0 r at y.0) ∙ operand_compare c Γ x.0 r at y.0)
+      hands_by (operand c Γ (roll-Expr (Expr-F.Compare x.0 r at y.0))) _
+      (ap (operand c Γ) (e.rolls-Compare x.0 r at y.0) ∙ operand_compare c Γ x.0 r at y.0)
       (of_plain _ _ (λ cs p h. (let a = then_yes ((simple_operand c Γ x.0).value cs) _ p h in
       let b = then_yes ((simple_operand c Γ y.0).value a.0.1) _ p a.2 in
-      still_adds value_threatens _ cs b.0.1 (value_threatens a.0.0 ++ value_threatens b.0.0) p b.2 (adds_both cs a.0.1 b.0.1 (value_threatens a.0.0) (value_threatens b.0.0) (x.1.value cs a.0 a.1) (y.1.value a.0.1 b.0 b.1)) (λ v g. compared_both _ r a.0.0 b.0.0 v g))))
+      still_adds value_threatens _ cs b.0.1 (value_threatens a.0.0 ++ value_threatens b.0.0) p b.2
+      (adds_both cs a.0.1 b.0.1 (value_threatens a.0.0) (value_threatens b.0.0) (x.1.value cs a.0 a.1)
+      (y.1.value a.0.1 b.0 b.1)) (λ v g. compared_both _ r a.0.0 b.0.0 v g))))
 
-  factor_layer : (y : Factor-F AtExpr AtFactor AtMember AtSelector AtAddedTerm AtMultipliedFactor AtSimple AtTerm AtVariable) → FactorHands (roll-Factor (map-Factor AtExpr AtFactor AtMember AtSelector AtAddedTerm AtMultipliedFactor AtSimple AtTerm AtVariable Expr Factor Member Selector AddedTerm MultipliedFactor Simple Term syntax.Variable (λ x. x.0) (λ x. x.0) (λ x. x.0) (λ x. x.0) (λ x. x.0) (λ x. x.0) (λ x. x.0) (λ x. x.0) (λ x. x.0) y))
+  factor_layer : (y : Factor-F AtExpr AtFactor AtMember AtSelector AtAddedTerm AtMultipliedFactor AtSimple AtTerm
+      AtVariable) → FactorHands (roll-Factor (map-Factor AtExpr AtFactor AtMember AtSelector AtAddedTerm
+      AtMultipliedFactor AtSimple AtTerm AtVariable Expr Factor Member Selector AddedTerm MultipliedFactor Simple Term
+      syntax.Variable (λ x. x.0) (λ x. x.0) (λ x. x.0) (λ x. x.0) (λ x. x.0) (λ x. x.0) (λ x. x.0) (λ x. x.0)
+      (λ x. x.0) y))
   factor_layer (Factor-F.Variable x) =
-      hands_by (factor_operand c Γ (roll-Factor (Factor-F.Variable x.0))) _ (ap (factor_operand c Γ) (f.rolls-Variable x.0) ∙ factor_variable c Γ x.0)
+      hands_by (factor_operand c Γ (roll-Factor (Factor-F.Variable x.0))) _
+      (ap (factor_operand c Γ) (f.rolls-Variable x.0) ∙ factor_variable c Γ x.0)
       x.1
   factor_layer (Factor-F.Call at ys) =
-      hands_by (factor_operand c Γ (roll-Factor (Factor-F.Call at (parts ys)))) _ (ap (factor_operand c Γ) (f.rolls-Call at (parts ys)) ∙ factor_call c Γ at (parts ys))
+      hands_by (factor_operand c Γ (roll-Factor (Factor-F.Call at (parts ys)))) _
+      (ap (factor_operand c Γ) (f.rolls-Call at (parts ys)) ∙ factor_call c Γ at (parts ys))
       (of_plain _ _ (λ cs p h. (let q = then_still (denoted c Γ at) cs _ p h in called_adds at.from q.0 ys cs p q.2)))
   factor_layer (Factor-F.Number at) =
-      hands_by (factor_operand c Γ (roll-Factor (Factor-F.Number at))) _ (ap (factor_operand c Γ) (f.rolls-Number at) ∙ factor_number c Γ at)
-      (of_plain _ _ (λ cs p h. still_adds value_threatens _ cs cs [] p h (adds_none cs) (λ v g. constant_threatens at.from _ v g)))
+      hands_by (factor_operand c Γ (roll-Factor (Factor-F.Number at))) _
+      (ap (factor_operand c Γ) (f.rolls-Number at) ∙ factor_number c Γ at)
+      (of_plain _ _ (λ cs p h. still_adds value_threatens _ cs cs [] p h (adds_none cs)
+      (λ v g. constant_threatens at.from _ v g)))
   factor_layer (Factor-F.Text at) =
-      hands_by (factor_operand c Γ (roll-Factor (Factor-F.Text at))) _ (ap (factor_operand c Γ) (f.rolls-Text at) ∙ factor_text c Γ at)
-      (of_plain _ _ (λ cs p h. still_adds value_threatens _ cs cs [] p h (adds_none cs) (λ v g. constant_threatens at.from _ v g)))
+      hands_by (factor_operand c Γ (roll-Factor (Factor-F.Text at))) _
+      (ap (factor_operand c Γ) (f.rolls-Text at) ∙ factor_text c Γ at)
+      (of_plain _ _ (λ cs p h. still_adds value_threatens _ cs cs [] p h (adds_none cs)
+      (λ v g. constant_threatens at.from _ v g)))
   factor_layer (Factor-F.Nil at) =
-      hands_by (factor_operand c Γ (roll-Factor (Factor-F.Nil at))) _ (ap (factor_operand c Γ) (f.rolls-Nil at) ∙ factor_nil c Γ at)
+      hands_by (factor_operand c Γ (roll-Factor (Factor-F.Nil at))) _
+      (ap (factor_operand c Γ) (f.rolls-Nil at) ∙ factor_nil c Γ at)
       (of_plain _ _ (λ cs p h. made_adds value_threatens _ cs cs p h (nil_adds cs)))
   factor_layer (Factor-F.Set at ys) =
-      hands_by (factor_operand c Γ (roll-Factor (Factor-F.Set at (parts ys)))) _ (ap (factor_operand c Γ) (f.rolls-Set at (parts ys)) ∙ factor_set c Γ at (parts ys))
-      (of_plain _ _ (λ cs p h. (let g = then_yes (through gather ([], None) (map (member_at c Γ) (parts ys)) cs) _ p h in
+      hands_by (factor_operand c Γ (roll-Factor (Factor-F.Set at (parts ys)))) _
+      (ap (factor_operand c Γ) (f.rolls-Set at (parts ys)) ∙ factor_set c Γ at (parts ys))
+      (of_plain _ _ (λ cs p h. (let g = then_yes (through gather ([], None) (map (member_at c Γ) (parts ys)) cs) _ p h
+      in
       let all = adds_all cs g.0.1 (gathered_threatens g.0.0) (members_more ys cs g.0 g.1) in
-      made_adds value_threatens (constructed g.0.0) cs g.0.1 p g.2 (adds_as cs g.0.1 (gathered_threatens g.0.0) (value_threatens (constructed g.0.0)) (sym (constructed_threatens g.0.0)) all))))
+      made_adds value_threatens (constructed g.0.0) cs g.0.1 p g.2
+      (adds_as cs g.0.1 (gathered_threatens g.0.0) (value_threatens (constructed g.0.0))
+      (sym (constructed_threatens g.0.0)) all))))
   factor_layer (Factor-F.Group at n x) =
-      hands_by (factor_operand c Γ (roll-Factor (Factor-F.Group at n x.0))) _ (ap (factor_operand c Γ) (f.rolls-Group at n x.0) ∙ factor_group c Γ at n x.0)
+      hands_by (factor_operand c Γ (roll-Factor (Factor-F.Group at n x.0))) _
+      (ap (factor_operand c Γ) (f.rolls-Group at n x.0) ∙ factor_group c Γ at n x.0)
       (of_plain _ _ (λ cs p h. x.1.value cs p h))
   factor_layer (Factor-F.Not at x) =
-      hands_by (factor_operand c Γ (roll-Factor (Factor-F.Not at x.0))) _ (ap (factor_operand c Γ) (f.rolls-Not at x.0) ∙ factor_not c Γ at x.0)
-      (of_plain _ _ (λ cs p h. (let a = then_yes ((factor_operand c Γ x.0).value cs) _ p h in still_adds value_threatens _ cs a.0.1 (value_threatens a.0.0) p a.2 (x.1.value cs a.0 a.1) (λ v g. negated_threatens _ a.0.0 v g))))
+      hands_by (factor_operand c Γ (roll-Factor (Factor-F.Not at x.0))) _
+      (ap (factor_operand c Γ) (f.rolls-Not at x.0) ∙ factor_not c Γ at x.0)
+      (of_plain _ _ (λ cs p h. (let a = then_yes ((factor_operand c Γ x.0).value cs) _ p h
+      in still_adds value_threatens _ cs a.0.1 (value_threatens a.0.0) p a.2 (x.1.value cs a.0 a.1)
+      (λ v g. negated_threatens _ a.0.0 v g))))
 
-  member_layer : (y : Member-F AtExpr AtFactor AtMember AtSelector AtAddedTerm AtMultipliedFactor AtSimple AtTerm AtVariable) → MemberHands (roll-Member (map-Member AtExpr AtFactor AtMember AtSelector AtAddedTerm AtMultipliedFactor AtSimple AtTerm AtVariable Expr Factor Member Selector AddedTerm MultipliedFactor Simple Term syntax.Variable (λ x. x.0) (λ x. x.0) (λ x. x.0) (λ x. x.0) (λ x. x.0) (λ x. x.0) (λ x. x.0) (λ x. x.0) (λ x. x.0) y))
+  member_layer : (y : Member-F AtExpr AtFactor AtMember AtSelector AtAddedTerm AtMultipliedFactor AtSimple AtTerm
+      AtVariable) → MemberHands (roll-Member (map-Member AtExpr AtFactor AtMember AtSelector AtAddedTerm
+      AtMultipliedFactor AtSimple AtTerm AtVariable Expr Factor Member Selector AddedTerm MultipliedFactor Simple Term
+      syntax.Variable (λ x. x.0) (λ x. x.0) (λ x. x.0) (λ x. x.0) (λ x. x.0) (λ x. x.0) (λ x. x.0) (λ x. x.0)
+      (λ x. x.0) y))
   member_layer (Member-F.One x) cs p h =
-      let a = then_yes ((operand c Γ x.0).value cs) _ p (sym (ap (λ (s : SeenMember). s.member cs) (ap (member_at c Γ) (m.rolls-One x.0) ∙ member_single c Γ x.0)) ∙ h) in
-      still_adds member_of _ cs a.0.1 (value_threatens a.0.0) p a.2 (x.1.value cs a.0 a.1) (λ v g. single_threatens _ a.0.0 _ v g)
+      let a = then_yes ((operand c Γ x.0).value cs) _ p
+      (sym (ap (λ (s : SeenMember). s.member cs) (ap (member_at c Γ) (m.rolls-One x.0) ∙ member_single c Γ x.0))
+      ∙ h) in
+      still_adds member_of _ cs a.0.1 (value_threatens a.0.0) p a.2 (x.1.value cs a.0 a.1)
+      (λ v g. single_threatens _ a.0.0 _ v g)
   member_layer (Member-F.Range x y) cs p h =
-      let a = then_yes ((operand c Γ x.0).value cs) _ p (sym (ap (λ (s : SeenMember). s.member cs) (ap (member_at c Γ) (m.rolls-Range x.0 y.0) ∙ member_several c Γ x.0 y.0)) ∙ h) in
+      let a = then_yes ((operand c Γ x.0).value cs) _ p
+      (sym (ap (λ (s : SeenMember). s.member cs)
+      (ap (member_at c Γ) (m.rolls-Range x.0 y.0) ∙ member_several c Γ x.0 y.0)) ∙ h) in
       let b = then_yes ((operand c Γ y.0).value a.0.1) _ p a.2 in
-      still_adds member_of _ cs b.0.1 (value_threatens a.0.0 ++ value_threatens b.0.0) p b.2 (adds_both cs a.0.1 b.0.1 (value_threatens a.0.0) (value_threatens b.0.0) (x.1.value cs a.0 a.1) (y.1.value a.0.1 b.0 b.1))
+      still_adds member_of _ cs b.0.1 (value_threatens a.0.0 ++ value_threatens b.0.0) p b.2
+      (adds_both cs a.0.1 b.0.1 (value_threatens a.0.0) (value_threatens b.0.0) (x.1.value cs a.0 a.1)
+      (y.1.value a.0.1 b.0 b.1))
       (λ v g. several_threaten _ _ a.0.0 b.0.0 _ v g)
 
-  selector_layer : (y : Selector-F AtExpr AtFactor AtMember AtSelector AtAddedTerm AtMultipliedFactor AtSimple AtTerm AtVariable) → SelectorHands (roll-Selector (map-Selector AtExpr AtFactor AtMember AtSelector AtAddedTerm AtMultipliedFactor AtSimple AtTerm AtVariable Expr Factor Member Selector AddedTerm MultipliedFactor Simple Term syntax.Variable (λ x. x.0) (λ x. x.0) (λ x. x.0) (λ x. x.0) (λ x. x.0) (λ x. x.0) (λ x. x.0) (λ x. x.0) (λ x. x.0) y))
+  selector_layer : (y : Selector-F AtExpr AtFactor AtMember AtSelector AtAddedTerm AtMultipliedFactor AtSimple AtTerm
+      AtVariable) → SelectorHands (roll-Selector
+      (map-Selector AtExpr AtFactor AtMember AtSelector AtAddedTerm AtMultipliedFactor AtSimple AtTerm AtVariable Expr
+      Factor Member Selector AddedTerm MultipliedFactor Simple Term syntax.Variable (λ x. x.0) (λ x. x.0) (λ x. x.0)
+      (λ x. x.0) (λ x. x.0) (λ x. x.0) (λ x. x.0) (λ x. x.0) (λ x. x.0) y))
   selector_layer (Selector-F.Index ys) first v cs p h =
-      let is = ap (λ (g : Step Variable). g first v cs) (ap (select c Γ) (s.rolls-Index (parts ys)) ∙ select_index c Γ (parts ys)) in
+      let is = ap (λ (g : Step Variable). g first v cs)
+      (ap (select c Γ) (s.rolls-Index (parts ys)) ∙ select_index c Γ (parts ys)) in
       through_more place_of (indexed c Γ first) (map (operand c Γ) (parts ys))
-      (read_each (operand c Γ) (λ (x : Operand). (s : Variable) (cs : List Change) (p : Variable × List Change) → indexed c Γ first s x cs ≡ Yes p → More c cs p.1 (place_of s) (place_of p.0))
+      (read_each (operand c Γ) (λ (x : Operand). (s : Variable) (cs : List Change) (p : Variable × List Change)
+      → indexed c Γ first s x cs ≡ Yes p → More c cs p.1 (place_of s) (place_of p.0))
       (λ y s cs p e. (let a = then_yes ((operand c Γ y.0).value cs) _ p e in
-      still_more place_of _ cs a.0.1 (place_of s) (value_threatens a.0.0) p a.2 (y.1.value cs a.0 a.1) (λ w g. element_both _ s.place s.type a.0.0 _ w g))) ys) v cs p (sym is ∙ h)
+      still_more place_of _ cs a.0.1 (place_of s) (value_threatens a.0.0) p a.2 (y.1.value cs a.0 a.1)
+      (λ w g. element_both _ s.place s.type a.0.0 _ w g))) ys) v cs p (sym is ∙ h)
   selector_layer (Selector-F.Field at) first v cs p h =
       let is = ap (λ (g : Step Variable). g first v cs) (ap (select c Γ) (s.rolls-Field at) ∙ select_field c Γ at) in
-      still_more place_of _ cs cs (place_of v) [] p (sym is ∙ h) (adds_none cs) (λ w g. component_same first at.from v.place v.type _ w g ∙ sym (append-nil (place_of v)))
+      still_more place_of _ cs cs (place_of v) [] p (sym is ∙ h) (adds_none cs)
+      (λ w g. component_same first at.from v.place v.type _ w g ∙ sym (append-nil (place_of v)))
   selector_layer (Selector-F.Content at) first v cs p h =
-      let is = ap (λ (g : Step Variable). g first v cs) (ap (select c Γ) (s.rolls-Content at) ∙ select_content c Γ at) in
-      still_more place_of _ cs cs (place_of v) [] p (sym is ∙ h) (adds_none cs) (λ w g. target_same first c.domains v.place v.type _ w g ∙ sym (append-nil (place_of v)))
+      let is = ap (λ (g : Step Variable). g first v cs) (ap (select c Γ) (s.rolls-Content at) ∙ select_content c Γ at)
+      in
+      still_more place_of _ cs cs (place_of v) [] p (sym is ∙ h) (adds_none cs)
+      (λ w g. target_same first c.domains v.place v.type _ w g ∙ sym (append-nil (place_of v)))
 
-  added_layer : (y : AddedTerm-F AtExpr AtFactor AtMember AtSelector AtAddedTerm AtMultipliedFactor AtSimple AtTerm AtVariable) → AddedTermHands (roll-AddedTerm (map-AddedTerm AtExpr AtFactor AtMember AtSelector AtAddedTerm AtMultipliedFactor AtSimple AtTerm AtVariable Expr Factor Member Selector AddedTerm MultipliedFactor Simple Term syntax.Variable (λ x. x.0) (λ x. x.0) (λ x. x.0) (λ x. x.0) (λ x. x.0) (λ x. x.0) (λ x. x.0) (λ x. x.0) (λ x. x.0) y))
+  added_layer : (y : AddedTerm-F AtExpr AtFactor AtMember AtSelector AtAddedTerm AtMultipliedFactor AtSimple AtTerm
+      AtVariable) → AddedTermHands (roll-AddedTerm
+      (map-AddedTerm AtExpr AtFactor AtMember AtSelector AtAddedTerm AtMultipliedFactor AtSimple AtTerm AtVariable Expr
+      Factor Member Selector AddedTerm MultipliedFactor Simple Term syntax.Variable (λ x. x.0) (λ x. x.0) (λ x. x.0)
+      (λ x. x.0) (λ x. x.0) (λ x. x.0) (λ x. x.0) (λ x. x.0) (λ x. x.0) y))
   added_layer y first v cs p h =
-      let z : AddedTerm-F Expr Factor Member Selector AddedTerm MultipliedFactor Simple Term syntax.Variable = record { operator = y.operator; at = y.at; term = y.term.0 } in
-      let is = subst (λ (q : AddedTerm-F Expr Factor Member Selector AddedTerm MultipliedFactor Simple Term syntax.Variable). ((term_operand c Γ q.term).value >>= (λ w. still (added (operands first (term_operand c Γ q.term).first) q.operator (line_in c.text q.at.from) v w))) cs ≡ Yes p) (out-roll-AddedTerm z) (sym (ap (λ (m : Changing Value). m cs) (add_term_is c Γ (roll-AddedTerm z) first v)) ∙ h) in
+      let z : AddedTerm-F Expr Factor Member Selector AddedTerm MultipliedFactor Simple Term syntax.Variable = record {
+        operator = y.operator;
+        at = y.at;
+        term = y.term.0;
+      } in
+      let is = subst (λ (q : AddedTerm-F Expr Factor Member Selector AddedTerm MultipliedFactor Simple Term
+      syntax.Variable). ((term_operand c Γ q.term).value
+      >>= (λ w. still (added (operands first (term_operand c Γ q.term).first) q.operator
+      (line_in c.text q.at.from) v w))) cs ≡ Yes p) (out-roll-AddedTerm z)
+      (sym (ap (λ (m : Changing Value). m cs) (add_term_is c Γ (roll-AddedTerm z) first v)) ∙ h) in
       let a = then_yes ((term_operand c Γ y.term.0).value cs) _ p is in
-      still_more value_threatens _ cs a.0.1 (value_threatens v) (value_threatens a.0.0) p a.2 (y.term.1.value cs a.0 a.1) (λ w g. added_both _ y.operator _ v a.0.0 w g)
+      still_more value_threatens _ cs a.0.1 (value_threatens v) (value_threatens a.0.0) p a.2
+      (y.term.1.value cs a.0 a.1) (λ w g. added_both _ y.operator _ v a.0.0 w g)
 
-  multiplied_layer : (y : MultipliedFactor-F AtExpr AtFactor AtMember AtSelector AtAddedTerm AtMultipliedFactor AtSimple AtTerm AtVariable) → MultipliedFactorHands (roll-MultipliedFactor (map-MultipliedFactor AtExpr AtFactor AtMember AtSelector AtAddedTerm AtMultipliedFactor AtSimple AtTerm AtVariable Expr Factor Member Selector AddedTerm MultipliedFactor Simple Term syntax.Variable (λ x. x.0) (λ x. x.0) (λ x. x.0) (λ x. x.0) (λ x. x.0) (λ x. x.0) (λ x. x.0) (λ x. x.0) (λ x. x.0) y))
+  multiplied_layer : (y : MultipliedFactor-F AtExpr AtFactor AtMember AtSelector AtAddedTerm AtMultipliedFactor AtSimple
+      AtTerm AtVariable) → MultipliedFactorHands
+      (roll-MultipliedFactor (map-MultipliedFactor AtExpr AtFactor AtMember AtSelector AtAddedTerm AtMultipliedFactor
+      AtSimple AtTerm AtVariable Expr Factor Member Selector AddedTerm MultipliedFactor Simple Term syntax.Variable
+      (λ x. x.0) (λ x. x.0) (λ x. x.0) (λ x. x.0) (λ x. x.0) (λ x. x.0) (λ x. x.0) (λ x. x.0) (λ x. x.0) y))
   multiplied_layer y first v cs p h =
-      let z : MultipliedFactor-F Expr Factor Member Selector AddedTerm MultipliedFactor Simple Term syntax.Variable = record { operator = y.operator; at = y.at; factor = y.factor.0 } in
-      let a = then_yes ((factor_operand c Γ y.factor.0).value cs) _ p (sym (ap (λ (m : Changing Value). m cs) (multiply_factor_is c Γ (roll-MultipliedFactor z) first v)) ∙ h) in
-      still_more value_threatens _ cs a.0.1 (value_threatens v) (value_threatens a.0.0) p a.2 (y.factor.1.value cs a.0 a.1) (λ w g. multiplied_both _ y.operator _ v a.0.0 w g)
+      let z : MultipliedFactor-F Expr Factor Member Selector AddedTerm MultipliedFactor Simple Term syntax.Variable =
+      record {
+        operator = y.operator;
+        at = y.at;
+        factor = y.factor.0;
+      } in
+      let a = then_yes ((factor_operand c Γ y.factor.0).value cs) _ p
+      (sym (ap (λ (m : Changing Value). m cs) (multiply_factor_is c Γ (roll-MultipliedFactor z) first v)) ∙ h) in
+      still_more value_threatens _ cs a.0.1 (value_threatens v) (value_threatens a.0.0) p a.2
+      (y.factor.1.value cs a.0 a.1) (λ w g. multiplied_both _ y.operator _ v a.0.0 w g)
 
-  simple_layer : (y : Simple-F AtExpr AtFactor AtMember AtSelector AtAddedTerm AtMultipliedFactor AtSimple AtTerm AtVariable) → SimpleHands (roll-Simple (map-Simple AtExpr AtFactor AtMember AtSelector AtAddedTerm AtMultipliedFactor AtSimple AtTerm AtVariable Expr Factor Member Selector AddedTerm MultipliedFactor Simple Term syntax.Variable (λ x. x.0) (λ x. x.0) (λ x. x.0) (λ x. x.0) (λ x. x.0) (λ x. x.0) (λ x. x.0) (λ x. x.0) (λ x. x.0) y))
+  simple_layer : (y : Simple-F AtExpr AtFactor AtMember AtSelector AtAddedTerm AtMultipliedFactor AtSimple AtTerm
+      AtVariable) → SimpleHands (roll-Simple (map-Simple AtExpr AtFactor AtMember AtSelector AtAddedTerm
+      AtMultipliedFactor AtSimple AtTerm AtVariable Expr Factor Member Selector AddedTerm MultipliedFactor Simple Term
+      syntax.Variable (λ x. x.0) (λ x. x.0) (λ x. x.0) (λ x. x.0) (λ x. x.0) (λ x. x.0) (λ x. x.0) (λ x. x.0)
+      (λ x. x.0) y))
   simple_layer y =
-      let z : Simple-F Expr Factor Member Selector AddedTerm MultipliedFactor Simple Term syntax.Variable = record { sign = y.sign; first = y.first.0; more = parts y.more } in
-      let is = simple_is c Γ (roll-Simple z) ∙ ap (λ (q : Simple-F Expr Factor Member Selector AddedTerm MultipliedFactor Simple Term syntax.Variable). simple_seen c Γ q.sign (term_operand c Γ q.first) (map (add_term c Γ) q.more)) (out-roll-Simple z) in
-      hands_by (simple_operand c Γ (roll-Simple z)) _ is (seen_simple y.sign (term_operand c Γ y.first.0) y.first.1 y.more)
+      let z : Simple-F Expr Factor Member Selector AddedTerm MultipliedFactor Simple Term syntax.Variable = record {
+        sign = y.sign;
+        first = y.first.0;
+        more = parts y.more;
+      } in
+      let is = simple_is c Γ (roll-Simple z) ∙ ap (λ
+      (q : Simple-F Expr Factor Member Selector AddedTerm MultipliedFactor Simple Term syntax.Variable). simple_seen
+      c Γ q.sign (term_operand c Γ q.first) (map (add_term c Γ) q.more)) (out-roll-Simple z) in
+      hands_by (simple_operand c Γ (roll-Simple z)) _ is
+      (seen_simple y.sign (term_operand c Γ y.first.0) y.first.1 y.more)
 
-  term_layer : (y : Term-F AtExpr AtFactor AtMember AtSelector AtAddedTerm AtMultipliedFactor AtSimple AtTerm AtVariable) → TermHands (roll-Term (map-Term AtExpr AtFactor AtMember AtSelector AtAddedTerm AtMultipliedFactor AtSimple AtTerm AtVariable Expr Factor Member Selector AddedTerm MultipliedFactor Simple Term syntax.Variable (λ x. x.0) (λ x. x.0) (λ x. x.0) (λ x. x.0) (λ x. x.0) (λ x. x.0) (λ x. x.0) (λ x. x.0) (λ x. x.0) y))
+  term_layer : (y : Term-F AtExpr AtFactor AtMember AtSelector AtAddedTerm AtMultipliedFactor AtSimple AtTerm
+      AtVariable) → TermHands (roll-Term (map-Term AtExpr AtFactor AtMember AtSelector AtAddedTerm AtMultipliedFactor
+      AtSimple AtTerm AtVariable Expr Factor Member Selector AddedTerm MultipliedFactor Simple Term syntax.Variable
+      (λ x. x.0) (λ x. x.0) (λ x. x.0) (λ x. x.0) (λ x. x.0) (λ x. x.0) (λ x. x.0) (λ x. x.0) (λ x. x.0) y))
   term_layer y =
-      let z : Term-F Expr Factor Member Selector AddedTerm MultipliedFactor Simple Term syntax.Variable = record { first = y.first.0; more = parts y.more } in
-      let is = term_is c Γ (roll-Term z) ∙ ap (λ (q : Term-F Expr Factor Member Selector AddedTerm MultipliedFactor Simple Term syntax.Variable). term_seen c Γ (factor_operand c Γ q.first) (map (multiply_factor c Γ) q.more)) (out-roll-Term z) in
+      let z : Term-F Expr Factor Member Selector AddedTerm MultipliedFactor Simple Term syntax.Variable = record {
+        first = y.first.0;
+        more = parts y.more;
+      } in
+      let is = term_is c Γ (roll-Term z) ∙ ap (λ
+      (q : Term-F Expr Factor Member Selector AddedTerm MultipliedFactor Simple Term syntax.Variable). term_seen c Γ
+      (factor_operand c Γ q.first) (map (multiply_factor c Γ) q.more)) (out-roll-Term z) in
       hands_by (term_operand c Γ (roll-Term z)) _ is (seen_term (factor_operand c Γ y.first.0) y.first.1 y.more)
 
-  variable_layer : (y : Variable-F AtExpr AtFactor AtMember AtSelector AtAddedTerm AtMultipliedFactor AtSimple AtTerm AtVariable) → VariableHands (roll-Variable (map-Variable AtExpr AtFactor AtMember AtSelector AtAddedTerm AtMultipliedFactor AtSimple AtTerm AtVariable Expr Factor Member Selector AddedTerm MultipliedFactor Simple Term syntax.Variable (λ x. x.0) (λ x. x.0) (λ x. x.0) (λ x. x.0) (λ x. x.0) (λ x. x.0) (λ x. x.0) (λ x. x.0) (λ x. x.0) y))
+  variable_layer : (y : Variable-F AtExpr AtFactor AtMember AtSelector AtAddedTerm AtMultipliedFactor AtSimple AtTerm
+      AtVariable) → VariableHands (roll-Variable
+      (map-Variable AtExpr AtFactor AtMember AtSelector AtAddedTerm AtMultipliedFactor AtSimple AtTerm AtVariable Expr
+      Factor Member Selector AddedTerm MultipliedFactor Simple Term syntax.Variable (λ x. x.0) (λ x. x.0) (λ x. x.0)
+      (λ x. x.0) (λ x. x.0) (λ x. x.0) (λ x. x.0) (λ x. x.0) (λ x. x.0) y))
   variable_layer y =
-      let z : Variable-F Expr Factor Member Selector AddedTerm MultipliedFactor Simple Term syntax.Variable = record { name = y.name; selectors = parts y.selectors } in
-      hands_by (variable_operand c Γ (roll-Variable z)) _ (variable_is c Γ (roll-Variable z)) (seen_variable y.name y.selectors)
+      let z : Variable-F Expr Factor Member Selector AddedTerm MultipliedFactor Simple Term syntax.Variable = record {
+        name = y.name;
+        selectors = parts y.selectors;
+      } in
+      hands_by (variable_operand c Γ (roll-Variable z)) _ (variable_is c Γ (roll-Variable z))
+      (seen_variable y.name y.selectors)
 
   pub exprs_hand : (x : Expr) → ExprHands x
-  exprs_hand = ind-Expr ExprHands FactorHands MemberHands SelectorHands AddedTermHands MultipliedFactorHands SimpleHands TermHands VariableHands
+  exprs_hand = ind-Expr ExprHands FactorHands MemberHands SelectorHands AddedTermHands MultipliedFactorHands SimpleHands
+      TermHands VariableHands
       (λ x y is. subst (λ z. ExprHands (roll-Expr z)) is (expr_layer y))
       (λ x y is. subst (λ z. FactorHands (roll-Factor z)) is (factor_layer y))
       (λ x y is. subst (λ z. MemberHands (roll-Member z)) is (member_layer y))
@@ -549,7 +806,8 @@ module _ (c : Context) (Γ : List Region) where
       (λ x y is. subst (λ z. VariableHands (roll-Variable z)) is (variable_layer y))
 
   pub variables_hand : (x : syntax.Variable) → VariableHands x
-  variables_hand = ind-Variable ExprHands FactorHands MemberHands SelectorHands AddedTermHands MultipliedFactorHands SimpleHands TermHands VariableHands
+  variables_hand = ind-Variable ExprHands FactorHands MemberHands SelectorHands AddedTermHands MultipliedFactorHands
+      SimpleHands TermHands VariableHands
       (λ x y is. subst (λ z. ExprHands (roll-Expr z)) is (expr_layer y))
       (λ x y is. subst (λ z. FactorHands (roll-Factor z)) is (factor_layer y))
       (λ x y is. subst (λ z. MemberHands (roll-Member z)) is (member_layer y))

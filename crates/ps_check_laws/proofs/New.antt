@@ -1,11 +1,13 @@
--- Points that are each new where they stand are added to the names of their region as they are.
-use Rattle.std.proofs.Common.{◌≡◌, ℕ, ◌+◌, Bool, true, false, not, ◌&&◌, List, [], ◌∷◌, ◌++◌, length, map, take, refl, sym, ap, ◌∙◌, append_assoc, append-nil, length-append, arith}
+-- Points that are each new at their place are added to the names of their region as they are.
+use Rattle.std.proofs.Common.{◌≡◌, ℕ, ◌+◌, Bool, true, false, not, ◌&&◌, List, [], ◌∷◌, ◌++◌, length, map, take, refl}
+use Rattle.std.proofs.Common.{sym, ap, ◌∙◌, append_assoc, append-nil, length-append, arith}
 use Rattle.std.specs.Prelude.{if◌then◌else◌}
 use Rattle.ps_check_judgement.specs.declared.refusal.Rule.TheVariants.{Twice}
 use Rattle.ps_check_judgement.specs.Judged.{Yes}
 use Rattle.ps_check_judgement.proofs.Binds.{inside_yes, then_yes, provided_yes}
 use Rattle.ps_check_names.specs.Spelling.{spelled, has}
-use Rattle.ps_check_declarations.specs.Points.{Points, add_name, add_point, add_points, is_later, is_new, new_point, new_points}
+use Rattle.ps_check_declarations.specs.Points.{Points, add_name, add_point, add_points, is_later, is_new, new_point}
+use Rattle.ps_check_declarations.specs.Points.{new_points}
 use Rattle.ps_check.specs.RegionNames.{Each}
 
 abbrev pub Names : Type 0
@@ -30,7 +32,7 @@ take_first : {A : Type 0} (xs ys : List A) → take (length xs) (xs ++ ys) ≡ x
 take_first [] ys = refl
 take_first (x ∷ xs) ys = ap (λ l. x ∷ l) (take_first xs ys)
 
--- ---- names are added behind those that are there
+-- ---- names are added after those that are there
 
 abbrev pub Appends : (Names → Names) → Type 0
 Appends K = (A : Names) → (more : Names) × (K A ≡ A ++ more)
@@ -51,9 +53,11 @@ name_appends s A = at (has A s)
 pub points_append : (text : List ℕ) (ps : Points) → Appends (λ A. add_points text A ps)
 unfolding add_points
 points_append text [] A = ([], sym (append-nil A))
-points_append text (p ∷ ps) A = appends_both (λ B. add_points text B ps) (λ B. add_point text B p) (points_append text ps) (name_appends (spelled text p)) A
+points_append text (p ∷ ps) A = appends_both (λ B. add_points text B ps) (λ B. add_point text B p)
+    (points_append text ps) (name_appends (spelled text p)) A
 
-pub points_both : (text : List ℕ) (ps qs : Points) (A : Names) → add_points text A (ps ++ qs) ≡ add_points text (add_points text A ps) qs
+pub points_both : (text : List ℕ) (ps qs : Points) (A : Names) → add_points text A (ps ++ qs) ≡ add_points text
+    (add_points text A ps) qs
 unfolding add_points
 points_both text [] qs A = refl
 points_both text (p ∷ ps) qs A = points_both text ps qs (add_point text A p)
@@ -66,12 +70,15 @@ module _ (text : List ℕ) (N begun : Names) where
     pub absent : has A s ≡ false
     pub unbegun : has begun s ≡ false
 
-  pub is_new_behind : (A more : Names) (s : List ℕ) (count : ℕ) → N ≡ A ++ more → length A ≡ count → is_new N begun count s ≡ true → IsNew A s
+  pub is_new_behind : (A more : Names) (s : List ℕ) (count : ℕ) → N ≡ A ++ more → length A ≡ count
+      → is_new N begun count s ≡ true → IsNew A s
   is_new_behind A more s count whole many e =
-      let first : take count N ≡ A = ap (take count) whole ∙ ap (λ n. take n (A ++ more)) (sym many) ∙ take_first A more in
+      let first : take count N ≡ A = ap (take count) whole ∙ ap (λ n. take n (A ++ more)) (sym many) ∙ take_first A more
+      in
       let later = and_left (is_later N count s) (not (has begun s)) e in
       record {
-        absent = sym (ap (λ l. has l s) first) ∙ not_true (has (take count N) s) (and_right (has N s) (not (has (take count N) s)) later);
+        absent = sym (ap (λ l. has l s) first) ∙ not_true (has (take count N) s)
+            (and_right (has N s) (not (has (take count N) s)) later);
         unbegun = not_true (has begun s) (and_right (is_later N count s) (not (has begun s)) e);
       }
 
@@ -81,10 +88,15 @@ module _ (text : List ℕ) (N begun : Names) where
     pub many : n ≡ count + length ps
     pub unbegun : Each (λ p. has begun (spelled text p) ≡ false) ps
 
-  -- where more names come behind them
-  pub are_new : (K : Names → Names) → Appends K → (ps : Points) (A : Names) (count n : ℕ) → N ≡ K (add_points text A ps) → length A ≡ count → new_points text N begun count ps ≡ Yes n → AreNew A count ps n
+  -- where more names come after them
+  pub are_new : (K : Names → Names) → Appends K → (ps : Points) (A : Names) (count n : ℕ) → N ≡ K (add_points text A ps)
+      → length A ≡ count → new_points text N begun count ps ≡ Yes n → AreNew A count ps n
   unfolding add_points new_points
-  are_new K appends [] A count n whole many e = record { added = sym (append-nil A); many = (let z = inside_yes count n e in omega (arith, z)); unbegun = tt }
+  are_new K appends [] A count n whole many e = record {
+    added = sym (append-nil A);
+    many = (let z = inside_yes count n e in omega (arith, z));
+    unbegun = tt;
+  }
   are_new K appends (p ∷ ps) A count n whole many e =
       let s = spelled text p in
       let one = then_yes (new_point text N begun count p) _ n e in
@@ -93,7 +105,8 @@ module _ (text : List ℕ) (N begun : Names) where
       let new = is_new_behind A behind.0 s count (whole ∙ behind.1) many is.0 in
       let step : add_point text A p ≡ A ++ s ∷ [] = ap (λ b. if b then A else A ++ s ∷ []) new.absent in
       let l = length-append A (s ∷ []) in
-      let next = are_new K appends ps (A ++ s ∷ []) (count + 1) n (whole ∙ ap (λ B. K (add_points text B ps)) step) (omega (arith, l, many)) (ap (λ c. new_points text N begun c ps) is.1 ∙ one.2) in
+      let next = are_new K appends ps (A ++ s ∷ []) (count + 1) n (whole ∙ ap (λ B. K (add_points text B ps)) step)
+      (omega (arith, l, many)) (ap (λ c. new_points text N begun c ps) is.1 ∙ one.2) in
       record {
         added = ap (λ B. add_points text B ps) step ∙ next.added ∙ append_assoc A (s ∷ []) (map (spelled text) ps);
         many = (let z = next.many in omega (arith, z));

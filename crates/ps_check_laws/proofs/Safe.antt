@@ -1,5 +1,8 @@
--- Of an accepted program neither the statement that a `for` statement repeats nor a routine within its block threatens the control variable.
-use Rattle.std.proofs.Common.{◌≡◌, ℕ, zero, suc, ◌+◌, ◌-◌, ◌==◌, Bool, true, false, ◌&&◌, if◌then◌else◌, List, [], ◌∷◌, ◌++◌, length, Some, slice_get, refl, sym, ap, ◌∙◌, subst, append-nil, length-append, eqb-true, arith}
+-- In an accepted program neither the statement that a `for` statement repeats nor a routine within its block threatens
+-- the control variable.
+use Rattle.std.proofs.Common.{◌≡◌, ℕ, zero, suc, ◌+◌, ◌-◌, ◌==◌, Bool, true, false, ◌&&◌, if◌then◌else◌, List, [], ◌∷◌}
+use Rattle.std.proofs.Common.{◌++◌, length, Some, slice_get, refl, sym, ap, ◌∙◌, subst, append-nil, length-append}
+use Rattle.std.proofs.Common.{eqb-true, arith}
 use Rattle.ps_syntax.specs.declared.program.Block as syntax_block
 use Rattle.ps_syntax.specs.declared.program.Block.{out-Block}
 use Rattle.ps_syntax.specs.declared.program.Routine.{Routine}
@@ -33,7 +36,7 @@ each_right : {A : Type 0} (P : A → Type 0) (xs ys : List A) → Each P (xs ++ 
 each_right P [] ys h = h
 each_right P (x ∷ xs) ys h = each_right P xs ys h.1
 
--- a change of this entry, so many blocks further out
+-- a change of this entry, the given number of blocks out
 abbrev is_at : (up entry : ℕ) → Change → Bool
 is_at up entry x = x.up == up && x.entry == entry
 
@@ -47,7 +50,7 @@ no_entries : (up entry : ℕ) (xs : List Change) → NoneAt up entry xs → NoEn
 no_entries up entry [] h = tt
 no_entries up entry (x ∷ xs) h = (h.0, no_entries up entry xs h.1)
 
--- ---- what a block round it sees
+-- ---- what a block around it sees
 
 further_out : (m u : ℕ) → (m == 0) ≡ false → (m == (u + 1)) ≡ ((m - 1) == u)
 further_out zero u e = never (sym e)
@@ -65,20 +68,27 @@ unfolding outward
 outward_none u i [] h = tt
 outward_none u i (x ∷ xs) h = at (x.up == 0) refl h (λ g. outward_none u i xs g)
   where
-    at : (b : Bool) → (x.up == 0) ≡ b → NoneAt u i (if b then outward xs else record { up = x.up - 1; entry = x.entry; at = x.at } ∷ outward xs) → (NoneAt u i (outward xs) → NoneAt (u + 1) i xs) → NoneAt (u + 1) i (x ∷ xs)
+    at : (b : Bool) → (x.up == 0) ≡ b → NoneAt u i (if b then outward xs else record {
+      up = x.up - 1;
+      entry = x.entry;
+      at = x.at;
+    } ∷ outward xs) → (NoneAt u i (outward xs) → NoneAt (u + 1) i xs) → NoneAt (u + 1) i (x ∷ xs)
     at true q g rest = (not_here x.up u (x.entry == i) q, rest g)
     at false q g rest = (ap (λ z. z && (x.entry == i)) (further_out x.up u q) ∙ g.0, rest g.1)
 
--- of each routine of a block
-of_routine : (P : Change → Type 0) (changes : ℕ → List Change) (rs : List Routine) (j i : ℕ) (r : Routine) → Each P (changes_from changes j rs) → slice_get rs i ≡ Some r → Each P (changes_by (changes (j + i)) (routine_block r))
+-- for each routine of a block
+of_routine : (P : Change → Type 0) (changes : ℕ → List Change) (rs : List Routine) (j i : ℕ) (r : Routine) → Each P
+    (changes_from changes j rs) → slice_get rs i ≡ Some r → Each P (changes_by (changes (j + i)) (routine_block r))
 unfolding changes_from
 of_routine P changes [] j i r h e = absurd (none_some e)
 of_routine P changes (y ∷ rs) j zero r h e =
     let here = each_left P (changes_by (changes j) (routine_block y)) (changes_from changes (j + 1) rs) h in
     let z : j ≡ j + 0 = omega arith in
-    subst (λ k. Each P (changes_by (changes k) (routine_block r))) z (subst (λ q. Each P (changes_by (changes j) (routine_block q))) (inside y r e) here)
+    subst (λ k. Each P (changes_by (changes k) (routine_block r))) z
+    (subst (λ q. Each P (changes_by (changes j) (routine_block q))) (inside y r e) here)
 of_routine P changes (y ∷ rs) j (suc i) r h e =
-    let more = of_routine P changes rs (j + 1) i r (each_right P (changes_by (changes j) (routine_block y)) (changes_from changes (j + 1) rs) h) e in
+    let more = of_routine P changes rs (j + 1) i r
+    (each_right P (changes_by (changes j) (routine_block y)) (changes_from changes (j + 1) rs) h) e in
     let z : (j + 1) + i ≡ j + suc i = omega arith in
     subst (λ k. Each P (changes_by (changes k) (routine_block r))) z more
 
@@ -108,7 +118,8 @@ turned (x ∷ inner) v =
       many = (let a = length-append r.steps (x ∷ []) in let m = r.many in omega (arith, a, m));
     }
 
-there_outside : (root : syntax_block.Block) (ks v : List ℕ) (x : syntax_block.Block) → block_at root (under ks v) ≡ Some x → (b : syntax_block.Block) × (block_at root v ≡ Some b)
+there_outside : (root : syntax_block.Block) (ks v : List ℕ) (x : syntax_block.Block) → block_at root (under ks v)
+    ≡ Some x → (b : syntax_block.Block) × (block_at root v ≡ Some b)
 unfolding block_at
 there_outside root [] v x e = (x, e)
 there_outside root (k ∷ ks) v x e =
@@ -121,14 +132,20 @@ record InnerBlock (b : syntax_block.Block) (k : ℕ) (a : syntax_block.Block) : 
   there : slice_get (out-Block b).routines k ≡ Some routine
   is : routine_block routine ≡ Some a
 
-inner_block : (root : syntax_block.Block) (k : ℕ) (v : List ℕ) (b a : syntax_block.Block) → block_at root v ≡ Some b → block_at root (k ∷ v) ≡ Some a → InnerBlock b k a
+inner_block : (root : syntax_block.Block) (k : ℕ) (v : List ℕ) (b a : syntax_block.Block) → block_at root v ≡ Some b
+    → block_at root (k ∷ v) ≡ Some a → InnerBlock b k a
 unfolding block_at
 inner_block root k v b a e g =
     let y = then_some (block_at root v) _ a g in
     let r = then_some (slice_get (out-Block y.0).routines k) routine_block a y.2 in
-    record { routine = r.0; there = ap (λ (z : syntax_block.Block). slice_get (out-Block z).routines k) (inside b y.0 (sym e ∙ y.1)) ∙ r.1; is = r.2 }
+    record {
+      routine = r.0;
+      there = ap (λ (z : syntax_block.Block). slice_get (out-Block z).routines k) (inside b y.0 (sym e ∙ y.1)) ∙ r.1;
+      is = r.2;
+    }
 
-own_is : (text : List ℕ) (p : syntax.Program) (v chain : List ℕ) (n : ℕ) → chain_at text p v ≡ Some chain → number_at text p v ≡ Some n → own_number chain ≡ n
+own_is : (text : List ℕ) (p : syntax.Program) (v chain : List ℕ) (n : ℕ) → chain_at text p v ≡ Some chain
+    → number_at text p v ≡ Some n → own_number chain ≡ n
 unfolding chain_at number_at own_number
 own_is text p [] chain n e g = ap own_number (sym (inside (0 ∷ []) chain e)) ∙ inside 0 n g
 own_is text p (k ∷ v) chain n e g =
@@ -139,18 +156,26 @@ own_is text p (k ∷ v) chain n e g =
 -- ---- the routines within a block
 
 module _ (text : List ℕ) (p : syntax.Program) (files : Files) (made : Tree.Program) where
-  same_routine : (v : List ℕ) (b : syntax_block.Block) (Γ : List Region) (own : KeepsRules text p files made v b Γ) (q : Tree.Routine) → IsRoutineAt text p made v q → own.routine ≡ q
-  same_routine v b Γ own q t = inside own.routine q (sym own.checked ∙ ap (slice_get made.routines) (own_is text p v own.start.chain t.number own.chain t.numbered) ∙ t.checked)
+  same_routine : (v : List ℕ) (b : syntax_block.Block) (Γ : List Region) (own : KeepsRules text p files made v b Γ)
+      (q : Tree.Routine) → IsRoutineAt text p made v q → own.routine ≡ q
+  same_routine v b Γ own q t = inside own.routine q
+      (sym own.checked ∙ ap (slice_get made.routines) (own_is text p v own.start.chain t.number own.chain t.numbered)
+      ∙ t.checked)
 
-  -- of the routine whose block it is
-  own_threatens : (v : List ℕ) (b : syntax_block.Block) (Γ : List Region) (own : KeepsRules text p files made v b Γ) (q : Tree.Routine) → IsRoutineAt text p made v q → (u i : ℕ) → NoneAt u i own.changes → NoEntry u i (statements_threaten q.body)
+  -- for the routine whose block it is
+  own_threatens : (v : List ℕ) (b : syntax_block.Block) (Γ : List Region) (own : KeepsRules text p files made v b Γ)
+      (q : Tree.Routine) → IsRoutineAt text p made v q → (u i : ℕ) → NoneAt u i own.changes → NoEntry u i
+      (statements_threaten q.body)
   own_threatens v b Γ own q t u i h =
       let entries = what_is_threatened_is_changed _ _ (out-Block b).statements own.routine.body own.changes own.body in
-      subst (λ (r : Tree.Routine). NoEntry u i (statements_threaten r.body)) (same_routine v b Γ own q t) (subst (NoEntry u i) entries (no_entries u i own.changes h))
+      subst (λ (r : Tree.Routine). NoEntry u i (statements_threaten r.body)) (same_routine v b Γ own q t)
+      (subst (NoEntry u i) entries (no_entries u i own.changes h))
 
   -- what a block doesn't change, no routine within it threatens
-  reach : (ks v : List ℕ) (b : syntax_block.Block) (Γ : List Region) (all : List Change) → BlockIsRead text p files made v b Γ all → block_at p.block v ≡ Some b → (u i : ℕ) → NoneAt u i all
-      → (x : syntax_block.Block) (q : Tree.Routine) → block_at p.block (under ks v) ≡ Some x → IsRoutineAt text p made (under ks v) q → NoEntry (length ks + u) i (statements_threaten q.body)
+  reach : (ks v : List ℕ) (b : syntax_block.Block) (Γ : List Region) (all : List Change)
+      → BlockIsRead text p files made v b Γ all → block_at p.block v ≡ Some b → (u i : ℕ) → NoneAt u i all
+      → (x : syntax_block.Block) (q : Tree.Routine) → block_at p.block (under ks v) ≡ Some x → IsRoutineAt text p made
+      (under ks v) q → NoEntry (length ks + u) i (statements_threaten q.body)
   reach [] v b Γ all (is_read u' a H some own all_are changes inner_are nested) there u i h x q at t =
       let z : u ≡ 0 + u = omega arith in
       let mine = each_right (λ x. is_at u i x ≡ false) own.inner own.changes (subst (NoneAt u i) all_are h) in
@@ -158,12 +183,16 @@ module _ (text : List ℕ) (p : syntax.Program) (files : Files) (made : Tree.Pro
   reach (k ∷ ks) v b Γ all (is_read u' a H some own all_are changes inner_are nested) there u i h x q at t =
       let o = there_outside p.block ks (k ∷ v) x at in
       let r = inner_block p.block k v b o.0 there o.1 in
-      let theirs = subst (NoneAt u i) inner_are (each_left (λ x. is_at u i x ≡ false) own.inner own.changes (subst (NoneAt u i) all_are h)) in
+      let theirs = subst (NoneAt u i) inner_are
+      (each_left (λ x. is_at u i x ≡ false) own.inner own.changes (subst (NoneAt u i) all_are h)) in
       let one = of_routine (λ x. is_at u i x ≡ false) changes (out-Block b).routines 0 k r.routine theirs r.there in
       let n : 0 + k ≡ k = omega arith in
-      let out : NoneAt u i (outward (changes k)) = subst (λ m. NoneAt u i (outward (changes m))) n (subst (λ o. NoneAt u i (changes_by (changes (0 + k)) o)) r.is one) in
+      let out : NoneAt u i (outward (changes k)) = subst (λ m. NoneAt u i (outward (changes m))) n
+      (subst (λ o. NoneAt u i (changes_by (changes (0 + k)) o)) r.is one) in
       let z : length ks + (u + 1) ≡ suc (length ks) + u = omega arith in
-      subst (λ n. NoEntry n i (statements_threaten q.body)) z (reach ks (k ∷ v) o.0 _ (changes k) (nested k r.routine o.0 r.there r.is) o.1 (u + 1) i (outward_none u i (changes k) out) x q at t)
+      subst (λ n. NoEntry n i (statements_threaten q.body)) z
+      (reach ks (k ∷ v) o.0 _ (changes k) (nested k r.routine o.0 r.there r.is) o.1 (u + 1) i
+      (outward_none u i (changes k) out) x q at t)
 
   -- the reading of a block further in
   record ReadAt (v : List ℕ) (b : syntax_block.Block) : Type 0 where
@@ -171,8 +200,14 @@ module _ (text : List ℕ) (p : syntax.Program) (files : Files) (made : Tree.Pro
     changed : List Change
     reading : BlockIsRead text p files made v b regions changed
 
-  read_at : (ks v : List ℕ) (b : syntax_block.Block) (Γ : List Region) (all : List Change) → BlockIsRead text p files made v b Γ all → block_at p.block v ≡ Some b → (x : syntax_block.Block) → block_at p.block (under ks v) ≡ Some x → ReadAt (under ks v) x
-  read_at [] v b Γ all t there x at = record { regions = Γ; changed = all; reading = subst (λ y. BlockIsRead text p files made v y Γ all) (inside b x (sym there ∙ at)) t }
+  read_at : (ks v : List ℕ) (b : syntax_block.Block) (Γ : List Region) (all : List Change)
+      → BlockIsRead text p files made v b Γ all → block_at p.block v ≡ Some b → (x : syntax_block.Block)
+      → block_at p.block (under ks v) ≡ Some x → ReadAt (under ks v) x
+  read_at [] v b Γ all t there x at = record {
+    regions = Γ;
+    changed = all;
+    reading = subst (λ y. BlockIsRead text p files made v y Γ all) (inside b x (sym there ∙ at)) t;
+  }
   read_at (k ∷ ks) v b Γ all (is_read u a H some own all_are changes inner_are nested) there x at =
       let o = there_outside p.block ks (k ∷ v) x at in
       let r = inner_block p.block k v b o.0 there o.1 in
@@ -180,11 +215,14 @@ module _ (text : List ℕ) (p : syntax.Program) (files : Files) (made : Tree.Pro
 
   -- ---- the `for` statements of a block
 
-  all_safe : (v : List ℕ) (c : _) (loops : List Loop) → AreKept c loops → ((loop : Loop) → IsKept c loop → IsSafe text p made v loop) → Each (IsSafe text p made v) loops
+  all_safe : (v : List ℕ) (c : _) (loops : List Loop) → AreKept c loops
+      → ((loop : Loop) → IsKept c loop → IsSafe text p made v loop) → Each (IsSafe text p made v) loops
   all_safe v c [] h one = tt
   all_safe v c (loop ∷ loops) h one = (one loop h.0, all_safe v c loops h.1 one)
 
-  safe_at : (v : List ℕ) (b : syntax_block.Block) (Γ : List Region) (all : List Change) → BlockIsRead text p files made v b Γ all → block_at p.block v ≡ Some b → (r : Tree.Routine) → IsRoutineAt text p made v r → Each (IsSafe text p made v) (statements_loops r.body)
+  safe_at : (v : List ℕ) (b : syntax_block.Block) (Γ : List Region) (all : List Change)
+      → BlockIsRead text p files made v b Γ all → block_at p.block v ≡ Some b → (r : Tree.Routine)
+      → IsRoutineAt text p made v r → Each (IsSafe text p made v) (statements_loops r.body)
   safe_at v b Γ all (is_read u' a H some own all_are changes inner_are nested) there r t =
       let kept = loops_kept _ _ (out-Block b).statements [] (own.routine.body, own.changes) own.body in
       subst (λ (q : Tree.Routine). Each (IsSafe text p made v) (statements_loops q.body)) (same_routine v b Γ own r t)
@@ -196,10 +234,16 @@ module _ (text : List ℕ) (p : syntax.Program) (files : Files) (made : Tree.Pro
             let at_path : block_at p.block (under s.steps (w.number ∷ v)) ≡ Some x = ap (block_at p.block) path ∙ at in
             let o = there_outside p.block s.steps (w.number ∷ v) x at_path in
             let i = inner_block p.block w.number v b o.0 there o.1 in
-            let one = of_routine (λ x. is_at 0 loop.0 x ≡ false) changes (out-Block b).routines 0 w.number i.routine (subst (NoneAt 0 loop.0) inner_are k.outside) i.there in
+            let one = of_routine (λ x. is_at 0 loop.0 x ≡ false) changes (out-Block b).routines 0 w.number i.routine
+            (subst (NoneAt 0 loop.0) inner_are k.outside) i.there in
             let n : 0 + w.number ≡ w.number = omega arith in
-            let out : NoneAt 0 loop.0 (outward (changes w.number)) = subst (λ m. NoneAt 0 loop.0 (outward (changes m))) n (subst (λ o. NoneAt 0 loop.0 (changes_by (changes (0 + w.number)) o)) i.is one) in
-            let here = reach s.steps (w.number ∷ v) o.0 _ (changes w.number) (nested w.number i.routine o.0 i.there i.is) o.1 (0 + 1) loop.0 (outward_none 0 loop.0 (changes w.number) out) x q at_path (subst (λ l. IsRoutineAt text p made l q) (sym path) is) in
+            let out : NoneAt 0 loop.0 (outward (changes w.number)) = subst
+            (λ m. NoneAt 0 loop.0 (outward (changes m))) n
+            (subst (λ o. NoneAt 0 loop.0 (changes_by (changes (0 + w.number)) o)) i.is one) in
+            let here = reach s.steps (w.number ∷ v) o.0 _ (changes w.number)
+            (nested w.number i.routine o.0 i.there i.is) o.1 (0 + 1) loop.0
+            (outward_none 0 loop.0 (changes w.number) out) x q at_path
+            (subst (λ l. IsRoutineAt text p made l q) (sym path) is) in
             let m = s.many in
             let z : length s.steps + (0 + 1) ≡ length w.inner + 1 = omega (arith, m) in
             subst (λ n. NoEntry n loop.0 (statements_threaten q.body)) z here;
@@ -211,5 +255,7 @@ control_variables_are_safe text p made e v b r there t =
     let is = checked_programs_are_read text p made e in
     let s = turned v [] in
     let path : under s.steps [] ≡ v = s.leads ∙ append-nil v in
-    let reading = subst (λ l. ReadAt text p is.files made l b) path (read_at text p is.files made s.steps [] p.block _ is.changes is.block refl b (ap (block_at p.block) path ∙ there)) in
+    let reading = subst (λ l. ReadAt text p is.files made l b) path
+    (read_at text p is.files made s.steps [] p.block _ is.changes is.block refl b
+    (ap (block_at p.block) path ∙ there)) in
     safe_at text p is.files made v b reading.regions reading.changed reading.reading there r t

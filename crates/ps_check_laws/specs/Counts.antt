@@ -1,4 +1,5 @@
--- How many pointer types the declarations of a block have, and which number the first of them has: they are numbered in the order of their parts in the text.
+-- The number of pointer types in the declarations of a block, and the number that the first of them has: they are
+-- numbered in the order of their parts in the text.
 use Rattle.std.specs.Prelude.{ℕ, ◌+◌, List, [], ◌∷◌, length, map, take, Option, Some}
 use Rattle.ps_syntax.specs.declared.program.Block.{Block, out-Block}
 use Rattle.ps_syntax.specs.declared.program.Routine.{Routine}

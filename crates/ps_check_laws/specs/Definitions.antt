@@ -1,5 +1,6 @@
 -- The defining points of a block's region (6.2.2.1), in the order in which their definitions end: a walk over the tree.
-use Rattle.std.specs.Prelude.{ℕ, ◌+◌, List, [], ◌∷◌, ◌++◌, length, map, Option, Some, None, slice_get, take, if◌then◌else◌}
+use Rattle.std.specs.Prelude.{ℕ, ◌+◌, List, [], ◌∷◌, ◌++◌, length, map, Option, Some, None, slice_get, take}
+use Rattle.std.specs.Prelude.{if◌then◌else◌}
 use Rattle.ps_text.specs.declared.Span.{Span}
 use Rattle.ps_syntax.specs.declared.program.Ordinal.{Ordinal}
 use Rattle.ps_syntax.specs.declared.program.Ordinal.TheVariants as o
@@ -40,7 +41,7 @@ pub data Definition : Type 0 where
 
 -- ---- declarations
 
--- each name with its number, from one on
+-- each name with its number, from the given one on
 abbrev pub numbered : (ℕ → Span → Declaration) → ℕ → Points → List Declaration
 numbered declaration n [] = []
 numbered declaration n (name ∷ rest) = declaration n name ∷ numbered declaration (n + 1) rest
@@ -75,21 +76,24 @@ type_step (TypeDenoter-F.Packed at x) = x
 abbrev pub type_declarations : TypeDenoter → Declarations
 type_declarations = fold-TypeDenoter Declarations Declarations Declarations structure_step type_step fields_step
 
--- a definition ends behind the constants in it
+-- a definition ends after the constants in it
 unfoldable pub definition_declarations : TypeDefinition → Declarations
 definition_declarations t = type_declarations t.ty ++ OfType t ∷ []
 
 unfoldable pub variable_declarations : ℕ → List Variables → Declarations
 variable_declarations n [] = []
-variable_declarations n (v ∷ vs) = (type_declarations v.ty ++ numbered (OfVariable v) n v.names) ++ variable_declarations (n + length v.names) vs
+variable_declarations n (v ∷ vs) = (type_declarations v.ty ++ numbered (OfVariable v) n v.names)
+    ++ variable_declarations (n + length v.names) vs
 
 -- the constants, types and variables of a block
 unfoldable pub own_declarations : Block → Declarations
-own_declarations b = (map OfConstant (out-Block b).constants ++ joined (map definition_declarations (out-Block b).types)) ++ variable_declarations 0 (out-Block b).variables
+own_declarations b = (map OfConstant (out-Block b).constants ++ joined
+    (map definition_declarations (out-Block b).types)) ++ variable_declarations 0 (out-Block b).variables
 
--- how many points stand before the variables of a block, and before its routines, behind the first ones
+-- the number of points before the variables of a block, and before its routines, including the first ones
 unfoldable pub points_before_variables : Declarations → Block → ℕ
-points_before_variables first b = length ((first ++ map OfConstant (out-Block b).constants) ++ joined (map definition_declarations (out-Block b).types))
+points_before_variables first b = length ((first ++ map OfConstant (out-Block b).constants) ++ joined
+    (map definition_declarations (out-Block b).types))
 
 unfoldable pub points_before_routines : Declarations → Block → ℕ
 points_before_routines first b = length (first ++ own_declarations b)
@@ -104,7 +108,7 @@ layer_points (Section-F.Routine h) = heading_name h ∷ []
 unfoldable pub section_points : Section → Points
 section_points s = layer_points (out-Section s)
 
--- 6.6.3.1: of a formal parameter list
+-- 6.6.3.1: for a formal parameter list
 unfoldable pub formal_points : Heading → Points
 formal_points h = all (map section_points (heading_list h))
 
@@ -145,11 +149,13 @@ InPart = ℕ × Routine
 unfoldable pub routine_names : List ℕ → List InPart → List (List ℕ)
 routine_names text rs = map (λ r. spelled text (routine_name r.1)) rs
 
--- The routines of a part, from one on, that define their names, where some stand before. A later routine of such a name is the block of its forward heading.
+-- The routines of a part, from the given number on, that define their names, where some come before. A later routine
+-- with such a name is the block of its forward heading.
 unfoldable pub introduced_from : List ℕ → List InPart → ℕ → List Routine → List InPart
 introduced_from text before k [] = before
 introduced_from text before k (r ∷ rs) =
-    if has (routine_names text before) (spelled text (routine_name r)) then introduced_from text before (k + 1) rs else introduced_from text (before ++ (k, r) ∷ []) (k + 1) rs
+    if has (routine_names text before) (spelled text (routine_name r)) then introduced_from text before (k + 1) rs
+    else introduced_from text (before ++ (k, r) ∷ []) (k + 1) rs
 
 abbrev pub introduced : List ℕ → List Routine → List InPart
 introduced text rs = introduced_from text [] 0 rs
@@ -159,9 +165,11 @@ of_routine r = OfRoutine r.0 r.1
 
 -- ---- a block
 
--- The points of a block's region, where those of the heading's formal parameters (or a program's parameters) come first.
+-- The points of a block's region, where those of the heading's formal parameters (or a program's parameters) come
+-- first.
 unfoldable pub definitions_of : List ℕ → Declarations → Block → List Definition
-definitions_of text first b = map OfDeclaration (first ++ own_declarations b) ++ map of_routine (introduced text (out-Block b).routines)
+definitions_of text first b = map OfDeclaration (first ++ own_declarations b) ++ map of_routine
+    (introduced text (out-Block b).routines)
 
 abbrev pub declared_name : Declaration → Span
 declared_name (OfFile name) = name
@@ -192,6 +200,7 @@ introducer text ds s = place (names_of text ds) s >>= (λ i. slice_get ds i) >>=
 unfoldable pub heading_of : List ℕ → List Definition → Routine → Option Heading
 heading_of text ds r = introducer text ds (spelled text (routine_name r)) >>= (λ q. routine_heading q.1)
 
--- how many points stand before the block of routine k
+-- the number of points before the block of routine k
 unfoldable pub points_before : List ℕ → Declarations → Block → ℕ → ℕ
-points_before text first b k = length (first ++ own_declarations b) + length (introduced text (take (k + 1) (out-Block b).routines))
+points_before text first b k = length (first ++ own_declarations b) + length
+    (introduced text (take (k + 1) (out-Block b).routines))

@@ -1,4 +1,5 @@
--- The domain types of the pointer types of a block (6.4.4): their names are read where the part ends that they stand in, so that a type may stand behind them.
+-- The domain types of the pointer types of a block (6.4.4): their names are read at the end of the part that they are
+-- in, so that a type may come after them.
 use Rattle.std.specs.Prelude.{◌≡◌, ℕ, ◌+◌, List, [], ◌∷◌, map, Some, slice_get}
 use Rattle.ps_text.specs.declared.Span.{Span}
 use Rattle.ps_syntax.specs.declared.program.TypeDenoter.{TypeDenoter}
@@ -37,7 +38,9 @@ type_domains ts = all (map (λ t. domain_names t.ty) ts)
 abbrev pub variable_domains : List Variables → Points
 variable_domains vs = all (map (λ v. domain_names v.ty) vs)
 
--- from a number on, the domain types are those that some names denote where some points of the block are known
-abbrev pub AreDomains : Frame → (known : List Meaning) → (base : ℕ) → (names : Points) → (domains : List DataType) → Type 0
+-- from a number on, the domain types are those that some names denote when some points of the block are known
+abbrev pub AreDomains : Frame → (known : List Meaning) → (base : ℕ) → (names : Points) → (domains : List DataType)
+    → Type 0
 AreDomains f known base names domains =
-    (i : ℕ) (name : Span) → slice_get names i ≡ Some name → (type : DataType) × (type_named f.text (regions f [] known) name ≡ Yes type) × (slice_get domains (base + i) ≡ Some type)
+    (i : ℕ) (name : Span) → slice_get names i ≡ Some name → (type : DataType)
+    × (type_named f.text (regions f [] known) name ≡ Yes type) × (slice_get domains (base + i) ≡ Some type)

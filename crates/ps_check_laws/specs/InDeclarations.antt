@@ -1,5 +1,6 @@
--- The uses of names in the declarations and headings of a block, each with the regions within the block that enclose it: a record type has its fields' names (6.4.3.3), and a formal parameter list its
--- parameters' (6.6.3.1). The names of domain types are apart (6.4.4).
+-- The uses of names in the declarations and headings of a block, each with the regions within the block that enclose
+-- it: a record type has its fields' names (6.4.3.3), and a formal parameter list its parameters' (6.6.3.1). The names
+-- of domain types are treated separately (6.4.4).
 use Rattle.std.specs.Prelude.{◌≡◌, ℕ, ◌+◌, false, List, [], ◌∷◌, ◌++◌, length, map}
 use Rattle.ps_text.specs.declared.Span.{Span}
 use Rattle.ps_syntax.specs.declared.program.Ordinal.{Ordinal}
@@ -25,7 +26,8 @@ use Rattle.ps_check_laws.specs.Meanings.{IsRegion}
 use Rattle.ps_check_laws.specs.Uses.{IsDenoted}
 use Rattle.ps_check_laws.specs.Occurrences.{constant_uses}
 
--- a use: the name, the names of the record types and formal parameter lists that enclose it, from the inside out, and how many points stand before it
+-- a use: the name, the names of the record types and formal parameter lists that enclose it, from the inside out, and
+-- the number of points before it
 pub record Use : Type 0 where
   pub name : Span
   pub enclosing : List Points
@@ -37,15 +39,15 @@ Uses = List Use
 abbrev pub used : Span → Use
 used name = record { name = name; enclosing = []; before = 0 }
 
--- where one more record type or list encloses them
+-- with one more record type or list enclosing them
 abbrev pub inside : Points → Uses → Uses
 inside names uses = map (λ u. record { name = u.name; enclosing = u.enclosing ++ names ∷ []; before = u.before }) uses
 
--- where more points stand before them
+-- with more points before them
 abbrev pub behind : ℕ → Uses → Uses
 behind n uses = map (λ u. record { name = u.name; enclosing = u.enclosing; before = n + u.before }) uses
 
--- a part of the declarations: how many points of the block it has, and its uses
+-- a part of the declarations: the number of points of the block in it, and its uses
 pub record Part : Type 0 where
   pub points : ℕ
   pub uses : Uses
@@ -60,7 +62,7 @@ abbrev pub several : List Part → Part
 several [] = no_part
 several (p ∷ ps) = both p (several ps)
 
--- points, which come behind the uses in their definition
+-- points, which come after the uses in their definition
 abbrev pub defining : ℕ → Part
 defining n = record { points = n; uses = [] }
 
@@ -83,7 +85,10 @@ fields_step x = (x.names, x.ty)
 
 -- the fields' names are defined for the record type
 abbrev pub record_part : List FieldsPart → Part
-record_part fields = record { points = (several (map (λ x. x.1) fields)).points; uses = inside (all (map (λ x. x.0) fields)) (several (map (λ x. x.1) fields)).uses }
+record_part fields = record {
+  points = (several (map (λ x. x.1) fields)).points;
+  uses = inside (all (map (λ x. x.0) fields)) (several (map (λ x. x.1) fields)).uses;
+}
 
 abbrev pub structure_step : Structure-F Part Part FieldsPart → Part
 structure_step (Structure-F.Array at indices component) = both (several (map ordinal_part indices)) component
@@ -111,11 +116,13 @@ unfoldable pub variables_part : Variables → Part
 variables_part v = both (type_part v.ty) (defining (length v.names))
 
 unfoldable pub declarations_part : List ConstantDefinition → List TypeDefinition → List Variables → Part
-declarations_part cs ts vs = both (both (several (map constant_part cs)) (several (map definition_part ts))) (several (map variables_part vs))
+declarations_part cs ts vs = both (both (several (map constant_part cs)) (several (map definition_part ts)))
+    (several (map variables_part vs))
 
--- where so many points of the block are its formal or program parameters
+-- where the given number of points of the block are its formal or program parameters
 abbrev pub declaration_uses : ℕ → Block → Uses
-declaration_uses first b = behind first (declarations_part (out-Block b).constants (out-Block b).types (out-Block b).variables).uses
+declaration_uses first b = behind first (declarations_part (out-Block b).constants (out-Block b).types
+    (out-Block b).variables).uses
 
 -- ---- headings (6.6.1, 6.6.2, 6.6.3.1)
 
@@ -144,8 +151,8 @@ heading_part = fold-Heading HeadingPart SectionPart heading_step section_step
 
 -- ---- what they denote
 
--- A use in the declarations of the block at a path, which is read within some regions: no record type or list round it defines the name, and what it denotes where the points before it are known is what the
--- search finds.
+-- A use in the declarations of the block at a path, which is read within some regions: no enclosing record type or list
+-- defines the name, and what it denotes when the points before it are known is what the search finds.
 pub record IsDenotedBefore (text : List ℕ) (p : syntax.Program) (v : List ℕ) (regions : List Region) (u : Use) : Type 0 where
   pub free : Each (λ names. has (map (spelled text) names) (spelled text u.name) ≡ false) u.enclosing
   pub region : Region

@@ -1,10 +1,12 @@
--- The uses of names in statements and expressions, in the order of the text: a walk over the tree. Each is told with the `with` statements that it stands within (6.8.3.10).
--- The names of fields behind a point aren't among them: they are looked up in the type of the record before the point (6.5.3.3).
+-- The uses of names in statements and expressions, in the order of the text: a walk over the tree. Each is given with
+-- the `with` statements that enclose it (6.8.3.10). The names of fields after a point aren't among them: they are
+-- looked up in the type of the record before the point (6.5.3.3).
 use Rattle.std.specs.Prelude.{List, [], ◌∷◌, ◌++◌, map}
 use Rattle.ps_text.specs.declared.Span.{Span}
 use Rattle.ps_syntax.specs.declared.expression.Expr.{Expr}
 use Rattle.ps_syntax.specs.declared.expression.Variable.{Variable}
-use Rattle.ps_syntax.specs.declared.expression.Expr.TheOpen.{Expr-F, Factor-F, Member-F, Selector-F, AddedTerm-F, MultipliedFactor-F, Simple-F, Term-F, Variable-F}
+use Rattle.ps_syntax.specs.declared.expression.Expr.TheOpen.{Expr-F, Factor-F, Member-F, Selector-F, AddedTerm-F}
+use Rattle.ps_syntax.specs.declared.expression.Expr.TheOpen.{MultipliedFactor-F, Simple-F, Term-F, Variable-F}
 use Rattle.ps_syntax.specs.declared.expression.Expr.TheFolds.{fold-Expr, fold-Variable}
 use Rattle.ps_syntax.specs.declared.statement.Constant.{Constant}
 use Rattle.ps_syntax.specs.declared.statement.Constant.TheVariants as constant
@@ -57,10 +59,12 @@ abbrev pub variable_step : Variable-F Points Points Points Points Points Points 
 variable_step x = x.name ∷ all x.selectors
 
 abbrev pub expr_uses : Expr → Points
-expr_uses = fold-Expr Points Points Points Points Points Points Points Points Points expr_step factor_step member_step selector_step added_step multiplied_step simple_step term_step variable_step
+expr_uses = fold-Expr Points Points Points Points Points Points Points Points Points expr_step factor_step member_step
+    selector_step added_step multiplied_step simple_step term_step variable_step
 
 abbrev pub variable_uses : Variable → Points
-variable_uses = fold-Variable Points Points Points Points Points Points Points Points Points expr_step factor_step member_step selector_step added_step multiplied_step simple_step term_step variable_step
+variable_uses = fold-Variable Points Points Points Points Points Points Points Points Points expr_step factor_step
+    member_step selector_step added_step multiplied_step simple_step term_step variable_step
 
 unfoldable pub constant_uses : Constant → Points
 constant_uses (constant.Number sign at) = []
@@ -73,7 +77,7 @@ parameter_uses (Width x width) = expr_uses x ++ expr_uses width
 
 -- ---- statements (6.8)
 
--- a use: the name, and the record variables of the `with`s that open them round it, from the inside out
+-- a use: the name, and the record variables of the `with`s that open them around it, from the inside out
 pub record Use : Type 0 where
   pub name : Span
   pub opened : List Variable
@@ -81,11 +85,11 @@ pub record Use : Type 0 where
 abbrev pub Uses : Type 0
 Uses = List Use
 
--- where no `with` of the statement stands round them
+-- with no `with` of the statement around them
 abbrev pub plain : Points → Uses
 plain names = map (λ name. record { name = name; opened = [] }) names
 
--- where one more record is opened, outside of the others
+-- with one more record opened, outside the others
 abbrev pub within : Variable → Uses → Uses
 within x uses = map (λ u. record { name = u.name; opened = u.opened ++ x ∷ [] }) uses
 
@@ -113,6 +117,6 @@ element_step x = plain (all (map constant_uses x.constants)) ++ x.statement
 abbrev pub statement_uses : Statement → Uses
 statement_uses = fold-Statement Uses Uses statement_step element_step
 
--- of a sequence of statements
+-- for a sequence of statements
 abbrev pub statements_uses : List Statement → Uses
 statements_uses statements = joined (map statement_uses statements)

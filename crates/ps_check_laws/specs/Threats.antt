@@ -1,22 +1,36 @@
--- What the statements of a checked tree threaten (6.8.3.9), a walk over the finished tree: the whole variables that are assigned to, passed as variable parameters, read by read or readln, or counted by
--- `for` statements, in the order of the text. Each is told by how many blocks further out its own lies, and by its entry there.
+-- What the statements of a checked tree threaten (6.8.3.9), a walk over the finished tree: the whole variables that are
+-- assigned to, passed as variable parameters, read by read or readln, or counted by `for` statements, in the order of
+-- the text. Each is given by how many blocks out its own lies, and by its entry there.
 use Rattle.std.specs.Prelude.{◌≡◌, ℕ, ◌==◌, Bool, ◌&&◌, List, [], ◌∷◌, ◌++◌, map}
 use Rattle.ps_syntax.specs.declared.statement.Statement as syntax
-use Rattle.ps_tree.specs.Tree.{Place, Variable, Entry, Selector, Element, Field, Target, Selectors, no_selector, selector_before, ArithmeticSteps, no_arithmetic_step, arithmetic_step_before, Operands, no_operand, operand_before, SetSteps, no_set_step, set_step_before, Expr, Number, Nil, Load, Plus, Minus, Not, Arithmetic, Logic, Compare, ComparePointers, CompareSets, CompareStrings, In, Apply, Eof, Eoln, Call, CallFormal, SetExpr, LoadSet, Constructor, Combine, Member, One, Several, Members, no_member, member_before, Structure, Literal, Contents, Argument, ByValue, BySet, ByCopy, ByVariable, ByRoutine, ByFormal, Arguments, no_argument, argument_before, ReadVariable, ReadChar, ReadInteger, Width, DefaultWidth, GivenWidth, WriteParameter, WriteInteger, WriteChar, WriteBoolean, WriteText, Statement, Empty, Assign, AssignSet, AssignStructure, CallProcedure, CallFormalProcedure, Compound, If, IfElse, Case, While, Repeat, For, With, New, Pack, Unpack, Read, Readln, Write, Writeln, Statements, no_statement, statement_before, Elements, no_element, element_before}
+use Rattle.ps_tree.specs.Tree.{Place, Variable, Entry, Selector, Element, Field, Target, Selectors, no_selector}
+use Rattle.ps_tree.specs.Tree.{selector_before, ArithmeticSteps, no_arithmetic_step, arithmetic_step_before, Operands}
+use Rattle.ps_tree.specs.Tree.{no_operand, operand_before, SetSteps, no_set_step, set_step_before, Expr, Number, Nil}
+use Rattle.ps_tree.specs.Tree.{Load, Plus, Minus, Not, Arithmetic, Logic, Compare, ComparePointers, CompareSets}
+use Rattle.ps_tree.specs.Tree.{CompareStrings, In, Apply, Eof, Eoln, Call, CallFormal, SetExpr, LoadSet, Constructor}
+use Rattle.ps_tree.specs.Tree.{Combine, Member, One, Several, Members, no_member, member_before, Structure, Literal}
+use Rattle.ps_tree.specs.Tree.{Contents, Argument, ByValue, BySet, ByCopy, ByVariable, ByRoutine, ByFormal, Arguments}
+use Rattle.ps_tree.specs.Tree.{no_argument, argument_before, ReadVariable, ReadChar, ReadInteger, Width, DefaultWidth}
+use Rattle.ps_tree.specs.Tree.{GivenWidth, WriteParameter, WriteInteger, WriteChar, WriteBoolean, WriteText, Statement}
+use Rattle.ps_tree.specs.Tree.{Empty, Assign, AssignSet, AssignStructure, CallProcedure, CallFormalProcedure, Compound}
+use Rattle.ps_tree.specs.Tree.{If, IfElse, Case, While, Repeat, For, With, New, Pack, Unpack, Read, Readln, Write}
+use Rattle.ps_tree.specs.Tree.{Writeln, Statements, no_statement, statement_before, Elements, no_element}
+use Rattle.ps_tree.specs.Tree.{element_before}
 use Rattle.ps_check_judgement.specs.declared.change.Change.{Change}
 use Rattle.ps_check_judgement.specs.Judged.{Yes}
 use Rattle.ps_check_names.specs.Regions.{Context, Region}
 use Rattle.ps_check_statements.specs.Statements.{statements}
 
--- entries: how many blocks further out, and which of the routine there
+-- entries: how many blocks out, and which of the routine there
 abbrev pub Threatened : Type 0
 Threatened = List (ℕ × ℕ)
 
--- one of them is this entry, so many blocks further out
+-- one of them is this entry, the given number of blocks out
 abbrev pub is_entry : (up entry : ℕ) → ℕ × ℕ → Bool
 is_entry up entry e = e.0 == up && e.1 == entry
 
--- A variable as a whole. A control variable and a function's result are of simple or pointer types, so they have no components.
+-- A variable as a whole. A control variable and a function's result are of simple or pointer types, so they have no
+-- components.
 abbrev pub whole : Place → Threatened
 whole (Variable (Entry up entry) no_selector) = (up, entry) ∷ []
 whole _ = []
@@ -144,12 +158,14 @@ unfoldable mutual
   statement_threatens (While e s) = expr_threatens e ++ statement_threatens s
   statement_threatens (Repeat body e) = statements_threaten body ++ expr_threatens e
   -- a control variable is an entry of the routine itself
-  statement_threatens (For variable low high a from_line direction b to_line s) = (((0, variable) ∷ expr_threatens a) ++ expr_threatens b) ++ statement_threatens s
+  statement_threatens (For variable low high a from_line direction b to_line s) =
+      (((0, variable) ∷ expr_threatens a) ++ expr_threatens b) ++ statement_threatens s
   statement_threatens (With places s) = places_threaten places ++ statement_threatens s
-  -- new, pack and unpack write to pointers and arrays, which no control variable is
+  -- new, pack and unpack write to pointers and arrays, which are never control variables
   statement_threatens (New p pointer line) = place_threatens p
   statement_threatens (Pack p from_type e line q to_type) = (place_threatens p ++ expr_threatens e) ++ place_threatens q
-  statement_threatens (Unpack p from_type q to_type e line) = (place_threatens p ++ place_threatens q) ++ expr_threatens e
+  statement_threatens (Unpack p from_type q to_type e line) = (place_threatens p ++ place_threatens q)
+      ++ expr_threatens e
   statement_threatens (Read variables) = reads_threaten variables
   statement_threatens (Readln variables line) = reads_threaten variables
   statement_threatens (Write parameters) = parameters_threaten parameters
@@ -163,10 +179,11 @@ unfoldable mutual
   elements_threaten no_element = []
   elements_threaten (element_before constants s rest) = statement_threatens s ++ elements_threaten rest
 
--- the entries of changes, which are told with their places in the text
+-- the entries of changes, which are given with their places in the text
 abbrev pub entries_of : List Change → Threatened
 entries_of changes = map (λ (x : Change). (x.up, x.entry)) changes
 
--- What the judgement of statements hands on as changed is what the checked statements threaten.
+-- What the judgement of statements passes on as changed is what the checked statements threaten.
 abbrev pub WhatIsThreatenedIsChanged : Type 0
-WhatIsThreatenedIsChanged = (c : Context) (Γ : List Region) (xs : List syntax.Statement) (body : Statements) (changes : List Change) → statements c Γ xs [] ≡ Yes (body, changes) → entries_of changes ≡ statements_threaten body
+WhatIsThreatenedIsChanged = (c : Context) (Γ : List Region) (xs : List syntax.Statement) (body : Statements)
+    (changes : List Change) → statements c Γ xs [] ≡ Yes (body, changes) → entries_of changes ≡ statements_threaten body

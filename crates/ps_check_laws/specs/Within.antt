@@ -1,4 +1,5 @@
--- The routines that lie within a block, whose changes of its variables and of its function's result count for it (6.6.2, 6.8.3.9).
+-- The routines that lie within a block, whose changes of its variables and of its function's result count for it
+-- (6.6.2, 6.8.3.9).
 use Rattle.std.specs.Prelude.{◌≡◌, ◌<◌, ℕ, ◌+◌, List, ◌∷◌, ◌++◌, length, Option, Some, slice_get}
 use Rattle.ps_syntax.specs.declared.program.Block.{Block}
 use Rattle.ps_syntax.specs.declared.program.Program as syntax
@@ -28,5 +29,6 @@ pub record AreThoseWithin (text : List ℕ) (p : syntax.Program) (made : Tree.Pr
   pub base : ℕ
   pub first : first_number text p v ≡ Some base
   pub many : length taken ≡ headings_within text b
-  pub each : (u : List ℕ) (x : Block) → IsWithin v u → block_at p.block u ≡ Some x → (i : ℕ) × IsTaken text p made v base taken u i
+  pub each : (u : List ℕ) (x : Block) → IsWithin v u → block_at p.block u ≡ Some x → (i : ℕ)
+      × IsTaken text p made v base taken u i
   pub only : (i : ℕ) → i < length taken → (u : List ℕ) × IsTaken text p made v base taken u i

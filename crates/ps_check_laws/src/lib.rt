@@ -1,7 +1,7 @@
 //! Laws: what each name of a checked program denotes, told over paths in the whole tree (ISO 7185, 6.2.2), and what its
 //! statements change (6.8.3.9).
 //!
-//! The functions do nothing when they run; each stands for its contract.
+//! The functions do nothing when they run; each is there for its contract.
 #![tactic(auto)]
 
 ghost use Rattle.ps_check_laws.specs.Read.{NamesMeanTheirPoints};
@@ -22,8 +22,8 @@ pub fn uses_find_what_they_denote()
     ensures { UsesFindWhatTheyDenote }
 {}
 
-/// In an accepted program each forward heading has its block further on in its routine part, and of two routines of one
-/// name the second is the block of the first (6.6.1, 6.6.2).
+/// In an accepted program each forward heading has its block later in its routine part, and of two routines with the
+/// same name the second is the block of the first (6.6.1, 6.6.2).
 pub fn forward_headings_have_blocks()
     ensures { ForwardHeadingsHaveBlocks }
 {}
@@ -38,30 +38,30 @@ pub fn one_point_is_denoted()
     ensures { OnePointIsDenoted }
 {}
 
-/// A tree that has a checked program is read as that program: block by block each defining point has one meaning, which
-/// is what its definition says, and each block keeps the rules where the names mean that.
+/// A tree that has a checked program is read as that program: block by block, each defining point has one meaning,
+/// which is what its definition says, and each block keeps the rules under those meanings.
 pub fn checked_programs_are_read()
     ensures { CheckedProgramsAreRead }
 {}
 
-/// No other program is so read: where the checker has none, the tree is read as no program.
+/// No other program is read so: if the checker has none, the tree is read as no program.
 pub fn read_programs_are_checked()
     ensures { ReadProgramsAreChecked }
 {}
 
-/// A tree is read as one program at most.
+/// A tree is read as at most one program.
 pub fn one_program_is_read()
     ensures { OneProgramIsRead }
 {}
 
-/// What the statements of a block are said to change is what the checked statements threaten (6.8.3.9), told of the
+/// What the statements of a block are said to change is what the checked statements threaten (6.8.3.9), stated of the
 /// finished tree alone.
 pub fn what_is_threatened_is_changed()
     ensures { WhatIsThreatenedIsChanged }
 {}
 
 /// In an accepted program neither the statement that a `for` statement repeats nor a routine within its block threatens
-/// the control variable (6.8.3.9), told of the checked program alone.
+/// the control variable (6.8.3.9), stated of the checked program alone.
 pub fn control_variables_are_safe()
     ensures { ControlVariablesAreSafe }
 {}

@@ -13,7 +13,8 @@ use Rattle.ps_check_judgement.specs.declared.refusal.Rule.{Rule}
 use Rattle.ps_check_judgement.specs.declared.refusal.Rule.TheVariants.{NotInProfile, WrongKind, WrongType}
 use Rattle.ps_check_judgement.specs.Judged.{Judged, Yes, No, ◌>>=◌, provided}
 use Rattle.ps_check_names.specs.Spelling.{bytes_at, spelled}
-use Rattle.ps_check_names.specs.Regions.{Region, Point, BlockPoint, ConstantMeaning, TextMeaning, FileMeaning, LeftOutMeaning, find}
+use Rattle.ps_check_names.specs.Regions.{Region, Point, BlockPoint, ConstantMeaning, TextMeaning, FileMeaning}
+use Rattle.ps_check_names.specs.Regions.{LeftOutMeaning, find}
 
 abbrev pub integer : Ordinal
 integer = record { host = Integer; subrange = None; low = negsuc 2147483647; high = pos 2147483647 }
@@ -33,14 +34,14 @@ pub data ConstantValue : Type 0 where
 abbrev pub denoted : List ℕ → List Region → Span → Judged Point
 denoted text Γ name = find Γ (spelled text name) name.from
 
--- The rule that a name breaks where its point can't stand. The profile leaves some names out, there or everywhere: the files stand as
--- first parameters of some required routines alone.
+-- The rule that a name breaks where its point isn't allowed. The profile leaves some names out, there or everywhere:
+-- the files may only be the first parameters of some required routines.
 unfoldable pub misplacement : Point → Rule
 misplacement (BlockPoint up (FileMeaning file)) = NotInProfile
 misplacement (BlockPoint up LeftOutMeaning) = NotInProfile
 misplacement _ = WrongKind
 
--- a point that can't stand there
+-- a point that isn't allowed there
 abbrev pub misplaced : {A : Type 0} → (at : ℕ) → Point → Judged A
 misplaced at p = No (misplacement p) at
 
@@ -67,7 +68,8 @@ integer_with_sign at sign.Minus n = provided (int_le (negsuc 2147483646) n) Wron
 -- a sign, if there is one, before a constant at an offset
 unfoldable pub signed_constant : (at : ℕ) → Option (Sign × Span) → ConstantValue → Judged ConstantValue
 signed_constant at None v = Yes v
-signed_constant at (Some s) (OrdinalConstant o n) = if is_same_host o.host Integer then integer_with_sign at s.0 n >>= (λ m. Yes (OrdinalConstant integer m)) else No WrongType at
+signed_constant at (Some s) (OrdinalConstant o n) = if is_same_host o.host Integer then integer_with_sign at s.0 n
+    >>= (λ m. Yes (OrdinalConstant integer m)) else No WrongType at
 signed_constant at (Some s) (TextConstant w) = No WrongType at
 
 abbrev pub number_at : List ℕ → Span → ℤ

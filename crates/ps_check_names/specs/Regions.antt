@@ -1,5 +1,6 @@
 -- The regions that enclose a place in a program (ISO 7185, 6.2.2), and what a name is found to denote there.
-use Rattle.std.specs.Prelude.{ℕ, zero, suc, ◌+◌, ℤ, Bool, ◌||◌, List, [], ◌∷◌, Option, Some, None, slice_get, nat_lt, codes, if◌then◌else◌}
+use Rattle.std.specs.Prelude.{ℕ, zero, suc, ◌+◌, ℤ, Bool, ◌||◌, List, [], ◌∷◌, Option, Some, None, slice_get, nat_lt}
+use Rattle.std.specs.Prelude.{codes, if◌then◌else◌}
 use Rattle.ps_tree.specs.declared.types.Ordinal.{Ordinal}
 use Rattle.ps_tree.specs.Types.{DataType, FieldList, field_in}
 use Rattle.ps_tree.specs.Tree.{Formals, no_formal, formal_before, ValueFormal, VariableFormal, RoutineFormal}
@@ -11,7 +12,7 @@ use Rattle.ps_check_judgement.specs.declared.change.Change.{Change}
 use Rattle.ps_check_judgement.specs.Judged.{Judged, Yes, No, ◌>>=◌, some_or}
 use Rattle.ps_check_names.specs.Spelling.{place, same}
 
--- 6.6.3.1: the sections of a formal parameter list, each with how many names it has
+-- 6.6.3.1: the sections of a formal parameter list, each with the number of its names
 mutual
   pub data Section : Type 0 where
     ValueSection : (count : ℕ) → DataType → Section
@@ -76,20 +77,21 @@ pub data Meaning : Type 0 where
 
 -- a region that encloses a place
 pub data Region : Type 0 where
-  -- A block: its routine's number, the spellings of all its defining points, those after the place too, in the order in which their
-  -- definitions end, and the meanings of those before the place. The region of the required names around the program is one too.
+  -- A block: its routine's number, the spellings of all its defining points, including those after the place, in the
+  -- order in which their definitions end, and the meanings of those before the place. The region of the required names
+  -- around the program is one too.
   BlockRegion : (routine : ℕ) (names : List (List ℕ)) (known : List Meaning) → Region
   -- a record that a `with` opens
   RecordRegion : (record_type : DataType) (fields : FieldList) → Region
-  -- A record within its own denoter, a formal parameter list, or the variables of a declaration: a name of it hides others of its spelling there, and
-  -- can't be used. The first `defined` of them stand before the place.
+  -- A record within its own denoter, a formal parameter list, or the variables of a declaration: a name of it hides
+  -- others of its spelling there, and can't be used. The first `defined` of them come before the place.
   OwnNames : (names : List (List ℕ)) (defined : ℕ) → Region
 
 -- a defining point that is denoted
 pub data Point : Type 0 where
-  -- up: the blocks between the use and the point's region
+  -- up: the number of blocks between the use and the point's region
   BlockPoint : (up : ℕ) → Meaning → Point
-  -- which: the opened records between them; the field's number in its record, and its type
+  -- which: the number of opened records between them; the field's number in its record, and its type
   FieldPoint : (which : ℕ) (record_type : DataType) (number : ℕ) → DataType → Point
 
 -- One more. Such counts go up to 4294967295 (this project's limit; no text of 1,048,576 bytes comes near).
@@ -98,11 +100,11 @@ one_more n = if nat_lt n 4294967295 then Some (n + 1) else None
 
 -- ---- the search: the point of a name, or the rule that its use breaks
 
--- The name has no defining point. The files have one where the program heading lists them.
+-- The name has no defining point. The files have one if the program heading lists them.
 abbrev pub missing : List ℕ → Rule
 missing s = if same s (codes "input") || same s (codes "output") then NoInputOutput else Unknown
 
--- the point at an index of the block, which has to stand before the place
+-- the point at an index of the block, which has to come before the place
 abbrev pub of_block : (at up : ℕ) → Option Meaning → Judged Point
 of_block at up None = No UsedBefore at
 of_block at up (Some m) = Yes (BlockPoint up m)
@@ -117,19 +119,21 @@ abbrev pub in_record : ℕ → DataType → Option (ℕ × DataType) → Judged 
 in_record which type None outside = outside
 in_record which type (Some f) outside = Yes (FieldPoint which type f.0 f.1)
 
--- a name within its own definition: one that stands before the place is of another kind
+-- a name within its own definition: one that comes before the place is of another kind
 abbrev pub in_own : {A : Type 0} → (at defined : ℕ) → Option ℕ → Judged A → Judged A
 in_own at defined None outside = outside
 in_own at defined (Some i) outside = No (if nat_lt i defined then WrongKind else UsedBefore) at
 
--- the point of a name, where the regions stand from the inside out, behind some blocks and opened records
+-- the point of a name, where the regions are given from the inside out, after some blocks and opened records
 unfoldable pub find_past : (up which : ℕ) → List Region → List ℕ → (at : ℕ) → Judged Point
 find_past up which [] s at = No (missing s) at
-find_past up which (BlockRegion routine names known ∷ Γ) s at = in_block at up known (place names s) (some_or (missing s) at (one_more up) >>= (λ n. find_past n which Γ s at))
-find_past up which (RecordRegion type fields ∷ Γ) s at = in_record which type (field_in fields s) (some_or (missing s) at (one_more which) >>= (λ n. find_past up n Γ s at))
+find_past up which (BlockRegion routine names known ∷ Γ) s at = in_block at up known (place names s)
+    (some_or (missing s) at (one_more up) >>= (λ n. find_past n which Γ s at))
+find_past up which (RecordRegion type fields ∷ Γ) s at = in_record which type (field_in fields s)
+    (some_or (missing s) at (one_more which) >>= (λ n. find_past up n Γ s at))
 find_past up which (OwnNames names defined ∷ Γ) s at = in_own at defined (place names s) (find_past up which Γ s at)
 
--- of a name whose use begins at an offset
+-- for a name whose use begins at an offset
 abbrev pub find : List Region → List ℕ → (at : ℕ) → Judged Point
 find Γ s at = find_past 0 0 Γ s at
 
@@ -141,7 +145,7 @@ pub record Context : Type 0 where
   -- the program heading lists input, and output
   pub has_input : Bool
   pub has_output : Bool
-  -- the control variables of the `for` statements round the statement, which are entries of its own routine (6.8.3.9)
+  -- the control variables of the enclosing `for` statements, which are entries of the statement's own routine (6.8.3.9)
   pub controls : List ℕ
   -- what the routines of the block change, as the block sees it
   pub inner : List Change

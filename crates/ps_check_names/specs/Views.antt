@@ -1,10 +1,11 @@
--- What the values of the program stand for in the definitions.
+-- What the values of the program denote in the definitions.
 use Rattle.std.specs.Prelude.{ℕ, List, [], ◌∷◌, option_map, map}
 use Rattle.ps_tree.specs.declared.types.Ty.{Ty}
 use Rattle.ps_tree.specs.Types.{DataType, RecordType, FieldList, field_list, no_type}
 use Rattle.ps_tree.specs.View.{type_of}
 use Rattle.ps_check_names.specs.declared.meaning.Section as Rust
-use Rattle.ps_check_names.specs.declared.meaning.Section.{Value, Variable, Routine', Row_of-Section, end_of-Section, more_of-Section}
+use Rattle.ps_check_names.specs.declared.meaning.Section.{Value, Variable, Routine', Row_of-Section, end_of-Section}
+use Rattle.ps_check_names.specs.declared.meaning.Section.{more_of-Section}
 use Rattle.ps_check_names.specs.declared.meaning.Heading as RustHeading
 use Rattle.ps_check_names.specs.declared.meaning.Meaning as RustMeaning
 use Rattle.ps_check_names.specs.declared.meaning.Meaning.TheVariants as m
@@ -18,7 +19,11 @@ use Rattle.ps_check_names.specs.declared.constants.ConstantValue as RustConstant
 use Rattle.ps_check_names.specs.declared.constants.ConstantValue.TheVariants as c
 use Rattle.ps_check_judgement.specs.Judged.{Judged, Yes, No}
 use Rattle.ps_check_names.specs.Constants.{ConstantValue, OrdinalConstant, TextConstant}
-use Rattle.ps_check_names.specs.Regions.{Section, ValueSection, VariableSection, RoutineSection, Sections, no_section, section_before, Heading, Meaning, ConstantMeaning, TextMeaning, TypeMeaning, VariableMeaning, ParameterMeaning, RoutineParameterMeaning, RoutineMeaning, FileMeaning, RequiredMeaning, LeftOutMeaning, Region, BlockRegion, RecordRegion, OwnNames, Point, BlockPoint, FieldPoint, Context}
+use Rattle.ps_check_names.specs.Regions.{Section, ValueSection, VariableSection, RoutineSection, Sections, no_section}
+use Rattle.ps_check_names.specs.Regions.{section_before, Heading, Meaning, ConstantMeaning, TextMeaning, TypeMeaning}
+use Rattle.ps_check_names.specs.Regions.{VariableMeaning, ParameterMeaning, RoutineParameterMeaning, RoutineMeaning}
+use Rattle.ps_check_names.specs.Regions.{FileMeaning, RequiredMeaning, LeftOutMeaning, Region, BlockRegion}
+use Rattle.ps_check_names.specs.Regions.{RecordRegion, OwnNames, Point, BlockPoint, FieldPoint, Context}
 
 unfoldable mutual
   pub section_of : Rust.Section → Section
@@ -51,7 +56,8 @@ meaning_of (m.Text characters) = TextMeaning characters
 meaning_of (m.«Type» ty) = TypeMeaning (type_of ty)
 meaning_of (m.Variable entry ty) = VariableMeaning entry (type_of ty)
 meaning_of (m.Parameter entry ty) = ParameterMeaning entry (type_of ty)
-meaning_of (m.RoutineParameter entry sections result) = RoutineParameterMeaning entry (sections_of sections.value.items) (option_map type_of result)
+meaning_of (m.RoutineParameter entry sections result) = RoutineParameterMeaning entry (sections_of sections.value.items)
+    (option_map type_of result)
 meaning_of (m.Routine heading) = RoutineMeaning (heading_of heading)
 meaning_of (m.File file) = FileMeaning file
 meaning_of (m.Required routine) = RequiredMeaning routine
@@ -62,14 +68,15 @@ unfoldable pub fields_of : DataType → FieldList
 fields_of (RecordType at packed fields) = fields
 fields_of _ = field_list [] no_type
 
--- the regions where records of these types were opened one after the other
+-- the regions after records of these types were opened one after the other
 unfoldable pub opened_in : List Region → List Ty → List Region
 opened_in Γ [] = Γ
 opened_in Γ (ty ∷ types) = opened_in (RecordRegion (type_of ty) (fields_of (type_of ty)) ∷ Γ) types
 
 unfoldable pub scope_of : Scope → List Region
 scope_of Outside = []
-scope_of (Block' routine names known p outer) = BlockRegion routine names.now (map meaning_of known.now) ∷ scope_of outer
+scope_of (Block' routine names known p outer) = BlockRegion routine names.now (map meaning_of known.now)
+    ∷ scope_of outer
 scope_of (Opened' records p outer) = opened_in (scope_of outer) records.now
 scope_of (Own' names defined p outer) = OwnNames names.now defined ∷ scope_of outer
 
@@ -77,14 +84,21 @@ abbrev pub point_of : Found → Point
 point_of (f.Name up meaning) = BlockPoint up (meaning_of meaning.now)
 point_of (f.Field which record_type number ty) = FieldPoint which (type_of record_type.now) number (type_of ty.now)
 
--- what a search found of a name whose use begins at an offset
+-- what a search found for a name whose use begins at an offset
 abbrev pub found : (at : ℕ) → Lookup → Judged Point
 found at (l.Found point) = Yes (point_of point)
 found at (l.Broken rule) = No rule at
 
 -- outside all statements
 abbrev pub context_of : Reading → Context
-context_of r = record { text = r.source.now; domains = map type_of r.domains.now; has_input = r.has_input; has_output = r.has_output; controls = []; inner = [] }
+context_of r = record {
+  text = r.source.now;
+  domains = map type_of r.domains.now;
+  has_input = r.has_input;
+  has_output = r.has_output;
+  controls = [];
+  inner = [];
+}
 
 unfoldable pub constant_of : RustConstant.ConstantValue → ConstantValue
 constant_of (c.Ordinal ordinal value) = OrdinalConstant ordinal value

@@ -2,7 +2,9 @@
 
 ghost use Rattle.std.specs.Prelude.{◌≡◌, ℕ, IfOk};
 ghost use Rattle.ps_check_judgement.specs.Judged.{Answers};
-ghost use Rattle.ps_check_names.specs.Constants.{integer, char, boolean, misplacement, constant_at, constant_named, text_constant, integer_with_sign, signed_constant, number_at, constant};
+ghost use Rattle.ps_check_names.specs.Constants.{integer, char, boolean, misplacement, constant_at, constant_named};
+ghost use Rattle.ps_check_names.specs.Constants.{text_constant, integer_with_sign, signed_constant, number_at};
+ghost use Rattle.ps_check_names.specs.Constants.{constant};
 ghost use Rattle.ps_check_names.specs.Views.{scope_of, point_of, constant_of};
 
 use crate::meaning::Meaning;
@@ -60,14 +62,14 @@ pub fn text_constant(alloc: Global, characters: Vec<u8>) -> Result<ConstantValue
     }
 }
 
-/// The number that stands there.
+/// The number at this place.
 pub fn number_at(reading: &Reading, at: Span) -> i32
     ensures { result ≡ number_at reading.now.source.now at }
 {
     number_value(reading.bytes(at)) as i32
 }
 
-/// What is told of a point that can't stand there.
+/// The rule that is reported of a point that isn't allowed there.
 #[tactic(auto, unfolding(crate::specs::Views::meaning_of, crate::specs::Constants::misplacement))]
 pub fn misplacement(found: &Found) -> Rule
     ensures { result ≡ misplacement (point_of found.now) }
@@ -110,7 +112,7 @@ fn constant_at(found: &Found, at: u32) -> Result<ConstantValue, Fault>
     }
 }
 
-/// A number behind a sign.
+/// A number after a sign.
 fn integer_with_sign(sign: Sign, value: i32, at: u32) -> Result<i32, Fault>
     ensures { Answers result (λ n. n) (integer_with_sign at sign value) }
 {
@@ -126,7 +128,7 @@ fn integer_with_sign(sign: Sign, value: i32, at: u32) -> Result<i32, Fault>
     }
 }
 
-/// A constant behind a sign, if there is one. `at` is where the constant itself begins.
+/// A constant after a sign, if there is one. `at` is where the constant itself begins.
 #[tactic(auto, unfolding(crate::specs::Views::constant_of, crate::specs::Constants::signed_constant))]
 fn signed_constant(
     sign: Option<(Sign, Span)>,
@@ -155,7 +157,8 @@ fn constant_named(
     scope: &Scope,
     name: Span,
 ) -> Result<ConstantValue, Fault>
-    ensures { Answers result (λ value. constant_of value) (constant_named reading.now.source.now (scope_of scope.now) name) }
+    ensures { Answers result (λ value. constant_of value)
+        (constant_named reading.now.source.now (scope_of scope.now) name) }
 {
     let found = reading.denoted(alloc, scope, name)?;
     constant_at(&found, name.from)
@@ -169,7 +172,8 @@ pub fn constant(
     scope: &Scope,
     written: Constant,
 ) -> Result<ConstantValue, Fault>
-    ensures { Answers result (λ value. constant_of value) (constant reading.now.source.now (scope_of scope.now) written) }
+    ensures { Answers result (λ value. constant_of value)
+        (constant reading.now.source.now (scope_of scope.now) written) }
 {
     match written {
         Constant::Number(sign, at) => {

@@ -1,4 +1,4 @@
-//! What names stand for.
+//! What names denote.
 
 use ps_tree::characters::Characters;
 use ps_tree::types::{Ordinal, Ty};
@@ -32,7 +32,7 @@ pub enum Required {
     Unpack,
 }
 
-/// A section of a formal parameter list (6.6.3.1); `count` is how many names it has.
+/// A section of a formal parameter list (6.6.3.1); `count` is the number of its names.
 #[derive(Drop)]
 pub enum Section {
     Value {
@@ -50,8 +50,8 @@ pub enum Section {
     },
 }
 
-/// A routine's heading. `at` is the offset of the routine's name; `names` has the formal parameters' names in small letters, in order; a forward heading's block
-/// comes later.
+/// A routine's heading. `at` is the offset of the routine's name; `names` has the formal parameters' names in lower
+/// case, in order; a forward heading's block comes later.
 #[derive(Drop)]
 pub struct Heading {
     pub number: u32,
@@ -62,8 +62,8 @@ pub struct Heading {
     pub is_forward: bool,
 }
 
-/// What a defining point gives its name. The entries of a routine count from 0: a function's result, formal
-/// parameters, variables.
+/// What a defining point gives its name. The entries of a routine count from 0: a function's result, formal parameters,
+/// variables.
 #[derive(Drop)]
 pub enum Meaning {
     /// A constant of an ordinal type; a string of one character is one of type char.
@@ -74,7 +74,7 @@ pub enum Meaning {
     /// A constant that is a string of several characters.
     Text(Characters),
     Type(Ty),
-    /// A variable that is declared in a variable part.
+    /// A variable declared in a variable part.
     Variable {
         entry: u32,
         ty: Ty,

@@ -1,4 +1,4 @@
-//! The text that is read, and what is known of the whole program.
+//! The text that is read, and what is known about the whole program.
 
 ghost use Rattle.std.specs.Prelude.{◌≡◌};
 
@@ -11,7 +11,7 @@ use ps_tree::types::Ty;
 use smallvec::SmallVec;
 use std::alloc::{AllocError, Global};
 
-/// The text that is read with its lines, the domain types of the pointer types so far by their numbers, and which of
+/// The text that is read, with its lines, the domain types of the pointer types so far, by their numbers, and which of
 /// input and output the program heading lists.
 #[derive(Clone, Copy)]
 pub struct Reading<'a> {
@@ -23,7 +23,7 @@ pub struct Reading<'a> {
     ghost one_text: { lines.now ≡ source.now },
 }
 
-/// The spelling of a name, in small letters. One of at most 32 characters takes no memory of its own.
+/// The spelling of a name, in lower case. One of at most 32 characters allocates nothing.
 pub type Spelling = SmallVec<u8, 32>;
 
 impl<'a> Reading<'a> {
@@ -33,7 +33,7 @@ impl<'a> Reading<'a> {
     ghost use Rattle.ps_check_names.specs.Constants.{denoted};
     ghost use Rattle.ps_check_names.specs.Views.{scope_of, point_of};
 
-    /// The bytes of a span, none where it isn't within the text.
+    /// The bytes of a span; none if it isn't within the text.
     pub fn bytes(&self, at: Span) -> &'a [u8]
         ensures { result.now ≡ bytes_at self.now.source.now at }
     {
@@ -44,13 +44,14 @@ impl<'a> Reading<'a> {
         }
     }
 
-    /// The line of an offset; behind the end of the text, that of the end.
+    /// The line of an offset; after the end of the text, that of the end.
     pub fn line(&self, at: u32) -> Line
         ensures { result.number ≡ line_in self.now.source.now at }
     {
         let number = self.lines.line_of(at.min(self.source.len()));
         Line {
             number: number as u16,
+            at,
         }
     }
 

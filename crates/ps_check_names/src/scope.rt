@@ -21,21 +21,21 @@ use ps_tree::types::Ty;
 pub enum Scope<'a> {
     Outside,
     /// A block: its routine's number, the names of all its defining points in the order in which their definitions end,
-    /// and what the first of them, those before the place, stand for.
+    /// and what the first of them, those before the place, denote.
     Block {
         routine: u32,
         names: &'a Names,
         known: &'a [Meaning],
         outer: &'a Scope<'a>,
     },
-    /// The types of the records that a `with` opens one after the other, each within those before it. A type that is no
-    /// record has no fields.
+    /// The types of the records that a `with` opens one after the other, each within those before it. A type that is
+    /// not a record has no fields.
     Opened {
         records: &'a [Ty],
         outer: &'a Scope<'a>,
     },
-    /// A record within its own denoter, a list of formal parameters, or the variables of a declaration: their names, of
-    /// which the first `defined` stand before the place.
+    /// A record within its own denoter, a list of formal parameters, or the variables of a declaration: their names,
+    /// the first `defined` of which come before the place.
     Own {
         names: &'a Names,
         defined: usize,
@@ -46,12 +46,12 @@ pub enum Scope<'a> {
 /// The defining point that a name denotes.
 #[derive(Clone, Copy)]
 pub enum Found<'a> {
-    /// A name of a block that is `up` blocks further out.
+    /// A name of a block that is `up` blocks out.
     Name {
         up: u32,
         meaning: &'a Meaning,
     },
-    /// The field with this number of an opened record, the innermost of which is `which` 0.
+    /// The field with this number of an opened record; the innermost is `which` 0.
     Field {
         which: u32,
         record: &'a Ty,
@@ -67,7 +67,7 @@ pub enum Lookup<'a> {
     Broken(Rule),
 }
 
-/// One more, where a count can tell it.
+/// One more, if a count can hold it.
 pub fn one_more(count: u32) -> Option<u32>
     ensures { result ≡ one_more count }
 {
@@ -78,7 +78,7 @@ pub fn one_more(count: u32) -> Option<u32>
     }
 }
 
-/// How many blocks lie before what encloses this one, where none of its defining points has the name; or else what ends
+/// The number of blocks before what encloses this one, if none of its defining points has the name; or else what ends
 /// the search.
 #[tactic(auto, unfolding(crate::specs::Regions::find_past))]
 fn past_block<'a>(
@@ -87,8 +87,10 @@ fn past_block<'a>(
     up: u32,
     name: &[u8],
 ) -> Result<u32, Lookup<'a>>
-    ensures ok { IfOk result (λ n. (which routine at : ℕ) (Γ : List Region) → find_past up which (BlockRegion routine names.now (map meaning_of known.now) ∷ Γ) name.now at ≡ find_past n which Γ name.now at) }
-    ensures err { IfErr result (λ end. (which routine at : ℕ) (Γ : List Region) → find_past up which (BlockRegion routine names.now (map meaning_of known.now) ∷ Γ) name.now at ≡ found at end) }
+    ensures ok { IfOk result (λ n. (which routine at : ℕ) (Γ : List Region) → find_past up which
+        (BlockRegion routine names.now (map meaning_of known.now) ∷ Γ) name.now at ≡ find_past n which Γ name.now at) }
+    ensures err { IfErr result (λ end. (which routine at : ℕ) (Γ : List Region) → find_past up which
+        (BlockRegion routine names.now (map meaning_of known.now) ∷ Γ) name.now at ≡ found at end) }
 {
     match names.find(name) {
         None => one_more(up).ok_or(Lookup::Broken(missing(name))),
@@ -99,7 +101,7 @@ fn past_block<'a>(
     }
 }
 
-/// The field of this name of a record type: its number and its type.
+/// The field of a record type with this name: its number and its type.
 #[tactic(auto, unfolding(crate::specs::Views::fields_of, ps_tree::specs::View::type_of))]
 fn field_of<'a>(ty: &'a Ty, name: &[u8]) -> Option<(u32, &'a Ty)>
     ensures { option_map (λ f. (f.0, type_of f.1.now)) result ≡ field_in (fields_of (type_of ty.now)) name.now }
@@ -110,11 +112,13 @@ fn field_of<'a>(ty: &'a Ty, name: &[u8]) -> Option<(u32, &'a Ty)>
     }
 }
 
-/// How many opened records lie before what encloses these, the last of which is the innermost, where none of them has a
-/// field of this name; or else what ends the search.
+/// The number of opened records before what encloses these, the last of which is the innermost, if none of them has a
+/// field with this name; or else what ends the search.
 fn past_records<'a>(records: &'a [Ty], which: u32, name: &[u8]) -> Result<u32, Lookup<'a>>
-    ensures ok { IfOk result (λ n. (up at : ℕ) (Γ : List Region) → find_past up which (opened_in Γ records.now) name.now at ≡ find_past up n Γ name.now at) }
-    ensures err { IfErr result (λ end. (up at : ℕ) (Γ : List Region) → find_past up which (opened_in Γ records.now) name.now at ≡ found at end) }
+    ensures ok { IfOk result (λ n. (up at : ℕ) (Γ : List Region) → find_past up which
+        (opened_in Γ records.now) name.now at ≡ find_past up n Γ name.now at) }
+    ensures err { IfErr result (λ end. (up at : ℕ) (Γ : List Region) → find_past up which
+        (opened_in Γ records.now) name.now at ≡ found at end) }
 {
     let mut left = records;
     let mut passed = which;
@@ -191,7 +195,7 @@ pub fn within_own(index: usize, defined: usize) -> Rule
     }
 }
 
-/// The defining point that a name denotes whose use begins at an offset.
+/// The defining point denoted by a name whose use begins at an offset.
 pub(crate) fn denoted_at<'s>(scope: &'s Scope<'s>, name: &[u8], at: u32) -> Result<Found<'s>, Fault>
     ensures { Answers result (λ found. point_of found) (find (scope_of scope.now) name.now at) }
 {
@@ -201,8 +205,8 @@ pub(crate) fn denoted_at<'s>(scope: &'s Scope<'s>, name: &[u8], at: u32) -> Resu
     }
 }
 
-/// The rule that the use of a name without a defining point breaks: input and output have one where the program
-/// heading lists them.
+/// The rule that the use of a name without a defining point breaks: input and output have one if the program heading
+/// lists them.
 fn missing(name: &[u8]) -> Rule
     ensures { result ≡ missing name.now }
 {
@@ -213,7 +217,7 @@ fn missing(name: &[u8]) -> Rule
     }
 }
 
-/// A search finds the defining point that the name denotes, and finds none only where it denotes none.
+/// A search finds the defining point that the name denotes, and finds none only if it denotes none.
 pub fn scope_rules()
     ensures { FindsWhatIsDenoted }
 {}

@@ -9,7 +9,8 @@ use Rattle.ps_check_judgement.specs.declared.refusal.Rule.TheVariants.{WrongKind
 use Rattle.ps_check_judgement.specs.Judged.{Judged, No, provided, some_or}
 use Rattle.ps_check_judgement.specs.Changing.{Changing, ◌>>=◌, still}
 use Rattle.ps_check_names.specs.Spelling.{line_in}
-use Rattle.ps_check_names.specs.Regions.{Context, Region, BlockRegion, RecordRegion, OwnNames, Point, BlockPoint, Heading, RoutineMeaning}
+use Rattle.ps_check_names.specs.Regions.{Context, Region, BlockRegion, RecordRegion, OwnNames, Point, BlockPoint}
+use Rattle.ps_check_names.specs.Regions.{Heading, RoutineMeaning}
 use Rattle.ps_check_expressions.specs.Values.{Value, SimpleValue, SetValue, StructureValue, Variable, range_of}
 use Rattle.ps_check_expressions.specs.Names.{denoted}
 use Rattle.ps_check_expressions.specs.Places.{variable_at}
@@ -18,9 +19,13 @@ use Rattle.ps_check_expressions.specs.Expressions.{operand, variable_operand}
 
 -- the result of a function, as a variable of the block that is `levels` blocks out
 abbrev pub result_of : Heading → ℕ → Option Variable
-result_of h levels = option_map (λ type. record { place = Tree.Variable (Tree.Entry levels 0) Tree.no_selector; type = type; in_packed = false }) h.result
+result_of h levels = option_map (λ type. record {
+  place = Tree.Variable (Tree.Entry levels 0) Tree.no_selector;
+  type = type;
+  in_packed = false;
+}) h.result
 
--- 6.6.2: the function's name stands for its result in the function's own block, which is n blocks further out
+-- 6.6.2: the function's name denotes its result in the function's own block, which is n blocks further out
 unfoldable pub result_in : List Region → ℕ → Heading → ℕ → Option Variable
 result_in [] n h levels = None
 result_in (BlockRegion routine names known ∷ Γ) n h levels =
@@ -28,24 +33,28 @@ result_in (BlockRegion routine names known ∷ Γ) n h levels =
 result_in (RecordRegion type fields ∷ Γ) n h levels = result_in Γ n h levels
 result_in (OwnNames names defined ∷ Γ) n h levels = result_in Γ n h levels
 
--- What a name alone stands for on the left of `:=`. A function is declared in the block around its own.
+-- What a name alone denotes on the left of `:=`. A function is declared in the block around its own.
 unfoldable pub target_at : List Region → (at : ℕ) → Point → Judged Variable
-target_at Γ at (BlockPoint up (RoutineMeaning h)) = some_or WrongKind at (if up == 0 then None else result_in Γ (up - 1) h (up - 1))
+target_at Γ at (BlockPoint up (RoutineMeaning h)) = some_or WrongKind at
+    (if up == 0 then None else result_in Γ (up - 1) h (up - 1))
 target_at Γ at p = variable_at at p
 
--- a set's members go into the base of the variable's type
+-- a set's members must be in the base of the variable's type
 unfoldable pub set_assigned : (at : ℕ) → Tree.Place → DataType → Tree.SetExpr → DataType → ℕ → Judged Tree.Statement
-set_assigned at place (SetType a k o) e from line = provided (is_assignable from (SetType a k o)) NotAssignable at (Tree.AssignSet place o.low o.high e line)
+set_assigned at place (SetType a k o) e from line = provided (is_assignable from (SetType a k o)) NotAssignable at
+    (Tree.AssignSet place o.low o.high e line)
 set_assigned at place type e from line = No NotAssignable at
 
 -- 6.4.6: the value is assignment-compatible with the type of the variable; the `:=` is at `at`
 unfoldable pub assigned : (at : ℕ) → Variable → Value → ℕ → Judged Tree.Statement
-assigned at v (SimpleValue e from) line = provided (is_assignable from v.type) NotAssignable at (Tree.Assign v.place (range_of v.type) e line)
+assigned at v (SimpleValue e from) line = provided (is_assignable from v.type) NotAssignable at
+    (Tree.Assign v.place (range_of v.type) e line)
 assigned at v (SetValue e from) line = set_assigned at v.place v.type e from line
-assigned at v (StructureValue e from) line = provided (is_assignable from v.type) NotAssignable at (Tree.AssignStructure v.place e)
+assigned at v (StructureValue e from) line = provided (is_assignable from v.type) NotAssignable at
+    (Tree.AssignStructure v.place e)
 
 module _ (c : Context) (Γ : List Region) where
-  -- what a name alone stands for, or else a component
+  -- what a name alone denotes, or else a component
   abbrev pub name_or_component : Option Span → Changing Variable → Changing Variable
   name_or_component None component = component
   name_or_component (Some name) component = still (denoted c Γ name) >>= (λ p. still (target_at Γ name.from p))
@@ -53,7 +62,7 @@ module _ (c : Context) (Γ : List Region) where
   abbrev pub target : syntax.Variable → Changing Variable
   target x = name_or_component (variable_operand c Γ x).name (variable_operand c Γ x).variable
 
-  -- the variable is changed where it stands
+  -- the variable is changed at its place
   abbrev pub assignment : syntax.Variable → Span → Expr → Changing Tree.Statement
   assignment x at y = do
     v ← target x

@@ -1,5 +1,6 @@
 -- Procedure statements (6.8.2.3), and the required procedures: text (6.9), new (6.6.5.3), pack and unpack (6.6.5.4).
-use Rattle.std.specs.Prelude.{ℕ, Bool, true, false, ◌&&◌, List, [], ◌∷◌, Option, Some, None, is_some, is_none, if◌then◌else◌}
+use Rattle.std.specs.Prelude.{ℕ, Bool, true, false, ◌&&◌, List, [], ◌∷◌, Option, Some, None, is_some, is_none}
+use Rattle.std.specs.Prelude.{if◌then◌else◌}
 use Rattle.ps_text.specs.declared.Span.{Span}
 use Rattle.ps_syntax.specs.First.{first_of_expr}
 use Rattle.ps_syntax.specs.declared.expression.Expr.{Expr}
@@ -7,21 +8,25 @@ use Rattle.ps_syntax.specs.declared.statement.Parameter.{Parameter}
 use Rattle.ps_syntax.specs.declared.statement.Parameter.TheVariants.{Plain, Width}
 use Rattle.ps_tree.specs.declared.types.Host.TheVariants.{Integer, Char, Boolean}
 use Rattle.ps_tree.specs.declared.types.Ordinal.{Ordinal}
-use Rattle.ps_tree.specs.Types.{DataType, OrdinalType, PointerType, ArrayType, is_same_host, is_same_type, string_length}
+use Rattle.ps_tree.specs.Types.{DataType, OrdinalType, PointerType, ArrayType, is_same_host, is_same_type}
+use Rattle.ps_tree.specs.Types.{string_length}
 use Rattle.ps_tree.specs.Tree as Tree
 use Rattle.ps_check_names.specs.declared.meaning.File.{File}
 use Rattle.ps_check_names.specs.declared.meaning.File.TheVariants.{Input, Output}
 use Rattle.ps_check_names.specs.declared.meaning.Required.{Required}
 use Rattle.ps_check_names.specs.declared.meaning.Required.TheVariants as required
 use Rattle.ps_check_judgement.specs.declared.refusal.Rule.{Rule}
-use Rattle.ps_check_judgement.specs.declared.refusal.Rule.TheVariants.{WrongKind, WrongType, NotCongruous, NoInputOutput}
+use Rattle.ps_check_judgement.specs.declared.refusal.Rule.TheVariants.{WrongKind, WrongType, NotCongruous}
+use Rattle.ps_check_judgement.specs.declared.refusal.Rule.TheVariants.{NoInputOutput}
 use Rattle.ps_check_judgement.specs.Judged as j
 use Rattle.ps_check_judgement.specs.Judged.{Judged, Yes, No, provided, holds}
 use Rattle.ps_check_judgement.specs.Changing.{Changing, ◌>>=◌, same, still, each}
 use Rattle.ps_check_names.specs.Spelling.{line_in}
 use Rattle.ps_check_names.specs.Constants.{misplaced}
-use Rattle.ps_check_names.specs.Regions.{Context, Region, Point, BlockPoint, Section, Sections, RoutineMeaning, RoutineParameterMeaning, RequiredMeaning, FileMeaning}
-use Rattle.ps_check_expressions.specs.Values.{Value, SimpleValue, StructureValue, Variable, ordinal_of, is_integer, argument_list}
+use Rattle.ps_check_names.specs.Regions.{Context, Region, Point, BlockPoint, Section, Sections, RoutineMeaning}
+use Rattle.ps_check_names.specs.Regions.{RoutineParameterMeaning, RequiredMeaning, FileMeaning}
+use Rattle.ps_check_expressions.specs.Values.{Value, SimpleValue, StructureValue, Variable, ordinal_of, is_integer}
+use Rattle.ps_check_expressions.specs.Values.{argument_list}
 use Rattle.ps_check_expressions.specs.Names.{denoted}
 use Rattle.ps_check_expressions.specs.Changed.{changed}
 use Rattle.ps_check_expressions.specs.Calls.{actual, parameters, congruent}
@@ -39,7 +44,7 @@ abbrev pub is_file_at : File → Judged Point → Bool
 is_file_at file (Yes p) = is_file file p
 is_file_at file (No rule at) = false
 
--- where that is told of a name that denotes nothing: at the name, where it is a file's
+-- where that is reported for a name that denotes nothing: at the name, if it is a file's
 abbrev pub told_unlisted_by : (at : ℕ) → Rule → (place : ℕ) → ℕ
 told_unlisted_by at NoInputOutput place = place
 told_unlisted_by at _ place = at
@@ -68,7 +73,7 @@ unfoldable pub width_of : (at : ℕ) → Value → ℕ → Judged Tree.Width
 width_of at (SimpleValue e type) line = provided (is_integer type) WrongType at (Tree.GivenWidth e line)
 width_of at _ line = No WrongType at
 
--- read and write have at least one parameter besides the file; their name is at `at`
+-- read and write have at least one parameter in addition to the file; their name is at `at`
 unfoldable pub read_of : (at : ℕ) → List Tree.ReadVariable → Judged Tree.Statement
 read_of at [] = No NotCongruous at
 read_of at (v ∷ vs) = Yes (Tree.Read (v ∷ vs))
@@ -94,15 +99,18 @@ pub record Places : Type 0 where
 unfoldable pub goes_with_pack : Places → DataType → DataType → Ordinal → Judged (Unit {0})
 goes_with_pack at (ArrayType a is_packed i s) (ArrayType b is_other_packed o t) index =
     if is_packed then No WrongType at.unpacked else (
-    if is_other_packed && is_same_type s t then holds (is_same_host index.host i.host) WrongType at.index else No WrongType at.packed)
+    if is_other_packed && is_same_type s t then holds (is_same_host index.host i.host) WrongType at.index
+    else No WrongType at.packed)
 goes_with_pack at (ArrayType a is_packed i s) _ index = No WrongType at.packed
 goes_with_pack at _ _ index = No WrongType at.unpacked
 
 abbrev pub packed_from : Places → Variable → Variable → ℕ → Tree.Expr × Ordinal → Judged Tree.Statement
-packed_from at a z line index = j.◌>>=◌ (goes_with_pack at a.type z.type index.1) (λ _. Yes (Tree.Pack a.place a.type index.0 line z.place z.type))
+packed_from at a z line index = j.◌>>=◌ (goes_with_pack at a.type z.type index.1)
+    (λ _. Yes (Tree.Pack a.place a.type index.0 line z.place z.type))
 
 abbrev pub unpacked_to : Places → Variable → Variable → ℕ → Tree.Expr × Ordinal → Judged Tree.Statement
-unpacked_to at z a line index = j.◌>>=◌ (goes_with_pack at a.type z.type index.1) (λ _. Yes (Tree.Unpack z.place z.type a.place a.type index.0 line))
+unpacked_to at z a line index = j.◌>>=◌ (goes_with_pack at a.type z.type index.1)
+    (λ _. Yes (Tree.Unpack z.place z.type a.place a.type index.0 line))
 
 -- where a parameter begins
 unfoldable pub first_of_parameter : Parameter → ℕ
@@ -110,10 +118,14 @@ first_of_parameter (Plain x) = first_of_expr x
 first_of_parameter (Width x w) = first_of_expr x
 
 abbrev pub places_of : (unpacked packed index : Parameter) → Places
-places_of a z i = record { unpacked = first_of_parameter a; packed = first_of_parameter z; index = first_of_parameter i }
+places_of a z i = record {
+  unpacked = first_of_parameter a;
+  packed = first_of_parameter z;
+  index = first_of_parameter i;
+}
 
 module _ (c : Context) (Γ : List Region) where
-  -- ---- actual parameters. Widths stand in write and writeln alone.
+  -- ---- actual parameters. Only write and writeln have widths.
 
   unfoldable pub actual_parameter : Section → Parameter → Changing Tree.Argument
   actual_parameter section (Plain x) = actual c Γ section (operand c Γ x)
@@ -148,7 +160,8 @@ module _ (c : Context) (Γ : List Region) where
   unfoldable pub names_file : File → Parameter → Bool
   names_file file p = names_file_at file (name_of_parameter p)
 
-  -- Where it is told that the program heading doesn't list the file: at its name, or where that is left out at the routine's name.
+  -- Where it is reported that the program heading doesn't list the file: at its name, or at the routine's name if that
+  -- is left out.
   abbrev pub told_unlisted : (at : ℕ) → Judged Point → ℕ
   told_unlisted at (Yes p) = at
   told_unlisted at (No rule place) = told_unlisted_by at rule place
@@ -161,12 +174,13 @@ module _ (c : Context) (Γ : List Region) where
   unlisted_at at [] = at
   unlisted_at at (p ∷ ps) = unlisted_name at (name_of_parameter p)
 
-  -- the parameters behind the file; where it is implied, the program heading has to list it
+  -- the parameters after the file; if it is implied, the program heading has to list it
   unfoldable pub behind_file : (at : ℕ) → File → Bool → List Parameter → Judged (List Parameter)
   behind_file at file is_listed [] = provided is_listed NoInputOutput at []
-  behind_file at file is_listed (p ∷ ps) = if names_file file p then Yes ps else provided is_listed NoInputOutput (unlisted_at at (p ∷ ps)) (p ∷ ps)
+  behind_file at file is_listed (p ∷ ps) = if names_file file p then Yes ps else provided is_listed NoInputOutput
+      (unlisted_at at (p ∷ ps)) (p ∷ ps)
 
-  -- a variable is changed where it stands
+  -- a variable is changed at its place
   unfoldable pub read_parameter : Parameter → Changing Tree.ReadVariable
   read_parameter p = do
     v ← parameter_variable p
@@ -192,7 +206,8 @@ module _ (c : Context) (Γ : List Region) where
   -- ---- the required procedures, whose name is at `at`
 
   unfoldable pub new_statement : (at : ℕ) → List Parameter → Changing Tree.Statement
-  new_statement at (p ∷ []) = parameter_variable p >>= (λ v. still (new_variable (first_of_parameter p) v.place v.type (line_in c.text at)))
+  new_statement at (p ∷ []) = parameter_variable p
+      >>= (λ v. still (new_variable (first_of_parameter p) v.place v.type (line_in c.text at)))
   new_statement at _ = still (No NotCongruous at)
 
   -- pack(a, i, z)
@@ -231,8 +246,10 @@ module _ (c : Context) (Γ : List Region) where
 
   -- ---- procedure statements: a procedure has no result
 
-  abbrev pub procedure_parameters : (at : ℕ) → (result : Option DataType) → Sections → List Parameter → Changing (List Tree.Argument)
-  procedure_parameters at result sections ps = still (holds (is_none result) WrongKind at) >>= (λ _. actual_parameters at sections ps)
+  abbrev pub procedure_parameters : (at : ℕ) → (result : Option DataType) → Sections → List Parameter → Changing
+      (List Tree.Argument)
+  procedure_parameters at result sections ps = still (holds (is_none result) WrongKind at)
+      >>= (λ _. actual_parameters at sections ps)
 
   unfoldable pub procedure_called : (at : ℕ) → List Parameter → Point → Changing Tree.Statement
   procedure_called at ps (BlockPoint up (RoutineMeaning h)) = do

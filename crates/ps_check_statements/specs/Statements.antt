@@ -1,4 +1,4 @@
--- The typing of statements (6.8): the checked statement for each, by those of the statements in it.
+-- The typing of statements (6.8): the checked statement for each, given those of the statements in it.
 use Rattle.std.specs.Prelude.{ℕ, ℤ, List, [], ◌∷◌, ◌++◌}
 use Rattle.ps_text.specs.declared.Span.{Span}
 use Rattle.ps_syntax.specs.First.{first_of_expr}
@@ -19,7 +19,8 @@ use Rattle.ps_check_expressions.specs.Names.{denoted}
 use Rattle.ps_check_expressions.specs.Changed.{changed}
 use Rattle.ps_check_expressions.specs.Expressions.{operand}
 use Rattle.ps_check_statements.specs.Assignments.{assignment}
-use Rattle.ps_check_statements.specs.Structured.{TypedElement, condition, labels, control_at, unthreatened, bound_at, direction_of, Head, Opening, repeated, with_control, open_next}
+use Rattle.ps_check_statements.specs.Structured.{TypedElement, condition, labels, control_at, unthreatened, bound_at}
+use Rattle.ps_check_statements.specs.Structured.{direction_of, Head, Opening, repeated, with_control, open_next}
 use Rattle.ps_check_statements.specs.Procedures.{procedure_statement}
 
 -- ---- lists of the checked tree
@@ -32,7 +33,8 @@ abbrev pub element_list : List TypedElement → Tree.Elements
 element_list [] = Tree.no_element
 element_list (e ∷ rest) = Tree.element_before e.0 e.1 (element_list rest)
 
--- ---- what the parts are taken as: a statement in some context and regions, and a case element too, by the type of the index and the constants before
+-- ---- what the parts are taken as: a statement in some context and regions, and a case element also by the type of the
+-- index and the constants before
 
 abbrev pub Reading : Type 0
 Reading = Context → List Region → Changing Tree.Statement
@@ -75,8 +77,9 @@ if_else_statement c Γ x s t = do
 abbrev pub index_at : Context → List Region → Expr → Changing (Tree.Expr × Ordinal)
 index_at c Γ x = (operand c Γ x).value >>= (λ v. still (ordinal_of (first_of_expr x) v))
 
--- one more element, behind the constants that are seen and the elements
-abbrev pub one_element : Context → List Region → Ordinal → List ℤ × List TypedElement → ElementReading → Changing (List ℤ × List TypedElement)
+-- one more element, after the constants that have been seen and the elements
+abbrev pub one_element : Context → List Region → Ordinal → List ℤ × List TypedElement → ElementReading → Changing
+    (List ℤ × List TypedElement)
 one_element c Γ o done e = e c Γ o done.0 >>= (λ t. same (done.0 ++ t.0, done.1 ++ t ∷ []))
 
 abbrev pub elements : Context → List Region → Ordinal → List ElementReading → Changing (List TypedElement)
@@ -99,7 +102,8 @@ repeat_statement c Γ ss x = do
 abbrev pub while_statement : Context → List Region → Expr → Reading → Changing Tree.Statement
 while_statement c Γ x s = governed c Γ x s >>= (λ p. same (Tree.While p.0 p.1))
 
--- 6.8.3.9: the control variable, which the statement changes: that is told for a `for` statement round it; and no routine of the block changes it
+-- 6.8.3.9: the control variable, which the statement changes: that is reported for an enclosing `for` statement; and no
+-- routine of the block changes it
 abbrev pub control_of : Context → List Region → Span → Changing (ℕ × Ordinal)
 control_of c Γ name = do
   p ← still (denoted c Γ name)
@@ -113,7 +117,15 @@ for_head c Γ name x direction y = do
   control ← control_of c Γ name
   first ← bound_at c Γ control.1 x
   last ← bound_at c Γ control.1 y
-  same (record { variable = control.0; type = control.1; first = first; first_line = line_of c x; direction = direction_of direction; last = last; last_line = line_of c y })
+  same (record {
+    variable = control.0;
+    type = control.1;
+    first = first;
+    first_line = line_of c x;
+    direction = direction_of direction;
+    last = last;
+    last_line = line_of c y;
+  })
 
 abbrev pub for_behind : Context → List Region → Reading → Head → Changing Tree.Statement
 for_behind c Γ s h = s (with_control c h.variable) Γ >>= (λ body. same (repeated h body))

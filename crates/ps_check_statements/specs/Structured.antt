@@ -1,4 +1,4 @@
--- Structured statements (6.8.3): conditions, `case`, `for` and `with`, by what the parts in them stand for.
+-- Structured statements (6.8.3): conditions, `case`, `for` and `with`, given what the parts in them denote.
 use Rattle.std.specs.Prelude.{ℕ, ◌==◌, ℤ, not, List, [], ◌∷◌, ◌++◌, Option, Some, None}
 use Rattle.std.specs.List.{list_any}
 use Rattle.std.specs.Ordering.{int_eq}
@@ -17,7 +17,8 @@ use Rattle.ps_check_judgement.specs.Judged as j
 use Rattle.ps_check_judgement.specs.Judged.{Judged, Yes, No, provided, steps}
 use Rattle.ps_check_judgement.specs.Changing.{Changing, ◌>>=◌, still}
 use Rattle.ps_check_names.specs.Constants.{constant, misplaced, ConstantValue, OrdinalConstant, TextConstant}
-use Rattle.ps_check_names.specs.Regions.{Context, Region, RecordRegion, Point, BlockPoint, FieldPoint, VariableMeaning, ParameterMeaning}
+use Rattle.ps_check_names.specs.Regions.{Context, Region, RecordRegion, Point, BlockPoint, FieldPoint, VariableMeaning}
+use Rattle.ps_check_names.specs.Regions.{ParameterMeaning}
 use Rattle.ps_syntax.specs.First.{first_of_constant, first_of_expr}
 use Rattle.ps_check_expressions.specs.Values.{Value, SimpleValue, Variable, is_boolean}
 use Rattle.ps_check_expressions.specs.Changed.{first_at}
@@ -38,7 +39,7 @@ case_constant at o (TextConstant w) = No WrongType at
 abbrev pub case_label : Context → List Region → Ordinal → Constant → Judged ℤ
 case_label c Γ o k = j.◌>>=◌ (constant c.text Γ k) (case_constant (first_of_constant k) o)
 
--- the case constants are distinct: none stands among those before it, of its own element or of the elements before
+-- the case constants are distinct: none is among those before it, of its own element or of the elements before
 abbrev pub fresh : (at : ℕ) → (seen own : List ℤ) → ℤ → Judged (List ℤ)
 fresh at seen own n = provided (not (list_any (int_eq n) (seen ++ own))) CaseTwice at (own ++ n ∷ [])
 
@@ -46,7 +47,7 @@ fresh at seen own n = provided (not (list_any (int_eq n) (seen ++ own))) CaseTwi
 abbrev pub next_label : Context → List Region → Ordinal → (seen : List ℤ) → List ℤ → Constant → Judged (List ℤ)
 next_label c Γ o seen own k = j.◌>>=◌ (case_label c Γ o k) (fresh (first_of_constant k) seen own)
 
--- the constants of an element, where some are seen in those before it
+-- the constants of an element, where some have been seen in those before it
 unfoldable pub labels : Context → List Region → Ordinal → (seen : List ℤ) → List Constant → Judged (List ℤ)
 labels c Γ o seen ks = steps (next_label c Γ o seen) [] ks
 
@@ -64,7 +65,7 @@ control_at at (BlockPoint up (ParameterMeaning entry type)) = No ControlVariable
 control_at at (FieldPoint which record_type number type) = No ControlVariable at
 control_at at p = misplaced at p
 
--- no routine of the block changes the control variable: it is told where one does first
+-- no routine of the block changes the control variable: it is reported where one first does
 abbrev pub unchanged : Option ℕ → Judged (Unit {0})
 unchanged None = Yes tt
 unchanged (Some at) = No ControlVariable at
@@ -84,7 +85,7 @@ abbrev pub direction_of : syntax.Direction → Direction
 direction_of Up = To
 direction_of Down = Downto
 
--- what stands before `do`: the control variable with its type, and the two bounds with the lines of their first tokens
+-- what comes before `do`: the control variable with its type, and the two bounds with the lines of their first tokens
 pub record Head : Type 0 where
   pub variable : ℕ
   pub type : Ordinal
@@ -99,7 +100,14 @@ repeated h body = Tree.For h.variable h.type.low h.type.high h.first h.first_lin
 
 -- the statement that is repeated doesn't threaten the control variable
 abbrev pub with_control : Context → ℕ → Context
-with_control c entry = record { text = c.text; domains = c.domains; has_input = c.has_input; has_output = c.has_output; controls = entry ∷ c.controls; inner = c.inner }
+with_control c entry = record {
+  text = c.text;
+  domains = c.domains;
+  has_input = c.has_input;
+  has_output = c.has_output;
+  controls = entry ∷ c.controls;
+  inner = c.inner;
+}
 
 -- ---- with (6.8.3.10)
 

@@ -1,11 +1,12 @@
-// Actual parameters of procedures (6.6.3). Widths stand in write and writeln alone.
+// Actual parameters of procedures (6.6.3). Only write and writeln have widths.
 
 ghost use Rattle.std.specs.Prelude.{◌≡◌, map, option_map};
 ghost use Rattle.ps_tree.specs.View.{argument_of, type_of};
 ghost use Rattle.ps_check_judgement.specs.Judged.{Answers};
 ghost use Rattle.ps_check_names.specs.Views.{section_of, sections_of};
 ghost use Rattle.ps_check_expressions.specs.View.{context_at, regions_at, variable_of};
-ghost use Rattle.ps_check_statements.specs.Procedures.{first_of_parameter, actual_parameter, procedure_parameters, parameter_variable};
+ghost use Rattle.ps_check_statements.specs.Procedures.{first_of_parameter, actual_parameter, procedure_parameters};
+ghost use Rattle.ps_check_statements.specs.Procedures.{parameter_variable};
 
 use ps_check_expressions::expression::{argument, referent};
 use ps_check_expressions::parameter::parameters;
@@ -36,7 +37,8 @@ pub(crate) fn parameter_variable(
     site: Site<'_>,
     changes: &mut Vec<Change>,
 ) -> Result<TypedPlace, Fault>
-    ensures { Answers result (λ v. (variable_of v, changes.new.items)) (parameter_variable (context_at site.entry) (regions_at site.entry) parameter.now changes.old.items) }
+    ensures { Answers result (λ v. (variable_of v, changes.new.items))
+        (parameter_variable (context_at site.entry) (regions_at site.entry) parameter.now changes.old.items) }
 {
     match parameter {
         Parameter::Plain(x) => referent(x, site, changes),
@@ -52,7 +54,9 @@ fn actual_parameter(
     changes: &mut Vec<Change>,
     section: &Section,
 ) -> Result<Argument, Fault>
-    ensures { Answers result (λ a. (argument_of a, changes.new.items)) (actual_parameter (context_at site.entry) (regions_at site.entry) (section_of section.now) parameter.now changes.old.items) }
+    ensures { Answers result (λ a. (argument_of a, changes.new.items))
+        (actual_parameter (context_at site.entry) (regions_at site.entry)
+        (section_of section.now) parameter.now changes.old.items) }
 {
     match parameter {
         Parameter::Plain(x) => argument(x, site, changes, section),
@@ -69,7 +73,9 @@ pub(crate) fn actual_parameters(
     outcome: &Option<Ty>,
     at: u32,
 ) -> Result<Vec<Argument>, Fault>
-    ensures { Answers result (λ arguments. (map argument_of arguments.items, changes.new.items)) (procedure_parameters (context_at site.entry) (regions_at site.entry) at (option_map type_of outcome.now) (sections_of sections.now) list.now changes.old.items) }
+    ensures { Answers result (λ arguments. (map argument_of arguments.items, changes.new.items))
+        (procedure_parameters (context_at site.entry) (regions_at site.entry) at (option_map type_of outcome.now)
+        (sections_of sections.now) list.now changes.old.items) }
 {
     if outcome.is_some() {
         return Err(broken(Rule::WrongKind, at));

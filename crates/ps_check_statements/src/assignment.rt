@@ -7,7 +7,8 @@ ghost use Rattle.ps_check_judgement.specs.declared.refusal.Rule.TheVariants.{Wro
 ghost use Rattle.ps_check_names.specs.Regions as Regions;
 ghost use Rattle.ps_check_names.specs.Views.{scope_of, heading_of, point_of};
 ghost use Rattle.ps_check_expressions.specs.View.{context_at, regions_at, value_of, variable_of};
-ghost use Rattle.ps_check_statements.specs.Assignments.{result_of, result_in, target_at, target, set_assigned, assigned, assignment};
+ghost use Rattle.ps_check_statements.specs.Assignments.{result_of, result_in, target_at, target, set_assigned};
+ghost use Rattle.ps_check_statements.specs.Assignments.{assigned, assignment};
 
 use ps_check_expressions::changed::changed;
 use ps_check_expressions::expression::{expr_value, variable_place};
@@ -55,8 +56,10 @@ fn result_of(alloc: Global, heading: &Heading, levels: u32, at: u32) -> Result<T
 /// The number of the routine whose block is `further` blocks out of these regions.
 #[tactic(auto, using(crate::proofs::Opening::result_past), unfolding(crate::specs::Assignments::result_in, ps_check_names::specs::Views::scope_of))]
 fn routine_out(scope: &Scope<'_>, further: u32) -> Option<u32>
-    ensures some { IfSome result (λ number. (h : Regions.Heading) (levels : ℕ) → result_in (scope_of scope.now) further h levels ≡ (if number == h.number then result_of h levels else None)) }
-    ensures none { result ≡ None → (h : Regions.Heading) (levels : ℕ) → result_in (scope_of scope.now) further h levels ≡ None }
+    ensures some { IfSome result (λ number. (h : Regions.Heading) (levels : ℕ) → result_in
+        (scope_of scope.now) further h levels ≡ (if number == h.number then result_of h levels else None)) }
+    ensures none { result ≡ None → (h : Regions.Heading) (levels : ℕ) → result_in (scope_of scope.now) further h levels
+        ≡ None }
 {
     let mut here = scope;
     let mut left = further;
@@ -84,7 +87,8 @@ fn result_in(
     levels: u32,
     at: u32,
 ) -> Result<TypedPlace, Fault>
-    ensures { Answers result (λ v. variable_of v) (some_or WrongKind at (result_in (scope_of scope.now) further (heading_of heading.now) levels)) }
+    ensures { Answers result (λ v. variable_of v)
+        (some_or WrongKind at (result_in (scope_of scope.now) further (heading_of heading.now) levels)) }
 {
     match routine_out(scope, further) {
         None => Err(broken(Rule::WrongKind, at)),
@@ -97,7 +101,7 @@ fn result_in(
     }
 }
 
-/// What a name alone stands for on the left of `:=`. A function is declared in the block around its own.
+/// What a name alone denotes on the left of `:=`. A function is declared in the block around its own.
 #[tactic(auto, unfolding(crate::specs::Assignments::target_at, ps_check_expressions::specs::Places::variable_at, ps_check_names::specs::Views::meaning_of))]
 fn target_found(site: Site<'_>, found: Found<'_>, at: u32) -> Result<TypedPlace, Fault>
     ensures { Answers result (λ v. variable_of v) (target_at (regions_at site.entry) at (point_of found.entry)) }
@@ -116,10 +120,11 @@ fn target_found(site: Site<'_>, found: Found<'_>, at: u32) -> Result<TypedPlace,
     }
 }
 
-/// The variable or the function's result that is assigned to.
+/// The variable or the function's result that is assigned.
 #[tactic(auto, using(ps_check_expressions::proofs::Judgement::name_alone, ps_check_expressions::proofs::Judgement::name_selected))]
 fn target(x: &Variable, site: Site<'_>, changes: &mut Vec<Change>) -> Result<TypedPlace, Fault>
-    ensures { Answers result (λ v. (variable_of v, changes.new.items)) (target (context_at site.entry) (regions_at site.entry) x.now changes.old.items) }
+    ensures { Answers result (λ v. (variable_of v, changes.new.items))
+        (target (context_at site.entry) (regions_at site.entry) x.now changes.old.items) }
 {
     if x.selectors.is_empty() {
         let found = site.denoted(x.name)?;
@@ -129,7 +134,7 @@ fn target(x: &Variable, site: Site<'_>, changes: &mut Vec<Change>) -> Result<Typ
     }
 }
 
-/// An assignment, whose `:=` is at `at`, provided that the value fits the variable's type.
+/// An assignment whose `:=` is at `at`, provided that the value fits the variable's type.
 fn fitting(fits: bool, statement: Statement, at: u32) -> Result<Statement, Fault>
     ensures { Answers result (λ s. statement_of s) (provided fits NotAssignable at (statement_of statement)) }
 {
@@ -148,7 +153,9 @@ fn set_assigned(
     line: Line,
     at: u32,
 ) -> Result<Statement, Fault>
-    ensures { Answers result (λ s. statement_of s) (set_assigned at (place_of target.entry.0) (type_of target.entry.1.now) (set_of value.entry.0) (type_of value.entry.1.now) line.number) }
+    ensures { Answers result (λ s. statement_of s)
+        (set_assigned at (place_of target.entry.0) (type_of target.entry.1.now) (set_of value.entry.0)
+        (type_of value.entry.1.now) line.number) }
 {
     let ((target, ty), (value, from)) = (target, value);
     match ty {
@@ -206,7 +213,8 @@ pub(crate) fn assignment(
     at: Span,
     y: &Expr,
 ) -> Result<Statement, Fault>
-    ensures { Answers result (λ s. (statement_of s, changes.new.items)) (assignment (context_at site.entry) (regions_at site.entry) x.now at y.now changes.old.items) }
+    ensures { Answers result (λ s. (statement_of s, changes.new.items))
+        (assignment (context_at site.entry) (regions_at site.entry) x.now at y.now changes.old.items) }
 {
     let variable = target(x, site, changes)?;
     changed(site, changes, &variable.place, x.name.from)?;

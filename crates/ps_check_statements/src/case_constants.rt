@@ -31,8 +31,8 @@ fn case_label(site: Site<'_>, index: Ordinal, label: Constant) -> Result<i32, Fa
     }
 }
 
-/// One more constant of a case element, which stands for the first time. `seen` holds those of the elements before it, and
-/// then its own.
+/// One more constant of a case element, which must not have occurred before. `seen` holds those of the elements before
+/// it, and then its own.
 fn next_label(
     site: Site<'_>,
     index: Ordinal,
@@ -40,8 +40,10 @@ fn next_label(
     own: &mut Vec<i32>,
     label: Constant,
 ) -> Result<(), Fault>
-    ensures label { (before : List ℤ) → seen.old.keys ≡ before ++ own.old.items → Answers result (λ _. own.new.items) (next_label (context_at site.entry) (regions_at site.entry) index before own.old.items label) }
-    ensures seen { (before : List ℤ) → seen.old.keys ≡ before ++ own.old.items → OnOk result (seen.new.keys ≡ before ++ own.new.items) }
+    ensures label { (before : List ℤ) → seen.old.keys ≡ before ++ own.old.items → Answers result (λ _. own.new.items)
+        (next_label (context_at site.entry) (regions_at site.entry) index before own.old.items label) }
+    ensures seen { (before : List ℤ) → seen.old.keys ≡ before ++ own.old.items → OnOk result
+        (seen.new.keys ≡ before ++ own.new.items) }
 {
     let number = case_label(site, index, label)?;
     let (_, is_new) = seen.insert_full(number)?;
@@ -61,7 +63,8 @@ pub(crate) fn case_labels(
     seen: &mut IndexSet<i32>,
     constants: &[Constant],
 ) -> Result<Vec<i32>, Fault>
-    ensures labels { Answers result (λ own. own.items) (labels (context_at site.entry) (regions_at site.entry) index seen.old.keys constants.now) }
+    ensures labels { Answers result (λ own. own.items)
+        (labels (context_at site.entry) (regions_at site.entry) index seen.old.keys constants.now) }
     ensures seen { IfOk result (λ own. seen.new.keys ≡ seen.old.keys ++ own.items) }
 {
     let mut own = Vec::new(site.alloc);

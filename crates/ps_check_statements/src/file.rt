@@ -5,7 +5,8 @@ ghost use Rattle.ps_check_judgement.specs.Judged.{Answers};
 ghost use Rattle.ps_check_names.specs.Regions.{Context, Region};
 ghost use Rattle.ps_check_names.specs.Views.{point_of};
 ghost use Rattle.ps_check_expressions.specs.View.{context_at, regions_at};
-ghost use Rattle.ps_check_statements.specs.Procedures.{is_file, name_of_parameter, names_file, told_unlisted_by, unlisted_name, behind_file};
+ghost use Rattle.ps_check_statements.specs.Procedures.{is_file, name_of_parameter, names_file, told_unlisted_by};
+ghost use Rattle.ps_check_statements.specs.Procedures.{unlisted_name, behind_file};
 
 use ps_check_expressions::expression::name_alone;
 use ps_check_expressions::site::Site;
@@ -67,7 +68,7 @@ fn names_file(site: Site<'_>, file: File, parameter: &Parameter) -> Result<bool,
     }
 }
 
-/// Where it is told that the program heading doesn't list a file: at its name, or where that is left out at `at`.
+/// Where it is reported that the program heading doesn't list a file: at its name, or at `at` if that is left out.
 fn unlisted_name(site: Site<'_>, name: Option<Span>, at: u32) -> Result<u32, AllocError>
     ensures { IfOk result (λ place. place ≡ unlisted_name (context_at site.entry) (regions_at site.entry) at name) }
 {
@@ -83,7 +84,7 @@ fn unlisted_name(site: Site<'_>, name: Option<Span>, at: u32) -> Result<u32, All
     }
 }
 
-/// The place of a name that is no defining point, where it is that of a file; or else another place.
+/// The place of a name that has no defining point, if it is that of a file; or else another place.
 fn told_unlisted(rule: Rule, place: u32, at: u32) -> u32
     ensures { result ≡ told_unlisted_by at rule place }
 {
@@ -93,7 +94,7 @@ fn told_unlisted(rule: Rule, place: u32, at: u32) -> u32
     }
 }
 
-/// The parameters behind the file. Where it is implied, the program heading has to list it. The routine's name is at `at`.
+/// The parameters after the file. If it is implied, the program heading has to list it. The routine's name is at `at`.
 #[tactic(auto, unfolding(crate::specs::Procedures::behind_file, crate::specs::Procedures::unlisted_at))]
 pub(crate) fn behind_file<'p>(
     site: Site<'_>,
@@ -102,7 +103,8 @@ pub(crate) fn behind_file<'p>(
     parameters: &'p [Parameter],
     at: u32,
 ) -> Result<&'p [Parameter], Fault>
-    ensures { Answers result (λ rest. rest.now) (behind_file (context_at site.entry) (regions_at site.entry) at file is_listed parameters.entry.now) }
+    ensures { Answers result (λ rest. rest.now)
+        (behind_file (context_at site.entry) (regions_at site.entry) at file is_listed parameters.entry.now) }
 {
     let [first, rest @ ..] = parameters else {
         if is_listed {

@@ -1,4 +1,4 @@
-// What stands before `do` in a `for` statement (6.8.3.9).
+// What comes before `do` in a `for` statement (6.8.3.9).
 
 ghost use Rattle.std.specs.Prelude.{◌≡◌};
 ghost use Rattle.ps_tree.specs.View.{type_of, expr_of, statement_of};
@@ -75,7 +75,8 @@ fn bound_at(
     changes: &mut Vec<Change>,
     ordinal: Ordinal,
 ) -> Result<Expr, Fault>
-    ensures { Answers result (λ e. (expr_of e, changes.new.items)) (bound_at (context_at site.entry) (regions_at site.entry) ordinal x.now changes.old.items) }
+    ensures { Answers result (λ e. (expr_of e, changes.new.items))
+        (bound_at (context_at site.entry) (regions_at site.entry) ordinal x.now changes.old.items) }
 {
     let at = x.first_token();
     match expr_value(x, site, changes)? {
@@ -104,14 +105,16 @@ fn direction_of(way: Way) -> Direction
     }
 }
 
-/// The control variable of a `for` statement, by the name of it. The statement changes it, and no routine of the block does.
+/// The control variable of a `for` statement, given its name. The statement changes it, and no routine of the block
+/// does.
 #[tactic(auto, unfolding(ps_check_expressions::specs::Changed::changed))]
 fn control_of(
     site: Site<'_>,
     changes: &mut Vec<Change>,
     name: Span,
 ) -> Result<(u32, Ordinal), Fault>
-    ensures { Answers result (λ control. (control, changes.new.items)) (control_of (context_at site.entry) (regions_at site.entry) name changes.old.items) }
+    ensures { Answers result (λ control. (control, changes.new.items))
+        (control_of (context_at site.entry) (regions_at site.entry) name changes.old.items) }
 {
     let found = site.denoted(name)?;
     let (variable, ordinal) = control_found(found, name.from)?;
@@ -125,7 +128,7 @@ fn control_of(
     Ok((variable, ordinal))
 }
 
-/// No routine of the block changes the control variable; the first change is told.
+/// No routine of the block changes the control variable; the first change is reported.
 #[tactic(auto, unfolding(crate::specs::Structured::unthreatened))]
 fn unthreatened(site: Site<'_>, variable: u32) -> Result<(), Fault>
     ensures { Answers result (λ _. tt) (unthreatened (context_at site.entry) variable) }
@@ -145,7 +148,8 @@ pub(crate) fn for_head(
     way: Way,
     y: &Syntax,
 ) -> Result<Head, Fault>
-    ensures { Answers result (λ h. (head_of h, changes.new.items)) (for_head (context_at site.entry) (regions_at site.entry) name x.now way y.now changes.old.items) }
+    ensures { Answers result (λ h. (head_of h, changes.new.items))
+        (for_head (context_at site.entry) (regions_at site.entry) name x.now way y.now changes.old.items) }
 {
     let (variable, ordinal) = control_of(site, changes, name)?;
     let first = bound_at(x, site, changes, ordinal);

@@ -29,7 +29,8 @@ pub(crate) fn new_statement(
     changes: &mut Vec<Change>,
     name: Span,
 ) -> Result<Statement, Fault>
-    ensures { Answers result (λ s. (statement_of s, changes.new.items)) (spec.new_statement (context_at site.entry) (regions_at site.entry) name.from parameters.now changes.old.items) }
+    ensures { Answers result (λ s. (statement_of s, changes.new.items))
+        (spec.new_statement (context_at site.entry) (regions_at site.entry) name.from parameters.now changes.old.items) }
 {
     let [only] = parameters else {
         return Err(broken(Rule::NotCongruous, name.from));
@@ -54,10 +55,11 @@ struct Places {
     index: u32,
 }
 
-/// Tells that an array that is not packed, a packed one and an index go together.
+/// Checks that an array that is not packed, a packed one and an index go together.
 #[tactic(auto, unfolding(crate::specs::Procedures::goes_with_pack, ps_tree::specs::View::type_of))]
 fn goes_with_pack(unpacked: &Ty, packed: &Ty, index: Ordinal, at: Places) -> Result<(), Fault>
-    ensures { Answers result (λ _. tt) (spec.goes_with_pack (places_of at) (type_of unpacked.now) (type_of packed.now) index) }
+    ensures { Answers result (λ _. tt) (spec.goes_with_pack (places_of at) (type_of unpacked.now)
+        (type_of packed.now) index) }
 {
     let Ty::Array {
         packed: is_packed,
@@ -95,7 +97,8 @@ fn parameter_index(
     site: Site<'_>,
     changes: &mut Vec<Change>,
 ) -> Result<(Expr, Ordinal), Fault>
-    ensures { Answers result (λ v. ((expr_of v.0, v.1), changes.new.items)) (spec.parameter_index (context_at site.entry) (regions_at site.entry) parameter.now changes.old.items) }
+    ensures { Answers result (λ v. ((expr_of v.0, v.1), changes.new.items))
+        (spec.parameter_index (context_at site.entry) (regions_at site.entry) parameter.now changes.old.items) }
 {
     match parameter {
         Parameter::Plain(x) => index_at(x, site, changes),
@@ -121,8 +124,11 @@ fn transferred(
     index: Ordinal,
     at: Places,
 ) -> Result<((Box<Place>, Ty), (Box<Place>, Ty)), Fault>
-    ensures ok { IfOk result (λ pair. (spec.goes_with_pack (places_of at) (type_of unpacked.ty) (type_of packed.ty) index ≡ Yes tt) × (unpacked.place ≡ pair.0.0.value) × (unpacked.ty ≡ pair.0.1) × (packed.place ≡ pair.1.0.value) × (packed.ty ≡ pair.1.1)) }
-    ensures err { IfErr result (λ fault. Told fault (spec.goes_with_pack (places_of at) (type_of unpacked.ty) (type_of packed.ty) index)) }
+    ensures ok { IfOk result (λ pair. (spec.goes_with_pack (places_of at) (type_of unpacked.ty)
+        (type_of packed.ty) index ≡ Yes tt) × (unpacked.place ≡ pair.0.0.value) × (unpacked.ty ≡ pair.0.1)
+        × (packed.place ≡ pair.1.0.value) × (packed.ty ≡ pair.1.1)) }
+    ensures err { IfErr result (λ fault. Told fault
+        (spec.goes_with_pack (places_of at) (type_of unpacked.ty) (type_of packed.ty) index)) }
 {
     let fit = goes_with_pack(&unpacked.ty, &packed.ty, index, at);
     fit.and(paired(boxed_place(alloc, unpacked), boxed_place(alloc, packed)))
@@ -136,7 +142,8 @@ pub(crate) fn pack_statement(
     changes: &mut Vec<Change>,
     name: u32,
 ) -> Result<Statement, Fault>
-    ensures { Answers result (λ s. (statement_of s, changes.new.items)) (spec.pack_statement (context_at site.entry) (regions_at site.entry) name parameters.now changes.old.items) }
+    ensures { Answers result (λ s. (statement_of s, changes.new.items))
+        (spec.pack_statement (context_at site.entry) (regions_at site.entry) name parameters.now changes.old.items) }
 {
     let [a, i, z] = parameters else {
         return Err(broken(Rule::NotCongruous, name));
@@ -172,7 +179,8 @@ pub(crate) fn unpack_statement(
     changes: &mut Vec<Change>,
     name: u32,
 ) -> Result<Statement, Fault>
-    ensures { Answers result (λ s. (statement_of s, changes.new.items)) (spec.unpack_statement (context_at site.entry) (regions_at site.entry) name parameters.now changes.old.items) }
+    ensures { Answers result (λ s. (statement_of s, changes.new.items))
+        (spec.unpack_statement (context_at site.entry) (regions_at site.entry) name parameters.now changes.old.items) }
 {
     let [z, a, i] = parameters else {
         return Err(broken(Rule::NotCongruous, name));

@@ -28,7 +28,9 @@ fn required_procedure(
     required: Required,
     name: Span,
 ) -> Result<Statement, Fault>
-    ensures { Answers result (λ s. (statement_of s, changes.new.items)) (spec.required_procedure (context_at site.entry) (regions_at site.entry) name.from required parameters.now changes.old.items) }
+    ensures { Answers result (λ s. (statement_of s, changes.new.items))
+        (spec.required_procedure (context_at site.entry)
+        (regions_at site.entry) name.from required parameters.now changes.old.items) }
 {
     match required {
         Required::Read => {
@@ -71,7 +73,8 @@ pub(crate) fn procedure_statement(
     changes: &mut Vec<Change>,
     name: Span,
 ) -> Result<Statement, Fault>
-    ensures { Answers result (λ s. (statement_of s, changes.new.items)) (spec.procedure_statement (context_at site.entry) (regions_at site.entry) name list.now changes.old.items) }
+    ensures { Answers result (λ s. (statement_of s, changes.new.items))
+        (spec.procedure_statement (context_at site.entry) (regions_at site.entry) name list.now changes.old.items) }
 {
     let at = name.from;
     let found = site.denoted(name)?;

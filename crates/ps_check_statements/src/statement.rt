@@ -30,7 +30,8 @@ use ps_tree::types::Ordinal;
 /// A condition, which is Boolean (6.8.3.3).
 #[tactic(auto, unfolding(crate::specs::Structured::condition, ps_check_expressions::specs::View::value_of))]
 fn condition_at(x: &SyntaxExpr, site: Site<'_>, changes: &mut Vec<Change>) -> Result<Expr, Fault>
-    ensures { Answers result (λ e. (expr_of e, changes.new.items)) (spec.condition_at (context_at site.entry) (regions_at site.entry) x.now changes.old.items) }
+    ensures { Answers result (λ e. (expr_of e, changes.new.items))
+        (spec.condition_at (context_at site.entry) (regions_at site.entry) x.now changes.old.items) }
 {
     let at = x.first_token();
     match expr_value(x, site, changes)? {
@@ -56,7 +57,8 @@ pub(crate) fn index_at(
     site: Site<'_>,
     changes: &mut Vec<Change>,
 ) -> Result<(Expr, Ordinal), Fault>
-    ensures { Answers result (λ v. ((expr_of v.0, v.1), changes.new.items)) (spec.index_at (context_at site.entry) (regions_at site.entry) x.now changes.old.items) }
+    ensures { Answers result (λ v. ((expr_of v.0, v.1), changes.new.items))
+        (spec.index_at (context_at site.entry) (regions_at site.entry) x.now changes.old.items) }
 {
     let value = expr_value(x, site, changes)?;
     ordinal_of(value, x.first_token())
@@ -66,7 +68,8 @@ pub(crate) fn index_at(
 #[cycle(statement)]
 #[tactic(auto, using(crate::proofs::Equations::at_empty, crate::proofs::Equations::at_assign, crate::proofs::Equations::at_call, crate::proofs::Equations::at_compound, crate::proofs::Equations::at_if, crate::proofs::Equations::at_if_else, crate::proofs::Equations::at_case, crate::proofs::Equations::at_while, crate::proofs::Equations::at_repeat, crate::proofs::Equations::at_for, crate::proofs::Equations::at_with), unfolding(ps_tree::specs::View::statement_of))]
 fn statement(x: &Syntax, site: Site<'_>, changes: &mut Vec<Change>) -> Result<Statement, Fault>
-    ensures { Answers result (λ s. (statement_of s, changes.new.items)) (spec.statement x.now (context_at site.entry) (regions_at site.entry) changes.old.items) }
+    ensures { Answers result (λ s. (statement_of s, changes.new.items))
+        (spec.statement x.now (context_at site.entry) (regions_at site.entry) changes.old.items) }
 {
     match x {
         Syntax::Empty => Ok(Statement::Empty),
@@ -133,19 +136,21 @@ fn statement(x: &Syntax, site: Site<'_>, changes: &mut Vec<Change>) -> Result<St
 
 #[cycle(statement)]
 fn boxed(x: &Syntax, site: Site<'_>, changes: &mut Vec<Change>) -> Result<Box<Statement>, Fault>
-    ensures { Answers result (λ s. (statement_of s.value, changes.new.items)) (spec.statement x.now (context_at site.entry) (regions_at site.entry) changes.old.items) }
+    ensures { Answers result (λ s. (statement_of s.value, changes.new.items))
+        (spec.statement x.now (context_at site.entry) (regions_at site.entry) changes.old.items) }
 {
     boxed_answer(site.alloc, statement(x, site, changes))
 }
 
-/// A sequence of statements (6.8.3.2). The error is that of the statement at fault.
+/// A sequence of statements (6.8.3.2). The error is that of the faulty statement.
 #[cycle(statement)]
 pub fn statements(
     list: &[Syntax],
     site: Site<'_>,
     changes: &mut Vec<Change>,
 ) -> Result<Vec<Statement>, Fault>
-    ensures { Answers result (λ s. (statements_of s.items, changes.new.items)) (spec.statements (context_at site.entry) (regions_at site.entry) list.now changes.old.items) }
+    ensures { Answers result (λ s. (statements_of s.items, changes.new.items))
+        (spec.statements (context_at site.entry) (regions_at site.entry) list.now changes.old.items) }
 {
     let mut typed = Vec::with_capacity(site.alloc, list.len())?;
     for x in list {
@@ -162,7 +167,9 @@ fn governed(
     changes: &mut Vec<Change>,
     x: &SyntaxExpr,
 ) -> Result<(Expr, Box<Statement>), Fault>
-    ensures { Answers result (λ p. ((expr_of p.0, statement_of p.1.value), changes.new.items)) (spec.governed (context_at site.entry) (regions_at site.entry) x.now (spec.statement body.now) changes.old.items) }
+    ensures { Answers result (λ p. ((expr_of p.0, statement_of p.1.value), changes.new.items))
+        (spec.governed (context_at site.entry) (regions_at site.entry) x.now
+        (spec.statement body.now) changes.old.items) }
 {
     let condition = condition_at(x, site, changes);
     let body = boxed(body, site, changes);
@@ -178,7 +185,9 @@ fn if_else_statement(
     changes: &mut Vec<Change>,
     x: &SyntaxExpr,
 ) -> Result<Statement, Fault>
-    ensures { Answers result (λ s. (statement_of s, changes.new.items)) (spec.if_else_statement (context_at site.entry) (regions_at site.entry) x.now (spec.statement body.now) (spec.statement otherwise.now) changes.old.items) }
+    ensures { Answers result (λ s. (statement_of s, changes.new.items))
+        (spec.if_else_statement (context_at site.entry) (regions_at site.entry) x.now (spec.statement body.now)
+        (spec.statement otherwise.now) changes.old.items) }
 {
     let first = governed(body, site, changes, x);
     let otherwise = boxed(otherwise, site, changes);
@@ -198,7 +207,9 @@ fn repeat_statement(
     changes: &mut Vec<Change>,
     x: &SyntaxExpr,
 ) -> Result<Statement, Fault>
-    ensures { Answers result (λ s. (statement_of s, changes.new.items)) (spec.repeat_statement (context_at site.entry) (regions_at site.entry) (spec.statements (context_at site.entry) (regions_at site.entry) list.now) x.now changes.old.items) }
+    ensures { Answers result (λ s. (statement_of s, changes.new.items))
+        (spec.repeat_statement (context_at site.entry) (regions_at site.entry)
+        (spec.statements (context_at site.entry) (regions_at site.entry) list.now) x.now changes.old.items) }
 {
     let body = statements(list, site, changes);
     let condition = condition_at(x, site, changes);
@@ -216,7 +227,9 @@ fn case_statement(
     at: Span,
     x: &SyntaxExpr,
 ) -> Result<Statement, Fault>
-    ensures { Answers result (λ s. (statement_of s, changes.new.items)) (spec.case_statement (context_at site.entry) (regions_at site.entry) at x.now (map spec.element list.now) changes.old.items) }
+    ensures { Answers result (λ s. (statement_of s, changes.new.items))
+        (spec.case_statement (context_at site.entry) (regions_at site.entry) at x.now
+        (map spec.element list.now) changes.old.items) }
 {
     let (index, ordinal) = index_at(x, site, changes)?;
     let elements = elements(list, site, changes, ordinal);
@@ -236,7 +249,9 @@ fn elements(
     changes: &mut Vec<Change>,
     index: Ordinal,
 ) -> Result<Vec<CaseElement>, Fault>
-    ensures { Answers result (λ es. (map element_of es.items, changes.new.items)) (spec.elements (context_at site.entry) (regions_at site.entry) index (map spec.element list.now) changes.old.items) }
+    ensures { Answers result (λ es. (map element_of es.items, changes.new.items))
+        (spec.elements (context_at site.entry) (regions_at site.entry) index
+        (map spec.element list.now) changes.old.items) }
 {
     let mut seen = IndexSet::new(site.alloc);
     let mut typed = Vec::with_capacity(site.alloc, list.len())?;
@@ -256,7 +271,8 @@ fn element(
     index: Ordinal,
     seen: &mut IndexSet<i32>,
 ) -> Result<CaseElement, Fault>
-    ensures element { Answers result (λ e. (element_of e, changes.new.items)) (spec.element x.now (context_at site.entry) (regions_at site.entry) index seen.old.keys changes.old.items) }
+    ensures element { Answers result (λ e. (element_of e, changes.new.items))
+        (spec.element x.now (context_at site.entry) (regions_at site.entry) index seen.old.keys changes.old.items) }
     ensures seen { IfOk result (λ e. seen.new.keys ≡ seen.old.keys ++ (element_of e).0) }
 {
     let constants = case_labels(site, index, seen, x.constants.as_slice());
@@ -265,7 +281,7 @@ fn element(
     Ok(CaseElement { constants, body })
 }
 
-/// A `for` statement (6.8.3.9), with its control variable's name, its bounds and which way it counts.
+/// A `for` statement (6.8.3.9), with its control variable's name, its bounds and its direction.
 #[cycle(statement)]
 fn for_statement(
     x: &Syntax,
@@ -276,7 +292,9 @@ fn for_statement(
     way: Way,
     last: &SyntaxExpr,
 ) -> Result<Statement, Fault>
-    ensures { Answers result (λ s. (statement_of s, changes.new.items)) (spec.for_statement (context_at site.entry) (regions_at site.entry) name first.now way last.now (spec.statement x.now) changes.old.items) }
+    ensures { Answers result (λ s. (statement_of s, changes.new.items))
+        (spec.for_statement (context_at site.entry) (regions_at site.entry) name first.now way last.now
+        (spec.statement x.now) changes.old.items) }
 {
     let head = for_head(site, changes, name, first, way, last)?;
     let controls = Controls::Inside {
@@ -297,7 +315,9 @@ fn with_statement(
     changes: &mut Vec<Change>,
     records: &[Variable],
 ) -> Result<Statement, Fault>
-    ensures { Answers result (λ s. (statement_of s, changes.new.items)) (spec.with_behind (context_at site.entry) ([], regions_at site.entry) records.now (spec.statement x.now) changes.old.items) }
+    ensures { Answers result (λ s. (statement_of s, changes.new.items))
+        (spec.with_behind (context_at site.entry) ([], regions_at site.entry) records.now
+        (spec.statement x.now) changes.old.items) }
 {
     let (places, types) = open_all(records, site, changes)?;
     let scope = Scope::Opened {

@@ -24,7 +24,8 @@ use ps_tree::types::{Host, Ordinal, Ty};
 /// A variable that is read, which begins at `at`.
 #[tactic(auto, unfolding(crate::specs::Procedures::read_variable, ps_tree::specs::View::type_of, ps_tree::specs::View::read_of))]
 fn read_variable(variable: TypedPlace, line: Line, at: u32) -> Result<ReadVariable, Fault>
-    ensures { Answers result (λ v. read_of v) (spec.read_variable at (place_of variable.place) (type_of variable.ty) line.number) }
+    ensures { Answers result (λ v. read_of v)
+        (spec.read_variable at (place_of variable.place) (type_of variable.ty) line.number) }
 {
     let TypedPlace { place, ty, .. } = variable;
     let Ty::Simple(ordinal) = &ty else {
@@ -60,7 +61,8 @@ fn read_parameter(
     site: Site<'_>,
     changes: &mut Vec<Change>,
 ) -> Result<ReadVariable, Fault>
-    ensures { Answers result (λ v. (read_of v, changes.new.items)) (spec.read_parameter (context_at site.entry) (regions_at site.entry) parameter.now changes.old.items) }
+    ensures { Answers result (λ v. (read_of v, changes.new.items))
+        (spec.read_parameter (context_at site.entry) (regions_at site.entry) parameter.now changes.old.items) }
 {
     let at = first_token(parameter);
     let variable = parameter_variable(parameter, site, changes)?;
@@ -68,14 +70,15 @@ fn read_parameter(
     read_variable(variable, site.reading.line(at), at)
 }
 
-/// The parameters of read or readln behind the file. The routine's name is at `at`.
+/// The parameters of read or readln after the file. The routine's name is at `at`.
 pub(crate) fn read_parameters(
     parameters: &[Parameter],
     site: Site<'_>,
     changes: &mut Vec<Change>,
     at: u32,
 ) -> Result<Vec<ReadVariable>, Fault>
-    ensures { Answers result (λ list. (map read_of list.items, changes.new.items)) (spec.read_parameters (context_at site.entry) (regions_at site.entry) at parameters.now changes.old.items) }
+    ensures { Answers result (λ list. (map read_of list.items, changes.new.items))
+        (spec.read_parameters (context_at site.entry) (regions_at site.entry) at parameters.now changes.old.items) }
 {
     let rest = behind_file(site, File::Input, site.reading.has_input, parameters, at)?;
     let mut list = Vec::new(site.alloc);
@@ -143,7 +146,8 @@ fn written(value: TypedValue, width: Width, at: u32) -> Result<WriteParameter, F
 /// A width, which is an integer.
 #[tactic(auto, unfolding(crate::specs::Procedures::width_of, ps_check_expressions::specs::View::value_of, ps_tree::specs::View::width_of))]
 fn width_at(x: &Syntax, site: Site<'_>, changes: &mut Vec<Change>) -> Result<Width, Fault>
-    ensures { Answers result (λ w. (width_of w, changes.new.items)) (spec.width_at (context_at site.entry) (regions_at site.entry) x.now changes.old.items) }
+    ensures { Answers result (λ w. (width_of w, changes.new.items))
+        (spec.width_at (context_at site.entry) (regions_at site.entry) x.now changes.old.items) }
 {
     let at = x.first_token();
     match expr_value(x, site, changes)? {
@@ -171,7 +175,8 @@ fn write_parameter(
     site: Site<'_>,
     changes: &mut Vec<Change>,
 ) -> Result<WriteParameter, Fault>
-    ensures { Answers result (λ p. (write_of p, changes.new.items)) (spec.write_parameter (context_at site.entry) (regions_at site.entry) parameter.now changes.old.items) }
+    ensures { Answers result (λ p. (write_of p, changes.new.items))
+        (spec.write_parameter (context_at site.entry) (regions_at site.entry) parameter.now changes.old.items) }
 {
     match parameter {
         Parameter::Plain(x) => {
@@ -186,14 +191,15 @@ fn write_parameter(
     }
 }
 
-/// The parameters of write or writeln behind the file. The routine's name is at `at`.
+/// The parameters of write or writeln after the file. The routine's name is at `at`.
 pub(crate) fn write_parameters(
     parameters: &[Parameter],
     site: Site<'_>,
     changes: &mut Vec<Change>,
     at: u32,
 ) -> Result<Vec<WriteParameter>, Fault>
-    ensures { Answers result (λ list. (map write_of list.items, changes.new.items)) (spec.write_parameters (context_at site.entry) (regions_at site.entry) at parameters.now changes.old.items) }
+    ensures { Answers result (λ list. (map write_of list.items, changes.new.items))
+        (spec.write_parameters (context_at site.entry) (regions_at site.entry) at parameters.now changes.old.items) }
 {
     let rest = behind_file(site, File::Output, site.reading.has_output, parameters, at)?;
     let mut list = Vec::new(site.alloc);

@@ -22,14 +22,23 @@ use ps_syntax::Variable;
 use ps_tree::tree::Place;
 use ps_tree::types::Ty;
 
-/// A record that is to be opened, and its type.
+/// A record to be opened, and its type.
 #[tactic(auto, using(ps_check_expressions::proofs::Judgement::variable_first), unfolding(crate::specs::Structured::open_next, crate::specs::Structured::record_region, ps_check_names::specs::Views::fields_of, ps_tree::specs::View::type_of))]
 fn opened_record(
     x: &Variable,
     site: Site<'_>,
     changes: &mut Vec<Change>,
 ) -> Result<(Place, Ty), Fault>
-    ensures { (places : List Tree.Place) → Answers {A = Opening × List Change} result (λ p. ((places ++ place_of p.0 ∷ [], RecordRegion (type_of p.1) (fields_of (type_of p.1)) ∷ regions_at site.entry), changes.new.items)) (open_next (context_at site.entry) (places, regions_at site.entry) x.now changes.old.items) }
+    ensures { (places : List Tree.Place) → Answers {A = Opening × List Change} result
+        (λ p. (
+          (
+            places ++ place_of p.0 ∷ [],
+            RecordRegion (type_of p.1) (fields_of (type_of p.1))
+                ∷ regions_at site.entry,
+          ),
+          changes.new.items,
+        ))
+        (open_next (context_at site.entry) (places, regions_at site.entry) x.now changes.old.items) }
 {
     let TypedPlace { place, ty, .. } = variable_place(x, site, changes)?;
     let Ty::Record { .. } = &ty else {
@@ -38,7 +47,7 @@ fn opened_record(
     Ok((place, ty))
 }
 
-/// Opens a record within those before it, whose places and types these are.
+/// Opens a record within those before it, whose places and types are given.
 #[tactic(auto, unfolding(ps_check_names::specs::Views::scope_of))]
 fn open_next(
     x: &Variable,
@@ -47,7 +56,11 @@ fn open_next(
     places: &mut Vec<Place>,
     types: &mut Vec<Ty>,
 ) -> Result<(), Fault>
-    ensures { Answers result (λ _. ((map place_of places.new.items, opened_in (regions_at site.entry) types.new.items), changes.new.items)) (open_next (context_at site.entry) (map place_of places.old.items, opened_in (regions_at site.entry) types.old.items) x.now changes.old.items) }
+    ensures { Answers result (λ _. (
+      (map place_of places.new.items, opened_in (regions_at site.entry) types.new.items),
+      changes.new.items,
+    )) (open_next (context_at site.entry)
+        (map place_of places.old.items, opened_in (regions_at site.entry) types.old.items) x.now changes.old.items) }
 {
     let scope = Scope::Opened {
         records: types.as_slice(),
@@ -65,7 +78,11 @@ pub(crate) fn open_all(
     site: Site<'_>,
     changes: &mut Vec<Change>,
 ) -> Result<(Vec<Place>, Vec<Ty>), Fault>
-    ensures { Answers result (λ p. ((map place_of p.0.items, opened_in (regions_at site.entry) p.1.items), changes.new.items)) (through (open_next (context_at site.entry)) ([], regions_at site.entry) records.now changes.old.items) }
+    ensures { Answers result (λ p. (
+      (map place_of p.0.items, opened_in (regions_at site.entry) p.1.items),
+      changes.new.items,
+    )) (through (open_next (context_at site.entry))
+        ([], regions_at site.entry) records.now changes.old.items) }
 {
     let mut places = Vec::with_capacity(site.alloc, records.len())?;
     let mut types = Vec::with_capacity(site.alloc, records.len())?;

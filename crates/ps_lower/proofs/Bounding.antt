@@ -1,5 +1,8 @@
--- The test of a set against the bounds of a base, piece by piece, and the bits that lie outside of them.
-use Rattle.std.proofs.Common.{◌≡◌, ℕ, zero, suc, ◌+◌, ◌-◌, ◌*◌, ◌^◌, ◌<◌, ◌≤◌, ℤ, pos, negsuc, int_le, Bool, true, false, not, ◌&&◌, nat_le, nat_lt, if◌then◌else◌, List, [], ◌∷◌, ◌++◌, Result, OnOk, refl, sym, ap, subst, ◌∙◌, arith, leb-true, leb-false, le-leb, ltb-true, ltb-false, le-ltb, append_assoc}
+-- The test of a set against the bounds of a base, piece by piece, and the bits that are outside them.
+use Rattle.std.proofs.Common.{◌≡◌, ℕ, zero, suc, ◌+◌, ◌-◌, ◌*◌, ◌^◌, ◌<◌, ◌≤◌, ℤ, pos, negsuc, int_le, Bool, true}
+use Rattle.std.proofs.Common.{false, not, ◌&&◌, nat_le, nat_lt, if◌then◌else◌, List, [], ◌∷◌, ◌++◌, Result, OnOk, refl}
+use Rattle.std.proofs.Common.{sym, ap, subst, ◌∙◌, arith, leb-true, leb-false, le-leb, ltb-true, ltb-false, le-ltb}
+use Rattle.std.proofs.Common.{append_assoc}
 use Rattle.std.proofs.Math.Nat.{pow-suc}
 use Rattle.std.proofs.lemmas.Bool.{lt-leb}
 use Rattle.tac_code.specs.declared.code.Base.{Base}
@@ -18,7 +21,7 @@ use Rattle.ps_lower.proofs.Arms.{behind}
 
 -- ---- bits
 
--- the lowest of n bits, so many
+-- the lowest `count` of n bits
 lowest : (n count : ℕ) → ℕ
 lowest zero count = 0
 lowest (suc n) zero = 0
@@ -59,8 +62,9 @@ lowest_is m = go (nat_lt m 32) refl
     go true e = let l = ltb-true m 32 e in let r = lowest_few 32 m (omega (arith, l)) in omega (arith, r)
     go false e = let l = ltb-false m 32 e in let r = lowest_all 32 m (omega (arith, l)) in omega (arith, r)
 
--- the bits from k on outside of those from a to below b
-outside_sum : (n k a b : ℕ) (s : ℕ → Bool) → ((j : ℕ) → s j ≡ not (nat_le a j && nat_lt j b)) → bits_from n k s + (lowest n (b - k) - lowest n (a - k)) + 1 ≡ 2 ^ n
+-- the bits from k on outside those from a to below b
+outside_sum : (n k a b : ℕ) (s : ℕ → Bool) → ((j : ℕ) → s j ≡ not (nat_le a j && nat_lt j b)) → bits_from n k s
+    + (lowest n (b - k) - lowest n (a - k)) + 1 ≡ 2 ^ n
 outside_sum zero k a b s h = let z = lowest_empty (b - k) in let z' = lowest_empty (a - k) in omega (arith, z, z')
 outside_sum (suc n) k a b s h = go (nat_le a k) refl (nat_lt k b) refl (outside_sum n (suc k) a b s h)
   where
@@ -73,7 +77,9 @@ outside_sum (suc n) k a b s h = go (nat_le a k) refl (nat_lt k b) refl (outside_
     bit : (c : Bool) → s k ≡ c → bits_from (suc n) k s ≡ (if c then 1 else 0) + 2 * R
     bit c e = ap (λ x. (if x then 1 else 0) + 2 * bits_from n (suc k) s) e
 
-    go : (p : Bool) → nat_le a k ≡ p → (q : Bool) → nat_lt k b ≡ q → bits_from n (suc k) s + (lowest n (b - suc k) - lowest n (a - suc k)) + 1 ≡ 2 ^ n → bits_from (suc n) k s + (lowest (suc n) (b - k) - lowest (suc n) (a - k)) + 1 ≡ 2 ^ suc n
+    go : (p : Bool) → nat_le a k ≡ p → (q : Bool) → nat_lt k b ≡ q → bits_from n (suc k) s
+        + (lowest n (b - suc k) - lowest n (a - suc k)) + 1 ≡ 2 ^ n → bits_from (suc n) k s
+        + (lowest (suc n) (b - k) - lowest (suc n) (a - k)) + 1 ≡ 2 ^ suc n
     go true e true f r =
         let l = leb-true a k e in
         let m = ltb-true k b f in
@@ -107,10 +113,13 @@ outside_sum (suc n) k a b s h = go (nat_le a k) refl (nat_lt k b) refl (outside_
         let p = pow-suc 2 n in
         omega (arith, r, x, y, y', p)
 
-outside_is : (low high : ℤ) (q : ℕ) → 4294967295 - (lowest_bits (numbers_to high - 32 * q) - lowest_bits (numbers_below low - 32 * q)) ≡ outside_bits low high q
+outside_is : (low high : ℤ) (q : ℕ) → 4294967295 -
+    (lowest_bits (numbers_to high - 32 * q) - lowest_bits (numbers_below low - 32 * q)) ≡ outside_bits low high q
 unfolding outside_bits
 outside_is low high q =
-    let r = outside_sum 32 (32 * q) (numbers_below low) (numbers_to high) (λ k. not (is_between low (pos k) high)) (λ j. ap (λ x. not (x && int_le (pos j) high)) (from low j) ∙ ap (λ x. not (nat_le (numbers_below low) j && x)) (to high j)) in
+    let r = outside_sum 32 (32 * q) (numbers_below low) (numbers_to high) (λ k. not (is_between low (pos k) high))
+    (λ j. ap (λ x. not (x && int_le (pos j) high)) (from low j) ∙ ap (λ x. not (nat_le (numbers_below low) j && x))
+    (to high j)) in
     let x = lowest_is (numbers_to high - 32 * q) in
     let y = lowest_is (numbers_below low - 32 * q) in
     omega (arith, r, x, y)
@@ -127,29 +136,37 @@ outside_is low high q =
         go false e = let l = ltb-false j (suc n) e in lt-leb j n (omega (arith, l))
     to (negsuc n) j = sym (le-ltb j 0 (omega arith))
 
-pub outside_made : (low high : ℤ) (q a b to below inside : ℕ) → a ≡ numbers_to high - 32 * q → to ≡ lowest_bits a → b ≡ numbers_below low - 32 * q → below ≡ lowest_bits b → inside ≡ to - below → 4294967295 - inside ≡ outside_bits low high q
+pub outside_made : (low high : ℤ) (q a b to below inside : ℕ) → a ≡ numbers_to high - 32 * q → to ≡ lowest_bits a → b
+    ≡ numbers_below low - 32 * q → below ≡ lowest_bits b → inside ≡ to - below → 4294967295 - inside
+    ≡ outside_bits low high q
 outside_made low high q a b to below inside e f g h i =
-    ap (λ n. 4294967295 - n) (i ∙ ap (λ n. n - below) (f ∙ ap lowest_bits e) ∙ ap (λ n. lowest_bits (numbers_to high - 32 * q) - n) (h ∙ ap lowest_bits g)) ∙ outside_is low high q
+    ap (λ n. 4294967295 - n) (i ∙ ap (λ n. n - below) (f ∙ ap lowest_bits e)
+    ∙ ap (λ n. lowest_bits (numbers_to high - 32 * q) - n) (h ∙ ap lowest_bits g)) ∙ outside_is low high q
 
 -- ---- code
 
--- a word more
-pub outside_next : (low high : ℤ) (t x n m p mask : ℕ) (old middle new : List Instruction) → m ≡ suc n → p ≡ x + 4 * n → mask ≡ outside_bits low high n → middle ≡ old ++ outside_code low high t x n → new ≡ middle ++ joined_word t p mask → new ≡ old ++ outside_code low high t x m
+-- one more word
+pub outside_next : (low high : ℤ) (t x n m p mask : ℕ) (old middle new : List Instruction) → m ≡ suc n → p ≡ x + 4 * n
+    → mask ≡ outside_bits low high n → middle ≡ old ++ outside_code low high t x n → new ≡ middle
+    ++ joined_word t p mask → new ≡ old ++ outside_code low high t x m
 unfolding outside_code
 outside_next low high t x n m p mask old middle new is at e h s =
-    and_then old middle new (outside_code low high t x n) (joined_word t (x + 4 * n) (outside_bits low high n)) h (s ∙ ap (λ y. middle ++ joined_word t y mask) at ∙ ap (λ y. middle ++ joined_word t (x + 4 * n) y) e)
+    and_then old middle new (outside_code low high t x n) (joined_word t (x + 4 * n) (outside_bits low high n)) h
+    (s ∙ ap (λ y. middle ++ joined_word t y mask) at ∙ ap (λ y. middle ++ joined_word t (x + 4 * n) y) e)
     ∙ ap (λ y. old ++ outside_code low high t x y) (sym is)
 
 pub outside_start : (low high : ℤ) (t x : ℕ) (old : List Instruction) → old ≡ old ++ outside_code low high t x 0
 unfolding outside_code
 outside_start low high t x old = unchanged old
 
-pub outside_end : (low high : ℤ) (t x n : ℕ) (old now : List Instruction) → n ≡ 8 → now ≡ old ++ outside_code low high t x n → now ≡ old ++ outside_code low high t x 8
+pub outside_end : (low high : ℤ) (t x n : ℕ) (old now : List Instruction) → n ≡ 8 → now ≡ old
+    ++ outside_code low high t x n → now ≡ old ++ outside_code low high t x 8
 outside_end low high t x n old now e h = h ∙ ap (λ y. old ++ outside_code low high t x y) e
 
 -- ---- words from one place to another, one by one
 
-words_further : (to : Base) (o : ℕ) (from : Base) (p v n : ℕ) → words_code to o from p v (suc n) ≡ words_code to o from p v n ++ i.Load v from (p + 4 * n) ∷ i.Store to (o + 4 * n) v ∷ []
+words_further : (to : Base) (o : ℕ) (from : Base) (p v n : ℕ) → words_code to o from p v (suc n)
+    ≡ words_code to o from p v n ++ i.Load v from (p + 4 * n) ∷ i.Store to (o + 4 * n) v ∷ []
 unfolding words_code
 words_further to o from p v zero =
     let e : p ≡ p + 4 * 0 = omega arith in
@@ -163,52 +180,74 @@ words_further to o from p v (suc n) =
     ∙ ap (λ y. words_code to (o + 4) from (p + 4) v n ++ i.Load v from y ∷ i.Store to (o + 4 + 4 * n) v ∷ []) e
     ∙ ap (λ y. words_code to (o + 4) from (p + 4) v n ++ i.Load v from (p + 4 * suc n) ∷ i.Store to y v ∷ []) f)
 
-pub words_start : (to : Base) (o : ℕ) (from : Base) (p v : ℕ) (old : List Instruction) → old ≡ old ++ words_code to o from p v 0
+pub words_start : (to : Base) (o : ℕ) (from : Base) (p v : ℕ) (old : List Instruction) → old ≡ old
+    ++ words_code to o from p v 0
 unfolding words_code
 words_start to o from p v old = unchanged old
 
-pub words_next : (to : Base) (o : ℕ) (from : Base) (p v n m a b : ℕ) (old now middle new : List Instruction) → m ≡ suc n → a ≡ p + 4 * n → b ≡ o + 4 * n → now ≡ old ++ words_code to o from p v n → middle ≡ now ++ i.Load v from a ∷ [] → new ≡ middle ++ i.Store to b v ∷ [] → new ≡ old ++ words_code to o from p v m
+pub words_next : (to : Base) (o : ℕ) (from : Base) (p v n m a b : ℕ) (old now middle new : List Instruction) → m ≡ suc n
+    → a ≡ p + 4 * n → b ≡ o + 4 * n → now ≡ old ++ words_code to o from p v n → middle ≡ now ++ i.Load v from a ∷ []
+    → new ≡ middle ++ i.Store to b v ∷ [] → new ≡ old ++ words_code to o from p v m
 words_next to o from p v n m a b old now middle new is at there h l s =
     and_then old now new (words_code to o from p v n) (i.Load v from (p + 4 * n) ∷ i.Store to (o + 4 * n) v ∷ []) h
-    (and_then now middle new (i.Load v from (p + 4 * n) ∷ []) (i.Store to (o + 4 * n) v ∷ []) (l ∙ ap (λ y. now ++ i.Load v from y ∷ []) at) (s ∙ ap (λ y. middle ++ i.Store to y v ∷ []) there))
+    (and_then now middle new (i.Load v from (p + 4 * n) ∷ []) (i.Store to (o + 4 * n) v ∷ [])
+    (l ∙ ap (λ y. now ++ i.Load v from y ∷ []) at) (s ∙ ap (λ y. middle ++ i.Store to y v ∷ []) there))
     ∙ ap (λ l. old ++ l) (sym (words_further to o from p v n)) ∙ ap (λ y. old ++ words_code to o from p v y) (sym is)
 
-pub words_end : (to : Base) (o : ℕ) (from : Base) (p v n : ℕ) (old now : List Instruction) → n ≡ 8 → now ≡ old ++ words_code to o from p v n → now ≡ old ++ words_code to o from p v 8
+pub words_end : (to : Base) (o : ℕ) (from : Base) (p v n : ℕ) (old now : List Instruction) → n ≡ 8 → now ≡ old
+    ++ words_code to o from p v n → now ≡ old ++ words_code to o from p v 8
 words_end to o from p v n old now e h = h ∙ ap (λ y. old ++ words_code to o from p v y) e
 
 -- ---- a set without members, word by word
 
-pub clear_start : (t x : ℕ) (old now : List Instruction) → now ≡ old ++ i.Literal t (pos 0) ∷ [] → now ≡ old ++ i.Literal t (pos 0) ∷ filled_code t x 0
+pub clear_start : (t x : ℕ) (old now : List Instruction) → now ≡ old ++ i.Literal t (pos 0) ∷ [] → now ≡ old
+    ++ i.Literal t (pos 0) ∷ filled_code t x 0
 unfolding filled_code
 clear_start t x old now h = h
 
-pub clear_next : (t x n m p : ℕ) (old middle new : List Instruction) → m ≡ suc n → p ≡ x + 4 * n → middle ≡ old ++ i.Literal t (pos 0) ∷ filled_code t x n → new ≡ middle ++ i.Store base.Scratch p t ∷ [] → new ≡ old ++ i.Literal t (pos 0) ∷ filled_code t x m
+pub clear_next : (t x n m p : ℕ) (old middle new : List Instruction) → m ≡ suc n → p ≡ x + 4 * n → middle ≡ old
+    ++ i.Literal t (pos 0) ∷ filled_code t x n → new ≡ middle ++ i.Store base.Scratch p t ∷ [] → new ≡ old
+    ++ i.Literal t (pos 0) ∷ filled_code t x m
 unfolding filled_code
 clear_next t x n m p old middle new is at h s =
-    and_then old middle new (i.Literal t (pos 0) ∷ filled_code t x n) (i.Store base.Scratch (x + 4 * n) t ∷ []) h (s ∙ ap (λ y. middle ++ i.Store base.Scratch y t ∷ []) at)
+    and_then old middle new (i.Literal t (pos 0) ∷ filled_code t x n) (i.Store base.Scratch (x + 4 * n) t ∷ []) h
+    (s ∙ ap (λ y. middle ++ i.Store base.Scratch y t ∷ []) at)
     ∙ ap (λ y. old ++ i.Literal t (pos 0) ∷ filled_code t x y) (sym is)
 
-pub clear_end : (t x n : ℕ) (old now : List Instruction) → n ≡ 8 → now ≡ old ++ i.Literal t (pos 0) ∷ filled_code t x n → now ≡ old ++ cleared_code t x
+pub clear_end : (t x n : ℕ) (old now : List Instruction) → n ≡ 8 → now ≡ old ++ i.Literal t (pos 0) ∷ filled_code t x n
+    → now ≡ old ++ cleared_code t x
 unfolding filled_code
 clear_end t x n old now e h =
     h ∙ ap (λ y. old ++ i.Literal t (pos 0) ∷ filled_code t x y) e
     ∙ ap
-    (λ y. old ++ i.Literal t (pos 0) ∷ i.Store base.Scratch y t ∷ i.Store base.Scratch (x + 4) t ∷ i.Store base.Scratch (x + 8) t ∷ i.Store base.Scratch (x + 12) t ∷ i.Store base.Scratch (x + 16) t ∷ i.Store base.Scratch (x + 20) t ∷ i.Store base.Scratch (x + 24) t ∷ i.Store base.Scratch (x + 28) t ∷ [])
+    (λ y. old ++ i.Literal t (pos 0) ∷ i.Store base.Scratch y t ∷ i.Store base.Scratch (x + 4) t ∷ i.Store base.Scratch
+    (x + 8) t ∷ i.Store base.Scratch (x + 12) t ∷ i.Store base.Scratch (x + 16) t ∷ i.Store base.Scratch (x + 20) t
+    ∷ i.Store base.Scratch (x + 24) t ∷ i.Store base.Scratch (x + 28) t ∷ [])
     (let z : x + 4 * 0 ≡ x = omega arith in z)
 
 -- ---- the whole test
 
 abbrev pub checked : (t x : ℕ) (low high : ℤ) (line : ℕ) → List Instruction
-checked t x low high line = i.Literal t (pos 0) ∷ outside_code low high t x 8 ++ i.Branch Equal t (operand.Number (pos 0)) 1 ∷ i.Trap 8 line ∷ []
+checked t x low high line = i.Literal t (pos 0) ∷ outside_code low high t x 8 ++ i.Branch Equal t
+    (operand.Number (pos 0)) 1 ∷ i.Trap 8 line ∷ []
 
-pub checked_made : {X E : Type 0} (t x : ℕ) (low high : ℤ) (line : ℕ) (b : Bool) (r : Result X E) (new o3 o2 o1 old : List Instruction) → b ≡ holds_all low high → b ≡ false → o1 ≡ old ++ i.Literal t (pos 0) ∷ [] → o2 ≡ o1 ++ outside_code low high t x 8 → o3 ≡ o2 ++ i.Branch Equal t (operand.Number (pos 0)) 1 ∷ [] → OnOk r (new ≡ o3 ++ i.Trap 8 line ∷ []) → OnOk r (new ≡ old ++ set_check t x low high line)
+pub checked_made : {X E : Type 0} (t x : ℕ) (low high : ℤ) (line : ℕ) (b : Bool) (r : Result X E)
+    (new o3 o2 o1 old : List Instruction) → b ≡ holds_all low high → b ≡ false → o1 ≡ old ++ i.Literal t (pos 0) ∷ []
+    → o2 ≡ o1 ++ outside_code low high t x 8 → o3 ≡ o2 ++ i.Branch Equal t (operand.Number (pos 0)) 1 ∷ [] → OnOk r
+    (new ≡ o3 ++ i.Trap 8 line ∷ []) → OnOk r (new ≡ old ++ set_check t x low high line)
 checked_made t x low high line b r new o3 o2 o1 old e is p q s h =
     let found = i.Literal t (pos 0) ∷ outside_code low high t x 8 in
     let passed = i.Branch Equal t (operand.Number (pos 0)) 1 ∷ [] in
     subst (λ c. OnOk r (new ≡ old ++ (if c then [] else checked t x low high line))) (sym is ∙ e)
     (subst (λ l. OnOk r (new ≡ old ++ l)) (append_assoc found passed (i.Trap 8 line ∷ []))
-    (behind r new o3 old (found ++ passed) (i.Trap 8 line ∷ []) (and_then old o2 o3 found passed (and_then old o1 o2 (i.Literal t (pos 0) ∷ []) (outside_code low high t x 8) p q) s) h))
+    (behind r new o3 old (found ++ passed) (i.Trap 8 line ∷ [])
+    (and_then old o2 o3 found passed (and_then old o1 o2 (i.Literal t (pos 0) ∷ [])
+    (outside_code low high t x 8) p q) s) h))
 
-pub set_passed : {X E : Type 0} (n x m : ℕ) (low high : ℤ) (line : ℕ) (r : Result X E) (new middle old : List Instruction) → m ≡ even_from n → middle ≡ old ++ set_check m x low high line → OnOk r (new ≡ middle ++ i.Offset n base.Scratch x 32 ∷ []) → OnOk r (new ≡ old ++ (set_check (even_from n) x low high line ++ i.Offset n base.Scratch x 32 ∷ []))
+pub set_passed : {X E : Type 0} (n x m : ℕ) (low high : ℤ) (line : ℕ) (r : Result X E)
+    (new middle old : List Instruction) → m ≡ even_from n → middle ≡ old ++ set_check m x low high line → OnOk r
+    (new ≡ middle ++ i.Offset n base.Scratch x 32 ∷ []) → OnOk r
+    (new ≡ old ++ (set_check (even_from n) x low high line ++ i.Offset n base.Scratch x 32 ∷ []))
 set_passed n x m low high line r new middle old is p h =
-    behind r new middle old (set_check (even_from n) x low high line) (i.Offset n base.Scratch x 32 ∷ []) (p ∙ ap (λ (y : ℕ). old ++ set_check y x low high line) is) h
+    behind r new middle old (set_check (even_from n) x low high line) (i.Offset n base.Scratch x 32 ∷ [])
+    (p ∙ ap (λ (y : ℕ). old ++ set_check y x low high line) is) h

@@ -13,7 +13,10 @@ largest_start most items = record { left = omega arith }
 max_assoc : (a b c : ℕ) → max (max a b) c ≡ max a (max b c)
 max_assoc a b c = omega arith
 
-pub largest_next : {A : Type 0} (most : List A → ℕ) (one : A → ℕ) → ((x : A) (xs : List A) → most (x ∷ xs) ≡ max (one x) (most xs)) → (items : List A) (i so_far item next : ℕ) (d : A) → i < length items → Largest most items i so_far → item ≡ one (get_or items i d) → next ≡ max so_far item → Largest most items (i + 1) next
+pub largest_next : {A : Type 0} (most : List A → ℕ) (one : A → ℕ)
+    → ((x : A) (xs : List A) → most (x ∷ xs) ≡ max (one x) (most xs)) → (items : List A) (i so_far item next : ℕ)
+    (d : A) → i < length items → Largest most items i so_far → item ≡ one (get_or items i d) → next ≡ max so_far item
+    → Largest most items (i + 1) next
 largest_next most one law items i so_far item next d h s is e = record {
   left =
       (let k : i + 1 ≡ suc i = omega arith in ap (λ j. max next (most (drop j items))) k)
@@ -27,5 +30,7 @@ largest_next most one law items i so_far item next d h s is e = record {
 zero_right : (a b : ℕ) → b ≡ 0 → a ≡ max a b
 zero_right a b e = omega arith
 
-pub largest_all : {A : Type 0} (most : List A → ℕ) → most [] ≡ 0 → (items : List A) (i so_far : ℕ) → length items ≤ i → Largest most items i so_far → so_far ≡ most items
-largest_all most none items i so_far h s = zero_right so_far (most (drop i items)) (ap most (drop_all i items h) ∙ none) ∙ s.left
+pub largest_all : {A : Type 0} (most : List A → ℕ) → most [] ≡ 0 → (items : List A) (i so_far : ℕ) → length items ≤ i
+    → Largest most items i so_far → so_far ≡ most items
+largest_all most none items i so_far h s = zero_right so_far (most (drop i items)) (ap most (drop_all i items h) ∙ none)
+    ∙ s.left

@@ -1,8 +1,10 @@
 -- `with`: records that are opened one after another.
-use Rattle.std.proofs.Common.{◌≡◌, ℕ, suc, ◌+◌, ◌-◌, ◌<◌, ◌≤◌, Bool, List, [], ◌∷◌, ◌++◌, length, map, drop, get_or, slice_get, Some, None, refl, sym, ap, subst, ◌∙◌, append_assoc, arith}
+use Rattle.std.proofs.Common.{◌≡◌, ℕ, suc, ◌+◌, ◌-◌, ◌<◌, ◌≤◌, Bool, List, [], ◌∷◌, ◌++◌, length, map, drop, get_or}
+use Rattle.std.proofs.Common.{slice_get, Some, None, refl, sym, ap, subst, ◌∙◌, append_assoc, arith}
 use Rattle.std.specs.Prelude.{reverse}
 use Rattle.std.proofs.Math.Seq.{drop-cons}
-use Rattle.std.proofs.lemmas.List.{append-nil, drop_all, map-append, reverse-append, length-map, length-reverse, get_or-map, get_or-reverse}
+use Rattle.std.proofs.lemmas.List.{append-nil, drop_all, map-append, reverse-append, length-map, length-reverse}
+use Rattle.std.proofs.lemmas.List.{get_or-map, get_or-reverse}
 use Rattle.std.proofs.lemmas.Option.{slice_get-get_or, slice_get_past}
 use Rattle.ps_tree.specs.Tree as t
 use Rattle.ps_tree.specs.declared.tree.Place.{Place}
@@ -16,7 +18,8 @@ use Rattle.ps_lower.specs.declared.site.Site.{Site}
 use Rattle.ps_lower.specs.Levels.{site_of, within}
 
 -- the innermost is the last
-pub turned : (l : List Site) (w n : ℕ) (s d : Site) → w < length l → n ≡ length l - 1 - w → s ≡ get_or l n d → Some (site_of s) ≡ slice_get (reverse (map site_of l)) w
+pub turned : (l : List Site) (w n : ℕ) (s d : Site) → w < length l → n ≡ length l - 1 - w → s ≡ get_or l n d → Some
+    (site_of s) ≡ slice_get (reverse (map site_of l)) w
 turned l w n s d h e is =
     let m : length (map site_of l) ≡ length l = length-map l site_of in
     let inside : w < length (map site_of l) = omega (arith, m, h) in
@@ -25,7 +28,9 @@ turned l w n s d h e is =
     let place : length (map site_of l) - 1 - w ≡ n = omega (arith, m, e) in
     let small : n < length l = omega (arith, h, e) in
     sym (slice_get-get_or (reverse (map site_of l)) w (site_of d) turned_inside
-    ∙ ap Some (get_or-reverse (map site_of l) w (site_of d) inside ∙ ap (λ j. get_or (map site_of l) j (site_of d)) place ∙ get_or-map site_of l n d (site_of d) small ∙ ap site_of (sym is)))
+    ∙ ap Some (get_or-reverse (map site_of l) w (site_of d) inside
+    ∙ ap (λ j. get_or (map site_of l) j (site_of d)) place ∙ get_or-map site_of l n d (site_of d) small ∙ ap site_of
+    (sym is)))
 
 pub not_opened : (l : List Site) (w : ℕ) → length l ≤ w → None ≡ slice_get (reverse (map site_of l)) w
 not_opened l w h =
@@ -37,7 +42,8 @@ abbrev pub with_open : Scope → List CodeSite → Scope
 with_open k l = record { program = k.program; chain = k.chain; opened = l }
 
 further_in : (k : Scope) (l : List Site) (s : Site) → within k (l ++ s ∷ []) ≡ within_site (within k l) (site_of s)
-further_in k l s = ap (with_open k) (ap reverse (map-append site_of l (s ∷ [])) ∙ reverse-append (map site_of l) (site_of s ∷ []))
+further_in k l s = ap (with_open k) (ap reverse (map-append site_of l (s ∷ [])) ∙ reverse-append (map site_of l)
+    (site_of s ∷ []))
 
 abbrev pub records_code : Scope → Bool → List Place → ℕ → List Instruction
 records_code k c l d = with_code k (map place_of l) c d
@@ -53,14 +59,20 @@ pub record Opening (k : Scope) (c : Bool) (d : ℕ) (start : List Instruction) (
   pub scope : records_scope (within k sites) c (drop i items) depth ≡ records_scope k c items d
   pub end : records_depth c (drop i items) depth ≡ records_depth c items d
 
-pub opening_start : (k : Scope) (c : Bool) (d : ℕ) (start : List Instruction) (items : List Place) (sites : List Site) → within k sites ≡ k → Opening k c d start items 0 start sites d
+pub opening_start : (k : Scope) (c : Bool) (d : ℕ) (start : List Instruction) (items : List Place) (sites : List Site)
+    → within k sites ≡ k → Opening k c d start items 0 start sites d
 opening_start k c d start items sites e = record {
   code = ap (λ (y : Scope). start ++ records_code y c items d) e;
   scope = ap (λ (y : Scope). records_scope y c items d) e;
   end = refl;
 }
 
-pub opening_next : (k : Scope) (c : Bool) (d : ℕ) (start : List Instruction) (items : List Place) (i : ℕ) (now next : List Instruction) (sites more : List Site) (depth n m below : ℕ) (s : Site) (p : Place) → i < length items → Opening k c d start items i now sites depth → n ≡ held c depth → next ≡ now ++ place_code (within k sites) (place_of (get_or items i p)) n 0 → site_of s ≡ place_site (within k sites) (place_of (get_or items i p)) n → more ≡ sites ++ s ∷ [] → m ≡ place_temporary (place_of (get_or items i p)) n → below ≡ m + 1 → Opening k c d start items (i + 1) next more below
+pub opening_next : (k : Scope) (c : Bool) (d : ℕ) (start : List Instruction) (items : List Place) (i : ℕ)
+    (now next : List Instruction) (sites more : List Site) (depth n m below : ℕ) (s : Site) (p : Place)
+    → i < length items → Opening k c d start items i now sites depth → n ≡ held c depth → next ≡ now ++ place_code
+    (within k sites) (place_of (get_or items i p)) n 0 → site_of s ≡ place_site (within k sites)
+    (place_of (get_or items i p)) n → more ≡ sites ++ s ∷ [] → m ≡ place_temporary (place_of (get_or items i p)) n
+    → below ≡ m + 1 → Opening k c d start items (i + 1) next more below
 opening_next k c d start items i now next sites more depth n m below s p h o is e f g b w =
     let j : i + 1 ≡ suc i = omega arith in
     let item : t.Place = place_of (get_or items i p) in
@@ -69,15 +81,19 @@ opening_next k c d start items i now next sites more depth n m below s p h o is 
     let further : within k more ≡ within_site here (place_site here item (held c depth)) =
     ap (within k) g ∙ further_in k sites s ∙ ap (within_site here) (f ∙ ap (place_site here item) is)
     in
-    let deep : below ≡ suc (place_temporary item (held c depth)) = (let u : below ≡ suc m = omega (arith, w) in u ∙ ap suc (b ∙ ap (λ y. place_temporary item y) is)) in
+    let deep : below ≡ suc (place_temporary item (held c depth)) =
+    (let u : below ≡ suc m = omega (arith, w) in u ∙ ap suc (b ∙ ap (λ y. place_temporary item y) is)) in
     let at : drop i items ≡ get_or items i p ∷ rest = drop-cons items i p h in
     record {
       code =
           ap (λ n. next ++ records_code (within k more) c (drop n items) below) j
           ∙ ap (λ (y : Scope). next ++ records_code y c rest below) further
           ∙ ap (λ n. next ++ records_code (within_site here (place_site here item (held c depth))) c rest n) deep
-          ∙ ap (λ o. o ++ records_code (within_site here (place_site here item (held c depth))) c rest (suc (place_temporary item (held c depth)))) (e ∙ ap (λ y. now ++ place_code here item y 0) is)
-          ∙ append_assoc now (place_code here item (held c depth) 0) (records_code (within_site here (place_site here item (held c depth))) c rest (suc (place_temporary item (held c depth))))
+          ∙ ap (λ o. o ++ records_code (within_site here (place_site here item (held c depth))) c rest
+          (suc (place_temporary item (held c depth)))) (e ∙ ap (λ y. now ++ place_code here item y 0) is)
+          ∙ append_assoc now (place_code here item (held c depth) 0)
+          (records_code (within_site here (place_site here item (held c depth))) c rest
+          (suc (place_temporary item (held c depth))))
           ∙ ap (λ l. now ++ records_code here c l depth) (sym at)
           ∙ o.code;
       scope =
@@ -93,33 +109,54 @@ opening_next k c d start items i now next sites more depth n m below s p h o is 
           ∙ o.end;
     }
 
-pub opening_code : (k : Scope) (c : Bool) (d : ℕ) (start : List Instruction) (items : List Place) (i : ℕ) (now : List Instruction) (sites : List Site) (depth : ℕ) → length items ≤ i → Opening k c d start items i now sites depth → now ≡ start ++ records_code k c items d
-opening_code k c d start items i now sites depth h o = sym (append-nil now) ∙ ap (λ l. now ++ records_code (within k sites) c l depth) (sym (drop_all i items h)) ∙ o.code
+pub opening_code : (k : Scope) (c : Bool) (d : ℕ) (start : List Instruction) (items : List Place) (i : ℕ)
+    (now : List Instruction) (sites : List Site) (depth : ℕ) → length items ≤ i
+    → Opening k c d start items i now sites depth → now ≡ start ++ records_code k c items d
+opening_code k c d start items i now sites depth h o = sym (append-nil now)
+    ∙ ap (λ l. now ++ records_code (within k sites) c l depth) (sym (drop_all i items h)) ∙ o.code
 
-pub opening_scope : (k : Scope) (c : Bool) (d : ℕ) (start : List Instruction) (items : List Place) (i : ℕ) (now : List Instruction) (sites : List Site) (depth : ℕ) → length items ≤ i → Opening k c d start items i now sites depth → within k sites ≡ records_scope k c items d
-opening_scope k c d start items i now sites depth h o = ap (λ l. records_scope (within k sites) c l depth) (sym (drop_all i items h)) ∙ o.scope
+pub opening_scope : (k : Scope) (c : Bool) (d : ℕ) (start : List Instruction) (items : List Place) (i : ℕ)
+    (now : List Instruction) (sites : List Site) (depth : ℕ) → length items ≤ i
+    → Opening k c d start items i now sites depth → within k sites ≡ records_scope k c items d
+opening_scope k c d start items i now sites depth h o = ap (λ l. records_scope (within k sites) c l depth)
+    (sym (drop_all i items h)) ∙ o.scope
 
-pub opening_end : (k : Scope) (c : Bool) (d : ℕ) (start : List Instruction) (items : List Place) (i : ℕ) (now : List Instruction) (sites : List Site) (depth : ℕ) → length items ≤ i → Opening k c d start items i now sites depth → depth ≡ records_depth c items d
-opening_end k c d start items i now sites depth h o = ap (λ l. records_depth c l depth) (sym (drop_all i items h)) ∙ o.end
+pub opening_end : (k : Scope) (c : Bool) (d : ℕ) (start : List Instruction) (items : List Place) (i : ℕ)
+    (now : List Instruction) (sites : List Site) (depth : ℕ) → length items ≤ i
+    → Opening k c d start items i now sites depth → depth ≡ records_depth c items d
+opening_end k c d start items i now sites depth h o = ap (λ l. records_depth c l depth) (sym (drop_all i items h))
+    ∙ o.end
 
 -- ---- room for the records that are left
 
 pub record Widening (k : Scope) (c : Bool) (items : List Place) (i : ℕ) (sites : List Site) (depth : ℕ) : Type 0 where
   pub room : depth + with_weight (within k sites) (map place_of (drop i items)) c depth ≤ 2147483647
 
-pub widening_start : (k : Scope) (c : Bool) (items : List Place) (sites : List Site) (d : ℕ) → within k sites ≡ k → d + with_weight k (map place_of items) c d ≤ 2147483647 → Widening k c items 0 sites d
-widening_start k c items sites d e l = record { room = subst (λ (y : Scope). d + with_weight y (map place_of items) c d ≤ 2147483647) (sym e) l }
+pub widening_start : (k : Scope) (c : Bool) (items : List Place) (sites : List Site) (d : ℕ) → within k sites ≡ k → d
+    + with_weight k (map place_of items) c d ≤ 2147483647 → Widening k c items 0 sites d
+widening_start k c items sites d e l = record {
+  room = subst (λ (y : Scope). d + with_weight y (map place_of items) c d ≤ 2147483647) (sym e) l;
+}
 
-widening_at : (k : Scope) (c : Bool) (items : List Place) (i : ℕ) (sites : List Site) (depth : ℕ) (p : Place) → i < length items → p ≡ get_or items i p → Widening k c items i sites depth
+widening_at : (k : Scope) (c : Bool) (items : List Place) (i : ℕ) (sites : List Site) (depth : ℕ) (p : Place)
+    → i < length items → p ≡ get_or items i p → Widening k c items i sites depth
     → depth + with_weight (within k sites) (place_of p ∷ map place_of (drop (suc i) items)) c depth ≤ 2147483647
 widening_at k c items i sites depth p h e w =
-    subst (λ (y : Place). depth + with_weight (within k sites) (place_of y ∷ map place_of (drop (suc i) items)) c depth ≤ 2147483647) (sym e)
-    (subst (λ l. depth + with_weight (within k sites) (map place_of l) c depth ≤ 2147483647) (drop-cons items i p h) w.room)
+    subst (λ (y : Place). depth + with_weight (within k sites)
+    (place_of y ∷ map place_of (drop (suc i) items)) c depth ≤ 2147483647) (sym e)
+    (subst (λ l. depth + with_weight (within k sites) (map place_of l) c depth ≤ 2147483647)
+    (drop-cons items i p h) w.room)
 
-pub widening_one : (k : Scope) (c : Bool) (items : List Place) (i : ℕ) (sites : List Site) (depth n : ℕ) (p : Place) → i < length items → p ≡ get_or items i p → Widening k c items i sites depth → n ≤ depth + 1 → n + place_weight (within k sites) (place_of p) ≤ 2147483647
-widening_one k c items i sites depth n p h e w l = let r = widening_at k c items i sites depth p h e w in omega (arith, r, l)
+pub widening_one : (k : Scope) (c : Bool) (items : List Place) (i : ℕ) (sites : List Site) (depth n : ℕ) (p : Place)
+    → i < length items → p ≡ get_or items i p → Widening k c items i sites depth → n ≤ depth + 1 → n + place_weight
+    (within k sites) (place_of p) ≤ 2147483647
+widening_one k c items i sites depth n p h e w l = let r = widening_at k c items i sites depth p h e w in omega
+    (arith, r, l)
 
-pub widening_next : (k : Scope) (c : Bool) (items : List Place) (i : ℕ) (sites more : List Site) (depth n m below : ℕ) (s : Site) (p : Place) → i < length items → p ≡ get_or items i p → Widening k c items i sites depth → n ≡ held c depth → site_of s ≡ place_site (within k sites) (place_of p) n → more ≡ sites ++ s ∷ [] → m ≡ place_temporary (place_of p) n → below ≡ m + 1 → n ≤ depth + 1 → m ≤ n + 1 → Widening k c items (i + 1) more below
+pub widening_next : (k : Scope) (c : Bool) (items : List Place) (i : ℕ) (sites more : List Site) (depth n m below : ℕ)
+    (s : Site) (p : Place) → i < length items → p ≡ get_or items i p → Widening k c items i sites depth → n
+    ≡ held c depth → site_of s ≡ place_site (within k sites) (place_of p) n → more ≡ sites ++ s ∷ [] → m
+    ≡ place_temporary (place_of p) n → below ≡ m + 1 → n ≤ depth + 1 → m ≤ n + 1 → Widening k c items (i + 1) more below
 widening_next k c items i sites more depth n m below s p h e w is f g b x near next =
     let r = widening_at k c items i sites depth p h e w in
     let item : t.Place = place_of p in
@@ -128,10 +165,13 @@ widening_next k c items i sites more depth n m below s p h e w is f g b x near n
     let further : within_site here (place_site here item (held c depth)) ≡ within k more =
     sym (ap (within k) g ∙ further_in k sites s ∙ ap (within_site here) (f ∙ ap (place_site here item) is))
     in
-    let deep : suc (place_temporary item (held c depth)) ≡ below = (let u : below ≡ suc m = omega (arith, x) in sym (u ∙ ap suc (b ∙ ap (λ y. place_temporary item y) is))) in
-    let left = with_weight (within_site here (place_site here item (held c depth))) (map place_of (drop (suc i) items)) c (suc (place_temporary item (held c depth))) in
+    let deep : suc (place_temporary item (held c depth)) ≡ below =
+    (let u : below ≡ suc m = omega (arith, x) in sym (u ∙ ap suc (b ∙ ap (λ y. place_temporary item y) is))) in
+    let left = with_weight (within_site here (place_site here item (held c depth)))
+    (map place_of (drop (suc i) items)) c (suc (place_temporary item (held c depth))) in
     let same : left ≡ with_weight (within k more) (map place_of (drop (i + 1) items)) c below =
-    ap (λ (y : Scope). with_weight y (map place_of (drop (suc i) items)) c (suc (place_temporary item (held c depth)))) further
+    ap (λ (y : Scope). with_weight y (map place_of (drop (suc i) items)) c (suc (place_temporary item (held c depth))))
+    further
     ∙ ap (λ y. with_weight (within k more) (map place_of (drop (suc i) items)) c y) deep
     ∙ ap (λ y. with_weight (within k more) (map place_of (drop y items)) c below) j
     in

@@ -1,5 +1,6 @@
 -- Items that are copied one by one.
-use Rattle.std.proofs.Common.{◌≡◌, ℕ, suc, ◌+◌, ◌<◌, ◌≤◌, List, [], ◌∷◌, ◌++◌, length, drop, get_or, sym, ap, ◌∙◌, append_assoc, arith}
+use Rattle.std.proofs.Common.{◌≡◌, ℕ, suc, ◌+◌, ◌<◌, ◌≤◌, List, [], ◌∷◌, ◌++◌, length, drop, get_or, sym, ap, ◌∙◌}
+use Rattle.std.proofs.Common.{append_assoc, arith}
 use Rattle.std.proofs.Math.Seq.{drop-cons}
 use Rattle.std.proofs.lemmas.List.{append-nil, drop_all}
 
@@ -9,7 +10,8 @@ pub record Copied {A : Type 0} (items : List A) (i : ℕ) (now : List A) : Type 
 pub copied_start : {A : Type 0} (items now : List A) → now ≡ [] → Copied items 0 now
 copied_start items now e = record { left = ap (λ l. l ++ items) e }
 
-pub copied_next : {A : Type 0} (items : List A) (i : ℕ) (now next : List A) (d item : A) → i < length items → Copied items i now → item ≡ get_or items i d → next ≡ now ++ item ∷ [] → Copied items (i + 1) next
+pub copied_next : {A : Type 0} (items : List A) (i : ℕ) (now next : List A) (d item : A) → i < length items
+    → Copied items i now → item ≡ get_or items i d → next ≡ now ++ item ∷ [] → Copied items (i + 1) next
 copied_next items i now next d item h s is e = record {
   left =
       (let k : i + 1 ≡ suc i = omega arith in ap (λ j. next ++ drop j items) k)
@@ -19,5 +21,6 @@ copied_next items i now next d item h s is e = record {
       ∙ s.left;
 }
 
-pub copied_all : {A : Type 0} (items : List A) (i : ℕ) (now : List A) → length items ≤ i → Copied items i now → now ≡ items
+pub copied_all : {A : Type 0} (items : List A) (i : ℕ) (now : List A) → length items ≤ i → Copied items i now → now
+    ≡ items
 copied_all items i now h s = sym (append-nil now) ∙ ap (λ l. now ++ l) (sym (drop_all i items h)) ∙ s.left

@@ -5,7 +5,8 @@ use Rattle.ps_tree.specs.Sizes.{bytes, bytes_before}
 use Rattle.ps_lower_layout.specs.Shapes.{shape_of, shapes_of, field_shapes, byte_count, words_before}
 use Rattle.ps_lower.proofs.Sizes.{words_in}
 
-pub bytes_told : (t : DataType) (n : ℕ) → n ≡ min (bytes t) (2 ^ 32 - 1) → byte_count (shape_of t) ≤ 2147483647 → n ≡ byte_count (shape_of t)
+pub bytes_told : (t : DataType) (n : ℕ) → n ≡ min (bytes t) (2 ^ 32 - 1) → byte_count (shape_of t) ≤ 2147483647 → n
+    ≡ byte_count (shape_of t)
 bytes_told t n e h = let a = words_in t in omega (arith, a, e, h)
 
 pub fields_told : (f : FieldList) → shapes_of (field_types f) ≡ field_shapes f
@@ -17,5 +18,6 @@ before_told no_type k = refl
 before_told (type_before type rest) zero = refl
 before_told (type_before type rest) (suc k) = let a = words_in type in let b = before_told rest k in omega (arith, a, b)
 
-pub offset_told : (f : FieldList) (k n : ℕ) → n ≡ min (bytes_before (field_types f) k) (2 ^ 32 - 1) → 4 * words_before (field_shapes f) k ≤ 2147483647 → n ≡ 4 * words_before (field_shapes f) k
+pub offset_told : (f : FieldList) (k n : ℕ) → n ≡ min (bytes_before (field_types f) k) (2 ^ 32 - 1) → 4 * words_before
+    (field_shapes f) k ≤ 2147483647 → n ≡ 4 * words_before (field_shapes f) k
 offset_told (field_list names types) k n e h = let a = before_told types k in omega (arith, a, e, h)

@@ -1,5 +1,6 @@
 -- First values that are longer than a word.
-use Rattle.std.proofs.Common.{◌≡◌, ℕ, zero, suc, ◌*◌, Bool, true, false, nat_eq, if◌then◌else◌, List, [], ◌++◌, refl, ap, sym, ◌∙◌, arith}
+use Rattle.std.proofs.Common.{◌≡◌, ℕ, zero, suc, ◌*◌, Bool, true, false, nat_eq, if◌then◌else◌, List, [], ◌++◌, refl}
+use Rattle.std.proofs.Common.{ap, sym, ◌∙◌, arith}
 use Rattle.std.proofs.Math.Nat.{mul_left_comm}
 use Rattle.std.proofs.lemmas.Bool.Decides.{nat_tests}
 use Rattle.tac_code.specs.declared.code.Base.{Base}
@@ -39,15 +40,21 @@ is_something zero h = absurd (h refl)
 is_something (suc m) h = not_zero m
 
 abbrev array_code : Scope → Base → (t offset n : ℕ) → Shape → Bool → List Instruction
-array_code k b t offset n shape empty = if empty then [] else (first_code k b t offset shape ++ spread_code k b t offset (byte_count shape) (n * byte_count shape))
+array_code k b t offset n shape empty = if empty then []
+    else (first_code k b t offset shape ++ spread_code k b t offset (byte_count shape) (n * byte_count shape))
 
-pub nothing_repeated : (k : Scope) (b : Base) (t offset n each whole : ℕ) (shape : Shape) → each ≡ byte_count shape → whole ≡ n * each → whole ≡ 0 → first_code k b t offset (ArrayShape n shape) ≡ []
+pub nothing_repeated : (k : Scope) (b : Base) (t offset n each whole : ℕ) (shape : Shape) → each ≡ byte_count shape
+    → whole ≡ n * each → whole ≡ 0 → first_code k b t offset (ArrayShape n shape) ≡ []
 nothing_repeated k b t offset n each whole shape e f h =
-    ap (λ c. array_code k b t offset n shape c) (is_nothing (n * word_count shape) (sym (in_words n (word_count shape)) ∙ sym (ap (λ m. n * m) e) ∙ sym f ∙ h))
+    ap (λ c. array_code k b t offset n shape c)
+    (is_nothing (n * word_count shape) (sym (in_words n (word_count shape)) ∙ sym (ap (λ m. n * m) e) ∙ sym f ∙ h))
 
-pub first_repeated : (k : Scope) (b : Base) (t offset n each whole : ℕ) (shape : Shape) → each ≡ byte_count shape → whole ≡ n * each → ¬ (whole ≡ 0) → first_code k b t offset (ArrayShape n shape) ≡ first_code k b t offset shape ++ spread_code k b t offset each whole
+pub first_repeated : (k : Scope) (b : Base) (t offset n each whole : ℕ) (shape : Shape) → each ≡ byte_count shape
+    → whole ≡ n * each → ¬ (whole ≡ 0) → first_code k b t offset (ArrayShape n shape) ≡ first_code k b t offset shape
+    ++ spread_code k b t offset each whole
 first_repeated k b t offset n each whole shape e f h =
     let product : whole ≡ n * byte_count shape = f ∙ ap (λ m. n * m) e in
-    ap (λ c. array_code k b t offset n shape c) (is_something (n * word_count shape) (λ z. h (product ∙ in_words n (word_count shape) ∙ z)))
+    ap (λ c. array_code k b t offset n shape c)
+    (is_something (n * word_count shape) (λ z. h (product ∙ in_words n (word_count shape) ∙ z)))
     ∙ ap (λ m. first_code k b t offset shape ++ spread_code k b t offset (byte_count shape) m) (sym product)
     ∙ ap (λ m. first_code k b t offset shape ++ spread_code k b t offset m whole) (sym e)

@@ -1,9 +1,10 @@
--- A first value as a list of tasks, each of which is done in one step and may leave further ones.
+-- A first value as a list of tasks, each of which is done in one step and may leave more.
 use Rattle.std.specs.Prelude.{◌≡◌, ℕ, ◌+◌, ◌<◌, ◌≤◌, max, List, [], ◌∷◌, ◌++◌}
 use Rattle.ps_tree.specs.View.{type_of, types_of}
 use Rattle.tac_code.specs.declared.code.Base.{Base}
 use Rattle.tac_code.specs.declared.code.Instruction.{Instruction}
-use Rattle.ps_lower_layout.specs.Shapes.{Shape, ArrayShape, RecordShape, Shapes, no_shape, shape_before, shape_of, shapes_of}
+use Rattle.ps_lower_layout.specs.Shapes.{Shape, ArrayShape, RecordShape, Shapes, no_shape, shape_before, shape_of}
+use Rattle.ps_lower_layout.specs.Shapes.{shapes_of}
 use Rattle.ps_lower_code.specs.Scopes.{Scope}
 use Rattle.ps_lower_code.specs.Statements.{spread_code, first_code, fields_code}
 use Rattle.ps_lower_bounds.specs.Weights.{first_weight, fields_weight}
@@ -51,20 +52,22 @@ abbrev pub tasks_reach : List Task → ℕ
 tasks_reach [] = 0
 tasks_reach (task ∷ rest) = max (task_reach task) (tasks_reach rest)
 
--- A step at a task of this code and weight, whose numbers go so far, which is no longer in the list: with what is left now, the code is that of the task and of the others.
--- There is less to do, and nothing goes further.
+-- A step at a task of this code and weight, whose numbers go this far, and which is no longer in the list: together
+-- with what is left now, the code is that of the task and of the others. There is less to do, and nothing goes further.
 pub record IsDone (k : Scope) (b : Base) (t : ℕ) (code : List Instruction) (steps far : ℕ) (start now : List Instruction) (old new : List Task) : Type 0 where
   pub same : now ++ tasks_code k b t new ≡ (start ++ code) ++ tasks_code k b t old
   pub less : tasks_weight new < steps + tasks_weight old
   pub near : tasks_reach new ≤ max far (tasks_reach old)
 
--- the same of a step that adds no code itself: at a variable of a shape, and at fields
+-- the same for a step that adds no code itself: at a variable of a shape, and at fields
 pub record IsLeft (offset : ℕ) (shape : Shape) (old new : List Task) : Type 0 where
-  pub same : (k : Scope) (b : Base) (t : ℕ) → tasks_code k b t new ≡ first_code k b t offset shape ++ tasks_code k b t old
+  pub same : (k : Scope) (b : Base) (t : ℕ) → tasks_code k b t new ≡ first_code k b t offset shape
+      ++ tasks_code k b t old
   pub less : tasks_weight new < weight shape + tasks_weight old
   pub near : tasks_reach new ≤ max (offset + first_weight shape) (tasks_reach old)
 
 pub record AreLeft (offset : ℕ) (shapes : Shapes) (old new : List Task) : Type 0 where
-  pub same : (k : Scope) (b : Base) (t : ℕ) → tasks_code k b t new ≡ fields_code k b t offset shapes ++ tasks_code k b t old
+  pub same : (k : Scope) (b : Base) (t : ℕ) → tasks_code k b t new ≡ fields_code k b t offset shapes
+      ++ tasks_code k b t old
   pub less : tasks_weight new < weights shapes + tasks_weight old
   pub near : tasks_reach new ≤ max (offset + fields_weight shapes) (tasks_reach old)

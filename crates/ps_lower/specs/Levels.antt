@@ -17,7 +17,11 @@ site_of s = record { base = s.base; offset = s.offset }
 
 -- the innermost of the open records is the last
 abbrev pub scope_of : Level → Scope
-scope_of k = record { program = program_in k.checked.now; chain = k.chain.now; opened = reverse (map site_of k.opened.now) }
+scope_of k = record {
+  program = program_in k.checked.now;
+  chain = k.chain.now;
+  opened = reverse (map site_of k.opened.now);
+}
 
 -- the same, where these records are open
 abbrev pub within : Scope → List Site → Scope
@@ -27,6 +31,7 @@ abbrev pub is_reference_at : Option Kind → Bool
 is_reference_at None = false
 is_reference_at (Some kind) = is_reference kind
 
--- a condition, and the first of two statements, past which a jump leads that is still to come
+-- a condition, and the first of two statements, with the jump past the second, which is still to come
 abbrev pub then_code : Scope → Expr → Statement → (d : ℕ) → List Instruction
-then_code k e s d = front_code k e d 0 ++ Branch (opposite (relation_in e)) (left_in e d) (right_in e d) (suc (length (statement_code k s d))) ∷ statement_code k s d
+then_code k e s d = front_code k e d 0 ++ Branch (opposite (relation_in e)) (left_in e d) (right_in e d)
+    (suc (length (statement_code k s d))) ∷ statement_code k s d

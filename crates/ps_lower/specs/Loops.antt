@@ -8,7 +8,8 @@ use Rattle.tac_code.specs.declared.code.BitOperator.TheVariants as bits
 use Rattle.tac_code.specs.declared.code.Instruction.{Instruction}
 use Rattle.tac_code.specs.declared.code.Instruction.TheVariants as i
 use Rattle.ps_lower_layout.specs.Frames.{entry_offset}
-use Rattle.ps_lower_code.specs.Scopes.{Scope, even_from, held, operand_of, check_code, operand_check, unless_known, routine_up}
+use Rattle.ps_lower_code.specs.Scopes.{Scope, even_from, held, operand_of, check_code, operand_check, unless_known}
+use Rattle.ps_lower_code.specs.Scopes.{routine_up}
 use Rattle.ps_lower_code.specs.Calling.{expr_calls}
 use Rattle.ps_lower_code.specs.Values.{literal_of}
 use Rattle.ps_lower_code.specs.Statements.{expr_code, step_number, body_depth, for_code, statement_code}
@@ -35,15 +36,17 @@ bounds_code k a b turns = expr_code k a turns.first 0 ++ unless_known (literal_o
 
 -- their tests
 abbrev pub checks_code : Control → (from to : Expr) → Turns → List Instruction
-checks_code c a b turns = check_code (literal_of a) turns.first c.low c.high 4 c.from_line ++ operand_check (literal_of b) turns.last c.low c.high 4 c.to_line
+checks_code c a b turns = check_code (literal_of a) turns.first c.low c.high 4 c.from_line ++ operand_check
+    (literal_of b) turns.last c.low c.high 4 c.to_line
 
--- the first value, the way past the step, and the step
+-- the first value, the jump past the step, and the step
 abbrev pub first_turn_code : Direction → Turns → List Instruction
 first_turn_code direction turns =
     i.Store base.Frame turns.offset turns.first ∷ i.Jump 2
-    ∷ i.Bits bits.Plus turns.step turns.step (operand.Number (step_number direction)) ∷ i.Store base.Frame turns.offset turns.step ∷ []
+    ∷ i.Bits bits.Plus turns.step turns.step (operand.Number (step_number direction))
+    ∷ i.Store base.Frame turns.offset turns.step ∷ []
 
--- what stands between the branch past all turns and the body
+-- what comes between the branch past all turns and the body
 abbrev pub opening_code : Control → (from to : Expr) → Turns → List Instruction
 opening_code c a b turns = checks_code c a b turns ++ first_turn_code c.direction turns
 
@@ -51,4 +54,5 @@ opening_code c a b turns = checks_code c a b turns ++ first_turn_code c.directio
 abbrev pub loop_code : Scope → Control → (from to : Expr) → Turns → Statement → List Instruction
 loop_code k c a b turns s =
     bounds_code k a b turns
-    ++ for_code c.direction turns.first turns.limit turns.offset turns.step (checks_code c a b turns) (statement_code k s turns.depth)
+    ++ for_code c.direction turns.first turns.limit turns.offset turns.step (checks_code c a b turns)
+    (statement_code k s turns.depth)

@@ -1,4 +1,4 @@
--- How many instructions a code has, and what it says of them that a program is refused.
+-- How many instructions a code has, and what a program's refusal says about that number.
 use Rattle.std.specs.Prelude.{◌≡◌, ℕ, ◌+◌, ◌<◌, List, [], ◌∷◌, ◌++◌, length, Result, MatchResult}
 use Rattle.tac_code.specs.declared.code.Instruction.{Instruction}
 use Rattle.tac_code.specs.declared.code.TacRoutine.{TacRoutine}
@@ -6,7 +6,7 @@ use Rattle.tac_code.specs.Meaning.{Code}
 use Rattle.ps_lower.specs.declared.refusal.LowerRefusal.{LowerRefusal}
 use Rattle.ps_lower.specs.declared.refusal.LowerRefusal.TheVariants.{OutOfMemory, CodeTooLarge}
 
--- the most instructions: an image holds no more words, and each instruction takes a word at least
+-- the most instructions: an image holds no more words, and each instruction takes at least one word
 abbrev pub most_instructions : ℕ
 most_instructions = 1048576
 
@@ -18,11 +18,12 @@ instructions_of (routine ∷ rest) = length routine.body + instructions_of rest
 abbrev pub instruction_count : Code → ℕ
 instruction_count code = instructions_of code.program
 
--- what a refusal says of code of so many instructions
+-- what a refusal says of code of `count` instructions
 abbrev pub IsRefused : LowerRefusal → (count : ℕ) → Type 0
 IsRefused OutOfMemory count = Unit {0}
 IsRefused CodeTooLarge count = most_instructions < count
 
--- code is added behind what there is, or refused with it
+-- code is added after what there is, or refused with it
 abbrev pub Adds : {T : Type 0} → Result T LowerRefusal → (old new code : List Instruction) → Type 0
-Adds result old new code = MatchResult result (λ added. new ≡ old ++ code) (λ refusal. IsRefused refusal (length (old ++ code)))
+Adds result old new code = MatchResult result (λ added. new ≡ old ++ code)
+    (λ refusal. IsRefused refusal (length (old ++ code)))

@@ -9,14 +9,15 @@ use Rattle.ps_lower_code.specs.Values.{literal_of, known_steps, index_code, sele
 use Rattle.ps_lower_code.specs.Statements.{expr_code}
 
 abbrev pub selector_code : Scope → Selector → Site → (t x : ℕ) → List Instruction
-selector_code k (Element type e line) s t x = index_code (known_steps type (literal_of e)) type s t (even_from (suc t)) line (expr_code k e (even_from (suc t)) x)
+selector_code k (Element type e line) s t x = index_code (known_steps type (literal_of e)) type s t
+    (even_from (suc t)) line (expr_code k e (even_from (suc t)) x)
 selector_code k (Field type number) s t x = []
 selector_code k (Target pointer line) s t x = i.Load t s.base s.offset ∷ i.CheckPointer t 6 line ∷ []
 
 abbrev pub selector_site : Selector → Site → (t : ℕ) → Site
 selector_site selector s t = selectors_site (selector_before selector no_selector) s t
 
--- so many bytes further, and the beginning of what an address in a temporary means
+-- the site n bytes further on, and the beginning of what an address in a temporary means
 abbrev pub site_behind : Site → ℕ → Site
 site_behind s n = record { base = s.base; offset = s.offset + n }
 

@@ -1,4 +1,4 @@
--- Where the entries of a frame stand.
+-- Where the entries of a frame are.
 use Rattle.std.specs.Prelude.{◌≡◌, ℕ, ◌+◌, ◌*◌, Bool, true, false, List, [], ◌∷◌, map}
 use Rattle.ps_tree.specs.Checked.{Parts, program_in}
 use Rattle.ps_tree.specs.Counts.{is_within_limits}
@@ -11,7 +11,7 @@ abbrev pub is_reference : Kind → Bool
 is_reference (Reference shape) = true
 is_reference _ = false
 
--- an entry at a place, which is told in words
+-- an entry at a place, which is given in words
 abbrev pub spot : ℕ → Bool → Spot
 spot p reference = record { offset = 4 * p; reference = reference }
 

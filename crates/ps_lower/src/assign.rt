@@ -31,8 +31,10 @@ pub fn assign(
     line: u16,
     d: u32,
 ) -> Result<(), AllocError>
-    requires { d + statement_weight (scope_of k.now) (tree.Assign (place_of target.now) range (expr_of e.now) line) d ≤ DEEPEST }
-    ensures { OnOk result (out.new ≡ out.old ++ statement_code (scope_of k.now) (tree.Assign (place_of target.now) range (expr_of e.now) line) d) }
+    requires { d + statement_weight (scope_of k.now)
+        (tree.Assign (place_of target.now) range (expr_of e.now) line) d ≤ DEEPEST }
+    ensures { OnOk result (out.new ≡ out.old ++ statement_code (scope_of k.now)
+        (tree.Assign (place_of target.now) range (expr_of e.now) line) d) }
 {
     let t = kept(expr_calls(e), d);
     let at = even_above(place_temporary(target, t));
@@ -50,8 +52,10 @@ pub fn assign_structure(
     e: &Structure,
     d: u32,
 ) -> Result<(), AllocError>
-    requires { d + statement_weight (scope_of k.now) (tree.AssignStructure (place_of target.now) (structure_of e.now)) d ≤ DEEPEST }
-    ensures { OnOk result (out.new ≡ out.old ++ statement_code (scope_of k.now) (tree.AssignStructure (place_of target.now) (structure_of e.now)) d) }
+    requires { d + statement_weight (scope_of k.now)
+        (tree.AssignStructure (place_of target.now) (structure_of e.now)) d ≤ DEEPEST }
+    ensures { OnOk result (out.new ≡ out.old ++ statement_code (scope_of k.now)
+        (tree.AssignStructure (place_of target.now) (structure_of e.now)) d) }
 {
     let t = held(structure_calls(e), d);
     let from = even_above(place_temporary(target, t));
@@ -75,8 +79,10 @@ pub fn assign_set(
     line: u16,
     d: u32,
 ) -> Result<(), AllocError>
-    requires { d + statement_weight (scope_of k.now) (tree.AssignSet (place_of target.now) low.now high.now (set_of e.now) line) d ≤ DEEPEST }
-    ensures { OnOk result (out.new ≡ out.old ++ statement_code (scope_of k.now) (tree.AssignSet (place_of target.now) low.now high.now (set_of e.now) line) d) }
+    requires { d + statement_weight (scope_of k.now)
+        (tree.AssignSet (place_of target.now) low.now high.now (set_of e.now) line) d ≤ DEEPEST }
+    ensures { OnOk result (out.new ≡ out.old ++ statement_code (scope_of k.now)
+        (tree.AssignSet (place_of target.now) low.now high.now (set_of e.now) line) d) }
 {
     let at = held(true, d);
     let t = even_above(at);

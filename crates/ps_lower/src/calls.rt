@@ -1,9 +1,10 @@
-// Calls: their actual parameters by where these stand, and what stands behind their code.
+// Calls: their actual parameters by where these are, and what follows their code.
 
 ghost use Rattle.std.specs.Prelude.{ℕ, ◌≡◌, ◌++◌, ◌+◌, ◌≤◌, ◌∷◌, [], OnOk, IfOk, if◌then◌else◌, suc, drop};
 ghost use Rattle.ps_lower_code.specs.Calling.{argument_calls, arguments_call};
 ghost use Rattle.ps_lower_code.specs.Scopes.{routine_up, even_from, beside, link_code, formal_code, copy_code};
-ghost use Rattle.ps_lower_code.specs.Values.{argument_words, argument_end, argument_scratch, arguments_words, arguments_end};
+ghost use Rattle.ps_lower_code.specs.Values.{argument_words, argument_end, argument_scratch, arguments_words};
+ghost use Rattle.ps_lower_code.specs.Values.{arguments_end};
 ghost use Rattle.ps_lower_layout.specs.Frames.{entry_offset};
 ghost use Rattle.ps_lower_layout.specs.Shapes.{shape_of, byte_count};
 ghost use Rattle.ps_lower.specs.Levels.{scope_of};
@@ -48,7 +49,7 @@ pub fn arguments_call(arguments: &[Argument]) -> bool
     false
 }
 
-/// What stands behind the first.
+/// What follows the first.
 pub fn tail<'a>(arguments: &'a [Argument]) -> &'a [Argument]
     ensures { result.now ≡ drop 1 arguments.now }
 {
@@ -62,7 +63,8 @@ pub fn tail<'a>(arguments: &'a [Argument]) -> &'a [Argument]
 /// Whether an actual parameter has two words.
 #[tactic(auto, using(ps_tree::proofs::TreeLemmas::argument_of_Variable), unfolding(ps_tree::specs::View::argument_of))]
 fn is_pair(argument: &Argument) -> bool
-    ensures words { (t : ℕ) → argument_words (argument_of argument.now) t ≡ (if result then t ∷ beside t ∷ [] else (t ∷ [])) }
+    ensures words { (t : ℕ) → argument_words (argument_of argument.now) t
+        ≡ (if result then t ∷ beside t ∷ [] else (t ∷ [])) }
     ensures end { (t : ℕ) → argument_end (argument_of argument.now) t ≡ (if result then suc (beside t) else suc t) }
 {
     match argument {
@@ -74,7 +76,7 @@ fn is_pair(argument: &Argument) -> bool
     }
 }
 
-/// The first temporary behind the words of an actual parameter.
+/// The first temporary after the words of an actual parameter.
 pub fn argument_end(argument: &Argument, t: u32) -> u32
     requires { t ≤ 4294960000 }
     ensures value { result ≡ argument_end (argument_of argument.now) t }
@@ -87,7 +89,7 @@ pub fn argument_end(argument: &Argument, t: u32) -> u32
     }
 }
 
-/// The scratch that an actual parameter holds, behind x.
+/// The scratch that an actual parameter holds, after x.
 #[tactic(auto, using(ps_tree::proofs::TreeLemmas::argument_of_Variable), unfolding(ps_tree::specs::View::argument_of))]
 fn argument_scratch(argument: &Argument) -> u32
     requires { argument_scratch (argument_of argument.now) ≤ 2147483647 }
@@ -111,7 +113,7 @@ pub fn scratch_end(argument: &Argument, x: u32) -> u32
     x + argument_scratch(argument)
 }
 
-/// The first temporary behind the words of actual parameters.
+/// The first temporary after the words of actual parameters.
 fn arguments_end(arguments: &[Argument], d: u32) -> u32
     requires { arguments_end (arguments_of arguments.now) d ≤ DEEPEST }
     ensures { result ≡ arguments_end (arguments_of arguments.now) d }
@@ -146,7 +148,7 @@ fn add_words(list: &mut Vec<u32>, argument: &Argument, t: u32) -> Result<(), All
     Ok(())
 }
 
-/// The temporaries that a call hands over, the static link's first.
+/// The temporaries that a call passes, the static link's first.
 fn words(alloc: Global, arguments: &[Argument], link: u32, d: u32) -> Result<Vec<u32>, AllocError>
     requires { arguments_end (arguments_of arguments.now) d ≤ DEEPEST }
     ensures { IfOk result (λ list. list.items ≡ link ∷ arguments_words (arguments_of arguments.now) d) }
@@ -176,7 +178,10 @@ pub fn call(
     to: u32,
 ) -> Result<(), AllocError>
     requires { arguments_end (arguments_of arguments.now) d ≤ DEEPEST }
-    ensures { OnOk result (out.new ≡ out.old ++ (link_code (scope_of k.now) (even_from (arguments_end (arguments_of arguments.now) d)) up ++ i.Call to routine (even_from (arguments_end (arguments_of arguments.now) d) ∷ arguments_words (arguments_of arguments.now) d) line ∷ [])) }
+    ensures { OnOk result (out.new ≡ out.old ++ (link_code (scope_of k.now)
+        (even_from (arguments_end (arguments_of arguments.now) d)) up ++ i.Call to routine
+        (even_from (arguments_end (arguments_of arguments.now) d) ∷ arguments_words (arguments_of arguments.now) d) line
+        ∷ [])) }
 {
     let t = link_temporary(arguments, d);
     link(out, k, t, up)?;
@@ -197,7 +202,11 @@ pub fn call_formal(
 ) -> Result<(), AllocError>
     requires depth { arguments_end (arguments_of arguments.now) d ≤ DEEPEST }
     requires reach { entry_offset (routine_up (scope_of k.now) up) index ≤ 2147483647 }
-    ensures { OnOk result (out.new ≡ out.old ++ (formal_code (scope_of k.now) (even_from (arguments_end (arguments_of arguments.now) d)) up index ++ i.CallValue to (even_from (arguments_end (arguments_of arguments.now) d)) (beside (even_from (arguments_end (arguments_of arguments.now) d)) ∷ arguments_words (arguments_of arguments.now) d) line ∷ [])) }
+    ensures { OnOk result (out.new ≡ out.old ++ (formal_code (scope_of k.now)
+        (even_from (arguments_end (arguments_of arguments.now) d)) up index ++ i.CallValue to
+        (even_from (arguments_end (arguments_of arguments.now) d))
+        (beside (even_from (arguments_end (arguments_of arguments.now) d)) ∷ arguments_words
+        (arguments_of arguments.now) d) line ∷ [])) }
 {
     let t = link_temporary(arguments, d);
     formal(out, k, t, up, index)?;
@@ -205,7 +214,7 @@ pub fn call_formal(
     out.call_value(to, t, &operands, line)
 }
 
-/// A routine that is handed over, and its static link.
+/// A routine that is passed, and its static link.
 pub fn routine_value(
     out: &mut Code,
     k: &Level,
@@ -220,11 +229,14 @@ pub fn routine_value(
     link(out, k, beside(t), up)
 }
 
-/// A structure whose address is in t is copied to scratch, and the copy's address goes to t.
+/// Copies a structure whose address is in t to scratch; the copy's address goes to t.
 pub fn copied(out: &mut Code, k: &Level, ty: &Ty, t: u32, x: u32) -> Result<(), AllocError>
     requires depth { t ≤ 4294960000 }
     requires length { byte_count (shape_of (type_of ty.now)) ≤ 2147483647 }
-    ensures { OnOk result (out.new ≡ out.old ++ i.Offset (beside t) base.Scratch x (byte_count (shape_of (type_of ty.now))) ∷ copy_code (scope_of k.now) (beside t) t (beside (beside t)) (byte_count (shape_of (type_of ty.now))) ++ i.Offset t base.Scratch x (byte_count (shape_of (type_of ty.now))) ∷ []) }
+    ensures { OnOk result (out.new ≡ out.old ++ i.Offset (beside t) base.Scratch x
+        (byte_count (shape_of (type_of ty.now))) ∷ copy_code (scope_of k.now) (beside t) t (beside (beside t))
+        (byte_count (shape_of (type_of ty.now))) ++ i.Offset t base.Scratch x (byte_count (shape_of (type_of ty.now)))
+        ∷ []) }
 {
     let bytes = byte_count(ty);
     let to = beside(t);

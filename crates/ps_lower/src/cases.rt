@@ -14,7 +14,7 @@ use crate::out::Code;
 use std::alloc::AllocError;
 use tac_code::code::{Operand, Relation};
 
-/// The test of a constant behind which so many others stand. The last has none.
+/// The test of a constant that `others` others follow. The last has none.
 fn test(out: &mut Code, constant: &i32, others: u64, d: u32) -> Result<(), AllocError>
     ensures { OnOk result (out.new ≡ out.old ++ test_code constant.now others d) }
 {
@@ -24,7 +24,7 @@ fn test(out: &mut Code, constant: &i32, others: u64, d: u32) -> Result<(), Alloc
     out.branch(Relation::Equal, d, Operand::Number(*constant), others)
 }
 
-/// The tests of an element's constants but for the last one's, for which a room is left at the place that is answered.
+/// The tests of an element's constants but for the last, for which a room is left; gives its place.
 pub fn tests(out: &mut Code, constants: &[i32], d: u32) -> Result<usize, AllocError>
     ensures code { OnOk result (out.new ≡ (out.old ++ first_tests constants.now d) ++ i.End ∷ []) }
     ensures place { IfOk result (λ place. place ≡ length (out.old ++ first_tests constants.now d)) }
@@ -38,15 +38,19 @@ pub fn tests(out: &mut Code, constants: &[i32], d: u32) -> Result<usize, AllocEr
 }
 
 fn close_test(out: &mut Code, place: usize, constant: &i32, d: u32)
-    ensures { (before : List Instruction) (filler : Instruction) (behind : List Instruction) → out.old ≡ before ++ filler ∷ behind → place ≡ length before → out.new ≡ before ++ i.Branch NotEqual d (operand.Number constant.now) (length behind) ∷ behind }
+    ensures { (before : List Instruction) (filler : Instruction) (behind : List Instruction) → out.old ≡ before
+        ++ filler ∷ behind → place ≡ length before → out.new ≡ before ++ i.Branch NotEqual d
+        (operand.Number constant.now) (length behind) ∷ behind }
 {
     let last = Operand::Number(*constant);
     out.set_branch(place, Relation::NotEqual, d, last);
 }
 
-/// The last constant's test in its room: it leads past all instructions behind it.
+/// The last constant's test in its room: it skips all instructions after it.
 pub fn close_tests(out: &mut Code, place: usize, constants: &[i32], d: u32)
-    ensures { (before : List Instruction) (filler : Instruction) (behind : List Instruction) → out.old ≡ before ++ filler ∷ behind → place ≡ length before → out.new ≡ before ++ last_test constants.now d (length behind) ∷ behind }
+    ensures { (before : List Instruction) (filler : Instruction) (behind : List Instruction) → out.old ≡ before
+        ++ filler ∷ behind → place ≡ length before → out.new ≡ before ++ last_test constants.now d (length behind)
+        ∷ behind }
 {
     match constants.last() {
         None => out.set_jump(place),
@@ -54,9 +58,11 @@ pub fn close_tests(out: &mut Code, place: usize, constants: &[i32], d: u32)
     }
 }
 
-/// The ways from the elements' ends past all that stands behind them.
+/// The jumps from the elements' ends past everything after them.
 pub fn close_elements(out: &mut Code, ends: &[usize])
-    ensures { (k : Scope) (before : List Instruction) (elements : Elements) (d line : ℕ) → out.old ≡ before ++ (open_elements k elements d ++ i.Trap 7 line ∷ []) → ends.now ≡ ends_from k elements d (length before) → out.new ≡ before ++ elements_code k elements d line }
+    ensures { (k : Scope) (before : List Instruction) (elements : Elements) (d line : ℕ) → out.old ≡ before
+        ++ (open_elements k elements d ++ i.Trap 7 line ∷ []) → ends.now ≡ ends_from k elements d (length before)
+        → out.new ≡ before ++ elements_code k elements d line }
 {
     for end in ends {
         out.set_jump(*end);

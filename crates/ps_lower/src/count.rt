@@ -1,7 +1,8 @@
-// How many temporaries the instructions of a routine name, and how many bytes of the scratch block they mean.
+// How many temporaries the instructions of a routine need, and how many bytes of the scratch block they use.
 
 ghost use Rattle.std.specs.Prelude.{◌≡◌, ◌+◌, suc, max};
-ghost use Rattle.ps_lower_code.specs.Programs.{in_operand, in_base, in_list, named_in, temporaries_in, scratch_at, meant_by, scratch_in};
+ghost use Rattle.ps_lower_code.specs.Programs.{in_operand, in_base, in_list, named_in, temporaries_in, scratch_at};
+ghost use Rattle.ps_lower_code.specs.Programs.{meant_by, scratch_in};
 
 use tac_code::code::{Base, Instruction, Operand};
 
@@ -106,7 +107,7 @@ fn named_in(instruction: &Instruction) -> u64
     }
 }
 
-/// How many temporaries the instructions name.
+/// How many temporaries the instructions need.
 pub fn temporaries_in(list: &[Instruction]) -> u64
     ensures { result ≡ temporaries_in list.now }
 {
@@ -145,7 +146,7 @@ fn meant_by(instruction: &Instruction) -> u64
     }
 }
 
-/// How many bytes of the scratch block the instructions mean.
+/// How many bytes of the scratch block the instructions use.
 pub fn scratch_in(list: &[Instruction]) -> u64
     ensures { result ≡ scratch_in list.now }
 {

@@ -1,9 +1,9 @@
-// Temporaries by their classes: what stays alive across a call is in an odd one, all else in an even one.
+// Temporaries by their classes: what is live across a call is in an odd one, all else in an even one.
 
 ghost use Rattle.std.specs.Prelude.{◌≡◌, ◌+◌, ◌≤◌, suc, true};
 ghost use Rattle.ps_lower_code.specs.Scopes.{even_from, held, kept, beside};
 
-/// The most that a number of the code may be, a depth among them. What the tree weighs keeps it below.
+/// The most that a number of the code may be, including a depth. The weight of the tree keeps it below.
 pub const DEEPEST: u32 = 0x7FFF_FFFF;
 
 /// The first even temporary from d on.
@@ -32,7 +32,7 @@ fn odd_from(d: u32) -> u32
     d + (d + 1) % 2
 }
 
-/// For a value that is held while code runs that calls or not.
+/// For a value that is held while code runs, which calls or not.
 pub fn held(calls: bool, d: u32) -> u32
     requires { d ≤ 4294967000 }
     ensures value { result ≡ held calls d }
@@ -41,7 +41,7 @@ pub fn held(calls: bool, d: u32) -> u32
     if calls { odd_from(d) } else { even_from(d) }
 }
 
-/// The same, where either class does if nothing calls.
+/// The same, where either class will do if nothing calls.
 pub fn kept(calls: bool, d: u32) -> u32
     requires { d ≤ 4294967000 }
     ensures value { result ≡ kept calls d }

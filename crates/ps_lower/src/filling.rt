@@ -1,4 +1,4 @@
-// Rooms in a list of instructions, which are filled when what stands behind them is there.
+// Rooms in a list of instructions, to be filled once what follows them is there.
 
 ghost use Rattle.std.specs.Prelude.{◌≡◌, ◌<◌, ◌∷◌, ◌++◌, length, slice_set, List, IfOk};
 ghost use Rattle.tac_code.specs.declared.code.Instruction.{Instruction};
@@ -14,9 +14,10 @@ fn put(list: &mut Vec<Instruction>, place: usize, instruction: Instruction)
     list[place] = instruction;
 }
 
-/// A jump in its room, past all instructions behind it.
+/// A jump in its room, past all instructions after it.
 pub fn fill_with_jump(list: &mut Vec<Instruction>, place: usize)
-    ensures { (before : List Instruction) (filler : Instruction) (behind : List Instruction) → list.old.items ≡ before ++ filler ∷ behind → place ≡ length before → list.new.items ≡ before ++ i.Jump (length behind) ∷ behind }
+    ensures { (before : List Instruction) (filler : Instruction) (behind : List Instruction) → list.old.items ≡ before
+        ++ filler ∷ behind → place ≡ length before → list.new.items ≡ before ++ i.Jump (length behind) ∷ behind }
 {
     if place < list.len() {
         let forward = (list.len() - place - 1) as u64;
@@ -24,7 +25,7 @@ pub fn fill_with_jump(list: &mut Vec<Instruction>, place: usize)
     }
 }
 
-/// A branch in its room, past all instructions behind it.
+/// A branch in its room, past all instructions after it.
 pub fn fill_with_branch(
     list: &mut Vec<Instruction>,
     place: usize,
@@ -32,7 +33,9 @@ pub fn fill_with_branch(
     left: u32,
     right: Operand,
 )
-    ensures { (before : List Instruction) (filler : Instruction) (behind : List Instruction) → list.old.items ≡ before ++ filler ∷ behind → place ≡ length before → list.new.items ≡ before ++ i.Branch relation left right (length behind) ∷ behind }
+    ensures { (before : List Instruction) (filler : Instruction) (behind : List Instruction) → list.old.items ≡ before
+        ++ filler ∷ behind → place ≡ length before → list.new.items ≡ before ++ i.Branch relation left right
+        (length behind) ∷ behind }
 {
     if place < list.len() {
         let forward = (list.len() - place - 1) as u64;

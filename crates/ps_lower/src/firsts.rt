@@ -1,11 +1,13 @@
-// First values: as long as the text of a type, and not as its cells.
+// First values: their code is as long as the text of a type, and not as its cells.
 
 ghost use Rattle.std.specs.Prelude.{◌≡◌, ◌++◌, ◌+◌, ◌*◌, ◌≤◌, ◌≤ℤ◌, ◌&&◌, pos, [], ◌∷◌, if◌then◌else◌, map, OnOk, IfOk};
 ghost use Rattle.ps_lower_bounds.specs.Weights.{first_weight, fields_weight, firsts_weight};
 ghost use Rattle.ps_lower_code.specs.Scopes.{beside, copy_code};
-ghost use Rattle.ps_lower_code.specs.Statements.{bytes_below, byte_word, spread_code, zero_code, bytes_code, first_code};
+ghost use Rattle.ps_lower_code.specs.Statements.{bytes_below, byte_word, spread_code, zero_code, bytes_code};
+ghost use Rattle.ps_lower_code.specs.Statements.{first_code};
 ghost use Rattle.ps_lower_layout.specs.Frames.{variable_kinds, words_of_all};
-ghost use Rattle.ps_lower_layout.specs.Shapes.{ByteShape, ArrayShape, RecordShape, shape_of, shapes_of, first_of, word_count, byte_count};
+ghost use Rattle.ps_lower_layout.specs.Shapes.{ByteShape, ArrayShape, RecordShape, shape_of, shapes_of, first_of};
+ghost use Rattle.ps_lower_layout.specs.Shapes.{word_count, byte_count};
 ghost use Rattle.ps_lower.specs.Firsts.{firsts_code, whole_bytes, last_bytes, array_shape};
 ghost use Rattle.ps_lower.specs.FirstTasks.{weight, task_code, task_weight, task_reach, IsDone, IsLeft, AreLeft};
 ghost use Rattle.ps_lower.specs.Levels.{scope_of};
@@ -49,7 +51,7 @@ fn first_of(ty: &Ty) -> i32
     }
 }
 
-/// A number to a word.
+/// Stores a number in a word.
 fn number(out: &mut Code, base: Base, t: u32, offset: u32, value: i32) -> Result<(), AllocError>
     ensures { OnOk result (out.new ≡ out.old ++ i.Literal t value ∷ i.Store base offset t ∷ []) }
 {
@@ -57,7 +59,7 @@ fn number(out: &mut Code, base: Base, t: u32, offset: u32, value: i32) -> Result
     out.store(base, offset, t)
 }
 
-/// So many bytes behind the first n at an offset, from these on.
+/// Copies the first bytes at an offset to the `bytes` bytes after the first n.
 fn copies(
     out: &mut Code,
     k: &Level,
@@ -70,7 +72,8 @@ fn copies(
     requires depth { t ≤ 4294960000 }
     requires reach { offset + n ≤ 2147483647 }
     requires length { bytes ≤ 2147483647 }
-    ensures { OnOk result (out.new ≡ out.old ++ i.Offset t base (offset + n) 0 ∷ i.Offset (beside t) base offset 0 ∷ copy_code (scope_of k.now) t (beside t) (beside (beside t)) bytes) }
+    ensures { OnOk result (out.new ≡ out.old ++ i.Offset t base (offset + n) 0 ∷ i.Offset (beside t) base offset 0
+        ∷ copy_code (scope_of k.now) t (beside t) (beside (beside t)) bytes) }
 {
     let from = beside(t);
     out.offset(t, base, offset + n, 0)?;
@@ -78,7 +81,7 @@ fn copies(
     copy(out, k, t, from, beside(from), bytes)
 }
 
-/// Copies of the first n bytes at an offset, behind them up to the whole.
+/// Copies of the first n bytes at an offset, after them up to the whole.
 fn spread(
     out: &mut Code,
     k: &Level,
@@ -117,7 +120,7 @@ fn zero(
     spread(out, k, base, t, offset, 4, whole)
 }
 
-/// So many bytes of one value, up to four, the lowest first.
+/// `n` bytes of one value, up to four, lowest first.
 fn bytes_below(n: u32, byte: u32) -> u32
     requires some { 1 ≤ n }
     requires few { n ≤ 4 }
@@ -146,7 +149,7 @@ fn byte_of(number: i32) -> u32
     number as u32
 }
 
-/// A word of so many bytes of one value, up to four.
+/// A word of `n` bytes of one value, up to four.
 fn byte_word(n: u32, first: i32) -> i32
     requires some { 1 ≤ n }
     requires few { n ≤ 4 }
@@ -157,7 +160,7 @@ fn byte_word(n: u32, first: i32) -> i32
     bytes_below(n, byte_of(first)).cast_signed()
 }
 
-/// The whole words of so many bytes of one value.
+/// The whole words of `count` bytes of one value.
 fn whole_bytes(
     out: &mut Code,
     k: &Level,
@@ -203,7 +206,7 @@ fn last_bytes(
     number(out, base, t, offset + 4 * (count / 4), word)
 }
 
-/// So many bytes of one value, filled up to whole words.
+/// `count` bytes of one value, padded to whole words.
 fn bytes(
     out: &mut Code,
     k: &Level,
@@ -232,14 +235,16 @@ fn byte_array(
     offset: u32,
 ) -> Result<(), AllocError>
     requires depth { t ≤ 4294960000 }
-    requires reach { offset + first_weight (ByteShape (value_count index) (first_of (type_of component.now))) ≤ 2147483647 }
-    ensures { OnOk result (out.new ≡ out.old ++ bytes_code (scope_of k.now) base t offset (value_count index) (first_of (type_of component.now))) }
+    requires reach { offset + first_weight (ByteShape (value_count index) (first_of (type_of component.now))) ≤
+        2147483647 }
+    ensures { OnOk result (out.new ≡ out.old ++ bytes_code (scope_of k.now) base t offset (value_count index)
+        (first_of (type_of component.now))) }
 {
     let count = narrow(index.value_count());
     bytes(out, k, base, t, offset, count, first_of(component))
 }
 
-/// The bytes of an array whose components take so many each.
+/// The bytes of an array whose components take `each` bytes.
 fn array_bytes(index: Ordinal, each: u32) -> u32
     requires { value_count index * each ≤ 2147483647 }
     ensures { result ≡ value_count index * each }
@@ -247,7 +252,7 @@ fn array_bytes(index: Ordinal, each: u32) -> u32
     narrow(index.value_count() * u64::from(each))
 }
 
-/// A task that is left behind the others.
+/// Leaves a task, after the others.
 fn leave<'a>(tasks: &mut Vec<Task<'a>>, task: Task<'a>) -> Result<(), AllocError>
     ensures { OnOk result (tasks.new.items ≡ tasks.old.items ++ task.entry ∷ []) }
 {
@@ -263,7 +268,8 @@ fn components<'a>(
     offset: u32,
 ) -> Result<(), AllocError>
     requires { offset + first_weight (ArrayShape (value_count index) (shape_of (type_of component.now))) ≤ 2147483647 }
-    ensures { OnOk result (IsLeft offset (ArrayShape (value_count index) (shape_of (type_of component.now))) tasks.old.items tasks.new.items) }
+    ensures { OnOk result (IsLeft offset (ArrayShape (value_count index) (shape_of (type_of component.now)))
+        tasks.old.items tasks.new.items) }
 {
     if index.value_count() == 0 {
         return Ok(());
@@ -300,7 +306,11 @@ fn array<'a>(
 ) -> Result<(), AllocError>
     requires depth { t ≤ 4294960000 }
     requires reach { offset + first_weight (array_shape packed index (type_of component.now)) ≤ 2147483647 }
-    ensures { OnOk result (IsDone (scope_of k.now) base t (first_code (scope_of k.now) base t offset (array_shape packed index (type_of component.now))) (weight (array_shape packed index (type_of component.now))) (offset + first_weight (array_shape packed index (type_of component.now))) out.old out.new tasks.old.items tasks.new.items) }
+    ensures { OnOk result (IsDone (scope_of k.now) base t
+        (first_code (scope_of k.now) base t offset (array_shape packed index (type_of component.now)))
+        (weight (array_shape packed index (type_of component.now)))
+        (offset + first_weight (array_shape packed index (type_of component.now))) out.old out.new tasks.old.items
+        tasks.new.items) }
 {
     if packed && fits_byte(component) {
         byte_array(out, k, component, index, base, t, offset)
@@ -316,7 +326,8 @@ fn record<'a>(tasks: &mut Vec<Task<'a>>, types: &'a [Ty], offset: u32) -> Result
     leave(tasks, Task::FieldsLeft { types, offset })
 }
 
-/// The first value of a variable of a type at an offset from a base, but for the components and the fields, which are left.
+/// The first value of a variable of a type at an offset from a base, except for components and fields, which are left
+/// as tasks.
 #[tactic(auto, unfolding(ps_tree::specs::TypeView::type_of))]
 fn begin<'a>(
     out: &mut Code,
@@ -329,7 +340,9 @@ fn begin<'a>(
 ) -> Result<(), AllocError>
     requires depth { t ≤ 4294960000 }
     requires reach { offset + first_weight (shape_of (type_of ty.now)) ≤ 2147483647 }
-    ensures { OnOk result (IsDone (scope_of k.now) base t (first_code (scope_of k.now) base t offset (shape_of (type_of ty.now))) (weight (shape_of (type_of ty.now))) (offset + first_weight (shape_of (type_of ty.now))) out.old out.new tasks.old.items tasks.new.items) }
+    ensures { OnOk result (IsDone (scope_of k.now) base t
+        (first_code (scope_of k.now) base t offset (shape_of (type_of ty.now))) (weight (shape_of (type_of ty.now)))
+        (offset + first_weight (shape_of (type_of ty.now))) out.old out.new tasks.old.items tasks.new.items) }
 {
     match ty {
         Ty::Simple(ordinal) => number(out, base, t, offset, first_ordinal(*ordinal)),
@@ -356,7 +369,7 @@ fn begin<'a>(
     }
 }
 
-/// The next of the fields that are left, and those behind it.
+/// The next of the fields that are left, and those after it.
 fn field<'a>(tasks: &mut Vec<Task<'a>>, types: &'a [Ty], offset: u32) -> Result<(), AllocError>
     requires { offset + fields_weight (shapes_of (types_of types.now)) ≤ 2147483647 }
     ensures { OnOk result (AreLeft offset (shapes_of (types_of types.now)) tasks.old.items tasks.new.items) }
@@ -373,7 +386,7 @@ fn field<'a>(tasks: &mut Vec<Task<'a>>, types: &'a [Ty], offset: u32) -> Result<
     leave(tasks, Task::FirstValue { ty, offset })
 }
 
-/// One task; what it leaves stands behind the others.
+/// Does one task; what it leaves comes after the others.
 fn step<'a>(
     out: &mut Code,
     k: &Level,
@@ -384,7 +397,8 @@ fn step<'a>(
 ) -> Result<(), AllocError>
     requires depth { t ≤ 4294960000 }
     requires reach { task_reach task ≤ 2147483647 }
-    ensures { OnOk result (IsDone (scope_of k.now) base t (task_code (scope_of k.now) base t task.entry) (task_weight task.entry) (task_reach task.entry) out.old out.new tasks.old.items tasks.new.items) }
+    ensures { OnOk result (IsDone (scope_of k.now) base t (task_code (scope_of k.now) base t task.entry)
+        (task_weight task.entry) (task_reach task.entry) out.old out.new tasks.old.items tasks.new.items) }
 {
     match task {
         Task::FirstValue { ty, offset } => begin(out, k, tasks, ty, base, t, offset),
@@ -397,8 +411,8 @@ fn step<'a>(
     }
 }
 
-/// The first value of a variable of a type at an offset from a base. Types may stand deep in one another, so what is left to
-/// do is kept in a list, and not in calls.
+/// The first value of a variable of a type at an offset from a base. Types may be deeply nested, so what is left to do
+/// is kept in a list, and not in calls.
 fn first(
     out: &mut Code,
     k: &Level,
@@ -429,24 +443,26 @@ pub fn first_object(
 ) -> Result<(), AllocError>
     requires depth { t ≤ 4294960000 }
     requires reach { first_weight (shape_of (type_of ty.now)) ≤ 2147483647 }
-    ensures { OnOk result (out.new ≡ out.old ++ first_code (scope_of k.now) (base.Temporary object) t 0 (shape_of (type_of ty.now))) }
+    ensures { OnOk result (out.new ≡ out.old ++ first_code (scope_of k.now) (base.Temporary object) t 0
+        (shape_of (type_of ty.now))) }
 {
     first(out, k, ty, Base::Temporary(object), t, 0)
 }
 
-/// The first value of a variable at a word of the frame, and the word behind it.
+/// The first value of a variable at a word of the frame, and the word after it.
 pub fn first_at(out: &mut Code, k: &Level, ty: &Ty, t: u32, place: u32) -> Result<u32, AllocError>
     requires depth { t ≤ DEEPEST }
     requires reach { 4 * place + first_weight (shape_of (type_of ty.now)) ≤ 2147483647 }
     requires words { 4 * (place + word_count (shape_of (type_of ty.now))) ≤ 2147483647 }
-    ensures code { OnOk result (out.new ≡ out.old ++ first_code (scope_of k.now) base.Frame t (4 * place) (shape_of (type_of ty.now))) }
+    ensures code { OnOk result (out.new ≡ out.old ++ first_code (scope_of k.now) base.Frame t (4 * place)
+        (shape_of (type_of ty.now))) }
     ensures next { IfOk result (λ next. next ≡ place + word_count (shape_of (type_of ty.now))) }
 {
     first(out, k, ty, Base::Frame, t, 4 * place)?;
     Ok(place + words(ty))
 }
 
-/// The first values of variables that stand one behind another, from a word of the frame on.
+/// The first values of variables, one after another, from a word of the frame on.
 pub fn firsts(
     out: &mut Code,
     k: &Level,

@@ -1,4 +1,4 @@
-// The words of variables, and where the entries of a routine's frame stand.
+// The words of variables, and where the entries of a routine's frame are.
 
 ghost use Rattle.std.specs.Prelude.{◌≡◌, ◌≤◌};
 ghost use Rattle.ps_lower_layout.specs.Shapes.{shape_of, word_count, byte_count};

@@ -1,7 +1,9 @@
 // The frames of a program's routines, laid out once.
 
-ghost use Rattle.std.specs.Prelude.{◌≡◌, ◌+◌, ◌*◌, ◌≤◌, ◌++◌, ◌∷◌, [], length, true, map, option_map, slice_get, OnOk, IfOk};
-ghost use Rattle.ps_lower_layout.specs.Frames.{kind_of, result_kinds, listed_kinds, kinds_of, variable_kinds, kind_words, words_of_all, entries, entry_offset, layout_of};
+ghost use Rattle.std.specs.Prelude.{◌≡◌, ◌+◌, ◌*◌, ◌≤◌, ◌++◌, ◌∷◌, [], length, true, map, option_map, slice_get, OnOk};
+ghost use Rattle.std.specs.Prelude.{IfOk};
+ghost use Rattle.ps_lower_layout.specs.Frames.{kind_of, result_kinds, listed_kinds, kinds_of, variable_kinds};
+ghost use Rattle.ps_lower_layout.specs.Frames.{kind_words, words_of_all, entries, entry_offset, layout_of};
 ghost use Rattle.ps_lower.specs.Levels.{is_reference_at};
 ghost use Rattle.ps_lower.specs.Tables.{spot, spot_at, spots_from, contents_of, contents_in, AreTables};
 ghost use Rattle.ps_tree.specs.Checked.{program_in};
@@ -16,13 +18,13 @@ use ps_tree::types::Ty;
 use std::alloc::{AllocError, Global};
 use std::marker::Model;
 
-/// What no routine has.
+/// The spot of an entry that does not exist.
 const NOWHERE: Spot = Spot {
     offset: 0,
     reference: false,
 };
 
-/// Adds an entry of so many words. The result is the place behind it.
+/// Adds an entry of `words` words, and gives the place after it.
 fn add(spots: &mut Vec<Spot>, place: u32, words: u32, reference: bool) -> Result<u32, AllocError>
     requires { 4 * (place + words) ≤ 2147483647 }
     ensures spots { OnOk result (spots.new.items ≡ spots.old.items ++ spot place reference ∷ []) }
@@ -39,7 +41,8 @@ fn add_result(
     result_type: &Option<Ty>,
 ) -> Result<u32, AllocError>
     requires { 4 * (place + words_of_all (result_kinds (option_map type_of result_type.now))) ≤ 2147483647 }
-    ensures spots { OnOk result (spots.new.items ≡ spots.old.items ++ spots_from place (result_kinds (option_map type_of result_type.now))) }
+    ensures spots { OnOk result (spots.new.items ≡ spots.old.items ++ spots_from place
+        (result_kinds (option_map type_of result_type.now))) }
     ensures place { IfOk result (λ n. n ≡ place + words_of_all (result_kinds (option_map type_of result_type.now))) }
 {
     match result_type {
@@ -51,7 +54,8 @@ fn add_result(
 #[tactic(auto, unfolding(ps_tree::specs::View::formal_of))]
 fn add_formal(spots: &mut Vec<Spot>, place: u32, formal: &Formal) -> Result<u32, AllocError>
     requires { 4 * (place + kind_words (kind_of (formal_of formal.now))) ≤ 2147483647 }
-    ensures spots { OnOk result (spots.new.items ≡ spots.old.items ++ spot_at place (kind_of (formal_of formal.now)) ∷ []) }
+    ensures spots { OnOk result (spots.new.items ≡ spots.old.items ++ spot_at place (kind_of (formal_of formal.now))
+        ∷ []) }
     ensures place { IfOk result (λ n. n ≡ place + kind_words (kind_of (formal_of formal.now))) }
 {
     match formal {
@@ -63,7 +67,8 @@ fn add_formal(spots: &mut Vec<Spot>, place: u32, formal: &Formal) -> Result<u32,
 
 fn add_formals(spots: &mut Vec<Spot>, place: u32, formals: &[Formal]) -> Result<u32, AllocError>
     requires { 4 * (place + words_of_all (listed_kinds (kinds_of (formals_of formals.now)))) ≤ 2147483647 }
-    ensures spots { OnOk result (spots.new.items ≡ spots.old.items ++ spots_from place (listed_kinds (kinds_of (formals_of formals.now)))) }
+    ensures spots { OnOk result (spots.new.items ≡ spots.old.items ++ spots_from place
+        (listed_kinds (kinds_of (formals_of formals.now)))) }
     ensures place { IfOk result (λ n. n ≡ place + words_of_all (listed_kinds (kinds_of (formals_of formals.now)))) }
 {
     let mut end = place;
@@ -75,7 +80,8 @@ fn add_formals(spots: &mut Vec<Spot>, place: u32, formals: &[Formal]) -> Result<
 
 fn add_variables(spots: &mut Vec<Spot>, place: u32, variables: &[Ty]) -> Result<u32, AllocError>
     requires { 4 * (place + words_of_all (variable_kinds (map type_of variables.now))) ≤ 2147483647 }
-    ensures spots { OnOk result (spots.new.items ≡ spots.old.items ++ spots_from place (variable_kinds (map type_of variables.now))) }
+    ensures spots { OnOk result (spots.new.items ≡ spots.old.items ++ spots_from place
+        (variable_kinds (map type_of variables.now))) }
     ensures place { IfOk result (λ n. n ≡ place + words_of_all (variable_kinds (map type_of variables.now))) }
 {
     let mut end = place;
@@ -164,10 +170,11 @@ impl<'a> Frames<'a> {
         self.checked.domains()
     }
 
-    /// An entry of a routine; what has no entry is told to stand at 0.
+    /// An entry of a routine; an entry that does not exist is at 0.
     pub fn entry(&self, number: u32, index: u32) -> Spot
         ensures offset { result.offset ≡ entry_offset (routine_at (program_in self.now) number) index }
-        ensures reference { result.reference ≡ is_reference_at (slice_get (entries (routine_at (program_in self.now) number)) index) }
+        ensures reference { result.reference ≡ is_reference_at
+            (slice_get (entries (routine_at (program_in self.now) number)) index) }
     {
         let Some(table) = self.tables.as_slice().get(number as usize) else {
             return NOWHERE;
@@ -178,7 +185,7 @@ impl<'a> Frames<'a> {
         *spot
     }
 
-    /// The words up to the end of a routine's last entry; no routine has but its static link.
+    /// The words up to the end of a routine's last entry; where there is no such routine, just the static link's.
     pub fn words(&self, number: u32) -> u32
         ensures value { result ≡ (layout_of (routine_at (program_in self.now) number)).input }
         ensures small { result ≤ 1000000 }

@@ -36,13 +36,14 @@ pub fn help(
     to: u32,
 ) -> Result<(), AllocError>
     requires { number ≤ 16 }
-    ensures { (routine : RunTime) → number ≡ run_time_number routine → OnOk result (out.new ≡ out.old ++ helper (scope_of k.now) routine operands.now to ∷ []) }
+    ensures { (routine : RunTime) → number ≡ run_time_number routine → OnOk result
+        (out.new ≡ out.old ++ helper (scope_of k.now) routine operands.now to ∷ []) }
 {
     let number = run_time_number(k, number);
     out.call(to, number, operands, 1)
 }
 
-/// The words at the address in `from` go to the address in `to`. The temporary t is used.
+/// Copies the words at the address in `from` to the address in `to`. The temporary t is used.
 pub fn copy(
     out: &mut Code,
     k: &Level,
@@ -69,7 +70,8 @@ pub fn compare_strings(
 ) -> Result<(), AllocError>
     requires depth { right ≤ 4294960000 }
     requires length { text_length (structure_of e.now) ≤ 2147483647 }
-    ensures { OnOk result (out.new ≡ out.old ++ i.Literal (beside right) (pos (text_length (structure_of e.now))) ∷ helper (scope_of k.now) CompareBytes (left ∷ right ∷ beside right ∷ []) to ∷ []) }
+    ensures { OnOk result (out.new ≡ out.old ++ i.Literal (beside right) (pos (text_length (structure_of e.now)))
+        ∷ helper (scope_of k.now) CompareBytes (left ∷ right ∷ beside right ∷ []) to ∷ []) }
 {
     let t = beside(right);
     amount(out, text_length(e), t)?;

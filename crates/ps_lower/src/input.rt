@@ -1,4 +1,4 @@
-// What is asked of the input ahead of its use.
+// Looks ahead at the input.
 
 ghost use Rattle.std.specs.Prelude.{◌≡◌, ◌++◌, ◌≤◌, ◌∷◌, [], pos, OnOk};
 ghost use Rattle.ps_lower_code.specs.Scopes.{even_from, input_site, site_code, helper, LookAhead};
@@ -16,7 +16,7 @@ use tac_code::code::Base;
 
 const LOOK_AHEAD: u32 = 13;
 
-/// Where the words stand that tell what of the input was taken ahead.
+/// Where the words are that record what was taken ahead of the input.
 pub fn input(k: &Level) -> Site
     ensures { site_of result ≡ input_site (scope_of k.now) }
 {
@@ -26,10 +26,11 @@ pub fn input(k: &Level) -> Site
     }
 }
 
-/// What stands next in the input: a character, the end of a line, or the end of all.
+/// What comes next in the input: a character, the end of a line, or the end of all.
 pub fn look_ahead(out: &mut Code, k: &Level, d: u32) -> Result<(), AllocError>
     requires { d ≤ DEEPEST }
-    ensures { OnOk result (out.new ≡ out.old ++ (site_code (even_from d) (input_site (scope_of k.now)) 8 ++ helper (scope_of k.now) LookAhead (even_from d ∷ []) d ∷ [])) }
+    ensures { OnOk result (out.new ≡ out.old ++ (site_code (even_from d) (input_site (scope_of k.now)) 8 ++ helper
+        (scope_of k.now) LookAhead (even_from d ∷ []) d ∷ [])) }
 {
     let t = even_from(d);
     let site = input(k);
@@ -40,7 +41,8 @@ pub fn look_ahead(out: &mut Code, k: &Level, d: u32) -> Result<(), AllocError>
 /// The same, where the end of all is an error.
 pub fn look_on(out: &mut Code, k: &Level, line: u16, d: u32) -> Result<(), AllocError>
     requires { d ≤ DEEPEST }
-    ensures { OnOk result (out.new ≡ out.old ++ (site_code (even_from d) (input_site (scope_of k.now)) 8 ++ helper (scope_of k.now) LookAhead (even_from d ∷ []) d ∷ i.CheckRange d (pos 1) (pos 2) 9 line ∷ [])) }
+    ensures { OnOk result (out.new ≡ out.old ++ (site_code (even_from d) (input_site (scope_of k.now)) 8 ++ helper
+        (scope_of k.now) LookAhead (even_from d ∷ []) d ∷ i.CheckRange d (pos 1) (pos 2) 9 line ∷ [])) }
 {
     look_ahead(out, k, d)?;
     out.check_range(d, 1, 2, 9, line)

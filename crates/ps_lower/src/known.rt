@@ -2,7 +2,9 @@
 
 ghost use Rattle.std.specs.Prelude.{◌≡◌, ◌+◌, ◌≤◌, suc};
 ghost use Rattle.ps_lower_code.specs.Scopes.{is_any, has_bytes, operand_of};
-ghost use Rattle.ps_lower_code.specs.Values.{known_member, negated, literal_of, operator_of, bit_operator_of, relation_of, pointer_relation_of, opposite, is_relation, is_truth, relation_in, left_in, right_in, gives_byte};
+ghost use Rattle.ps_lower_code.specs.Values.{known_member, negated, literal_of, operator_of, bit_operator_of};
+ghost use Rattle.ps_lower_code.specs.Values.{relation_of, pointer_relation_of, opposite, is_relation, is_truth};
+ghost use Rattle.ps_lower_code.specs.Values.{relation_in, left_in, right_in, gives_byte};
 ghost use Rattle.ps_meaning.specs.Operators.{is_between};
 ghost use Rattle.ps_tree.specs.View.{expr_of};
 
@@ -60,7 +62,7 @@ fn member_of(number: i32) -> Option<u32>
     }
 }
 
-/// A right operand: a number that is known, or what a temporary holds.
+/// A right operand: a known number, or what a temporary holds.
 pub fn operand(known: Option<i32>, t: u32) -> Operand
     ensures { result ≡ operand_of known t }
 {
@@ -220,21 +222,21 @@ pub fn right_in(e: &Expr, d: u32) -> Operand
     }
 }
 
-/// Whether every integer lies in a range.
+/// Whether every integer is in a range.
 pub fn is_any(low: i32, high: i32) -> bool
     ensures { result ≡ is_any low high }
 {
     low == i32::MIN && high == i32::MAX
 }
 
-/// Whether a number lies in a range.
+/// Whether a number is in a range.
 pub fn is_between(low: i32, number: i32, high: i32) -> bool
     ensures { result ≡ is_between low number high }
 {
     low <= number && number <= high
 }
 
-/// Whether every byte lies in a range.
+/// Whether every byte is in a range.
 pub fn has_bytes(low: i32, high: i32) -> bool
     ensures { result ≡ has_bytes low high }
 {

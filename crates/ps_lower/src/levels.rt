@@ -1,7 +1,8 @@
-// The frames of the routines round a routine, the entries in them, and the numbers of run-time routines.
+// The frames of the routines enclosing a routine, the entries in them, and the numbers of run-time routines.
 
 ghost use Rattle.std.specs.Prelude.{◌≡◌, ◌≤◌, ◌+◌, ◌++◌, get_or, length, OnOk, IfOk};
-ghost use Rattle.ps_lower_code.specs.Scopes.{kind_at, routine_up, is_outermost, hops, frame_code, frame_base, link_code, formal_code};
+ghost use Rattle.ps_lower_code.specs.Scopes.{kind_at, routine_up, is_outermost, hops, frame_code, frame_base};
+ghost use Rattle.ps_lower_code.specs.Scopes.{link_code, formal_code};
 ghost use Rattle.ps_lower_layout.specs.Frames.{entry_offset};
 ghost use Rattle.ps_lower.specs.Levels.{scope_of, is_reference_at};
 ghost use Rattle.ps_tree.specs.Checked.{program_in};
@@ -13,14 +14,14 @@ use crate::out::Code;
 use std::alloc::AllocError;
 use tac_code::code::Base;
 
-/// The frame so many levels up is the program block's.
+/// Whether the frame `up` levels out is the program block's.
 fn is_outermost(k: &Level, up: u32) -> bool
     ensures { result ≡ is_outermost (scope_of k.now) up }
 {
     u64::from(up) + 1 == k.chain.len() as u64
 }
 
-/// From the frame whose address stands in a temporary, so many levels further up.
+/// From the frame whose address is in a temporary, `count` levels further out.
 fn hops(out: &mut Code, k: &Level, t: u32, count: u32) -> Result<(), AllocError>
     ensures { OnOk result (out.new ≡ out.old ++ hops (scope_of k.now) t 1 count) }
 {
@@ -30,7 +31,7 @@ fn hops(out: &mut Code, k: &Level, t: u32, count: u32) -> Result<(), AllocError>
     Ok(())
 }
 
-/// What reaches the frame so many levels up, and the base from which its parts count then.
+/// Reaches the frame `up` levels out, and gives the base from which its parts are then addressed.
 pub fn frame(out: &mut Code, k: &Level, t: u32, up: u32) -> Result<Base, AllocError>
     ensures code { OnOk result (out.new ≡ out.old ++ frame_code (scope_of k.now) t up) }
     ensures base { IfOk result (λ base. base ≡ frame_base (scope_of k.now) t up) }
@@ -46,7 +47,7 @@ pub fn frame(out: &mut Code, k: &Level, t: u32, up: u32) -> Result<Base, AllocEr
     Ok(Base::Temporary(t))
 }
 
-/// The address of the frame so many levels up.
+/// The address of the frame `up` levels out.
 pub fn link(out: &mut Code, k: &Level, t: u32, up: u32) -> Result<(), AllocError>
     ensures { OnOk result (out.new ≡ out.old ++ link_code (scope_of k.now) t up) }
 {
@@ -60,14 +61,14 @@ pub fn link(out: &mut Code, k: &Level, t: u32, up: u32) -> Result<(), AllocError
     hops(out, k, t, up - 1)
 }
 
-/// The number of the routine so many levels up; 0 where none is.
+/// The number of the routine `up` levels out; 0 where there is none.
 fn number_up(k: &Level, up: u32) -> u32
     ensures { result ≡ get_or k.now.chain.now up 0 }
 {
     k.chain.get(up as usize).copied().unwrap_or(0)
 }
 
-/// An entry of the routine so many levels up.
+/// An entry of the routine `up` levels out.
 pub fn entry(k: &Level, up: u32, index: u32) -> Spot
     ensures offset { result.offset ≡ entry_offset (routine_up (scope_of k.now) up) index }
     ensures reference { result.reference ≡ is_reference_at (kind_at (scope_of k.now) up index) }
@@ -75,7 +76,7 @@ pub fn entry(k: &Level, up: u32, index: u32) -> Spot
     k.checked.entry(number_up(k, up), index)
 }
 
-/// The routine of a procedural or functional parameter, and its static link beside.
+/// The routine of a procedural or functional parameter, with its static link in the temporary beside it.
 pub fn formal(out: &mut Code, k: &Level, t: u32, up: u32, index: u32) -> Result<(), AllocError>
     requires depth { t ≤ 4294960000 }
     requires reach { entry_offset (routine_up (scope_of k.now) up) index ≤ 2147483647 }
@@ -87,7 +88,7 @@ pub fn formal(out: &mut Code, k: &Level, t: u32, up: u32, index: u32) -> Result<
     out.load(t, base, place)
 }
 
-/// The number of a run-time routine, which stands behind those of the program.
+/// The number of a run-time routine; these come after those of the program.
 pub fn run_time_number(k: &Level, number: u32) -> u32
     requires { number ≤ 16 }
     ensures { result ≡ length (program_in k.now.checked.now).routines + number }

@@ -21,12 +21,15 @@ use tac_code::code::{TacRaw, TacRoutine};
 use tac_code::tac::Tac;
 use tac_rt::routines;
 
-// The code of all routines, which together have at most so many instructions.
+// The code of all routines; refused where together they have more than `MOST_INSTRUCTIONS` instructions.
 fn routines_of(alloc: Global, checked: &Frames) -> Result<Vec<TacRoutine>, LowerRefusal>
     requires { AreLight (program_in checked.now) }
-    ensures made { IfOk result (λ list. list.items ≡ map (tac_of (program_in checked.now)) (program_in checked.now).routines) }
-    ensures few { OnOk result (instructions_of (map (tac_of (program_in checked.now)) (program_in checked.now).routines) ≤ most_instructions) }
-    ensures refused { IfErr result (λ refusal. IsRefused refusal (instructions_of (map (tac_of (program_in checked.now)) (program_in checked.now).routines))) }
+    ensures made { IfOk result (λ list. list.items ≡ map (tac_of (program_in checked.now))
+        (program_in checked.now).routines) }
+    ensures few { OnOk result (instructions_of
+        (map (tac_of (program_in checked.now)) (program_in checked.now).routines) ≤ most_instructions) }
+    ensures refused { IfErr result (λ refusal. IsRefused refusal
+        (instructions_of (map (tac_of (program_in checked.now)) (program_in checked.now).routines))) }
 {
     let mut list = Vec::new(alloc);
     let mut left = MOST_INSTRUCTIONS;
@@ -61,19 +64,21 @@ fn object_sizes(alloc: Global, domains: &[Ty]) -> Result<Vec<u32>, AllocError>
     Ok(list)
 }
 
-/// The three-address code of a program, with the run-time routines behind the program's own. Its code must keep the
-/// invariant of three-address code, and no number may be too large for it.
+/// The three-address code of a program, followed by the run-time routines. Its code must keep the invariant of
+/// three-address code, and no number may be too large for it.
 ///
 /// # Errors
 ///
-/// A growth was refused, or the program's own routines have more instructions than an image holds words: then it is refused
-/// as soon as they stand, before the others are made.
+/// A growth was refused, or the program's own routines have more instructions than an image holds words: it is then
+/// refused as soon as they are complete, before the others are made.
 pub fn lower(alloc: Global, checked: &Checked) -> Result<Tac, LowerRefusal>
     requires sound { IsSound (code_of run_time_routines (program_in checked.now)) }
     requires light { AreLight (program_in checked.now) }
     ensures code { IfOk result (λ tac. tac ≡ code_of run_time_routines (program_in checked.now)) }
-    ensures few { OnOk result (instruction_count (code_of run_time_routines (program_in checked.now)) ≤ most_instructions) }
-    ensures refused { IfErr result (λ refusal. IsRefused refusal (instruction_count (code_of run_time_routines (program_in checked.now)))) }
+    ensures few { OnOk result (instruction_count
+        (code_of run_time_routines (program_in checked.now)) ≤ most_instructions) }
+    ensures refused { IfErr result (λ refusal. IsRefused refusal
+        (instruction_count (code_of run_time_routines (program_in checked.now)))) }
 {
     let frames = Frames::new(alloc, checked)?;
     let program = routines_of(alloc, &frames)?;

@@ -24,7 +24,7 @@ use ps_tree::types::Ty;
 use std::alloc::AllocError;
 use tac_code::code::Instruction;
 
-/// The first value of the object of a pointer type; a number that no pointer type has leads to a pointer.
+/// The first value of the object of a pointer type; a number of no pointer type gives a pointer.
 fn first_of_domain(
     out: &mut Code,
     k: &Level,
@@ -34,7 +34,8 @@ fn first_of_domain(
 ) -> Result<(), AllocError>
     requires depth { t ≤ 4294960000 }
     requires reach { first_weight (shape_of (domain_at (scope_of k.now).program pointer)) ≤ 2147483647 }
-    ensures { OnOk result (out.new ≡ out.old ++ first_code (scope_of k.now) (base.Temporary to) t 0 (shape_of (domain_at (scope_of k.now).program pointer))) }
+    ensures { OnOk result (out.new ≡ out.old ++ first_code (scope_of k.now) (base.Temporary to) t 0
+        (shape_of (domain_at (scope_of k.now).program pointer))) }
 {
     match k.checked.domains().get(pointer as usize) {
         Some(ty) => first_object(out, k, ty, to, t),
@@ -42,7 +43,7 @@ fn first_of_domain(
     }
 }
 
-/// An object of the type that a pointer type points to, with its first values; its address in a temporary.
+/// An object of the type that a pointer type points to, with its first value; its address goes to a temporary.
 fn object(
     out: &mut Code,
     k: &Level,
@@ -53,7 +54,8 @@ fn object(
 ) -> Result<(), AllocError>
     requires depth { t ≤ 4294960000 }
     requires reach { first_weight (shape_of (domain_at (scope_of k.now).program pointer)) ≤ 2147483647 }
-    ensures { OnOk result (out.new ≡ out.old ++ i.New to pointer line ∷ first_code (scope_of k.now) (base.Temporary to) t 0 (shape_of (domain_at (scope_of k.now).program pointer))) }
+    ensures { OnOk result (out.new ≡ out.old ++ i.New to pointer line ∷ first_code (scope_of k.now)
+        (base.Temporary to) t 0 (shape_of (domain_at (scope_of k.now).program pointer))) }
 {
     out.push(Instruction::New {
         to,
@@ -63,8 +65,8 @@ fn object(
     first_of_domain(out, k, pointer, to, t)
 }
 
-/// An object that a pointer variable points to from now on. Its first values are the one code that is longer than the text: behind
-/// them the limit is looked at.
+/// An object that a pointer variable points to from now on. Its first values are the only code that is longer than the
+/// text, so the limit is checked after them.
 pub fn create(
     out: &mut Code,
     k: &Level,
@@ -74,7 +76,8 @@ pub fn create(
     d: u32,
 ) -> Result<(), LowerRefusal>
     requires { d + statement_weight (scope_of k.now) (tree.New (place_of target.now) pointer line) d ≤ DEEPEST }
-    ensures { Adds result out.old out.new (statement_code (scope_of k.now) (tree.New (place_of target.now) pointer line) d) }
+    ensures { Adds result out.old out.new (statement_code (scope_of k.now)
+        (tree.New (place_of target.now) pointer line) d) }
 {
     let at = held(true, d);
     let to = held(true, at + 1);

@@ -16,7 +16,7 @@ use crate::values::place;
 use ps_tree::tree::Place;
 use std::alloc::AllocError;
 
-/// The records that are open, the innermost last, and the depth of what stands within them.
+/// The records that are open, innermost last, and the depth of the code within them.
 #[derive(Drop)]
 pub struct Opened {
     pub sites: Vec<Site>,
@@ -32,8 +32,10 @@ fn open(
     t: u32,
 ) -> Result<Site, AllocError>
     requires { t + place_weight (within (scope_of k.now) sites.now) (place_of variable.now) ≤ DEEPEST }
-    ensures code { OnOk result (out.new ≡ out.old ++ place_code (within (scope_of k.now) sites.now) (place_of variable.now) t 0) }
-    ensures site { IfOk result (λ s. site_of s ≡ place_site (within (scope_of k.now) sites.now) (place_of variable.now) t) }
+    ensures code { OnOk result (out.new ≡ out.old ++ place_code (within (scope_of k.now) sites.now)
+        (place_of variable.now) t 0) }
+    ensures site { IfOk result (λ s. site_of s ≡ place_site (within (scope_of k.now) sites.now)
+        (place_of variable.now) t) }
 {
     let inner = Level {
         checked: k.checked,
@@ -53,7 +55,8 @@ pub fn open_all(
 ) -> Result<Opened, AllocError>
     requires { d + with_weight (scope_of k.now) (map place_of records.now) calls d ≤ DEEPEST }
     ensures code { OnOk result (out.new ≡ out.old ++ with_code (scope_of k.now) (map place_of records.now) calls d) }
-    ensures scope { IfOk result (λ o. within (scope_of k.now) o.sites.items ≡ with_scope (scope_of k.now) (map place_of records.now) calls d) }
+    ensures scope { IfOk result (λ o. within (scope_of k.now) o.sites.items ≡ with_scope (scope_of k.now)
+        (map place_of records.now) calls d) }
     ensures depth { IfOk result (λ o. o.depth ≡ with_depth (map place_of records.now) calls d) }
 {
     let mut sites = Vec::from_slice(out.alloc(), k.opened)?;

@@ -6,7 +6,7 @@ use std::alloc::{AllocError, Global};
 use std::marker::Model;
 use tac_code::code::{Base, BitOperator, Body, Constant, Instruction, Operand, Operator, Relation};
 
-/// Instructions, to which further ones are added.
+/// Instructions, to which more are added.
 #[derive(Drop)]
 pub struct Code {
     alloc: Global,
@@ -56,7 +56,7 @@ impl Code {
         self.list.len()
     }
 
-    /// An instruction.
+    /// Adds an instruction.
     pub fn push(&mut self, instruction: Instruction) -> Result<(), AllocError>
         ensures { OnOk result (self.new ≡ self.old ++ instruction ∷ []) }
     {
@@ -64,7 +64,7 @@ impl Code {
         Ok(())
     }
 
-    /// A number.
+    /// Loads a number.
     pub fn literal(&mut self, to: u32, value: i32) -> Result<(), AllocError>
         ensures { OnOk result (self.new ≡ self.old ++ i.Literal to value ∷ []) }
     {
@@ -149,7 +149,7 @@ impl Code {
         })
     }
 
-    /// The address of a component, with the test of its index, which lies in a range, or error 5.
+    /// The address of a component, with the test that its index is in a range, or error 5.
     pub fn index(
         &mut self,
         to: u32,
@@ -180,7 +180,7 @@ impl Code {
         self.push(Instruction::Text { to, bytes })
     }
 
-    /// An address so many bytes from a base.
+    /// An address `bytes` bytes from a base.
     pub fn offset(&mut self, to: u32, base: Base, bytes: u32, extent: u32) -> Result<(), AllocError>
         ensures { OnOk result (self.new ≡ self.old ++ i.Offset to base bytes extent ∷ []) }
     {
@@ -220,14 +220,14 @@ impl Code {
         self.push(Instruction::StoreByte { base, offset, from })
     }
 
-    /// Passes so many instructions.
+    /// Skips `forward` instructions.
     pub fn jump(&mut self, forward: u64) -> Result<(), AllocError>
         ensures { OnOk result (self.new ≡ self.old ++ i.Jump forward ∷ []) }
     {
         self.push(Instruction::Jump { forward })
     }
 
-    /// Passes so many instructions where a relation holds.
+    /// Skips `forward` instructions where a relation holds.
     pub fn branch(
         &mut self,
         relation: Relation,
@@ -278,7 +278,7 @@ impl Code {
         self.push(Instruction::Return { from })
     }
 
-    /// A call, whose operands are these temporaries.
+    /// A call that passes these temporaries.
     pub fn call(
         &mut self,
         to: u32,
@@ -326,16 +326,19 @@ impl Code {
         Ok(place)
     }
 
-    /// A jump in its room, past all instructions behind it.
+    /// A jump in its room, past all instructions after it.
     pub fn set_jump(&mut self, place: usize)
-        ensures { (before : List Instruction) (filler : Instruction) (behind : List Instruction) → self.old ≡ before ++ filler ∷ behind → place ≡ length before → self.new ≡ before ++ i.Jump (length behind) ∷ behind }
+        ensures { (before : List Instruction) (filler : Instruction) (behind : List Instruction) → self.old ≡ before
+            ++ filler ∷ behind → place ≡ length before → self.new ≡ before ++ i.Jump (length behind) ∷ behind }
     {
         fill_with_jump(&mut self.list, place);
     }
 
-    /// A branch in its room, past all instructions behind it.
+    /// A branch in its room, past all instructions after it.
     pub fn set_branch(&mut self, place: usize, relation: Relation, left: u32, right: Operand)
-        ensures { (before : List Instruction) (filler : Instruction) (behind : List Instruction) → self.old ≡ before ++ filler ∷ behind → place ≡ length before → self.new ≡ before ++ i.Branch relation left right (length behind) ∷ behind }
+        ensures { (before : List Instruction) (filler : Instruction) (behind : List Instruction) → self.old ≡ before
+            ++ filler ∷ behind → place ≡ length before → self.new ≡ before ++ i.Branch relation left right
+            (length behind) ∷ behind }
     {
         fill_with_branch(&mut self.list, place, relation, left, right);
     }

@@ -33,7 +33,7 @@ const PACK_BYTES: u32 = 8;
 
 const UNPACK_BYTES: u32 = 9;
 
-/// The address of the component of an array whose index stands in a temporary, or error 5.
+/// The address of the component of an array whose index is in a temporary, or error 5.
 fn component(
     out: &mut Code,
     ty: &Ty,
@@ -43,14 +43,16 @@ fn component(
     line: u16,
 ) -> Result<(), AllocError>
     requires { component_bytes (shape_of (type_of ty.now)) ≤ 2147483647 }
-    ensures { OnOk result (out.new ≡ out.old ++ i.Index t (site_of site).base index (index_of (type_of ty.now)).low (index_of (type_of ty.now)).high (component_bytes (shape_of (type_of ty.now))) 5 line ∷ i.Offset t (base.Temporary t) (site_of site).offset 0 ∷ []) }
+    ensures { OnOk result (out.new ≡ out.old ++ i.Index t (site_of site).base index (index_of (type_of ty.now)).low
+        (index_of (type_of ty.now)).high (component_bytes (shape_of (type_of ty.now))) 5 line ∷ i.Offset t
+        (base.Temporary t) (site_of site).offset 0 ∷ []) }
 {
     let width = component_bytes(ty);
     out.index(t, site.base, index, index_of(ty), width, line)?;
     out.offset(t, Base::Temporary(t), site.offset, 0)
 }
 
-/// The lowest value of a range, and so much above it.
+/// The lowest value of a range, plus `more`.
 fn above(range: Ordinal, more: u32) -> i32
     requires { unless (is_integer (range.low +ℤ pos more)) ≤ 2147483647 }
     ensures { result ≡ range.low +ℤ pos more }
@@ -58,7 +60,7 @@ fn above(range: Ordinal, more: u32) -> i32
     (i64::from(range.low) + i64::from(more)) as i32
 }
 
-/// The test of an index that lies at most so far above the lowest.
+/// The test that an index is at most `more` above the lowest.
 fn check_room(
     out: &mut Code,
     t: u32,
@@ -73,9 +75,10 @@ fn check_room(
     out.check_range(t, range.low, last, 5, line)
 }
 
-/// The test of the room that a part of so many components has in an array behind an index, or error 5.
+/// The test that an array has room, from an index on, for a part with the components of another, or error 5.
 fn room(out: &mut Code, whole_ty: &Ty, part_ty: &Ty, t: u32, line: u16) -> Result<(), AllocError>
-    requires { unless (is_integer ((index_of (type_of whole_ty.now)).low +ℤ pos (value_count (index_of (type_of whole_ty.now)) - value_count (index_of (type_of part_ty.now))))) ≤ 2147483647 }
+    requires { unless (is_integer ((index_of (type_of whole_ty.now)).low +ℤ pos
+        (value_count (index_of (type_of whole_ty.now)) - value_count (index_of (type_of part_ty.now))))) ≤ 2147483647 }
     ensures { OnOk result (out.new ≡ out.old ++ room_code (type_of whole_ty.now) (type_of part_ty.now) t line) }
 {
     let whole = index_of(whole_ty);
@@ -88,7 +91,7 @@ fn room(out: &mut Code, whole_ty: &Ty, part_ty: &Ty, t: u32, line: u16) -> Resul
     check_room(out, t, whole, more, line)
 }
 
-/// So many components from one address to another by a run-time routine.
+/// Copies `count` components from one address to another by a run-time routine.
 fn bytes(
     out: &mut Code,
     k: &Level,
@@ -100,13 +103,14 @@ fn bytes(
 ) -> Result<(), AllocError>
     requires count { count ≤ 2147483647 }
     requires number { number ≤ 16 }
-    ensures { (routine : RunTime) → number ≡ run_time_number routine → OnOk result (out.new ≡ out.old ++ i.Literal t (pos count) ∷ helper (scope_of k.now) routine (b ∷ a ∷ t ∷ []) t ∷ []) }
+    ensures { (routine : RunTime) → number ≡ run_time_number routine → OnOk result
+        (out.new ≡ out.old ++ i.Literal t (pos count) ∷ helper (scope_of k.now) routine (b ∷ a ∷ t ∷ []) t ∷ []) }
 {
     amount(out, count, t)?;
     help(out, k, number, &[b, a, t], t)
 }
 
-/// The bytes of so many components. Where there are none, their type may be of any size.
+/// The bytes of `count` components. Where there are none, their type may be of any size.
 fn part_bytes(ty: &Ty, count: u32) -> u32
     requires { count * component_bytes (shape_of (type_of ty.now)) ≤ 2147483647 }
     ensures { result ≡ count * component_bytes (shape_of (type_of ty.now)) }
@@ -130,7 +134,9 @@ fn components(
 ) -> Result<(), AllocError>
     requires count { count ≤ 2147483647 }
     requires bytes { count * component_bytes (shape_of (type_of from_ty.now)) ≤ 2147483647 }
-    ensures { (packing : Bool) → OnOk result (out.new ≡ out.old ++ components_code (scope_of k.now) packing a b count (is_byte_array (shape_of (type_of from_ty.now))) (is_byte_array (shape_of (type_of to_ty.now))) (component_bytes (shape_of (type_of from_ty.now))) t) }
+    ensures { (packing : Bool) → OnOk result (out.new ≡ out.old ++ components_code (scope_of k.now) packing a b count
+        (is_byte_array (shape_of (type_of from_ty.now))) (is_byte_array (shape_of (type_of to_ty.now)))
+        (component_bytes (shape_of (type_of from_ty.now))) t) }
 {
     if is_byte_array(to_ty) {
         return bytes(out, k, PACK_BYTES, a, b, count, t);
@@ -153,8 +159,12 @@ pub fn pack(
     to_ty: &Ty,
     d: u32,
 ) -> Result<(), AllocError>
-    requires { d + statement_weight (scope_of k.now) (tree.Pack (place_of from.now) (type_of from_ty.now) (expr_of index.now) line (place_of to.now) (type_of to_ty.now)) d ≤ DEEPEST }
-    ensures { OnOk result (out.new ≡ out.old ++ statement_code (scope_of k.now) (tree.Pack (place_of from.now) (type_of from_ty.now) (expr_of index.now) line (place_of to.now) (type_of to_ty.now)) d) }
+    requires { d + statement_weight (scope_of k.now)
+        (tree.Pack (place_of from.now) (type_of from_ty.now) (expr_of index.now) line (place_of to.now)
+        (type_of to_ty.now)) d ≤ DEEPEST }
+    ensures { OnOk result (out.new ≡ out.old ++ statement_code (scope_of k.now)
+        (tree.Pack (place_of from.now) (type_of from_ty.now) (expr_of index.now) line (place_of to.now)
+        (type_of to_ty.now)) d) }
 {
     let a = held(true, d);
     let b = held(true, a + 1);
@@ -181,8 +191,12 @@ pub fn unpack(
     line: u16,
     d: u32,
 ) -> Result<(), AllocError>
-    requires { d + statement_weight (scope_of k.now) (tree.Unpack (place_of from.now) (type_of from_ty.now) (place_of to.now) (type_of to_ty.now) (expr_of index.now) line) d ≤ DEEPEST }
-    ensures { OnOk result (out.new ≡ out.old ++ statement_code (scope_of k.now) (tree.Unpack (place_of from.now) (type_of from_ty.now) (place_of to.now) (type_of to_ty.now) (expr_of index.now) line) d) }
+    requires { d + statement_weight (scope_of k.now)
+        (tree.Unpack (place_of from.now) (type_of from_ty.now) (place_of to.now) (type_of to_ty.now)
+        (expr_of index.now) line) d ≤ DEEPEST }
+    ensures { OnOk result (out.new ≡ out.old ++ statement_code (scope_of k.now)
+        (tree.Unpack (place_of from.now) (type_of from_ty.now) (place_of to.now) (type_of to_ty.now)
+        (expr_of index.now) line) d) }
 {
     let a = held(true, d);
     let b = held(true, a + 1);

@@ -22,7 +22,7 @@ use ps_tree::types::Ty;
 use std::alloc::AllocError;
 use tac_code::code::Base;
 
-/// The words that a parameter comes in.
+/// The number of words that a parameter comes in.
 #[tactic(auto, unfolding(ps_tree::specs::View::formal_of))]
 fn parameter_words(formal: &Formal) -> u32
     ensures value { result ≡ parameter_words (kind_of (formal_of formal.now)) }
@@ -47,7 +47,7 @@ fn entry_words(formal: &Formal) -> u32
     }
 }
 
-/// A number of temporaries, and the words of a parameter behind them.
+/// A number of temporaries, plus the words of the next parameter.
 fn with_parameter(count: u32, formal: &Formal) -> u32
     requires { count ≤ DEEPEST }
     ensures { result ≡ count + parameter_words (kind_of (formal_of formal.now)) }
@@ -67,10 +67,13 @@ pub fn count_parameters(formals: &[Formal]) -> u32
     count
 }
 
-/// Whether a value parameter is a word, and not a structure or a set, whose address comes.
+/// Whether a value parameter is a word, and not a structure or a set, which is passed by its address.
 #[tactic(auto, using(crate::proofs::Entering::array_comes), unfolding(ps_tree::specs::TypeView::type_of))]
 fn is_word(ty: &Ty) -> bool
-    ensures { (k : Scope) (t offset free : ℕ) → own_code k (shape_of (type_of ty.now)) t offset free ≡ (if result then i.Store base.Frame offset t ∷ [] else (i.Offset free base.Frame offset (byte_count (shape_of (type_of ty.now))) ∷ copy_code k free t (beside free) (byte_count (shape_of (type_of ty.now))))) }
+    ensures { (k : Scope) (t offset free : ℕ) → own_code k (shape_of (type_of ty.now)) t offset free
+        ≡ (if result then i.Store base.Frame offset t ∷ []
+        else (i.Offset free base.Frame offset (byte_count (shape_of (type_of ty.now))) ∷ copy_code k free t
+        (beside free) (byte_count (shape_of (type_of ty.now))))) }
 {
     match ty {
         Ty::Simple(_) | Ty::Pointer { .. } | Ty::Nil => true,
@@ -90,7 +93,8 @@ fn copied(
 ) -> Result<(), AllocError>
     requires depth { free ≤ DEEPEST }
     requires length { byte_count (shape_of (type_of ty.now)) ≤ 2147483647 }
-    ensures { OnOk result (out.new ≡ out.old ++ i.Offset free base.Frame offset (byte_count (shape_of (type_of ty.now))) ∷ copy_code (scope_of k.now) free t (beside free) (byte_count (shape_of (type_of ty.now)))) }
+    ensures { OnOk result (out.new ≡ out.old ++ i.Offset free base.Frame offset (byte_count (shape_of (type_of ty.now)))
+        ∷ copy_code (scope_of k.now) free t (beside free) (byte_count (shape_of (type_of ty.now)))) }
 {
     let bytes = byte_count(ty);
     out.offset(free, Base::Frame, offset, bytes)?;
@@ -109,11 +113,12 @@ fn own(out: &mut Code, k: &Level, ty: &Ty, t: u32, offset: u32, free: u32) -> Re
     copied(out, k, ty, t, offset, free)
 }
 
-/// A procedural or functional parameter: its routine, and its static link behind.
+/// A procedural or functional parameter: its routine, followed by its static link.
 fn closure(out: &mut Code, t: u32, offset: u32) -> Result<(), AllocError>
     requires depth { t ≤ DEEPEST }
     requires reach { offset ≤ 2147483647 }
-    ensures { OnOk result (out.new ≡ out.old ++ i.Store base.Frame offset t ∷ i.Store base.Frame (offset + 4) (suc t) ∷ []) }
+    ensures { OnOk result (out.new ≡ out.old ++ i.Store base.Frame offset t ∷ i.Store base.Frame (offset + 4) (suc t)
+        ∷ []) }
 {
     out.store(Base::Frame, offset, t)?;
     out.store(Base::Frame, offset + 4, t + 1)
@@ -133,7 +138,8 @@ fn parameter(
     requires free { free ≤ DEEPEST }
     requires reach { offset ≤ 2147483647 }
     requires words { 4 * kind_words (kind_of (formal_of formal.now)) ≤ 2147483647 }
-    ensures { OnOk result (out.new ≡ out.old ++ parameter_code (scope_of k.now) (kind_of (formal_of formal.now)) t offset free) }
+    ensures { OnOk result (out.new ≡ out.old ++ parameter_code (scope_of k.now)
+        (kind_of (formal_of formal.now)) t offset free) }
 {
     match formal {
         Formal::Value(ty) => own(out, k, ty, t, offset, free),
@@ -142,7 +148,7 @@ fn parameter(
     }
 }
 
-/// A parameter in the temporary t, to an entry at a word of the frame, and the word behind it.
+/// A parameter in the temporary t, to an entry at a word of the frame, and the word after it.
 fn parameter_at(
     out: &mut Code,
     k: &Level,
@@ -154,14 +160,15 @@ fn parameter_at(
     requires temporary { t ≤ DEEPEST }
     requires free { free ≤ DEEPEST }
     requires words { 4 * (place + kind_words (kind_of (formal_of formal.now))) ≤ 2147483647 }
-    ensures code { OnOk result (out.new ≡ out.old ++ parameter_code (scope_of k.now) (kind_of (formal_of formal.now)) t (4 * place) free) }
+    ensures code { OnOk result (out.new ≡ out.old ++ parameter_code (scope_of k.now) (kind_of (formal_of formal.now)) t
+        (4 * place) free) }
     ensures next { IfOk result (λ next. next ≡ place + kind_words (kind_of (formal_of formal.now))) }
 {
     parameter(out, k, formal, t, 4 * place, free)?;
     Ok(place + entry_words(formal))
 }
 
-/// The parameters of a routine, to entries that stand one behind another from a word of the frame on, and the word behind them.
+/// The parameters of a routine, to consecutive entries from a word of the frame on, and the word after them.
 pub fn parameters(
     out: &mut Code,
     k: &Level,
@@ -172,7 +179,8 @@ pub fn parameters(
     requires free { free ≤ DEEPEST }
     requires total { suc (count_parameters (kinds_of (formals_of formals.now))) ≤ DEEPEST }
     requires words { 4 * (begin + words_of_all (listed_kinds (kinds_of (formals_of formals.now)))) ≤ 2147483647 }
-    ensures code { OnOk result (out.new ≡ out.old ++ parameters_at (scope_of k.now) (kinds_of (formals_of formals.now)) 1 begin free) }
+    ensures code { OnOk result (out.new ≡ out.old ++ parameters_at (scope_of k.now)
+        (kinds_of (formals_of formals.now)) 1 begin free) }
     ensures next { IfOk result (λ next. next ≡ begin + words_of_all (listed_kinds (kinds_of (formals_of formals.now)))) }
 {
     let mut t = 1;

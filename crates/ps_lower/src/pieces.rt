@@ -1,4 +1,4 @@
-// The pieces of code that stand behind that of operands.
+// The pieces of code that follow that of operands.
 
 ghost use Rattle.std.specs.Prelude.{◌≡◌, ◌++◌, ◌≤◌, [], ◌∷◌, pos, OnOk};
 ghost use Rattle.ps_lower_code.specs.Scopes.{moved, range_code, check_code, fitting_code, operand_check};
@@ -17,7 +17,7 @@ use ps_tree::tree::{Expr, Range, RequiredFunction};
 use std::alloc::AllocError;
 use tac_code::code::{BitOperator, Instruction, Operand, Operator, Relation};
 
-/// A number that stands in the tree.
+/// A number in the tree.
 pub fn number(out: &mut Code, n: &i32, d: u32) -> Result<(), AllocError>
     ensures { OnOk result (out.new ≡ out.old ++ i.Literal d n.now ∷ []) }
 {
@@ -43,7 +43,7 @@ fn relation(out: &mut Code, e: &Expr, d: u32) -> Result<(), AllocError>
     out.compare(relation_in(e), d, left_in(e, d), right_in(e, d))
 }
 
-/// The word of an expression behind its front code.
+/// The word of an expression, after its front code.
 pub fn finish(out: &mut Code, e: &Expr, d: u32) -> Result<(), AllocError>
     requires { d ≤ DEEPEST }
     ensures { OnOk result (out.new ≡ out.old ++ finish (expr_of e.now) d) }
@@ -67,7 +67,7 @@ pub fn truth_finish(out: &mut Code, e: &Expr, d: u32) -> Result<(), AllocError>
     }
 }
 
-/// The test of a range, unless every integer lies in it.
+/// The test of a range, unless every integer is in it.
 pub fn range(
     out: &mut Code,
     t: u32,
@@ -85,7 +85,7 @@ pub fn range(
     }
 }
 
-/// The test of a range, unless a number is known to lie in it.
+/// The test of a range, unless a number is known to be in it.
 pub fn check(
     out: &mut Code,
     known: Option<i32>,
@@ -132,7 +132,7 @@ pub fn fitting(
     }
 }
 
-/// The test of an operand that may stand in no temporary.
+/// The test of an operand that need not be in a temporary.
 pub fn operand_check(
     out: &mut Code,
     known: Option<i32>,
@@ -176,7 +176,8 @@ fn stepped(
     high: i32,
     line: u16,
 ) -> Result<(), AllocError>
-    ensures { OnOk result (out.new ≡ out.old ++ (i.Arithmetic operator d d (operand.Number (pos 1)) 4 line ∷ range_code d low high 4 line)) }
+    ensures { OnOk result (out.new ≡ out.old ++ (i.Arithmetic operator d d (operand.Number (pos 1)) 4 line
+        ∷ range_code d low high 4 line)) }
 {
     out.arithmetic(operator, d, d, Operand::Number(1), 4, line)?;
     range(out, d, low, high, 4, line)

@@ -1,8 +1,10 @@
-// Variables: what reaches them, and where they stand then.
+// Variables: code that reaches them, and where they are then.
 
 ghost use Rattle.std.specs.Prelude.{◌≡◌, ◌++◌, ◌≤◌, ◌∷◌, [], ◌+◌, None, option_map, slice_get, false, OnOk, IfOk};
 ghost use Rattle.ps_lower_code.specs.Scopes.{kind_at, frame_base, site_code};
-ghost use Rattle.ps_lower_code.specs.Values.{field_site, reference_code, entry_site, name_code, name_site, place_temporary, element_site, index_code, is_byte_selector, is_byte_after, is_byte, load_code, store_code};
+ghost use Rattle.ps_lower_code.specs.Values.{field_site, reference_code, entry_site, name_code, name_site};
+ghost use Rattle.ps_lower_code.specs.Values.{place_temporary, element_site, index_code, is_byte_selector};
+ghost use Rattle.ps_lower_code.specs.Values.{is_byte_after, is_byte, load_code, store_code};
 ghost use Rattle.ps_lower_bounds.specs.Weights.{name_reach};
 ghost use Rattle.ps_lower_layout.specs.Shapes.{shape_of, component_bytes, field_offset};
 ghost use Rattle.ps_lower.specs.Levels.{scope_of, site_of};
@@ -58,7 +60,7 @@ pub fn is_byte(place: &Place) -> bool
     is_byte_behind(&place.selectors)
 }
 
-/// An entry of the frame so many levels up, whose parts count from a base: a variable, or the address of one.
+/// An entry of the frame `up` levels out, whose parts are addressed from a base: a variable, or the address of one.
 fn reference(
     out: &mut Code,
     k: &Level,
@@ -67,8 +69,10 @@ fn reference(
     up: u32,
     index: u32,
 ) -> Result<Site, AllocError>
-    ensures code { OnOk result (base ≡ frame_base (scope_of k.now) t up → out.new ≡ out.old ++ reference_code (scope_of k.now) (kind_at (scope_of k.now) up index) t up index) }
-    ensures site { IfOk result (λ s. base ≡ frame_base (scope_of k.now) t up → site_of s ≡ entry_site (scope_of k.now) (kind_at (scope_of k.now) up index) t up index) }
+    ensures code { OnOk result (base ≡ frame_base (scope_of k.now) t up → out.new ≡ out.old ++ reference_code
+        (scope_of k.now) (kind_at (scope_of k.now) up index) t up index) }
+    ensures site { IfOk result (λ s. base ≡ frame_base (scope_of k.now) t up → site_of s ≡ entry_site (scope_of k.now)
+        (kind_at (scope_of k.now) up index) t up index) }
 {
     let spot = entry(k, up, index);
     if spot.reference {
@@ -85,7 +89,7 @@ fn reference(
     }
 }
 
-/// Where a record stands that `with` opened, if so many are open; the innermost is 0.
+/// Where a record is that `with` opened, if there is one with this number; the innermost is 0.
 #[tactic(auto, using(crate::proofs::Opening::turned, crate::proofs::Opening::not_opened))]
 fn opened(k: &Level, which: u32) -> Option<Site>
     ensures { option_map site_of result ≡ slice_get (scope_of k.now).opened which }
@@ -100,8 +104,10 @@ fn opened(k: &Level, which: u32) -> Option<Site>
 
 /// A field of a record that `with` opened.
 fn field(k: &Level, which: u32, ty: &Ty, number: u32) -> Site
-    requires { (field_site (scope_of k.now) (slice_get (scope_of k.now).opened which) (field_offset (shape_of (type_of ty.now)) number)).offset ≤ 2147483647 }
-    ensures { site_of result ≡ field_site (scope_of k.now) (slice_get (scope_of k.now).opened which) (field_offset (shape_of (type_of ty.now)) number) }
+    requires { (field_site (scope_of k.now) (slice_get (scope_of k.now).opened which)
+        (field_offset (shape_of (type_of ty.now)) number)).offset ≤ 2147483647 }
+    ensures { site_of result ≡ field_site (scope_of k.now) (slice_get (scope_of k.now).opened which)
+        (field_offset (shape_of (type_of ty.now)) number) }
 {
     let Some(record) = opened(k, which) else {
         return Site {
@@ -127,7 +133,7 @@ pub fn name(out: &mut Code, k: &Level, name: &PlaceBase, t: u32) -> Result<Site,
     }
 }
 
-/// So many bytes further.
+/// The site `bytes` bytes further on.
 pub fn behind(site: Site, bytes: u32) -> Site
     requires { site.offset + bytes ≤ 4294967295 }
     ensures { site_of result ≡ site_behind (site_of site) bytes }
@@ -138,7 +144,7 @@ pub fn behind(site: Site, bytes: u32) -> Site
     }
 }
 
-/// The component of an array whose index stands in a temporary.
+/// The component of an array whose index is in a temporary.
 pub fn indexed(
     out: &mut Code,
     ty: &Ty,
@@ -176,7 +182,7 @@ pub fn pointed(out: &mut Code, site: Site, t: u32, line: u16) -> Result<Site, Al
     })
 }
 
-/// What stands at a site, a byte or a word, as the word in d.
+/// Loads what is at a site, a byte or a word, as the word in d.
 pub fn fetch(out: &mut Code, byte: bool, d: u32, site: Site) -> Result<(), AllocError>
     ensures { OnOk result (out.new ≡ out.old ++ load_code byte d (site_of site)) }
 {
@@ -187,7 +193,7 @@ pub fn fetch(out: &mut Code, byte: bool, d: u32, site: Site) -> Result<(), Alloc
     }
 }
 
-/// The word in t goes to a site, as a byte or a word.
+/// Stores the word in t at a site, as a byte or a word.
 pub fn keep(out: &mut Code, byte: bool, site: Site, t: u32) -> Result<(), AllocError>
     ensures { OnOk result (out.new ≡ out.old ++ store_code byte (site_of site) t) }
 {
@@ -198,7 +204,7 @@ pub fn keep(out: &mut Code, byte: bool, site: Site, t: u32) -> Result<(), AllocE
     }
 }
 
-/// The address of a site, from which so many bytes are meant.
+/// The address of a site, where `extent` bytes are meant.
 pub fn address(out: &mut Code, t: u32, site: Site, extent: u32) -> Result<(), AllocError>
     ensures { OnOk result (out.new ≡ out.old ++ site_code t (site_of site) extent) }
 {

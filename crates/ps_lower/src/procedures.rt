@@ -15,7 +15,7 @@ use crate::values::arguments;
 use ps_tree::tree::Argument;
 use std::alloc::AllocError;
 
-/// A call of a procedure that is declared in the block so many levels out.
+/// A call of a procedure that is declared in the block `up` levels out.
 pub fn call_procedure(
     out: &mut Code,
     k: &Level,
@@ -25,8 +25,10 @@ pub fn call_procedure(
     line: u16,
     d: u32,
 ) -> Result<(), AllocError>
-    requires { d + statement_weight (scope_of k.now) (tree.CallProcedure routine up (arguments_of actual.now) line) d ≤ DEEPEST }
-    ensures { OnOk result (out.new ≡ out.old ++ statement_code (scope_of k.now) (tree.CallProcedure routine up (arguments_of actual.now) line) d) }
+    requires { d + statement_weight (scope_of k.now)
+        (tree.CallProcedure routine up (arguments_of actual.now) line) d ≤ DEEPEST }
+    ensures { OnOk result (out.new ≡ out.old ++ statement_code (scope_of k.now)
+        (tree.CallProcedure routine up (arguments_of actual.now) line) d) }
 {
     let t = link_temporary(actual, d);
     arguments(out, k, actual, d, 0)?;
@@ -43,8 +45,10 @@ pub fn call_formal_procedure(
     line: u16,
     d: u32,
 ) -> Result<(), AllocError>
-    requires { d + statement_weight (scope_of k.now) (tree.CallFormalProcedure up index (arguments_of actual.now) line) d ≤ DEEPEST }
-    ensures { OnOk result (out.new ≡ out.old ++ statement_code (scope_of k.now) (tree.CallFormalProcedure up index (arguments_of actual.now) line) d) }
+    requires { d + statement_weight (scope_of k.now)
+        (tree.CallFormalProcedure up index (arguments_of actual.now) line) d ≤ DEEPEST }
+    ensures { OnOk result (out.new ≡ out.old ++ statement_code (scope_of k.now)
+        (tree.CallFormalProcedure up index (arguments_of actual.now) line) d) }
 {
     let t = link_temporary(actual, d);
     arguments(out, k, actual, d, 0)?;

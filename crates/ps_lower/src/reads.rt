@@ -2,7 +2,8 @@
 
 ghost use Rattle.std.specs.Prelude.{◌≡◌, ◌++◌, ◌+◌, ◌≤◌, ◌∷◌, [], pos, true, None, map, OnOk};
 ghost use Rattle.ps_lower_bounds.specs.Weights.{read_weight, reads_weight, statement_weight};
-ghost use Rattle.ps_lower_code.specs.Scopes.{even_from, beside, greatest, range_code, fitting_code, site_code, input_site, ReadCharacter, ReadNumber, ReadLine, helper};
+ghost use Rattle.ps_lower_code.specs.Scopes.{even_from, beside, greatest, range_code, fitting_code, site_code};
+ghost use Rattle.ps_lower_code.specs.Scopes.{input_site, ReadCharacter, ReadNumber, ReadLine, helper};
 ghost use Rattle.ps_lower_code.specs.Statements.{read_code, reads_code, statement_code};
 ghost use Rattle.ps_lower.specs.Levels.{scope_of};
 ghost use Rattle.ps_lower.specs.Reads.{character_taken, number_taken, line_taken};
@@ -31,7 +32,7 @@ const READ_NUMBER: u32 = 15;
 
 const READ_LINE: u32 = 16;
 
-/// The address of the words that tell what of the input was taken ahead.
+/// The address of the words that record what was taken ahead of the input.
 fn ahead(out: &mut Code, k: &Level, t: u32) -> Result<(), AllocError>
     ensures { OnOk result (out.new ≡ out.old ++ site_code t (input_site (scope_of k.now)) 8) }
 {
@@ -73,9 +74,10 @@ fn take_character(
     byte_fits(out, a, low, high, line)
 }
 
-/// How the reading of a number went: error 9 at the end of the input, 10 if there is no number, 4 if it is too large.
+/// How reading a number went: error 9 at the end of the input, 10 if there is no number, 4 if it is too large.
 fn check_number(out: &mut Code, a: u32, line: u16) -> Result<(), AllocError>
-    ensures { OnOk result (out.new ≡ out.old ++ (i.CheckRange a (pos 0) (pos 2) 9 line ∷ i.CheckRange a (pos 0) (pos 1) 10 line ∷ i.CheckRange a (pos 0) (pos 0) 4 line ∷ [])) }
+    ensures { OnOk result (out.new ≡ out.old ++ (i.CheckRange a (pos 0) (pos 2) 9 line ∷ i.CheckRange a (pos 0)
+        (pos 1) 10 line ∷ i.CheckRange a (pos 0) (pos 0) 4 line ∷ [])) }
 {
     out.check_range(a, 0, 2, 9, line)?;
     out.check_range(a, 0, 1, 10, line)?;
@@ -112,7 +114,8 @@ fn read_character(
     d: u32,
 ) -> Result<(), AllocError>
     requires { d + read_weight (scope_of k.now) (tree.ReadChar (place_of target.now) low.now high.now line) ≤ DEEPEST }
-    ensures { OnOk result (out.new ≡ out.old ++ read_code (scope_of k.now) (tree.ReadChar (place_of target.now) low.now high.now line) d) }
+    ensures { OnOk result (out.new ≡ out.old ++ read_code (scope_of k.now)
+        (tree.ReadChar (place_of target.now) low.now high.now line) d) }
 {
     let t = held(true, d);
     let a = even_above(t);
@@ -131,8 +134,10 @@ fn read_number(
     line: u16,
     d: u32,
 ) -> Result<(), AllocError>
-    requires { d + read_weight (scope_of k.now) (tree.ReadInteger (place_of target.now) low.now high.now line) ≤ DEEPEST }
-    ensures { OnOk result (out.new ≡ out.old ++ read_code (scope_of k.now) (tree.ReadInteger (place_of target.now) low.now high.now line) d) }
+    requires { d + read_weight (scope_of k.now)
+        (tree.ReadInteger (place_of target.now) low.now high.now line) ≤ DEEPEST }
+    ensures { OnOk result (out.new ≡ out.old ++ read_code (scope_of k.now)
+        (tree.ReadInteger (place_of target.now) low.now high.now line) d) }
 {
     let t = held(true, d);
     let a = even_above(t);
@@ -196,7 +201,8 @@ pub fn readln(
     d: u32,
 ) -> Result<(), AllocError>
     requires { d + reads_weight (scope_of k.now) (map read_of variables.now) ≤ DEEPEST }
-    ensures { OnOk result (out.new ≡ out.old ++ statement_code (scope_of k.now) (tree.Readln (map read_of variables.now) line) d) }
+    ensures { OnOk result (out.new ≡ out.old ++ statement_code (scope_of k.now)
+        (tree.Readln (map read_of variables.now) line) d) }
 {
     let a = even_from(d);
     reads(out, k, variables, d)?;

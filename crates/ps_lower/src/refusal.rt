@@ -7,7 +7,7 @@ ghost use Rattle.ps_lower.specs.declared.refusal.LowerRefusal.TheVariants.{OutOf
 
 use std::alloc::{AllocError, AllocFailed};
 
-/// The most instructions of a program. An image holds no more words, and each instruction takes a word at least.
+/// The most instructions of a program. An image holds no more words, and each instruction takes at least one word.
 pub const MOST_INSTRUCTIONS: usize = 1_048_576;
 
 /// Why a program has no code.
@@ -35,7 +35,7 @@ impl<T: Drop> From<AllocFailed<T>> for LowerRefusal {
     }
 }
 
-/// Code that only the want of memory refuses, among code that can be too large.
+/// An addition of code that only lack of memory refuses, as one that may also be refused as too large.
 pub fn lifted(added: Result<(), AllocError>) -> Result<(), LowerRefusal>
     ensures { (old new code : List Instruction) → OnOk added (new ≡ old ++ code) → Adds result old new code }
 {

@@ -3,7 +3,8 @@
 ghost use Rattle.std.specs.Prelude.{◌≡◌, ◌++◌, ◌+◌, ◌*◌, ◌≤◌, length, OnOk, IfOk, MatchResult, option_map};
 ghost use Rattle.ps_lower_bounds.specs.Weights.{statements_weight, result_weight, begin_weight, routine_weight};
 ghost use Rattle.ps_lower_code.specs.Programs.{tac_of};
-ghost use Rattle.ps_lower_code.specs.Routines.{input_code, parameter_total, begin_code, result_end, end_code, routine_code, scope_of as scope_in};
+ghost use Rattle.ps_lower_code.specs.Routines.{input_code, parameter_total, begin_code, result_end, end_code};
+ghost use Rattle.ps_lower_code.specs.Routines.{routine_code, scope_of as scope_in};
 ghost use Rattle.ps_lower_code.specs.Statements.{statements_code};
 ghost use Rattle.ps_lower_layout.specs.Frames.{is_program_block, result_kinds, words_of_all, layout_of};
 ghost use Rattle.ps_lower.specs.Firsts.{result_at, head_code, words_in};
@@ -41,7 +42,7 @@ fn level<'a>(checked: &'a Frames<'a>, routine: &'a Routine) -> Level<'a>
     }
 }
 
-/// The program block alone has no routine round it.
+/// Whether a routine is the program block, the only one with no enclosing routine.
 #[tactic(auto, using(crate::proofs::Begins::block_told))]
 fn is_program_block(routine: &Routine) -> bool
     ensures { result ≡ is_program_block (routine_of routine.now).chain }
@@ -59,7 +60,7 @@ fn words_in(alloc: Global, routine: &Routine) -> Result<u32, AllocError>
     Ok(words)
 }
 
-/// The bytes of a routine's frame, of which the program block's ends with two words of the input's.
+/// The bytes of a routine's frame; that of the program block ends with two words for the input.
 fn frame_bytes(routine: &Routine, words: u32) -> u32
     requires small { words ≤ MOST_WORDS }
     requires exact { words ≡ words_in (routine_of routine.now) }
@@ -109,7 +110,7 @@ fn head(out: &mut Code, routine: &Routine, words: u32, t: u32) -> Result<(), All
     out.store(Base::Frame, 0, 0)
 }
 
-/// The first value of a result, and the word behind it.
+/// The first value of a result, and the word after it.
 fn first_result(
     out: &mut Code,
     k: &Level,
@@ -119,7 +120,8 @@ fn first_result(
     requires depth { t ≤ DEEPEST }
     requires reach { result_weight (option_map type_of result_type.now) ≤ DEEPEST }
     requires words { 4 * (1 + words_of_all (result_kinds (option_map type_of result_type.now))) ≤ DEEPEST }
-    ensures code { OnOk result (out.new ≡ out.old ++ result_at (scope_of k.now) (option_map type_of result_type.now) t 1) }
+    ensures code { OnOk result (out.new ≡ out.old ++ result_at (scope_of k.now)
+        (option_map type_of result_type.now) t 1) }
     ensures next { IfOk result (λ next. next ≡ 1 + words_of_all (result_kinds (option_map type_of result_type.now))) }
 {
     match result_type {
@@ -183,7 +185,8 @@ fn block(
     requires total { t ≡ parameter_total (routine_of routine.now) }
     requires light { begin_weight (routine_of routine.now) ≤ DEEPEST }
     requires body { statements_weight (scope_of k.now) (routine_of routine.now).body 0 ≤ DEEPEST }
-    ensures { Adds result out.old out.new (begin_code (scope_of k.now) (routine_of routine.now) ++ statements_code (scope_of k.now) (routine_of routine.now).body 0 ++ end_code (routine_of routine.now)) }
+    ensures { Adds result out.old out.new (begin_code (scope_of k.now) (routine_of routine.now) ++ statements_code
+        (scope_of k.now) (routine_of routine.now).body 0 ++ end_code (routine_of routine.now)) }
 {
     begin(out, k, routine, words, t)?;
     statements(out, k, routine.body.as_slice(), 0)?;
@@ -203,8 +206,10 @@ fn body(
     requires free { t ≤ DEEPEST }
     requires total { t ≡ parameter_total (routine_of routine.now) }
     requires light { begin_weight (routine_of routine.now) ≤ DEEPEST }
-    requires body { statements_weight (scope_in (program_in checked.now) (routine_of routine.now)) (routine_of routine.now).body 0 ≤ DEEPEST }
-    ensures { MatchResult result (λ body. body ≡ routine_code (program_in checked.now) (routine_of routine.now)) (λ refusal. IsRefused refusal (length (routine_code (program_in checked.now) (routine_of routine.now)))) }
+    requires body { statements_weight (scope_in (program_in checked.now) (routine_of routine.now))
+        (routine_of routine.now).body 0 ≤ DEEPEST }
+    ensures { MatchResult result (λ body. body ≡ routine_code (program_in checked.now) (routine_of routine.now))
+        (λ refusal. IsRefused refusal (length (routine_code (program_in checked.now) (routine_of routine.now)))) }
 {
     let k = level(checked, routine);
     let mut out = Code::new(alloc);
@@ -219,7 +224,8 @@ pub fn tac_routine(
     routine: &Routine,
 ) -> Result<TacRoutine, LowerRefusal>
     requires { routine_weight (program_in checked.now) (routine_of routine.now) ≤ 1000000000 }
-    ensures { MatchResult result (λ made. made ≡ tac_of (program_in checked.now) (routine_of routine.now)) (λ refusal. IsRefused refusal (length (routine_code (program_in checked.now) (routine_of routine.now)))) }
+    ensures { MatchResult result (λ made. made ≡ tac_of (program_in checked.now) (routine_of routine.now))
+        (λ refusal. IsRefused refusal (length (routine_code (program_in checked.now) (routine_of routine.now)))) }
 {
     let words = words_in(alloc, routine)?;
     let parameters = parameter_total(routine);

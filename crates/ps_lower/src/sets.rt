@@ -1,11 +1,14 @@
-// Sets, each of which stands in the scratch block from a byte on, and what is made of them there.
+// Sets, each in the scratch block from a byte on, and what is made of them there.
 
 ghost use Rattle.std.specs.Prelude.{◌≡◌, ◌++◌, ◌+◌, ◌%◌, ◌^◌, ◌≤◌, ◌∷◌, [], pos, suc, OnOk};
 ghost use Rattle.ps_lower_code.specs.Scopes.{even_from, moved, words_code, helper, AddRange, run_time_number};
-ghost use Rattle.ps_lower_code.specs.Values.{set_routine, bit_code, is_union, adds, joining_code, membership_code, holds_all, outside_bits, masked, joined_word, outside_code, set_check, included_code, same_sets_code, sets_code, range_members};
+ghost use Rattle.ps_lower_code.specs.Values.{set_routine, bit_code, is_union, adds, joining_code, membership_code};
+ghost use Rattle.ps_lower_code.specs.Values.{holds_all, outside_bits, masked, joined_word, outside_code, set_check};
+ghost use Rattle.ps_lower_code.specs.Values.{included_code, same_sets_code, sets_code, range_members};
 ghost use Rattle.ps_lower.specs.Levels.{scope_of, site_of};
 ghost use Rattle.ps_tree.specs.View.{set_of};
-ghost use Rattle.ps_lower.specs.Sets.{cleared_code, offsets_code, includes_code, numbers_below, numbers_to, lowest_bits, member_word, member_bit, one_member, copied_code, kept_code};
+ghost use Rattle.ps_lower.specs.Sets.{cleared_code, offsets_code, includes_code, numbers_below, numbers_to};
+ghost use Rattle.ps_lower.specs.Sets.{lowest_bits, member_word, member_bit, one_member, copied_code, kept_code};
 ghost use Rattle.tac_code.specs.declared.code.Base.TheVariants as base;
 ghost use Rattle.tac_code.specs.declared.code.Instruction.TheVariants as i;
 ghost use Rattle.tac_code.specs.declared.code.Operand.TheVariants as operand;
@@ -32,7 +35,7 @@ const INTERSECT_SETS: u32 = 4;
 
 const IS_INCLUDED: u32 = 5;
 
-/// What lies behind the set from x on.
+/// What comes after the set from x on.
 pub fn above(x: u32) -> u32
     requires { x ≤ DEEPEST }
     ensures { result ≡ x + 32 }
@@ -90,7 +93,7 @@ pub fn copied_set(out: &mut Code, site: Site, d: u32, x: u32) -> Result<(), Allo
     )
 }
 
-/// The addresses of the set from x on and of the one behind it.
+/// The addresses of the set from x on and of the one after it.
 fn offsets(out: &mut Code, first: u32, second: u32, x: u32) -> Result<(), AllocError>
     requires { x ≤ DEEPEST }
     ensures { OnOk result (out.new ≡ out.old ++ offsets_code first second x) }
@@ -110,7 +113,7 @@ fn set_routine(operator: SetOperator) -> u32
     }
 }
 
-/// An operator on the set from x on and the one whose address stands beside t.
+/// An operator on the set from x on and the one whose address is in the temporary beside t.
 pub fn combined(
     out: &mut Code,
     k: &Level,
@@ -135,7 +138,7 @@ fn is_union(operator: SetOperator) -> bool
     }
 }
 
-/// Whether a set joins another as the members of a constructor, one by one.
+/// Whether a set is joined to another as the members of a constructor, one by one.
 #[tactic(auto, using(ps_tree::proofs::TreeLemmas::set_of_Load, ps_tree::proofs::TreeLemmas::set_of_Constructor, ps_tree::proofs::TreeLemmas::set_of_Combine), unfolding(ps_tree::specs::View::set_of))]
 pub fn adds(operator: SetOperator, e: &SetExpr) -> bool
     ensures { result ≡ adds operator (set_of e.now) }
@@ -146,7 +149,7 @@ pub fn adds(operator: SetOperator, e: &SetExpr) -> bool
     }
 }
 
-/// Whether the set from x on lies in the one behind it.
+/// Whether the set from x on is included in the one after it.
 fn included(
     out: &mut Code,
     k: &Level,
@@ -162,7 +165,7 @@ fn included(
     help(out, k, IS_INCLUDED, &[first, second], to)
 }
 
-/// Whether the set behind the one from x on lies in that one.
+/// Whether the set after the one from x on is included in it.
 fn includes(out: &mut Code, k: &Level, t: u32, x: u32) -> Result<(), AllocError>
     requires depth { t ≤ 4294960000 }
     requires place { x ≤ DEEPEST }
@@ -173,7 +176,7 @@ fn includes(out: &mut Code, k: &Level, t: u32, x: u32) -> Result<(), AllocError>
     help(out, k, IS_INCLUDED, &[second, t], t)
 }
 
-/// Whether the set from x on is the one behind it.
+/// Whether the set from x on equals the one after it.
 fn same_sets(out: &mut Code, k: &Level, t: u32, x: u32) -> Result<(), AllocError>
     requires depth { t ≤ 4294960000 }
     requires place { x ≤ DEEPEST }
@@ -188,13 +191,14 @@ fn same_sets(out: &mut Code, k: &Level, t: u32, x: u32) -> Result<(), AllocError
 fn other_sets(out: &mut Code, k: &Level, t: u32, x: u32) -> Result<(), AllocError>
     requires depth { t ≤ 4294960000 }
     requires place { x ≤ DEEPEST }
-    ensures { OnOk result (out.new ≡ out.old ++ (same_sets_code (scope_of k.now) t x ++ i.Compare Equal t t (operand.Number (pos 0)) ∷ [])) }
+    ensures { OnOk result (out.new ≡ out.old ++ (same_sets_code (scope_of k.now) t x ++ i.Compare Equal t t
+        (operand.Number (pos 0)) ∷ [])) }
 {
     same_sets(out, k, t, x)?;
     out.compare(Relation::Equal, t, t, Operand::Number(0))
 }
 
-/// The truth of a relation between the set from x on and the one behind it.
+/// The truth of a relation between the set from x on and the one after it.
 fn truth(out: &mut Code, k: &Level, relation: SetRelation, t: u32, x: u32) -> Result<(), AllocError>
     requires depth { t ≤ 4294960000 }
     requires place { x ≤ DEEPEST }
@@ -225,7 +229,8 @@ pub fn compare_sets(
     moved(out, t, d)
 }
 
-/// The word of a set in which a number is looked for. One outside of 0..255 is no member: the branch goes past the search.
+/// The word of a set in which a number is looked up. A number outside 0..255 is no member: the branch skips the
+/// look-up.
 fn member_word(out: &mut Code, member: u32, set: u32, spare: u32) -> Result<(), AllocError>
     ensures { OnOk result (out.new ≡ out.old ++ member_word member set spare) }
 {
@@ -260,7 +265,8 @@ fn member_bit(out: &mut Code, member: u32, word: u32, spare: u32, to: u32) -> Re
     out.compare(Relation::NotEqual, to, to, Operand::Number(0))
 }
 
-/// Whether what `member` holds is a member of the set at the address in `set`. That temporary and the one beside it are used.
+/// Whether what `member` holds is a member of the set at the address in `set`. That temporary and the one beside it are
+/// used.
 pub fn is_member(out: &mut Code, member: u32, set: u32, to: u32) -> Result<(), AllocError>
     requires { set ≤ 4294960000 }
     ensures { OnOk result (out.new ≡ out.old ++ membership_code member set to) }
@@ -272,7 +278,7 @@ pub fn is_member(out: &mut Code, member: u32, set: u32, to: u32) -> Result<(), A
     out.literal(to, 0)
 }
 
-/// The members from what `first` holds to what `last` holds go into a set.
+/// Adds the members from what `first` holds to what `last` holds to a set.
 fn add_range(
     out: &mut Code,
     k: &Level,
@@ -286,7 +292,7 @@ fn add_range(
     help(out, k, ADD_RANGE, &[set, first, last], to)
 }
 
-/// A member goes into the set from x on.
+/// Adds a member to the set from x on.
 pub fn add_member(
     out: &mut Code,
     k: &Level,
@@ -303,14 +309,14 @@ pub fn add_member(
     add_range(out, k, set, member, member, member)
 }
 
-/// A word in which the bit of a member is set.
+/// A word in which only the bit of a member is set.
 fn bit(number: u32) -> u32
     ensures { result ≡ 2 ^ (number % 32) }
 {
     1 << (number % 32)
 }
 
-/// A member that is known goes into the set from x on.
+/// Adds a known member to the set from x on.
 pub fn add_bit(out: &mut Code, number: u32, t: u32, x: u32) -> Result<(), AllocError>
     requires number { number ≤ 255 }
     requires place { x ≤ DEEPEST }
@@ -347,28 +353,28 @@ pub fn add_members(
     add_range(out, k, set, first, last, set)
 }
 
-/// Every member that a set can have lies within the bounds of a base.
+/// Whether every member that a set can have is within the bounds of a base.
 fn holds_all(low: &i32, high: &i32) -> bool
     ensures { result ≡ holds_all low.now high.now }
 {
     *low <= 0 && 255 <= *high
 }
 
-/// How many numbers from 0 on lie below the bounds of a base.
+/// How many numbers from 0 on are below the bounds of a base.
 fn numbers_below(low: &i32) -> u32
     ensures { result ≡ numbers_below low.now }
 {
     if *low < 0 { 0 } else { *low as u32 }
 }
 
-/// How many numbers from 0 on do not lie above them.
+/// How many numbers from 0 on are not above them.
 fn numbers_to(high: &i32) -> u32
     ensures { result ≡ numbers_to high.now }
 {
     if *high < 0 { 0 } else { *high as u32 + 1 }
 }
 
-/// A word with its lowest bits set, so many.
+/// A word with its lowest `count` bits set.
 fn lowest_bits(count: u32) -> u32
     ensures { result ≡ lowest_bits count }
 {
@@ -379,7 +385,7 @@ fn lowest_bits(count: u32) -> u32
     }
 }
 
-/// What a word of a set can hold outside of the bounds of a base, as bits.
+/// The bits of a word of a set that are outside the bounds of a base.
 fn outside_bits(low: &i32, high: &i32, word: u32) -> u32
     requires { word ≤ 7 }
     ensures { result ≡ outside_bits low.now high.now word }
@@ -400,7 +406,7 @@ fn masked(out: &mut Code, t: u32, mask: u32) -> Result<(), AllocError>
     out.bits(BitOperator::And, t, t, Operand::Number(mask.cast_signed()))
 }
 
-/// Those bits of the word at x of the scratch block join what t holds.
+/// Joins those bits of the word at x of the scratch block to what t holds.
 fn joined_word(out: &mut Code, t: u32, x: u32, mask: u32) -> Result<(), AllocError>
     requires { t ≤ 4294960000 }
     ensures { OnOk result (out.new ≡ out.old ++ joined_word t x mask) }
@@ -414,7 +420,7 @@ fn joined_word(out: &mut Code, t: u32, x: u32, mask: u32) -> Result<(), AllocErr
     out.bits(BitOperator::Or, t, t, Operand::Temporary(word))
 }
 
-/// What the set from x on holds outside of the bounds of a base.
+/// What the set from x on holds outside the bounds of a base.
 fn outside(out: &mut Code, low: &i32, high: &i32, t: u32, x: u32) -> Result<(), AllocError>
     requires depth { t ≤ 4294960000 }
     requires place { x ≤ DEEPEST }
@@ -426,7 +432,7 @@ fn outside(out: &mut Code, low: &i32, high: &i32, t: u32, x: u32) -> Result<(), 
     Ok(())
 }
 
-/// The set from x on lies within the bounds of a base, or error 8.
+/// The test that the set from x on is within the bounds of a base, or error 8.
 pub fn check_set(
     out: &mut Code,
     t: u32,
@@ -459,13 +465,14 @@ pub fn hand_set(
 ) -> Result<(), AllocError>
     requires depth { t ≤ 4294950000 }
     requires place { x ≤ DEEPEST }
-    ensures { OnOk result (out.new ≡ out.old ++ (set_check (even_from t) x low.now high.now line ++ i.Offset t base.Scratch x 32 ∷ [])) }
+    ensures { OnOk result (out.new ≡ out.old ++ (set_check (even_from t) x low.now high.now line
+        ++ i.Offset t base.Scratch x 32 ∷ [])) }
 {
     check_set(out, even_from(t), x, low, high, line)?;
     out.offset(t, Base::Scratch, x, 32)
 }
 
-/// The set at the beginning of the scratch block goes to a site.
+/// Stores the set at the beginning of the scratch block at a site.
 pub fn keep_set(out: &mut Code, site: Site, t: u32) -> Result<(), AllocError>
     requires { t ≤ 4294960000 }
     ensures { OnOk result (out.new ≡ out.old ++ kept_code (site_of site) t) }

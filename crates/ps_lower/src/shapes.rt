@@ -20,7 +20,7 @@ pub fn byte_count(ty: &Ty) -> u32
     ty.bytes()
 }
 
-/// Whether all values of a type lie in 0..255.
+/// Whether all values of a type are in 0..255.
 #[tactic(auto, unfolding(ps_tree::specs::TypeView::type_of))]
 pub fn fits_byte(ty: &Ty) -> bool
     ensures { result ≡ fits_byte (type_of ty.now) }
@@ -86,7 +86,7 @@ pub fn index_of(ty: &Ty) -> Ordinal
     }
 }
 
-/// The bytes before a component whose index is known and lies in its range.
+/// The bytes before a component whose index is known and in its range.
 fn steps_before(ty: &Ty, index: i32) -> Option<u32>
     requires width { component_bytes (shape_of (type_of ty.now)) ≤ 2147483647 }
     requires reach { steps_reach (steps_before (type_of ty.now) index) ≤ 2147483647 }
@@ -99,7 +99,7 @@ fn steps_before(ty: &Ty, index: i32) -> Option<u32>
     Some(index.abs_diff(range.low) * component_bytes(ty))
 }
 
-/// The same of an index that may not be known.
+/// The same for an index that may not be known.
 pub fn known_steps(ty: &Ty, index: &Expr) -> Option<u32>
     requires width { component_bytes (shape_of (type_of ty.now)) ≤ 2147483647 }
     requires reach { steps_reach (known_steps (type_of ty.now) (literal_of (expr_of index.now))) ≤ 2147483647 }

@@ -1,8 +1,8 @@
-// Where variables stand.
+// Where variables are.
 
 use tac_code::code::Base;
 
-/// So many bytes from a base.
+/// An offset in bytes from a base.
 #[derive(Clone, Copy)]
 pub struct Site {
     pub base: Base,

@@ -161,8 +161,10 @@ fn act_if(
     condition: &Expr,
     d: u32,
 ) -> Result<(), LowerRefusal>
-    requires { d + statement_weight (scope_of k.now) (tree.If (expr_of condition.now) (statement_of body.now)) d ≤ DEEPEST }
-    ensures { Adds result out.old out.new (statement_code (scope_of k.now) (tree.If (expr_of condition.now) (statement_of body.now)) d) }
+    requires { d + statement_weight (scope_of k.now)
+        (tree.If (expr_of condition.now) (statement_of body.now)) d ≤ DEEPEST }
+    ensures { Adds result out.old out.new (statement_code (scope_of k.now)
+        (tree.If (expr_of condition.now) (statement_of body.now)) d) }
 {
     front(out, k, condition, d, 0)?;
     let past = out.room()?;
@@ -177,7 +179,7 @@ fn act_if(
     Ok(())
 }
 
-/// A statement that is done where a condition holds, and the room for a jump behind it.
+/// A statement that is executed where a condition holds, and the room for a jump after it.
 #[cycle(statements)]
 fn then_part(
     out: &mut Code,
@@ -186,9 +188,12 @@ fn then_part(
     condition: &Expr,
     d: u32,
 ) -> Result<usize, LowerRefusal>
-    requires { d + statement_weight (scope_of k.now) (tree.If (expr_of condition.now) (statement_of body.now)) d ≤ DEEPEST }
-    ensures code { Adds result (out.old ++ then_code (scope_of k.now) (expr_of condition.now) (statement_of body.now) d) out.new (i.End ∷ []) }
-    ensures place { IfOk result (λ place. place ≡ length (out.old ++ then_code (scope_of k.now) (expr_of condition.now) (statement_of body.now) d)) }
+    requires { d + statement_weight (scope_of k.now)
+        (tree.If (expr_of condition.now) (statement_of body.now)) d ≤ DEEPEST }
+    ensures code { Adds result (out.old ++ then_code (scope_of k.now) (expr_of condition.now) (statement_of body.now) d)
+        out.new (i.End ∷ []) }
+    ensures place { IfOk result (λ place. place ≡ length
+        (out.old ++ then_code (scope_of k.now) (expr_of condition.now) (statement_of body.now) d)) }
 {
     front(out, k, condition, d, 0)?;
     let past = out.room()?;
@@ -212,8 +217,10 @@ fn act_while(
     condition: &Expr,
     d: u32,
 ) -> Result<(), LowerRefusal>
-    requires { d + statement_weight (scope_of k.now) (tree.While (expr_of condition.now) (statement_of body.now)) d ≤ DEEPEST }
-    ensures { Adds result out.old out.new (statement_code (scope_of k.now) (tree.While (expr_of condition.now) (statement_of body.now)) d) }
+    requires { d + statement_weight (scope_of k.now)
+        (tree.While (expr_of condition.now) (statement_of body.now)) d ≤ DEEPEST }
+    ensures { Adds result out.old out.new (statement_code (scope_of k.now)
+        (tree.While (expr_of condition.now) (statement_of body.now)) d) }
 {
     let to_test = out.room()?;
     let begin = out.place();
@@ -237,8 +244,10 @@ fn act_repeat(
     condition: &Expr,
     d: u32,
 ) -> Result<(), LowerRefusal>
-    requires { d + statement_weight (scope_of k.now) (tree.Repeat (statements_of body.now) (expr_of condition.now)) d ≤ DEEPEST }
-    ensures { Adds result out.old out.new (statement_code (scope_of k.now) (tree.Repeat (statements_of body.now) (expr_of condition.now)) d) }
+    requires { d + statement_weight (scope_of k.now)
+        (tree.Repeat (statements_of body.now) (expr_of condition.now)) d ≤ DEEPEST }
+    ensures { Adds result out.old out.new (statement_code (scope_of k.now)
+        (tree.Repeat (statements_of body.now) (expr_of condition.now)) d) }
 {
     let begin = out.place();
     statements(out, k, body, d)?;
@@ -262,8 +271,12 @@ fn act_for(
     to: &Expr,
     d: u32,
 ) -> Result<(), LowerRefusal>
-    requires { d + statement_weight (scope_of k.now) (tree.For control.variable control.low control.high (expr_of from.now) control.from_line control.direction (expr_of to.now) control.to_line (statement_of body.now)) d ≤ DEEPEST }
-    ensures { Adds result out.old out.new (statement_code (scope_of k.now) (tree.For control.variable control.low control.high (expr_of from.now) control.from_line control.direction (expr_of to.now) control.to_line (statement_of body.now)) d) }
+    requires { d + statement_weight (scope_of k.now)
+        (tree.For control.variable control.low control.high (expr_of from.now) control.from_line control.direction
+        (expr_of to.now) control.to_line (statement_of body.now)) d ≤ DEEPEST }
+    ensures { Adds result out.old out.new (statement_code (scope_of k.now)
+        (tree.For control.variable control.low control.high (expr_of from.now) control.from_line control.direction
+        (expr_of to.now) control.to_line (statement_of body.now)) d) }
 {
     let turns = turns_of(k, control.variable, to, statement_calls(body), d);
     let places = open_turns(out, k, control, from, to, turns)?;
@@ -274,7 +287,7 @@ fn act_for(
     Ok(())
 }
 
-/// An element of a `case` statement, and the room for the way out.
+/// An element of a `case` statement, and the room for the jump out.
 #[cycle(statements)]
 fn act_element(
     out: &mut Code,
@@ -283,8 +296,11 @@ fn act_element(
     d: u32,
 ) -> Result<usize, LowerRefusal>
     requires { d + statement_weight (scope_of k.now) (statement_of (out-CaseElement element.now).body) d ≤ DEEPEST }
-    ensures code { Adds result (out.old ++ element_code (scope_of k.now) (out-CaseElement element.now).constants.items (statement_of (out-CaseElement element.now).body) d) out.new (i.End ∷ []) }
-    ensures place { IfOk result (λ place. place ≡ length (out.old ++ element_code (scope_of k.now) (out-CaseElement element.now).constants.items (statement_of (out-CaseElement element.now).body) d)) }
+    ensures code { Adds result (out.old ++ element_code (scope_of k.now) (out-CaseElement element.now).constants.items
+        (statement_of (out-CaseElement element.now).body) d) out.new (i.End ∷ []) }
+    ensures place { IfOk result (λ place. place ≡ length
+        (out.old ++ element_code (scope_of k.now) (out-CaseElement element.now).constants.items
+        (statement_of (out-CaseElement element.now).body) d)) }
 {
     let last = tests(out, &element.constants, d)?;
     statement(out, k, &element.body, d)?;
@@ -293,7 +309,7 @@ fn act_element(
     Ok(end)
 }
 
-/// The elements of a `case` statement, and the rooms for the ways out of them.
+/// The elements of a `case` statement, and the rooms for the jumps out of them.
 #[cycle(statements)]
 fn act_elements(
     out: &mut Code,
@@ -303,7 +319,8 @@ fn act_elements(
 ) -> Result<Vec<usize>, LowerRefusal>
     requires { d + elements_weight (scope_of k.now) (elements_of elements.now) d ≤ DEEPEST }
     ensures code { Adds result out.old out.new (open_elements (scope_of k.now) (elements_of elements.now) d) }
-    ensures ends { IfOk result (λ ends. ends.items ≡ ends_from (scope_of k.now) (elements_of elements.now) d (length out.old)) }
+    ensures ends { IfOk result (λ ends. ends.items ≡ ends_from (scope_of k.now) (elements_of elements.now) d
+        (length out.old)) }
 {
     let mut ends = Vec::new(out.alloc());
     for element in elements {
@@ -322,8 +339,10 @@ fn act_case(
     line: u16,
     d: u32,
 ) -> Result<(), LowerRefusal>
-    requires { d + statement_weight (scope_of k.now) (tree.Case (expr_of index.now) (elements_of elements.now) line) d ≤ DEEPEST }
-    ensures { Adds result out.old out.new (statement_code (scope_of k.now) (tree.Case (expr_of index.now) (elements_of elements.now) line) d) }
+    requires { d + statement_weight (scope_of k.now)
+        (tree.Case (expr_of index.now) (elements_of elements.now) line) d ≤ DEEPEST }
+    ensures { Adds result out.old out.new (statement_code (scope_of k.now)
+        (tree.Case (expr_of index.now) (elements_of elements.now) line) d) }
 {
     value(out, k, index, d, 0)?;
     let ends = act_elements(out, k, elements, d)?;
@@ -341,8 +360,10 @@ fn act_with(
     places: &[Place],
     d: u32,
 ) -> Result<(), LowerRefusal>
-    requires { d + statement_weight (scope_of k.now) (tree.With (map place_of places.now) (statement_of body.now)) d ≤ DEEPEST }
-    ensures { Adds result out.old out.new (statement_code (scope_of k.now) (tree.With (map place_of places.now) (statement_of body.now)) d) }
+    requires { d + statement_weight (scope_of k.now)
+        (tree.With (map place_of places.now) (statement_of body.now)) d ≤ DEEPEST }
+    ensures { Adds result out.old out.new (statement_code (scope_of k.now)
+        (tree.With (map place_of places.now) (statement_of body.now)) d) }
 {
     let calls = with_calls(body, places);
     let opened = open_all(out, k, places, calls, d)?;

@@ -7,7 +7,7 @@ use ps_tree::types::Ty;
 pub enum Task<'a> {
     /// The first value of a variable of a type.
     FirstValue { ty: &'a Ty, offset: u32 },
-    /// Copies of the first bytes, `each` of them, behind them up to the whole.
+    /// Copies of the first `each` bytes, after them up to the whole.
     Copies { offset: u32, each: u32, whole: u32 },
     /// The fields of a record that are left, the first of them at the offset.
     FieldsLeft { types: &'a [Ty], offset: u32 },

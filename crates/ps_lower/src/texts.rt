@@ -26,7 +26,7 @@ pub fn text(out: &mut Code, characters: &Characters, d: u32) -> Result<(), Alloc
     out.text(d, Constant::shared(bytes))
 }
 
-/// The address of characters that no string of the text has.
+/// The address of characters that are in no string of the text.
 fn word_text(out: &mut Code, characters: &[u8], d: u32) -> Result<(), AllocError>
     ensures { OnOk result (out.new ≡ out.old ++ i.Text d (filled characters.now) ∷ []) }
 {
@@ -54,7 +54,7 @@ pub fn text_length(e: &Structure) -> u32
     }
 }
 
-/// The bytes of so many characters, filled up to whole words.
+/// The bytes of `length` characters, padded to whole words.
 fn filled_length(length: usize) -> u32
     requires { 4 * ((length + 3) / 4) ≤ 2147483647 }
     ensures { result ≡ 4 * ((length + 3) / 4) }
@@ -75,7 +75,7 @@ pub fn structure_bytes(e: &Structure) -> u32
     }
 }
 
-/// The address and the length of the string that tells a truth value.
+/// The address and the length of the string for a truth value.
 pub fn truth_text(out: &mut Code, truth: u32, to: u32, count: u32) -> Result<(), AllocError>
     ensures { (k : Scope) → OnOk result (out.new ≡ out.old ++ truth_text k truth to count) }
 {

@@ -34,8 +34,8 @@ pub struct Control {
     pub to_line: u16,
 }
 
-/// Where a loop keeps what it needs: the temporaries of its first value and of its limit, the limit as an operand, the offset of
-/// its control variable, a temporary for the steps, and the depth of its body.
+/// Where a loop keeps what it needs: the temporaries of its first value and of its limit, the limit as an operand, the
+/// offset of its control variable, a temporary for the steps, and the depth of its body.
 #[derive(Clone, Copy)]
 pub struct Turns {
     pub first: u32,
@@ -46,14 +46,14 @@ pub struct Turns {
     pub depth: u32,
 }
 
-/// The rooms of a loop: for the branch past its turns, and where the step begins.
+/// The places of a loop: the room for the branch past its turns, and where the step begins.
 #[derive(Clone, Copy)]
 pub struct Places {
     pub past: usize,
     pub begin: usize,
 }
 
-/// The relation of the first value to the limit where there is no turn.
+/// The relation of the first value to the limit that means there is no turn.
 pub fn past_relation(direction: Direction) -> Relation
     ensures { result ≡ past_relation direction }
 {
@@ -81,7 +81,15 @@ pub fn control_of(
     from_line: u16,
     to_line: u16,
 ) -> Control
-    ensures { result ≡ record { variable = variable; low = low.now; high = high.now; direction = direction; from_line = from_line; to_line = to_line } }
+    ensures { result ≡ record {
+      variable = variable;
+      low = low.now;
+      high = high.now;
+      direction = direction;
+      from_line =
+          from_line;
+      to_line = to_line;
+    } }
 {
     Control {
         variable,
@@ -93,7 +101,7 @@ pub fn control_of(
     }
 }
 
-/// Where a loop keeps what it needs, whose body calls or not.
+/// Where a loop keeps what it needs, by whether its body calls.
 pub fn turns_of(k: &Level, variable: u32, to: &Expr, calls: bool, d: u32) -> Turns
     requires { d ≤ DEEPEST }
     ensures value { result ≡ turns_of (scope_of k.now) variable (expr_of to.now) calls d }
@@ -126,7 +134,7 @@ fn bounds(out: &mut Code, k: &Level, from: &Expr, to: &Expr, turns: Turns) -> Re
     unless_known(out, k, to, turns.last, 0)
 }
 
-/// The tests of both bounds, where they are not known to pass them.
+/// The tests of both bounds, where they are not known to pass.
 fn checks(
     out: &mut Code,
     control: Control,
@@ -149,7 +157,8 @@ fn checks(
     operand_check(out, literal(to), turns.last, low, high, 4, control.to_line)
 }
 
-/// The variable's first value, the way past the step into the first turn, and the step, which begins at the place that is answered.
+/// The variable's first value, the jump past the step into the first turn, and the step; gives the place where it
+/// begins.
 fn first_turn(out: &mut Code, direction: Direction, turns: Turns) -> Result<usize, AllocError>
     ensures code { OnOk result (out.new ≡ out.old ++ first_turn_code direction turns) }
     ensures place { IfOk result (λ begin. begin ≡ length out.old + 2) }
@@ -168,7 +177,7 @@ fn first_turn(out: &mut Code, direction: Direction, turns: Turns) -> Result<usiz
     Ok(begin)
 }
 
-/// What stands before the body, with a room for the branch past all turns.
+/// What comes before the body, with a room for the branch past all turns.
 pub fn open_turns(
     out: &mut Code,
     k: &Level,
@@ -179,8 +188,10 @@ pub fn open_turns(
 ) -> Result<Places, AllocError>
     requires first { turns.first + expr_weight (scope_of k.now) (expr_of from.now) ≤ DEEPEST }
     requires last { turns.last + expr_weight (scope_of k.now) (expr_of to.now) ≤ DEEPEST }
-    ensures code { OnOk result (out.new ≡ (out.old ++ bounds_code (scope_of k.now) (expr_of from.now) (expr_of to.now) turns) ++ i.End ∷ opening_code control (expr_of from.now) (expr_of to.now) turns) }
-    ensures past { IfOk result (λ places. places.past ≡ length (out.old ++ bounds_code (scope_of k.now) (expr_of from.now) (expr_of to.now) turns)) }
+    ensures code { OnOk result (out.new ≡ (out.old ++ bounds_code (scope_of k.now) (expr_of from.now)
+        (expr_of to.now) turns) ++ i.End ∷ opening_code control (expr_of from.now) (expr_of to.now) turns) }
+    ensures past { IfOk result (λ places. places.past ≡ length
+        (out.old ++ bounds_code (scope_of k.now) (expr_of from.now) (expr_of to.now) turns)) }
     ensures begin { IfOk result (λ places. places.begin + 2 ≡ length out.new) }
 {
     bounds(out, k, from, to, turns)?;
@@ -192,7 +203,8 @@ pub fn open_turns(
 
 /// The end of a turn: back to the step at a place, unless the variable has its last value.
 pub fn end_turn(out: &mut Code, turns: Turns, begin: usize) -> Result<(), AllocError>
-    ensures { OnOk result (out.new ≡ out.old ++ (i.Load turns.step base.Frame turns.offset ∷ i.BranchBack NotEqual turns.step turns.limit ((length out.old + 1) - begin) ∷ [])) }
+    ensures { OnOk result (out.new ≡ out.old ++ (i.Load turns.step base.Frame turns.offset
+        ∷ i.BranchBack NotEqual turns.step turns.limit ((length out.old + 1) - begin) ∷ [])) }
 {
     out.load(turns.step, Base::Frame, turns.offset)?;
     out.branch_back(Relation::NotEqual, turns.step, turns.limit, begin)

@@ -1,17 +1,25 @@
-// The code of expressions and of variables, whose indices are expressions. Code at depth d leaves its word in temporary d
-// and writes no temporary below.
+// The code of expressions and of variables, whose indices are expressions. Code at depth d leaves its word in temporary
+// d and writes no temporary below it.
 
 ghost use Rattle.std.specs.Prelude.{◌≡◌, ◌++◌, ◌+◌, ◌≤◌, suc, OnOk, IfOk};
-ghost use Rattle.ps_lower_bounds.specs.Weights.{steps_reach, selectors_reach, place_weight, selectors_weight, expr_weight, steps_weight, operands_weight, set_weight, set_steps_weight, member_weight, members_weight, structure_weight, argument_weight, arguments_weight};
+ghost use Rattle.ps_lower_bounds.specs.Weights.{steps_reach, selectors_reach, place_weight, selectors_weight};
+ghost use Rattle.ps_lower_bounds.specs.Weights.{expr_weight, steps_weight, operands_weight, set_weight};
+ghost use Rattle.ps_lower_bounds.specs.Weights.{set_steps_weight, member_weight, members_weight, structure_weight};
+ghost use Rattle.ps_lower_bounds.specs.Weights.{argument_weight, arguments_weight};
 ghost use Rattle.ps_lower_code.specs.Scopes.{even_from, unless_known};
 ghost use Rattle.ps_lower_layout.specs.Shapes.{shape_of, component_bytes};
-ghost use Rattle.ps_lower_code.specs.Values.{literal_of, negated, known_steps, minus_code, front_code, steps_code, operands_code, place_code, place_site, selectors_code, selectors_site, structure_code, argument_code, arguments_code, asked_code, adding_code, set_code, set_steps_code, members_code, member_code};
+ghost use Rattle.ps_lower_code.specs.Values.{literal_of, negated, known_steps, minus_code, front_code, steps_code};
+ghost use Rattle.ps_lower_code.specs.Values.{operands_code, place_code, place_site, selectors_code, selectors_site};
+ghost use Rattle.ps_lower_code.specs.Values.{structure_code, argument_code, arguments_code, asked_code, adding_code};
+ghost use Rattle.ps_lower_code.specs.Values.{set_code, set_steps_code, members_code, member_code};
 ghost use Rattle.ps_lower_code.specs.Statements.{expr_code};
 ghost use Rattle.ps_lower.specs.Levels.{scope_of, site_of};
 ghost use Rattle.ps_lower.specs.Sets.{step_code};
 ghost use Rattle.ps_lower.specs.Sites.{selector_code, selector_site};
 ghost use Rattle.ps_tree.specs.Tree as tree;
-ghost use Rattle.ps_tree.specs.View.{expr_of, arithmetic_of, operands_of, place_of, selector_of, selectors_of, structure_of, argument_of, arguments_of, set_of, set_steps_of, members_of, member_of, type_of};
+ghost use Rattle.ps_tree.specs.View.{expr_of, arithmetic_of, operands_of, place_of, selector_of, selectors_of};
+ghost use Rattle.ps_tree.specs.View.{structure_of, argument_of, arguments_of, set_of, set_steps_of, members_of};
+ghost use Rattle.ps_tree.specs.View.{member_of, type_of};
 
 use crate::calling::{asked_calls, expr_calls, operands_call, steps_call, structure_calls};
 use crate::calls::{
@@ -150,7 +158,8 @@ pub fn value(out: &mut Code, k: &Level, e: &Expr, d: u32, x: u32) -> Result<(), 
 #[cycle(values)]
 pub fn unless_known(out: &mut Code, k: &Level, e: &Expr, d: u32, x: u32) -> Result<(), AllocError>
     requires { d + x + expr_weight (scope_of k.now) (expr_of e.now) ≤ DEEPEST }
-    ensures { OnOk result (out.new ≡ out.old ++ unless_known (literal_of (expr_of e.now)) (expr_code (scope_of k.now) (expr_of e.now) d x)) }
+    ensures { OnOk result (out.new ≡ out.old ++ unless_known (literal_of (expr_of e.now))
+        (expr_code (scope_of k.now) (expr_of e.now) d x)) }
 {
     match literal(e) {
         Some(_) => Ok(()),
@@ -168,7 +177,8 @@ fn minus(
     x: u32,
 ) -> Result<(), AllocError>
     requires { d + 8 + x + expr_weight (scope_of k.now) (expr_of operand.now) ≤ DEEPEST }
-    ensures { OnOk result (out.new ≡ out.old ++ minus_code (negated (expr_of operand.now)) d (even_from (suc d)) line (expr_code (scope_of k.now) (expr_of operand.now) (even_from (suc d)) x)) }
+    ensures { OnOk result (out.new ≡ out.old ++ minus_code (negated (expr_of operand.now)) d (even_from (suc d)) line
+        (expr_code (scope_of k.now) (expr_of operand.now) (even_from (suc d)) x)) }
 {
     match negated(operand) {
         Some(number) => out.literal(d, number),
@@ -181,7 +191,7 @@ fn minus(
     }
 }
 
-/// The steps of a chain, whose number so far stands in a.
+/// The steps of a chain, with the number so far in a.
 #[cycle(values)]
 fn go_on(
     out: &mut Code,
@@ -202,7 +212,7 @@ fn go_on(
     Ok(())
 }
 
-/// The operands behind the first, whose truth so far stands in a.
+/// The operands after the first, with the truth so far in a.
 #[cycle(values)]
 fn go_on_with(
     out: &mut Code,
@@ -224,7 +234,7 @@ fn go_on_with(
     Ok(())
 }
 
-/// A variable: the code that reaches it, and where it stands then.
+/// A variable: the code that reaches it, and where it is then.
 #[cycle(values)]
 pub fn place(out: &mut Code, k: &Level, place: &Place, d: u32, x: u32) -> Result<Site, AllocError>
     requires { d + x + place_weight (scope_of k.now) (place_of place.now) ≤ DEEPEST }
@@ -236,7 +246,7 @@ pub fn place(out: &mut Code, k: &Level, place: &Place, d: u32, x: u32) -> Result
     along(out, k, &place.selectors, site, t, x)
 }
 
-/// From a site to the next, selector by selector.
+/// From one site to the next, selector by selector.
 #[cycle(values)]
 fn along(
     out: &mut Code,
@@ -248,7 +258,8 @@ fn along(
 ) -> Result<Site, AllocError>
     requires depth { t + x + selectors_weight (scope_of k.now) (selectors_of selectors.now) ≤ DEEPEST }
     requires reach { site.offset + selectors_reach (selectors_of selectors.now) ≤ DEEPEST }
-    ensures code { OnOk result (out.new ≡ out.old ++ selectors_code (scope_of k.now) (selectors_of selectors.now) (site_of site) t x) }
+    ensures code { OnOk result (out.new ≡ out.old ++ selectors_code (scope_of k.now) (selectors_of selectors.now)
+        (site_of site) t x) }
     ensures site { IfOk result (λ s. site_of s ≡ selectors_site (selectors_of selectors.now) (site_of site) t) }
 {
     let mut site = site;
@@ -268,9 +279,12 @@ fn select(
     t: u32,
     x: u32,
 ) -> Result<Site, AllocError>
-    requires depth { t + x + selectors_weight (scope_of k.now) (tree.selector_before (selector_of selector.now) tree.no_selector) ≤ DEEPEST }
-    requires reach { site.offset + selectors_reach (tree.selector_before (selector_of selector.now) tree.no_selector) ≤ DEEPEST }
-    ensures code { OnOk result (out.new ≡ out.old ++ selector_code (scope_of k.now) (selector_of selector.now) (site_of site) t x) }
+    requires depth { t + x + selectors_weight (scope_of k.now)
+        (tree.selector_before (selector_of selector.now) tree.no_selector) ≤ DEEPEST }
+    requires reach { site.offset + selectors_reach
+        (tree.selector_before (selector_of selector.now) tree.no_selector) ≤ DEEPEST }
+    ensures code { OnOk result (out.new ≡ out.old ++ selector_code (scope_of k.now) (selector_of selector.now)
+        (site_of site) t x) }
     ensures site { IfOk result (λ s. site_of s ≡ selector_site (selector_of selector.now) (site_of site) t) }
 {
     match selector {
@@ -303,9 +317,12 @@ fn element(
 ) -> Result<Site, AllocError>
     requires depth { t + 8 + x + expr_weight (scope_of k.now) (expr_of index.now) ≤ DEEPEST }
     requires width { component_bytes (shape_of (type_of ty.now)) ≤ DEEPEST }
-    requires reach { site.offset + steps_reach (known_steps (type_of ty.now) (literal_of (expr_of index.now))) ≤ DEEPEST }
-    ensures code { OnOk result (out.new ≡ out.old ++ selector_code (scope_of k.now) (tree.Element (type_of ty.now) (expr_of index.now) line) (site_of site) t x) }
-    ensures site { IfOk result (λ s. site_of s ≡ selector_site (tree.Element (type_of ty.now) (expr_of index.now) line) (site_of site) t) }
+    requires reach { site.offset + steps_reach
+        (known_steps (type_of ty.now) (literal_of (expr_of index.now))) ≤ DEEPEST }
+    ensures code { OnOk result (out.new ≡ out.old ++ selector_code (scope_of k.now)
+        (tree.Element (type_of ty.now) (expr_of index.now) line) (site_of site) t x) }
+    ensures site { IfOk result (λ s. site_of s ≡ selector_site (tree.Element (type_of ty.now) (expr_of index.now) line)
+        (site_of site) t) }
 {
     match known_steps(ty, index) {
         Some(steps) => Ok(behind(site, steps)),
@@ -336,7 +353,7 @@ fn asked(out: &mut Code, k: &Level, e: &SetExpr, t: u32, x: u32) -> Result<(), A
     }
 }
 
-/// A set, which stands in the scratch block from x on.
+/// A set, in the scratch block from x on.
 #[cycle(values)]
 #[tactic(auto, using(ps_tree::proofs::TreeLemmas::set_of_Load, ps_tree::proofs::TreeLemmas::set_of_Constructor), unfolding(ps_tree::specs::View::set_of))]
 pub fn set(out: &mut Code, k: &Level, e: &SetExpr, d: u32, x: u32) -> Result<(), AllocError>
@@ -359,7 +376,7 @@ pub fn set(out: &mut Code, k: &Level, e: &SetExpr, d: u32, x: u32) -> Result<(),
     }
 }
 
-/// The operators behind the first set, and their operands. The set so far stands from x on.
+/// The operators after the first set, and their operands. The set so far is from x on.
 #[cycle(values)]
 fn combine(out: &mut Code, k: &Level, steps: &[SetStep], d: u32, x: u32) -> Result<(), AllocError>
     requires { d + x + set_steps_weight (scope_of k.now) (set_steps_of steps.now) ≤ DEEPEST }
@@ -371,7 +388,7 @@ fn combine(out: &mut Code, k: &Level, steps: &[SetStep], d: u32, x: u32) -> Resu
     Ok(())
 }
 
-/// A set joins the one from x on: some one member after another, others from where they stand.
+/// Joins a set to the one from x on: a constructor member by member, others from where they are.
 #[cycle(values)]
 fn join(
     out: &mut Code,
@@ -394,7 +411,7 @@ fn join(
     combined(out, k, operator, t, x)
 }
 
-/// The members of a constructor, if it is one, go into the set from x on.
+/// Adds the members of a constructor, if it is one, to the set from x on.
 #[cycle(values)]
 #[tactic(auto, using(ps_tree::proofs::TreeLemmas::set_of_Load, ps_tree::proofs::TreeLemmas::set_of_Constructor, ps_tree::proofs::TreeLemmas::set_of_Combine), unfolding(ps_tree::specs::View::set_of))]
 fn adding(out: &mut Code, k: &Level, e: &SetExpr, d: u32, x: u32) -> Result<(), AllocError>
@@ -407,7 +424,7 @@ fn adding(out: &mut Code, k: &Level, e: &SetExpr, d: u32, x: u32) -> Result<(), 
     }
 }
 
-/// The members of a constructor go into the set from x on.
+/// Adds the members of a constructor to the set from x on.
 #[cycle(values)]
 fn members(out: &mut Code, k: &Level, list: &[Member], d: u32, x: u32) -> Result<(), AllocError>
     requires { d + x + members_weight (scope_of k.now) (members_of list.now) ≤ DEEPEST }
@@ -419,7 +436,7 @@ fn members(out: &mut Code, k: &Level, list: &[Member], d: u32, x: u32) -> Result
     Ok(())
 }
 
-/// A member, or those from one to another, whose values are worked out behind the set.
+/// A member, or those from one to another, whose values are evaluated after the set.
 #[cycle(values)]
 #[tactic(auto, unfolding(ps_tree::specs::View::member_of))]
 fn member(out: &mut Code, k: &Level, one: &Member, d: u32, x: u32) -> Result<(), AllocError>
@@ -439,7 +456,7 @@ fn member(out: &mut Code, k: &Level, one: &Member, d: u32, x: u32) -> Result<(),
     }
 }
 
-/// A member: one that is known, or one that is worked out behind the set.
+/// A member: a known one, or one that is evaluated after the set.
 #[cycle(values)]
 fn one_member(
     out: &mut Code,
@@ -482,7 +499,7 @@ pub fn structure(out: &mut Code, k: &Level, e: &Structure, d: u32, x: u32) -> Re
     }
 }
 
-/// An actual parameter, whose words are to stand from t on.
+/// An actual parameter, whose words are placed from t on.
 #[cycle(values)]
 #[tactic(auto, using(ps_tree::proofs::TreeLemmas::argument_of_Variable), unfolding(ps_tree::specs::View::argument_of))]
 fn argument(

@@ -53,7 +53,8 @@ fn write_number(
     d: u32,
 ) -> Result<(), AllocError>
     requires { d + write_weight (scope_of k.now) (tree.WriteInteger (expr_of e.now) (width_of given.now)) ≤ DEEPEST }
-    ensures { OnOk result (out.new ≡ out.old ++ write_code (scope_of k.now) (tree.WriteInteger (expr_of e.now) (width_of given.now)) d) }
+    ensures { OnOk result (out.new ≡ out.old ++ write_code (scope_of k.now)
+        (tree.WriteInteger (expr_of e.now) (width_of given.now)) d) }
 {
     let t = held(width_calls(given), d);
     let w = even_above(t);
@@ -62,7 +63,7 @@ fn write_number(
     help(out, k, WRITE_NUMBER, &[t, w], even_from(d))
 }
 
-/// The same of a character.
+/// The same for a character.
 fn write_character(
     out: &mut Code,
     k: &Level,
@@ -71,7 +72,8 @@ fn write_character(
     d: u32,
 ) -> Result<(), AllocError>
     requires { d + write_weight (scope_of k.now) (tree.WriteChar (expr_of e.now) (width_of given.now)) ≤ DEEPEST }
-    ensures { OnOk result (out.new ≡ out.old ++ write_code (scope_of k.now) (tree.WriteChar (expr_of e.now) (width_of given.now)) d) }
+    ensures { OnOk result (out.new ≡ out.old ++ write_code (scope_of k.now)
+        (tree.WriteChar (expr_of e.now) (width_of given.now)) d) }
 {
     let t = held(width_calls(given), d);
     let w = even_above(t);
@@ -83,7 +85,8 @@ fn write_character(
 /// A truth value and its width, the string of that value, and the call that writes it.
 fn write_truth(out: &mut Code, k: &Level, e: &Expr, given: &Width, d: u32) -> Result<(), AllocError>
     requires { d + write_weight (scope_of k.now) (tree.WriteBoolean (expr_of e.now) (width_of given.now)) ≤ DEEPEST }
-    ensures { OnOk result (out.new ≡ out.old ++ write_code (scope_of k.now) (tree.WriteBoolean (expr_of e.now) (width_of given.now)) d) }
+    ensures { OnOk result (out.new ≡ out.old ++ write_code (scope_of k.now)
+        (tree.WriteBoolean (expr_of e.now) (width_of given.now)) d) }
 {
     let t = held(width_calls(given), d);
     let w = even_above(t);
@@ -104,7 +107,8 @@ fn write_string(
     d: u32,
 ) -> Result<(), AllocError>
     requires { d + write_weight (scope_of k.now) (tree.WriteText (structure_of e.now) (width_of given.now)) ≤ DEEPEST }
-    ensures { OnOk result (out.new ≡ out.old ++ write_code (scope_of k.now) (tree.WriteText (structure_of e.now) (width_of given.now)) d) }
+    ensures { OnOk result (out.new ≡ out.old ++ write_code (scope_of k.now)
+        (tree.WriteText (structure_of e.now) (width_of given.now)) d) }
 {
     let t = held(width_calls(given), d);
     let w = even_above(t);
@@ -153,7 +157,8 @@ pub fn writeln(
     d: u32,
 ) -> Result<(), AllocError>
     requires { d + writes_weight (scope_of k.now) (map write_of parameters.now) ≤ DEEPEST }
-    ensures { OnOk result (out.new ≡ out.old ++ (writes_code (scope_of k.now) (map write_of parameters.now) d ++ i.Literal (even_from d) (pos 10) ∷ i.Put (even_from d) ∷ [])) }
+    ensures { OnOk result (out.new ≡ out.old ++ (writes_code (scope_of k.now) (map write_of parameters.now) d
+        ++ i.Literal (even_from d) (pos 10) ∷ i.Put (even_from d) ∷ [])) }
 {
     writes(out, k, parameters, d)?;
     out.literal(even_from(d), 10)?;

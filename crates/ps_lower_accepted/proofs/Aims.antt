@@ -18,7 +18,8 @@ use Rattle.ps_lower_layout.specs.Shapes.{Shape}
 use Rattle.ps_lower_code.specs.Scopes.{Scope}
 use Rattle.ps_lower_accepted.proofs.Tidy.{StatementsSound}
 use Rattle.ps_check_judgement.specs.Judged.{Yes}
-use Rattle.ps_check_names.specs.Regions.{Context, Region, Meaning, ConstantMeaning, TextMeaning, TypeMeaning, VariableMeaning}
+use Rattle.ps_check_names.specs.Regions.{Context, Region, Meaning, ConstantMeaning, TextMeaning, TypeMeaning}
+use Rattle.ps_check_names.specs.Regions.{VariableMeaning}
 use Rattle.ps_check_declarations.specs.Denoters.{Frame, Declared}
 use Rattle.ps_check_declarations.specs.Declarations.{declarations}
 use Rattle.ps_check_expressions.specs.Expressions.{operand, variable_operand}
@@ -38,7 +39,8 @@ ExpressionsTell =
 abbrev pub VariablesTell : Type 0
 VariablesTell =
     (c : Context) (Γ : List Region) (D : Table) (k : Scope) (os : List Shape) → Here c Γ D k os
-    → (n : ℕ) (x : syntax.Variable) (ts r : Tokens) → IsVariable (expr_within n) x ts r → OperandTold D k os (variable_operand c Γ x)
+    → (n : ℕ) (x : syntax.Variable) (ts r : Tokens) → IsVariable (expr_within n) x ts r → OperandTold D k os
+    (variable_operand c Γ x)
 
 -- ---- statements
 
@@ -59,7 +61,7 @@ pub record DeclaredKnown (D : Table) (d : Declared) : Type 0 where
   pub domains : Each (TypeKnown D (pointers d)) d.domains
   pub variables : Each (TypeKnown D (pointers d)) d.variables
 
--- what a block's declarations define: a variable's entry stands behind the first ones
+-- what a block's declarations define: a variable's entry is after the first ones
 abbrev pub IsOwn : (first : ℕ) → List DataType → Meaning → Type 0
 IsOwn first variables (ConstantMeaning o n) = Unit {0}
 IsOwn first variables (TextMeaning w) = Unit {0}
@@ -67,7 +69,7 @@ IsOwn first variables (TypeMeaning type) = Unit {0}
 IsOwn first variables (VariableMeaning entry type) = (i : ℕ) × (entry ≡ first + i) × (slice_get variables i ≡ Some type)
 IsOwn first variables _ = ⊥
 
--- What is known behind the declarations of a block, before these tokens.
+-- What is known after the declarations of a block, before these tokens.
 pub record Declares (first : ℕ) (D : Table) (low high : ℕ) (r : Tokens) (d e : Declared) : Type 0 where
   pub table : Table
   pub next : ℕ
@@ -77,7 +79,7 @@ pub record Declares (first : ℕ) (D : Table) (low high : ℕ) (r : Tokens) (d e
   pub ends : EndsBefore next table
   pub declared : DeclaredKnown table e
   pub settled : e.pending ≡ []
-  -- more domain types behind those that were there
+  -- more domain types after those that were there
   pub more : List DataType
   pub domains : e.domains ≡ d.domains ++ more
   -- and more meanings
@@ -87,8 +89,10 @@ pub record Declares (first : ℕ) (D : Table) (low high : ℕ) (r : Tokens) (d e
 
 abbrev pub DeclarationsTell : Type 0
 DeclarationsTell =
-    (f : Frame) (first : ℕ) (D : Table) (low high : ℕ) (d e : Declared) (n : ℕ) (cs : List ConstantDefinition) (types : List TypeDefinition) (vs : List Variables) (ts a b r : Tokens)
-    → IsPart k.Const IsConstantDefinition cs ts a → IsPart k.Type (IsTypeDefinition (type_within n)) types a b → IsPart k.Var (IsVariables (type_within n)) vs b r
+    (f : Frame) (first : ℕ) (D : Table) (low high : ℕ) (d e : Declared) (n : ℕ) (cs : List ConstantDefinition)
+    (types : List TypeDefinition) (vs : List Variables) (ts a b r : Tokens)
+    → IsPart k.Const IsConstantDefinition cs ts a → IsPart k.Type (IsTypeDefinition (type_within n)) types a b
+    → IsPart k.Var (IsVariables (type_within n)) vs b r
     → Each (λ x. x < 256) f.text → length f.text ≤ 1048576
     → AreOrdered low high ts → EndsBefore low D
     → RegionsKnown D (length d.domains) f.outer → DeclaredKnown D d → d.pending ≡ [] → d.variables ≡ []

@@ -1,8 +1,10 @@
 -- Variables of known types have first values.
-use Rattle.std.proofs.Common.{◌≡◌, ℕ, Bool, true, false, not, ◌&&◌, ◌||◌, if◌then◌else◌, ℤ, pos, negsuc, int_le, IsTrue, is_none, refl, arith, leb-true, le-leb}
+use Rattle.std.proofs.Common.{◌≡◌, ℕ, Bool, true, false, not, ◌&&◌, ◌||◌, if◌then◌else◌, ℤ, pos, negsuc, int_le}
+use Rattle.std.proofs.Common.{IsTrue, is_none, refl, arith, leb-true, le-leb}
 use Rattle.ps_tree.specs.declared.types.Host.TheVariants.{Integer}
 use Rattle.ps_tree.specs.declared.types.Ordinal.{Ordinal}
-use Rattle.ps_tree.specs.Types.{DataType, OrdinalType, PointerType, NilType, SetType, EmptySetType, TextType, ArrayType, RecordType, field_list, DataTypes, no_type, type_before, is_same_host}
+use Rattle.ps_tree.specs.Types.{DataType, OrdinalType, PointerType, NilType, SetType, EmptySetType, TextType}
+use Rattle.ps_tree.specs.Types.{ArrayType, RecordType, field_list, DataTypes, no_type, type_before, is_same_host}
 use Rattle.ps_tree.specs.Sizes.{fits_byte, value_count}
 use Rattle.ps_meaning.specs.Values.{first_ordinal}
 use Rattle.tac_code.specs.Numbers.{is_integer}
@@ -12,27 +14,34 @@ use Rattle.ps_lower_accepted.proofs.Lists.{left, right, both, never}
 use Rattle.ps_lower_accepted.proofs.Tables.{Table, OrdinalKnown, TypeKnown, TypesKnown}
 
 pub rises_through : (a b c : ℤ) → int_le a b ≡ true → int_le b c ≡ true → int_le a c ≡ true
-rises_through (pos a) (pos b) (pos c) e f = le-leb a c (let l = leb-true a b e in let m = leb-true b c f in omega (arith, l, m))
+rises_through (pos a) (pos b) (pos c) e f = le-leb a c
+    (let l = leb-true a b e in let m = leb-true b c f in omega (arith, l, m))
 rises_through (pos a) (pos b) (negsuc c) e f = never f
 rises_through (pos a) (negsuc b) c e f = never e
 rises_through (negsuc a) (pos b) (pos c) e f = refl
 rises_through (negsuc a) (pos b) (negsuc c) e f = never f
 rises_through (negsuc a) (negsuc b) (pos c) e f = refl
-rises_through (negsuc a) (negsuc b) (negsuc c) e f = le-leb c a (let l = leb-true b a e in let m = leb-true c b f in omega (arith, l, m))
+rises_through (negsuc a) (negsuc b) (negsuc c) e f = le-leb c a
+    (let l = leb-true b a e in let m = leb-true c b f in omega (arith, l, m))
 
 -- the first value of an ordinal type: an integer, and a byte where all its values are
 record FirstKnown (o : Ordinal) : Type 0 where
   number : IsTrue (is_integer (first_ordinal o))
-  byte : fits_byte (OrdinalType o) ≡ true → (int_le (pos 0) (first_ordinal o) && int_le (first_ordinal o) (pos 255)) ≡ true
+  byte : fits_byte (OrdinalType o) ≡ true → (int_le (pos 0) (first_ordinal o) && int_le (first_ordinal o) (pos 255))
+      ≡ true
 
 first_known : (D : Table) (o : Ordinal) → OrdinalKnown D o → FirstKnown o
-first_known D o k = record { number = whole (is_same_host o.host Integer && is_none o.subrange); byte = λ e. small (is_same_host o.host Integer && is_none o.subrange) e }
+first_known D o k = record {
+  number = whole (is_same_host o.host Integer && is_none o.subrange);
+  byte = λ e. small (is_same_host o.host Integer && is_none o.subrange) e;
+}
   where
     whole : (b : Bool) → IsTrue (is_integer (if b then pos 0 else o.low))
     whole true = refl
     whole false = k.low
 
-    small : (b : Bool) → fits_byte (OrdinalType o) ≡ true → (int_le (pos 0) (if b then pos 0 else o.low) && int_le (if b then pos 0 else o.low) (pos 255)) ≡ true
+    small : (b : Bool) → fits_byte (OrdinalType o) ≡ true
+        → (int_le (pos 0) (if b then pos 0 else o.low) && int_le (if b then pos 0 else o.low) (pos 255)) ≡ true
     small true e = refl
     small false e =
         let a = int_le (pos 0) o.low in
@@ -45,12 +54,14 @@ or_not false c h = refl
 
 mutual
   pub first_fits : (D : Table) (b : ℕ) (type : DataType) → TypeKnown D b type → FirstFits (shape_of type)
-  first_fits D b (OrdinalType o) k = let f = first_known D o k in (f.number, or_not (fits_byte (OrdinalType o)) _ (λ e. f.byte e))
+  first_fits D b (OrdinalType o) k = let f = first_known D o k
+      in (f.number, or_not (fits_byte (OrdinalType o)) _ (λ e. f.byte e))
   first_fits D b (PointerType n) k = tt
   first_fits D b (SetType d p o) k = tt
   first_fits D b (ArrayType at packed i c) k = go (first_fits D b c k.2) (packed && fits_byte c) refl
     where
-      byte_there : (c : DataType) → TypeKnown D b c → fits_byte c ≡ true → (int_le (pos 0) (first_of c) && int_le (first_of c) (pos 255)) ≡ true
+      byte_there : (c : DataType) → TypeKnown D b c → fits_byte c ≡ true
+          → (int_le (pos 0) (first_of c) && int_le (first_of c) (pos 255)) ≡ true
       byte_there (OrdinalType o) h e = let f = first_known D o h in f.byte e
       byte_there (PointerType n) h e = never e
       byte_there NilType h e = never e
@@ -60,7 +71,8 @@ mutual
       byte_there (ArrayType m q j t) h e = never e
       byte_there (RecordType m q fs) h e = never e
 
-      go : FirstFits (shape_of c) → (t : Bool) → (packed && fits_byte c) ≡ t → FirstFits (if t then ByteShape (value_count i) (first_of c) else ArrayShape (value_count i) (shape_of c))
+      go : FirstFits (shape_of c) → (t : Bool) → (packed && fits_byte c) ≡ t → FirstFits
+          (if t then ByteShape (value_count i) (first_of c) else ArrayShape (value_count i) (shape_of c))
       go inner true e = byte_there c k.2 (right packed (fits_byte c) e)
       go inner false e = inner
   first_fits D b (RecordType at packed (field_list names types)) k = fields_fit D b types k.1

@@ -1,5 +1,6 @@
 -- What of the whole program is gathered while its blocks are read, and what the program has of it in the end.
-use Rattle.std.proofs.Common.{◌≡◌, ℕ, zero, suc, ◌<◌, ◌≤◌, List, [], ◌∷◌, ◌++◌, length, get_or, Option, Some, None, slice_get, slice_set, refl, sym, ap, ◌∙◌, arith, append_assoc, length-append}
+use Rattle.std.proofs.Common.{◌≡◌, ℕ, zero, suc, ◌<◌, ◌≤◌, List, [], ◌∷◌, ◌++◌, length, get_or, Option, Some, None}
+use Rattle.std.proofs.Common.{slice_get, slice_set, refl, sym, ap, ◌∙◌, arith, append_assoc, length-append}
 use Rattle.ps_tree.specs.Types.{DataType, OrdinalType, PointerType}
 use Rattle.ps_tree.specs.Tree as Tree
 use Rattle.ps_tree.specs.Tree.{Program, routine_at, no_routine}
@@ -16,12 +17,14 @@ use Rattle.ps_lower_accepted.proofs.Firsts.{first_fits}
 
 -- ---- lists
 
-pub set_same : {A : Type 0} (xs : List A) (i : ℕ) (x y : A) → slice_get xs i ≡ Some x → slice_get (slice_set xs i y) i ≡ Some y
+pub set_same : {A : Type 0} (xs : List A) (i : ℕ) (x y : A) → slice_get xs i ≡ Some x → slice_get (slice_set xs i y) i
+    ≡ Some y
 set_same [] i x y e = absurd (none_some e)
 set_same (z ∷ xs) zero x y e = refl
 set_same (z ∷ xs) (suc i) x y e = set_same xs i x y e
 
-pub set_other : {A : Type 0} (xs : List A) (i j : ℕ) (y : A) → (i ≡ j → ⊥) → slice_get (slice_set xs j y) i ≡ slice_get xs i
+pub set_other : {A : Type 0} (xs : List A) (i j : ℕ) (y : A) → (i ≡ j → ⊥) → slice_get (slice_set xs j y) i
+    ≡ slice_get xs i
 set_other [] i j y e = refl
 set_other (z ∷ xs) zero zero y e = absurd (e refl)
 set_other (z ∷ xs) zero (suc j) y e = refl
@@ -44,7 +47,8 @@ get_first (x ∷ xs) ys zero l = refl
 get_first (x ∷ xs) ys (suc i) l = get_first xs ys i (omega (arith, l))
 
 -- where there was nothing, there is the last item
-pub get_last : {A : Type 0} (xs : List A) (y m : A) (i : ℕ) → slice_get xs i ≡ None → slice_get (xs ++ y ∷ []) i ≡ Some m → (i ≡ length xs) × (y ≡ m)
+pub get_last : {A : Type 0} (xs : List A) (y m : A) (i : ℕ) → slice_get xs i ≡ None → slice_get (xs ++ y ∷ []) i
+    ≡ Some m → (i ≡ length xs) × (y ≡ m)
 get_last [] y m zero e f = (refl, inside y m f)
 get_last [] y m (suc i) e f = absurd (none_some f)
 get_last (x ∷ xs) y m zero e f = absurd (none_some (sym e))
@@ -54,7 +58,8 @@ pub get_new : {A : Type 0} (xs : List A) (y : A) → slice_get (xs ++ y ∷ []) 
 get_new [] y = refl
 get_new (x ∷ xs) y = get_new xs y
 
-pub or_there : (xs : List Tree.Routine) (i : ℕ) (x : Tree.Routine) → slice_get xs i ≡ Some x → get_or xs i no_routine ≡ x
+pub or_there : (xs : List Tree.Routine) (i : ℕ) (x : Tree.Routine) → slice_get xs i ≡ Some x → get_or xs i no_routine
+    ≡ x
 or_there [] i x e = absurd (none_some e)
 or_there (y ∷ xs) zero x e = inside y x e
 or_there (y ∷ xs) (suc i) x e = or_there xs i x e
@@ -92,7 +97,11 @@ pub record Grows (g g' : Gathered) : Type 0 where
   pub made : (i : ℕ) (x : Tree.Routine) → IsMade g i x → IsMade g' i x
 
 pub grows_both : (g h k : Gathered) → Grows g h → Grows h k → Grows g k
-grows_both g h k a b = record { more = a.more ++ b.more; domains = b.domains ∙ ap (λ l. l ++ b.more) a.domains ∙ append_assoc g.domains a.more b.more; made = λ i x m. b.made i x (a.made i x m) }
+grows_both g h k a b = record {
+  more = a.more ++ b.more;
+  domains = b.domains ∙ ap (λ l. l ++ b.more) a.domains ∙ append_assoc g.domains a.more b.more;
+  made = λ i x m. b.made i x (a.made i x m);
+}
 
 pub more_domains : (g g' : Gathered) → Grows g g' → length g.domains ≤ length g'.domains
 more_domains g g' a = let l = length-append g.domains a.more in let e = ap length a.domains in omega (arith, l, e)
@@ -104,7 +113,8 @@ pub record Final (P : Program) (F D : Table) (g : Gathered) : Type 0 where
   pub domains : P.domains ≡ g.domains ++ more
   pub made : (i : ℕ) (x : Tree.Routine) → IsMade g i x → slice_get P.routines i ≡ Some x
 
-pub final_before : (P : Program) (F D E : Table) (g h : Gathered) → Extends D E → Grows g h → Final P F E h → Final P F D g
+pub final_before : (P : Program) (F D E : Table) (g h : Gathered) → Extends D E → Grows g h → Final P F E h
+    → Final P F D g
 final_before P F D E g h x a f = record {
   extends = extends_both D E F x f.extends;
   more = a.more ++ f.more;
@@ -125,7 +135,8 @@ pub record IsRoutineOf (chain : List ℕ) (h : Heading) (x : Tree.Routine) : Typ
   pub formals : x.formals ≡ formals_of h.sections
   pub result : x.result ≡ h.result
 
-pub is_declared : (P : Program) (chain : List ℕ) (h : Heading) (x : Tree.Routine) → IsRoutineOf chain h x → slice_get P.routines h.number ≡ Some x → IsDeclared P chain h
+pub is_declared : (P : Program) (chain : List ℕ) (h : Heading) (x : Tree.Routine) → IsRoutineOf chain h x
+    → slice_get P.routines h.number ≡ Some x → IsDeclared P chain h
 is_declared P chain h x is e =
     let at = or_there P.routines h.number x e in
     record {

@@ -1,11 +1,18 @@
 -- A program within the limits has small frames, objects and scratch blocks: no variable has more words than cells.
-use Rattle.std.proofs.Common.{◌≡◌, ℕ, zero, suc, ◌+◌, ◌*◌, ◌/◌, ◌<◌, ◌≤◌, Bool, true, false, ◌&&◌, if◌then◌else◌, List, [], ◌∷◌, ◌++◌, get_or, Option, Some, None, refl, sym, subst, arith, leb-true, mul-le-mul_left}
-use Rattle.ps_tree.specs.Types.{DataType, OrdinalType, PointerType, NilType, SetType, EmptySetType, TextType, ArrayType, RecordType, field_list, DataTypes, no_type, type_before}
+use Rattle.std.proofs.Common.{◌≡◌, ℕ, zero, suc, ◌+◌, ◌*◌, ◌/◌, ◌<◌, ◌≤◌, Bool, true, false, ◌&&◌, if◌then◌else◌, List}
+use Rattle.std.proofs.Common.{[], ◌∷◌, ◌++◌, get_or, Option, Some, None, refl, sym, subst, arith, leb-true}
+use Rattle.std.proofs.Common.{mul-le-mul_left}
+use Rattle.ps_tree.specs.Types.{DataType, OrdinalType, PointerType, NilType, SetType, EmptySetType, TextType}
+use Rattle.ps_tree.specs.Types.{ArrayType, RecordType, field_list, DataTypes, no_type, type_before}
 use Rattle.ps_tree.specs.Sizes.{cells, record_cells, field_cells, value_count, fits_byte}
-use Rattle.ps_tree.specs.Counts.{is_within_limits, are_small, are_routines_within_limits, is_routine_within_limits, routine_cells, routine_nodes, routine_extent, formals_extent, formal_cells, variables_extent, result_extent, statements_extent}
-use Rattle.ps_tree.specs.Tree.{Formal, ValueFormal, VariableFormal, RoutineFormal, Formals, no_formal, formal_before, Routine, Program, no_routine}
+use Rattle.ps_tree.specs.Counts.{is_within_limits, are_small, are_routines_within_limits, is_routine_within_limits}
+use Rattle.ps_tree.specs.Counts.{routine_cells, routine_nodes, routine_extent, formals_extent, formal_cells}
+use Rattle.ps_tree.specs.Counts.{variables_extent, result_extent, statements_extent}
+use Rattle.ps_tree.specs.Tree.{Formal, ValueFormal, VariableFormal, RoutineFormal, Formals, no_formal, formal_before}
+use Rattle.ps_tree.specs.Tree.{Routine, Program, no_routine}
 use Rattle.ps_lower_layout.specs.Shapes.{ByteShape, ArrayShape, shape_of, shapes_of, first_of, word_count, word_counts}
-use Rattle.ps_lower_layout.specs.Frames.{Kind, kind_of, kinds_of, listed_kinds, result_kinds, variable_kinds, entries, words_of_all, kind_words, layout_of, is_program_block}
+use Rattle.ps_lower_layout.specs.Frames.{Kind, kind_of, kinds_of, listed_kinds, result_kinds, variable_kinds, entries}
+use Rattle.ps_lower_layout.specs.Frames.{words_of_all, kind_words, layout_of, is_program_block}
 use Rattle.ps_lower_code.specs.Programs.{scratch_in}
 use Rattle.ps_lower_code.specs.Routines.{routine_code}
 use Rattle.ps_lower_bounds.proofs.Routines.{sizes_bounded}
@@ -14,7 +21,7 @@ use Rattle.ps_lower_accepted.proofs.Lists.{left, right}
 
 -- ---- a variable
 
--- bytes are filled up to no more words than there are bytes
+-- bytes are padded to no more words than there are bytes
 filled : (n : ℕ) → (n + 3) / 4 ≤ n
 filled n = omega arith
 
@@ -29,11 +36,15 @@ byte_cell (TextType n) e = absurd (cc)
 byte_cell (ArrayType at p i c) e = absurd (cc)
 byte_cell (RecordType at p f) e = absurd (cc)
 
-array_words : (packed : Bool) (n : ℕ) (component : DataType) → word_count (shape_of component) ≤ cells component → word_count (if packed && fits_byte component then ByteShape n (first_of component) else ArrayShape n (shape_of component)) ≤ n * cells component
+array_words : (packed : Bool) (n : ℕ) (component : DataType) → word_count (shape_of component) ≤ cells component
+    → word_count (if packed && fits_byte component then ByteShape n (first_of component) else ArrayShape n
+    (shape_of component)) ≤ n * cells component
 array_words packed n component l = go (packed && fits_byte component) refl
   where
-    go : (b : Bool) → (packed && fits_byte component) ≡ b → word_count (if b then ByteShape n (first_of component) else ArrayShape n (shape_of component)) ≤ n * cells component
-    go true e = let one = byte_cell component (right packed (fits_byte component) e) in subst (λ c. (n + 3) / 4 ≤ n * c) (sym one) (let f = filled n in omega (arith, f))
+    go : (b : Bool) → (packed && fits_byte component) ≡ b → word_count
+        (if b then ByteShape n (first_of component) else ArrayShape n (shape_of component)) ≤ n * cells component
+    go true e = let one = byte_cell component (right packed (fits_byte component) e) in subst (λ c. (n + 3) / 4 ≤ n * c)
+        (sym one) (let f = filled n in omega (arith, f))
     go false e = mul-le-mul_left n l
 
 mutual
@@ -46,9 +57,11 @@ mutual
   words_cells (SetType d p b) = omega arith
   words_cells EmptySetType = omega arith
   words_cells (TextType n) = filled n
-  words_cells (ArrayType at packed index component) = array_words packed (value_count index) component (words_cells component)
+  words_cells (ArrayType at packed index component) = array_words packed (value_count index) component
+      (words_cells component)
   words_cells (RecordType at packed (field_list names no_type)) = omega arith
-  words_cells (RecordType at packed (field_list names (type_before type rest))) = let a = words_cells type in let b = words_fields rest in omega (arith, a, b)
+  words_cells (RecordType at packed (field_list names (type_before type rest))) = let a = words_cells type
+      in let b = words_fields rest in omega (arith, a, b)
 
   words_fields : (types : DataTypes) → word_counts (shapes_of types) ≤ field_cells types
   words_fields no_type = omega arith
@@ -104,16 +117,19 @@ few_cells : (r : Routine) → is_routine_within_limits r ≡ true → routine_ce
 unfolding is_routine_within_limits
 few_cells r e = leb-true (routine_cells r) 100000 (right _ _ (left _ _ e))
 
-frames_small : (rs : List Routine) (r : ℕ) → are_routines_within_limits rs ≡ true → 4 * (layout_of (get_or rs r no_routine)).size < 2147483648
+frames_small : (rs : List Routine) (r : ℕ) → are_routines_within_limits rs ≡ true → 4 *
+    (layout_of (get_or rs r no_routine)).size < 2147483648
 unfolding are_routines_within_limits
 frames_small [] r e = omega arith
 frames_small (x ∷ rs) zero e = frame_small x (few_cells x (left _ _ e))
 frames_small (x ∷ rs) (suc r) e = frames_small rs r (right _ _ e)
 
-objects_small : (types : List DataType) (t : ℕ) → are_small types ≡ true → 4 * word_count (shape_of (get_or types t (PointerType 0))) < 2147483648
+objects_small : (types : List DataType) (t : ℕ) → are_small types ≡ true → 4 * word_count
+    (shape_of (get_or types t (PointerType 0))) < 2147483648
 unfolding are_small
 objects_small [] t e = omega arith
-objects_small (type ∷ types) zero e = let few = leb-true (cells type) 100000 (left _ _ e) in let l = words_cells type in omega (arith, l, few)
+objects_small (type ∷ types) zero e = let few = leb-true (cells type) 100000 (left _ _ e) in let l = words_cells type
+    in omega (arith, l, few)
 objects_small (type ∷ types) (suc t) e = objects_small types t (right _ _ e)
 
 -- ---- scratch
@@ -122,10 +138,12 @@ few_nodes : (r : Routine) → is_routine_within_limits r ≡ true → routine_no
 unfolding is_routine_within_limits
 few_nodes r e = leb-true (routine_nodes r) 4194304 (right _ _ e)
 
-scratch_small : (program : Program) (r : Routine) → routine_cells r ≤ 100000 → routine_nodes r ≤ 4194304 → scratch_in (routine_code program r) < 2147483648
+scratch_small : (program : Program) (r : Routine) → routine_cells r ≤ 100000 → routine_nodes r ≤ 4194304 → scratch_in
+    (routine_code program r) < 2147483648
 scratch_small program r few some = let b = sizes_bounded program r in omega (arith, b, few, some)
 
-scratches_small : (program : Program) (rs : List Routine) (r : ℕ) → are_routines_within_limits rs ≡ true → scratch_in (routine_code program (get_or rs r no_routine)) < 2147483648
+scratches_small : (program : Program) (rs : List Routine) (r : ℕ) → are_routines_within_limits rs ≡ true → scratch_in
+    (routine_code program (get_or rs r no_routine)) < 2147483648
 unfolding are_routines_within_limits routine_extent formals_extent result_extent variables_extent statements_extent
 scratches_small program [] r e = scratch_small program no_routine (omega arith) (omega arith)
 scratches_small program (x ∷ rs) zero e = scratch_small program x (few_cells x (left _ _ e)) (few_nodes x (left _ _ e))

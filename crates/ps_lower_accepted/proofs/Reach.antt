@@ -1,5 +1,6 @@
--- Entries and routines so many levels up, as the lowering finds them.
-use Rattle.std.proofs.Common.{◌≡◌, ℕ, zero, suc, ◌<◌, List, [], ◌∷◌, length, drop, get_or, Some, slice_get, refl, sym, ap, ◌∙◌, arith}
+-- Entries and routines this many levels up, as the lowering finds them.
+use Rattle.std.proofs.Common.{◌≡◌, ℕ, zero, suc, ◌<◌, List, [], ◌∷◌, length, drop, get_or, Some, slice_get, refl, sym}
+use Rattle.std.proofs.Common.{ap, ◌∙◌, arith}
 use Rattle.ps_tree.specs.Tree.{routine_at}
 use Rattle.ps_lower_layout.specs.Shapes.{Shape}
 use Rattle.ps_lower_layout.specs.Frames.{Kind, entries}
@@ -17,22 +18,31 @@ pub reached : (chain : List ℕ) (up r : ℕ) (rest : List ℕ) → drop up chai
 reached [] zero r rest e = absurd (cc)
 reached [] (suc up) r rest e = absurd (cc)
 reached (q ∷ chain) zero r rest e = record { within = omega arith; number = ap (λ l. get_or l 0 0) e }
-reached (q ∷ chain) (suc up) r rest e = let h = reached chain up r rest e in record { within = let w = h.within in omega (arith, w); number = h.number }
+reached (q ∷ chain) (suc up) r rest e = let h = reached chain up r rest e in record {
+  within = let w = h.within in omega (arith, w);
+  number = h.number;
+}
 
 module _ (k : Scope) (up : ℕ) where
-  pub entry_there : (i : ℕ) (kind : Kind) → EntryIs k.program (drop up k.chain) i kind → (up < length k.chain) × (kind_at k up i ≡ Some kind)
+  pub entry_there : (i : ℕ) (kind : Kind) → EntryIs k.program (drop up k.chain) i kind → (up < length k.chain)
+      × (kind_at k up i ≡ Some kind)
   entry_there i kind h = go (drop up k.chain) refl h
     where
-      go : (chain : List ℕ) → drop up k.chain ≡ chain → EntryIs k.program chain i kind → (up < length k.chain) × (kind_at k up i ≡ Some kind)
+      go : (chain : List ℕ) → drop up k.chain ≡ chain → EntryIs k.program chain i kind → (up < length k.chain)
+          × (kind_at k up i ≡ Some kind)
       go [] e g = absurd g
-      go (r ∷ rest) e g = let there = reached k.chain up r rest e in (there.within, ap (λ q. slice_get (entries (routine_at k.program q)) i) there.number ∙ g)
+      go (r ∷ rest) e g = let there = reached k.chain up r rest e
+          in (there.within, ap (λ q. slice_get (entries (routine_at k.program q)) i) there.number ∙ g)
 
-  pub shape_there : (i : ℕ) (shape : Shape) → ShapeIs k.program (drop up k.chain) i shape → (up < length k.chain) × (shape_in (kind_at k up i) ≡ Some shape)
+  pub shape_there : (i : ℕ) (shape : Shape) → ShapeIs k.program (drop up k.chain) i shape → (up < length k.chain)
+      × (shape_in (kind_at k up i) ≡ Some shape)
   shape_there i shape h = go (drop up k.chain) refl h
     where
-      go : (chain : List ℕ) → drop up k.chain ≡ chain → ShapeIs k.program chain i shape → (up < length k.chain) × (shape_in (kind_at k up i) ≡ Some shape)
+      go : (chain : List ℕ) → drop up k.chain ≡ chain → ShapeIs k.program chain i shape → (up < length k.chain)
+          × (shape_in (kind_at k up i) ≡ Some shape)
       go [] e g = absurd g
-      go (r ∷ rest) e g = let there = reached k.chain up r rest e in (there.within, ap (λ q. shape_in (slice_get (entries (routine_at k.program q)) i)) there.number ∙ g)
+      go (r ∷ rest) e g = let there = reached k.chain up r rest e
+          in (there.within, ap (λ q. shape_in (slice_get (entries (routine_at k.program q)) i)) there.number ∙ g)
 
   -- the routine of a heading, declared there
   pub record DeclaredThere (h : Heading) : Type 0 where
@@ -42,9 +52,15 @@ module _ (k : Scope) (up : ℕ) where
   pub declared_there : (h : Heading) → MeaningStands k.program (drop up k.chain) (RoutineMeaning h) → DeclaredThere h
   declared_there h m = go (drop up k.chain) refl m
     where
-      go : (chain : List ℕ) → drop up k.chain ≡ chain → MeaningStands k.program chain (RoutineMeaning h) → DeclaredThere h
+      go : (chain : List ℕ) → drop up k.chain ≡ chain → MeaningStands k.program chain (RoutineMeaning h)
+          → DeclaredThere h
       go [] e g = absurd g
       go (r ∷ rest) e g = let there = reached k.chain up r rest e in record {
         at = (g.some, there.within, g.number ∙ ap (λ l. h.number ∷ l) (sym e));
-        is = record { some = g.some; number = g.number ∙ ap (λ l. h.number ∷ l) (sym e); formals = g.formals; result = g.result };
+        is = record {
+          some = g.some;
+          number = g.number ∙ ap (λ l. h.number ∷ l) (sym e);
+          formals = g.formals;
+          result = g.result;
+        };
       }

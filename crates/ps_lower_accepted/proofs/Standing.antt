@@ -8,7 +8,11 @@ use Rattle.ps_lower_layout.specs.Shapes.{Shape, shape_of, field_part}
 use Rattle.ps_lower_layout.specs.Frames.{Kind, Own, Closure, kinds_of, result_shape, entries}
 use Rattle.ps_lower_code.specs.Scopes.{Scope}
 use Rattle.ps_lower_code.specs.Fits.{shape_in, outermost_of}
-use Rattle.ps_check_names.specs.Regions.{Section, ValueSection, VariableSection, RoutineSection, Sections, no_section, section_before, formals_of, Heading, Meaning, ConstantMeaning, TextMeaning, TypeMeaning, VariableMeaning, ParameterMeaning, RoutineParameterMeaning, RoutineMeaning, FileMeaning, RequiredMeaning, LeftOutMeaning, Region, BlockRegion, RecordRegion, OwnNames, Point, BlockPoint, FieldPoint, Context}
+use Rattle.ps_check_names.specs.Regions.{Section, ValueSection, VariableSection, RoutineSection, Sections, no_section}
+use Rattle.ps_check_names.specs.Regions.{section_before, formals_of, Heading, Meaning, ConstantMeaning, TextMeaning}
+use Rattle.ps_check_names.specs.Regions.{TypeMeaning, VariableMeaning, ParameterMeaning, RoutineParameterMeaning}
+use Rattle.ps_check_names.specs.Regions.{RoutineMeaning, FileMeaning, RequiredMeaning, LeftOutMeaning, Region}
+use Rattle.ps_check_names.specs.Regions.{BlockRegion, RecordRegion, OwnNames, Point, BlockPoint, FieldPoint, Context}
 use Rattle.ps_lower_accepted.proofs.Lists.{Each}
 use Rattle.ps_lower_accepted.proofs.Tables.{Table, OrdinalKnown, TypeKnown}
 
@@ -60,7 +64,7 @@ RegionKnown D b (OwnNames names defined) = Unit {0}
 abbrev pub RegionsKnown : Table → ℕ → List Region → Type 0
 RegionsKnown D b Γ = Each (RegionKnown D b) Γ
 
--- ---- what meanings are in the program: `chain` has the numbers of the block's routine and of those round it
+-- ---- what meanings are in the program: `chain` has the numbers of the block's routine and of those enclosing it
 
 -- an entry of the block's routine
 abbrev pub EntryIs : Program → List ℕ → ℕ → Kind → Type 0
@@ -82,16 +86,19 @@ pub record IsDeclared (P : Program) (chain : List ℕ) (h : Heading) : Type 0 wh
 abbrev pub MeaningStands : Program → List ℕ → Meaning → Type 0
 MeaningStands P chain (VariableMeaning entry type) = EntryIs P chain entry (Own (shape_of type))
 MeaningStands P chain (ParameterMeaning entry type) = ShapeIs P chain entry (shape_of type)
-MeaningStands P chain (RoutineParameterMeaning entry sections result) = EntryIs P chain entry (Closure (kinds_of (formals_of sections)) (result_shape result))
+MeaningStands P chain (RoutineParameterMeaning entry sections result) = EntryIs P chain entry
+    (Closure (kinds_of (formals_of sections)) (result_shape result))
 MeaningStands P [] (RoutineMeaning h) = ⊥
 MeaningStands P (r ∷ chain) (RoutineMeaning h) = IsDeclared P (r ∷ chain) h
 MeaningStands P chain _ = Unit {0}
 
--- The blocks round a place, from the inside out, each with its chain; the region of the required names has none.
+-- The blocks enclosing a place, from the inside out, each with its chain; the region of the required names has none.
 abbrev pub BlocksStand : Program → Table → List Region → List ℕ → Type 0
 BlocksStand P D [] chain = Unit {0}
-BlocksStand P D (BlockRegion routine names known ∷ Γ) [] = Each (MeaningKnown D (length P.domains)) known × Each (MeaningStands P []) known × BlocksStand P D Γ []
-BlocksStand P D (BlockRegion routine names known ∷ Γ) (r ∷ chain) = (routine ≡ r) × Each (MeaningKnown D (length P.domains)) known × Each (MeaningStands P (r ∷ chain)) known × BlocksStand P D Γ chain
+BlocksStand P D (BlockRegion routine names known ∷ Γ) [] = Each (MeaningKnown D (length P.domains)) known × Each
+    (MeaningStands P []) known × BlocksStand P D Γ []
+BlocksStand P D (BlockRegion routine names known ∷ Γ) (r ∷ chain) = (routine ≡ r) × Each
+    (MeaningKnown D (length P.domains)) known × Each (MeaningStands P (r ∷ chain)) known × BlocksStand P D Γ chain
 BlocksStand P D (RecordRegion type fields ∷ Γ) chain = ⊥
 BlocksStand P D (OwnNames names defined ∷ Γ) chain = ⊥
 
@@ -100,10 +107,11 @@ abbrev pub HasFields : DataType → FieldList → Type 0
 HasFields (RecordType at packed fields) others = fields ≡ others
 HasFields _ others = ⊥
 
--- the records that `with` opened, of these shapes, the innermost first, and then the blocks
+-- the records that `with` opened, of these shapes, innermost first, and then the blocks
 abbrev pub RegionsStand : Program → Table → List Region → List ℕ → List Shape → Type 0
 RegionsStand P D (RecordRegion type fields ∷ Γ) chain [] = ⊥
-RegionsStand P D (RecordRegion type fields ∷ Γ) chain (o ∷ os) = (o ≡ shape_of type) × HasFields type fields × TypeKnown D (length P.domains) type × RegionsStand P D Γ chain os
+RegionsStand P D (RecordRegion type fields ∷ Γ) chain (o ∷ os) = (o ≡ shape_of type) × HasFields type fields
+    × TypeKnown D (length P.domains) type × RegionsStand P D Γ chain os
 RegionsStand P D Γ chain [] = BlocksStand P D Γ chain
 RegionsStand P D Γ chain (o ∷ os) = ⊥
 
@@ -111,8 +119,10 @@ RegionsStand P D Γ chain (o ∷ os) = ⊥
 pub record Here (c : Context) (Γ : List Region) (D : Table) (k : Scope) (os : List Shape) : Type 0 where
   pub stands : RegionsStand k.program D Γ k.chain os
   -- the domain types that are known there are those of the program
-  pub domains : (n : ℕ) (type : DataType) → slice_get c.domains n ≡ Some type → slice_get k.program.domains n ≡ Some type
-  pub targets : (n : ℕ) (type : DataType) → slice_get k.program.domains n ≡ Some type → TypeKnown D (length k.program.domains) type
+  pub domains : (n : ℕ) (type : DataType) → slice_get c.domains n ≡ Some type → slice_get k.program.domains n
+      ≡ Some type
+  pub targets : (n : ℕ) (type : DataType) → slice_get k.program.domains n ≡ Some type → TypeKnown D
+      (length k.program.domains) type
   pub outermost : outermost_of k.chain ≡ 0
   pub bytes : Each (λ b. b < 256) c.text
   pub short : length c.text ≤ 1048576
@@ -120,5 +130,7 @@ pub record Here (c : Context) (Γ : List Region) (D : Table) (k : Scope) (os : L
 
 -- ---- what a point that a name denotes is there
 abbrev pub PointStands : Table → Scope → List Shape → Point → Type 0
-PointStands D k os (BlockPoint up m) = MeaningKnown D (length k.program.domains) m × MeaningStands k.program (drop up k.chain) m
-PointStands D k os (FieldPoint which type n field) = (slice_get os which ≡ Some (shape_of type)) × (field_part (shape_of type) n ≡ Some (shape_of field)) × TypeKnown D (length k.program.domains) field
+PointStands D k os (BlockPoint up m) = MeaningKnown D (length k.program.domains) m × MeaningStands k.program
+    (drop up k.chain) m
+PointStands D k os (FieldPoint which type n field) = (slice_get os which ≡ Some (shape_of type))
+    × (field_part (shape_of type) n ≡ Some (shape_of field)) × TypeKnown D (length k.program.domains) field

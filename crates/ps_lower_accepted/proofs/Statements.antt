@@ -1,5 +1,6 @@
 -- What statements have that the lowering needs, by their derivations (6.8).
-use Rattle.std.proofs.Common.{◌≡◌, ℕ, zero, suc, ◌==◌, Bool, true, false, List, [], ◌∷◌, ◌++◌, length, map, ℤ, Option, Some, is_none, refl, sym, ap, subst, eqb-true}
+use Rattle.std.proofs.Common.{◌≡◌, ℕ, zero, suc, ◌==◌, Bool, true, false, List, [], ◌∷◌, ◌++◌, length, map, ℤ, Option}
+use Rattle.std.proofs.Common.{Some, is_none, refl, sym, ap, subst, eqb-true}
 use Rattle.ps_text.specs.declared.Span.{Span}
 use Rattle.ps_syntax.specs.declared.expression.Expr.{Expr}
 use Rattle.ps_syntax.specs.declared.expression.Variable as syntax
@@ -12,9 +13,11 @@ use Rattle.ps_syntax.specs.declared.statement.Statement as syntax_statement
 use Rattle.ps_parse_grammar.specs.Symbols.{Tokens, Symbol, Separated, one, several, Terminated, exactly, trailing}
 use Rattle.ps_parse_grammar.specs.Expressions.{IsVariable, expr_within}
 use Rattle.ps_parse_grammar.specs.Statements as g
-use Rattle.ps_parse_grammar.specs.Statements.{IsParameter, IsElement, InSequence, IsSequence, IsStatement, statement_within}
+use Rattle.ps_parse_grammar.specs.Statements.{IsParameter, IsElement, InSequence, IsSequence, IsStatement}
+use Rattle.ps_parse_grammar.specs.Statements.{statement_within}
 use Rattle.ps_tree.specs.declared.types.Ordinal.{Ordinal}
-use Rattle.ps_tree.specs.Types.{DataType, OrdinalType, PointerType, NilType, SetType, EmptySetType, TextType, ArrayType, RecordType, is_compatible, is_same_type, string_length}
+use Rattle.ps_tree.specs.Types.{DataType, OrdinalType, PointerType, NilType, SetType, EmptySetType, TextType}
+use Rattle.ps_tree.specs.Types.{ArrayType, RecordType, is_compatible, is_same_type, string_length}
 use Rattle.ps_tree.specs.Sizes.{fits_byte}
 use Rattle.ps_tree.specs.Tree as Tree
 use Rattle.ps_tree.specs.Tree.{Program, Statement, Statements, Place, routine_at}
@@ -27,27 +30,40 @@ use Rattle.ps_lower_code.specs.Scopes.{Scope, kind_at}
 use Rattle.ps_lower_bounds.specs.Forms.{AreIntegers, AllIntegers}
 use Rattle.ps_check_names.specs.Constants.{ConstantValue, OrdinalConstant, TextConstant, constant}
 use Rattle.ps_lower_accepted.proofs.Constants.{ConstantKnown, constant_known}
-use Rattle.ps_lower_accepted.proofs.Tidy.{line_there, PlaceSound, ExprSound, OpenedSound, StatementSound, StatementsSound, ElementsSound, ArgumentsSound}
+use Rattle.ps_lower_accepted.proofs.Tidy.{line_there, PlaceSound, ExprSound, OpenedSound, StatementSound}
+use Rattle.ps_lower_accepted.proofs.Tidy.{StatementsSound, ElementsSound, ArgumentsSound}
 use Rattle.ps_check_judgement.specs.declared.refusal.Rule.TheVariants.{WrongKind}
 use Rattle.ps_check_judgement.specs.Judged.{Yes, holds, steps}
 use Rattle.ps_check_judgement.specs.Changing.{each, through}
 use Rattle.ps_check_judgement.proofs.Binds.{then_yes, provided_yes, inside_yes, no_yes}
-use Rattle.ps_check_names.specs.Regions.{Context, Region, BlockRegion, RecordRegion, OwnNames, Point, BlockPoint, FieldPoint, Sections, formals_of, ConstantMeaning, TextMeaning, TypeMeaning, VariableMeaning, ParameterMeaning, RoutineMeaning, RoutineParameterMeaning, RequiredMeaning, FileMeaning, LeftOutMeaning}
+use Rattle.ps_check_names.specs.Regions.{Context, Region, BlockRegion, RecordRegion, OwnNames, Point, BlockPoint}
+use Rattle.ps_check_names.specs.Regions.{FieldPoint, Sections, formals_of, ConstantMeaning, TextMeaning, TypeMeaning}
+use Rattle.ps_check_names.specs.Regions.{VariableMeaning, ParameterMeaning, RoutineMeaning, RoutineParameterMeaning}
+use Rattle.ps_check_names.specs.Regions.{RequiredMeaning, FileMeaning, LeftOutMeaning}
 use Rattle.ps_check_names.specs.Spelling.{line_in}
 use Rattle.ps_check_expressions.specs.Names.{denoted}
 use Rattle.ps_check_expressions.specs.Changed.{changed}
-use Rattle.ps_check_expressions.specs.Values.{Value, SimpleValue, SetValue, StructureValue, Variable, ordinal_of, argument_list}
+use Rattle.ps_check_expressions.specs.Values.{Value, SimpleValue, SetValue, StructureValue, Variable, ordinal_of}
+use Rattle.ps_check_expressions.specs.Values.{argument_list}
 use Rattle.ps_check_expressions.specs.Expressions.{operand, variable_operand}
 use Rattle.ps_check_statements.specs.Assignments.{target}
-use Rattle.ps_check_statements.specs.Procedures.{procedure_called, procedure_statement, procedure_parameters, actual_parameters}
-use Rattle.ps_check_statements.specs.Structured.{TypedElement, case_constant, case_label, fresh, next_label, labels, condition, control_at, unthreatened, bound, bound_at, Head, Opening, repeated, with_control, record_region, opened, open_next}
-use Rattle.ps_check_statements.specs.Statements.{statement_list, element_list, condition_at, governed, index_at, one_element, elements, control_of, for_head, for_behind, statement, element, statements}
-use Rattle.ps_check_statements.proofs.Equations.{statement_empty, statement_assign, statement_call, statement_compound, statement_if, statement_if_else, statement_case, statement_while, statement_repeat, statement_for, statement_with, element_is}
+use Rattle.ps_check_statements.specs.Procedures.{procedure_called, procedure_statement, procedure_parameters}
+use Rattle.ps_check_statements.specs.Procedures.{actual_parameters}
+use Rattle.ps_check_statements.specs.Structured.{TypedElement, case_constant, case_label, fresh, next_label, labels}
+use Rattle.ps_check_statements.specs.Structured.{condition, control_at, unthreatened, bound, bound_at, Head, Opening}
+use Rattle.ps_check_statements.specs.Structured.{repeated, with_control, record_region, opened, open_next}
+use Rattle.ps_check_statements.specs.Statements.{statement_list, element_list, condition_at, governed, index_at}
+use Rattle.ps_check_statements.specs.Statements.{one_element, elements, control_of, for_head, for_behind, statement}
+use Rattle.ps_check_statements.specs.Statements.{element, statements}
+use Rattle.ps_check_statements.proofs.Equations.{statement_empty, statement_assign, statement_call, statement_compound}
+use Rattle.ps_check_statements.proofs.Equations.{statement_if, statement_if_else, statement_case, statement_while}
+use Rattle.ps_check_statements.proofs.Equations.{statement_repeat, statement_for, statement_with, element_is}
 use Rattle.ps_lower_accepted.proofs.Aims.{StatementsTell}
 use Rattle.ps_lower_accepted.proofs.Assigned.{left_told, assigned_fits}
 use Rattle.ps_lower_accepted.proofs.Calls.{ordinal_told}
 use Rattle.ps_lower_accepted.proofs.Expressions.{expressions_tell, variables_within}
-use Rattle.ps_lower_accepted.proofs.Lists.{Each, never, Gives, then_gives, same_gives, still_then, then_still, then_same, as_given, through_end, through_next, Images, each_gives}
+use Rattle.ps_lower_accepted.proofs.Lists.{Each, never, Gives, then_gives, same_gives, still_then, then_still}
+use Rattle.ps_lower_accepted.proofs.Lists.{then_same, as_given, through_end, through_next, Images, each_gives}
 use Rattle.ps_lower_accepted.proofs.Names.{denoted_stands}
 use Rattle.ps_lower_accepted.proofs.Reach.{entry_there, declared_there}
 use Rattle.ps_lower_accepted.proofs.Selected.{no_byte, whole_fits}
@@ -56,24 +72,28 @@ use Rattle.ps_lower_accepted.proofs.Tables.{Table, TypeKnown}
 use Rattle.ps_lower_accepted.proofs.Told.{bound_of, part_of, VariableTold, ValueTold, OperandTold}
 use Rattle.ps_lower_accepted.proofs.Written.{ParameterTold, required_fits, parameters_fit}
 
-number_there : (D : Table) (at : ℕ) (o : Ordinal) (v : ConstantValue) (n : ℤ) → ConstantKnown D v → case_constant at o v ≡ Yes n → IsInteger n
+number_there : (D : Table) (at : ℕ) (o : Ordinal) (v : ConstantValue) (n : ℤ) → ConstantKnown D v → case_constant at o v
+    ≡ Yes n → IsInteger n
 unfolding case_constant
 number_there D at o (OrdinalConstant p m) n h q = subst IsInteger (provided_yes _ _ _ m n q).1 h.1
 number_there D at o (TextConstant w) n h q = absurd (no_yes q)
 
--- all that the regions round a statement give a meaning is known
-blocks_known : (P : Program) (D : Table) (Γ : List Region) (chain : List ℕ) → BlocksStand P D Γ chain → RegionsKnown D (length P.domains) Γ
+-- all that the regions enclosing a statement give a meaning is known
+blocks_known : (P : Program) (D : Table) (Γ : List Region) (chain : List ℕ) → BlocksStand P D Γ chain → RegionsKnown D
+    (length P.domains) Γ
 blocks_known P D [] chain st = tt
 blocks_known P D (BlockRegion routine names known ∷ Γ) [] st = (st.0, blocks_known P D Γ [] st.2)
 blocks_known P D (BlockRegion routine names known ∷ Γ) (r ∷ chain) st = (st.1, blocks_known P D Γ chain st.3)
 blocks_known P D (RecordRegion type fields ∷ Γ) chain st = absurd st
 blocks_known P D (OwnNames names defined ∷ Γ) chain st = absurd st
 
-all_known : (P : Program) (D : Table) (Γ : List Region) (chain : List ℕ) (os : List Shape) → RegionsStand P D Γ chain os → RegionsKnown D (length P.domains) Γ
+all_known : (P : Program) (D : Table) (Γ : List Region) (chain : List ℕ) (os : List Shape) → RegionsStand P D Γ chain os
+    → RegionsKnown D (length P.domains) Γ
 all_known P D (RecordRegion type fields ∷ Γ) chain [] st = absurd st
 all_known P D (RecordRegion type fields ∷ Γ) chain (o ∷ os) st = (tt, all_known P D Γ chain os st.3)
 all_known P D [] chain [] st = tt
-all_known P D (BlockRegion routine names known ∷ Γ) chain [] st = blocks_known P D (BlockRegion routine names known ∷ Γ) chain st
+all_known P D (BlockRegion routine names known ∷ Γ) chain [] st = blocks_known P D
+    (BlockRegion routine names known ∷ Γ) chain st
 all_known P D (OwnNames names defined ∷ Γ) chain [] st = absurd st
 all_known P D [] chain (o ∷ os) st = absurd st
 all_known P D (BlockRegion routine names known ∷ Γ) chain (o ∷ os) st = absurd st
@@ -83,38 +103,54 @@ module _ (D : Table) (k : Scope) where
   module _ (os : List Shape) where
     -- ---- conditions and bounds
 
-    condition_fits : (at : ℕ) (v : Value) (e : Tree.Expr) → ValueTold D k os v → condition at v ≡ Yes e → ExprSound k os e NumberSort
+    condition_fits : (at : ℕ) (v : Value) (e : Tree.Expr) → ValueTold D k os v → condition at v ≡ Yes e
+        → ExprSound k os e NumberSort
     unfolding condition
-    condition_fits at (SimpleValue x (OrdinalType o)) e h q = subst (λ y. ExprSound k os y NumberSort) (provided_yes _ _ _ _ e q).1 h.1
+    condition_fits at (SimpleValue x (OrdinalType o)) e h q = subst (λ y. ExprSound k os y NumberSort)
+        (provided_yes _ _ _ _ e q).1 h.1
     condition_fits at (SimpleValue x (PointerType n)) e h q = absurd (no_yes q)
     condition_fits at (SimpleValue x NilType) e h q = absurd (no_yes q)
     condition_fits at (SimpleValue x type) e h q = absurd h
     condition_fits at (SetValue x type) e h q = absurd (no_yes q)
     condition_fits at (StructureValue x type) e h q = absurd (no_yes q)
 
-    bound_fits : (at : ℕ) (o : Ordinal) (v : Value) (e : Tree.Expr) → ValueTold D k os v → bound at o v ≡ Yes e → ExprSound k os e NumberSort
+    bound_fits : (at : ℕ) (o : Ordinal) (v : Value) (e : Tree.Expr) → ValueTold D k os v → bound at o v ≡ Yes e
+        → ExprSound k os e NumberSort
     unfolding bound is_compatible is_same_type string_length
-    bound_fits at o (SimpleValue x (OrdinalType p)) e h q = subst (λ y. ExprSound k os y NumberSort) (provided_yes _ _ _ _ e q).1 h.1
+    bound_fits at o (SimpleValue x (OrdinalType p)) e h q = subst (λ y. ExprSound k os y NumberSort)
+        (provided_yes _ _ _ _ e q).1 h.1
     bound_fits at o (SimpleValue x (PointerType n)) e h q = absurd (no_yes q)
     bound_fits at o (SimpleValue x NilType) e h q = absurd (no_yes q)
     bound_fits at o (SimpleValue x type) e h q = absurd h
     bound_fits at o (SetValue x type) e h q = absurd (no_yes q)
     bound_fits at o (StructureValue x type) e h q = absurd (no_yes q)
 
-    -- the control variable stands in the block's own frame
+    -- the control variable is in the block's own frame
     abbrev ControlThere : ℕ → Type 0
-    ControlThere variable = (first : ℤ) × ((narrow : Bool) × (kind_at k 0 variable ≡ Some (Own (NumberShape first narrow))))
+    ControlThere variable = (first : ℤ) × ((narrow : Bool)
+        × (kind_at k 0 variable ≡ Some (Own (NumberShape first narrow))))
 
     -- and its type's bounds are integers
     abbrev ControlKnown : ℕ × Ordinal → Type 0
     ControlKnown x = ControlThere x.0 × AreIntegers x.1.low x.1.high
 
-    control_there : (at : ℕ) (p : Point) (x : ℕ × Ordinal) → PointStands D k os p → control_at at p ≡ Yes x → ControlKnown x
+    control_there : (at : ℕ) (p : Point) (x : ℕ × Ordinal) → PointStands D k os p → control_at at p ≡ Yes x
+        → ControlKnown x
     unfolding control_at
     control_there at (BlockPoint up (VariableMeaning entry (OrdinalType o))) x st q =
         let b = provided_yes (up == 0) _ _ (entry, o) x q in
         let there = entry_there k up entry (Own (shape_of (OrdinalType o))) st.1 in
-        subst ControlKnown b.1 ((first_ordinal o, (fits_byte (OrdinalType o), subst (λ n. kind_at k n entry ≡ Some (Own (shape_of (OrdinalType o)))) (eqb-true up 0 b.0) there.1)), (st.0.low, st.0.high))
+        subst ControlKnown b.1 (
+          (
+            first_ordinal o,
+            (
+              fits_byte (OrdinalType o),
+              subst (λ n. kind_at k n entry ≡ Some (Own (shape_of (OrdinalType o))))
+                  (eqb-true up 0 b.0) there.1,
+            ),
+          ),
+          (st.0.low, st.0.high),
+        )
     control_there at (BlockPoint up (VariableMeaning entry (PointerType n))) x st q = absurd (no_yes q)
     control_there at (BlockPoint up (VariableMeaning entry NilType)) x st q = absurd (no_yes q)
     control_there at (BlockPoint up (VariableMeaning entry (SetType d l o))) x st q = absurd (no_yes q)
@@ -137,73 +173,126 @@ module _ (D : Table) (k : Scope) where
 
     module _ (c : Context) (Γ : List Region) (here : Here c Γ D k os) where
       -- a procedure has no result
-      passed : (at : ℕ) (result : Option DataType) (sections : Sections) (xs : List Parameter) (args : List Tree.Argument) → Gives (procedure_parameters c Γ at result sections xs) args → Gives (actual_parameters c Γ at sections xs) args
+      passed : (at : ℕ) (result : Option DataType) (sections : Sections) (xs : List Parameter)
+          (args : List Tree.Argument) → Gives (procedure_parameters c Γ at result sections xs) args → Gives
+          (actual_parameters c Γ at sections xs) args
       passed at result sections xs args q = (still_then (holds (is_none result) WrongKind at) _ args q).2
 
-      called_fits : (at : ℕ) (xs : List Parameter) (p : Point) (t : Statement) → Each (ParameterTold D k os c Γ here) xs → PointStands D k os p → Gives (procedure_called c Γ at xs p) t → StatementSound k os t
+      called_fits : (at : ℕ) (xs : List Parameter) (p : Point) (t : Statement) → Each (ParameterTold D k os c Γ here) xs
+          → PointStands D k os p → Gives (procedure_called c Γ at xs p) t → StatementSound k os t
       unfolding procedure_called
       called_fits at xs (BlockPoint up (RoutineMeaning h)) t told st q =
           let args = then_same (procedure_parameters c Γ at h.result h.sections xs) _ t q in
           let there = declared_there k up h st.1 in
-          let all = subst (λ fs. ArgumentsSound k os (argument_list args.0) (kinds_of fs)) (sym there.is.formals) (parameters_fit D k os c Γ here at h.sections xs args.0 st.0.0 told (passed at h.result h.sections xs args.0 args.1)) in
+          let all = subst (λ fs. ArgumentsSound k os (argument_list args.0) (kinds_of fs)) (sym there.is.formals)
+          (parameters_fit D k os c Γ here at h.sections xs args.0 st.0.0 told
+          (passed at h.result h.sections xs args.0 args.1)) in
           subst (StatementSound k os) args.2 ((there.at, all.0), (all.1, line_there c.text at here.lines))
       called_fits at xs (BlockPoint up (RoutineParameterMeaning entry sections result)) t told st q =
           let args = then_same (procedure_parameters c Γ at result sections xs) _ t q in
           let there = entry_there k up entry (Closure (kinds_of (formals_of sections)) (result_shape result)) st.1 in
-          let all = parameters_fit D k os c Γ here at sections xs args.0 st.0.0 told (passed at result sections xs args.0 args.1) in
-          subst (StatementSound k os) args.2 ((there.0, (kinds_of (formals_of sections), (result_shape result, there.1, all.0))), (all.1, line_there c.text at here.lines))
+          let all = parameters_fit D k os c Γ here at sections xs args.0 st.0.0 told
+          (passed at result sections xs args.0 args.1) in
+          subst (StatementSound k os) args.2 (
+            (
+              there.0,
+              (kinds_of (formals_of sections), (result_shape result, there.1, all.0)),
+            ),
+            (all.1, line_there c.text at here.lines),
+          )
       called_fits at xs (BlockPoint up (RequiredMeaning r)) t told st q = required_fits D k os c Γ here at r xs t told q
       called_fits at xs (BlockPoint up m) t told st q = absurd (no_yes q.given)
       called_fits at xs (FieldPoint which record_type number type) t told st q = absurd (no_yes q.given)
 
   -- ---- records that are opened one after another (6.8.3.10)
 
-  opened_after : (os inner : List Shape) (ps : List Place) (p : Place) (shape : Shape) → OpenedSound k os ps inner → PlaceSound k inner p (Whole shape) → OpenedSound k os (ps ++ p ∷ []) (shape ∷ inner)
-  opened_after os inner [] p shape h f = ((shape, (subst (λ l. PlaceSound k l p (Whole shape)) h.0 f).0, ap (λ l. shape ∷ l) h.0), (f.1, tt))
-  opened_after os inner (q ∷ ps) p shape h f = let r = opened_after (h.0.0 ∷ os) inner ps p shape (h.0.2, h.1.1) f in ((h.0.0, h.0.1, r.0), (h.1.0, r.1))
+  opened_after : (os inner : List Shape) (ps : List Place) (p : Place) (shape : Shape) → OpenedSound k os ps inner
+      → PlaceSound k inner p (Whole shape) → OpenedSound k os (ps ++ p ∷ []) (shape ∷ inner)
+  opened_after os inner [] p shape h f = (
+    (
+      shape,
+      (subst (λ l. PlaceSound k l p (Whole shape)) h.0 f).0,
+      ap (λ l. shape ∷ l) h.0,
+    ),
+    (f.1, tt),
+  )
+  opened_after os inner (q ∷ ps) p shape h f = let r = opened_after (h.0.0 ∷ os) inner ps p shape (h.0.2, h.1.1) f
+      in ((h.0.0, h.0.1, r.0), (h.1.0, r.1))
 
-  -- what is known behind some of the records
+  -- what is known after some of the records
   record OpenedSo (c : Context) (os : List Shape) (o : Opening) : Type 0 where
     inner : List Shape
     here : Here c o.1 D k inner
     fits : OpenedSound k os o.0 inner
 
-  one_opened : (at : ℕ) (c : Context) (os inner : List Shape) (places : List Place) (Γ : List Region) (v : Variable) (r : Region) → Here c Γ D k inner → OpenedSound k os places inner → VariableTold D k inner v → record_region at v.type ≡ Yes r → OpenedSo c os (places ++ v.place ∷ [], r ∷ Γ)
+  one_opened : (at : ℕ) (c : Context) (os inner : List Shape) (places : List Place) (Γ : List Region) (v : Variable)
+      (r : Region) → Here c Γ D k inner → OpenedSound k os places inner → VariableTold D k inner v
+      → record_region at v.type ≡ Yes r → OpenedSo c os (places ++ v.place ∷ [], r ∷ Γ)
   unfolding record_region
   one_opened at c os inner places Γ v r here fits told q = go v.type told.known (λ b. told.small b) told.fits q
     where
-      go : (type : DataType) → TypeKnown D (bound_of k) type → (told.byte ≡ true → fits_byte type ≡ true) → PlaceSound k inner v.place (part_of told.byte type) → record_region at type ≡ Yes r → OpenedSo c os (places ++ v.place ∷ [], r ∷ Γ)
-      go (RecordType a l fs) known small place f = subst (λ x. OpenedSo c os (places ++ v.place ∷ [], x ∷ Γ)) (inside_yes _ r f) (record {
-        inner = shape_of (RecordType a l fs) ∷ inner;
-        here = record { stands = (refl, refl, known, here.stands); domains = here.domains; targets = here.targets; outermost = here.outermost; bytes = here.bytes; short = here.short; lines = here.lines };
-        fits = opened_after os inner places v.place (shape_of (RecordType a l fs)) fits (whole_fits D k inner v.place (RecordType a l fs) told.byte place (no_byte told.byte small));
-      })
+      go : (type : DataType) → TypeKnown D (bound_of k) type → (told.byte ≡ true → fits_byte type ≡ true)
+          → PlaceSound k inner v.place (part_of told.byte type) → record_region at type ≡ Yes r → OpenedSo c os
+          (places ++ v.place ∷ [], r ∷ Γ)
+      go (RecordType a l fs) known small place f = subst (λ x. OpenedSo c os (places ++ v.place ∷ [], x ∷ Γ))
+          (inside_yes _ r f) (record {
+            inner = shape_of (RecordType a l fs) ∷ inner;
+            here = record {
+              stands = (refl, refl, known, here.stands);
+              domains = here.domains;
+              targets = here.targets;
+              outermost = here.outermost;
+              bytes = here.bytes;
+              short = here.short;
+              lines = here.lines;
+            };
+            fits = opened_after os inner places v.place (shape_of (RecordType a l fs)) fits
+                (whole_fits D k inner v.place (RecordType a l fs) told.byte place (no_byte told.byte small));
+          })
       go type known small place f = absurd (no_yes f)
 
   -- a statement is read in a context of its own: its `for` statements have their control variables there
   abbrev StatementTells : (Bool → Symbol syntax_statement.Statement) → Type 0
-  StatementTells symbol = (c : Context) (Γ : List Region) (os : List Shape) → Here c Γ D k os → (ends : Bool) (x : syntax_statement.Statement) (ts r : Tokens) → symbol ends x ts r → (t : Statement) → Gives (statement x c Γ) t → StatementSound k os t
+  StatementTells symbol = (c : Context) (Γ : List Region) (os : List Shape) → Here c Γ D k os → (ends : Bool)
+      (x : syntax_statement.Statement) (ts r : Tokens) → symbol ends x ts r → (t : Statement) → Gives
+      (statement x c Γ) t → StatementSound k os t
 
-  with_control_there : (c : Context) (Γ : List Region) (os : List Shape) (entry : ℕ) → Here c Γ D k os → Here (with_control c entry) Γ D k os
-  with_control_there c Γ os entry here = record { stands = here.stands; domains = here.domains; targets = here.targets; outermost = here.outermost; bytes = here.bytes; short = here.short; lines = here.lines }
+  with_control_there : (c : Context) (Γ : List Region) (os : List Shape) (entry : ℕ) → Here c Γ D k os → Here
+      (with_control c entry) Γ D k os
+  with_control_there c Γ os entry here = record {
+    stands = here.stands;
+    domains = here.domains;
+    targets = here.targets;
+    outermost = here.outermost;
+    bytes = here.bytes;
+    short = here.short;
+    lines = here.lines;
+  }
 
   module _ (c : Context) where
     abbrev VariableTells : Symbol syntax.Variable → Type 0
-    VariableTells symbol = (Γ : List Region) (os : List Shape) → Here c Γ D k os → (x : syntax.Variable) (ts r : Tokens) → symbol x ts r → OperandTold D k os (variable_operand c Γ x)
+    VariableTells symbol = (Γ : List Region) (os : List Shape) → Here c Γ D k os → (x : syntax.Variable) (ts r : Tokens)
+        → symbol x ts r → OperandTold D k os (variable_operand c Γ x)
 
     abbrev ExprTells : Symbol Expr → Type 0
-    ExprTells symbol = (Γ : List Region) (os : List Shape) → Here c Γ D k os → (x : Expr) (ts r : Tokens) → symbol x ts r → OperandTold D k os (operand c Γ x)
+    ExprTells symbol = (Γ : List Region) (os : List Shape) → Here c Γ D k os → (x : Expr) (ts r : Tokens)
+        → symbol x ts r → OperandTold D k os (operand c Γ x)
 
-    next_opened : (expr : Symbol Expr) → VariableTells (IsVariable expr) → (x : syntax.Variable) (ts r : Tokens) → IsVariable expr x ts r → (os : List Shape) (o o' : Opening) → OpenedSo c os o → Gives (open_next c o x) o' → OpenedSo c os o'
+    next_opened : (expr : Symbol Expr) → VariableTells (IsVariable expr) → (x : syntax.Variable) (ts r : Tokens)
+        → IsVariable expr x ts r → (os : List Shape) (o o' : Opening) → OpenedSo c os o → Gives (open_next c o x) o'
+        → OpenedSo c os o'
     unfolding open_next
     next_opened expr tells x ts r d os o o' so q =
         let at = (variable_operand c o.1 x).first in
         let v = then_still (variable_operand c o.1 x).variable (opened at o) o' q in
         let region = then_yes (record_region at v.0.type) _ o' v.2 in
         let told = tells o.1 so.inner so.here x ts r d in
-        subst (OpenedSo c os) (inside_yes _ o' region.2) (one_opened at c os so.inner o.0 o.1 v.0 region.0 so.here so.fits (told.variable v.0 v.1) region.1)
+        subst (OpenedSo c os) (inside_yes _ o' region.2)
+        (one_opened at c os so.inner o.0 o.1 v.0 region.0 so.here so.fits (told.variable v.0 v.1) region.1)
 
-    all_opened : (expr : Symbol Expr) → VariableTells (IsVariable expr) → {separator : _} (xs : List syntax.Variable) (ts r : Tokens) → Separated separator (IsVariable expr) xs ts r → (os : List Shape) (o o' : Opening) → OpenedSo c os o → Gives (through (open_next c) o xs) o' → OpenedSo c os o'
+    all_opened : (expr : Symbol Expr) → VariableTells (IsVariable expr) → {separator : _} (xs : List syntax.Variable)
+        (ts r : Tokens) → Separated separator (IsVariable expr) xs ts r → (os : List Shape) (o o' : Opening)
+        → OpenedSo c os o → Gives (through (open_next c) o xs) o' → OpenedSo c os o'
     all_opened expr tells [] ts r d os o o' so q = elim d [ ]
     all_opened expr tells (x ∷ []) ts r (one d) os o o' so q =
         let y = through_next (open_next c) o x [] o' q in
@@ -212,15 +301,20 @@ module _ (D : Table) (k : Scope) where
         let y = through_next (open_next c) o x xs o' q in
         all_opened expr tells xs _ _ rest os y.0 o' (next_opened expr tells x _ _ d os o y.0 so y.1) y.2
 
-    -- ---- all statements, where those in them are told
+    -- ---- all statements, where those in them are known
 
     module _ (expr : Symbol Expr) (exprs_tell : ExprTells expr) (variables_tell : VariableTells (IsVariable expr)) (inner : Bool → Symbol syntax_statement.Statement) (inner_tell : StatementTells inner) where
-      one_of_sequence : (Γ : List Region) (os : List Shape) → Here c Γ D k os → (x : syntax_statement.Statement) (ts r : Tokens) → InSequence inner x ts r → (t : Statement) → Gives (statement x c Γ) t → StatementSound k os t
+      one_of_sequence : (Γ : List Region) (os : List Shape) → Here c Γ D k os → (x : syntax_statement.Statement)
+          (ts r : Tokens) → InSequence inner x ts r → (t : Statement) → Gives (statement x c Γ) t
+          → StatementSound k os t
       one_of_sequence Γ os here x ts r (g.in_sequence {ends = ends} d) t q = inner_tell c Γ os here ends x _ _ d t q
 
-      listed_fit : (Γ : List Region) (os : List Shape) → Here c Γ D k os → {separator : _} (xs : List syntax_statement.Statement) (ts r : Tokens) → Separated separator (InSequence inner) xs ts r → (list : List Statement) → Images (λ s. statement s c Γ) xs list → StatementsSound k os (statement_list list)
+      listed_fit : (Γ : List Region) (os : List Shape) → Here c Γ D k os → {separator : _}
+          (xs : List syntax_statement.Statement) (ts r : Tokens) → Separated separator (InSequence inner) xs ts r
+          → (list : List Statement) → Images (λ s. statement s c Γ) xs list → StatementsSound k os (statement_list list)
       listed_fit Γ os here [] ts r d list q = elim d [ ]
-      listed_fit Γ os here (x ∷ []) ts r (one d) (t ∷ []) q = let h = one_of_sequence Γ os here x _ _ d t q.0 in ((h.0, tt), (h.1, tt))
+      listed_fit Γ os here (x ∷ []) ts r (one d) (t ∷ []) q = let h = one_of_sequence Γ os here x _ _ d t q.0
+          in ((h.0, tt), (h.1, tt))
       listed_fit Γ os here (x ∷ xs) ts r (several d rest) (t ∷ list) q =
           let h = one_of_sequence Γ os here x _ _ d t q.0 in
           let g = listed_fit Γ os here xs _ _ rest list q.1 in
@@ -228,75 +322,112 @@ module _ (D : Table) (k : Scope) where
       listed_fit Γ os here (x ∷ xs) ts r d [] q = absurd q
       listed_fit Γ os here (x ∷ []) ts r (one d) (t ∷ u ∷ list) q = absurd q.1
 
-      sequence_fits : (Γ : List Region) (os : List Shape) → Here c Γ D k os → (xs : List syntax_statement.Statement) (ts r : Tokens) → IsSequence inner xs ts r → (ss : Statements) → Gives (statements c Γ xs) ss → StatementsSound k os ss
+      sequence_fits : (Γ : List Region) (os : List Shape) → Here c Γ D k os → (xs : List syntax_statement.Statement)
+          (ts r : Tokens) → IsSequence inner xs ts r → (ss : Statements) → Gives (statements c Γ xs) ss
+          → StatementsSound k os ss
       unfolding statements
       sequence_fits Γ os here xs ts r d ss q =
           let list = then_same (each (λ s. statement s c Γ) xs) _ ss q in
-          subst (StatementsSound k os) list.2 (listed_fit Γ os here xs ts r d list.0 (each_gives (λ s. statement s c Γ) xs list.0 list.1))
+          subst (StatementsSound k os) list.2 (listed_fit Γ os here xs ts r d list.0
+          (each_gives (λ s. statement s c Γ) xs list.0 list.1))
 
       -- ---- case elements (6.8.3.5)
 
-      label_there : (Γ : List Region) (os : List Shape) → Here c Γ D k os → (o : Ordinal) (x : Constant) (n : ℤ) → case_label c Γ o x ≡ Yes n → IsInteger n
+      label_there : (Γ : List Region) (os : List Shape) → Here c Γ D k os → (o : Ordinal) (x : Constant) (n : ℤ)
+          → case_label c Γ o x ≡ Yes n → IsInteger n
       label_there Γ os here o x n q =
           let v = then_yes (constant c.text Γ x) (case_constant (first_of_constant x) o) n q in
-          number_there D (first_of_constant x) o v.0 n (constant_known D (bound_of k) c.text Γ x v.0 here.bytes here.short (all_known k.program D Γ k.chain os here.stands) v.1) v.2
+          number_there D (first_of_constant x) o v.0 n
+          (constant_known D (bound_of k) c.text Γ x v.0 here.bytes here.short
+          (all_known k.program D Γ k.chain os here.stands) v.1) v.2
 
       one_more_integer : (ns : List ℤ) (n : ℤ) → AllIntegers ns → IsInteger n → AllIntegers (ns ++ n ∷ [])
       one_more_integer [] n h g = (g, tt)
       one_more_integer (m ∷ ns) n h g = (h.0, one_more_integer ns n h.1 g)
 
-      labels_there : (Γ : List Region) (os : List Shape) → Here c Γ D k os → (o : Ordinal) (seen own : List ℤ) (xs : List Constant) (ns : List ℤ) → AllIntegers own → steps (next_label c Γ o seen) own xs ≡ Yes ns → AllIntegers ns
+      labels_there : (Γ : List Region) (os : List Shape) → Here c Γ D k os → (o : Ordinal) (seen own : List ℤ)
+          (xs : List Constant) (ns : List ℤ) → AllIntegers own → steps (next_label c Γ o seen) own xs ≡ Yes ns
+          → AllIntegers ns
       labels_there Γ os here o seen own [] ns h q = subst AllIntegers (inside_yes own ns q) h
       labels_there Γ os here o seen own (x ∷ xs) ns h q =
           let more = then_yes (next_label c Γ o seen own x) _ ns q in
           let n = then_yes (case_label c Γ o x) (fresh (first_of_constant x) seen own) more.0 more.1 in
           let is = provided_yes _ _ _ (own ++ n.0 ∷ []) more.0 n.2 in
-          labels_there Γ os here o seen more.0 xs ns (subst AllIntegers is.1 (one_more_integer own n.0 h (label_there Γ os here o x n.0 n.1))) more.2
+          labels_there Γ os here o seen more.0 xs ns
+          (subst AllIntegers is.1 (one_more_integer own n.0 h (label_there Γ os here o x n.0 n.1))) more.2
 
       abbrev ElementSound : List Shape → TypedElement → Type 0
       ElementSound os t = AllIntegers t.0 × StatementSound k os t.1
 
-      element_fits : (Γ : List Region) (os : List Shape) → Here c Γ D k os → (o : Ordinal) (seen : List ℤ) (x : Element) (ts r : Tokens) → IsElement inner x ts r → (t : TypedElement) → Gives (element x c Γ o seen) t → ElementSound os t
+      element_fits : (Γ : List Region) (os : List Shape) → Here c Γ D k os → (o : Ordinal) (seen : List ℤ) (x : Element)
+          (ts r : Tokens) → IsElement inner x ts r → (t : TypedElement) → Gives (element x c Γ o seen) t
+          → ElementSound os t
       unfolding labels
       element_fits Γ os here o seen x ts r (g.element cs y {ends = ends} ls d) t q =
           let z = out-roll-Element (record { constants = cs; statement = y }) in
           let e = still_then (labels c Γ o seen (out-Element x).constants) _ t (as_given (element_is c Γ x o seen) q) in
           let body = then_same (statement (out-Element x).statement c Γ) _ t e.2 in
-          subst (ElementSound os) body.2 (labels_there Γ os here o seen [] (out-Element x).constants e.0 tt e.1, inner_tell c Γ os here ends y _ _ d body.0 (as_given (ap (λ u. statement u.statement c Γ) z) body.1))
+          subst (ElementSound os) body.2 (
+            labels_there Γ os here o seen []
+                (out-Element x).constants e.0 tt e.1,
+            inner_tell c Γ os here ends y _ _ d body.0
+                (as_given (ap (λ u. statement u.statement c Γ) z) body.1),
+          )
 
-      elements_after : (os : List Shape) (es : List TypedElement) (t : TypedElement) → ElementsSound k os (element_list es) → ElementSound os t → ElementsSound k os (element_list (es ++ t ∷ []))
+      elements_after : (os : List Shape) (es : List TypedElement) (t : TypedElement) → ElementsSound k os
+          (element_list es) → ElementSound os t → ElementsSound k os (element_list (es ++ t ∷ []))
       elements_after os [] t h g = ((g.1.0, tt), (g.0, g.1.1, tt))
-      elements_after os (x ∷ es) t h g = let r = elements_after os es t (h.0.1, h.1.2) g in ((h.0.0, r.0), (h.1.0, h.1.1, r.1))
+      elements_after os (x ∷ es) t h g = let r = elements_after os es t (h.0.1, h.1.2) g
+          in ((h.0.0, r.0), (h.1.0, h.1.1, r.1))
 
-      -- the elements so far, behind the constants that are seen
+      -- the elements so far, after the constants that are seen
       abbrev DoneSound : List Shape → List ℤ × List TypedElement → Type 0
       DoneSound os done = ElementsSound k os (element_list done.1)
 
-      next_element : (Γ : List Region) (os : List Shape) → Here c Γ D k os → (o : Ordinal) (x : Element) (ts r : Tokens) → IsElement inner x ts r → (done now : List ℤ × List TypedElement) → DoneSound os done → Gives (one_element c Γ o done (element x)) now → DoneSound os now
+      next_element : (Γ : List Region) (os : List Shape) → Here c Γ D k os → (o : Ordinal) (x : Element) (ts r : Tokens)
+          → IsElement inner x ts r → (done now : List ℤ × List TypedElement) → DoneSound os done → Gives
+          (one_element c Γ o done (element x)) now → DoneSound os now
       next_element Γ os here o x ts r d done now h q =
           let t = then_same (element x c Γ o done.0) _ now q in
           subst (DoneSound os) t.2 (elements_after os done.1 t.0 h (element_fits Γ os here o done.0 x ts r d t.0 t.1))
 
-      separated_elements : (Γ : List Region) (os : List Shape) → Here c Γ D k os → (o : Ordinal) → {separator : _} (xs : List Element) (ts r : Tokens) → Separated separator (IsElement inner) xs ts r → (done end : List ℤ × List TypedElement) → DoneSound os done → Gives (through (one_element c Γ o) done (map element xs)) end → DoneSound os end
+      separated_elements : (Γ : List Region) (os : List Shape) → Here c Γ D k os → (o : Ordinal) → {separator : _}
+          (xs : List Element) (ts r : Tokens) → Separated separator (IsElement inner) xs ts r
+          → (done end : List ℤ × List TypedElement) → DoneSound os done → Gives
+          (through (one_element c Γ o) done (map element xs)) end → DoneSound os end
       separated_elements Γ os here o [] ts r d done end h q = elim d [ ]
       separated_elements Γ os here o (x ∷ []) ts r (one d) done end h q =
           let y = through_next (one_element c Γ o) done (element x) [] end q in
-          subst (DoneSound os) (through_end (one_element c Γ o) y.0 end y.2) (next_element Γ os here o x _ _ d done y.0 h y.1)
+          subst (DoneSound os) (through_end (one_element c Γ o) y.0 end y.2)
+          (next_element Γ os here o x _ _ d done y.0 h y.1)
       separated_elements Γ os here o (x ∷ xs) ts r (several d rest) done end h q =
           let y = through_next (one_element c Γ o) done (element x) (map element xs) end q in
           separated_elements Γ os here o xs _ _ rest y.0 end (next_element Γ os here o x _ _ d done y.0 h y.1) y.2
 
-      all_elements : (Γ : List Region) (os : List Shape) → Here c Γ D k os → (o : Ordinal) → {separator : _} (xs : List Element) (ts r : Tokens) → Terminated separator (IsElement inner) xs ts r → (end : List ℤ × List TypedElement) → Gives (through (one_element c Γ o) ([], []) (map element xs)) end → DoneSound os end
-      all_elements Γ os here o xs ts r (exactly d) end q = separated_elements Γ os here o xs _ _ d ([], []) end (tt, tt) q
-      all_elements Γ os here o xs ts r (trailing d) end q = separated_elements Γ os here o xs _ _ d ([], []) end (tt, tt) q
+      all_elements : (Γ : List Region) (os : List Shape) → Here c Γ D k os → (o : Ordinal) → {separator : _}
+          (xs : List Element) (ts r : Tokens) → Terminated separator (IsElement inner) xs ts r
+          → (end : List ℤ × List TypedElement) → Gives (through (one_element c Γ o) ([], []) (map element xs)) end
+          → DoneSound os end
+      all_elements Γ os here o xs ts r (exactly d) end q = separated_elements Γ os here o xs _ _ d ([], []) end
+          (tt, tt) q
+      all_elements Γ os here o xs ts r (trailing d) end q = separated_elements Γ os here o xs _ _ d ([], []) end
+          (tt, tt) q
 
-      elements_fit : (Γ : List Region) (os : List Shape) → Here c Γ D k os → (o : Ordinal) → {separator : _} (xs : List Element) (ts r : Tokens) → Terminated separator (IsElement inner) xs ts r → (list : List TypedElement) → Gives (elements c Γ o (map element xs)) list → ElementsSound k os (element_list list)
+      elements_fit : (Γ : List Region) (os : List Shape) → Here c Γ D k os → (o : Ordinal) → {separator : _}
+          (xs : List Element) (ts r : Tokens) → Terminated separator (IsElement inner) xs ts r
+          → (list : List TypedElement) → Gives (elements c Γ o (map element xs)) list → ElementsSound k os
+          (element_list list)
       elements_fit Γ os here o xs ts r d list q =
           let end = then_same (through (one_element c Γ o) ([], []) (map element xs)) _ list q in
           subst (λ l. ElementsSound k os (element_list l)) end.2 (all_elements Γ os here o xs ts r d end.0 end.1)
 
-      parameter_told : (Γ : List Region) (os : List Shape) (here : Here c Γ D k os) → (x : Parameter) (ts r : Tokens) → IsParameter expr x ts r → ParameterTold D k os c Γ here x
-      parameter_told Γ os here x ts r (g.unformatted {x = y} d) = (λ z e. subst (λ u. OperandTold D k os (operand c Γ u)) (plain_is y z e) (exprs_tell Γ os here y _ _ d), λ z w e. absurd (not_width y z w e))
+      parameter_told : (Γ : List Region) (os : List Shape) (here : Here c Γ D k os) → (x : Parameter) (ts r : Tokens)
+          → IsParameter expr x ts r → ParameterTold D k os c Γ here x
+      parameter_told Γ os here x ts r (g.unformatted {x = y} d) = (
+        λ z e. subst (λ u. OperandTold D k os (operand c Γ u)) (plain_is y z e)
+            (exprs_tell Γ os here y _ _ d),
+        λ z w e. absurd (not_width y z w e),
+      )
         where
           plain_of : Parameter → Expr → Expr
           plain_of (p.Plain u) d = u
@@ -311,7 +442,15 @@ module _ (D : Table) (k : Scope) where
 
           not_width : (y z w : Expr) → p.Plain y ≡ p.Width z w → ⊥
           not_width y z w e = never (sym (ap is_plain e))
-      parameter_told Γ os here x ts r (g.formatted {x = y} {y = w} d d') = (λ z e. absurd (not_plain y w z e), λ z v e. (subst (λ u. OperandTold D k os (operand c Γ u)) (ap (λ u. first_in u y) e) (exprs_tell Γ os here y _ _ d), subst (λ u. OperandTold D k os (operand c Γ u)) (ap (λ u. second_in u w) e) (exprs_tell Γ os here w _ _ d')))
+      parameter_told Γ os here x ts r (g.formatted {x = y} {y = w} d d') = (
+        λ z e. absurd (not_plain y w z e),
+        λ z v e. (
+          subst (λ u. OperandTold D k os (operand c Γ u)) (ap (λ u. first_in u y) e)
+              (exprs_tell Γ os here y _ _ d),
+          subst (λ u. OperandTold D k os (operand c Γ u)) (ap (λ u. second_in u w) e)
+              (exprs_tell Γ os here w _ _ d'),
+        ),
+      )
         where
           first_in : Parameter → Expr → Expr
           first_in (p.Plain u) d = d
@@ -328,44 +467,59 @@ module _ (D : Table) (k : Scope) where
           not_plain : (y w z : Expr) → p.Width y w ≡ p.Plain z → ⊥
           not_plain y w z e = never (ap is_plain e)
 
-      parameters_told : (Γ : List Region) (os : List Shape) (here : Here c Γ D k os) → {separator : _} (xs : List Parameter) (ts r : Tokens) → Separated separator (IsParameter expr) xs ts r → Each (ParameterTold D k os c Γ here) xs
+      parameters_told : (Γ : List Region) (os : List Shape) (here : Here c Γ D k os) → {separator : _}
+          (xs : List Parameter) (ts r : Tokens) → Separated separator (IsParameter expr) xs ts r → Each
+          (ParameterTold D k os c Γ here) xs
       parameters_told Γ os here [] ts r d = elim d [ ]
       parameters_told Γ os here (x ∷ []) ts r (one d) = (parameter_told Γ os here x _ _ d, tt)
-      parameters_told Γ os here (x ∷ xs) ts r (several d rest) = (parameter_told Γ os here x _ _ d, parameters_told Γ os here xs _ _ rest)
+      parameters_told Γ os here (x ∷ xs) ts r (several d rest) =
+          (parameter_told Γ os here x _ _ d, parameters_told Γ os here xs _ _ rest)
 
-      call_fits : (Γ : List Region) (os : List Shape) (here : Here c Γ D k os) (at : Span) (xs : List Parameter) (t : Statement) → Each (ParameterTold D k os c Γ here) xs → Gives (procedure_statement c Γ at xs) t → StatementSound k os t
+      call_fits : (Γ : List Region) (os : List Shape) (here : Here c Γ D k os) (at : Span) (xs : List Parameter)
+          (t : Statement) → Each (ParameterTold D k os c Γ here) xs → Gives (procedure_statement c Γ at xs) t
+          → StatementSound k os t
       call_fits Γ os here at xs t told q =
           let point = still_then (denoted c Γ at) _ t q in
           called_fits os c Γ here at.from xs point.0 t told (denoted_stands c Γ D k os here at point.0 point.1) point.2
 
-      condition_there : (Γ : List Region) (os : List Shape) → Here c Γ D k os → (x : Expr) (ts r : Tokens) → expr x ts r → (e : Tree.Expr) → Gives (condition_at c Γ x) e → ExprSound k os e NumberSort
+      condition_there : (Γ : List Region) (os : List Shape) → Here c Γ D k os → (x : Expr) (ts r : Tokens) → expr x ts r
+          → (e : Tree.Expr) → Gives (condition_at c Γ x) e → ExprSound k os e NumberSort
       condition_there Γ os here x ts r d e q =
           let v = then_still (operand c Γ x).value (condition (first_of_expr x)) e q in
           let told = exprs_tell Γ os here x ts r d in
           condition_fits os (first_of_expr x) v.0 e (told.value v.0 v.1) v.2
 
-      bound_there : (Γ : List Region) (os : List Shape) → Here c Γ D k os → (o : Ordinal) (x : Expr) (ts r : Tokens) → expr x ts r → (e : Tree.Expr) → Gives (bound_at c Γ o x) e → ExprSound k os e NumberSort
+      bound_there : (Γ : List Region) (os : List Shape) → Here c Γ D k os → (o : Ordinal) (x : Expr) (ts r : Tokens)
+          → expr x ts r → (e : Tree.Expr) → Gives (bound_at c Γ o x) e → ExprSound k os e NumberSort
       bound_there Γ os here o x ts r d e q =
           let v = then_still (operand c Γ x).value (bound (first_of_expr x) o) e q in
           let told = exprs_tell Γ os here x ts r d in
           bound_fits os (first_of_expr x) o v.0 e (told.value v.0 v.1) v.2
 
       -- a condition, and the statement that it governs
-      governed_fits : (Γ : List Region) (os : List Shape) → Here c Γ D k os → (x : Expr) (ts r : Tokens) → expr x ts r → (ends : Bool) (y : syntax_statement.Statement) (us w : Tokens) → inner ends y us w → (p : Tree.Expr × Statement) → Gives (governed c Γ x (statement y)) p → ExprSound k os p.0 NumberSort × StatementSound k os p.1
+      governed_fits : (Γ : List Region) (os : List Shape) → Here c Γ D k os → (x : Expr) (ts r : Tokens) → expr x ts r
+          → (ends : Bool) (y : syntax_statement.Statement) (us w : Tokens) → inner ends y us w
+          → (p : Tree.Expr × Statement) → Gives (governed c Γ x (statement y)) p → ExprSound k os p.0 NumberSort
+          × StatementSound k os p.1
       governed_fits Γ os here x ts r d ends y us w d' p q =
           let test = then_gives (condition_at c Γ x) _ p q in
           let body = then_same (statement y c Γ) _ p test.2 in
-          subst (λ z. ExprSound k os z.0 NumberSort × StatementSound k os z.1) body.2 (condition_there Γ os here x ts r d test.0 test.1, inner_tell c Γ os here ends y us w d' body.0 body.1)
+          subst (λ z. ExprSound k os z.0 NumberSort × StatementSound k os z.1) body.2
+          (condition_there Γ os here x ts r d test.0 test.1, inner_tell c Γ os here ends y us w d' body.0 body.1)
 
       -- ---- for (6.8.3.9)
 
-      control_known : (Γ : List Region) (os : List Shape) → Here c Γ D k os → (name : Span) (x : ℕ × Ordinal) → Gives (control_of c Γ name) x → ControlKnown os x
+      control_known : (Γ : List Region) (os : List Shape) → Here c Γ D k os → (name : Span) (x : ℕ × Ordinal) → Gives
+          (control_of c Γ name) x → ControlKnown os x
       control_known Γ os here name x q =
           let point = still_then (denoted c Γ name) _ x q in
           let control = still_then (control_at name.from point.0) _ x point.2 in
-          let change = then_gives (changed c (Tree.Variable (Tree.Entry 0 control.0.0) Tree.no_selector) name.from) _ x control.2 in
+          let change = then_gives (changed c (Tree.Variable (Tree.Entry 0 control.0.0) Tree.no_selector) name.from) _ x
+          control.2 in
           let free = still_then (unthreatened c control.0.0) _ x change.2 in
-          subst (ControlKnown os) (same_gives control.0 x free.2) (control_there os name.from point.0 control.0 (denoted_stands c Γ D k os here name point.0 point.1) control.1)
+          subst (ControlKnown os) (same_gives control.0 x free.2)
+          (control_there os name.from point.0 control.0
+          (denoted_stands c Γ D k os here name point.0 point.1) control.1)
 
       record HeadSound (os : List Shape) (h : Head) : Type 0 where
         control : ControlKnown os (h.variable, h.type)
@@ -374,7 +528,9 @@ module _ (D : Table) (k : Scope) where
         first : ExprSound k os h.first NumberSort
         last : ExprSound k os h.last NumberSort
 
-      head_fits : (Γ : List Region) (os : List Shape) → Here c Γ D k os → (name : Span) (x : Expr) (ts r : Tokens) → expr x ts r → (direction : _) (y : Expr) (us w : Tokens) → expr y us w → (h : Head) → Gives (for_head c Γ name x direction y) h → HeadSound os h
+      head_fits : (Γ : List Region) (os : List Shape) → Here c Γ D k os → (name : Span) (x : Expr) (ts r : Tokens)
+          → expr x ts r → (direction : _) (y : Expr) (us w : Tokens) → expr y us w → (h : Head) → Gives
+          (for_head c Γ name x direction y) h → HeadSound os h
       head_fits Γ os here name x ts r d direction y us w d' h q =
           let control = then_gives (control_of c Γ name) _ h q in
           let first = then_gives (bound_at c Γ control.0.1 x) _ h control.2 in
@@ -387,19 +543,30 @@ module _ (D : Table) (k : Scope) where
             last = bound_there Γ os here control.0.1 y us w d' last.0 last.1;
           })
 
-      repeated_fits : (os : List Shape) (h : Head) (body : Statement) → HeadSound os h → StatementSound k os body → StatementSound k os (repeated h body)
-      repeated_fits os h body s inside_body = ((s.control.0, s.first.0, s.last.0, inside_body.0), (s.first.1, s.last.1, s.control.1, s.from, s.to, inside_body.1))
+      repeated_fits : (os : List Shape) (h : Head) (body : Statement) → HeadSound os h → StatementSound k os body
+          → StatementSound k os (repeated h body)
+      repeated_fits os h body s inside_body = (
+        (s.control.0, s.first.0, s.last.0, inside_body.0),
+        (s.first.1, s.last.1, s.control.1, s.from, s.to, inside_body.1),
+      )
 
-      statements_tell : (Γ : List Region) (os : List Shape) → Here c Γ D k os → (ends : Bool) (x : syntax_statement.Statement) (ts r : Tokens) → IsStatement expr inner ends x ts r → (t : Statement) → Gives (statement x c Γ) t → StatementSound k os t
-      statements_tell Γ os here ends x ts r g.empty t q = subst (StatementSound k os) (same_gives _ t (as_given (statement_empty c Γ) q)) (tt, tt)
+      statements_tell : (Γ : List Region) (os : List Shape) → Here c Γ D k os → (ends : Bool)
+          (x : syntax_statement.Statement) (ts r : Tokens) → IsStatement expr inner ends x ts r → (t : Statement)
+          → Gives (statement x c Γ) t → StatementSound k os t
+      statements_tell Γ os here ends x ts r g.empty t q = subst (StatementSound k os)
+          (same_gives _ t (as_given (statement_empty c Γ) q)) (tt, tt)
       statements_tell Γ os here ends x ts r (g.assign {v = v} {at = at} {x = y} d d') t q =
           let place = then_gives (target c Γ v) _ t (as_given (statement_assign c Γ v at y) q) in
           let change = then_gives (changed c place.0.place (variable_operand c Γ v).first) _ t place.2 in
           let value = then_still (operand c Γ y).value _ t change.2 in
           let told = exprs_tell Γ os here y _ _ d' in
-          assigned_fits D k os at.from place.0 value.0 (line_in c.text at.from) (line_there c.text at.from here.lines) t (left_told D k os c Γ here (variable_operand c Γ v) place.0 (variables_tell Γ os here v _ _ d) place.1) (told.value value.0 value.1) value.2
-      statements_tell Γ os here ends x ts r (g.procedure {at = at}) t q = call_fits Γ os here at [] t tt (as_given (statement_call c Γ at []) q)
-      statements_tell Γ os here ends x ts r (g.call {at = at} {xs = xs} d) t q = call_fits Γ os here at xs t (parameters_told Γ os here xs _ _ d) (as_given (statement_call c Γ at xs) q)
+          assigned_fits D k os at.from place.0 value.0 (line_in c.text at.from) (line_there c.text at.from here.lines) t
+          (left_told D k os c Γ here (variable_operand c Γ v) place.0 (variables_tell Γ os here v _ _ d) place.1)
+          (told.value value.0 value.1) value.2
+      statements_tell Γ os here ends x ts r (g.procedure {at = at}) t q = call_fits Γ os here at [] t tt
+          (as_given (statement_call c Γ at []) q)
+      statements_tell Γ os here ends x ts r (g.call {at = at} {xs = xs} d) t q = call_fits Γ os here at xs t
+          (parameters_told Γ os here xs _ _ d) (as_given (statement_call c Γ at xs) q)
       statements_tell Γ os here ends x ts r (g.compound {xs = xs} d) t q =
           let body = then_same (statements c Γ xs) _ t (as_given (statement_compound c Γ xs) q) in
           subst (StatementSound k os) body.2 (sequence_fits Γ os here xs _ _ d body.0 body.1)
@@ -428,23 +595,41 @@ module _ (D : Table) (k : Scope) where
       statements_tell Γ os here ends x ts r (g.repeat {xs = xs} {c = y} d d') t q =
           let body = then_gives (statements c Γ xs) _ t (as_given (statement_repeat c Γ xs y) q) in
           let test = then_same (condition_at c Γ y) _ t body.2 in
-          subst (StatementSound k os) test.2 (let a = sequence_fits Γ os here xs _ _ d body.0 body.1 in let b = condition_there Γ os here y _ _ d' test.0 test.1 in ((a.0, b.0), (a.1, b.1)))
+          subst (StatementSound k os) test.2 (let a = sequence_fits Γ os here xs _ _ d body.0 body.1
+          in let b = condition_there Γ os here y _ _ d' test.0 test.1 in ((a.0, b.0), (a.1, b.1)))
       statements_tell Γ os here ends x ts r (g.for direction {name = name} {x = y} {y = z} {z = w} d d' d'') t q =
-          let head = then_gives (for_head c Γ name y direction z) (for_behind c Γ (statement w)) t (as_given (statement_for c Γ name y direction z w) q) in
+          let head = then_gives (for_head c Γ name y direction z) (for_behind c Γ (statement w)) t
+          (as_given (statement_for c Γ name y direction z w) q) in
           let body = then_same (statement w (with_control c head.0.variable) Γ) _ t head.2 in
-          subst (StatementSound k os) body.2 (repeated_fits os head.0 body.0 (head_fits Γ os here name y _ _ d direction z _ _ d' head.0 head.1) (inner_tell (with_control c head.0.variable) Γ os (with_control_there c Γ os head.0.variable here) ends w _ _ d'' body.0 body.1))
+          subst (StatementSound k os) body.2 (repeated_fits os head.0 body.0
+          (head_fits Γ os here name y _ _ d direction z _ _ d' head.0 head.1)
+          (inner_tell (with_control c head.0.variable) Γ os
+          (with_control_there c Γ os head.0.variable here) ends w _ _ d'' body.0 body.1))
       statements_tell Γ os here ends x ts r (g.with {vs = vs} {x = y} d d') t q =
           let o = then_gives (through (open_next c) ([], Γ) vs) _ t (as_given (statement_with c Γ vs y) q) in
-          let so = all_opened expr variables_tell vs _ _ d os ([], Γ) o.0 (record { inner = os; here = here; fits = (refl, tt) }) o.1 in
+          let so = all_opened expr variables_tell vs _ _ d os ([], Γ) o.0 (record {
+            inner = os;
+            here = here;
+            fits = (refl, tt);
+          }) o.1 in
           let body = then_same (statement y c o.0.1) _ t o.2 in
-          subst (StatementSound k os) body.2 (let opened = so.fits in let b = inner_tell c o.0.1 so.inner so.here ends y _ _ d' body.0 body.1 in ((so.inner, opened.0, b.0), (opened.1, b.1)))
+          subst (StatementSound k os) body.2 (let opened = so.fits
+          in let b = inner_tell c o.0.1 so.inner so.here ends y _ _ d' body.0 body.1
+          in ((so.inner, opened.0, b.0), (opened.1, b.1)))
 
   all_statements : (n : ℕ) → StatementTells (statement_within n)
   all_statements zero c Γ os here ends x ts r d t q = absurd d
-  all_statements (suc n) c Γ os here ends x ts r d t q = statements_tell c (expr_within n) (λ Γ os here x ts r d. expressions_tell c Γ D k os here n x ts r d) (λ Γ os here x ts r d. variables_within c Γ D k os here n x ts r d) (statement_within n) (all_statements n) Γ os here ends x ts r d t q
+  all_statements (suc n) c Γ os here ends x ts r d t q = statements_tell c (expr_within n)
+      (λ Γ os here x ts r d. expressions_tell c Γ D k os here n x ts r d)
+      (λ Γ os here x ts r d. variables_within c Γ D k os here n x ts r d) (statement_within n)
+      (all_statements n) Γ os here ends x ts r d t q
 
-  pub sequences_fit : (c : Context) (n : ℕ) (Γ : List Region) (os : List Shape) → Here c Γ D k os → (xs : List syntax_statement.Statement) (ts r : Tokens) → IsSequence (statement_within n) xs ts r → (ss : Statements) → Gives (statements c Γ xs) ss → StatementsSound k os ss
-  sequences_fit c n = sequence_fits c (expr_within n) (λ Γ os here x ts r d. expressions_tell c Γ D k os here n x ts r d) (λ Γ os here x ts r d. variables_within c Γ D k os here n x ts r d) (statement_within n) (all_statements n)
+  pub sequences_fit : (c : Context) (n : ℕ) (Γ : List Region) (os : List Shape) → Here c Γ D k os
+      → (xs : List syntax_statement.Statement) (ts r : Tokens) → IsSequence (statement_within n) xs ts r
+      → (ss : Statements) → Gives (statements c Γ xs) ss → StatementsSound k os ss
+  sequences_fit c n = sequence_fits c (expr_within n)
+      (λ Γ os here x ts r d. expressions_tell c Γ D k os here n x ts r d)
+      (λ Γ os here x ts r d. variables_within c Γ D k os here n x ts r d) (statement_within n) (all_statements n)
 
 pub statements_tell_all : StatementsTell
 statements_tell_all c Γ D k os here n xs ts r d ss q = sequences_fit D k c n Γ os here xs ts r d ss q

@@ -1,10 +1,14 @@
--- Strings, arrays and records: what is compared, assigned or passed by value has the shape that is asked for.
+-- Strings, arrays and records: what is compared, assigned or passed by value has the shape that is required.
 use Rattle.std.specs.List.{All}
-use Rattle.std.proofs.Common.{◌≡◌, ℕ, zero, suc, ◌+◌, ◌-◌, ◌<◌, Bool, true, false, ◌&&◌, ◌||◌, if◌then◌else◌, nat_lt, List, [], ◌∷◌, length, ℤ, pos, negsuc, ◌-ℤ◌, unsigned_abs, int_lt, Option, Some, None, is_none, is_some, refl, sym, ap, ◌∙◌, subst, arith, eqb-true, ltb-true}
+use Rattle.std.proofs.Common.{◌≡◌, ℕ, zero, suc, ◌+◌, ◌-◌, ◌<◌, Bool, true, false, ◌&&◌, ◌||◌, if◌then◌else◌, nat_lt}
+use Rattle.std.proofs.Common.{List, [], ◌∷◌, length, ℤ, pos, negsuc, ◌-ℤ◌, unsigned_abs, int_lt, Option, Some, None}
+use Rattle.std.proofs.Common.{is_none, is_some, refl, sym, ap, ◌∙◌, subst, arith, eqb-true, ltb-true}
 use Rattle.ps_tree.specs.declared.types.Host.{Host}
 use Rattle.ps_tree.specs.declared.types.Host.TheVariants.{Integer, Char, Boolean, Enumeration}
 use Rattle.ps_tree.specs.declared.types.Ordinal.{Ordinal}
-use Rattle.ps_tree.specs.Types.{DataType, OrdinalType, PointerType, NilType, SetType, EmptySetType, TextType, ArrayType, RecordType, is_same_host, are_same, is_same_type, is_compatible, is_char, is_one, is_string_index, natural, string_length}
+use Rattle.ps_tree.specs.Types.{DataType, OrdinalType, PointerType, NilType, SetType, EmptySetType, TextType}
+use Rattle.ps_tree.specs.Types.{ArrayType, RecordType, is_same_host, are_same, is_same_type, is_compatible, is_char}
+use Rattle.ps_tree.specs.Types.{is_one, is_string_index, natural, string_length}
 use Rattle.ps_tree.specs.Sizes.{value_count, fits_byte}
 use Rattle.ps_tree.specs.Tree.{Place, Structure, Literal, Contents}
 use Rattle.ps_lower_layout.specs.Shapes.{Shape, ByteShape, ArrayShape, shape_of, first_of, Whole}
@@ -55,7 +59,8 @@ from_one (pos n) (pos (suc m)) e f =
 
     counted : (k : ℕ) → count_between (pos 1) (pos (suc k)) ≡ suc k
     counted k =
-        ap (λ t. if t then 0 else unsigned_abs (if t then negsuc (1 - suc (suc k)) else pos (suc k - 1)) + 1) (not_less k (nat_lt (suc k) 1) refl)
+        ap (λ t. if t then 0 else unsigned_abs (if t then negsuc (1 - suc (suc k)) else pos (suc k - 1)) + 1)
+        (not_less k (nat_lt (suc k) 1) refl)
         ∙ (let z : suc k - 1 + 1 ≡ suc k = omega arith in z)
 from_one (pos n) (negsuc m) e f = never f
 from_one (negsuc n) high e f = never e
@@ -70,14 +75,18 @@ string_counted i e =
     from_one i.low i.high (right (a && b) c e1) (right (a && b && c) d e)
 
 -- a type of strings of n characters has n bytes
-pub string_shape : (D : Table) (b : ℕ) (type : DataType) (n : ℕ) → TypeKnown D b type → string_length type ≡ Some n → shape_of type ≡ ByteShape n (pos 0)
+pub string_shape : (D : Table) (b : ℕ) (type : DataType) (n : ℕ) → TypeKnown D b type → string_length type ≡ Some n
+    → shape_of type ≡ ByteShape n (pos 0)
 unfolding string_length
 string_shape D b (ArrayType at true i c) n k e =
     let o = if_some (is_char c && is_string_index i) (Some (natural i.high)) n e in
-    chars c (left (is_char c) (is_string_index i) o.0) k.2 (string_counted i (right (is_char c) (is_string_index i) o.0) ∙ inside (natural i.high) n o.1)
+    chars c (left (is_char c) (is_string_index i) o.0) k.2
+    (string_counted i (right (is_char c) (is_string_index i) o.0) ∙ inside (natural i.high) n o.1)
   where
-    chars : (c : DataType) → is_char c ≡ true → TypeKnown D b c → value_count i ≡ n → shape_of (ArrayType at true i c) ≡ ByteShape n (pos 0)
-    chars (OrdinalType o) f g h = ap (λ x. shape_of (ArrayType at true i (OrdinalType x))) (char_itself D o g f) ∙ ap (λ m. ByteShape m (pos 0)) h
+    chars : (c : DataType) → is_char c ≡ true → TypeKnown D b c → value_count i ≡ n → shape_of (ArrayType at true i c)
+        ≡ ByteShape n (pos 0)
+    chars (OrdinalType o) f g h = ap (λ x. shape_of (ArrayType at true i (OrdinalType x))) (char_itself D o g f)
+        ∙ ap (λ m. ByteShape m (pos 0)) h
     chars (PointerType m) f g h = never f
     chars NilType f g h = never f
     chars (SetType d p o) f g h = never f
@@ -102,9 +111,11 @@ same_length (Some n) (Some m) e = (m, ap Some (eqb-true n m e), refl)
 module _ (D : Table) (k : Scope) (os : List Shape) where
   -- ---- what is compared or written
 
-  pub string_fits : (e : Structure) (type : DataType) (n : ℕ) → StructureTold D k os e type → string_length type ≡ Some n → StructureSound k os e × (text_length e ≡ n)
+  pub string_fits : (e : Structure) (type : DataType) (n : ℕ) → StructureTold D k os e type → string_length type
+      ≡ Some n → StructureSound k os e × (text_length e ≡ n)
   unfolding string_length
-  string_fits (Literal w) (TextType m) n h e = (((all_of (λ b. b < 256) w h.1.bytes, h.1.short), tt), sym h.0 ∙ inside m n e)
+  string_fits (Literal w) (TextType m) n h e =
+      (((all_of (λ b. b < 256) w h.1.bytes, h.1.short), tt), sym h.0 ∙ inside m n e)
   string_fits (Contents p like) (ArrayType at packed i c) n h e =
       let shape = string_shape D (bound_of k) (ArrayType at packed i c) n h.1 e in
       let length = ap string_length h.0 ∙ e in (
@@ -120,51 +131,74 @@ module _ (D : Table) (k : Scope) (os : List Shape) where
   structure_of : (s : DataType) (n : ℕ) → shape_of s ≡ ByteShape n (pos 0) → IsStructure (shape_of s)
   structure_of s n e = subst IsStructure (sym e) tt
 
-  pub array_is_structure : (at : ℕ) (packed : Bool) (i : Ordinal) (c : DataType) → IsStructure (shape_of (ArrayType at packed i c))
+  pub array_is_structure : (at : ℕ) (packed : Bool) (i : Ordinal) (c : DataType) → IsStructure
+      (shape_of (ArrayType at packed i c))
   array_is_structure at packed i c = go (packed && fits_byte c)
     where
-      go : (t : Bool) → IsStructure (if t then ByteShape (value_count i) (first_of c) else ArrayShape (value_count i) (shape_of c))
+      go : (t : Bool) → IsStructure (if t then ByteShape (value_count i) (first_of c) else ArrayShape (value_count i)
+          (shape_of c))
       go true = tt
       go false = tt
 
-  -- what goes into a variable of the type
+  -- what is stored in a variable of the type
   pub record Goes (e : Structure) (type : DataType) : Type 0 where
     pub structure : IsStructure (shape_of type)
     pub fits : ContentsSound k os e (shape_of type)
 
-  text_goes : (w : List ℕ) (type : DataType) → IsText w → TypeKnown D (bound_of k) type → string_length type ≡ Some (length w) → Goes (Literal w) type
+  text_goes : (w : List ℕ) (type : DataType) → IsText w → TypeKnown D (bound_of k) type → string_length type ≡ Some
+      (length w) → Goes (Literal w) type
   text_goes w type h t e =
       let shape = string_shape D (bound_of k) type (length w) t e in
-      record { structure = structure_of type (length w) shape; fits = ((all_of (λ b. b < 256) w h.bytes, h.short, (pos 0, shape)), tt) }
+      record {
+        structure = structure_of type (length w) shape;
+        fits = ((all_of (λ b. b < 256) w h.bytes, h.short, (pos 0, shape)), tt);
+      }
 
-  strings_go : (p : Place) (like type : DataType) (n : ℕ) → TypeKnown D (bound_of k) like → TypeKnown D (bound_of k) type → PlaceSound k os p (Whole (shape_of like)) → string_length like ≡ Some n → string_length type ≡ Some n → Goes (Contents p like) type
+  strings_go : (p : Place) (like type : DataType) (n : ℕ) → TypeKnown D (bound_of k) like → TypeKnown D
+      (bound_of k) type → PlaceSound k os p (Whole (shape_of like)) → string_length like ≡ Some n → string_length type
+      ≡ Some n → Goes (Contents p like) type
   strings_go p like type n h t f e g =
       let a = string_shape D (bound_of k) like n h e in
       let b = string_shape D (bound_of k) type n t g in
       let same = a ∙ sym b in
-      record { structure = structure_of type n b; fits = ((same, (subst (λ s. PlaceSound k os p (Whole s)) same f).0), f.1) }
+      record {
+        structure = structure_of type n b;
+        fits = ((same, (subst (λ s. PlaceSound k os p (Whole s)) same f).0), f.1);
+      }
 
-  one_type : (p : Place) (like type : DataType) → TypeKnown D (bound_of k) like → TypeKnown D (bound_of k) type → PlaceSound k os p (Whole (shape_of like)) → IsStructure (shape_of like) → is_same_type like type ≡ true → Goes (Contents p like) type
+  one_type : (p : Place) (like type : DataType) → TypeKnown D (bound_of k) like → TypeKnown D (bound_of k) type
+      → PlaceSound k os p (Whole (shape_of like)) → IsStructure (shape_of like) → is_same_type like type ≡ true → Goes
+      (Contents p like) type
   one_type p like type h t f st e =
       let same = same_shape D (bound_of k) (bound_of k) like type h t e in
-      record { structure = subst IsStructure same st; fits = ((same, (subst (λ s. PlaceSound k os p (Whole s)) same f).0), f.1) }
+      record {
+        structure = subst IsStructure same st;
+        fits = ((same, (subst (λ s. PlaceSound k os p (Whole s)) same f).0), f.1);
+      }
 
   -- one type, or strings of one length
-  alike_go : (p : Place) (like type : DataType) → TypeKnown D (bound_of k) like → TypeKnown D (bound_of k) type → PlaceSound k os p (Whole (shape_of like)) → IsStructure (shape_of like) → (is_same_type like type || are_same (string_length like) (string_length type)) ≡ true → Goes (Contents p like) type
+  alike_go : (p : Place) (like type : DataType) → TypeKnown D (bound_of k) like → TypeKnown D (bound_of k) type
+      → PlaceSound k os p (Whole (shape_of like)) → IsStructure (shape_of like)
+      → (is_same_type like type || are_same (string_length like) (string_length type)) ≡ true → Goes
+      (Contents p like) type
   alike_go p like type h t f st e = go (is_same_type like type) refl e
     where
-      go : (b : Bool) → is_same_type like type ≡ b → (b || are_same (string_length like) (string_length type)) ≡ true → Goes (Contents p like) type
+      go : (b : Bool) → is_same_type like type ≡ b → (b || are_same (string_length like) (string_length type)) ≡ true
+          → Goes (Contents p like) type
       go true q g = one_type p like type h t f st q
-      go false q g = let l = same_length (string_length like) (string_length type) g in strings_go p like type l.0 h t f l.1 l.2
+      go false q g = let l = same_length (string_length like) (string_length type) g
+          in strings_go p like type l.0 h t f l.1 l.2
 
   -- a value of many words that is compatible with the type of a variable
-  pub structure_goes : (e : Structure) (s type : DataType) → StructureTold D k os e s → TypeKnown D (bound_of k) type → is_compatible s type ≡ true → Goes e type
+  pub structure_goes : (e : Structure) (s type : DataType) → StructureTold D k os e s → TypeKnown D (bound_of k) type
+      → is_compatible s type ≡ true → Goes e type
   unfolding is_compatible is_same_type string_length
   structure_goes (Literal w) (TextType n) type h t e =
       let l = same_length (Some n) (string_length type) e in
       text_goes w type h.1 t (l.2 ∙ ap Some (sym (inside n l.0 l.1) ∙ h.0))
   structure_goes (Contents p like) (ArrayType at packed i c) type h t e =
-      subst (λ x. Goes (Contents p x) type) (sym h.0) (alike_go p (ArrayType at packed i c) type h.1 t h.2 (array_is_structure at packed i c) e)
+      subst (λ x. Goes (Contents p x) type) (sym h.0)
+      (alike_go p (ArrayType at packed i c) type h.1 t h.2 (array_is_structure at packed i c) e)
   structure_goes (Contents p like) (RecordType at packed fs) type h t e =
       subst (λ x. Goes (Contents p x) type) (sym h.0) (alike_go p (RecordType at packed fs) type h.1 t h.2 tt e)
   structure_goes (Literal w) s type h t e = absurd h

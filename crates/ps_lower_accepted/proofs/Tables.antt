@@ -1,9 +1,10 @@
--- Which type each denoter makes: a denoter is read once, so its offset tells its type.
+-- Which type each denoter makes: a denoter is read once, so its offset determines its type.
 use Rattle.std.proofs.Common.{◌≡◌, ℕ, ◌<◌, ◌≤◌, ℤ, pos, Option, Some, None, IsTrue, int_le, arith}
 use Rattle.ps_tree.specs.declared.types.Host.{Host}
 use Rattle.ps_tree.specs.declared.types.Host.TheVariants.{Integer, Char, Boolean, Enumeration}
 use Rattle.ps_tree.specs.declared.types.Ordinal.{Ordinal}
-use Rattle.ps_tree.specs.Types.{DataType, OrdinalType, PointerType, NilType, SetType, EmptySetType, TextType, ArrayType, RecordType, FieldList, field_list, DataTypes, no_type, type_before}
+use Rattle.ps_tree.specs.Types.{DataType, OrdinalType, PointerType, NilType, SetType, EmptySetType, TextType}
+use Rattle.ps_tree.specs.Types.{ArrayType, RecordType, FieldList, field_list, DataTypes, no_type, type_before}
 use Rattle.tac_code.specs.Numbers.{is_integer}
 use Rattle.ps_check_expressions.specs.Values.{host_type}
 
@@ -19,7 +20,7 @@ pub record Extends (D E : Table) : Type 0 where
   pub subranges : (at : ℕ) (o : Ordinal) → D.subranges at ≡ Some o → E.subranges at ≡ Some o
   pub enumerations : (at : ℕ) (n : ℤ) → D.enumerations at ≡ Some n → E.enumerations at ≡ Some n
 
--- nothing is known to begin at an offset or behind it
+-- nothing is known to begin at an offset or after it
 pub record EndsBefore (low : ℕ) (D : Table) : Type 0 where
   pub structures : (at : ℕ) → low ≤ at → D.structures at ≡ None
   pub subranges : (at : ℕ) → low ≤ at → D.subranges at ≡ None
@@ -41,7 +42,8 @@ pub record OrdinalKnown (D : Table) (o : Ordinal) : Type 0 where
   pub host : HostKnown D o.host
   pub subrange : SubrangeKnown D o.subrange o
 
--- The types of variables: each part that has a denoter is what the denoter makes, and the numbers of pointer types are below b.
+-- Variables' types: each part that has a denoter is what the denoter makes, and the numbers of pointer types are below
+-- b.
 abbrev mutual
   pub TypeKnown : Table → ℕ → DataType → Type 0
   TypeKnown D b (OrdinalType o) = OrdinalKnown D o
@@ -50,8 +52,10 @@ abbrev mutual
   TypeKnown D b (SetType denoter packing base) = IsTrue (is_integer base.low) × IsTrue (is_integer base.high)
   TypeKnown D b EmptySetType = ⊥
   TypeKnown D b (TextType n) = ⊥
-  TypeKnown D b (ArrayType at packed index component) = (D.structures at ≡ Some (ArrayType at packed index component)) × OrdinalKnown D index × TypeKnown D b component
-  TypeKnown D b (RecordType at packed fields) = (D.structures at ≡ Some (RecordType at packed fields)) × FieldsKnown D b fields
+  TypeKnown D b (ArrayType at packed index component) = (D.structures at ≡ Some (ArrayType at packed index component))
+      × OrdinalKnown D index × TypeKnown D b component
+  TypeKnown D b (RecordType at packed fields) = (D.structures at ≡ Some (RecordType at packed fields))
+      × FieldsKnown D b fields
 
   pub FieldsKnown : Table → ℕ → FieldList → Type 0
   FieldsKnown D b (field_list names types) = TypesKnown D b types
@@ -73,7 +77,13 @@ subrange_more D E x None o k = k
 subrange_more D E x (Some at) o k = x.subranges at o k
 
 pub ordinal_more : (D E : Table) → Extends D E → (o : Ordinal) → OrdinalKnown D o → OrdinalKnown E o
-ordinal_more D E x o k = record { low = k.low; high = k.high; rises = k.rises; host = host_more D E x o.host k.host; subrange = subrange_more D E x o.subrange o k.subrange }
+ordinal_more D E x o k = record {
+  low = k.low;
+  high = k.high;
+  rises = k.rises;
+  host = host_more D E x o.host k.host;
+  subrange = subrange_more D E x o.subrange o k.subrange;
+}
 
 module _ (D E : Table) (x : Extends D E) (b c : ℕ) (le : b ≤ c) where
   mutual
@@ -84,8 +94,14 @@ module _ (D E : Table) (x : Extends D E) (b c : ℕ) (le : b ≤ c) where
     type_more (SetType denoter packing base) k = k
     type_more EmptySetType k = k
     type_more (TextType n) k = k
-    type_more (ArrayType at packed index component) k = (x.structures at (ArrayType at packed index component) k.0, ordinal_more D E x index k.1, type_more component k.2)
-    type_more (RecordType at packed fields) k = (x.structures at (RecordType at packed fields) k.0, fields_more fields k.1)
+    type_more (ArrayType at packed index component) k = (
+      x.structures at (ArrayType at packed index component) k.0,
+      ordinal_more D E x index k.1,
+      type_more component
+          k.2,
+    )
+    type_more (RecordType at packed fields) k =
+        (x.structures at (RecordType at packed fields) k.0, fields_more fields k.1)
 
     pub fields_more : (fields : FieldList) → FieldsKnown D b fields → FieldsKnown E c fields
     fields_more (field_list names types) k = types_more types k

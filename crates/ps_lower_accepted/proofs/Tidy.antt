@@ -1,17 +1,32 @@
--- What a checked tree has besides the form of its parts: its lines are lines, the numbers that stand beside its expressions are integers,
--- and its array types have components. A part that has its form and this is sound.
+-- What a checked tree has besides the form of its parts: its lines are lines, the numbers beside its expressions are
+-- integers, and its array types have components. A part that has its form and this is sound.
 use Rattle.std.proofs.Common.{ℕ, ◌≤◌, min, List, [], ◌∷◌, length, cond, IsTrue, int_le, arith}
 use Rattle.std.proofs.lemmas.List.Sums.{sum_by-take-le}
 use Rattle.ps_text.specs.Lines.{is_line_end, line_count}
 use Rattle.ps_tree.specs.Types.{DataType}
-use Rattle.ps_tree.specs.Tree.{Place, Variable, Selector, Element, Field, Target, Selectors, no_selector, selector_before, ArithmeticSteps, no_arithmetic_step, arithmetic_step_before, Operands, no_operand, operand_before, SetSteps, no_set_step, set_step_before, Expr, Number, Nil, Load, Plus, Minus, Not, Arithmetic, Logic, Compare, ComparePointers, CompareSets, CompareStrings, In, Apply, Eof, Eoln, Call, CallFormal, SetExpr, LoadSet, Constructor, Combine, Member, One, Several, Members, no_member, member_before, Structure, Literal, Contents, Argument, ByValue, BySet, ByCopy, ByVariable, ByRoutine, ByFormal, Arguments, no_argument, argument_before, ReadVariable, ReadChar, ReadInteger, Width, DefaultWidth, GivenWidth, WriteParameter, WriteInteger, WriteChar, WriteBoolean, WriteText, Statement, Empty, Assign, AssignSet, AssignStructure, CallProcedure, CallFormalProcedure, Compound, If, IfElse, Case, While, Repeat, For, With, New, Pack, Unpack, Read, Readln, Write, Writeln, Statements, no_statement, statement_before, Elements, no_element, element_before, Routine, Program}
+use Rattle.ps_tree.specs.Tree.{Place, Variable, Selector, Element, Field, Target, Selectors, no_selector}
+use Rattle.ps_tree.specs.Tree.{selector_before, ArithmeticSteps, no_arithmetic_step, arithmetic_step_before, Operands}
+use Rattle.ps_tree.specs.Tree.{no_operand, operand_before, SetSteps, no_set_step, set_step_before, Expr, Number, Nil}
+use Rattle.ps_tree.specs.Tree.{Load, Plus, Minus, Not, Arithmetic, Logic, Compare, ComparePointers, CompareSets}
+use Rattle.ps_tree.specs.Tree.{CompareStrings, In, Apply, Eof, Eoln, Call, CallFormal, SetExpr, LoadSet, Constructor}
+use Rattle.ps_tree.specs.Tree.{Combine, Member, One, Several, Members, no_member, member_before, Structure, Literal}
+use Rattle.ps_tree.specs.Tree.{Contents, Argument, ByValue, BySet, ByCopy, ByVariable, ByRoutine, ByFormal, Arguments}
+use Rattle.ps_tree.specs.Tree.{no_argument, argument_before, ReadVariable, ReadChar, ReadInteger, Width, DefaultWidth}
+use Rattle.ps_tree.specs.Tree.{GivenWidth, WriteParameter, WriteInteger, WriteChar, WriteBoolean, WriteText, Statement}
+use Rattle.ps_tree.specs.Tree.{Empty, Assign, AssignSet, AssignStructure, CallProcedure, CallFormalProcedure, Compound}
+use Rattle.ps_tree.specs.Tree.{If, IfElse, Case, While, Repeat, For, With, New, Pack, Unpack, Read, Readln, Write}
+use Rattle.ps_tree.specs.Tree.{Writeln, Statements, no_statement, statement_before, Elements, no_element}
+use Rattle.ps_tree.specs.Tree.{element_before, Routine, Program}
 use Rattle.ps_meaning.specs.Expressions.{index_of}
 use Rattle.tac_code.specs.Sound.{IsLine}
 use Rattle.ps_lower_layout.specs.Shapes.{Shape, shape_of, Part}
 use Rattle.ps_lower_layout.specs.Frames.{Kind, Kinds}
 use Rattle.ps_lower_layout.specs.Paths.{Sort}
 use Rattle.ps_lower_code.specs.Scopes.{Scope}
-use Rattle.ps_lower_code.specs.Fits.{PlaceFits, SelectorsFit, SelectorFits, ExprFits, StructureFits, ContentsFit, StepsFit, OperandsFit, SetFits, SetStepsFit, MembersFit, MemberFits, ArgumentsFit, ArgumentFits, OpenedFit, WidthFits, WriteFits, WritesFit, ReadFits, ReadsFit, StatementFits, StatementsFit, ElementsFit}
+use Rattle.ps_lower_code.specs.Fits.{PlaceFits, SelectorsFit, SelectorFits, ExprFits, StructureFits, ContentsFit}
+use Rattle.ps_lower_code.specs.Fits.{StepsFit, OperandsFit, SetFits, SetStepsFit, MembersFit, MemberFits, ArgumentsFit}
+use Rattle.ps_lower_code.specs.Fits.{ArgumentFits, OpenedFit, WidthFits, WriteFits, WritesFit, ReadFits, ReadsFit}
+use Rattle.ps_lower_code.specs.Fits.{StatementFits, StatementsFit, ElementsFit}
 use Rattle.ps_lower_bounds.specs.Forms.{AreIntegers, AllIntegers, IsRange}
 use Rattle.ps_lower_calls.specs.Routines.{RoutineFits}
 use Rattle.ps_check_names.specs.Spelling.{line_in}
@@ -19,7 +34,11 @@ use Rattle.ps_lower_accepted.proofs.Counts.{HasCells}
 
 -- each place of a text is on one of its lines
 pub line_there : (text : List ℕ) (at : ℕ) → line_count text ≤ 65535 → IsLine (line_in text at)
-line_there text at l = (omega arith, let m = sum_by-take-le (λ b. cond (is_line_end b) 1 0) text (min at (length text)) in omega (arith, l, m))
+line_there text at l = (
+  omega arith,
+  let m = sum_by-take-le (λ b. cond (is_line_end b) 1 0) text (min at (length text))
+      in omega (arith, l, m),
+)
 
 -- an array type whose index has a value
 abbrev pub HasIndex : DataType → Type 0
@@ -139,11 +158,14 @@ abbrev mutual
   StatementTidy (Case e elements line) = ExprTidy e × ElementsTidy elements × IsLine line
   StatementTidy (While e s) = ExprTidy e × StatementTidy s
   StatementTidy (Repeat body e) = StatementsTidy body × ExprTidy e
-  StatementTidy (For variable low high a from_line direction b to_line s) = ExprTidy a × ExprTidy b × AreIntegers low high × IsLine from_line × IsLine to_line × StatementTidy s
+  StatementTidy (For variable low high a from_line direction b to_line s) = ExprTidy a × ExprTidy b
+      × AreIntegers low high × IsLine from_line × IsLine to_line × StatementTidy s
   StatementTidy (With places s) = PlacesTidy places × StatementTidy s
   StatementTidy (New p pointer line) = PlaceTidy p × IsLine line
-  StatementTidy (Pack p from_type e line q to_type) = PlaceTidy p × ExprTidy e × PlaceTidy q × HasIndex from_type × HasIndex to_type × HasCells (shape_of to_type) × IsLine line
-  StatementTidy (Unpack p from_type q to_type e line) = PlaceTidy p × PlaceTidy q × ExprTidy e × HasIndex from_type × HasIndex to_type × HasCells (shape_of from_type) × IsLine line
+  StatementTidy (Pack p from_type e line q to_type) = PlaceTidy p × ExprTidy e × PlaceTidy q × HasIndex from_type
+      × HasIndex to_type × HasCells (shape_of to_type) × IsLine line
+  StatementTidy (Unpack p from_type q to_type e line) = PlaceTidy p × PlaceTidy q × ExprTidy e × HasIndex from_type
+      × HasIndex to_type × HasCells (shape_of from_type) × IsLine line
   StatementTidy (Read variables) = ReadsTidy variables
   StatementTidy (Readln variables line) = ReadsTidy variables × IsLine line
   StatementTidy (Write parameters) = WritesTidy parameters

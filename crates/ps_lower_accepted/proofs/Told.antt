@@ -1,6 +1,7 @@
--- What the typing of variables and expressions tells of the trees that it gives.
+-- What the typing of variables and expressions says of the trees that it gives.
 use Rattle.std.proofs.Common.{◌≡◌, ℕ, ◌<◌, Bool, true, false, List, length}
-use Rattle.ps_tree.specs.Types.{DataType, OrdinalType, PointerType, NilType, SetType, EmptySetType, TextType, ArrayType, RecordType}
+use Rattle.ps_tree.specs.Types.{DataType, OrdinalType, PointerType, NilType, SetType, EmptySetType, TextType}
+use Rattle.ps_tree.specs.Types.{ArrayType, RecordType}
 use Rattle.ps_tree.specs.Sizes.{fits_byte}
 use Rattle.ps_tree.specs.Tree.{Expr, SetExpr, Structure, Literal, Contents}
 use Rattle.ps_lower_layout.specs.Shapes.{Shape, shape_of, Part, Whole, Byte}
@@ -42,8 +43,11 @@ module _ (D : Table) (k : Scope) (os : List Shape) where
 
   abbrev pub StructureTold : Structure → DataType → Type 0
   StructureTold (Literal w) (TextType n) = (n ≡ length w) × IsText w
-  StructureTold (Contents p like) (ArrayType at packed index component) = (like ≡ ArrayType at packed index component) × TypeKnown D (bound_of k) (ArrayType at packed index component) × PlaceSound k os p (Whole (shape_of (ArrayType at packed index component)))
-  StructureTold (Contents p like) (RecordType at packed fields) = (like ≡ RecordType at packed fields) × TypeKnown D (bound_of k) (RecordType at packed fields) × PlaceSound k os p (Whole (shape_of (RecordType at packed fields)))
+  StructureTold (Contents p like) (ArrayType at packed index component) = (like ≡ ArrayType at packed index component)
+      × TypeKnown D (bound_of k) (ArrayType at packed index component) × PlaceSound k os p
+      (Whole (shape_of (ArrayType at packed index component)))
+  StructureTold (Contents p like) (RecordType at packed fields) = (like ≡ RecordType at packed fields) × TypeKnown D
+      (bound_of k) (RecordType at packed fields) × PlaceSound k os p (Whole (shape_of (RecordType at packed fields)))
   StructureTold e type = ⊥
 
   abbrev pub ValueTold : Value → Type 0

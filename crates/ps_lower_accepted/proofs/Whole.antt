@@ -8,10 +8,12 @@ use Rattle.ps_syntax.specs.declared.program.Program as syntax
 use Rattle.ps_parse_grammar.specs.Trees.{IsTreeOf}
 use Rattle.ps_tree.specs.Types.{DataType}
 use Rattle.ps_tree.specs.Tree.{Program, Routine, no_routine}
-use Rattle.ps_lower_layout.specs.Shapes.{Shape, NumberShape, PointerShape, SetShape, ByteShape, ArrayShape, RecordShape, Shapes, no_shape, shape_before, shape_of}
+use Rattle.ps_lower_layout.specs.Shapes.{Shape, NumberShape, PointerShape, SetShape, ByteShape, ArrayShape}
+use Rattle.ps_lower_layout.specs.Shapes.{RecordShape, Shapes, no_shape, shape_before, shape_of}
 use Rattle.ps_lower_code.specs.First.{FirstFits, FieldsFit}
 use Rattle.ps_lower_code.specs.Routines.{scope_of}
-use Rattle.ps_lower_bounds.specs.Forms.{HasFirst, HaveFirst, VariablesHaveFirst, ResultHasFirst, RoutineFormed, RoutinesFormed}
+use Rattle.ps_lower_bounds.specs.Forms.{HasFirst, HaveFirst, VariablesHaveFirst, ResultHasFirst, RoutineFormed}
+use Rattle.ps_lower_bounds.specs.Forms.{RoutinesFormed}
 use Rattle.ps_lower_calls.specs.Binding.{FirstsFit}
 use Rattle.ps_lower_calls.specs.Routines.{ResultFits}
 use Rattle.ps_check_judgement.specs.Judged.{Yes}
@@ -30,13 +32,15 @@ each_byte [] h = tt
 each_byte (b ∷ text) h = (h 0 0 (omega arith), each_byte text (λ i d lt. h (suc i) d (omega (arith, lt))))
 
 sound : (text : List ℕ) (tokens : List Token) (tree : syntax.Program) (checked : Program)
-    → AreBytes text → IsSource text → IsTokens text tokens → IsTreeOf text tokens tree → program text tree ≡ Yes checked → ProgramSound checked
+    → AreBytes text → IsSource text → IsTokens text tokens → IsTreeOf text tokens tree → program text tree ≡ Yes checked
+    → ProgramSound checked
 sound text tokens tree checked bytes source scanned derived e =
     let short : length text ≤ 1048576 = source.length_fits in
     accepted_sound limits_small text (each_byte text bytes) short source.lines_fit checked tokens tree scanned derived e
 
 pub accepted : AcceptedFit
-accepted text tokens tree checked bytes source scanned derived e = let all = sound text tokens tree checked bytes source scanned derived e in all.fits
+accepted text tokens tree checked bytes source scanned derived e = let all = sound text tokens tree checked bytes source
+    scanned derived e in all.fits
 
 -- ---- first values
 
@@ -71,7 +75,8 @@ routine_formed P r few s = record {
   body = (statements_so (scope_of P r) few [] tt r.body s.fits.body s.tidy).1;
 }
 
-routines_formed : (P : Program) (list : List Routine) → ((i : ℕ) → i < length list → RoutineFormed P (get_or list i no_routine)) → RoutinesFormed P list
+routines_formed : (P : Program) (list : List Routine)
+    → ((i : ℕ) → i < length list → RoutineFormed P (get_or list i no_routine)) → RoutinesFormed P list
 routines_formed P [] f = tt
 routines_formed P (r ∷ list) f = (f 0 (omega arith), routines_formed P list (λ i l. f (suc i) (omega (arith, l))))
 
@@ -82,11 +87,14 @@ program_formed P s =
       within_limits = s.limits;
       formed = record {
         begins = s.fits.begins;
-        routines = routines_formed P P.routines (λ i l. routine_formed P (get_or P.routines i no_routine) few (s.routines i l));
+        routines = routines_formed P P.routines (λ i l. routine_formed P (get_or P.routines i no_routine) few
+            (s.routines i l));
         domains = variables_formed P.domains s.domains;
       };
-      lie = λ i l. let r = s.routines i l in (statements_so (scope_of P (get_or P.routines i no_routine)) few [] tt (get_or P.routines i no_routine).body r.fits.body r.tidy).0;
+      lie = λ i l. let r = s.routines i l in (statements_so (scope_of P (get_or P.routines i no_routine)) few [] tt
+          (get_or P.routines i no_routine).body r.fits.body r.tidy).0;
     }
 
 pub formed : AcceptedFormed
-formed text tokens tree checked bytes source scanned derived e = program_formed checked (sound text tokens tree checked bytes source scanned derived e)
+formed text tokens tree checked bytes source scanned derived e = program_formed checked
+    (sound text tokens tree checked bytes source scanned derived e)

@@ -16,9 +16,11 @@ use Rattle.ps_lower_accepted.specs.Formed.{IsFormed}
 abbrev pub AcceptedFit : Type 0
 AcceptedFit =
     (text : List ℕ) (tokens : List Token) (tree : syntax.Program) (checked : Program)
-    → AreBytes text → IsSource text → IsTokens text tokens → IsTreeOf text tokens tree → program text tree ≡ Yes checked → ProgramFits checked
+    → AreBytes text → IsSource text → IsTokens text tokens → IsTreeOf text tokens tree → program text tree ≡ Yes checked
+    → ProgramFits checked
 
 abbrev pub AcceptedFormed : Type 0
 AcceptedFormed =
     (text : List ℕ) (tokens : List Token) (tree : syntax.Program) (checked : Program)
-    → AreBytes text → IsSource text → IsTokens text tokens → IsTreeOf text tokens tree → program text tree ≡ Yes checked → IsFormed checked
+    → AreBytes text → IsSource text → IsTokens text tokens → IsTreeOf text tokens tree → program text tree ≡ Yes checked
+    → IsFormed checked

@@ -5,13 +5,14 @@
 
 ghost use Rattle.ps_lower_accepted.specs.Laws.{AcceptedFit, AcceptedFormed};
 
-/// Each part of a checked program has the form that its place asks for, and the program keeps the limits of the lowering.
+/// Each part of a checked program has the form that its place requires, and the program keeps the limits of the
+/// lowering.
 pub fn accepted_fit()
     ensures { AcceptedFit }
 {}
 
-/// Each number beside a part of a checked program is an integer, each line a line of a text, and each variable lies within its frame or
-/// its object, so that no number in its code is too large.
+/// Each number in a part of a checked program is an integer, each line is a line of a text, and each variable is within
+/// its frame or its object, so that no number in its code is too large.
 pub fn accepted_are_formed()
     ensures { AcceptedFormed }
 {}

@@ -1,11 +1,15 @@
 -- No variable has more words than cells.
-use Rattle.std.proofs.Common.{◌≡◌, ℕ, ◌+◌, ◌*◌, ◌/◌, ◌≤◌, Bool, true, false, ◌&&◌, if◌then◌else◌, List, [], ◌∷◌, ◌++◌, Option, Some, None, refl, sym, subst, arith, mul-le-mul_left}
-use Rattle.ps_tree.specs.Types.{DataType, OrdinalType, PointerType, NilType, SetType, EmptySetType, TextType, ArrayType, RecordType, field_list, DataTypes, no_type, type_before}
+use Rattle.std.proofs.Common.{◌≡◌, ℕ, ◌+◌, ◌*◌, ◌/◌, ◌≤◌, Bool, true, false, ◌&&◌, if◌then◌else◌, List, [], ◌∷◌, ◌++◌}
+use Rattle.std.proofs.Common.{Option, Some, None, refl, sym, subst, arith, mul-le-mul_left}
+use Rattle.ps_tree.specs.Types.{DataType, OrdinalType, PointerType, NilType, SetType, EmptySetType, TextType}
+use Rattle.ps_tree.specs.Types.{ArrayType, RecordType, field_list, DataTypes, no_type, type_before}
 use Rattle.ps_tree.specs.Sizes.{cells, record_cells, field_cells, value_count, fits_byte}
 use Rattle.ps_tree.specs.Counts.{formals_extent, formal_cells, variables_extent, result_extent}
-use Rattle.ps_tree.specs.Tree.{Formal, ValueFormal, VariableFormal, RoutineFormal, Formals, no_formal, formal_before, Routine}
+use Rattle.ps_tree.specs.Tree.{Formal, ValueFormal, VariableFormal, RoutineFormal, Formals, no_formal, formal_before}
+use Rattle.ps_tree.specs.Tree.{Routine}
 use Rattle.ps_lower_layout.specs.Shapes.{ByteShape, ArrayShape, shape_of, shapes_of, first_of, word_count, word_counts}
-use Rattle.ps_lower_layout.specs.Frames.{Kind, kind_of, kinds_of, listed_kinds, result_kinds, variable_kinds, entries, words_of_all, kind_words}
+use Rattle.ps_lower_layout.specs.Frames.{Kind, kind_of, kinds_of, listed_kinds, result_kinds, variable_kinds, entries}
+use Rattle.ps_lower_layout.specs.Frames.{words_of_all, kind_words}
 use Rattle.ps_lower_code.specs.Programs.{object_bytes}
 
 both_true : (a b : Bool) → (a && b) ≡ true → b ≡ true
@@ -14,7 +18,7 @@ both_true false b e = absurd (cc)
 
 -- ---- a variable
 
--- bytes are filled up to no more words than there are bytes
+-- bytes are padded to no more words than there are bytes
 filled : (n : ℕ) → (n + 3) / 4 ≤ n
 filled n = omega arith
 
@@ -29,11 +33,15 @@ byte_cell (TextType n) e = absurd (cc)
 byte_cell (ArrayType at p i c) e = absurd (cc)
 byte_cell (RecordType at p f) e = absurd (cc)
 
-array_words : (packed : Bool) (n : ℕ) (component : DataType) → word_count (shape_of component) ≤ cells component → word_count (if packed && fits_byte component then ByteShape n (first_of component) else ArrayShape n (shape_of component)) ≤ n * cells component
+array_words : (packed : Bool) (n : ℕ) (component : DataType) → word_count (shape_of component) ≤ cells component
+    → word_count (if packed && fits_byte component then ByteShape n (first_of component) else ArrayShape n
+    (shape_of component)) ≤ n * cells component
 array_words packed n component l = go (packed && fits_byte component) refl
   where
-    go : (b : Bool) → (packed && fits_byte component) ≡ b → word_count (if b then ByteShape n (first_of component) else ArrayShape n (shape_of component)) ≤ n * cells component
-    go true e = let one = byte_cell component (both_true packed (fits_byte component) e) in subst (λ c. (n + 3) / 4 ≤ n * c) (sym one) (let f = filled n in omega (arith, f))
+    go : (b : Bool) → (packed && fits_byte component) ≡ b → word_count
+        (if b then ByteShape n (first_of component) else ArrayShape n (shape_of component)) ≤ n * cells component
+    go true e = let one = byte_cell component (both_true packed (fits_byte component) e) in subst
+        (λ c. (n + 3) / 4 ≤ n * c) (sym one) (let f = filled n in omega (arith, f))
     go false e = mul-le-mul_left n l
 
 mutual
@@ -46,9 +54,11 @@ mutual
   words_cells (SetType d p b) = omega arith
   words_cells EmptySetType = omega arith
   words_cells (TextType n) = filled n
-  words_cells (ArrayType at packed index component) = array_words packed (value_count index) component (words_cells component)
+  words_cells (ArrayType at packed index component) = array_words packed (value_count index) component
+      (words_cells component)
   words_cells (RecordType at packed (field_list names no_type)) = omega arith
-  words_cells (RecordType at packed (field_list names (type_before type rest))) = let a = words_cells type in let b = words_fields rest in omega (arith, a, b)
+  words_cells (RecordType at packed (field_list names (type_before type rest))) = let a = words_cells type
+      in let b = words_fields rest in omega (arith, a, b)
 
   words_fields : (types : DataTypes) → word_counts (shapes_of types) ≤ field_cells types
   words_fields no_type = omega arith
@@ -82,7 +92,8 @@ result_words None = omega arith
 result_words (Some type) = let a = words_cells type in omega (arith, a)
 
 -- the words of a routine's entries
-pub entries_words : (r : Routine) → words_of_all (entries r) ≤ (formals_extent r.formals).taken + (result_extent r.result).taken + (variables_extent r.variables).taken
+pub entries_words : (r : Routine) → words_of_all (entries r) ≤ (formals_extent r.formals).taken
+    + (result_extent r.result).taken + (variables_extent r.variables).taken
 entries_words r =
     let a = result_words r.result in
     let b = formals_words r.formals in

@@ -1,9 +1,14 @@
--- Code whose jumps land within it, and whose numbers, errors, lines, routines and pointer types are as the invariant asks.
-use Rattle.std.proofs.Common.{◌≡◌, ℕ, suc, ◌+◌, ◌%◌, ◌<◌, ◌≤◌, Bool, true, false, if◌then◌else◌, List, [], ◌∷◌, ◌++◌, length, ℤ, pos, negsuc, Option, Some, None, arith, length-append, ltb-true, lt-ltb}
+-- Code whose jumps stay within it, and whose numbers, errors, lines, routines and pointer types are as the invariant
+-- requires.
+use Rattle.std.proofs.Common.{◌≡◌, ℕ, suc, ◌+◌, ◌%◌, ◌<◌, ◌≤◌, Bool, true, false, if◌then◌else◌, List, [], ◌∷◌, ◌++◌}
+use Rattle.std.proofs.Common.{length, ℤ, pos, negsuc, Option, Some, None, arith, length-append, ltb-true, lt-ltb}
 use Rattle.tac_code.specs.declared.code.Operand.{Operand}
 use Rattle.tac_code.specs.declared.code.Operand.TheVariants as operand
 use Rattle.tac_code.specs.declared.code.Instruction.{Instruction}
-use Rattle.tac_code.specs.declared.code.Instruction.TheVariants.{Literal, Arithmetic, Bits, Compare, CheckRange, CheckPointer, Text, Index, RoutineValue, Jump, JumpBack, Branch, BranchBack, Call, CallValue, Trap, New}
+use Rattle.tac_code.specs.declared.code.Instruction.TheVariants.{Literal, Arithmetic, Bits, Compare, CheckRange}
+use Rattle.tac_code.specs.declared.code.Instruction.TheVariants.{CheckPointer, Text, Index, RoutineValue, Jump}
+use Rattle.tac_code.specs.declared.code.Instruction.TheVariants.{JumpBack, Branch, BranchBack, Call, CallValue, Trap}
+use Rattle.tac_code.specs.declared.code.Instruction.TheVariants.{New}
 use Rattle.tac_code.specs.Sound.{IsErrorNumber, IsLine, IsInteger}
 use Rattle.ps_lower_code.specs.Scopes.{unless_known}
 
@@ -24,7 +29,7 @@ abbrev pub IsNumber : Operand → Type 0
 IsNumber (operand.Temporary t) = Unit {0}
 IsNumber (operand.Number z) = IsInt z
 
--- in a code of so many routines of the program and so many pointer types; behind the program's routines stand 17 others
+-- in a code of this many routines of the program and pointer types; 17 others come after the program's routines
 module _ (routines types : ℕ) where
   abbrev pub Asks : Instruction → Type 0
   Asks (Literal t z) = IsInt z
@@ -44,7 +49,7 @@ module _ (routines types : ℕ) where
   Asks (New t type line) = (type < types) × IsLine line
   Asks _ = Unit {0}
 
-  -- with so many instructions before, and so many behind
+  -- with this many instructions before, and this many after
   abbrev pub Lands : (before behind : ℕ) → Instruction → Type 0
   Lands b a (Jump n) = n ≤ a
   Lands b a (JumpBack n) = n ≤ b
@@ -56,7 +61,7 @@ module _ (routines types : ℕ) where
   Closed b a [] = Unit {0}
   Closed b a (i ∷ rest) = Asks i × Lands b (length rest + a) i × Closed (suc b) a rest
 
-  -- ---- with more round it
+  -- ---- with more around it
 
   lands_wider : (i : Instruction) (b a b' a' : ℕ) → b ≤ b' → a ≤ a' → Lands b a i → Lands b' a' i
   lands_wider (Jump n) b a b' a' p q l = omega (arith, q, l)
@@ -67,15 +72,20 @@ module _ (routines types : ℕ) where
 
   pub wider : (code : List Instruction) (b a b' a' : ℕ) → b ≤ b' → a ≤ a' → Closed b a code → Closed b' a' code
   wider [] b a b' a' p q c = tt
-  wider (i ∷ rest) b a b' a' p q c =
-      (c.0, lands_wider i b (length rest + a) b' (length rest + a') p (omega (arith, q)) c.1, wider rest (suc b) a (suc b') a' (omega (arith, p)) q c.2)
+  wider (i ∷ rest) b a b' a' p q c = (
+    c.0,
+    lands_wider i b (length rest + a) b' (length rest + a') p (omega (arith, q)) c.1,
+    wider rest (suc b) a
+        (suc b') a' (omega (arith, p)) q c.2,
+  )
 
   pub anywhere : (code : List Instruction) (b a : ℕ) → Closed 0 0 code → Closed b a code
   anywhere code b a c = wider code 0 0 b a (omega arith) (omega arith) c
 
   -- ---- code is made of parts
 
-  pub joined : (x y : List Instruction) (b a : ℕ) → Closed b (length y + a) x → Closed (b + length x) a y → Closed b a (x ++ y)
+  pub joined : (x y : List Instruction) (b a : ℕ) → Closed b (length y + a) x → Closed (b + length x) a y → Closed b a
+      (x ++ y)
   joined [] y b a c d = wider y (b + 0) a b a (omega arith) (omega arith) d
   joined (i ∷ x) y b a c d =
       let l = length-append x y in (
@@ -90,13 +100,16 @@ module _ (routines types : ℕ) where
   pub three : (x y z : List Instruction) → Closed 0 0 x → Closed 0 0 y → Closed 0 0 z → Closed 0 0 (x ++ y ++ z)
   three x y z c d e = both (x ++ y) z (both x y c d) e
 
-  pub four : (x y z u : List Instruction) → Closed 0 0 x → Closed 0 0 y → Closed 0 0 z → Closed 0 0 u → Closed 0 0 (x ++ y ++ z ++ u)
+  pub four : (x y z u : List Instruction) → Closed 0 0 x → Closed 0 0 y → Closed 0 0 z → Closed 0 0 u → Closed 0 0
+      (x ++ y ++ z ++ u)
   four x y z u c d e f = both (x ++ y ++ z) u (three x y z c d e) f
 
-  pub five : (x y z u v : List Instruction) → Closed 0 0 x → Closed 0 0 y → Closed 0 0 z → Closed 0 0 u → Closed 0 0 v → Closed 0 0 (x ++ y ++ z ++ u ++ v)
+  pub five : (x y z u v : List Instruction) → Closed 0 0 x → Closed 0 0 y → Closed 0 0 z → Closed 0 0 u → Closed 0 0 v
+      → Closed 0 0 (x ++ y ++ z ++ u ++ v)
   five x y z u v c d e f g = both (x ++ y ++ z ++ u) v (four x y z u c d e f) g
 
-  pub six : (x y z u v w : List Instruction) → Closed 0 0 x → Closed 0 0 y → Closed 0 0 z → Closed 0 0 u → Closed 0 0 v → Closed 0 0 w → Closed 0 0 (x ++ y ++ z ++ u ++ v ++ w)
+  pub six : (x y z u v w : List Instruction) → Closed 0 0 x → Closed 0 0 y → Closed 0 0 z → Closed 0 0 u → Closed 0 0 v
+      → Closed 0 0 w → Closed 0 0 (x ++ y ++ z ++ u ++ v ++ w)
   six x y z u v w c d e f g h = both (x ++ y ++ z ++ u ++ v) w (five x y z u v c d e f g) h
 
   pub either : (c : Bool) (x y : List Instruction) → Closed 0 0 x → Closed 0 0 y → Closed 0 0 (if c then x else y)

@@ -1,5 +1,7 @@
 -- The pieces that all constructs share are closed.
-use Rattle.std.proofs.Common.{◌≡◌, ℕ, zero, suc, ◌+◌, ◌-◌, ◌*◌, ◌<◌, ◌%◌, ◌^◌, Bool, true, false, not, ◌&&◌, nat_eq, nat_le, nat_lt, if◌then◌else◌, List, [], ◌∷◌, length, ℤ, pos, negsuc, ◌-ℤ◌, Option, Some, None, refl, arith, leb-true, ltb-true, ltb-false}
+use Rattle.std.proofs.Common.{◌≡◌, ℕ, zero, suc, ◌+◌, ◌-◌, ◌*◌, ◌<◌, ◌%◌, ◌^◌, Bool, true, false, not, ◌&&◌, nat_eq}
+use Rattle.std.proofs.Common.{nat_le, nat_lt, if◌then◌else◌, List, [], ◌∷◌, length, ℤ, pos, negsuc, ◌-ℤ◌, Option, Some}
+use Rattle.std.proofs.Common.{None, refl, arith, leb-true, ltb-true, ltb-false}
 use Rattle.std.proofs.Math.Pow.{pow-lt}
 use Rattle.ps_tree.specs.declared.tree.Range.{Range}
 use Rattle.ps_tree.specs.declared.tree.Range.TheVariants.{Any, Within}
@@ -20,8 +22,14 @@ use Rattle.tac_code.specs.Numbers.{number_of}
 use Rattle.ps_lower_layout.specs.Words.{filled}
 use Rattle.ps_lower_layout.specs.Frames.{Kind, Own, Reference, Closure}
 use Rattle.ps_lower_code.specs.Fits.{FunctionFits}
-use Rattle.ps_lower_code.specs.Scopes.{beside, moved, least, greatest, range_code, is_any, check_code, has_bytes, fitting_code, operand_check, operand_of, Site, Scope, kind_at, is_outermost, hops, frame_code, link_code, formal_code, words_code}
-use Rattle.ps_lower_code.specs.Values.{negated, literal_of, is_relation, is_truth, right_in, relation_code, finish, truth_finish, load_code, store_code, index_code, function_code, minus_code, reference_code, name_code, holds_all, outside_bits, masked, joined_word, outside_code, set_check, one_code, membership_code, clear_code, same_sets_code, sets_code, range_members}
+use Rattle.ps_lower_code.specs.Scopes.{beside, moved, least, greatest, range_code, is_any, check_code, has_bytes}
+use Rattle.ps_lower_code.specs.Scopes.{fitting_code, operand_check, operand_of, Site, Scope, kind_at, is_outermost}
+use Rattle.ps_lower_code.specs.Scopes.{hops, frame_code, link_code, formal_code, words_code}
+use Rattle.ps_lower_code.specs.Values.{negated, literal_of, is_relation, is_truth, right_in, relation_code, finish}
+use Rattle.ps_lower_code.specs.Values.{truth_finish, load_code, store_code, index_code, function_code, minus_code}
+use Rattle.ps_lower_code.specs.Values.{reference_code, name_code, holds_all, outside_bits, masked, joined_word}
+use Rattle.ps_lower_code.specs.Values.{outside_code, set_check, one_code, membership_code, clear_code, same_sets_code}
+use Rattle.ps_lower_code.specs.Values.{sets_code, range_members}
 use Rattle.ps_lower_code.proofs.Masks.{outside_small}
 use Rattle.ps_lower_bounds.specs.Forms.{IsRange, HasBounds, ExprFormed}
 use Rattle.ps_lower_bounds.proofs.Closed.{IsInt, to_int, IsNumber, Closed, anywhere, both, either}
@@ -85,20 +93,28 @@ module _ (R T : ℕ) where
   pub moved_closed : (from to : ℕ) → Closed R T 0 0 (moved from to)
   moved_closed a b = either R T (nat_eq a b) [] (i.Copy b a ∷ []) tt (tt, tt, tt)
 
-  pub range_closed : (t : ℕ) (low high : ℤ) (number line : ℕ) → IsInt low → IsInt high → IsErrorNumber number → IsLine line → Closed R T 0 0 (range_code t low high number line)
-  range_closed t l h n line p q e w = either R T (is_any l h) [] (i.CheckRange t l h n line ∷ []) tt ((p, q, e, w), tt, tt)
+  pub range_closed : (t : ℕ) (low high : ℤ) (number line : ℕ) → IsInt low → IsInt high → IsErrorNumber number
+      → IsLine line → Closed R T 0 0 (range_code t low high number line)
+  range_closed t l h n line p q e w = either R T (is_any l h) [] (i.CheckRange t l h n line ∷ []) tt
+      ((p, q, e, w), tt, tt)
 
-  pub check_closed : (z : Option ℤ) (t : ℕ) (low high : ℤ) (number line : ℕ) → IsInt low → IsInt high → IsErrorNumber number → IsLine line → Closed R T 0 0 (check_code z t low high number line)
+  pub check_closed : (z : Option ℤ) (t : ℕ) (low high : ℤ) (number line : ℕ) → IsInt low → IsInt high
+      → IsErrorNumber number → IsLine line → Closed R T 0 0 (check_code z t low high number line)
   check_closed None t l h n line p q e w = range_closed t l h n line p q e w
-  check_closed (Some z) t l h n line p q e w = either R T (is_between l z h) [] (i.CheckRange t l h n line ∷ []) tt ((p, q, e, w), tt, tt)
+  check_closed (Some z) t l h n line p q e w = either R T (is_between l z h) [] (i.CheckRange t l h n line ∷ []) tt
+      ((p, q, e, w), tt, tt)
 
-  pub fitting_closed : (b : Bool) (z : Option ℤ) (t : ℕ) (range : Range) (line : ℕ) → IsRange range → IsLine line → Closed R T 0 0 (fitting_code b z t range line)
+  pub fitting_closed : (b : Bool) (z : Option ℤ) (t : ℕ) (range : Range) (line : ℕ) → IsRange range → IsLine line
+      → Closed R T 0 0 (fitting_code b z t range line)
   fitting_closed b z t Any line r w = tt
-  fitting_closed b z t (Within l h) line r w = either R T (b && has_bytes l h) [] (check_code z t l h 4 line) tt (check_closed z t l h 4 line (to_int l r.0) (to_int h r.1) (omega arith) w)
+  fitting_closed b z t (Within l h) line r w = either R T (b && has_bytes l h) [] (check_code z t l h 4 line) tt
+      (check_closed z t l h 4 line (to_int l r.0) (to_int h r.1) (omega arith) w)
 
-  pub operand_check_closed : (z : Option ℤ) (t : ℕ) (low high : ℤ) (number line : ℕ) → IsInt low → IsInt high → IsErrorNumber number → IsLine line → Closed R T 0 0 (operand_check z t low high number line)
+  pub operand_check_closed : (z : Option ℤ) (t : ℕ) (low high : ℤ) (number line : ℕ) → IsInt low → IsInt high
+      → IsErrorNumber number → IsLine line → Closed R T 0 0 (operand_check z t low high number line)
   operand_check_closed None t l h n line p q e w = range_closed t l h n line p q e w
-  operand_check_closed (Some z) t l h n line p q e w = either R T (is_between l z h) [] (i.Trap n line ∷ []) tt ((e, w), tt, tt)
+  operand_check_closed (Some z) t l h n line p q e w = either R T (is_between l z h) [] (i.Trap n line ∷ []) tt
+      ((e, w), tt, tt)
 
   -- ---- expressions as conditions
 
@@ -106,22 +122,35 @@ module _ (R T : ℕ) where
   finish_closed e d f = either R T (is_relation e) (relation_code e d) [] (right_number e d f, tt, tt) tt
 
   pub truth_closed : (e : Expr) (d : ℕ) → ExprFormed R T e → Closed R T 0 0 (truth_finish e d)
-  truth_closed e d f = either R T (is_truth e && not (is_relation e)) [] (relation_code e d) tt (right_number e d f, tt, tt)
+  truth_closed e d f = either R T (is_truth e && not (is_relation e)) [] (relation_code e d) tt
+      (right_number e d f, tt, tt)
 
-  pub function_closed : (f : RequiredFunction) (d line : ℕ) → FunctionFits f → IsLine line → Closed R T 0 0 (function_code f d line)
+  pub function_closed : (f : RequiredFunction) (d line : ℕ) → FunctionFits f → IsLine line → Closed R T 0 0
+      (function_code f d line)
   function_closed Abs d line f w = omega (arith, w)
   function_closed Sqr d line f w = omega (arith, w)
   function_closed Odd d line f w = omega (arith, w)
   function_closed Ord d line f w = tt
   function_closed Chr d line f w = omega (arith, w)
-  function_closed (Succ high) d line f w = (omega (arith, w), tt, anywhere R T (range_code d least high 4 line) 1 0 (range_closed d least high 4 line (omega arith) (to_int high f) (omega arith) w))
-  function_closed (Pred low) d line f w = (omega (arith, w), tt, anywhere R T (range_code d low greatest 4 line) 1 0 (range_closed d low greatest 4 line (to_int low f) (omega arith) (omega arith) w))
+  function_closed (Succ high) d line f w = (
+    omega (arith, w),
+    tt,
+    anywhere R T (range_code d least high 4 line) 1 0
+        (range_closed d least high 4 line (omega arith) (to_int high f) (omega arith) w),
+  )
+  function_closed (Pred low) d line f w = (
+    omega (arith, w),
+    tt,
+    anywhere R T (range_code d low greatest 4 line) 1 0
+        (range_closed d low greatest 4 line (to_int low f) (omega arith) (omega arith) w),
+  )
 
-  pub minus_closed : (z : Option ℤ) (d t line : ℕ) (code : List Instruction) → IsKnown z → IsLine line → Closed R T 0 0 code → Closed R T 0 0 (minus_code z d t line code)
+  pub minus_closed : (z : Option ℤ) (d t line : ℕ) (code : List Instruction) → IsKnown z → IsLine line
+      → Closed R T 0 0 code → Closed R T 0 0 (minus_code z d t line code)
   minus_closed (Some z) d t line code k w c = (k, tt, tt)
   minus_closed None d t line code k w c = both R T code _ c (omega (arith, w))
 
-  -- ---- where a variable stands
+  -- ---- where a variable is
 
   pub load_closed : (b : Bool) (d : ℕ) (s : Site) → Closed R T 0 0 (load_code b d s)
   load_closed true d s = (tt, tt, tt)
@@ -131,9 +160,11 @@ module _ (R T : ℕ) where
   store_closed true s t = (tt, tt, tt)
   store_closed false s t = (tt, tt, tt)
 
-  pub index_closed : (n : Option ℕ) (type : DataType) (s : Site) (t at line : ℕ) (code : List Instruction) → HasBounds type → IsLine line → Closed R T 0 0 code → Closed R T 0 0 (index_code n type s t at line code)
+  pub index_closed : (n : Option ℕ) (type : DataType) (s : Site) (t at line : ℕ) (code : List Instruction)
+      → HasBounds type → IsLine line → Closed R T 0 0 code → Closed R T 0 0 (index_code n type s t at line code)
   index_closed (Some n) type s t at line code h w c = tt
-  index_closed None type s t at line code h w c = both R T code _ c ((to_int (index_of type).low h.0, to_int (index_of type).high h.1, omega arith, w), tt, tt)
+  index_closed None type s t at line code h w c = both R T code _ c
+      ((to_int (index_of type).low h.0, to_int (index_of type).high h.1, omega arith, w), tt, tt)
 
 module _ (R T : ℕ) (k : Scope) where
   hops_closed : (t level up b : ℕ) → Closed R T b 0 (hops k t level up)
@@ -146,7 +177,8 @@ module _ (R T : ℕ) (k : Scope) where
 
   pub link_closed : (t up : ℕ) → Closed R T 0 0 (link_code k t up)
   link_closed t zero = (tt, tt, tt)
-  link_closed t (suc up) = either R T (is_outermost k (suc up)) (i.Offset t base.Program 0 0 ∷ []) _ (tt, tt, tt) (tt, tt, hops_closed t 1 up 1)
+  link_closed t (suc up) = either R T (is_outermost k (suc up)) (i.Offset t base.Program 0 0 ∷ []) _ (tt, tt, tt)
+      (tt, tt, hops_closed t 1 up 1)
 
   pub formal_closed : (t up index : ℕ) → Closed R T 0 0 (formal_code k t up index)
   formal_closed t up index = both R T (frame_code k t up) _ (frame_closed t up) (tt, tt, (tt, tt, tt))
@@ -158,7 +190,8 @@ module _ (R T : ℕ) (k : Scope) where
   reference_closed None t up index = tt
 
   pub name_closed : (name : PlaceBase) (t : ℕ) → Closed R T 0 0 (name_code k name t)
-  name_closed (Entry up index) t = both R T (frame_code k t up) _ (frame_closed t up) (reference_closed (kind_at k up index) t up index)
+  name_closed (Entry up index) t = both R T (frame_code k t up) _ (frame_closed t up)
+      (reference_closed (kind_at k up index) t up index)
   name_closed (Opened which type number) t = tt
 
 -- ---- a set against the bounds of a base
@@ -167,17 +200,23 @@ module _ (R T : ℕ) where
   joined_closed : (t x mask : ℕ) → mask < 4294967296 → Closed R T 0 0 (joined_word t x mask)
   joined_closed t x mask l =
       either R T (nat_eq mask 0) [] _ tt
-      (both R T (i.Load (beside t) base.Scratch x ∷ masked (beside t) mask) _ (both R T (i.Load (beside t) base.Scratch x ∷ []) _ (tt, tt, tt) (either R T (nat_eq mask 4294967295) [] _ tt (number_int mask l, tt, tt))) (tt, tt, tt))
+      (both R T (i.Load (beside t) base.Scratch x ∷ masked (beside t) mask) _
+      (both R T (i.Load (beside t) base.Scratch x ∷ []) _ (tt, tt, tt)
+      (either R T (nat_eq mask 4294967295) [] _ tt (number_int mask l, tt, tt))) (tt, tt, tt))
 
   outside_closed : (low high : ℤ) (t x words : ℕ) → Closed R T 0 0 (outside_code low high t x words)
   unfolding outside_code
   outside_closed low high t x zero = tt
-  outside_closed low high t x (suc q) = both R T (outside_code low high t x q) _ (outside_closed low high t x q) (joined_closed t (x + 4 * q) (outside_bits low high q) (outside_small low high q))
+  outside_closed low high t x (suc q) = both R T (outside_code low high t x q) _ (outside_closed low high t x q)
+      (joined_closed t (x + 4 * q) (outside_bits low high q) (outside_small low high q))
 
-  pub set_check_closed : (t x : ℕ) (low high : ℤ) (line : ℕ) → IsLine line → Closed R T 0 0 (set_check t x low high line)
+  pub set_check_closed : (t x : ℕ) (low high : ℤ) (line : ℕ) → IsLine line → Closed R T 0 0
+      (set_check t x low high line)
   set_check_closed t x low high line w =
       either R T (holds_all low high) [] _ tt
-      (both R T (i.Literal t (pos 0) ∷ outside_code low high t x 8) _ (both R T (i.Literal t (pos 0) ∷ []) _ (omega arith, tt, tt) (outside_closed low high t x 8)) (omega arith, omega arith, (omega (arith, w), tt, tt)))
+      (both R T (i.Literal t (pos 0) ∷ outside_code low high t x 8) _
+      (both R T (i.Literal t (pos 0) ∷ []) _ (omega arith, tt, tt) (outside_closed low high t x 8))
+      (omega arith, omega arith, (omega (arith, w), tt, tt)))
 
 -- ---- sets
 
@@ -190,7 +229,8 @@ module _ (R T : ℕ) where
   bit_number : (n : ℕ) → IsInt (number_of (2 ^ (n % 32)))
   bit_number n = let l : n % 32 < 32 = omega arith in let e = pow-lt l in number_int (2 ^ (n % 32)) (omega (arith, e))
 
-  pub one_closed : (m : Option ℕ) (t x : ℕ) (code : List Instruction) → Closed R T 0 0 code → Closed R T 0 0 (one_code m t x code)
+  pub one_closed : (m : Option ℕ) (t x : ℕ) (code : List Instruction) → Closed R T 0 0 code → Closed R T 0 0
+      (one_code m t x code)
   one_closed None t x code c = c
   one_closed (Some n) t x code c = (tt, tt, (bit_number n, tt, (tt, tt, tt)))
 

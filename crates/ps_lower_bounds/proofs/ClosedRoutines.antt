@@ -1,16 +1,23 @@
 -- The code of a routine is closed, but for its end, to which jumps may lead.
-use Rattle.std.proofs.Common.{◌≡◌, ℕ, suc, ◌+◌, ◌≤◌, if◌then◌else◌, List, [], ◌∷◌, ◌++◌, length, Option, Some, None, arith}
+use Rattle.std.proofs.Common.{◌≡◌, ℕ, suc, ◌+◌, ◌≤◌, if◌then◌else◌, List, [], ◌∷◌, ◌++◌, length, Option, Some, None}
+use Rattle.std.proofs.Common.{arith}
 use Rattle.ps_tree.specs.Types.{DataType}
 use Rattle.ps_tree.specs.Sizes.{cells}
-use Rattle.ps_tree.specs.Counts.{routine_cells, routine_extent, formals_extent, formal_cells, result_extent, variables_extent}
-use Rattle.ps_tree.specs.Tree.{Formal, ValueFormal, VariableFormal, RoutineFormal, Formals, no_formal, formal_before, Routine, Program}
+use Rattle.ps_tree.specs.Counts.{routine_cells, routine_extent, formals_extent, formal_cells, result_extent}
+use Rattle.ps_tree.specs.Counts.{variables_extent}
+use Rattle.ps_tree.specs.Tree.{Formal, ValueFormal, VariableFormal, RoutineFormal, Formals, no_formal, formal_before}
+use Rattle.ps_tree.specs.Tree.{Routine, Program}
 use Rattle.tac_code.specs.declared.code.Base.TheVariants as base
 use Rattle.tac_code.specs.declared.code.Instruction.TheVariants as i
-use Rattle.ps_lower_layout.specs.Shapes.{Shape, NumberShape, PointerShape, SetShape, ByteShape, ArrayShape, RecordShape, shape_of, byte_count}
-use Rattle.ps_lower_layout.specs.Frames.{Kind, Own, Reference, Closure, Kinds, no_kind, kind_before, kind_of, kinds_of, entry_offset, link_offset, is_program_block}
+use Rattle.ps_lower_layout.specs.Shapes.{Shape, NumberShape, PointerShape, SetShape, ByteShape, ArrayShape}
+use Rattle.ps_lower_layout.specs.Shapes.{RecordShape, shape_of, byte_count}
+use Rattle.ps_lower_layout.specs.Frames.{Kind, Own, Reference, Closure, Kinds, no_kind, kind_before, kind_of, kinds_of}
+use Rattle.ps_lower_layout.specs.Frames.{entry_offset, link_offset, is_program_block}
 use Rattle.ps_lower_code.specs.Scopes.{Scope}
 use Rattle.ps_lower_code.specs.Statements.{first_code, statements_code}
-use Rattle.ps_lower_code.specs.Routines.{own_code, parameter_code, parameter_words, parameter_total, parameters_code, variables_code, result_code, result_entries, count_kinds, input_code, begin_code, scope_of}
+use Rattle.ps_lower_code.specs.Routines.{own_code, parameter_code, parameter_words, parameter_total, parameters_code}
+use Rattle.ps_lower_code.specs.Routines.{variables_code, result_code, result_entries, count_kinds, input_code}
+use Rattle.ps_lower_code.specs.Routines.{begin_code, scope_of}
 use Rattle.ps_lower_bounds.specs.Forms.{IsSmall, VariablesHaveFirst, ResultHasFirst, RoutineFormed}
 use Rattle.ps_lower_bounds.proofs.Cells.{words_cells}
 use Rattle.ps_lower_bounds.proofs.Closed.{Closed, both, four, either}
@@ -44,7 +51,8 @@ kinds_small no_formal l = tt
 kinds_small (formal_before f rest) l = (kind_small f (omega (arith, l)), kinds_small rest (omega (arith, l)))
 
 module _ (R T : ℕ) (k : Scope) (r : Routine) (h : length k.program.routines ≡ R) where
-  own_closed : (shape : Shape) (t offset free : ℕ) → IsSmall (byte_count shape) → Closed R T 0 0 (own_code k shape t offset free)
+  own_closed : (shape : Shape) (t offset free : ℕ) → IsSmall (byte_count shape) → Closed R T 0 0
+      (own_code k shape t offset free)
   own_closed (NumberShape first narrow) t offset free s = (tt, tt, tt)
   own_closed (PointerShape pointer) t offset free s = (tt, tt, tt)
   own_closed SetShape t offset free s = omega (arith, h, s)
@@ -52,42 +60,56 @@ module _ (R T : ℕ) (k : Scope) (r : Routine) (h : length k.program.routines �
   own_closed (ArrayShape count shape) t offset free s = omega (arith, h, s)
   own_closed (RecordShape shapes) t offset free s = omega (arith, h, s)
 
-  parameter_closed : (kind : Kind) (t offset free : ℕ) → IsSmallKind kind → Closed R T 0 0 (parameter_code k kind t offset free)
+  parameter_closed : (kind : Kind) (t offset free : ℕ) → IsSmallKind kind → Closed R T 0 0
+      (parameter_code k kind t offset free)
   parameter_closed (Own shape) t offset free s = own_closed shape t offset free s
   parameter_closed (Reference shape) t offset free s = (tt, tt, tt)
   parameter_closed (Closure kinds result) t offset free s = (tt, tt, (tt, tt, tt))
 
-  parameters_closed : (kinds : Kinds) (t index free : ℕ) → AreSmallKinds kinds → Closed R T 0 0 (parameters_code k r kinds t index free)
+  parameters_closed : (kinds : Kinds) (t index free : ℕ) → AreSmallKinds kinds → Closed R T 0 0
+      (parameters_code k r kinds t index free)
   parameters_closed no_kind t index free s = tt
   parameters_closed (kind_before kind rest) t index free s =
-      both R T (parameter_code k kind t (entry_offset r index) free) _ (parameter_closed kind t (entry_offset r index) free s.0) (parameters_closed rest (t + parameter_words kind) (suc index) free s.1)
+      both R T (parameter_code k kind t (entry_offset r index) free) _
+      (parameter_closed kind t (entry_offset r index) free s.0)
+      (parameters_closed rest (t + parameter_words kind) (suc index) free s.1)
 
   -- ---- first values
 
-  variables_closed : (types : List DataType) (index free : ℕ) → VariablesHaveFirst types → (variables_extent types).taken ≤ 100000 → Closed R T 0 0 (variables_code k r types index free)
+  variables_closed : (types : List DataType) (index free : ℕ) → VariablesHaveFirst types
+      → (variables_extent types).taken ≤ 100000 → Closed R T 0 0 (variables_code k r types index free)
   unfolding variables_extent
   variables_closed [] index free f l = tt
   variables_closed (type ∷ rest) index free f l =
-      both R T (first_code k base.Frame free (entry_offset r index) (shape_of type)) _ (first_closed R T k h base.Frame free (entry_offset r index) (shape_of type) f.0 (few_bytes type (omega (arith, l)))) (variables_closed rest (suc index) free f.1 (omega (arith, l)))
+      both R T (first_code k base.Frame free (entry_offset r index) (shape_of type)) _
+      (first_closed R T k h base.Frame free (entry_offset r index) (shape_of type) f.0
+      (few_bytes type (omega (arith, l)))) (variables_closed rest (suc index) free f.1 (omega (arith, l)))
 
-  result_closed : (result : Option DataType) (free : ℕ) → ResultHasFirst result → (result_extent result).taken ≤ 100000 → Closed R T 0 0 (result_code k r result free)
+  result_closed : (result : Option DataType) (free : ℕ) → ResultHasFirst result → (result_extent result).taken ≤ 100000
+      → Closed R T 0 0 (result_code k r result free)
   unfolding result_extent
   result_closed None free f l = tt
-  result_closed (Some type) free f l = first_closed R T k h base.Frame free (entry_offset r 0) (shape_of type) f (few_bytes type (omega (arith, l)))
+  result_closed (Some type) free f l = first_closed R T k h base.Frame free (entry_offset r 0) (shape_of type) f
+      (few_bytes type (omega (arith, l)))
 
-  begin_closed : ResultHasFirst r.result → VariablesHaveFirst r.variables → routine_cells r ≤ 100000 → Closed R T 0 0 (begin_code k r)
+  begin_closed : ResultHasFirst r.result → VariablesHaveFirst r.variables → routine_cells r ≤ 100000 → Closed R T 0 0
+      (begin_code k r)
   unfolding routine_extent
   begin_closed f g l =
       let P = parameter_total r in
       four R T (if is_program_block r.chain then input_code r P else (i.Store base.Frame (link_offset r) 0 ∷ [])) _ _ _
-      (either R T (is_program_block r.chain) (input_code r P) (i.Store base.Frame (link_offset r) 0 ∷ []) (omega arith) (tt, tt, tt))
+      (either R T (is_program_block r.chain) (input_code r P) (i.Store base.Frame (link_offset r) 0 ∷ []) (omega arith)
+      (tt, tt, tt))
       (result_closed r.result P f (omega (arith, l)))
       (parameters_closed (kinds_of r.formals) 1 (result_entries r.result) P (kinds_small r.formals (omega (arith, l))))
       (variables_closed r.variables (result_entries r.result + count_kinds (kinds_of r.formals)) P g (omega (arith, l)))
 
 -- all but the end of a routine
-pub routine_closed : (program : Program) (r : Routine) → Known (length program.routines) program → RoutineFormed program r → routine_cells r ≤ 100000
-    → Closed (length program.routines) (length program.domains) 0 0 (begin_code (scope_of program r) r ++ statements_code (scope_of program r) r.body 0)
+pub routine_closed : (program : Program) (r : Routine) → Known (length program.routines) program
+    → RoutineFormed program r → routine_cells r ≤ 100000
+    → Closed (length program.routines) (length program.domains) 0 0
+    (begin_code (scope_of program r) r ++ statements_code (scope_of program r) r.body 0)
 routine_closed program r h f l =
     let R = length program.routines in let T = length program.domains in let k = scope_of program r in
-    both R T (begin_code k r) _ (begin_closed R T k r h.0 f.result f.variables l) (statements_closed R T k h r.body 0 f.body)
+    both R T (begin_code k r) _ (begin_closed R T k r h.0 f.result f.variables l)
+    (statements_closed R T k h r.body 0 f.body)

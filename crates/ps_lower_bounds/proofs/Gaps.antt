@@ -1,5 +1,7 @@
--- The number of a component lies below the count of its array.
-use Rattle.std.proofs.Common.{◌≡◌, ℕ, zero, suc, ◌+◌, ◌-◌, ◌<◌, ◌≤◌, ℤ, pos, negsuc, ◌-ℤ◌, unsigned_abs, int_lt, int_le, Bool, true, false, not, ◌&&◌, nat_lt, nat_le, if◌then◌else◌, refl, sym, ap, ◌∙◌, arith, ltb-true, ltb-false, leb-true, le-leb}
+-- The number of a component is below the count of its array.
+use Rattle.std.proofs.Common.{◌≡◌, ℕ, zero, suc, ◌+◌, ◌-◌, ◌<◌, ◌≤◌, ℤ, pos, negsuc, ◌-ℤ◌, unsigned_abs, int_lt}
+use Rattle.std.proofs.Common.{int_le, Bool, true, false, not, ◌&&◌, nat_lt, nat_le, if◌then◌else◌, refl, sym, ap, ◌∙◌}
+use Rattle.std.proofs.Common.{arith, ltb-true, ltb-false, leb-true, le-leb}
 use Rattle.ps_tree.specs.declared.types.Ordinal.{Ordinal}
 use Rattle.ps_tree.specs.Sizes.{value_count}
 use Rattle.ps_meaning.specs.Operators.{is_between}
@@ -14,7 +16,8 @@ not_below : (n m : ℕ) → nat_le n m ≡ not (nat_lt m n)
 not_below n m = go (nat_lt m n) refl
   where
     go : (b : Bool) → nat_lt m n ≡ b → nat_le n m ≡ not b
-    go true e = same_test (nat_le n m) false (λ f. let l = leb-true n m f in let h = ltb-true m n e in absurd (omega arith)) (λ f. absurd (cc))
+    go true e = same_test (nat_le n m) false (λ f. let l = leb-true n m f in let h = ltb-true m n e in absurd
+        (omega arith)) (λ f. absurd (cc))
     go false e = let h = ltb-false m n e in le-leb n m (omega arith)
 
 -- what is not above
@@ -24,7 +27,7 @@ at_most (pos a) (negsuc b) = refl
 at_most (negsuc a) (pos b) = refl
 at_most (negsuc a) (negsuc b) = not_below b a
 
--- how far the second number lies above the first
+-- how far the second number is above the first
 abbrev pub gap : ℤ → ℤ → ℕ
 gap (pos a) (pos b) = b - a
 gap (pos a) (negsuc b) = 0
@@ -62,7 +65,8 @@ gap_more (negsuc a) (negsuc b) (pos h) e f = omega arith
 gap_more (negsuc a) (negsuc b) (negsuc h) e f = let l = leb-true b a e in let m = leb-true h b f in omega (arith, l, m)
 
 le_through : (a b h : ℤ) → int_le a b ≡ true → int_le b h ≡ true → int_le a h ≡ true
-le_through (pos a) (pos b) (pos h) e f = let l = leb-true a b e in let m = leb-true b h f in at_most (pos a) (pos h) ∙ ap not (go (nat_lt h a) refl l m)
+le_through (pos a) (pos b) (pos h) e f = let l = leb-true a b e in let m = leb-true b h f in at_most (pos a) (pos h)
+    ∙ ap not (go (nat_lt h a) refl l m)
   where
     go : (t : Bool) → nat_lt h a ≡ t → a ≤ b → b ≤ h → t ≡ false
     go true q l m = let r = ltb-true h a q in absurd (omega arith)
@@ -72,7 +76,8 @@ le_through (pos a) (negsuc b) h e f = absurd (cc)
 le_through (negsuc a) (pos b) (pos h) e f = refl
 le_through (negsuc a) (pos b) (negsuc h) e f = absurd (cc)
 le_through (negsuc a) (negsuc b) (pos h) e f = refl
-le_through (negsuc a) (negsuc b) (negsuc h) e f = let l = leb-true b a e in let m = leb-true h b f in at_most (negsuc a) (negsuc h) ∙ ap not (go (nat_lt a h) refl l m)
+le_through (negsuc a) (negsuc b) (negsuc h) e f = let l = leb-true b a e in let m = leb-true h b f in at_most (negsuc a)
+    (negsuc h) ∙ ap not (go (nat_lt a h) refl l m)
   where
     go : (t : Bool) → nat_lt a h ≡ t → b ≤ a → h ≤ b → t ≡ false
     go true q l m = let r = ltb-true a h q in absurd (omega arith)
@@ -88,11 +93,14 @@ not_false true e = absurd (cc)
 not_false false e = refl
 
 -- the number of an index's component
-pub index_number : (index : Ordinal) (z : ℤ) → is_between index.low z index.high ≡ true → (z -ℤ index.low ≡ pos (gap index.low z)) × (gap index.low z < value_count index)
+pub index_number : (index : Ordinal) (z : ℤ) → is_between index.low z index.high ≡ true
+    → (z -ℤ index.low ≡ pos (gap index.low z)) × (gap index.low z < value_count index)
 index_number index z e =
     let h = both_parts (int_le index.low z) (int_le z index.high) e in
     let whole = le_through index.low z index.high h.0 h.1 in
     let more = gap_more index.low z index.high h.0 h.1 in
     let inside = not_false (int_lt index.high index.low) (sym whole ∙ at_most index.low index.high) in
-    let count : value_count index ≡ gap index.low index.high + 1 = ap (λ t. if t then 0 else unsigned_abs (index.high -ℤ index.low) + 1) inside ∙ ap (λ q. unsigned_abs q + 1) (gap_is index.low index.high whole) in
+    let count : value_count index ≡ gap index.low index.high
+    + 1 = ap (λ t. if t then 0 else unsigned_abs (index.high -ℤ index.low) + 1) inside
+    ∙ ap (λ q. unsigned_abs q + 1) (gap_is index.low index.high whole) in
     (gap_is index.low z h.0, omega (arith, more, count))

@@ -1,5 +1,7 @@
--- The code of variables, expressions and actual parameters has small offsets, and their variables lie within their blocks.
-use Rattle.std.proofs.Common.{if◌then◌else◌, ℕ, zero, suc, ◌+◌, ◌*◌, ◌≤◌, ℤ, Bool, not, ◌&&◌, nat_eq, List, [], ◌∷◌, ◌++◌, Option, Some, None, subst, arith}
+-- The code of variables, expressions and actual parameters has small offsets, and their variables are within their
+-- blocks.
+use Rattle.std.proofs.Common.{if◌then◌else◌, ℕ, zero, suc, ◌+◌, ◌*◌, ◌≤◌, ℤ, Bool, not, ◌&&◌, nat_eq, List, [], ◌∷◌}
+use Rattle.std.proofs.Common.{◌++◌, Option, Some, None, subst, arith}
 use Rattle.ps_tree.specs.declared.tree.BooleanOperator.{BooleanOperator}
 use Rattle.ps_tree.specs.declared.tree.RequiredFunction.{RequiredFunction}
 use Rattle.ps_tree.specs.declared.tree.RequiredFunction.TheVariants.{Abs, Sqr, Odd, Ord, Chr, Succ, Pred}
@@ -7,32 +9,57 @@ use Rattle.ps_tree.specs.declared.tree.Range.{Range}
 use Rattle.ps_tree.specs.declared.tree.Range.TheVariants.{Any, Within}
 use Rattle.ps_tree.specs.declared.tree.SetRelation.{SetRelation}
 use Rattle.ps_tree.specs.declared.tree.SetRelation.TheVariants as sets
-use Rattle.ps_tree.specs.Tree.{Place, Variable, Element, Field, Target, Selectors, no_selector, selector_before, ArithmeticSteps, no_arithmetic_step, arithmetic_step_before, Operands, no_operand, operand_before, SetSteps, no_set_step, set_step_before, Expr, Number, Nil, Load, Plus, Minus, Not, Arithmetic, Logic, Compare, ComparePointers, CompareSets, CompareStrings, In, Apply, Eof, Eoln, Call, CallFormal, SetExpr, LoadSet, Constructor, Combine, Member, One, Several, Members, no_member, member_before, Structure, Literal, Contents, Argument, ByValue, BySet, ByCopy, ByVariable, ByRoutine, ByFormal, Arguments, no_argument, argument_before, domain_at}
+use Rattle.ps_tree.specs.Tree.{Place, Variable, Element, Field, Target, Selectors, no_selector, selector_before}
+use Rattle.ps_tree.specs.Tree.{ArithmeticSteps, no_arithmetic_step, arithmetic_step_before, Operands, no_operand}
+use Rattle.ps_tree.specs.Tree.{operand_before, SetSteps, no_set_step, set_step_before, Expr, Number, Nil, Load, Plus}
+use Rattle.ps_tree.specs.Tree.{Minus, Not, Arithmetic, Logic, Compare, ComparePointers, CompareSets, CompareStrings}
+use Rattle.ps_tree.specs.Tree.{In, Apply, Eof, Eoln, Call, CallFormal, SetExpr, LoadSet, Constructor, Combine, Member}
+use Rattle.ps_tree.specs.Tree.{One, Several, Members, no_member, member_before, Structure, Literal, Contents, Argument}
+use Rattle.ps_tree.specs.Tree.{ByValue, BySet, ByCopy, ByVariable, ByRoutine, ByFormal, Arguments, no_argument}
+use Rattle.ps_tree.specs.Tree.{argument_before, domain_at}
 use Rattle.ps_meaning.specs.Operators.{is_between}
 use Rattle.tac_code.specs.declared.code.Base.TheVariants as base
 use Rattle.tac_code.specs.declared.code.Instruction.{Instruction}
 use Rattle.tac_code.specs.declared.code.Instruction.TheVariants as i
 use Rattle.ps_lower_layout.specs.Shapes.{Shape, shape_of, byte_count, field_offset, Part, Whole, component_part}
-use Rattle.ps_lower_code.specs.Scopes.{even_from, held, kept, beside, moved, least, greatest, is_any, range_code, check_code, has_bytes, fitting_code, operand_check, unless_known, Site, Scope}
-use Rattle.ps_lower_code.specs.Calling.{selectors_call, expr_calls, steps_call, operands_call, asked_calls, structure_calls, arguments_call}
-use Rattle.ps_lower_code.specs.Values.{literal_of, negated, is_relation, is_truth, relation_code, finish, truth_finish, known_steps, element_site, selectors_site, is_byte, gives_byte, index_code, function_code, minus_code, argument_end, argument_scratch, arguments_end, name_code, name_site, place_site, holds_all, outside_bits, masked, joined_word, outside_code, set_check, membership_code, clear_code, sets_code, range_members, place_code, selectors_code, front_code, steps_code, operands_code, known_member, one_code, adds, joining_code, adding_code, asked_code, set_code, set_steps_code, members_code, member_code, structure_code, argument_code, arguments_code}
-use Rattle.ps_lower_bounds.specs.Places.{PlaceLies, SelectorsLie, ExprLies, StepsLie, OperandsLie, SetLies, SetStepsLie, MemberLies, MembersLie, StructureLies, ArgumentLies, ArgumentsLie}
-use Rattle.ps_lower_bounds.proofs.Narrow.{Narrow, at_narrow, both, three, four, either, unknown, part_bytes, component_most, field_part_in, known_in, Reach, SitesReach, element_reach, load_narrow, site_narrow, index_narrow, Framed, link_narrow, formal_narrow, name_narrow, name_reach, taken_narrow}
+use Rattle.ps_lower_code.specs.Scopes.{even_from, held, kept, beside, moved, least, greatest, is_any, range_code}
+use Rattle.ps_lower_code.specs.Scopes.{check_code, has_bytes, fitting_code, operand_check, unless_known, Site, Scope}
+use Rattle.ps_lower_code.specs.Calling.{selectors_call, expr_calls, steps_call, operands_call, asked_calls}
+use Rattle.ps_lower_code.specs.Calling.{structure_calls, arguments_call}
+use Rattle.ps_lower_code.specs.Values.{literal_of, negated, is_relation, is_truth, relation_code, finish, truth_finish}
+use Rattle.ps_lower_code.specs.Values.{known_steps, element_site, selectors_site, is_byte, gives_byte, index_code}
+use Rattle.ps_lower_code.specs.Values.{function_code, minus_code, argument_end, argument_scratch, arguments_end}
+use Rattle.ps_lower_code.specs.Values.{name_code, name_site, place_site, holds_all, outside_bits, masked, joined_word}
+use Rattle.ps_lower_code.specs.Values.{outside_code, set_check, membership_code, clear_code, sets_code, range_members}
+use Rattle.ps_lower_code.specs.Values.{place_code, selectors_code, front_code, steps_code, operands_code, known_member}
+use Rattle.ps_lower_code.specs.Values.{one_code, adds, joining_code, adding_code, asked_code, set_code, set_steps_code}
+use Rattle.ps_lower_code.specs.Values.{members_code, member_code, structure_code, argument_code, arguments_code}
+use Rattle.ps_lower_bounds.specs.Places.{PlaceLies, SelectorsLie, ExprLies, StepsLie, OperandsLie, SetLies}
+use Rattle.ps_lower_bounds.specs.Places.{SetStepsLie, MemberLies, MembersLie, StructureLies, ArgumentLies}
+use Rattle.ps_lower_bounds.specs.Places.{ArgumentsLie}
+use Rattle.ps_lower_bounds.proofs.Narrow.{Narrow, at_narrow, both, three, four, either, unknown, part_bytes}
+use Rattle.ps_lower_bounds.proofs.Narrow.{component_most, field_part_in, known_in, Reach, SitesReach, element_reach}
+use Rattle.ps_lower_bounds.proofs.Narrow.{load_narrow, site_narrow, index_narrow, Framed, link_narrow, formal_narrow}
+use Rattle.ps_lower_bounds.proofs.Narrow.{name_narrow, name_reach, taken_narrow}
 
 -- ---- pieces without offsets
 
 pub range_narrow : (t : ℕ) (low high : ℤ) (number line : ℕ) → Narrow (range_code t low high number line)
 range_narrow t l h n line = either (is_any l h) [] (i.CheckRange t l h n line ∷ []) tt (tt, tt)
 
-pub check_narrow : (z : Option ℤ) (t : ℕ) (low high : ℤ) (number line : ℕ) → Narrow (check_code z t low high number line)
+pub check_narrow : (z : Option ℤ) (t : ℕ) (low high : ℤ) (number line : ℕ) → Narrow
+    (check_code z t low high number line)
 check_narrow None t l h n line = range_narrow t l h n line
 check_narrow (Some z) t l h n line = either (is_between l z h) [] (i.CheckRange t l h n line ∷ []) tt (tt, tt)
 
-pub fitting_narrow : (b : Bool) (z : Option ℤ) (t : ℕ) (range : Range) (line : ℕ) → Narrow (fitting_code b z t range line)
+pub fitting_narrow : (b : Bool) (z : Option ℤ) (t : ℕ) (range : Range) (line : ℕ) → Narrow
+    (fitting_code b z t range line)
 fitting_narrow b z t Any line = tt
-fitting_narrow b z t (Within l h) line = either (b && has_bytes l h) [] (check_code z t l h 4 line) tt (check_narrow z t l h 4 line)
+fitting_narrow b z t (Within l h) line = either (b && has_bytes l h) [] (check_code z t l h 4 line) tt
+    (check_narrow z t l h 4 line)
 
-pub operand_check_narrow : (z : Option ℤ) (t : ℕ) (low high : ℤ) (number line : ℕ) → Narrow (operand_check z t low high number line)
+pub operand_check_narrow : (z : Option ℤ) (t : ℕ) (low high : ℤ) (number line : ℕ) → Narrow
+    (operand_check z t low high number line)
 operand_check_narrow None t l h n line = range_narrow t l h n line
 operand_check_narrow (Some z) t l h n line = either (is_between l z h) [] (i.Trap n line ∷ []) tt (tt, tt)
 
@@ -54,20 +81,24 @@ function_narrow Chr d line = omega arith
 function_narrow (Succ high) d line = (tt, range_narrow d least high 4 line)
 function_narrow (Pred low) d line = (tt, range_narrow d low greatest 4 line)
 
-minus_narrow : (z : Option ℤ) (d t line : ℕ) (code : List Instruction) → Narrow code → Narrow (minus_code z d t line code)
+minus_narrow : (z : Option ℤ) (d t line : ℕ) (code : List Instruction) → Narrow code → Narrow
+    (minus_code z d t line code)
 minus_narrow (Some z) d t line code c = (tt, tt)
 minus_narrow None d t line code c = both code _ c (tt, (tt, tt))
 
 joined_narrow : (t x mask : ℕ) → Narrow (joined_word t x mask)
-joined_narrow t x mask = either (nat_eq mask 0) [] _ tt (tt, both (masked (beside t) mask) _ (either (nat_eq mask 4294967295) [] _ tt (tt, tt)) (tt, tt))
+joined_narrow t x mask = either (nat_eq mask 0) [] _ tt
+    (tt, both (masked (beside t) mask) _ (either (nat_eq mask 4294967295) [] _ tt (tt, tt)) (tt, tt))
 
 outside_narrow : (low high : ℤ) (t x words : ℕ) → Narrow (outside_code low high t x words)
 unfolding outside_code
 outside_narrow low high t x zero = tt
-outside_narrow low high t x (suc q) = both (outside_code low high t x q) _ (outside_narrow low high t x q) (joined_narrow t (x + 4 * q) (outside_bits low high q))
+outside_narrow low high t x (suc q) = both (outside_code low high t x q) _ (outside_narrow low high t x q)
+    (joined_narrow t (x + 4 * q) (outside_bits low high q))
 
 pub set_check_narrow : (t x : ℕ) (low high : ℤ) (line : ℕ) → Narrow (set_check t x low high line)
-set_check_narrow t x low high line = either (holds_all low high) [] _ tt (tt, both (outside_code low high t x 8) _ (outside_narrow low high t x 8) (tt, (tt, tt)))
+set_check_narrow t x low high line = either (holds_all low high) [] _ tt
+    (tt, both (outside_code low high t x 8) _ (outside_narrow low high t x 8) (tt, (tt, tt)))
 
 module _ (k : Scope) where
   one_narrow : (m : Option ℕ) (t x : ℕ) (code : List Instruction) → Narrow code → Narrow (one_code m t x code)
@@ -98,24 +129,38 @@ module _ (k : Scope) (b : Framed k.program) (os : List Shape) (o : SitesReach k.
   truth_finished : (e : Expr) (d x : ℕ) → Narrow (front_code k e d x) → Narrow (front_code k e d x ++ truth_finish e d)
   truth_finished e d x c = both (front_code k e d x) _ c (truth_narrow e d)
 
-  compared : (a e : Expr) (d x : ℕ) → Narrow (front_code k a (kept (expr_calls e) d) x) → Narrow (front_code k e (even_from (suc (kept (expr_calls e) d))) x)
-      → Narrow ((front_code k a (kept (expr_calls e) d) x ++ finish a (kept (expr_calls e) d)) ++ unless_known (literal_of e) (front_code k e (even_from (suc (kept (expr_calls e) d))) x ++ finish e (even_from (suc (kept (expr_calls e) d)))))
+  compared : (a e : Expr) (d x : ℕ) → Narrow (front_code k a (kept (expr_calls e) d) x) → Narrow
+      (front_code k e (even_from (suc (kept (expr_calls e) d))) x)
+      → Narrow ((front_code k a (kept (expr_calls e) d) x ++ finish a (kept (expr_calls e) d)) ++ unless_known
+      (literal_of e) (front_code k e (even_from (suc (kept (expr_calls e) d))) x ++ finish e
+      (even_from (suc (kept (expr_calls e) d)))))
   compared a e d x c f =
-      both (front_code k a (kept (expr_calls e) d) x ++ finish a (kept (expr_calls e) d)) _ (finished a (kept (expr_calls e) d) x c) (unknown (literal_of e) _ (finished e (even_from (suc (kept (expr_calls e) d))) x f))
+      both (front_code k a (kept (expr_calls e) d) x ++ finish a (kept (expr_calls e) d)) _
+      (finished a (kept (expr_calls e) d) x c)
+      (unknown (literal_of e) _ (finished e (even_from (suc (kept (expr_calls e) d))) x f))
 
   -- ---- where a selector leads
 
-  selectors_reach : (selectors : Selectors) (s : Site) (t : ℕ) (part part' : Part) → SelectorsLie k os selectors part part' → Reach s part → Reach (selectors_site selectors s t) part'
+  selectors_reach : (selectors : Selectors) (s : Site) (t : ℕ) (part part' : Part)
+      → SelectorsLie k os selectors part part' → Reach s part → Reach (selectors_site selectors s t) part'
   selectors_reach no_selector s t part part' f r = subst (λ p. s.offset + part_bytes p ≤ 1000000) f r
   selectors_reach (selector_before (Element type e line) rest) s t part part' f r =
-      selectors_reach rest (element_site (known_steps type (literal_of e)) s t) t (component_part (shape_of type)) part' f.3
-      (element_reach type (known_steps type (literal_of e)) s t f.1 (known_in type f.1 (literal_of e)) (subst (λ p. s.offset + part_bytes p ≤ 1000000) f.0 r))
+      selectors_reach rest (element_site (known_steps type (literal_of e)) s t) t
+      (component_part (shape_of type)) part' f.3
+      (element_reach type (known_steps type (literal_of e)) s t f.1 (known_in type f.1 (literal_of e))
+      (subst (λ p. s.offset + part_bytes p ≤ 1000000) f.0 r))
   selectors_reach (selector_before (Field type number) rest) s t part part' f r =
       let l : s.offset + byte_count (shape_of type) ≤ 1000000 = subst (λ p. s.offset + part_bytes p ≤ 1000000) f.0 r in
       let m = field_part_in (shape_of type) number f.1.0 f.1.1 in
-      selectors_reach rest (record { base = s.base; offset = s.offset + field_offset (shape_of type) number }) t (Whole f.1.0) part' f.1.2 (omega (arith, l, m))
+      selectors_reach rest (record {
+        base = s.base;
+        offset = s.offset + field_offset (shape_of type) number;
+      }) t (Whole f.1.0) part' f.1.2 (omega (arith, l, m))
   selectors_reach (selector_before (Target pointer line) rest) s t part part' f r =
-      selectors_reach rest (record { base = base.Temporary t; offset = 0 }) t (Whole (shape_of (domain_at k.program pointer))) part' f (let l = b.domains pointer in omega (arith, l))
+      selectors_reach rest (record {
+        base = base.Temporary t;
+        offset = 0;
+      }) t (Whole (shape_of (domain_at k.program pointer))) part' f (let l = b.domains pointer in omega (arith, l))
 
   pub place_reach : (p : Place) (d : ℕ) (part : Part) → PlaceLies k os p part → Reach (place_site k p d) part
   place_reach (Variable name selectors) d part f =
@@ -129,47 +174,75 @@ module _ (k : Scope) (b : Framed k.program) (os : List Shape) (o : SitesReach k.
     pub place_narrow : (p : Place) (d x : ℕ) (part : Part) → PlaceLies k os p part → Narrow (place_code k p d x)
     place_narrow (Variable name selectors) d x part f =
         let t = kept (selectors_call selectors) d in
-        both (name_code k name t) _ (name_narrow k b name t) (selectors_narrow selectors (name_site k name t) t x (Whole f.0) part f.2 (name_reach k b os o name t f.0 f.1))
+        both (name_code k name t) _ (name_narrow k b name t)
+        (selectors_narrow selectors (name_site k name t) t x (Whole f.0) part f.2
+        (name_reach k b os o name t f.0 f.1))
 
-    selectors_narrow : (selectors : Selectors) (s : Site) (t x : ℕ) (part part' : Part) → SelectorsLie k os selectors part part' → Reach s part → Narrow (selectors_code k selectors s t x)
+    selectors_narrow : (selectors : Selectors) (s : Site) (t x : ℕ) (part part' : Part)
+        → SelectorsLie k os selectors part part' → Reach s part → Narrow (selectors_code k selectors s t x)
     selectors_narrow no_selector s t x part part' f r = tt
     selectors_narrow (selector_before (Element type e line) rest) s t x part part' f r =
-        let l : s.offset + byte_count (shape_of type) ≤ 1000000 = subst (λ p. s.offset + part_bytes p ≤ 1000000) f.0 r in
+        let l : s.offset + byte_count (shape_of type) ≤ 1000000 = subst (λ p. s.offset + part_bytes p ≤ 1000000) f.0 r
+        in
         let m = component_most type f.1 in
-        both (index_code (known_steps type (literal_of e)) type s t (even_from (suc t)) line (front_code k e (even_from (suc t)) x ++ finish e (even_from (suc t)))) _
-        (index_narrow (known_steps type (literal_of e)) type s t (even_from (suc t)) line _ (omega (arith, l, m)) (finished e (even_from (suc t)) x (front_narrow e (even_from (suc t)) x f.2)))
-        (selectors_narrow rest (element_site (known_steps type (literal_of e)) s t) t x (component_part (shape_of type)) part' f.3 (element_reach type (known_steps type (literal_of e)) s t f.1 (known_in type f.1 (literal_of e)) l))
+        both (index_code (known_steps type (literal_of e)) type s t (even_from (suc t)) line
+        (front_code k e (even_from (suc t)) x ++ finish e (even_from (suc t)))) _
+        (index_narrow (known_steps type (literal_of e)) type s t (even_from (suc t)) line _ (omega (arith, l, m))
+        (finished e (even_from (suc t)) x (front_narrow e (even_from (suc t)) x f.2)))
+        (selectors_narrow rest (element_site (known_steps type (literal_of e)) s t) t x
+        (component_part (shape_of type)) part' f.3
+        (element_reach type (known_steps type (literal_of e)) s t f.1 (known_in type f.1 (literal_of e)) l))
     selectors_narrow (selector_before (Field type number) rest) s t x part part' f r =
-        let l : s.offset + byte_count (shape_of type) ≤ 1000000 = subst (λ p. s.offset + part_bytes p ≤ 1000000) f.0 r in
+        let l : s.offset + byte_count (shape_of type) ≤ 1000000 = subst (λ p. s.offset + part_bytes p ≤ 1000000) f.0 r
+        in
         let m = field_part_in (shape_of type) number f.1.0 f.1.1 in
-        selectors_narrow rest (record { base = s.base; offset = s.offset + field_offset (shape_of type) number }) t x (Whole f.1.0) part' f.1.2 (omega (arith, l, m))
+        selectors_narrow rest (record {
+          base = s.base;
+          offset = s.offset + field_offset (shape_of type) number;
+        }) t x (Whole f.1.0) part' f.1.2 (omega (arith, l, m))
     selectors_narrow (selector_before (Target pointer line) rest) s t x part part' f r =
-        both (i.Load t s.base s.offset ∷ i.CheckPointer t 6 line ∷ []) _ (at_narrow s.base s.offset (omega (arith, r)), (tt, tt))
-        (selectors_narrow rest (record { base = base.Temporary t; offset = 0 }) t x (Whole (shape_of (domain_at k.program pointer))) part' f (let l = b.domains pointer in omega (arith, l)))
+        both (i.Load t s.base s.offset ∷ i.CheckPointer t 6 line ∷ []) _
+        (at_narrow s.base s.offset (omega (arith, r)), (tt, tt))
+        (selectors_narrow rest (record {
+          base = base.Temporary t;
+          offset = 0;
+        }) t x (Whole (shape_of (domain_at k.program pointer))) part' f (let l = b.domains pointer in omega (arith, l)))
 
     pub front_narrow : (e : Expr) (d x : ℕ) → ExprLies k os e → Narrow (front_code k e d x)
     front_narrow (Number n) d x f = (tt, tt)
     front_narrow Nil d x f = (tt, tt)
-    front_narrow (Load p) d x f = both (place_code k p d x) _ (place_narrow p d x f.0 f.1) (load_narrow (is_byte p) d (place_site k p d) (place_most p d f.0 f.1))
+    front_narrow (Load p) d x f = both (place_code k p d x) _ (place_narrow p d x f.0 f.1)
+        (load_narrow (is_byte p) d (place_site k p d) (place_most p d f.0 f.1))
     front_narrow (Plus e) d x f = finished e d x (front_narrow e d x f)
-    front_narrow (Minus e line) d x f = minus_narrow (negated e) d (even_from (suc d)) line _ (finished e (even_from (suc d)) x (front_narrow e (even_from (suc d)) x f))
+    front_narrow (Minus e line) d x f = minus_narrow (negated e) d (even_from (suc d)) line _
+        (finished e (even_from (suc d)) x (front_narrow e (even_from (suc d)) x f))
     front_narrow (Not e) d x f = front_narrow e d x f
     front_narrow (Arithmetic e steps) d x f =
         let a = kept (steps_call steps) d in
-        three (front_code k e a x ++ finish e a) _ _ (finished e a x (front_narrow e a x f.0)) (steps_narrow steps a x f.1) (moved_narrow a d)
+        three (front_code k e a x ++ finish e a) _ _ (finished e a x (front_narrow e a x f.0))
+        (steps_narrow steps a x f.1) (moved_narrow a d)
     front_narrow (Logic operator e rest) d x f =
         let a = kept (operands_call rest) d in
-        three (front_code k e a x ++ truth_finish e a) _ _ (truth_finished e a x (front_narrow e a x f.0)) (operands_narrow operator rest a x f.1) (moved_narrow a d)
-    front_narrow (Compare relation a e) d x f = compared a e d x (front_narrow a (kept (expr_calls e) d) x f.0) (front_narrow e (even_from (suc (kept (expr_calls e) d))) x f.1)
-    front_narrow (ComparePointers relation a e) d x f = compared a e d x (front_narrow a (kept (expr_calls e) d) x f.0) (front_narrow e (even_from (suc (kept (expr_calls e) d))) x f.1)
+        three (front_code k e a x ++ truth_finish e a) _ _ (truth_finished e a x (front_narrow e a x f.0))
+        (operands_narrow operator rest a x f.1) (moved_narrow a d)
+    front_narrow (Compare relation a e) d x f = compared a e d x (front_narrow a (kept (expr_calls e) d) x f.0)
+        (front_narrow e (even_from (suc (kept (expr_calls e) d))) x f.1)
+    front_narrow (ComparePointers relation a e) d x f = compared a e d x (front_narrow a (kept (expr_calls e) d) x f.0)
+        (front_narrow e (even_from (suc (kept (expr_calls e) d))) x f.1)
     front_narrow (CompareSets relation a e) d x f =
-        four (set_code k a (even_from d) x) _ _ _ (set_narrow a (even_from d) x f.0) (set_narrow e (even_from d) (x + 32) f.1) (sets_narrow k relation (even_from d) x) (moved_narrow (even_from d) d)
+        four (set_code k a (even_from d) x) _ _ _ (set_narrow a (even_from d) x f.0)
+        (set_narrow e (even_from d) (x + 32) f.1) (sets_narrow k relation (even_from d) x)
+        (moved_narrow (even_from d) d)
     front_narrow (CompareStrings relation a e) d x f =
-        three (structure_code k a (held (structure_calls e) d) x) _ _ (structure_narrow a (held (structure_calls e) d) x f.0) (structure_narrow e (even_from (suc (held (structure_calls e) d))) x f.1) (tt, (tt, tt))
+        three (structure_code k a (held (structure_calls e) d) x) _ _
+        (structure_narrow a (held (structure_calls e) d) x f.0)
+        (structure_narrow e (even_from (suc (held (structure_calls e) d))) x f.1) (tt, (tt, tt))
     front_narrow (In a e) d x f =
         let m = kept (asked_calls e) d in let u = even_from (suc m) in
-        three (front_code k a m x ++ finish a m) _ _ (finished a m x (front_narrow a m x f.0)) (asked_narrow e u x f.1) (membership_narrow k m u d)
-    front_narrow (Apply function e line) d x f = both (front_code k e d x ++ finish e d) _ (finished e d x (front_narrow e d x f)) (function_narrow function d line)
+        three (front_code k a m x ++ finish a m) _ _ (finished a m x (front_narrow a m x f.0)) (asked_narrow e u x f.1)
+        (membership_narrow k m u d)
+    front_narrow (Apply function e line) d x f = both (front_code k e d x ++ finish e d) _
+        (finished e d x (front_narrow e d x f)) (function_narrow function d line)
     front_narrow Eof d x f = let l = b.input in omega (arith, l)
     front_narrow (Eoln line) d x f = let l = b.input in omega (arith, l)
     front_narrow (Call routine up arguments line) d x f =
@@ -177,40 +250,53 @@ module _ (k : Scope) (b : Framed k.program) (os : List Shape) (o : SitesReach k.
         three (arguments_code k arguments d x) _ _ (arguments_narrow arguments d x f) (link_narrow k t up) (tt, tt)
     front_narrow (CallFormal up index arguments line) d x f =
         let t = even_from (arguments_end arguments d) in
-        three (arguments_code k arguments d x) _ _ (arguments_narrow arguments d x f) (formal_narrow k b t up index) (tt, tt)
+        three (arguments_code k arguments d x) _ _ (arguments_narrow arguments d x f) (formal_narrow k b t up index)
+        (tt, tt)
 
     steps_narrow : (steps : ArithmeticSteps) (a x : ℕ) → StepsLie k os steps → Narrow (steps_code k steps a x)
     steps_narrow no_arithmetic_step a x f = tt
     steps_narrow (arithmetic_step_before operator e line rest) a x f =
         both (unless_known (literal_of e) (front_code k e (even_from (suc a)) x ++ finish e (even_from (suc a)))) _
-        (unknown (literal_of e) _ (finished e (even_from (suc a)) x (front_narrow e (even_from (suc a)) x f.0))) (tt, steps_narrow rest a x f.1)
+        (unknown (literal_of e) _ (finished e (even_from (suc a)) x (front_narrow e (even_from (suc a)) x f.0)))
+        (tt, steps_narrow rest a x f.1)
 
-    operands_narrow : (operator : BooleanOperator) (operands : Operands) (a x : ℕ) → OperandsLie k os operands → Narrow (operands_code k operator operands a x)
+    operands_narrow : (operator : BooleanOperator) (operands : Operands) (a x : ℕ) → OperandsLie k os operands → Narrow
+        (operands_code k operator operands a x)
     operands_narrow operator no_operand a x f = tt
     operands_narrow operator (operand_before e rest) a x f =
         both (front_code k e (even_from (suc a)) x ++ truth_finish e (even_from (suc a))) _
-        (truth_finished e (even_from (suc a)) x (front_narrow e (even_from (suc a)) x f.0)) (tt, operands_narrow operator rest a x f.1)
+        (truth_finished e (even_from (suc a)) x (front_narrow e (even_from (suc a)) x f.0))
+        (tt, operands_narrow operator rest a x f.1)
 
     asked_narrow : (e : SetExpr) (t x : ℕ) → SetLies k os e → Narrow (asked_code k e t x)
-    asked_narrow (LoadSet p) t x f = both (place_code k p t x) _ (place_narrow p t x f.0 f.1) (site_narrow t (place_site k p t) 32 (place_most p t f.0 f.1) (omega arith))
+    asked_narrow (LoadSet p) t x f = both (place_code k p t x) _ (place_narrow p t x f.0 f.1)
+        (site_narrow t (place_site k p t) 32 (place_most p t f.0 f.1) (omega arith))
     asked_narrow (Constructor members) t x f =
         both (clear_code k (even_from t) x ++ members_code k members t x) _
-        (both (clear_code k (even_from t) x) _ (clear_narrow k (even_from t) x) (members_of_narrow members t x f)) ((tt, tt), tt)
+        (both (clear_code k (even_from t) x) _ (clear_narrow k (even_from t) x) (members_of_narrow members t x f))
+        ((tt, tt), tt)
     asked_narrow (Combine e steps) t x f =
-        both (set_code k e t x ++ set_steps_code k steps t x) _ (both (set_code k e t x) _ (set_narrow e t x f.0) (set_steps_narrow steps t x f.1)) ((tt, tt), tt)
+        both (set_code k e t x ++ set_steps_code k steps t x) _
+        (both (set_code k e t x) _ (set_narrow e t x f.0) (set_steps_narrow steps t x f.1)) ((tt, tt), tt)
 
     pub set_narrow : (e : SetExpr) (d x : ℕ) → SetLies k os e → Narrow (set_code k e d x)
     set_narrow (LoadSet p) d x f =
-        three (place_code k p d x) _ _ (place_narrow p d x f.0 f.1) (site_narrow (even_from (suc d)) (place_site k p d) 32 (place_most p d f.0 f.1) (omega arith)) (taken_narrow x (even_from (suc d)) 0 (beside (even_from (suc d))) 8 (omega arith))
-    set_narrow (Constructor members) d x f = both (clear_code k (even_from d) x) _ (clear_narrow k (even_from d) x) (members_of_narrow members d x f)
-    set_narrow (Combine e steps) d x f = both (set_code k e d x) _ (set_narrow e d x f.0) (set_steps_narrow steps d x f.1)
+        three (place_code k p d x) _ _ (place_narrow p d x f.0 f.1)
+        (site_narrow (even_from (suc d)) (place_site k p d) 32 (place_most p d f.0 f.1) (omega arith))
+        (taken_narrow x (even_from (suc d)) 0 (beside (even_from (suc d))) 8 (omega arith))
+    set_narrow (Constructor members) d x f = both (clear_code k (even_from d) x) _ (clear_narrow k (even_from d) x)
+        (members_of_narrow members d x f)
+    set_narrow (Combine e steps) d x f = both (set_code k e d x) _ (set_narrow e d x f.0)
+        (set_steps_narrow steps d x f.1)
 
     set_steps_narrow : (steps : SetSteps) (d x : ℕ) → SetStepsLie k os steps → Narrow (set_steps_code k steps d x)
     set_steps_narrow no_set_step d x f = tt
     set_steps_narrow (set_step_before operator e rest) d x f =
         let u = beside (even_from d) in
-        both (if adds operator e then adding_code k e d x else (asked_code k e u (x + 32) ++ joining_code k operator (even_from d) x)) _
-        (either (adds operator e) (adding_code k e d x) _ (adding_narrow e d x f.0) (both (asked_code k e u (x + 32)) _ (asked_narrow e u (x + 32) f.0) ((tt, tt), (tt, tt))))
+        both (if adds operator e then adding_code k e d x
+        else (asked_code k e u (x + 32) ++ joining_code k operator (even_from d) x)) _
+        (either (adds operator e) (adding_code k e d x) _ (adding_narrow e d x f.0)
+        (both (asked_code k e u (x + 32)) _ (asked_narrow e u (x + 32) f.0) ((tt, tt), (tt, tt))))
         (set_steps_narrow rest d x f.1)
 
     adding_narrow : (e : SetExpr) (d x : ℕ) → SetLies k os e → Narrow (adding_code k e d x)
@@ -220,28 +306,36 @@ module _ (k : Scope) (b : Framed k.program) (os : List Shape) (o : SitesReach k.
 
     members_of_narrow : (members : Members) (d x : ℕ) → MembersLie k os members → Narrow (members_code k members d x)
     members_of_narrow no_member d x f = tt
-    members_of_narrow (member_before m rest) d x f = both (member_code k m d x) _ (member_narrow m d x f.0) (members_of_narrow rest d x f.1)
+    members_of_narrow (member_before m rest) d x f = both (member_code k m d x) _ (member_narrow m d x f.0)
+        (members_of_narrow rest d x f.1)
 
     member_narrow : (m : Member) (d x : ℕ) → MemberLies k os m → Narrow (member_code k m d x)
     member_narrow (One e line) d x f =
         one_narrow k (known_member (literal_of e)) (even_from d) x _
-        (both (front_code k e (even_from d) (x + 32) ++ finish e (even_from d)) _ (finished e (even_from d) (x + 32) (front_narrow e (even_from d) (x + 32) f)) (tt, ((tt, tt), (tt, tt))))
+        (both (front_code k e (even_from d) (x + 32) ++ finish e (even_from d)) _
+        (finished e (even_from d) (x + 32) (front_narrow e (even_from d) (x + 32) f)) (tt, ((tt, tt), (tt, tt))))
     member_narrow (Several a e line) d x f =
         let t = held (expr_calls e) d in
         three (front_code k a t (x + 32) ++ finish a t) _ _ (finished a t (x + 32) (front_narrow a t (x + 32) f.0))
-        (finished e (even_from (suc t)) (x + 32) (front_narrow e (even_from (suc t)) (x + 32) f.1)) (members_narrow k t (even_from (suc t)) x line)
+        (finished e (even_from (suc t)) (x + 32) (front_narrow e (even_from (suc t)) (x + 32) f.1))
+        (members_narrow k t (even_from (suc t)) x line)
 
     pub structure_narrow : (e : Structure) (d x : ℕ) → StructureLies k os e → Narrow (structure_code k e d x)
     structure_narrow (Literal characters) d x f = (tt, tt)
     structure_narrow (Contents p type) d x f =
         let r = place_reach p d (Whole (shape_of type)) f in
-        both (place_code k p d x) _ (place_narrow p d x (Whole (shape_of type)) f) (site_narrow d (place_site k p d) (byte_count (shape_of type)) (omega (arith, r)) (omega (arith, r)))
+        both (place_code k p d x) _ (place_narrow p d x (Whole (shape_of type)) f)
+        (site_narrow d (place_site k p d) (byte_count (shape_of type)) (omega (arith, r)) (omega (arith, r)))
 
     argument_narrow : (a : Argument) (t x : ℕ) → ArgumentLies k os a → Narrow (argument_code k a t x)
-    argument_narrow (ByValue e range line) t x f = both (front_code k e t x ++ finish e t) _ (finished e t x (front_narrow e t x f)) (fitting_narrow (gives_byte e) (literal_of e) t range line)
-    argument_narrow (BySet e low high line) t x f = three (set_code k e t x) _ _ (set_narrow e t x f) (set_check_narrow (even_from t) x low high line) ((tt, tt), tt)
-    argument_narrow (ByCopy e type) t x f = three (structure_code k e t x) _ _ (structure_narrow e t x f) ((tt, tt), (tt, (tt, tt))) ((tt, tt), tt)
-    argument_narrow (ByVariable p) t x f = both (place_code k p t x) _ (place_narrow p t x f.0 f.1) (site_narrow t (place_site k p t) 0 (place_most p t f.0 f.1) (omega arith))
+    argument_narrow (ByValue e range line) t x f = both (front_code k e t x ++ finish e t) _
+        (finished e t x (front_narrow e t x f)) (fitting_narrow (gives_byte e) (literal_of e) t range line)
+    argument_narrow (BySet e low high line) t x f = three (set_code k e t x) _ _ (set_narrow e t x f)
+        (set_check_narrow (even_from t) x low high line) ((tt, tt), tt)
+    argument_narrow (ByCopy e type) t x f = three (structure_code k e t x) _ _ (structure_narrow e t x f)
+        ((tt, tt), (tt, (tt, tt))) ((tt, tt), tt)
+    argument_narrow (ByVariable p) t x f = both (place_code k p t x) _ (place_narrow p t x f.0 f.1)
+        (site_narrow t (place_site k p t) 0 (place_most p t f.0 f.1) (omega arith))
     argument_narrow (ByRoutine routine up) t x f = (tt, link_narrow k (beside t) up)
     argument_narrow (ByFormal up index) t x f = formal_narrow k b t up index
 
@@ -249,4 +343,5 @@ module _ (k : Scope) (b : Framed k.program) (os : List Shape) (o : SitesReach k.
     arguments_narrow no_argument d x f = tt
     arguments_narrow (argument_before a rest) d x f =
         let t = held (arguments_call rest) d in
-        both (argument_code k a t x) _ (argument_narrow a t x f.0) (arguments_narrow rest (argument_end a t) (x + argument_scratch a) f.1)
+        both (argument_code k a t x) _ (argument_narrow a t x f.0)
+        (arguments_narrow rest (argument_end a t) (x + argument_scratch a) f.1)

@@ -1,7 +1,8 @@
--- Each expression, variable and statement has a node at least.
+-- Each expression, variable and statement has at least one node.
 use Rattle.std.proofs.Common.{◌≤◌, arith}
 use Rattle.ps_tree.specs.Counts.{place_extent, expr_extent, set_extent, structure_extent, statement_extent}
-use Rattle.ps_tree.specs.Tree.{Place, Variable, Expr, Load, Arithmetic, Logic, SetExpr, LoadSet, Constructor, Combine, Structure, Literal, Contents, Statement, Empty}
+use Rattle.ps_tree.specs.Tree.{Place, Variable, Expr, Load, Arithmetic, Logic, SetExpr, LoadSet, Constructor, Combine}
+use Rattle.ps_tree.specs.Tree.{Structure, Literal, Contents, Statement, Empty}
 
 pub place_node : (p : Place) → 1 ≤ (place_extent p).nodes
 unfolding place_extent

@@ -1,26 +1,36 @@
 -- In a program within the limits each offset of a routine's code is small.
-use Rattle.std.proofs.Common.{◌≡◌, ℕ, zero, suc, ◌+◌, ◌<◌, ◌≤◌, Bool, true, false, ◌&&◌, if◌then◌else◌, List, [], ◌∷◌, ◌++◌, length, get_or, slice_get, Option, Some, None, refl, ap, subst, arith, leb-true}
+use Rattle.std.proofs.Common.{◌≡◌, ℕ, zero, suc, ◌+◌, ◌<◌, ◌≤◌, Bool, true, false, ◌&&◌, if◌then◌else◌, List, [], ◌∷◌}
+use Rattle.std.proofs.Common.{◌++◌, length, get_or, slice_get, Option, Some, None, refl, ap, subst, arith, leb-true}
 use Rattle.std.proofs.lemmas.Option.{none-some}
 use Rattle.ps_tree.specs.Types.{DataType, PointerType}
 use Rattle.ps_tree.specs.Sizes.{cells}
-use Rattle.ps_tree.specs.Counts.{is_within_limits, are_small, is_small, are_small_formals, is_small_formal, are_routines_within_limits, is_routine_within_limits, routine_cells, routine_nodes, routine_extent, result_extent, variables_extent}
-use Rattle.ps_tree.specs.Tree.{Formal, ValueFormal, VariableFormal, RoutineFormal, Formals, no_formal, formal_before, Routine, Program, no_routine, routine_at}
+use Rattle.ps_tree.specs.Counts.{is_within_limits, are_small, is_small, are_small_formals, is_small_formal}
+use Rattle.ps_tree.specs.Counts.{are_routines_within_limits, is_routine_within_limits, routine_cells, routine_nodes}
+use Rattle.ps_tree.specs.Counts.{routine_extent, result_extent, variables_extent}
+use Rattle.ps_tree.specs.Tree.{Formal, ValueFormal, VariableFormal, RoutineFormal, Formals, no_formal, formal_before}
+use Rattle.ps_tree.specs.Tree.{Routine, Program, no_routine, routine_at}
 use Rattle.tac_code.specs.declared.code.Base.{Base}
 use Rattle.tac_code.specs.declared.code.Base.TheVariants as base
 use Rattle.tac_code.specs.declared.code.Instruction.{Instruction}
 use Rattle.tac_code.specs.declared.code.Instruction.TheVariants as i
-use Rattle.ps_lower_layout.specs.Shapes.{Shape, NumberShape, PointerShape, SetShape, ByteShape, ArrayShape, RecordShape, shape_of, byte_count}
-use Rattle.ps_lower_layout.specs.Frames.{Kind, Own, Reference, Closure, Kinds, no_kind, kind_before, kind_of, kinds_of, listed_kinds, result_kinds, variable_kinds, entries, kind_words, places_from, words_of_all, entry_offset, input_offset, link_offset, is_program_block}
+use Rattle.ps_lower_layout.specs.Shapes.{Shape, NumberShape, PointerShape, SetShape, ByteShape, ArrayShape}
+use Rattle.ps_lower_layout.specs.Shapes.{RecordShape, shape_of, byte_count}
+use Rattle.ps_lower_layout.specs.Frames.{Kind, Own, Reference, Closure, Kinds, no_kind, kind_before, kind_of, kinds_of}
+use Rattle.ps_lower_layout.specs.Frames.{listed_kinds, result_kinds, variable_kinds, entries, kind_words, places_from}
+use Rattle.ps_lower_layout.specs.Frames.{words_of_all, entry_offset, input_offset, link_offset, is_program_block}
 use Rattle.ps_lower_code.specs.Scopes.{Scope}
 use Rattle.ps_lower_code.specs.Statements.{first_code}
-use Rattle.ps_lower_code.specs.Routines.{own_code, parameter_code, parameter_words, parameter_total, parameters_code, variables_code, result_code, result_entries, count_kinds, input_code, begin_code, result_end, end_code, scope_of, routine_code}
+use Rattle.ps_lower_code.specs.Routines.{own_code, parameter_code, parameter_words, parameter_total, parameters_code}
+use Rattle.ps_lower_code.specs.Routines.{variables_code, result_code, result_entries, count_kinds, input_code}
+use Rattle.ps_lower_code.specs.Routines.{begin_code, result_end, end_code, scope_of, routine_code}
 use Rattle.ps_lower_bounds.specs.Forms.{IsSmall}
 use Rattle.ps_lower_bounds.specs.Places.{StatementsLie}
 use Rattle.ps_lower_bounds.specs.Fields.{HasSmallOffsets, HaveSmallOffsets}
 use Rattle.ps_lower_bounds.proofs.Cells.{words_cells, entries_words}
 use Rattle.ps_lower_bounds.proofs.Uses.{AtBase, Uses, Under}
 use Rattle.ps_lower_bounds.proofs.Routines.{depth_of, scratch_of, routine_under}
-use Rattle.ps_lower_bounds.proofs.Narrow.{AtNarrow, IsNarrow, Narrow, at_narrow, both, three, four, either, IsShort, Framed}
+use Rattle.ps_lower_bounds.proofs.Narrow.{AtNarrow, IsNarrow, Narrow, at_narrow, both, three, four, either, IsShort}
+use Rattle.ps_lower_bounds.proofs.Narrow.{Framed}
 use Rattle.ps_lower_bounds.proofs.NarrowFirsts.{first_narrow}
 use Rattle.ps_lower_bounds.proofs.NarrowStatements.{statements_narrow}
 
@@ -87,9 +97,15 @@ record FramedRoutine (r : Routine) : Type 0 where
   kinds : AllShort (entries r)
   input : input_offset r ≤ 500000
 
-pub routine_limits : (r : Routine) → is_routine_within_limits r ≡ true → (routine_cells r ≤ 100000) × (routine_nodes r ≤ 4194304) × (are_small_formals r.formals ≡ true)
+pub routine_limits : (r : Routine) → is_routine_within_limits r ≡ true → (routine_cells r ≤ 100000)
+    × (routine_nodes r ≤ 4194304) × (are_small_formals r.formals ≡ true)
 unfolding is_routine_within_limits
-routine_limits r e = (leb-true (routine_cells r) 100000 (right _ _ (left _ _ e)), leb-true (routine_nodes r) 4194304 (right _ _ e), right _ _ (left _ _ (left _ _ (left _ _ (left _ _ e)))))
+routine_limits r e = (
+  leb-true (routine_cells r) 100000 (right _ _ (left _ _ e)),
+  leb-true (routine_nodes r) 4194304
+      (right _ _ e),
+  right _ _ (left _ _ (left _ _ (left _ _ (left _ _ e)))),
+)
 
 routine_framed : (r : Routine) → is_routine_within_limits r ≡ true → FramedRoutine r
 unfolding routine_extent
@@ -100,20 +116,25 @@ routine_framed r e =
     let w = entries_words r in
     record {
       offsets = λ n. let l = places_most (entries r) 1 n in omega (arith, l, w, cells);
-      kinds = short_both (result_kinds r.result ++ listed_kinds (kinds_of r.formals)) (variable_kinds r.variables) (short_both (result_kinds r.result) (listed_kinds (kinds_of r.formals)) (result_short r.result (omega (arith, cells))) (formals_short r.formals formals)) (variables_short r.variables (omega (arith, cells)));
+      kinds = short_both (result_kinds r.result ++ listed_kinds (kinds_of r.formals)) (variable_kinds r.variables)
+          (short_both (result_kinds r.result) (listed_kinds (kinds_of r.formals))
+          (result_short r.result (omega (arith, cells))) (formals_short r.formals formals))
+          (variables_short r.variables (omega (arith, cells)));
       input = omega (arith, w, cells);
     }
 
 none_framed : FramedRoutine no_routine
 none_framed = record { offsets = λ n. omega arith; kinds = tt; input = omega arith }
 
-routines_framed : (list : List Routine) → are_routines_within_limits list ≡ true → (r : ℕ) → FramedRoutine (get_or list r no_routine)
+routines_framed : (list : List Routine) → are_routines_within_limits list ≡ true → (r : ℕ) → FramedRoutine
+    (get_or list r no_routine)
 unfolding are_routines_within_limits
 routines_framed [] e r = none_framed
 routines_framed (x ∷ list) e zero = routine_framed x (left _ _ e)
 routines_framed (x ∷ list) e (suc r) = routines_framed list (right _ _ e) r
 
-domains_few : (types : List DataType) → are_small types ≡ true → (t : ℕ) → byte_count (shape_of (get_or types t (PointerType 0))) ≤ 400000
+domains_few : (types : List DataType) → are_small types ≡ true → (t : ℕ) → byte_count
+    (shape_of (get_or types t (PointerType 0))) ≤ 400000
 unfolding are_small
 domains_few [] e t = omega arith
 domains_few (type ∷ types) e zero = small_few type (left _ _ e)
@@ -136,7 +157,8 @@ module _ (k : Scope) (r : Routine) (f : FramedRoutine r) where
   entry_most : (n : ℕ) → entry_offset r n ≤ 500000
   entry_most n = f.offsets n
 
-  own_narrow : (shape : Shape) (t n free : ℕ) → byte_count shape ≤ 400000 → Narrow (own_code k shape t (entry_offset r n) free)
+  own_narrow : (shape : Shape) (t n free : ℕ) → byte_count shape ≤ 400000 → Narrow
+      (own_code k shape t (entry_offset r n) free)
   own_narrow (NumberShape first narrow) t n free l = let m = entry_most n in omega (arith, m)
   own_narrow (PointerShape pointer) t n free l = let m = entry_most n in omega (arith, m)
   own_narrow SetShape t n free l = let m = entry_most n in omega (arith, m)
@@ -144,39 +166,51 @@ module _ (k : Scope) (r : Routine) (f : FramedRoutine r) where
   own_narrow (ArrayShape count shape) t n free l = let m = entry_most n in omega (arith, m, l)
   own_narrow (RecordShape shapes) t n free l = let m = entry_most n in omega (arith, m, l)
 
-  parameter_narrow : (kind : Kind) (t n free : ℕ) → IsShort kind → Narrow (parameter_code k kind t (entry_offset r n) free)
+  parameter_narrow : (kind : Kind) (t n free : ℕ) → IsShort kind → Narrow
+      (parameter_code k kind t (entry_offset r n) free)
   parameter_narrow (Own shape) t n free s = own_narrow shape t n free s
   parameter_narrow (Reference shape) t n free s = let m = entry_most n in omega (arith, m)
   parameter_narrow (Closure kinds result) t n free s = let m = entry_most n in omega (arith, m)
 
-  parameters_narrow : (kinds : Kinds) (t n free : ℕ) → AllShort (listed_kinds kinds) → Narrow (parameters_code k r kinds t n free)
+  parameters_narrow : (kinds : Kinds) (t n free : ℕ) → AllShort (listed_kinds kinds) → Narrow
+      (parameters_code k r kinds t n free)
   parameters_narrow no_kind t n free s = tt
   parameters_narrow (kind_before kind rest) t n free s =
-      both (parameter_code k kind t (entry_offset r n) free) _ (parameter_narrow kind t n free s.0) (parameters_narrow rest (t + parameter_words kind) (suc n) free s.1)
+      both (parameter_code k kind t (entry_offset r n) free) _ (parameter_narrow kind t n free s.0)
+      (parameters_narrow rest (t + parameter_words kind) (suc n) free s.1)
 
-  variables_narrow : (types : List DataType) (n free : ℕ) → AllShort (variable_kinds types) → Narrow (variables_code k r types n free)
+  variables_narrow : (types : List DataType) (n free : ℕ) → AllShort (variable_kinds types) → Narrow
+      (variables_code k r types n free)
   variables_narrow [] n free s = tt
   variables_narrow (type ∷ rest) n free s =
       let m = entry_most n in let l : byte_count (shape_of type) ≤ 400000 = s.0 in
-      both (first_code k base.Frame free (entry_offset r n) (shape_of type)) _ (first_narrow k base.Frame free (entry_offset r n) (shape_of type) (omega (arith, m, l))) (variables_narrow rest (suc n) free s.1)
+      both (first_code k base.Frame free (entry_offset r n) (shape_of type)) _
+      (first_narrow k base.Frame free (entry_offset r n) (shape_of type) (omega (arith, m, l)))
+      (variables_narrow rest (suc n) free s.1)
 
-  result_narrow : (result : Option DataType) (free : ℕ) → AllShort (result_kinds result) → Narrow (result_code k r result free)
+  result_narrow : (result : Option DataType) (free : ℕ) → AllShort (result_kinds result) → Narrow
+      (result_code k r result free)
   result_narrow None free s = tt
-  result_narrow (Some type) free s = let m = entry_most 0 in let l : byte_count (shape_of type) ≤ 400000 = s.0 in first_narrow k base.Frame free (entry_offset r 0) (shape_of type) (omega (arith, m, l))
+  result_narrow (Some type) free s = let m = entry_most 0 in let l : byte_count (shape_of type) ≤ 400000 = s.0
+      in first_narrow k base.Frame free (entry_offset r 0) (shape_of type) (omega (arith, m, l))
 
-  begin_narrow : AllShort (result_kinds r.result) → AllShort (listed_kinds (kinds_of r.formals)) → AllShort (variable_kinds r.variables) → Narrow (begin_code k r)
+  begin_narrow : AllShort (result_kinds r.result) → AllShort (listed_kinds (kinds_of r.formals)) → AllShort
+      (variable_kinds r.variables) → Narrow (begin_code k r)
   begin_narrow a b c =
       let P = parameter_total r in let m = f.input in
       four (if is_program_block r.chain then input_code r P else (i.Store base.Frame (link_offset r) 0 ∷ [])) _ _ _
-      (either (is_program_block r.chain) (input_code r P) (i.Store base.Frame (link_offset r) 0 ∷ []) (omega (arith, m)) (omega arith))
-      (result_narrow r.result P a) (parameters_narrow (kinds_of r.formals) 1 (result_entries r.result) P b) (variables_narrow r.variables (result_entries r.result + count_kinds (kinds_of r.formals)) P c)
+      (either (is_program_block r.chain) (input_code r P) (i.Store base.Frame (link_offset r) 0 ∷ []) (omega (arith, m))
+      (omega arith))
+      (result_narrow r.result P a) (parameters_narrow (kinds_of r.formals) 1 (result_entries r.result) P b)
+      (variables_narrow r.variables (result_entries r.result + count_kinds (kinds_of r.formals)) P c)
 
   result_end_narrow : (result : Option DataType) → Narrow (result_end r result)
   result_end_narrow None = (tt, (tt, tt))
   result_end_narrow (Some type) = let m = entry_most 0 in omega (arith, m)
 
   end_narrow : Narrow (end_code r)
-  end_narrow = either (is_program_block r.chain) (i.End ∷ []) (result_end r r.result) (tt, tt) (result_end_narrow r.result)
+  end_narrow = either (is_program_block r.chain) (i.End ∷ []) (result_end r r.result) (tt, tt)
+      (result_end_narrow r.result)
 
 short_first : (ks ls : List Kind) → AllShort (ks ++ ls) → AllShort ks
 short_first [] ls a = tt
@@ -186,18 +220,24 @@ short_second : (ks ls : List Kind) → AllShort (ks ++ ls) → AllShort ls
 short_second [] ls a = a
 short_second (k ∷ ks) ls a = short_second ks ls a.1
 
-routine_narrow : (program : Program) (r : Routine) → Framed program → FramedRoutine r → StatementsLie (scope_of program r) [] r.body → Narrow (routine_code program r)
+routine_narrow : (program : Program) (r : Routine) → Framed program → FramedRoutine r → StatementsLie
+    (scope_of program r) [] r.body → Narrow (routine_code program r)
 routine_narrow program r b f s =
     let k = scope_of program r in
-    let first = short_first (result_kinds r.result ++ listed_kinds (kinds_of r.formals)) (variable_kinds r.variables) f.kinds in
+    let first = short_first (result_kinds r.result ++ listed_kinds (kinds_of r.formals))
+    (variable_kinds r.variables) f.kinds in
     three (begin_code k r) _ _
-    (begin_narrow k r f (short_first (result_kinds r.result) (listed_kinds (kinds_of r.formals)) first) (short_second (result_kinds r.result) (listed_kinds (kinds_of r.formals)) first) (short_second (result_kinds r.result ++ listed_kinds (kinds_of r.formals)) (variable_kinds r.variables) f.kinds))
+    (begin_narrow k r f (short_first (result_kinds r.result) (listed_kinds (kinds_of r.formals)) first)
+    (short_second (result_kinds r.result) (listed_kinds (kinds_of r.formals)) first)
+    (short_second (result_kinds r.result ++ listed_kinds (kinds_of r.formals))
+    (variable_kinds r.variables) f.kinds))
     (statements_narrow k b [] tt r.body 0 s) (end_narrow k r f)
 
 -- ---- all offsets
 
 module _ (D X : ℕ) (few : X < 2147483648) where
-  offset_small : (b : Base) (n extent : ℕ) → AtNarrow b n → AtNarrow b extent → AtBase D X b (n + extent) → IsSmall n × IsSmall extent
+  offset_small : (b : Base) (n extent : ℕ) → AtNarrow b n → AtNarrow b extent → AtBase D X b (n + extent) → IsSmall n
+      × IsSmall extent
   offset_small base.Frame n extent l m u = (l, m)
   offset_small base.Scratch n extent l m u = let e = u.0 in omega (arith, e)
   offset_small base.Program n extent l m u = (l, m)
@@ -216,7 +256,8 @@ module _ (D X : ℕ) (few : X < 2147483648) where
   code_small [] f u = tt
   code_small (v ∷ code) f u = (instruction_small v f.0 u.0, code_small code f.1 u.1)
 
-pub limits_at : (list : List Routine) (n : ℕ) → are_routines_within_limits list ≡ true → n < length list → is_routine_within_limits (get_or list n no_routine) ≡ true
+pub limits_at : (list : List Routine) (n : ℕ) → are_routines_within_limits list ≡ true → n < length list
+    → is_routine_within_limits (get_or list n no_routine) ≡ true
 unfolding are_routines_within_limits
 limits_at [] n e l = absurd (omega (arith, l))
 limits_at (r ∷ list) zero e l = left _ _ e
@@ -230,13 +271,17 @@ scratch_few r e =
     let nodes = limits.1 in
     omega (arith, cells, nodes)
 
-pub routines_part : (program : Program) → is_within_limits program ≡ true → are_routines_within_limits program.routines ≡ true
+pub routines_part : (program : Program) → is_within_limits program ≡ true → are_routines_within_limits program.routines
+    ≡ true
 unfolding is_within_limits
 routines_part program e = right _ _ e
 
-pub offsets_small : (program : Program) → is_within_limits program ≡ true → (number : ℕ) → number < length program.routines
-    → StatementsLie (scope_of program (routine_at program number)) [] (routine_at program number).body → HaveSmallOffsets (routine_code program (routine_at program number))
+pub offsets_small : (program : Program) → is_within_limits program ≡ true → (number : ℕ)
+    → number < length program.routines
+    → StatementsLie (scope_of program (routine_at program number)) [] (routine_at program number).body
+    → HaveSmallOffsets (routine_code program (routine_at program number))
 offsets_small program e number l s =
     let r = routine_at program number in
     let within : is_routine_within_limits r ≡ true = limits_at program.routines number (routines_part program e) l in
-    code_small (depth_of r) (scratch_of r) (scratch_few r within) (routine_code program r) (routine_narrow program r (program_framed program e) (routine_framed r within) s) (routine_under program r)
+    code_small (depth_of r) (scratch_of r) (scratch_few r within) (routine_code program r)
+    (routine_narrow program r (program_framed program e) (routine_framed r within) s) (routine_under program r)

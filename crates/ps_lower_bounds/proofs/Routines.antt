@@ -1,16 +1,22 @@
 -- What the code of a whole routine uses, and how large it is.
-use Rattle.std.proofs.Common.{ℕ, suc, ◌+◌, ◌*◌, ◌<◌, ◌≤◌, Bool, true, false, if◌then◌else◌, List, [], ◌∷◌, Option, Some, None, arith}
+use Rattle.std.proofs.Common.{ℕ, suc, ◌+◌, ◌*◌, ◌<◌, ◌≤◌, Bool, true, false, if◌then◌else◌, List, [], ◌∷◌, Option}
+use Rattle.std.proofs.Common.{Some, None, arith}
 use Rattle.ps_tree.specs.Types.{DataType}
 use Rattle.ps_tree.specs.Counts.{routine_cells, routine_nodes, routine_extent, formals_extent, statements_extent}
-use Rattle.ps_tree.specs.Tree.{Formal, ValueFormal, VariableFormal, RoutineFormal, Formals, no_formal, formal_before, Routine, Program}
+use Rattle.ps_tree.specs.Tree.{Formal, ValueFormal, VariableFormal, RoutineFormal, Formals, no_formal, formal_before}
+use Rattle.ps_tree.specs.Tree.{Routine, Program}
 use Rattle.tac_code.specs.declared.code.Base.TheVariants as base
 use Rattle.tac_code.specs.declared.code.Instruction.TheVariants as i
 use Rattle.tac_code.specs.Meaning.{size}
-use Rattle.ps_lower_layout.specs.Shapes.{Shape, NumberShape, PointerShape, SetShape, ByteShape, ArrayShape, RecordShape, shape_of}
-use Rattle.ps_lower_layout.specs.Frames.{Kind, Own, Reference, Closure, Kinds, no_kind, kind_before, kind_of, kinds_of, entry_offset, link_offset, is_program_block}
+use Rattle.ps_lower_layout.specs.Shapes.{Shape, NumberShape, PointerShape, SetShape, ByteShape, ArrayShape}
+use Rattle.ps_lower_layout.specs.Shapes.{RecordShape, shape_of}
+use Rattle.ps_lower_layout.specs.Frames.{Kind, Own, Reference, Closure, Kinds, no_kind, kind_before, kind_of, kinds_of}
+use Rattle.ps_lower_layout.specs.Frames.{entry_offset, link_offset, is_program_block}
 use Rattle.ps_lower_code.specs.Scopes.{Scope}
 use Rattle.ps_lower_code.specs.Statements.{first_code}
-use Rattle.ps_lower_code.specs.Routines.{own_code, parameter_code, parameter_words, count_parameters, parameter_total, parameters_code, variables_code, result_code, result_entries, count_kinds, input_code, begin_code, result_end, end_code, scope_of, routine_code}
+use Rattle.ps_lower_code.specs.Routines.{own_code, parameter_code, parameter_words, count_parameters, parameter_total}
+use Rattle.ps_lower_code.specs.Routines.{parameters_code, variables_code, result_code, result_entries, count_kinds}
+use Rattle.ps_lower_code.specs.Routines.{input_code, begin_code, result_end, end_code, scope_of, routine_code}
 use Rattle.ps_lower_code.specs.Programs.{tac_of}
 use Rattle.ps_lower_bounds.proofs.Uses.{Under, both, three, four, either, temporaries_counted, scratch_counted}
 use Rattle.ps_lower_bounds.proofs.Firsts.{first_under}
@@ -38,22 +44,29 @@ module _ (k : Scope) (r : Routine) (D X : ℕ) where
   own_under (ArrayShape count shape) t offset free h l = omega (arith, h, l)
   own_under (RecordShape shapes) t offset free h l = omega (arith, h, l)
 
-  parameter_under : (kind : Kind) (t offset free : ℕ) → t + parameter_words kind ≤ D → free + 5 ≤ D → Under D X (parameter_code k kind t offset free)
+  parameter_under : (kind : Kind) (t offset free : ℕ) → t + parameter_words kind ≤ D → free + 5 ≤ D → Under D X
+      (parameter_code k kind t offset free)
   parameter_under (Own shape) t offset free h l = own_under shape t offset free (omega (arith, h)) l
   parameter_under (Reference shape) t offset free h l = omega (arith, h)
   parameter_under (Closure kinds result) t offset free h l = omega (arith, h)
 
-  parameters_under : (kinds : Kinds) (t index free : ℕ) → t + count_parameters kinds ≤ D → free + 5 ≤ D → Under D X (parameters_code k r kinds t index free)
+  parameters_under : (kinds : Kinds) (t index free : ℕ) → t + count_parameters kinds ≤ D → free + 5 ≤ D → Under D X
+      (parameters_code k r kinds t index free)
   parameters_under no_kind t index free h l = tt
   parameters_under (kind_before kind rest) t index free h l =
-      both D X (parameter_code k kind t (entry_offset r index) free) _ (parameter_under kind t (entry_offset r index) free (omega (arith, h)) l) (parameters_under rest (t + parameter_words kind) (suc index) free (omega (arith, h)) l)
+      both D X (parameter_code k kind t (entry_offset r index) free) _
+      (parameter_under kind t (entry_offset r index) free (omega (arith, h)) l)
+      (parameters_under rest (t + parameter_words kind) (suc index) free (omega (arith, h)) l)
 
   -- ---- first values
 
-  variables_under : (types : List DataType) (index free : ℕ) → free + 5 ≤ D → Under D X (variables_code k r types index free)
+  variables_under : (types : List DataType) (index free : ℕ) → free + 5 ≤ D → Under D X
+      (variables_code k r types index free)
   variables_under [] index free l = tt
   variables_under (type ∷ rest) index free l =
-      both D X (first_code k base.Frame free (entry_offset r index) (shape_of type)) _ (first_under k D X base.Frame tt free (entry_offset r index) (shape_of type) l) (variables_under rest (suc index) free l)
+      both D X (first_code k base.Frame free (entry_offset r index) (shape_of type)) _
+      (first_under k D X base.Frame tt free (entry_offset r index) (shape_of type) l)
+      (variables_under rest (suc index) free l)
 
   result_under : (result : Option DataType) (free : ℕ) → free + 5 ≤ D → Under D X (result_code k r result free)
   result_under None free l = tt
@@ -63,7 +76,8 @@ module _ (k : Scope) (r : Routine) (D X : ℕ) where
   begin_under l h =
       let P = parameter_total r in
       four D X (if is_program_block r.chain then input_code r P else (i.Store base.Frame (link_offset r) 0 ∷ [])) _ _ _
-      (either D X (is_program_block r.chain) (input_code r P) (i.Store base.Frame (link_offset r) 0 ∷ []) (omega (arith, l)) (omega (arith, l)))
+      (either D X (is_program_block r.chain) (input_code r P) (i.Store base.Frame (link_offset r) 0 ∷ [])
+      (omega (arith, l)) (omega (arith, l)))
       (result_under r.result P l)
       (parameters_under (kinds_of r.formals) 1 (result_entries r.result) P h l)
       (variables_under r.variables (result_entries r.result + count_kinds (kinds_of r.formals)) P l)
@@ -73,7 +87,8 @@ module _ (k : Scope) (r : Routine) (D X : ℕ) where
   result_end_under (Some type) l = omega (arith, l)
 
   end_under : 5 ≤ D → Under D X (end_code r)
-  end_under l = either D X (is_program_block r.chain) (i.End ∷ []) (result_end r r.result) (tt, tt) (result_end_under r.result l)
+  end_under l = either D X (is_program_block r.chain) (i.End ∷ []) (result_end r r.result) (tt, tt)
+      (result_end_under r.result l)
 
 -- ---- a routine
 

@@ -1,13 +1,20 @@
--- Code whose temporaries lie below a number, and whose stretches of the scratch block end at another or before, with a whole word.
-use Rattle.std.proofs.Common.{◌≡◌, ℕ, ◌+◌, ◌%◌, ◌<◌, ◌≤◌, Bool, true, false, if◌then◌else◌, List, [], ◌∷◌, ◌++◌, ℤ, Option, Some, None, arith}
+-- Code whose temporaries are below a number, and whose stretches of the scratch block end at or before another, with a
+-- whole word.
+use Rattle.std.proofs.Common.{◌≡◌, ℕ, ◌+◌, ◌%◌, ◌<◌, ◌≤◌, Bool, true, false, if◌then◌else◌, List, [], ◌∷◌, ◌++◌, ℤ}
+use Rattle.std.proofs.Common.{Option, Some, None, arith}
 use Rattle.tac_code.specs.declared.code.Operand.{Operand}
 use Rattle.tac_code.specs.declared.code.Operand.TheVariants as operand
 use Rattle.tac_code.specs.declared.code.Base.{Base}
 use Rattle.tac_code.specs.declared.code.Base.TheVariants as base
 use Rattle.tac_code.specs.declared.code.Instruction.{Instruction}
-use Rattle.tac_code.specs.declared.code.Instruction.TheVariants.{Literal, Copy, Arithmetic, Bits, Compare, CheckRange, CheckPointer, Text, Offset, Index, RoutineValue, Load, Store, LoadByte, StoreByte, Jump, JumpBack, Branch, BranchBack, Call, CallValue, Return, Trap, Take, Put, New, End}
+use Rattle.tac_code.specs.declared.code.Instruction.TheVariants.{Literal, Copy, Arithmetic, Bits, Compare, CheckRange}
+use Rattle.tac_code.specs.declared.code.Instruction.TheVariants.{CheckPointer, Text, Offset, Index, RoutineValue, Load}
+use Rattle.tac_code.specs.declared.code.Instruction.TheVariants.{Store, LoadByte, StoreByte, Jump, JumpBack, Branch}
+use Rattle.tac_code.specs.declared.code.Instruction.TheVariants.{BranchBack, Call, CallValue, Return, Trap, Take, Put}
+use Rattle.tac_code.specs.declared.code.Instruction.TheVariants.{New, End}
 use Rattle.ps_lower_code.specs.Scopes.{unless_known}
-use Rattle.ps_lower_code.specs.Programs.{in_operand, in_base, in_list, named_in, temporaries_in, scratch_at, meant_by, scratch_in}
+use Rattle.ps_lower_code.specs.Programs.{in_operand, in_base, in_list, named_in, temporaries_in, scratch_at, meant_by}
+use Rattle.ps_lower_code.specs.Programs.{scratch_in}
 
 abbrev pub OperandUnder : ℕ → Operand → Type 0
 OperandUnder D (operand.Temporary t) = t < D
@@ -17,14 +24,14 @@ abbrev pub AllUnder : ℕ → List ℕ → Type 0
 AllUnder D [] = Unit {0}
 AllUnder D (t ∷ ts) = (t < D) × AllUnder D ts
 
--- where a variable stands: never in the scratch block
+-- where a variable is: never in the scratch block
 abbrev pub BaseUnder : ℕ → Base → Type 0
 BaseUnder D base.Frame = Unit {0}
 BaseUnder D base.Scratch = ⊥
 BaseUnder D base.Program = Unit {0}
 BaseUnder D (base.Temporary t) = t < D
 
--- a base, of which the bytes before `end` may be meant
+-- a base, whose bytes before `end` may be meant
 abbrev pub AtBase : (D X : ℕ) → Base → (end : ℕ) → Type 0
 AtBase D X base.Frame end = Unit {0}
 AtBase D X base.Scratch end = (end ≤ X) × (end % 4 ≡ 0)
@@ -74,13 +81,16 @@ module _ (D X : ℕ) where
   pub three : (a b c : List Instruction) → Under D X a → Under D X b → Under D X c → Under D X (a ++ b ++ c)
   three a b c u v w = both (a ++ b) c (both a b u v) w
 
-  pub four : (a b c d : List Instruction) → Under D X a → Under D X b → Under D X c → Under D X d → Under D X (a ++ b ++ c ++ d)
+  pub four : (a b c d : List Instruction) → Under D X a → Under D X b → Under D X c → Under D X d → Under D X
+      (a ++ b ++ c ++ d)
   four a b c d u v w y = both (a ++ b ++ c) d (three a b c u v w) y
 
-  pub five : (a b c d e : List Instruction) → Under D X a → Under D X b → Under D X c → Under D X d → Under D X e → Under D X (a ++ b ++ c ++ d ++ e)
+  pub five : (a b c d e : List Instruction) → Under D X a → Under D X b → Under D X c → Under D X d → Under D X e
+      → Under D X (a ++ b ++ c ++ d ++ e)
   five a b c d e u v w y z = both (a ++ b ++ c ++ d) e (four a b c d u v w y) z
 
-  pub six : (a b c d e f : List Instruction) → Under D X a → Under D X b → Under D X c → Under D X d → Under D X e → Under D X f → Under D X (a ++ b ++ c ++ d ++ e ++ f)
+  pub six : (a b c d e f : List Instruction) → Under D X a → Under D X b → Under D X c → Under D X d → Under D X e
+      → Under D X f → Under D X (a ++ b ++ c ++ d ++ e ++ f)
   six a b c d e f u v w y z q = both (a ++ b ++ c ++ d ++ e) f (five a b c d e u v w y z) q
 
   pub either : (c : Bool) (a b : List Instruction) → Under D X a → Under D X b → Under D X (if c then a else b)
@@ -128,14 +138,18 @@ module _ (D X : ℕ) where
   named : (i : Instruction) → Uses D X i → named_in i ≤ D
   named (Literal t z) u = u
   named (Copy t a) u = omega (arith, u)
-  named (Arithmetic operator t a b error line) u = let o = operand_counted D b u.2 in let l = u.0 in let m = u.1 in omega (arith, l, m, o)
-  named (Bits operator t a b) u = let o = operand_counted D b u.2 in let l = u.0 in let m = u.1 in omega (arith, l, m, o)
-  named (Compare relation t a b) u = let o = operand_counted D b u.2 in let l = u.0 in let m = u.1 in omega (arith, l, m, o)
+  named (Arithmetic operator t a b error line) u = let o = operand_counted D b u.2 in let l = u.0 in let m = u.1
+      in omega (arith, l, m, o)
+  named (Bits operator t a b) u = let o = operand_counted D b u.2 in let l = u.0 in let m = u.1 in omega
+      (arith, l, m, o)
+  named (Compare relation t a b) u = let o = operand_counted D b u.2 in let l = u.0 in let m = u.1 in omega
+      (arith, l, m, o)
   named (CheckRange a low high error line) u = u
   named (CheckPointer a error line) u = u
   named (Text t bytes) u = u
   named (Offset t a n extent) u = let l = u.0 in let b = base_counted a (n + extent) u.1 in omega (arith, l, b)
-  named (Index t a i low high width error line) u = let l = u.0 in let b = base_counted a 0 u.1 in let m = u.2 in omega (arith, l, b, m)
+  named (Index t a i low high width error line) u = let l = u.0 in let b = base_counted a 0 u.1 in let m = u.2 in omega
+      (arith, l, b, m)
   named (RoutineValue t r) u = u
   named (Load t a n) u = let l = u.0 in let b = base_counted a (n + 4) u.1 in omega (arith, l, b)
   named (Store a n t) u = let l = u.1 in let b = base_counted a (n + 4) u.0 in omega (arith, l, b)
@@ -146,7 +160,8 @@ module _ (D X : ℕ) where
   named (Branch relation a b n) u = let o = operand_counted D b u.1 in let l = u.0 in omega (arith, l, o)
   named (BranchBack relation a b n) u = let o = operand_counted D b u.1 in let l = u.0 in omega (arith, l, o)
   named (Call t r list line) u = let o = list_counted D list u.1 in let l = u.0 in omega (arith, l, o)
-  named (CallValue t a list line) u = let o = list_counted D list u.2 in let l = u.0 in let m = u.1 in omega (arith, l, m, o)
+  named (CallValue t a list line) u = let o = list_counted D list u.2 in let l = u.0 in let m = u.1 in omega
+      (arith, l, m, o)
   named (Return a) u = u
   named (Trap error line) u = omega arith
   named (Take t) u = u

@@ -1,4 +1,4 @@
--- How large the offsets and counts of bytes in a program's code are.
+-- How large the offsets and byte counts in a program's code are.
 use Rattle.std.specs.Prelude.{◌≡◌, ℕ, ◌<◌, true, List, [], ◌∷◌, length}
 use Rattle.ps_tree.specs.Counts.{is_within_limits}
 use Rattle.ps_tree.specs.Tree.{Program, routine_at}
@@ -22,8 +22,9 @@ abbrev pub HaveSmallOffsets : List Instruction → Type 0
 HaveSmallOffsets [] = Unit {0}
 HaveSmallOffsets (i ∷ rest) = HasSmallOffsets i × HaveSmallOffsets rest
 
--- in a program within the limits, for a routine whose variables lie within their frames and objects
+-- in a program within the limits, for a routine whose variables are within their frames and objects
 abbrev pub OffsetsAreSmall : Type 0
 OffsetsAreSmall =
     (program : Program) → is_within_limits program ≡ true → (number : ℕ) → number < length program.routines
-    → StatementsLie (scope_of program (routine_at program number)) [] (routine_at program number).body → HaveSmallOffsets (routine_code program (routine_at program number))
+    → StatementsLie (scope_of program (routine_at program number)) [] (routine_at program number).body
+    → HaveSmallOffsets (routine_code program (routine_at program number))

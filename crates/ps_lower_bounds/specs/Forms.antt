@@ -1,18 +1,34 @@
--- What the invariant of three-address code asks of the tree that the code is made of: its numbers are integers, its lines lines, its
--- routines and pointer types those of the program, and its calls have no more parameters than a heading may have.
-use Rattle.std.specs.Prelude.{ℕ, ◌+◌, ◌*◌, ◌<◌, ◌≤◌, ◌-◌, ℤ, pos, ◌+ℤ◌, List, [], ◌∷◌, length, IsTrue, int_le, ◌&&◌, Option, Some, None}
+-- What the invariant of three-address code requires of the tree that the code is made from: its numbers are integers,
+-- its lines lines, its routines and pointer types those of the program, and its calls have no more parameters than a
+-- heading may have.
+use Rattle.std.specs.Prelude.{ℕ, ◌+◌, ◌*◌, ◌<◌, ◌≤◌, ◌-◌, ℤ, pos, ◌+ℤ◌, List, [], ◌∷◌, length, IsTrue, int_le, ◌&&◌}
+use Rattle.std.specs.Prelude.{Option, Some, None}
 use Rattle.ps_tree.specs.declared.tree.Range.{Range}
 use Rattle.ps_tree.specs.declared.tree.Range.TheVariants.{Any, Within}
 use Rattle.ps_tree.specs.Types.{DataType}
 use Rattle.ps_tree.specs.Sizes.{value_count}
-use Rattle.ps_tree.specs.Tree.{Place, Variable, Selector, Element, Field, Target, Selectors, no_selector, selector_before, ArithmeticSteps, no_arithmetic_step, arithmetic_step_before, Operands, no_operand, operand_before, SetSteps, no_set_step, set_step_before, Expr, Number, Nil, Load, Plus, Minus, Not, Arithmetic, Logic, Compare, ComparePointers, CompareSets, CompareStrings, In, Apply, Eof, Eoln, Call, CallFormal, SetExpr, LoadSet, Constructor, Combine, Member, One, Several, Members, no_member, member_before, Structure, Literal, Contents, Argument, ByValue, BySet, ByCopy, ByVariable, ByRoutine, ByFormal, Arguments, no_argument, argument_before, ReadVariable, ReadChar, ReadInteger, Width, DefaultWidth, GivenWidth, WriteParameter, WriteInteger, WriteChar, WriteBoolean, WriteText, Statement, Empty, Assign, AssignSet, AssignStructure, CallProcedure, CallFormalProcedure, Compound, If, IfElse, Case, While, Repeat, For, With, New, Pack, Unpack, Read, Readln, Write, Writeln, Statements, no_statement, statement_before, Elements, no_element, element_before, Routine, Program}
+use Rattle.ps_tree.specs.Tree.{Place, Variable, Selector, Element, Field, Target, Selectors, no_selector}
+use Rattle.ps_tree.specs.Tree.{selector_before, ArithmeticSteps, no_arithmetic_step, arithmetic_step_before, Operands}
+use Rattle.ps_tree.specs.Tree.{no_operand, operand_before, SetSteps, no_set_step, set_step_before, Expr, Number, Nil}
+use Rattle.ps_tree.specs.Tree.{Load, Plus, Minus, Not, Arithmetic, Logic, Compare, ComparePointers, CompareSets}
+use Rattle.ps_tree.specs.Tree.{CompareStrings, In, Apply, Eof, Eoln, Call, CallFormal, SetExpr, LoadSet, Constructor}
+use Rattle.ps_tree.specs.Tree.{Combine, Member, One, Several, Members, no_member, member_before, Structure, Literal}
+use Rattle.ps_tree.specs.Tree.{Contents, Argument, ByValue, BySet, ByCopy, ByVariable, ByRoutine, ByFormal, Arguments}
+use Rattle.ps_tree.specs.Tree.{no_argument, argument_before, ReadVariable, ReadChar, ReadInteger, Width, DefaultWidth}
+use Rattle.ps_tree.specs.Tree.{GivenWidth, WriteParameter, WriteInteger, WriteChar, WriteBoolean, WriteText, Statement}
+use Rattle.ps_tree.specs.Tree.{Empty, Assign, AssignSet, AssignStructure, CallProcedure, CallFormalProcedure, Compound}
+use Rattle.ps_tree.specs.Tree.{If, IfElse, Case, While, Repeat, For, With, New, Pack, Unpack, Read, Readln, Write}
+use Rattle.ps_tree.specs.Tree.{Writeln, Statements, no_statement, statement_before, Elements, no_element}
+use Rattle.ps_tree.specs.Tree.{element_before, Routine, Program}
 use Rattle.ps_meaning.specs.Expressions.{index_of}
 use Rattle.tac_code.specs.Sound.{IsLine, IsInteger}
-use Rattle.ps_lower_layout.specs.Shapes.{Shape, NumberShape, PointerShape, SetShape, ByteShape, ArrayShape, RecordShape, Shapes, no_shape, shape_before, shape_of, byte_count, component_bytes}
+use Rattle.ps_lower_layout.specs.Shapes.{Shape, NumberShape, PointerShape, SetShape, ByteShape, ArrayShape}
+use Rattle.ps_lower_layout.specs.Shapes.{RecordShape, Shapes, no_shape, shape_before, shape_of, byte_count}
+use Rattle.ps_lower_layout.specs.Shapes.{component_bytes}
 use Rattle.ps_lower_code.specs.Fits.{FunctionFits}
 use Rattle.ps_lower_code.specs.Values.{text_length, structure_bytes}
 
--- a number of bytes that an instruction may hold as an integer
+-- a byte count that an instruction may hold as an integer
 abbrev pub IsSmall : ℕ → Type 0
 IsSmall n = n < 2147483648
 
@@ -32,10 +48,11 @@ IsRange (Within low high) = AreIntegers low high
 abbrev pub HasBounds : DataType → Type 0
 HasBounds type = AreIntegers (index_of type).low (index_of type).high
 
--- a part of an array: the last place where it may begin is an integer, and its components are few
+-- a part of an array: the last place where it may begin is an integer, and it has few components
 abbrev pub IsPart : (whole part : DataType) → Type 0
 IsPart whole part =
-    HasBounds whole × IsInteger ((index_of whole).low +ℤ pos (value_count (index_of whole) - value_count (index_of part)))
+    HasBounds whole × IsInteger ((index_of whole).low +ℤ pos
+    (value_count (index_of whole) - value_count (index_of part)))
     × IsSmall (value_count (index_of part))
 
 -- ---- types: what their first values are
@@ -53,7 +70,7 @@ abbrev mutual
   HaveFirst no_shape = Unit {0}
   HaveFirst (shape_before shape rest) = HasFirst shape × HaveFirst rest
 
--- the same of variables, and of a function's result
+-- the same for variables, and for a function's result
 abbrev pub VariablesHaveFirst : List DataType → Type 0
 VariablesHaveFirst [] = Unit {0}
 VariablesHaveFirst (type ∷ rest) = HasFirst (shape_of type) × VariablesHaveFirst rest
@@ -77,7 +94,7 @@ arguments_count (argument_before a rest) = argument_count a + arguments_count re
 abbrev pub AreFew : Arguments → Type 0
 AreFew list = arguments_count list ≤ 64
 
--- ---- the tree, in a program of so many routines and so many pointer types
+-- ---- the tree, in a program of `routines` routines and `types` pointer types
 
 module _ (routines types : ℕ) where
   abbrev mutual
@@ -186,19 +203,26 @@ module _ (routines types : ℕ) where
     StatementFormed (Assign p range e line) = PlaceFormed p × ExprFormed e × IsRange range × IsLine line
     StatementFormed (AssignSet p low high e line) = PlaceFormed p × SetFormed e × AreIntegers low high × IsLine line
     StatementFormed (AssignStructure p e) = PlaceFormed p × StructureFormed e × IsSmall (structure_bytes e)
-    StatementFormed (CallProcedure r up arguments line) = ArgumentsFormed arguments × AreFew arguments × (r < routines) × IsLine line
-    StatementFormed (CallFormalProcedure up index arguments line) = ArgumentsFormed arguments × AreFew arguments × IsLine line
+    StatementFormed (CallProcedure r up arguments line) = ArgumentsFormed arguments × AreFew arguments × (r < routines)
+        × IsLine line
+    StatementFormed (CallFormalProcedure up index arguments line) = ArgumentsFormed arguments × AreFew arguments
+        × IsLine line
     StatementFormed (Compound body) = StatementsFormed body
     StatementFormed (If e s) = ExprFormed e × StatementFormed s
     StatementFormed (IfElse e s t) = ExprFormed e × StatementFormed s × StatementFormed t
     StatementFormed (Case e elements line) = ExprFormed e × ElementsFormed elements × IsLine line
     StatementFormed (While e s) = ExprFormed e × StatementFormed s
     StatementFormed (Repeat body e) = StatementsFormed body × ExprFormed e
-    StatementFormed (For variable low high a from_line direction b to_line s) = ExprFormed a × ExprFormed b × AreIntegers low high × IsLine from_line × IsLine to_line × StatementFormed s
+    StatementFormed (For variable low high a from_line direction b to_line s) = ExprFormed a × ExprFormed b
+        × AreIntegers low high × IsLine from_line × IsLine to_line × StatementFormed s
     StatementFormed (With places s) = PlacesFormed places × StatementFormed s
     StatementFormed (New p pointer line) = PlaceFormed p × (pointer < types) × IsLine line
-    StatementFormed (Pack p from_type e line q to_type) = PlaceFormed p × ExprFormed e × PlaceFormed q × IsPart from_type to_type × IsSmall (value_count (index_of to_type) * component_bytes (shape_of from_type)) × IsLine line
-    StatementFormed (Unpack p from_type q to_type e line) = PlaceFormed p × PlaceFormed q × ExprFormed e × IsPart to_type from_type × IsSmall (value_count (index_of from_type) * component_bytes (shape_of from_type)) × IsLine line
+    StatementFormed (Pack p from_type e line q to_type) = PlaceFormed p × ExprFormed e × PlaceFormed q
+        × IsPart from_type to_type × IsSmall (value_count (index_of to_type) * component_bytes (shape_of from_type))
+        × IsLine line
+    StatementFormed (Unpack p from_type q to_type e line) = PlaceFormed p × PlaceFormed q × ExprFormed e
+        × IsPart to_type from_type × IsSmall (value_count (index_of from_type) * component_bytes (shape_of from_type))
+        × IsLine line
     StatementFormed (Read variables) = ReadsFormed variables
     StatementFormed (Readln variables line) = ReadsFormed variables × IsLine line
     StatementFormed (Write parameters) = WritesFormed parameters

@@ -1,4 +1,5 @@
--- The code of a program within the limits keeps the invariant of three-address code, and no number that arises while it is made is large.
+-- The code of a program within the limits keeps the invariant of three-address code, and no number that arises while it
+-- is made is large.
 use Rattle.std.specs.Prelude.{◌≡◌, ℕ, ◌<◌, true, [], length}
 use Rattle.ps_tree.specs.Counts.{is_within_limits}
 use Rattle.ps_tree.specs.Tree.{Program, routine_at}
@@ -11,11 +12,13 @@ use Rattle.ps_lower_bounds.specs.Places.{StatementsLie}
 use Rattle.ps_lower_bounds.specs.Weights.{AreLight}
 
 abbrev pub CodeIsSound : Type 0
-CodeIsSound = (program : Program) → is_within_limits program ≡ true → ProgramFormed program → IsSound (code_of run_time_routines program)
+CodeIsSound = (program : Program) → is_within_limits program ≡ true → ProgramFormed program → IsSound
+    (code_of run_time_routines program)
 
--- The routines of such a program weigh little, where the variables of each lie within their frames and objects.
+-- The routines of such a program weigh little, where the variables of each are within their frames and objects.
 abbrev pub WeightsAreSmall : Type 0
 WeightsAreSmall =
     (program : Program) → is_within_limits program ≡ true → ProgramFormed program
-    → ((number : ℕ) → number < length program.routines → StatementsLie (scope_of program (routine_at program number)) [] (routine_at program number).body)
+    → ((number : ℕ) → number < length program.routines → StatementsLie (scope_of program (routine_at program number)) []
+    (routine_at program number).body)
     → AreLight program

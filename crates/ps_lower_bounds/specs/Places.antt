@@ -1,9 +1,21 @@
--- Where the variables of a tree lie: each selector is applied to a variable of its type, so that no part reaches beyond the frame or
--- the object in which its variable is.
+-- Where the variables of a tree are: each selector is applied to a variable of its type, so that no part reaches beyond
+-- the frame or object that its variable is in.
 use Rattle.std.specs.Prelude.{◌≡◌, ◌≤◌, List, [], ◌∷◌, Some}
 use Rattle.ps_tree.specs.Types.{DataType}
 use Rattle.ps_tree.specs.Sizes.{value_count}
-use Rattle.ps_tree.specs.Tree.{Place, Variable, Element, Field, Target, Selectors, no_selector, selector_before, ArithmeticSteps, no_arithmetic_step, arithmetic_step_before, Operands, no_operand, operand_before, SetSteps, no_set_step, set_step_before, Expr, Number, Nil, Load, Plus, Minus, Not, Arithmetic, Logic, Compare, ComparePointers, CompareSets, CompareStrings, In, Apply, Eof, Eoln, Call, CallFormal, SetExpr, LoadSet, Constructor, Combine, Member, One, Several, Members, no_member, member_before, Structure, Literal, Contents, Argument, ByValue, BySet, ByCopy, ByVariable, ByRoutine, ByFormal, Arguments, no_argument, argument_before, ReadVariable, ReadChar, ReadInteger, Width, DefaultWidth, GivenWidth, WriteParameter, WriteInteger, WriteChar, WriteBoolean, WriteText, Statement, Empty, Assign, AssignSet, AssignStructure, CallProcedure, CallFormalProcedure, Compound, If, IfElse, Case, While, Repeat, For, With, New, Pack, Unpack, Read, Readln, Write, Writeln, Statements, no_statement, statement_before, Elements, no_element, element_before, domain_at}
+use Rattle.ps_tree.specs.Tree.{Place, Variable, Element, Field, Target, Selectors, no_selector, selector_before}
+use Rattle.ps_tree.specs.Tree.{ArithmeticSteps, no_arithmetic_step, arithmetic_step_before, Operands, no_operand}
+use Rattle.ps_tree.specs.Tree.{operand_before, SetSteps, no_set_step, set_step_before, Expr, Number, Nil, Load, Plus}
+use Rattle.ps_tree.specs.Tree.{Minus, Not, Arithmetic, Logic, Compare, ComparePointers, CompareSets, CompareStrings}
+use Rattle.ps_tree.specs.Tree.{In, Apply, Eof, Eoln, Call, CallFormal, SetExpr, LoadSet, Constructor, Combine, Member}
+use Rattle.ps_tree.specs.Tree.{One, Several, Members, no_member, member_before, Structure, Literal, Contents, Argument}
+use Rattle.ps_tree.specs.Tree.{ByValue, BySet, ByCopy, ByVariable, ByRoutine, ByFormal, Arguments, no_argument}
+use Rattle.ps_tree.specs.Tree.{argument_before, ReadVariable, ReadChar, ReadInteger, Width, DefaultWidth, GivenWidth}
+use Rattle.ps_tree.specs.Tree.{WriteParameter, WriteInteger, WriteChar, WriteBoolean, WriteText, Statement, Empty}
+use Rattle.ps_tree.specs.Tree.{Assign, AssignSet, AssignStructure, CallProcedure, CallFormalProcedure, Compound, If}
+use Rattle.ps_tree.specs.Tree.{IfElse, Case, While, Repeat, For, With, New, Pack, Unpack, Read, Readln, Write, Writeln}
+use Rattle.ps_tree.specs.Tree.{Statements, no_statement, statement_before, Elements, no_element, element_before}
+use Rattle.ps_tree.specs.Tree.{domain_at}
 use Rattle.ps_meaning.specs.Expressions.{index_of}
 use Rattle.ps_lower_layout.specs.Shapes.{Shape, shape_of, Part, Whole, component_part, field_part}
 use Rattle.ps_lower_code.specs.Scopes.{Scope}
@@ -15,17 +27,22 @@ use Rattle.ps_lower_bounds.specs.Forms.{IsSmall}
 abbrev pub HasComponents : DataType → Type 0
 HasComponents type = CountIs (shape_of type) (value_count (index_of type)) × (1 ≤ value_count (index_of type))
 
--- within records of these shapes that `with` opened, the innermost first
+-- within records of these shapes that `with` opened, innermost first
 module _ (k : Scope) where
   abbrev mutual
     pub PlaceLies : List Shape → Place → Part → Type 0
-    PlaceLies os (Variable name selectors) part = (shape : Shape) × BaseFits k os name shape × SelectorsLie os selectors (Whole shape) part
+    PlaceLies os (Variable name selectors) part = (shape : Shape) × BaseFits k os name shape × SelectorsLie os selectors
+        (Whole shape) part
 
     pub SelectorsLie : List Shape → Selectors → Part → Part → Type 0
     SelectorsLie os no_selector part part' = part ≡ part'
-    SelectorsLie os (selector_before (Element type e line) rest) part part' = (part ≡ Whole (shape_of type)) × HasComponents type × ExprLies os e × SelectorsLie os rest (component_part (shape_of type)) part'
-    SelectorsLie os (selector_before (Field type number) rest) part part' = (part ≡ Whole (shape_of type)) × ((inner : Shape) × (field_part (shape_of type) number ≡ Some inner) × SelectorsLie os rest (Whole inner) part')
-    SelectorsLie os (selector_before (Target pointer line) rest) part part' = SelectorsLie os rest (Whole (shape_of (domain_at k.program pointer))) part'
+    SelectorsLie os (selector_before (Element type e line) rest) part part' = (part ≡ Whole (shape_of type))
+        × HasComponents type × ExprLies os e × SelectorsLie os rest (component_part (shape_of type)) part'
+    SelectorsLie os (selector_before (Field type number) rest) part part' = (part ≡ Whole (shape_of type))
+        × ((inner : Shape) × (field_part (shape_of type) number ≡ Some inner) × SelectorsLie os rest
+        (Whole inner) part')
+    SelectorsLie os (selector_before (Target pointer line) rest) part part' = SelectorsLie os rest
+        (Whole (shape_of (domain_at k.program pointer))) part'
 
     pub ExprLies : List Shape → Expr → Type 0
     ExprLies os (Number n) = Unit {0}
@@ -120,7 +137,8 @@ module _ (k : Scope) where
     StatementLies os Empty = Unit {0}
     StatementLies os (Assign p range e line) = (part : Part) × PlaceLies os p part × ExprLies os e
     StatementLies os (AssignSet p low high e line) = (part : Part) × PlaceLies os p part × SetLies os e
-    StatementLies os (AssignStructure p e) = (part : Part) × PlaceLies os p part × StructureLies os e × IsSmall (structure_bytes e)
+    StatementLies os (AssignStructure p e) = (part : Part) × PlaceLies os p part × StructureLies os e × IsSmall
+        (structure_bytes e)
     StatementLies os (CallProcedure r up arguments line) = ArgumentsLie os arguments
     StatementLies os (CallFormalProcedure up index arguments line) = ArgumentsLie os arguments
     StatementLies os (Compound body) = StatementsLie os body
@@ -129,11 +147,14 @@ module _ (k : Scope) where
     StatementLies os (Case e elements line) = ExprLies os e × ElementsLie os elements
     StatementLies os (While e s) = ExprLies os e × StatementLies os s
     StatementLies os (Repeat body e) = StatementsLie os body × ExprLies os e
-    StatementLies os (For variable low high a from_line direction b to_line s) = ExprLies os a × ExprLies os b × StatementLies os s
+    StatementLies os (For variable low high a from_line direction b to_line s) = ExprLies os a × ExprLies os b
+        × StatementLies os s
     StatementLies os (With places s) = (os' : List Shape) × RecordsLie os places os' × StatementLies os' s
     StatementLies os (New p pointer line) = (part : Part) × PlaceLies os p part
-    StatementLies os (Pack p from_type e line q to_type) = PlaceLies os p (Whole (shape_of from_type)) × HasComponents from_type × ExprLies os e × PlaceLies os q (Whole (shape_of to_type))
-    StatementLies os (Unpack p from_type q to_type e line) = PlaceLies os p (Whole (shape_of from_type)) × PlaceLies os q (Whole (shape_of to_type)) × HasComponents to_type × ExprLies os e
+    StatementLies os (Pack p from_type e line q to_type) = PlaceLies os p (Whole (shape_of from_type))
+        × HasComponents from_type × ExprLies os e × PlaceLies os q (Whole (shape_of to_type))
+    StatementLies os (Unpack p from_type q to_type e line) = PlaceLies os p (Whole (shape_of from_type))
+        × PlaceLies os q (Whole (shape_of to_type)) × HasComponents to_type × ExprLies os e
     StatementLies os (Read variables) = ReadsLie os variables
     StatementLies os (Readln variables line) = ReadsLie os variables
     StatementLies os (Write parameters) = WritesLie os parameters

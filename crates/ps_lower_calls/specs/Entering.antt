@@ -13,13 +13,24 @@ use Rattle.ps_lower_relation.specs.Here.{Setting, code_in, Work, Activated, acti
 use Rattle.ps_lower_relation.specs.RunTime.{WritesDo}
 use Rattle.ps_lower_calls.specs.Filling.{Filling, Fills}
 
--- the machine's state, where the frame of the activation has these words, and the frames of its callers are those of the ghosts
+-- the machine's state, where the frame of the activation has these words, and the frames of its callers are those of
+-- the ghosts
 abbrev pub entering : Setting → Activated → List Ghost → World → Words → Work → (place : ℕ) → State
 entering p c gs w words k pc =
     record {
       current = activation c pc k.temporaries;
       callers = c.callers;
-      memory = record { frames = record { number = c.number; words = words } ∷ frames_of p.program w gs; scratch = record { number = c.number; words = k.scratch } ∷ c.waiting; objects = objects_of p.program w.made w.objects };
+      memory = record {
+        frames = record {
+          number = c.number;
+          words = words;
+        } ∷ frames_of p.program w gs;
+        scratch = record {
+          number = c.number;
+          words = k.scratch;
+        } ∷ c.waiting;
+        objects = objects_of p.program w.made w.objects;
+      };
       count = k.count;
       heap = sum_by (λ t. get_or p.objects t 0) w.made;
       tape = tape_of w.input w.transcript;
@@ -31,17 +42,28 @@ frame_filling p c gs w =
     record {
       base = base.Frame;
       block = FrameBlock c.number;
-      memory = λ scratch words. record { frames = record { number = c.number; words = words } ∷ frames_of p.program w gs; scratch = record { number = c.number; words = scratch } ∷ c.waiting; objects = objects_of p.program w.made w.objects };
+      memory = λ scratch words. record {
+        frames = record {
+          number = c.number;
+          words = words;
+        } ∷ frames_of p.program w gs;
+        scratch = record {
+          number = c.number;
+          words = scratch;
+        } ∷ c.waiting;
+        objects = objects_of p.program w.made w.objects;
+      };
       heap = sum_by (λ t. get_or p.objects t 0) w.made;
       tape = tape_of w.input w.transcript;
     }
 
 -- code that places these pieces of the frame
-abbrev pub Places : Setting → Activated → List Ghost → World → (free : ℕ) → Words → Work → (pc pc' : ℕ) → List Piece → Type 0
+abbrev pub Places : Setting → Activated → List Ghost → World → (free : ℕ) → Words → Work → (pc pc' : ℕ) → List Piece
+    → Type 0
 Places p c gs w free words k pc pc' pieces = Fills p c (frame_filling p c gs w) free words k pc pc' pieces
 
--- What copies ask for while a frame of so many words is entered: the run-time routines, numbers of activations that no block has,
--- and a frame of less than 2 ^ 31 bytes.
+-- What copies ask for while a frame of so many words is entered: the run-time routines, numbers of activations that no
+-- block has, and a frame of less than 2 ^ 31 bytes.
 pub record CanCopy (p : Setting) (c : Activated) (gs : List Ghost) (w : World) (k : Scope) (count size : ℕ) : Type 0 where
   pub does : WritesDo p
   pub program : length k.program.routines ≡ length (code_in p).program

@@ -18,6 +18,12 @@ use Rattle.ps_lower_code.specs.First.{FirstFits}
 -- the code of a type's first value places the words of that value
 abbrev pub FirstsArePlaced : Type 0
 FirstsArePlaced =
-    (p : Setting) (c : Activated) (gs : List Ghost) (w : World) (k : Scope) (type : DataType) (free : ℕ) (words : Words) (work : Work) (pc pc' place offset : ℕ)
-    → CanCopy p c gs w k work.count (length words) → FirstFits (shape_of type) → offset ≡ 4 * place → place + length (value_words (shape_of type) (first type)) ≤ length words → Stands (code_in p) c.routine pc (first_code k base.Frame free offset (shape_of type)) pc'
-    → Places p c gs w free words work pc pc' (record { place = place; words = value_words (shape_of type) (first type) } ∷ [])
+    (p : Setting) (c : Activated) (gs : List Ghost) (w : World) (k : Scope) (type : DataType) (free : ℕ) (words : Words)
+    (work : Work) (pc pc' place offset : ℕ)
+    → CanCopy p c gs w k work.count (length words) → FirstFits (shape_of type) → offset ≡ 4 * place → place + length
+    (value_words (shape_of type) (first type)) ≤ length words → Stands (code_in p) c.routine pc
+    (first_code k base.Frame free offset (shape_of type)) pc'
+    → Places p c gs w free words work pc pc' (record {
+      place = place;
+      words = value_words (shape_of type) (first type);
+    } ∷ [])

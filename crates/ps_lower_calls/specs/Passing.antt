@@ -15,11 +15,12 @@ use Rattle.ps_lower_layout.specs.Words.{pointer_word, value_words}
 use Rattle.ps_lower_layout.specs.Paths.{HasShape}
 use Rattle.ps_lower_layout.specs.Frames.{Kind, Own, Reference, Closure, Kinds, no_kind, kind_before}
 use Rattle.ps_lower_code.specs.Fits.{tail}
-use Rattle.ps_lower_relation.specs.Ghosts.{Slot, OwnSlot, ReferenceSlot, ClosureSlot, Ghost, PlaceAt, RoutineHere, EnvAt}
+use Rattle.ps_lower_relation.specs.Ghosts.{Slot, OwnSlot, ReferenceSlot, ClosureSlot, Ghost, PlaceAt, RoutineHere}
+use Rattle.ps_lower_relation.specs.Ghosts.{EnvAt}
 use Rattle.ps_lower_calls.specs.Binding.{variable_slots}
 
--- A value goes as its word, or as the address of its copy; a variable as its address; a routine with the address of the frame that it
--- was declared in.
+-- A value goes as its word, or as the address of its copy; a variable as its address; a routine with the address of the
+-- frame that it was declared in.
 pub data Passing : Type 0 where
   PassValue : Shape → Value → Word → Passing
   PassVariable : Shape → Spot → Block → (offset : ℕ) → Passing
@@ -90,7 +91,8 @@ module _ (program : Program) (gs : List Ghost) (made : List ℕ) where
   abbrev pub PassingAt : Passing → Type 0
   PassingAt (PassValue shape v x) = HasShape made v shape
   PassingAt (PassVariable shape s b o) = PlaceAt program gs made s b o (Whole shape)
-  PassingAt (PassRoutine kinds result r env w) = RoutineHere program gs made kinds result r × EnvAt program gs made env w (tail (routine_at program r).chain)
+  PassingAt (PassRoutine kinds result r env w) = RoutineHere program gs made kinds result r
+      × EnvAt program gs made env w (tail (routine_at program r).chain)
 
   abbrev pub PassingsAt : List Passing → Type 0
   PassingsAt [] = Unit {0}

@@ -1,4 +1,4 @@
--- Temporaries of each class lie at their depth or above.
+-- Temporaries of each class are at their depth or above.
 use Rattle.std.proofs.Common.{ℕ, ◌≤◌, Bool, true, false, arith}
 use Rattle.ps_lower_code.specs.Scopes.{even_from, odd_from, held, kept}
 

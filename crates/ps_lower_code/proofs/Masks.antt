@@ -1,5 +1,6 @@
 -- How large the bits of a word of a set are.
-use Rattle.std.proofs.Common.{◌≡◌, ℕ, zero, suc, ◌+◌, ◌*◌, ◌^◌, ◌<◌, ℤ, pos, negsuc, Bool, true, false, not, ◌&&◌, nat_le, if◌then◌else◌, Option, Some, None, refl, arith, leb-true}
+use Rattle.std.proofs.Common.{◌≡◌, ℕ, zero, suc, ◌+◌, ◌*◌, ◌^◌, ◌<◌, ℤ, pos, negsuc, Bool, true, false, not, ◌&&◌}
+use Rattle.std.proofs.Common.{nat_le, if◌then◌else◌, Option, Some, None, refl, arith, leb-true}
 use Rattle.std.proofs.Math.Nat.{pow-suc}
 use Rattle.ps_meaning.specs.Operators.{is_between}
 use Rattle.ps_lower_layout.specs.Words.{bits_from}

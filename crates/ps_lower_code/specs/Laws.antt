@@ -2,7 +2,7 @@
 use Rattle.std.specs.Prelude.{ℕ, ◌≤◌, Bool}
 use Rattle.ps_lower_code.specs.Scopes.{held, kept}
 
--- what is chosen at a depth lies at it or above
+-- what is chosen at a depth is at it or above
 abbrev pub HeldAbove : Type 0
 HeldAbove = (b : Bool) (d : ℕ) → d ≤ held b d
 

@@ -7,14 +7,18 @@ use Rattle.tac_code.specs.declared.code.Operand.TheVariants as operand
 use Rattle.tac_code.specs.declared.code.Base.{Base}
 use Rattle.tac_code.specs.declared.code.Base.TheVariants as base
 use Rattle.tac_code.specs.declared.code.Instruction.{Instruction}
-use Rattle.tac_code.specs.declared.code.Instruction.TheVariants.{Literal, Copy, Arithmetic, Bits, Compare, CheckRange, CheckPointer, Text, Offset, Index, RoutineValue, Load, Store, LoadByte, StoreByte, Jump, JumpBack, Branch, BranchBack, Call, CallValue, Return, Trap, Take, Put, New, End}
+use Rattle.tac_code.specs.declared.code.Instruction.TheVariants.{Literal, Copy, Arithmetic, Bits, Compare, CheckRange}
+use Rattle.tac_code.specs.declared.code.Instruction.TheVariants.{CheckPointer, Text, Offset, Index, RoutineValue, Load}
+use Rattle.tac_code.specs.declared.code.Instruction.TheVariants.{Store, LoadByte, StoreByte, Jump, JumpBack, Branch}
+use Rattle.tac_code.specs.declared.code.Instruction.TheVariants.{BranchBack, Call, CallValue, Return, Trap, Take, Put}
+use Rattle.tac_code.specs.declared.code.Instruction.TheVariants.{New, End}
 use Rattle.tac_code.specs.declared.code.TacRoutine.{TacRoutine}
 use Rattle.tac_code.specs.Meaning.{Code}
 use Rattle.ps_lower_layout.specs.Shapes.{shape_of, byte_count}
 use Rattle.ps_lower_layout.specs.Frames.{layout_of}
 use Rattle.ps_lower_code.specs.Routines.{parameter_total, routine_code}
 
--- ---- how many temporaries an instruction names: one more than the highest
+-- ---- how many temporaries an instruction needs: one more than the highest it names
 
 abbrev pub in_operand : Operand → ℕ
 in_operand (operand.Temporary t) = suc t
@@ -63,7 +67,7 @@ abbrev pub temporaries_in : List Instruction → ℕ
 temporaries_in [] = 0
 temporaries_in (i ∷ rest) = max (named_in i) (temporaries_in rest)
 
--- ---- how many bytes of the scratch block are meant
+-- ---- how many bytes of the scratch block are used
 
 abbrev pub scratch_at : Base → (offset extent : ℕ) → ℕ
 scratch_at base.Scratch offset extent = offset + extent
@@ -82,11 +86,22 @@ scratch_in [] = 0
 scratch_in (i ∷ rest) = max (meant_by i) (scratch_in rest)
 
 abbrev pub tac_of : Program → Routine → TacRoutine
-tac_of program r = record { parameters = parameter_total r; temporaries = max (parameter_total r) (temporaries_in (routine_code program r)); frame = 4 * (layout_of r).size; scratch = scratch_in (routine_code program r); line = r.line; body = routine_code program r }
+tac_of program r = record {
+  parameters = parameter_total r;
+  temporaries = max (parameter_total r) (temporaries_in (routine_code program r));
+  frame = 4 * (layout_of r).size;
+  scratch = scratch_in (routine_code program r);
+  line = r.line;
+  body = routine_code program r;
+}
 
 abbrev pub object_bytes : DataType → ℕ
 object_bytes type = byte_count (shape_of type)
 
 -- with the run-time routines, which every program has
 abbrev pub code_of : List TacRoutine → Program → Code
-code_of run_time program = record { program = map (tac_of program) program.routines; run_time = run_time; objects = map object_bytes program.domains }
+code_of run_time program = record {
+  program = map (tac_of program) program.routines;
+  run_time = run_time;
+  objects = map object_bytes program.domains;
+}

@@ -6,7 +6,8 @@ use Rattle.tac_code.specs.declared.code.Base.TheVariants as base
 use Rattle.tac_code.specs.declared.code.Instruction.{Instruction}
 use Rattle.tac_code.specs.declared.code.Instruction.TheVariants.{Literal, Offset, Load, Store, Return, End}
 use Rattle.ps_lower_layout.specs.Shapes.{Shape, NumberShape, PointerShape, shape_of, byte_count}
-use Rattle.ps_lower_layout.specs.Frames.{Kind, Own, Reference, Closure, Kinds, no_kind, kind_before, kinds_of, entry_offset, link_offset, input_offset, is_program_block}
+use Rattle.ps_lower_layout.specs.Frames.{Kind, Own, Reference, Closure, Kinds, no_kind, kind_before, kinds_of}
+use Rattle.ps_lower_layout.specs.Frames.{entry_offset, link_offset, input_offset, is_program_block}
 use Rattle.ps_lower_code.specs.Scopes.{Scope, beside, copy_code}
 use Rattle.ps_lower_code.specs.Statements.{first_code, statements_code}
 
@@ -14,12 +15,14 @@ use Rattle.ps_lower_code.specs.Statements.{first_code, statements_code}
 abbrev pub own_code : Scope → Shape → (t offset free : ℕ) → List Instruction
 own_code k (NumberShape first narrow) t offset free = Store base.Frame offset t ∷ []
 own_code k (PointerShape pointer) t offset free = Store base.Frame offset t ∷ []
-own_code k shape t offset free = Offset free base.Frame offset (byte_count shape) ∷ copy_code k free t (beside free) (byte_count shape)
+own_code k shape t offset free = Offset free base.Frame offset (byte_count shape) ∷ copy_code k free t (beside free)
+    (byte_count shape)
 
 abbrev pub parameter_code : Scope → Kind → (t offset free : ℕ) → List Instruction
 parameter_code k (Own shape) t offset free = own_code k shape t offset free
 parameter_code k (Reference shape) t offset free = Store base.Frame offset t ∷ []
-parameter_code k (Closure kinds result) t offset free = Store base.Frame offset t ∷ Store base.Frame (offset + 4) (suc t) ∷ []
+parameter_code k (Closure kinds result) t offset free = Store base.Frame offset t ∷ Store base.Frame (offset + 4)
+    (suc t) ∷ []
 
 abbrev pub parameter_words : Kind → ℕ
 parameter_words (Own shape) = 1
@@ -38,11 +41,13 @@ module _ (k : Scope) (r : Routine) where
   -- the parameters in the temporaries from t on, to the entries from i on
   abbrev pub parameters_code : Kinds → (t i free : ℕ) → List Instruction
   parameters_code no_kind t i free = []
-  parameters_code (kind_before kind rest) t i free = parameter_code k kind t (entry_offset r i) free ++ parameters_code rest (t + parameter_words kind) (suc i) free
+  parameters_code (kind_before kind rest) t i free = parameter_code k kind t (entry_offset r i) free
+      ++ parameters_code rest (t + parameter_words kind) (suc i) free
 
   abbrev pub variables_code : List DataType → (i free : ℕ) → List Instruction
   variables_code [] i free = []
-  variables_code (type ∷ rest) i free = first_code k base.Frame free (entry_offset r i) (shape_of type) ++ variables_code rest (suc i) free
+  variables_code (type ∷ rest) i free = first_code k base.Frame free (entry_offset r i) (shape_of type)
+      ++ variables_code rest (suc i) free
 
   abbrev pub result_code : Option DataType → (free : ℕ) → List Instruction
   result_code None free = []
@@ -58,9 +63,10 @@ count_kinds (kind_before kind rest) = suc (count_kinds rest)
 
 -- nothing was taken ahead of the input, and no line was begun
 abbrev pub input_code : Routine → (free : ℕ) → List Instruction
-input_code r free = Literal free (negsuc 1) ∷ Store base.Frame (input_offset r) free ∷ Literal free (pos 0) ∷ Store base.Frame (input_offset r + 4) free ∷ []
+input_code r free = Literal free (negsuc 1) ∷ Store base.Frame (input_offset r) free ∷ Literal free (pos 0)
+    ∷ Store base.Frame (input_offset r + 4) free ∷ []
 
--- what a routine does before its statements: temporaries from the count of its parameters on are free
+-- what a routine does before its statements: temporaries from the number of its parameters on are free
 abbrev pub begin_code : Scope → Routine → List Instruction
 begin_code k r =
     (if is_program_block r.chain then input_code r (parameter_total r) else (Store base.Frame (link_offset r) 0 ∷ []))
@@ -79,4 +85,5 @@ abbrev pub scope_of : Program → Routine → Scope
 scope_of program r = record { program = program; chain = r.chain; opened = [] }
 
 abbrev pub routine_code : Program → Routine → List Instruction
-routine_code program r = begin_code (scope_of program r) r ++ statements_code (scope_of program r) r.body 0 ++ end_code r
+routine_code program r = begin_code (scope_of program r) r ++ statements_code (scope_of program r) r.body 0
+    ++ end_code r

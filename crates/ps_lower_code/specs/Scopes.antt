@@ -1,5 +1,7 @@
--- What code is made from: temporaries by their classes, frames by their levels, and the pieces that all constructs share.
-use Rattle.std.specs.Prelude.{ℕ, zero, suc, ◌+◌, ◌%◌, ℤ, pos, negsuc, Bool, true, false, ◌&&◌, nat_eq, if◌then◌else◌, List, [], ◌∷◌, ◌++◌, length, Option, Some, None, get_or, slice_get, int_le}
+-- What code is made from: temporaries by their classes, frames by their levels, and the pieces that all constructs
+-- share.
+use Rattle.std.specs.Prelude.{ℕ, zero, suc, ◌+◌, ◌%◌, ℤ, pos, negsuc, Bool, true, false, ◌&&◌, nat_eq, if◌then◌else◌}
+use Rattle.std.specs.Prelude.{List, [], ◌∷◌, ◌++◌, length, Option, Some, None, get_or, slice_get, int_le}
 use Rattle.ps_tree.specs.declared.tree.Range.{Range}
 use Rattle.ps_tree.specs.declared.tree.Range.TheVariants.{Any, Within}
 use Rattle.ps_tree.specs.Tree.{Program, Routine, routine_at}
@@ -9,23 +11,24 @@ use Rattle.tac_code.specs.declared.code.Operand.TheVariants as operand
 use Rattle.tac_code.specs.declared.code.Base.{Base}
 use Rattle.tac_code.specs.declared.code.Base.TheVariants as base
 use Rattle.tac_code.specs.declared.code.Instruction.{Instruction}
-use Rattle.tac_code.specs.declared.code.Instruction.TheVariants.{Literal, Copy, CheckRange, Offset, Load, Store, Call, Trap}
+use Rattle.tac_code.specs.declared.code.Instruction.TheVariants.{Literal, Copy, CheckRange, Offset, Load, Store, Call}
+use Rattle.tac_code.specs.declared.code.Instruction.TheVariants.{Trap}
 use Rattle.ps_lower_layout.specs.Frames.{Kind, entries, entry_offset, link_offset, input_offset}
 
 -- ---- temporaries
--- Code at depth d writes no temporary below d. What stays alive across a call is in an odd one, all else in an even one.
+-- Code at depth d writes no temporary below d. What is live across a call is in an odd one, all else in an even one.
 abbrev pub even_from : ℕ → ℕ
 even_from d = d + d % 2
 
 abbrev pub odd_from : ℕ → ℕ
 odd_from d = d + (d + 1) % 2
 
--- for a value that is held while code runs that calls or not
+-- for a value that is held while code runs, which calls or not
 abbrev pub held : Bool → ℕ → ℕ
 held true d = odd_from d
 held false d = even_from d
 
--- the same, where either class does if nothing calls
+-- the same, where either class will do if nothing calls
 abbrev pub kept : Bool → ℕ → ℕ
 kept true d = odd_from d
 kept false d = d
@@ -46,51 +49,54 @@ least = negsuc 2147483647
 abbrev pub greatest : ℤ
 greatest = pos 2147483647
 
--- every integer lies in the range
+-- every integer is in the range
 abbrev pub is_any : ℤ → ℤ → Bool
 is_any low high = is_equal low least && is_equal high greatest
 
 abbrev pub range_code : (temporary : ℕ) (low high : ℤ) (number line : ℕ) → List Instruction
 range_code t low high number line = if is_any low high then [] else CheckRange t low high number line ∷ []
 
--- a number that is known needs no test if it lies in the range
+-- a known number needs no test if it is in the range
 abbrev pub check_code : Option ℤ → (temporary : ℕ) (low high : ℤ) (number line : ℕ) → List Instruction
 check_code None t low high number line = range_code t low high number line
-check_code (Some z) t low high number line = if is_between low z high then [] else CheckRange t low high number line ∷ []
+check_code (Some z) t low high number line = if is_between low z high then [] else CheckRange t low high number line
+    ∷ []
 
--- every byte lies in the range
+-- every byte is in the range
 abbrev pub has_bytes : ℤ → ℤ → Bool
 has_bytes low high = int_le low (pos 0) && int_le (pos 255) high
 
--- the same for the range that the tree gives: error 4. What is known to be a byte needs no test if the range has all bytes.
+-- the same for the range that the tree gives: error 4. What is known to be a byte needs no test if the range has all
+-- bytes.
 abbrev pub fitting_code : (byte : Bool) → Option ℤ → (temporary : ℕ) → Range → (line : ℕ) → List Instruction
 fitting_code byte literal t Any line = []
-fitting_code byte literal t (Within low high) line = if byte && has_bytes low high then [] else check_code literal t low high 4 line
+fitting_code byte literal t (Within low high) line = if byte && has_bytes low high then []
+    else check_code literal t low high 4 line
 
--- and for an operand that may stand in no temporary
+-- and for an operand that need not be in a temporary
 abbrev pub operand_check : Option ℤ → (temporary : ℕ) (low high : ℤ) (number line : ℕ) → List Instruction
 operand_check None t low high number line = range_code t low high number line
 operand_check (Some z) t low high number line = if is_between low z high then [] else Trap number line ∷ []
 
--- a right operand: a number that is known, or what a temporary holds
+-- a right operand: a known number, or what a temporary holds
 abbrev pub operand_of : Option ℤ → (temporary : ℕ) → Operand
 operand_of None t = operand.Temporary t
 operand_of (Some z) t = operand.Number z
 
--- the code of a right operand: none for a number that is known
+-- the code of a right operand: none for a known number
 abbrev pub unless_known : Option ℤ → List Instruction → List Instruction
 unless_known None code = code
 unless_known (Some z) code = []
 
 -- ---- variables
 
--- so many bytes from a base
+-- an offset in bytes from a base
 pub record Site : Type 0 where
   pub base : Base
   pub offset : ℕ
 
--- Where an expression or a statement stands: in a routine, whose number begins the chain of those round it, and within
--- records that `with` opened, the innermost first.
+-- The context of an expression or a statement: a routine, whose number begins the chain of those enclosing it, and
+-- records that `with` opened, innermost first.
 pub record Scope : Type 0 where
   pub program : Program
   pub chain : List ℕ
@@ -102,20 +108,21 @@ routine_up k up = routine_at k.program (get_or k.chain up 0)
 abbrev pub kind_at : Scope → (up index : ℕ) → Option Kind
 kind_at k up i = slice_get (entries (routine_up k up)) i
 
--- the frame so many levels up is the program block's
+-- the frame `up` levels out is the program block's
 abbrev pub is_outermost : Scope → ℕ → Bool
 is_outermost k up = nat_eq (suc up) (length k.chain)
 
--- From the frame at an address in t to the one so many levels further up. The link of each level stands where that level's
--- routine has it.
+-- From the frame at an address in t to the one `up` levels further out. Each level's link is where that level's routine
+-- has it.
 abbrev pub hops : Scope → (t level up : ℕ) → List Instruction
 hops k t level zero = []
 hops k t level (suc up) = Load t (base.Temporary t) (link_offset (routine_up k level)) ∷ hops k t (suc level) up
 
--- what reaches the frame so many levels up, and the base from which its parts count then
+-- code that reaches the frame `up` levels out, and the base from which its parts are then addressed
 abbrev pub frame_code : Scope → (t up : ℕ) → List Instruction
 frame_code k t zero = []
-frame_code k t (suc up) = if is_outermost k (suc up) then [] else Load t base.Frame (link_offset (routine_up k 0)) ∷ hops k t 1 up
+frame_code k t (suc up) = if is_outermost k (suc up) then [] else Load t base.Frame (link_offset (routine_up k 0))
+    ∷ hops k t 1 up
 
 abbrev pub frame_base : Scope → (t up : ℕ) → Base
 frame_base k t zero = base.Frame
@@ -126,7 +133,7 @@ abbrev pub link_code : Scope → (t up : ℕ) → List Instruction
 link_code k t zero = Offset t base.Frame 0 0 ∷ []
 link_code k t (suc up) = if is_outermost k (suc up) then Offset t base.Program 0 0 ∷ [] else Load t base.Frame (link_offset (routine_up k 0)) ∷ hops k t 1 up
 
--- a procedural or functional parameter: its routine in t, and its frame's address beside
+-- a procedural or functional parameter: its routine in t, and its frame's address in the temporary beside it
 abbrev pub formal_code : Scope → (t up index : ℕ) → List Instruction
 formal_code k t up i =
     frame_code k t up
@@ -139,14 +146,15 @@ site_code t s extent = Offset t s.base s.offset extent ∷ []
 abbrev pub scratch_site : ℕ → Site
 scratch_site x = record { base = base.Scratch; offset = x }
 
--- the words that tell what of the input was taken ahead
+-- the words that record what was taken ahead of the input
 abbrev pub input_site : Scope → Site
 input_site k = record { base = base.Program; offset = input_offset (routine_at k.program 0) }
 
--- ---- run-time routines, numbered behind the program's own
+-- ---- run-time routines, numbered after the program's own
 
 pub data RunTime : Type 0 where
-  CopyWords AddRange UniteSets SubtractSet IntersectSets IsIncluded IsMember CompareBytes PackBytes UnpackBytes WriteNumber WriteCharacter WriteString LookAhead ReadCharacter ReadNumber ReadLine : RunTime
+  CopyWords AddRange UniteSets SubtractSet IntersectSets IsIncluded IsMember CompareBytes PackBytes UnpackBytes
+      WriteNumber WriteCharacter WriteString LookAhead ReadCharacter ReadNumber ReadLine : RunTime
 
 abbrev pub run_time_number : RunTime → ℕ
 run_time_number CopyWords = 0
@@ -167,15 +175,15 @@ run_time_number ReadCharacter = 14
 run_time_number ReadNumber = 15
 run_time_number ReadLine = 16
 
--- such calls aren't told among the open ones, so any line does
+-- such calls aren't reported among the open ones, so any line will do
 abbrev pub helper : Scope → RunTime → (operands : List ℕ) → (to : ℕ) → Instruction
 helper k routine operands t = Call t (length k.program.routines + run_time_number routine) operands 1
 
--- so many words from one place to another, one by one; v is used
+-- this many words from one place to another, one by one; v is used
 unfoldable pub words_code : (to : Base) (o : ℕ) (from : Base) (p v words : ℕ) → List Instruction
 words_code to o from p v zero = []
 words_code to o from p v (suc n) = Load v from p ∷ Store to o v ∷ words_code to (o + 4) from (p + 4) v n
 
--- the words at the address in `from` go to the address in `to`; a temporary above is used
+-- the words at the address in `from` are copied to the address in `to`; t is used
 abbrev pub copy_code : Scope → (to from t : ℕ) (bytes : ℕ) → List Instruction
 copy_code k to from t n = Literal t (pos n) ∷ helper k CopyWords (to ∷ from ∷ t ∷ []) t ∷ []

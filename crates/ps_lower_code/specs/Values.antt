@@ -1,6 +1,8 @@
--- The code of variables, expressions and actual parameters. Code at depths d and x leaves its word in temporary d, writes no
--- temporary below d, and no byte of the scratch block below x. A set stands in the scratch block from x on.
-use Rattle.std.specs.Prelude.{ℕ, zero, suc, ◌+◌, ◌*◌, ◌/◌, ◌%◌, ◌^◌, ℤ, pos, ◌-ℤ◌, unsigned_abs, Bool, true, false, not, ◌&&◌, nat_eq, if◌then◌else◌, List, [], ◌∷◌, ◌++◌, length, Option, Some, None, slice_get}
+-- The code of variables, expressions and actual parameters. Code at depths d and x leaves its word in temporary d, and
+-- writes no temporary below d and no byte of the scratch block below x. A set is in the scratch block from x on.
+use Rattle.std.specs.Prelude.{ℕ, zero, suc, ◌+◌, ◌*◌, ◌/◌, ◌%◌, ◌^◌, ℤ, pos, ◌-ℤ◌, unsigned_abs, Bool, true, false}
+use Rattle.std.specs.Prelude.{not, ◌&&◌, nat_eq, if◌then◌else◌, List, [], ◌∷◌, ◌++◌, length, Option, Some, None}
+use Rattle.std.specs.Prelude.{slice_get}
 use Rattle.ps_tree.specs.declared.tree.ArithmeticOperator.{ArithmeticOperator}
 use Rattle.ps_tree.specs.declared.tree.ArithmeticOperator.TheVariants.{Add, Subtract, Multiply, Div, Mod}
 use Rattle.ps_tree.specs.declared.tree.BooleanOperator.{BooleanOperator}
@@ -16,7 +18,14 @@ use Rattle.ps_tree.specs.declared.tree.SetRelation.TheVariants as sets
 use Rattle.ps_tree.specs.declared.tree.RequiredFunction.{RequiredFunction}
 use Rattle.ps_tree.specs.declared.tree.RequiredFunction.TheVariants.{Abs, Sqr, Odd, Ord, Chr, Succ, Pred}
 use Rattle.ps_tree.specs.Types.{DataType, string_length}
-use Rattle.ps_tree.specs.Tree.{Place, Variable, PlaceBase, Entry, Opened, Selector, Element, Field, Target, Selectors, no_selector, selector_before, ArithmeticSteps, no_arithmetic_step, arithmetic_step_before, Operands, no_operand, operand_before, SetSteps, no_set_step, set_step_before, Expr, Number, Nil, Load, Plus, Minus, Not, Arithmetic, Logic, Compare, ComparePointers, CompareSets, CompareStrings, In, Apply, Eof, Eoln, Call, CallFormal, SetExpr, LoadSet, Constructor, Combine, Member, One, Several, Members, no_member, member_before, Structure, Literal, Contents, Argument, ByValue, BySet, ByCopy, ByVariable, ByRoutine, ByFormal, Arguments, no_argument, argument_before}
+use Rattle.ps_tree.specs.Tree.{Place, Variable, PlaceBase, Entry, Opened, Selector, Element, Field, Target, Selectors}
+use Rattle.ps_tree.specs.Tree.{no_selector, selector_before, ArithmeticSteps, no_arithmetic_step}
+use Rattle.ps_tree.specs.Tree.{arithmetic_step_before, Operands, no_operand, operand_before, SetSteps, no_set_step}
+use Rattle.ps_tree.specs.Tree.{set_step_before, Expr, Number, Nil, Load, Plus, Minus, Not, Arithmetic, Logic, Compare}
+use Rattle.ps_tree.specs.Tree.{ComparePointers, CompareSets, CompareStrings, In, Apply, Eof, Eoln, Call, CallFormal}
+use Rattle.ps_tree.specs.Tree.{SetExpr, LoadSet, Constructor, Combine, Member, One, Several, Members, no_member}
+use Rattle.ps_tree.specs.Tree.{member_before, Structure, Literal, Contents, Argument, ByValue, BySet, ByCopy}
+use Rattle.ps_tree.specs.Tree.{ByVariable, ByRoutine, ByFormal, Arguments, no_argument, argument_before}
 use Rattle.ps_meaning.specs.Operators.{is_between}
 use Rattle.ps_meaning.specs.Expressions.{index_of}
 use Rattle.tac_code.specs.declared.code.Operand.{Operand}
@@ -34,10 +43,15 @@ use Rattle.tac_code.specs.Numbers.{number_of}
 use Rattle.ps_lower_layout.specs.Shapes.{Shape, ByteShape, shape_of, byte_count, component_bytes, field_offset}
 use Rattle.ps_lower_layout.specs.Words.{filled, bits_from}
 use Rattle.ps_lower_layout.specs.Frames.{Kind, Reference, entry_offset}
-use Rattle.ps_lower_code.specs.Scopes.{even_from, held, kept, beside, moved, least, greatest, has_bytes, range_code, fitting_code, operand_of, unless_known, Site, Scope, routine_up, kind_at, frame_code, frame_base, link_code, formal_code, site_code, input_site, AddRange, UniteSets, SubtractSet, IntersectSets, IsIncluded, CompareBytes, LookAhead, RunTime, helper, words_code, copy_code}
-use Rattle.ps_lower_code.specs.Calling.{selectors_call, expr_calls, steps_call, operands_call, asked_calls, structure_calls, arguments_call}
+use Rattle.ps_lower_code.specs.Scopes.{even_from, held, kept, beside, moved, least, greatest, has_bytes, range_code}
+use Rattle.ps_lower_code.specs.Scopes.{fitting_code, operand_of, unless_known, Site, Scope, routine_up, kind_at}
+use Rattle.ps_lower_code.specs.Scopes.{frame_code, frame_base, link_code, formal_code, site_code, input_site, AddRange}
+use Rattle.ps_lower_code.specs.Scopes.{UniteSets, SubtractSet, IntersectSets, IsIncluded, CompareBytes, LookAhead}
+use Rattle.ps_lower_code.specs.Scopes.{RunTime, helper, words_code, copy_code}
+use Rattle.ps_lower_code.specs.Calling.{selectors_call, expr_calls, steps_call, operands_call, asked_calls}
+use Rattle.ps_lower_code.specs.Calling.{structure_calls, arguments_call}
 
--- ---- numbers that are known
+-- ---- known numbers
 
 abbrev pub negated : Expr → Option ℤ
 negated (Number n) = if is_between least (pos 0 -ℤ n) greatest then Some (pos 0 -ℤ n) else None
@@ -88,8 +102,9 @@ set_routine Difference = SubtractSet
 set_routine Intersection = IntersectSets
 
 -- ---- expressions as conditions
--- The front code of an expression leaves a relation between a temporary and a right operand, which is the expression's truth.
--- Where the expression is no relation, it leaves the expression's word in d, which is to be unlike 0.
+-- The front code of an expression leaves a relation between a temporary and a right operand, which is the expression's
+-- truth. Where the expression is not a relation, it leaves the expression's word in d, and the relation is that this is
+-- not 0.
 
 abbrev pub is_relation : Expr → Bool
 is_relation (Compare relation a b) = true
@@ -134,7 +149,7 @@ right_in _ d = operand.Number (pos 0)
 abbrev pub relation_code : Expr → (d : ℕ) → List Instruction
 relation_code e d = i.Compare (relation_in e) d (left_in e d) (right_in e d) ∷ []
 
--- what the front code needs behind it for the expression's word in d, and for its truth as 0 or 1
+-- what the front code needs after it for the expression's word in d, and for its truth as 0 or 1
 abbrev pub finish : Expr → (d : ℕ) → List Instruction
 finish e d = if is_relation e then relation_code e d else []
 
@@ -143,9 +158,10 @@ truth_finish e d = if is_truth e && not (is_relation e) then [] else relation_co
 
 -- ---- variables without their indices
 
--- the bytes before a component of a known index that lies in its range
+-- the bytes before a component of a known index that is in its range
 abbrev pub steps_before : DataType → ℤ → Option ℕ
-steps_before type z = if is_between (index_of type).low z (index_of type).high then Some (unsigned_abs (z -ℤ (index_of type).low) * component_bytes (shape_of type)) else None
+steps_before type z = if is_between (index_of type).low z (index_of type).high then Some
+    (unsigned_abs (z -ℤ (index_of type).low) * component_bytes (shape_of type)) else None
 
 abbrev pub known_steps : DataType → Option ℤ → Option ℕ
 known_steps type None = None
@@ -157,9 +173,16 @@ element_site (Some n) s t = record { base = s.base; offset = s.offset + n }
 
 abbrev pub selectors_site : Selectors → Site → (t : ℕ) → Site
 selectors_site no_selector s t = s
-selectors_site (selector_before (Element type e line) rest) s t = selectors_site rest (element_site (known_steps type (literal_of e)) s t) t
-selectors_site (selector_before (Field type number) rest) s t = selectors_site rest (record { base = s.base; offset = s.offset + field_offset (shape_of type) number }) t
-selectors_site (selector_before (Target pointer line) rest) s t = selectors_site rest (record { base = base.Temporary t; offset = 0 }) t
+selectors_site (selector_before (Element type e line) rest) s t = selectors_site rest
+    (element_site (known_steps type (literal_of e)) s t) t
+selectors_site (selector_before (Field type number) rest) s t = selectors_site rest (record {
+  base = s.base;
+  offset = s.offset + field_offset (shape_of type) number;
+}) t
+selectors_site (selector_before (Target pointer line) rest) s t = selectors_site rest (record {
+  base = base.Temporary t;
+  offset = 0;
+}) t
 
 -- the variable is one byte of a word
 abbrev pub is_byte_array : Shape → Bool
@@ -177,8 +200,9 @@ is_byte_after b (selector_before s rest) = is_byte_after (is_byte_selector s) re
 abbrev pub is_byte : Place → Bool
 is_byte (Variable name selectors) = is_byte_after false selectors
 
--- The value is a byte, whatever is stored: a component that is one byte of a word is nothing else, and `chr` gives a character, whose
--- ordinal number lies in 0..255 (6.6.6.4). Of a whole variable this isn't known, since a `for` statement steps it.
+-- The value is a byte, whatever is stored: a component that is one byte of a word can be nothing else, and `chr` gives
+-- a character, whose ordinal number is in 0..255 (6.6.6.4). This isn't known for a whole variable, since a `for`
+-- statement steps it.
 abbrev pub gives_byte : Expr → Bool
 gives_byte (Load p) = is_byte p
 gives_byte (Apply Chr e line) = true
@@ -194,9 +218,10 @@ store_code false s t = i.Store s.base s.offset t ∷ []
 
 abbrev pub index_code : Option ℕ → DataType → Site → (t at line : ℕ) → List Instruction → List Instruction
 index_code (Some n) type s t at line code = []
-index_code None type s t at line code = code ++ i.Index t s.base at (index_of type).low (index_of type).high (component_bytes (shape_of type)) 5 line ∷ []
+index_code None type s t at line code = code ++ i.Index t s.base at (index_of type).low (index_of type).high
+    (component_bytes (shape_of type)) 5 line ∷ []
 
--- what a string and the contents of a string variable have
+-- the length of a string, and of the contents of a string variable
 abbrev pub text_length : Structure → ℕ
 text_length (Literal characters) = length characters
 text_length (Contents p type) = elim (string_length type) [ Some n ↦ n | None ↦ 0 ]
@@ -209,26 +234,30 @@ structure_bytes (Contents p type) = byte_count (shape_of type)
 -- ---- required functions and signs
 
 abbrev pub function_code : RequiredFunction → (d line : ℕ) → List Instruction
-function_code Abs d line = i.Branch GreaterEqual d (operand.Number (pos 0)) 2 ∷ i.Literal (even_from (suc d)) (pos 0) ∷ i.Arithmetic operator.Subtract d (even_from (suc d)) (operand.Temporary d) 1 line ∷ []
+function_code Abs d line = i.Branch GreaterEqual d (operand.Number (pos 0)) 2 ∷ i.Literal (even_from (suc d)) (pos 0)
+    ∷ i.Arithmetic operator.Subtract d (even_from (suc d)) (operand.Temporary d) 1 line ∷ []
 function_code Sqr d line = i.Arithmetic operator.Multiply d d (operand.Temporary d) 1 line ∷ []
 function_code Odd d line = i.Bits bits.And d d (operand.Number (pos 1)) ∷ []
 function_code Ord d line = []
 function_code Chr d line = i.CheckRange d (pos 0) (pos 255) 4 line ∷ []
-function_code (Succ high) d line = i.Arithmetic operator.Add d d (operand.Number (pos 1)) 4 line ∷ range_code d least high 4 line
-function_code (Pred low) d line = i.Arithmetic operator.Subtract d d (operand.Number (pos 1)) 4 line ∷ range_code d low greatest 4 line
+function_code (Succ high) d line = i.Arithmetic operator.Add d d (operand.Number (pos 1)) 4 line
+    ∷ range_code d least high 4 line
+function_code (Pred low) d line = i.Arithmetic operator.Subtract d d (operand.Number (pos 1)) 4 line
+    ∷ range_code d low greatest 4 line
 
--- 0 less what stands in t, or a number that is known
+-- 0 less what is in t, or a known number
 abbrev pub minus_code : Option ℤ → (d t line : ℕ) → List Instruction → List Instruction
 minus_code (Some z) d t line code = i.Literal d z ∷ []
-minus_code None d t line code = code ++ i.Literal d (pos 0) ∷ i.Arithmetic operator.Subtract d d (operand.Temporary t) 1 line ∷ []
+minus_code None d t line code = code ++ i.Literal d (pos 0) ∷ i.Arithmetic operator.Subtract d d
+    (operand.Temporary t) 1 line ∷ []
 
 -- ---- sets within the bounds of a base
 
--- every member that a set can have lies within them
+-- every member that a set can have is within them
 abbrev pub holds_all : (low high : ℤ) → Bool
 holds_all low high = has_bytes low high
 
--- what word q of a set can hold outside of them, as bits
+-- the bits of word q of a set that are outside them
 unfoldable pub outside_bits : (low high : ℤ) (q : ℕ) → ℕ
 outside_bits low high q = bits_from 32 (32 * q) (λ k. not (is_between low (pos k) high))
 
@@ -236,33 +265,37 @@ outside_bits low high q = bits_from 32 (32 * q) (λ k. not (is_between low (pos 
 abbrev pub masked : (t mask : ℕ) → List Instruction
 masked t mask = if nat_eq mask 4294967295 then [] else i.Bits bits.And t t (operand.Number (number_of mask)) ∷ []
 
--- those bits of the word at x of the scratch block join what t holds; the temporary beside t is used
+-- those bits of the word at x of the scratch block are joined to what t holds; the temporary beside t is used
 abbrev pub joined_word : (t x mask : ℕ) → List Instruction
-joined_word t x mask = if nat_eq mask 0 then [] else (i.Load (beside t) base.Scratch x ∷ masked (beside t) mask ++ i.Bits bits.Or t t (operand.Temporary (beside t)) ∷ [])
+joined_word t x mask = if nat_eq mask 0 then []
+    else (i.Load (beside t) base.Scratch x ∷ masked (beside t) mask ++ i.Bits bits.Or t t (operand.Temporary (beside t))
+    ∷ [])
 
--- what the first words of the set from x on hold outside
+-- the bits outside in the first words of the set from x on
 unfoldable pub outside_code : (low high : ℤ) (t x words : ℕ) → List Instruction
 outside_code low high t x zero = []
 outside_code low high t x (suc q) = outside_code low high t x q ++ joined_word t (x + 4 * q) (outside_bits low high q)
 
--- the set from x on lies within the bounds, or error 8
+-- the set from x on is within the bounds, or error 8
 abbrev pub set_check : (t x : ℕ) (low high : ℤ) (line : ℕ) → List Instruction
 set_check t x low high line =
-    if holds_all low high then [] else (i.Literal t (pos 0) ∷ outside_code low high t x 8 ++ i.Branch Equal t (operand.Number (pos 0)) 1 ∷ i.Trap 8 line ∷ [])
+    if holds_all low high then [] else (i.Literal t (pos 0) ∷ outside_code low high t x 8 ++ i.Branch Equal t
+    (operand.Number (pos 0)) 1 ∷ i.Trap 8 line ∷ [])
 
 -- ---- members
 
--- a number that is known, and can be a member
+-- a known number that can be a member
 abbrev pub known_member : Option ℤ → Option ℕ
 known_member None = None
 known_member (Some z) = if is_between (pos 0) z (pos 255) then Some (unsigned_abs z) else None
 
--- the member n goes into the set from x on as a bit of its word; t is used
+-- the member n is added to the set from x on as a bit of its word; t is used
 abbrev pub bit_code : (n t x : ℕ) → List Instruction
 bit_code n t x =
-    i.Load t base.Scratch (x + 4 * (n / 32)) ∷ i.Bits bits.Or t t (operand.Number (number_of (2 ^ (n % 32)))) ∷ i.Store base.Scratch (x + 4 * (n / 32)) t ∷ []
+    i.Load t base.Scratch (x + 4 * (n / 32)) ∷ i.Bits bits.Or t t (operand.Number (number_of (2 ^ (n % 32))))
+    ∷ i.Store base.Scratch (x + 4 * (n / 32)) t ∷ []
 
--- a member that is known, or the code of any other
+-- a known member, or the code of any other
 abbrev pub one_code : Option ℕ → (t x : ℕ) → List Instruction → List Instruction
 one_code None t x code = code
 one_code (Some n) t x code = bit_code n t x
@@ -272,24 +305,26 @@ is_union Union = true
 is_union Difference = false
 is_union Intersection = false
 
--- a constructor's members that join a set: they go into it one by one, and no second set is made of them
+-- whether a constructor's members are added to a set one by one, so that no second set is made of them
 abbrev pub adds : SetOperator → SetExpr → Bool
 adds operator (LoadSet p) = false
 adds operator (Constructor members) = is_union operator
 adds operator (Combine e steps) = false
 
--- Whether the number in m is a member of the set at the address in u: the truth goes to t. A member lies in 0..255, and is bit m mod 32 of
--- word m div 32, which is looked at where it stands. The temporary beside u is used. The errors and lines are those of nothing: neither the
--- quotient nor its component fails.
+-- Whether the number in m is a member of the set at the address in u: the truth goes to t. A member is in 0..255, and
+-- is bit m mod 32 of word m div 32, which is read in place. The temporary beside u is used. The errors and lines are
+-- dummies: neither the quotient nor the index fails.
 abbrev pub membership_code : (m u t : ℕ) → List Instruction
 membership_code m u t =
     i.Bits bits.And (beside u) m (operand.Number (pos 255)) ∷ i.Branch NotEqual (beside u) (operand.Temporary m) 8
-    ∷ i.Arithmetic operator.Divide (beside u) m (operand.Number (pos 32)) 1 1 ∷ i.Index u (base.Temporary u) (beside u) (pos 0) (pos 7) 4 1 1
-    ∷ i.Load u (base.Temporary u) 0 ∷ i.Literal (beside u) (pos 1) ∷ i.Bits bits.ShiftLeft (beside u) (beside u) (operand.Temporary m)
+    ∷ i.Arithmetic operator.Divide (beside u) m (operand.Number (pos 32)) 1 1 ∷ i.Index u (base.Temporary u) (beside u)
+    (pos 0) (pos 7) 4 1 1
+    ∷ i.Load u (base.Temporary u) 0 ∷ i.Literal (beside u) (pos 1) ∷ i.Bits bits.ShiftLeft (beside u) (beside u)
+    (operand.Temporary m)
     ∷ i.Bits bits.And t u (operand.Temporary (beside u)) ∷ i.Compare NotEqual t t (operand.Number (pos 0)) ∷ i.Jump 1
     ∷ i.Literal t (pos 0) ∷ []
 
--- ---- actual parameters: where their words stand, and what scratch they hold
+-- ---- actual parameters: where their words are, and what scratch they hold
 
 abbrev pub argument_words : Argument → (t : ℕ) → List ℕ
 argument_words (ByRoutine r up) t = t ∷ beside t ∷ []
@@ -308,7 +343,8 @@ argument_scratch _ = 0
 
 abbrev pub arguments_words : Arguments → (d : ℕ) → List ℕ
 arguments_words no_argument d = []
-arguments_words (argument_before a rest) d = argument_words a (held (arguments_call rest) d) ++ arguments_words rest (argument_end a (held (arguments_call rest) d))
+arguments_words (argument_before a rest) d = argument_words a (held (arguments_call rest) d) ++ arguments_words rest
+    (argument_end a (held (arguments_call rest) d))
 
 abbrev pub arguments_end : Arguments → (d : ℕ) → ℕ
 arguments_end no_argument d = d
@@ -319,14 +355,15 @@ abbrev pub place_temporary : Place → (d : ℕ) → ℕ
 place_temporary (Variable name selectors) d = kept (selectors_call selectors) d
 
 module _ (k : Scope) where
-  -- a field of a record that was opened
+  -- a field of an opened record
   abbrev pub field_site : Option Site → ℕ → Site
   field_site None n = record { base = base.Frame; offset = 0 }
   field_site (Some s) n = record { base = s.base; offset = s.offset + n }
 
-  -- a name: what reaches its variable, and where that stands then
+  -- a name: code that reaches its variable, and where that is then
   abbrev pub reference_code : Option Kind → (t up index : ℕ) → List Instruction
-  reference_code (Some (Reference shape)) t up index = i.Load t (frame_base k t up) (entry_offset (routine_up k up) index) ∷ []
+  reference_code (Some (Reference shape)) t up index = i.Load t (frame_base k t up)
+      (entry_offset (routine_up k up) index) ∷ []
   reference_code _ t up index = []
 
   abbrev pub entry_site : Option Kind → (t up index : ℕ) → Site
@@ -342,38 +379,45 @@ module _ (k : Scope) where
   name_site (Opened which type number) t = field_site (slice_get k.opened which) (field_offset (shape_of type) number)
 
   abbrev pub place_site : Place → (d : ℕ) → Site
-  place_site (Variable name selectors) d = selectors_site selectors (name_site name (kept (selectors_call selectors) d)) (kept (selectors_call selectors) d)
+  place_site (Variable name selectors) d = selectors_site selectors (name_site name (kept (selectors_call selectors) d))
+      (kept (selectors_call selectors) d)
 
-  -- an empty set from x on; t and the next are used
+  -- an empty set from x on; t and the next temporary are used
   abbrev pub clear_code : (t x : ℕ) → List Instruction
   clear_code t x =
-      i.Literal t (pos 0) ∷ i.Store base.Scratch x t ∷ i.Store base.Scratch (x + 4) t ∷ i.Store base.Scratch (x + 8) t ∷ i.Store base.Scratch (x + 12) t
-      ∷ i.Store base.Scratch (x + 16) t ∷ i.Store base.Scratch (x + 20) t ∷ i.Store base.Scratch (x + 24) t ∷ i.Store base.Scratch (x + 28) t ∷ []
+      i.Literal t (pos 0) ∷ i.Store base.Scratch x t ∷ i.Store base.Scratch (x + 4) t ∷ i.Store base.Scratch (x + 8) t
+      ∷ i.Store base.Scratch (x + 12) t
+      ∷ i.Store base.Scratch (x + 16) t ∷ i.Store base.Scratch (x + 20) t ∷ i.Store base.Scratch (x + 24) t
+      ∷ i.Store base.Scratch (x + 28) t ∷ []
 
-  -- the set from x on is joined with that at the address beside t
+  -- the set from x on is combined with the one at the address beside t
   abbrev pub joining_code : SetOperator → (t x : ℕ) → List Instruction
   joining_code operator t x = i.Offset t base.Scratch x 32 ∷ helper k (set_routine operator) (t ∷ beside t ∷ []) t ∷ []
 
   -- two sets, from x and from x + 32 on, compared: the truth goes to t
   abbrev pub included_code : (first second to x : ℕ) → List Instruction
-  included_code a b t x = i.Offset a base.Scratch x 32 ∷ i.Offset b base.Scratch (x + 32) 32 ∷ helper k IsIncluded (a ∷ b ∷ []) t ∷ []
+  included_code a b t x = i.Offset a base.Scratch x 32 ∷ i.Offset b base.Scratch (x + 32) 32 ∷ helper k IsIncluded
+      (a ∷ b ∷ []) t ∷ []
 
   abbrev pub same_sets_code : (t x : ℕ) → List Instruction
   same_sets_code t x =
       included_code t (beside t) (suc t) x
-      ++ i.Offset t base.Scratch x 32 ∷ i.Offset (beside t) base.Scratch (x + 32) 32 ∷ helper k IsIncluded (beside t ∷ t ∷ []) t
+      ++ i.Offset t base.Scratch x 32 ∷ i.Offset (beside t) base.Scratch (x + 32) 32 ∷ helper k IsIncluded
+      (beside t ∷ t ∷ []) t
       ∷ i.Bits bits.And t t (operand.Temporary (suc t)) ∷ []
 
   abbrev pub sets_code : SetRelation → (t x : ℕ) → List Instruction
   sets_code sets.Included t x = included_code t (beside t) t x
-  sets_code sets.Includes t x = i.Offset t base.Scratch x 32 ∷ i.Offset (beside t) base.Scratch (x + 32) 32 ∷ helper k IsIncluded (beside t ∷ t ∷ []) t ∷ []
+  sets_code sets.Includes t x = i.Offset t base.Scratch x 32 ∷ i.Offset (beside t) base.Scratch (x + 32) 32
+      ∷ helper k IsIncluded (beside t ∷ t ∷ []) t ∷ []
   sets_code sets.Same t x = same_sets_code t x
   sets_code sets.Other t x = same_sets_code t x ++ i.Compare Equal t t (operand.Number (pos 0)) ∷ []
 
-  -- the members from what a holds to what b holds go into the set from x on
+  -- the members from what a holds to what b holds are added to the set from x on
   abbrev pub range_members : (a b x line : ℕ) → List Instruction
   range_members a b x line =
-      i.Branch Less b (operand.Temporary a) 4 ∷ i.CheckRange a (pos 0) (pos 255) 8 line ∷ i.CheckRange b (pos 0) (pos 255) 8 line
+      i.Branch Less b (operand.Temporary a) 4 ∷ i.CheckRange a (pos 0) (pos 255) 8 line ∷ i.CheckRange b (pos 0)
+      (pos 255) 8 line
       ∷ i.Offset (beside b) base.Scratch x 32 ∷ helper k AddRange (beside b ∷ a ∷ b ∷ []) (beside b) ∷ []
 
   abbrev mutual
@@ -381,18 +425,23 @@ module _ (k : Scope) where
     pub place_code : Place → (d x : ℕ) → List Instruction
     place_code (Variable name selectors) d x =
         name_code name (kept (selectors_call selectors) d)
-        ++ selectors_code selectors (name_site name (kept (selectors_call selectors) d)) (kept (selectors_call selectors) d) x
+        ++ selectors_code selectors (name_site name (kept (selectors_call selectors) d))
+        (kept (selectors_call selectors) d) x
 
-    -- each selector goes from a site to the next; t is used
+    -- each selector leads from one site to the next; t is used
     pub selectors_code : Selectors → Site → (t x : ℕ) → List Instruction
     selectors_code no_selector s t x = []
     selectors_code (selector_before (Element type e line) rest) s t x =
-        index_code (known_steps type (literal_of e)) type s t (even_from (suc t)) line (front_code e (even_from (suc t)) x ++ finish e (even_from (suc t)))
+        index_code (known_steps type (literal_of e)) type s t (even_from (suc t)) line
+        (front_code e (even_from (suc t)) x ++ finish e (even_from (suc t)))
         ++ selectors_code rest (element_site (known_steps type (literal_of e)) s t) t x
     selectors_code (selector_before (Field type number) rest) s t x =
         selectors_code rest (record { base = s.base; offset = s.offset + field_offset (shape_of type) number }) t x
     selectors_code (selector_before (Target pointer line) rest) s t x =
-        i.Load t s.base s.offset ∷ i.CheckPointer t 6 line ∷ selectors_code rest (record { base = base.Temporary t; offset = 0 }) t x
+        i.Load t s.base s.offset ∷ i.CheckPointer t 6 line ∷ selectors_code rest (record {
+          base = base.Temporary t;
+          offset = 0;
+        }) t x
 
     pub front_code : Expr → (d x : ℕ) → List Instruction
     front_code (Number n) d x = i.Literal d n ∷ []
@@ -400,7 +449,8 @@ module _ (k : Scope) where
     front_code (Load p) d x = place_code p d x ++ load_code (is_byte p) d (place_site p d)
     front_code (Plus e) d x = front_code e d x ++ finish e d
     front_code (Minus e line) d x =
-        minus_code (negated e) d (even_from (suc d)) line (front_code e (even_from (suc d)) x ++ finish e (even_from (suc d)))
+        minus_code (negated e) d (even_from (suc d)) line
+        (front_code e (even_from (suc d)) x ++ finish e (even_from (suc d)))
     front_code (Not e) d x = front_code e d x
     front_code (Arithmetic e steps) d x =
         (front_code e (kept (steps_call steps) d) x ++ finish e (kept (steps_call steps) d))
@@ -410,45 +460,56 @@ module _ (k : Scope) where
         ++ operands_code operator rest (kept (operands_call rest) d) x ++ moved (kept (operands_call rest) d) d
     front_code (Compare relation a b) d x =
         (front_code a (kept (expr_calls b) d) x ++ finish a (kept (expr_calls b) d))
-        ++ unless_known (literal_of b) (front_code b (even_from (suc (kept (expr_calls b) d))) x ++ finish b (even_from (suc (kept (expr_calls b) d))))
+        ++ unless_known (literal_of b) (front_code b (even_from (suc (kept (expr_calls b) d))) x ++ finish b
+        (even_from (suc (kept (expr_calls b) d))))
     front_code (ComparePointers relation a b) d x =
         (front_code a (kept (expr_calls b) d) x ++ finish a (kept (expr_calls b) d))
-        ++ unless_known (literal_of b) (front_code b (even_from (suc (kept (expr_calls b) d))) x ++ finish b (even_from (suc (kept (expr_calls b) d))))
-    front_code (CompareSets relation a b) d x = set_code a (even_from d) x ++ set_code b (even_from d) (x + 32) ++ sets_code relation (even_from d) x ++ moved (even_from d) d
+        ++ unless_known (literal_of b) (front_code b (even_from (suc (kept (expr_calls b) d))) x ++ finish b
+        (even_from (suc (kept (expr_calls b) d))))
+    front_code (CompareSets relation a b) d x = set_code a (even_from d) x ++ set_code b (even_from d) (x + 32)
+        ++ sets_code relation (even_from d) x ++ moved (even_from d) d
     front_code (CompareStrings relation a b) d x =
-        structure_code a (held (structure_calls b) d) x ++ structure_code b (even_from (suc (held (structure_calls b) d))) x
+        structure_code a (held (structure_calls b) d) x ++ structure_code b
+        (even_from (suc (held (structure_calls b) d))) x
         ++ i.Literal (beside (even_from (suc (held (structure_calls b) d)))) (pos (text_length a))
-        ∷ helper k CompareBytes (held (structure_calls b) d ∷ even_from (suc (held (structure_calls b) d)) ∷ beside (even_from (suc (held (structure_calls b) d))) ∷ []) d ∷ []
+        ∷ helper k CompareBytes (held (structure_calls b) d ∷ even_from (suc (held (structure_calls b) d)) ∷ beside
+        (even_from (suc (held (structure_calls b) d))) ∷ []) d ∷ []
     front_code (In a b) d x =
-        (front_code a (kept (asked_calls b) d) x ++ finish a (kept (asked_calls b) d)) ++ asked_code b (even_from (suc (kept (asked_calls b) d))) x
+        (front_code a (kept (asked_calls b) d) x ++ finish a (kept (asked_calls b) d)) ++ asked_code b
+        (even_from (suc (kept (asked_calls b) d))) x
         ++ membership_code (kept (asked_calls b) d) (even_from (suc (kept (asked_calls b) d))) d
     front_code (Apply function e line) d x = (front_code e d x ++ finish e d) ++ function_code function d line
     front_code Eof d x = site_code (even_from d) (input_site k) 8 ++ helper k LookAhead (even_from d ∷ []) d ∷ []
-    front_code (Eoln line) d x = site_code (even_from d) (input_site k) 8 ++ helper k LookAhead (even_from d ∷ []) d ∷ i.CheckRange d (pos 1) (pos 2) 9 line ∷ []
+    front_code (Eoln line) d x = site_code (even_from d) (input_site k) 8 ++ helper k LookAhead (even_from d ∷ []) d
+        ∷ i.CheckRange d (pos 1) (pos 2) 9 line ∷ []
     front_code (Call r up arguments line) d x =
         arguments_code arguments d x ++ link_code k (even_from (arguments_end arguments d)) up
         ++ i.Call d r (even_from (arguments_end arguments d) ∷ arguments_words arguments d) line ∷ []
     front_code (CallFormal up index arguments line) d x =
         arguments_code arguments d x ++ formal_code k (even_from (arguments_end arguments d)) up index
-        ++ i.CallValue d (even_from (arguments_end arguments d)) (beside (even_from (arguments_end arguments d)) ∷ arguments_words arguments d) line ∷ []
+        ++ i.CallValue d (even_from (arguments_end arguments d))
+        (beside (even_from (arguments_end arguments d)) ∷ arguments_words arguments d) line ∷ []
 
-    -- the number so far stands in a
+    -- the number so far is in a
     pub steps_code : ArithmeticSteps → (a x : ℕ) → List Instruction
     steps_code no_arithmetic_step a x = []
     steps_code (arithmetic_step_before operator e line rest) a x =
         unless_known (literal_of e) (front_code e (even_from (suc a)) x ++ finish e (even_from (suc a)))
-        ++ i.Arithmetic (operator_of operator) a a (operand_of (literal_of e) (even_from (suc a))) 1 line ∷ steps_code rest a x
+        ++ i.Arithmetic (operator_of operator) a a (operand_of (literal_of e) (even_from (suc a))) 1 line
+        ∷ steps_code rest a x
 
     pub operands_code : BooleanOperator → Operands → (a x : ℕ) → List Instruction
     operands_code operator no_operand a x = []
     operands_code operator (operand_before e rest) a x =
         (front_code e (even_from (suc a)) x ++ truth_finish e (even_from (suc a)))
-        ++ i.Bits (bit_operator_of operator) a a (operand.Temporary (even_from (suc a))) ∷ operands_code operator rest a x
+        ++ i.Bits (bit_operator_of operator) a a (operand.Temporary (even_from (suc a)))
+        ∷ operands_code operator rest a x
 
     -- the address of a set in t: a variable's own, and that of a set from x on for any other
     pub asked_code : SetExpr → (t x : ℕ) → List Instruction
     asked_code (LoadSet p) t x = place_code p t x ++ site_code t (place_site p t) 32
-    asked_code (Constructor members) t x = (clear_code (even_from t) x ++ members_code members t x) ++ i.Offset t base.Scratch x 32 ∷ []
+    asked_code (Constructor members) t x = (clear_code (even_from t) x ++ members_code members t x)
+        ++ i.Offset t base.Scratch x 32 ∷ []
     asked_code (Combine e steps) t x = (set_code e t x ++ set_steps_code steps t x) ++ i.Offset t base.Scratch x 32 ∷ []
 
     -- a set from x on
@@ -462,9 +523,11 @@ module _ (k : Scope) where
     pub set_steps_code : SetSteps → (d x : ℕ) → List Instruction
     set_steps_code no_set_step d x = []
     set_steps_code (set_step_before operator e rest) d x =
-        (if adds operator e then adding_code e d x else (asked_code e (beside (even_from d)) (x + 32) ++ joining_code operator (even_from d) x)) ++ set_steps_code rest d x
+        (if adds operator e then adding_code e d x
+        else (asked_code e (beside (even_from d)) (x + 32) ++ joining_code operator (even_from d) x))
+        ++ set_steps_code rest d x
 
-    -- the members of a constructor go into the set from x on
+    -- the members of a constructor are added to the set from x on
     pub adding_code : SetExpr → (d x : ℕ) → List Instruction
     adding_code (LoadSet p) d x = []
     adding_code (Constructor members) d x = members_code members d x
@@ -474,7 +537,7 @@ module _ (k : Scope) where
     members_code no_member d x = []
     members_code (member_before m rest) d x = member_code m d x ++ members_code rest d x
 
-    -- the members go into the set from x on
+    -- the members are added to the set from x on
     pub member_code : Member → (d x : ℕ) → List Instruction
     member_code (One e line) d x =
         one_code (known_member (literal_of e)) (even_from d) x
@@ -483,7 +546,8 @@ module _ (k : Scope) where
         ∷ helper k AddRange (beside (even_from d) ∷ even_from d ∷ even_from d ∷ []) (even_from d) ∷ [])
     member_code (Several a b line) d x =
         (front_code a (held (expr_calls b) d) (x + 32) ++ finish a (held (expr_calls b) d))
-        ++ (front_code b (even_from (suc (held (expr_calls b) d))) (x + 32) ++ finish b (even_from (suc (held (expr_calls b) d))))
+        ++ (front_code b (even_from (suc (held (expr_calls b) d))) (x + 32) ++ finish b
+        (even_from (suc (held (expr_calls b) d))))
         ++ range_members (held (expr_calls b) d) (even_from (suc (held (expr_calls b) d))) x line
 
     -- the address of a structure in d
@@ -493,8 +557,10 @@ module _ (k : Scope) where
 
     -- an actual parameter in t, and the temporary beside it if it has two words
     pub argument_code : Argument → (t x : ℕ) → List Instruction
-    argument_code (ByValue e range line) t x = (front_code e t x ++ finish e t) ++ fitting_code (gives_byte e) (literal_of e) t range line
-    argument_code (BySet e low high line) t x = set_code e t x ++ set_check (even_from t) x low high line ++ i.Offset t base.Scratch x 32 ∷ []
+    argument_code (ByValue e range line) t x = (front_code e t x ++ finish e t) ++ fitting_code (gives_byte e)
+        (literal_of e) t range line
+    argument_code (BySet e low high line) t x = set_code e t x ++ set_check (even_from t) x low high line
+        ++ i.Offset t base.Scratch x 32 ∷ []
     argument_code (ByCopy e type) t x =
         structure_code e t x ++ i.Offset (beside t) base.Scratch x (byte_count (shape_of type))
         ∷ copy_code k (beside t) t (beside (beside t)) (byte_count (shape_of type)) ++ i.Offset t base.Scratch x (byte_count (shape_of type)) ∷ []

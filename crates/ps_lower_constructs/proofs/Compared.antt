@@ -1,5 +1,6 @@
 -- Comparisons of strings.
-use Rattle.std.proofs.Common.{◌≡◌, ℕ, suc, ◌+◌, ◌<◌, ◌≤◌, ℤ, pos, [], ◌∷◌, ◌++◌, length, Some, None, refl, sym, ap, ◌∙◌, subst, arith, append-nil}
+use Rattle.std.proofs.Common.{◌≡◌, ℕ, suc, ◌+◌, ◌<◌, ◌≤◌, ℤ, pos, [], ◌∷◌, ◌++◌, length, Some, None, refl, sym, ap}
+use Rattle.std.proofs.Common.{◌∙◌, subst, arith, append-nil}
 use Rattle.ps_tree.specs.declared.tree.Relation.{Relation as TreeRelation}
 use Rattle.ps_tree.specs.Tree.{Structure, Literal, Contents, CompareStrings}
 use Rattle.tac_code.specs.declared.code.Value.TheVariants.{Number as Numeral, Address}
@@ -34,21 +35,28 @@ use Rattle.ps_lower_constructs.proofs.Kept.{opened_kept}
 use Rattle.ps_lower_constructs.proofs.Calls.{length_map}
 use Rattle.ps_lower_constructs.proofs.Writes.{numbered_more, is_fresh}
 use Rattle.ps_lower_constructs.proofs.Values.{false_true, FrontIn, FrontRuns, true_false}
-use Rattle.ps_lower_constructs.proofs.Structures.{held_value, contents_are, StructureIn, structure_kept, held_shape, held_bytes, held_below, byte_values, StructureRuns}
+use Rattle.ps_lower_constructs.proofs.Structures.{held_value, contents_are, StructureIn, structure_kept, held_shape}
+use Rattle.ps_lower_constructs.proofs.Structures.{held_bytes, held_below, byte_values, StructureRuns}
 
 module _ (p : Setting) (n : ℕ) (call : Caller) (c : Activated) (active : IsActive p c) (does : WritesDo p) where
-  -- a string has so many bytes
-  string_fits : (e : Structure) (o : Opening) (m : ℕ) → StructureFits (plain_scope p c) o.shapes e → text_length e ≡ m → (first : ℤ) × ContentsFit (plain_scope p c) o.shapes e (ByteShape m first)
+  -- a string has this many bytes
+  string_fits : (e : Structure) (o : Opening) (m : ℕ) → StructureFits (plain_scope p c) o.shapes e → text_length e ≡ m
+      → (first : ℤ) × ContentsFit (plain_scope p c) o.shapes e (ByteShape m first)
   string_fits (Literal text) o m fits e = (pos 0, (fits.0, fits.1, (pos 0, ap (λ y. ByteShape y (pos 0)) (sym e))))
   string_fits (Contents q type) o m fits e =
       let known_ : m ≡ fits.0 = sym e ∙ ap (λ y. elim y as (λ z. ℕ) [ Some l ↦ l | None ↦ 0 ]) fits.3 in
       let same = ap (λ y. ByteShape y fits.1) (sym known_) in
       (fits.1, (fits.2 ∙ same, subst (λ y. PlaceFits (plain_scope p c) o.shapes q (Whole y)) same fits.4))
 
-  -- the routine tells the first bytes that differ
-  compared_so : (d x a b t m : ℕ) (f g : ℤ) (r : TreeRelation) (h u : Held) (w : World) (k : Work) (pc pc' : ℕ) → d ≤ a → a < b → b < t → Alive p c w k → StructureIn p c a (ByteShape m f) h w k → StructureIn p c b (ByteShape m g) u w k
-      → Stands (code_in p) c.routine pc (i.Literal t (pos m) ∷ i.Call d (length p.program.routines + 7) (a ∷ b ∷ t ∷ []) 1 ∷ []) pc'
-      → Reached p c d x w k (state p c w k pc) pc' (λ w' k'. related (relation_of r) (k'.temporaries d) (Some (Numeral (pos 0))) ≡ Some (strings_hold r (components_of (held_value h w)) (components_of (held_value u w)))) w
+  -- the routine gives the first bytes that differ
+  compared_so : (d x a b t m : ℕ) (f g : ℤ) (r : TreeRelation) (h u : Held) (w : World) (k : Work) (pc pc' : ℕ) → d ≤ a
+      → a < b → b < t → Alive p c w k → StructureIn p c a (ByteShape m f) h w k → StructureIn p c b
+      (ByteShape m g) u w k
+      → Stands (code_in p) c.routine pc (i.Literal t (pos m) ∷ i.Call d (length p.program.routines + 7)
+      (a ∷ b ∷ t ∷ []) 1 ∷ []) pc'
+      → Reached p c d x w k (state p c w k pc) pc'
+      (λ w' k'. related (relation_of r) (k'.temporaries d) (Some (Numeral (pos 0))) ≡ Some
+      (strings_hold r (components_of (held_value h w)) (components_of (held_value u w)))) w
   compared_so d x a b t m f g r h u w k pc pc' la lb lt alive one two st =
       let left = bytes_of m (components_of (held_value h w)) in
       let right = bytes_of m (components_of (held_value u w)) in
@@ -61,21 +69,41 @@ module _ (p : Setting) (n : ℕ) (call : Caller) (c : Activated) (active : IsAct
       let long : length left ≡ m = bytes_count m (components_of (held_value h w)) in
       let wide : length right ≡ m = bytes_count m (components_of (held_value u w)) in
       let z = first_difference left right in
-      let k2 : Work = record { count = suc k.count; temporaries = put k1.temporaries d (Numeral z); scratch = k.scratch } in
+      let k2 : Work = record {
+        count = suc k.count;
+        temporaries = put k1.temporaries d (Numeral z);
+        scratch = k.scratch;
+      } in
       let na : a ≡ t → ⊥ = λ e. omega (arith, lb, lt, e) in
       let nb : b ≡ t → ⊥ = λ e. omega (arith, lt, e) in
-      let values : values_of k1.temporaries (a ∷ b ∷ t ∷ []) ≡ Some (Address one.block one.offset ∷ Address two.block two.offset ∷ Numeral (pos (length left)) ∷ []) =
-      ap (λ v. and_more v (and_more (k1.temporaries b) (and_more (k1.temporaries t) (Some [])))) (put_other k.temporaries t count a na ∙ one.word)
-      ∙ ap (λ v. and_more (Some (Address one.block one.offset)) (and_more v (and_more (k1.temporaries t) (Some [])))) (put_other k.temporaries t count b nb ∙ two.word)
-      ∙ ap (λ v. and_more (Some (Address one.block one.offset)) (and_more (Some (Address two.block two.offset)) (and_more v (Some [])))) (put_same k.temporaries t count ∙ ap (λ y. Some (Numeral (pos y))) (sym long)) in
+      let values : values_of k1.temporaries (a ∷ b ∷ t ∷ []) ≡ Some
+      (Address one.block one.offset ∷ Address two.block two.offset ∷ Numeral (pos (length left)) ∷ []) =
+      ap (λ v. and_more v (and_more (k1.temporaries b) (and_more (k1.temporaries t) (Some []))))
+      (put_other k.temporaries t count a na ∙ one.word)
+      ∙ ap (λ v. and_more (Some (Address one.block one.offset)) (and_more v (and_more (k1.temporaries t) (Some []))))
+      (put_other k.temporaries t count b nb ∙ two.word)
+      ∙ ap (λ v. and_more (Some (Address one.block one.offset))
+      (and_more (Some (Address two.block two.offset)) (and_more v (Some []))))
+      (put_same k.temporaries t count ∙ ap (λ y. Some (Numeral (pos y))) (sym long)) in
       let room = held_below p c w k.count alive.holds active.small m f h one.block one.offset one.at in
       let room' = held_below p c w k.count alive.holds active.small m g u two.block two.offset two.at in
-      let law = does.difference one.block one.offset two.block two.offset left right s1.memory s1.tape (held_bytes p c w k.count alive.holds scratch m f h one.block one.offset one.at) (held_bytes p c w k.count alive.holds scratch m g u two.block two.offset two.at) (bytes_small m (components_of (held_value h w))) (bytes_small m (components_of (held_value u w))) (long ∙ sym wide) (omega (arith, room, long)) (omega (arith, room', wide)) in
-      let call_ = subst (λ y. Stands (code_in p) c.routine (suc pc) (i.Call d (y + 7) (a ∷ b ∷ t ∷ []) 1 ∷ []) pc') (sym (length_map (tac_of p.program) p.program.routines)) st.1 in
+      let law = does.difference one.block one.offset two.block two.offset left right s1.memory s1.tape
+      (held_bytes p c w k.count alive.holds scratch m f h one.block one.offset one.at)
+      (held_bytes p c w k.count alive.holds scratch m g u two.block two.offset two.at)
+      (bytes_small m (components_of (held_value h w))) (bytes_small m (components_of (held_value u w)))
+      (long ∙ sym wide) (omega (arith, room, long)) (omega (arith, room', wide)) in
+      let call_ = subst (λ y. Stands (code_in p) c.routine (suc pc) (i.Call d (y + 7) (a ∷ b ∷ t ∷ []) 1 ∷ []) pc')
+      (sym (length_map (tac_of p.program) p.program.routines)) st.1 in
       record {
         work = k2;
         alive = record {
-          holds = record { fits = alive.holds.fits; objects = alive.holds.objects; names = alive.holds.names; numbered = numbered_more c.ghosts k.count (suc k.count) (omega arith) alive.holds.numbered; input = alive.holds.input };
+          holds = record {
+            fits = alive.holds.fits;
+            objects = alive.holds.objects;
+            names = alive.holds.names;
+            numbered = numbered_more c.ghosts k.count (suc k.count) (omega arith) alive.holds.numbered;
+            input = alive.holds.input;
+          };
           stands = alive.stands;
           room = alive.room;
         };
@@ -87,14 +115,19 @@ module _ (p : Setting) (n : ℕ) (call : Caller) (c : Activated) (active : IsAct
           scratch = λ j l. refl;
           grown = ([], sym (append-nil w.made));
         };
-        comes = a_step s s1 (literal_step (machine_of p) s t (pos m) st.0) >> subst (λ q. Comes (machine_of p) s1 (state p c w k2 q)) call_.1 (law.by s1 d 1 (a ∷ b ∷ t ∷ []) refl refl (is_fresh p c active w k1 (suc pc) alive1) values call_.0);
+        comes = a_step s s1 (literal_step (machine_of p) s t (pos m) st.0) >> subst
+            (λ q. Comes (machine_of p) s1 (state p c w k2 q)) call_.1
+            (law.by s1 d 1 (a ∷ b ∷ t ∷ []) refl refl (is_fresh p c active w k1 (suc pc) alive1) values call_.0);
         result = ap (λ y. related (relation_of r) y (Some (Numeral (pos 0)))) (put_same k1.temporaries d (Numeral z))
             ∙ ap Some (strings_compared r m (components_of (held_value h w)) (components_of (held_value u w))
-            (byte_values w.made m f (held_value h w) (held_shape p c w k.count alive.holds (ByteShape m f) h one.block one.offset one.at))
-            (byte_values w.made m g (held_value u w) (held_shape p c w k.count alive.holds (ByteShape m g) u two.block two.offset two.at)));
+            (byte_values w.made m f (held_value h w)
+            (held_shape p c w k.count alive.holds (ByteShape m f) h one.block one.offset one.at))
+            (byte_values w.made m g (held_value u w)
+            (held_shape p c w k.count alive.holds (ByteShape m g) u two.block two.offset two.at)));
       }
 
-  pub compare_strings_front : (r : TreeRelation) (a b : Structure) → StructureRuns p n call c active a → StructureRuns p n call c active b → FrontRuns p n call c active (CompareStrings r a b)
+  pub compare_strings_front : (r : TreeRelation) (a b : Structure) → StructureRuns p n call c active a
+      → StructureRuns p n call c active b → FrontRuns p n call c active (CompareStrings r a b)
   compare_strings_front r a b first second d x o w k pc pc' sort alive opened fits st =
       let code = scope_in p c o in
       let ctx = context_in c o in
@@ -105,20 +138,43 @@ module _ (p : Setting) (n : ℕ) (call : Caller) (c : Activated) (active : IsAct
       let h : suc la ≤ t = even_above (suc la) in
       let fa = string_fits a o m fits.1 refl in
       let fb = string_fits b o m fits.2 (sym fits.3) in
-      let cut2 = split (code_in p) c.routine pc (structure_code code a la x ++ structure_code code b t x) (i.Literal (beside t) (pos m) ∷ i.Call d (length p.program.routines + 7) (la ∷ t ∷ beside t ∷ []) 1 ∷ []) pc' st in
+      let cut2 = split (code_in p) c.routine pc (structure_code code a la x ++ structure_code code b t x)
+      (i.Literal (beside t) (pos m) ∷ i.Call d (length p.program.routines + 7) (la ∷ t ∷ beside t ∷ []) 1 ∷ []) pc'
+      st in
       let cut = split (code_in p) c.routine pc (structure_code code a la x) (structure_code code b t x) cut2.0 cut2.1 in
-      runs_bind p (suc n) c d x la x d x w k pc cut.0 pc' (operand call a ctx w) (λ y w1. and_then (operand call b ctx w1) (λ z w2. and_then (contents_of y w2) (λ v w3. and_then (contents_of z w3) (λ u w4. Gives (OrdinalValue (truth (strings_hold r (components_of v) (components_of u)))) w4)))) (λ y w' k'. StructureIn p c la (ByteShape m fa.0) y w' k') (λ v w' k'. FrontIn (CompareStrings r a b) d sort v w'.made k'.temporaries) l (omega arith) (omega arith) (omega arith)
-      (first (ByteShape m fa.0) la x o w k pc cut.0 alive (opened_kept p c d x la w w k k o l (keeps_refl d x w k) opened) fa.1 cut.1)
+      runs_bind p (suc n) c d x la x d x w k pc cut.0 pc' (operand call a ctx w)
+      (λ y w1. and_then (operand call b ctx w1)
+      (λ z w2. and_then (contents_of y w2) (λ v w3. and_then (contents_of z w3)
+      (λ u w4. Gives (OrdinalValue (truth (strings_hold r (components_of v) (components_of u)))) w4))))
+      (λ y w' k'. StructureIn p c la (ByteShape m fa.0) y w' k')
+      (λ v w' k'. FrontIn (CompareStrings r a b) d sort v w'.made k'.temporaries) l (omega arith) (omega arith)
+      (omega arith)
+      (first (ByteShape m fa.0) la x o w k pc cut.0 alive
+      (opened_kept p c d x la w w k k o l (keeps_refl d x w k) opened) fa.1 cut.1)
       (λ y w1 k1 alive1 kept1 r1.
-      runs_bind p (suc n) c d x t x d x w1 k1 cut.0 cut2.0 pc' (operand call b ctx w1) (λ z w2. and_then (contents_of y w2) (λ v w3. and_then (contents_of z w3) (λ u w4. Gives (OrdinalValue (truth (strings_hold r (components_of v) (components_of u)))) w4))) (λ z w' k'. StructureIn p c t (ByteShape m fb.0) z w' k') (λ v w' k'. FrontIn (CompareStrings r a b) d sort v w'.made k'.temporaries) (omega (arith, l, h)) (omega arith) (omega arith) (omega arith)
-      (second (ByteShape m fb.0) t x o w1 k1 cut.0 cut2.0 alive1 (opened_kept p c d x t w w1 k k1 o (omega (arith, l, h)) (keeps_less d x la x l (omega arith) kept1) opened) fb.1 cut.2)
+      runs_bind p (suc n) c d x t x d x w1 k1 cut.0 cut2.0 pc' (operand call b ctx w1)
+      (λ z w2. and_then (contents_of y w2) (λ v w3. and_then (contents_of z w3)
+      (λ u w4. Gives (OrdinalValue (truth (strings_hold r (components_of v) (components_of u)))) w4)))
+      (λ z w' k'. StructureIn p c t (ByteShape m fb.0) z w' k')
+      (λ v w' k'. FrontIn (CompareStrings r a b) d sort v w'.made k'.temporaries) (omega (arith, l, h))
+      (omega arith) (omega arith) (omega arith)
+      (second (ByteShape m fb.0) t x o w1 k1 cut.0 cut2.0 alive1
+      (opened_kept p c d x t w w1 k k1 o (omega (arith, l, h)) (keeps_less d x la x l (omega arith) kept1) opened)
+      fb.1 cut.2)
       (λ z w2 k2 alive2 kept2 r2.
       let v = held_value y w2 in
       let u = held_value z w2 in
       let q = strings_hold r (components_of v) (components_of u) in
-      let e = compared_so d x la t (beside t) m fa.0 fb.0 r y z w2 k2 cut2.0 pc' l (omega (arith, h)) (omega arith) alive2 (structure_kept p c t x la w1 w2 k1 k2 (ByteShape m fa.0) y (omega (arith, h)) kept2 r1) r2 cut2.2 in
-      subst (λ f. Runs p (suc n) c d x w2 k2 cut2.0 pc' (and_then f (λ v w3. and_then (contents_of z w3) (λ u w4. Gives (OrdinalValue (truth (strings_hold r (components_of v) (components_of u)))) w4))) (λ v w' k'. FrontIn (CompareStrings r a b) d sort v w'.made k'.temporaries)) (sym (contents_are y w2))
-      (subst (λ f. Runs p (suc n) c d x w2 k2 cut2.0 pc' (and_then f (λ u w4. Gives (OrdinalValue (truth (strings_hold r (components_of v) (components_of u)))) w4)) (λ v w' k'. FrontIn (CompareStrings r a b) d sort v w'.made k'.temporaries)) (sym (contents_are z w2))
+      let e = compared_so d x la t (beside t) m fa.0 fb.0 r y z w2 k2 cut2.0 pc' l (omega (arith, h))
+      (omega arith) alive2 (structure_kept p c t x la w1 w2 k1 k2 (ByteShape m fa.0) y (omega (arith, h)) kept2 r1)
+      r2 cut2.2 in
+      subst (λ f. Runs p (suc n) c d x w2 k2 cut2.0 pc'
+      (and_then f (λ v w3. and_then (contents_of z w3)
+      (λ u w4. Gives (OrdinalValue (truth (strings_hold r (components_of v) (components_of u)))) w4)))
+      (λ v w' k'. FrontIn (CompareStrings r a b) d sort v w'.made k'.temporaries)) (sym (contents_are y w2))
+      (subst (λ f. Runs p (suc n) c d x w2 k2 cut2.0 pc'
+      (and_then f (λ u w4. Gives (OrdinalValue (truth (strings_hold r (components_of v) (components_of u)))) w4))
+      (λ v w' k'. FrontIn (CompareStrings r a b) d sort v w'.made k'.temporaries)) (sym (contents_are z w2))
       (record {
         work = e.work;
         alive = e.alive;

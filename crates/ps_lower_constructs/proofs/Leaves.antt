@@ -1,5 +1,7 @@
 -- Instructions that compute or fail.
-use Rattle.std.proofs.Common.{◌≡◌, ℕ, zero, suc, ◌-◌, ◌%◌, ◌<◌, ◌≤◌, ℤ, pos, negsuc, unsigned_abs, Bool, true, false, if◌then◌else◌, IsTrue, List, refl, sym, ap, ◌∙◌, arith, nat_eq, ◌+ℤ◌, ◌-ℤ◌, ◌*ℤ◌, int_div, lt-ltb, ltb-true, mod-lt, int_le}
+use Rattle.std.proofs.Common.{◌≡◌, ℕ, zero, suc, ◌-◌, ◌%◌, ◌<◌, ◌≤◌, ℤ, pos, negsuc, unsigned_abs, Bool, true, false}
+use Rattle.std.proofs.Common.{if◌then◌else◌, IsTrue, List, refl, sym, ap, ◌∙◌, arith, nat_eq, ◌+ℤ◌, ◌-ℤ◌, ◌*ℤ◌}
+use Rattle.std.proofs.Common.{int_div, lt-ltb, ltb-true, mod-lt, int_le}
 use Rattle.behavior.specs.Endings.{Stack, Heap, failed, ending_by}
 use Rattle.ps_tree.specs.declared.tree.ArithmeticOperator.{ArithmeticOperator}
 use Rattle.ps_tree.specs.declared.tree.ArithmeticOperator.TheVariants.{Add, Subtract, Multiply, Div, Mod}
@@ -25,7 +27,8 @@ pub ends_by : (number line : ℕ) (calls : List ℕ) → number ≤ 11 → endin
 ends_by number line calls l =
     let a : number ≡ 12 → ⊥ = λ e. omega arith in
     let b : number ≡ 13 → ⊥ = λ e. omega arith in
-    ap (λ t. if t then Stack line else (if nat_eq number 13 then Heap line else failed number line calls)) (eq_no number 12 a)
+    ap (λ t. if t then Stack line else (if nat_eq number 13 then Heap line else failed number line calls))
+    (eq_no number 12 a)
     ∙ ap (λ t. if t then Heap line else failed number line calls) (eq_no number 13 b)
 
 -- what is computed is an integer, and an error is one of the language
@@ -44,26 +47,43 @@ well_if : (b : Bool) (x y : Computed) → IsWell x → IsWell y → IsWell (if b
 well_if true x y h g = h
 well_if false x y h g = g
 
-modulo_well : (x y : ℤ) → IsTrue (is_integer y) → IsWell (if int_le y (pos 0) then Fault 3 else Result (modulo x (unsigned_abs y)))
+modulo_well : (x y : ℤ) → IsTrue (is_integer y) → IsWell
+    (if int_le y (pos 0) then Fault 3 else Result (modulo x (unsigned_abs y)))
 modulo_well x (negsuc n) h = omega arith
 modulo_well x (pos zero) h = omega arith
-modulo_well (pos i) (pos (suc n)) h = well_if (int_le (pos (suc n)) (pos 0)) (Fault 3) (Result (pos (i % suc n))) (omega arith) (let b = ltb-true (suc n) 2147483648 h in let m : i % suc n < suc n = mod-lt i {m = suc n} (omega arith) in lt-ltb (i % suc n) 2147483648 (omega (arith, b, m)))
-modulo_well (negsuc i) (pos (suc n)) h = well_if (int_le (pos (suc n)) (pos 0)) (Fault 3) (Result (pos (suc n - suc (i % suc n)))) (omega arith) (let b = ltb-true (suc n) 2147483648 h in lt-ltb (suc n - suc (i % suc n)) 2147483648 (omega (arith, b)))
+modulo_well (pos i) (pos (suc n)) h = well_if (int_le (pos (suc n)) (pos 0)) (Fault 3) (Result (pos (i % suc n)))
+    (omega arith) (let b = ltb-true (suc n) 2147483648 h in let m : i % suc n < suc n = mod-lt i {m = suc n}
+    (omega arith) in lt-ltb (i % suc n) 2147483648 (omega (arith, b, m)))
+modulo_well (negsuc i) (pos (suc n)) h = well_if (int_le (pos (suc n)) (pos 0)) (Fault 3)
+    (Result (pos (suc n - suc (i % suc n)))) (omega arith)
+    (let b = ltb-true (suc n) 2147483648 h in lt-ltb (suc n - suc (i % suc n)) 2147483648 (omega (arith, b)))
 
 pub compute_well : (op : ArithmeticOperator) (x y : ℤ) → IsTrue (is_integer y) → IsWell (compute op x y)
 compute_well Add x y h = integer_well (x +ℤ y)
 compute_well Subtract x y h = integer_well (x -ℤ y)
 compute_well Multiply x y h = integer_well (x *ℤ y)
-compute_well Div x y h = well_if (is_equal y (pos 0)) (Fault 2) (integer (int_div x y)) (omega arith) (integer_well (int_div x y))
+compute_well Div x y h = well_if (is_equal y (pos 0)) (Fault 2) (integer (int_div x y)) (omega arith)
+    (integer_well (int_div x y))
 compute_well Mod x y h = modulo_well x y h
 
 module _ (p : Setting) (n : ℕ) (c : Activated) (active : IsActive p c) where
   -- an error of the language ends both runs
-  pub fails_so : (w : World) (k : Work) (pc : ℕ) (number line : ℕ) → number ≤ 11 → step_of (machine_of p) (state p c w k pc) ≡ fails (code_in p) number line (state p c w k pc) → Stops (machine_of p) n (state p c w k pc) (w.transcript, failed number line c.calls)
-  fails_so w k pc number line l h = stops_now n (state p c w k pc) (failed number line c.calls) (h ∙ ap (λ calls. Over (ending_by number line calls)) (active.told pc k.temporaries) ∙ ap Over (ends_by number line c.calls l))
+  pub fails_so : (w : World) (k : Work) (pc : ℕ) (number line : ℕ) → number ≤ 11 → step_of (machine_of p)
+      (state p c w k pc) ≡ fails (code_in p) number line (state p c w k pc) → Stops (machine_of p) n (state p c w k pc)
+      (w.transcript, failed number line c.calls)
+  fails_so w k pc number line l h = stops_now n (state p c w k pc) (failed number line c.calls)
+      (h ∙ ap (λ calls. Over (ending_by number line calls)) (active.told pc k.temporaries) ∙ ap Over
+      (ends_by number line c.calls l))
 
   -- a result goes to a temporary, or an error ends the run
-  pub settles : (d x : ℕ) (o : Opening) (w : World) (k : Work) (pc pc' t line : ℕ) (r : Computed) → IsWell r → step_of (machine_of p) (state p c w k pc) ≡ gives_computed (code_in p) t (as_given r) line (state p c w k pc) → suc pc ≡ pc' → d ≤ t → Alive p c w k
-      → Runs p n c d x w k pc pc' (settled r line (context_in c o) w) (λ v w' k'. WordIn k'.temporaries w'.made t NumberSort v)
-  settles d x o w k pc pc' t line (Result z) well h e l alive = gives_word p n c d x w k pc pc' t (Number z) (λ w' k'. WordIn k'.temporaries w'.made t NumberSort (OrdinalValue z)) h e l alive (record { word = put_same k.temporaries t (Number z); fits = well })
+  pub settles : (d x : ℕ) (o : Opening) (w : World) (k : Work) (pc pc' t line : ℕ) (r : Computed) → IsWell r → step_of
+      (machine_of p) (state p c w k pc) ≡ gives_computed (code_in p) t (as_given r) line (state p c w k pc) → suc pc
+      ≡ pc' → d ≤ t → Alive p c w k
+      → Runs p n c d x w k pc pc' (settled r line (context_in c o) w)
+      (λ v w' k'. WordIn k'.temporaries w'.made t NumberSort v)
+  settles d x o w k pc pc' t line (Result z) well h e l alive = gives_word p n c d x w k pc pc' t (Number z)
+      (λ w' k'. WordIn k'.temporaries w'.made t NumberSort (OrdinalValue z)) h e l alive (record {
+        word = put_same k.temporaries t (Number z);
+        fits = well;
+      })
   settles d x o w k pc pc' t line (Fault number) well h e l alive = fails_so w k pc number line well h

@@ -1,6 +1,7 @@
 -- Assignments of sets.
 use Rattle.ps_lower_constructs.proofs.Calling.{Callable}
-use Rattle.std.proofs.Common.{◌≡◌, ℕ, suc, ◌+◌, ◌*◌, ◌<◌, ◌≤◌, ℤ, pos, Bool, true, false, List, [], ◌∷◌, ◌++◌, length, refl, sym, ap, ◌∙◌, subst, arith, append-nil, lt-ltb}
+use Rattle.std.proofs.Common.{◌≡◌, ℕ, suc, ◌+◌, ◌*◌, ◌<◌, ◌≤◌, ℤ, pos, Bool, true, false, List, [], ◌∷◌, ◌++◌, length}
+use Rattle.std.proofs.Common.{refl, sym, ap, ◌∙◌, subst, arith, append-nil, lt-ltb}
 use Rattle.ps_tree.specs.Tree.{Place, Variable, SetExpr, AssignSet}
 use Rattle.tac_code.specs.declared.code.Base.TheVariants as base
 use Rattle.tac_code.specs.declared.code.Block.{Block}
@@ -24,7 +25,8 @@ use Rattle.ps_lower_code.specs.Calling.{selectors_call}
 use Rattle.ps_lower_code.specs.Values.{place_temporary, place_site, place_code, set_code, set_check}
 use Rattle.ps_lower_code.proofs.Depths.{even_above, held_above}
 use Rattle.ps_lower_relation.specs.Ghosts.{RootAt, EnvAt}
-use Rattle.ps_lower_relation.specs.Here.{Setting, machine_of, code_in, Work, Activated, IsActive, chain_of, Alive, state, IsBelow, SiteAt}
+use Rattle.ps_lower_relation.specs.Here.{Setting, machine_of, code_in, Work, Activated, IsActive, chain_of, Alive}
+use Rattle.ps_lower_relation.specs.Here.{state, IsBelow, SiteAt}
 use Rattle.ps_lower_relation.specs.Outcomes.{Reached, Runs}
 use Rattle.ps_lower_relation.specs.RunTime.{CopiedUp, WritesDo}
 use Rattle.ps_lower_relation.specs.Sets.{set_number}
@@ -55,25 +57,45 @@ held_place (Variable name selectors) d = go (selectors_call selectors)
     go false = refl
 
 module _ (p : Setting) (c : Activated) (active : IsActive p c) (does : WritesDo p) where
-  -- variables don't stand in the scratch block
-  elsewhere : (w : World) (root : Root) (path : List ℕ) (b : Block) (o : ℕ) → RootAt p.program c.ghosts w.made root path b o (Whole SetShape) → ScratchBlock c.number ≡ b → ⊥
+  -- variables are not in the scratch block
+  elsewhere : (w : World) (root : Root) (path : List ℕ) (b : Block) (o : ℕ)
+      → RootAt p.program c.ghosts w.made root path b o (Whole SetShape) → ScratchBlock c.number ≡ b → ⊥
   elsewhere w (Declared name) path b o at e = absurd (cc (e ∙ at.block))
   elsewhere w (Made object) path b o at e = absurd (cc (e ∙ at.block))
 
-  -- the state behind is that of the world after
-  seen_written : (w : World) (k : Work) (t : Temporaries) (pc : ℕ) (root : Root) (path : List ℕ) (v : Value) → seen p c w k.count t pc (memory_of p.program (with_contents w (record { root = root; path = path }) v) c.ghosts (record { number = c.number; words = k.scratch } ∷ c.waiting)) ≡ state p c (with_contents w (record { root = root; path = path }) v) (record { count = k.count; temporaries = t; scratch = k.scratch }) pc
+  -- the state after is that of the world after
+  seen_written : (w : World) (k : Work) (t : Temporaries) (pc : ℕ) (root : Root) (path : List ℕ) (v : Value)
+      → seen p c w k.count t pc (memory_of p.program (with_contents w (record {
+        root = root;
+        path = path;
+      }) v) c.ghosts (record {
+        number = c.number;
+        words = k.scratch;
+      } ∷ c.waiting)) ≡ state p c (with_contents w (record {
+        root = root;
+        path = path;
+      }) v) (record {
+        count = k.count;
+        temporaries = t;
+        scratch = k.scratch;
+      }) pc
   seen_written w k t pc (Declared name) path v = refl
   seen_written w k t pc (Made object) path v = refl
 
   -- the set from 0 on goes to the variable at a site
-  set_assigned : (d t v : ℕ) (w : World) (k : Work) (pc pc' : ℕ) (site : Site) (s : Spot) (set : ℕ → Bool) → d ≤ t → t < v → Alive p c w k → SiteAt p c w.made k.temporaries site s (Whole SetShape) → SetIn 0 set k
-      → Stands (code_in p) c.routine pc (i.Offset t site.base site.offset 32 ∷ words_code (base.Temporary t) 0 base.Scratch 0 v 8) pc'
+  set_assigned : (d t v : ℕ) (w : World) (k : Work) (pc pc' : ℕ) (site : Site) (s : Spot) (set : ℕ → Bool) → d ≤ t
+      → t < v → Alive p c w k → SiteAt p c w.made k.temporaries site s (Whole SetShape) → SetIn 0 set k
+      → Stands (code_in p) c.routine pc (i.Offset t site.base site.offset 32 ∷ words_code
+      (base.Temporary t) 0 base.Scratch 0 v 8) pc'
       → Reached p c d 0 w k (state p c w k pc) pc' (λ w' k'. Unit {0}) (with_contents w s (SetValue set))
   set_assigned d t v w k pc pc' site s set l above alive at in_ st =
       let to = at.offset + site.offset in
-      let ends = place_end p.program c.ghosts active.small w k.count alive.holds s at.block to (Whole SetShape) at.place in
+      let ends = place_end p.program c.ghosts active.small w k.count alive.holds s at.block to (Whole SetShape) at.place
+      in
       let one = Address at.block to in
-      let a = word_passage p c active d 0 w k pc t one l alive (offset_step (machine_of p) (state p c w k pc) t site.base site.offset 32 at.block at.offset st.0 (base_is c pc k.temporaries site.base ∙ at.base) (lt-ltb to 2147483648 (omega (arith, ends)))) in
+      let a = word_passage p c active d 0 w k pc t one l alive
+      (offset_step (machine_of p) (state p c w k pc) t site.base site.offset 32 at.block at.offset st.0
+      (base_is c pc k.temporaries site.base ∙ at.base) (lt-ltb to 2147483648 (omega (arith, ends)))) in
       let k1 = with_temporary k t one in
       let ne : t ≡ v → ⊥ = λ e. omega (arith, above, e) in
       let new = SetValue set in
@@ -82,20 +104,29 @@ module _ (p : Setting) (c : Activated) (active : IsActive p c) (does : WritesDo 
       let memory = memory_of p.program w' c.ghosts scratch in
       let m = in_.0 in
       let e = in_.1 in
-      let copied = copied_to p w c.ghosts k.count alive.holds scratch s at.block to SetShape at.place (ScratchBlock c.number) 0 new (elsewhere w s.root s.path at.block to at.place) (goes_to w.made s.path new SetShape tt tt)
+      let copied = copied_to p w c.ghosts k.count alive.holds scratch s at.block to SetShape at.place
+      (ScratchBlock c.number) 0 new (elsewhere w s.root s.path at.block to at.place)
+      (goes_to w.made s.path new SetShape tt tt)
       (λ j low. let z : 0 + 4 * j ≡ 4 * (m + j) = omega (arith, e) in
-      ap (load (text_at (code_in p)) (memory_with p c active w k.scratch) (ScratchBlock c.number)) z ∙ (scratch_held p c active w).reads k.scratch (m + j) (Numeral (set_number set j)) (in_.2 j low) ∙ sym (ap known (set_word set j low))) in
+      ap (load (text_at (code_in p)) (memory_with p c active w k.scratch) (ScratchBlock c.number)) z
+      ∙ (scratch_held p c active w).reads k.scratch (m + j) (Numeral (set_number set j)) (in_.2 j low) ∙ sym
+      (ap known (set_word set j low))) in
       let z : to ≡ to + 0 = omega arith in
-      let copied' = subst (λ y. CopiedUp p (memory_with p c active w k.scratch) at.block y (ScratchBlock c.number) (0 + 0) 8 memory) z copied in
-      let r = in_line p c 8 (base.Temporary t) base.Scratch 0 0 v at.block to (ScratchBlock c.number) 0 w k.count k1.temporaries (suc pc) pc' (memory_with p c active w k.scratch) memory ne tt (put_same k.temporaries t one) refl copied' st.1 in
+      let copied' = subst (λ y. CopiedUp p (memory_with p c active w k.scratch) at.block y (ScratchBlock c.number)
+      (0 + 0) 8 memory) z copied in
+      let r = in_line p c 8 (base.Temporary t) base.Scratch 0 0 v at.block to
+      (ScratchBlock c.number) 0 w k.count k1.temporaries (suc pc) pc'
+      (memory_with p c active w k.scratch) memory ne tt (put_same k.temporaries t one) refl copied' st.1 in
       let k2 : Work = record { count = k.count; temporaries = r.temporaries; scratch = k.scratch } in
       let same = written_made p (suc d) c active w s.root s.path new in
-      let hold = spot_holds p.program w c.ghosts k.count alive.holds s at.block to SetShape new at.place (goes_to w.made s.path new SetShape tt tt) in
+      let hold = spot_holds p.program w c.ghosts k.count alive.holds s at.block to SetShape new at.place
+      (goes_to w.made s.path new SetShape tt tt) in
       record {
         work = k2;
         alive = record {
           holds = hold;
-          stands = subst (λ made. EnvAt p.program c.ghosts made c.env (Address (FrameBlock c.number) 0) (chain_of c)) (sym same) alive.stands;
+          stands = subst (λ made. EnvAt p.program c.ghosts made c.env (Address (FrameBlock c.number) 0) (chain_of c))
+              (sym same) alive.stands;
           room = alive.room;
         };
         keeps = record {
@@ -103,12 +134,14 @@ module _ (p : Setting) (c : Activated) (active : IsActive p c) (does : WritesDo 
           scratch = λ j low. refl;
           grown = ([], same ∙ sym (append-nil w.made));
         };
-        comes = a.comes >> subst (Comes (machine_of p) (state p c w k1 (suc pc))) (seen_written w k r.temporaries pc' s.root s.path new) r.comes;
+        comes = a.comes >> subst (Comes (machine_of p) (state p c w k1 (suc pc)))
+            (seen_written w k r.temporaries pc' s.root s.path new) r.comes;
         result = tt;
       }
 
 module _ (p : Setting) (n : ℕ) (call : Caller) (next : Next) (c : Activated) (active : IsActive p c) (nexts : NextRuns p n next) (does : WritesDo p) (calls : Callable p n call) where
-  pub assign_set_run : (q : Place) (low high : ℤ) (e : SetExpr) (line : ℕ) → StatementRuns p n call next c active nexts does calls (AssignSet q low high e line)
+  pub assign_set_run : (q : Place) (low high : ℤ) (e : SetExpr) (line : ℕ)
+      → StatementRuns p n call next c active nexts does calls (AssignSet q low high e line)
   assign_set_run q low high e line d o w k pc pc' alive opened fits st =
       let code = scope_in p c o in
       let ctx = context_in c o in
@@ -128,17 +161,33 @@ module _ (p : Setting) (n : ℕ) (call : Caller) (next : Next) (c : Activated) (
       let cut2 = split (code_in p) c.routine pc (P ++ S) C cut3.0 cut3.1 in
       let cut = split (code_in p) c.routine pc P S cut2.0 cut2.1 in
       let same = held_place q d in
-      runs_bind p (suc n) c d 0 a 0 d 0 w k pc cut.0 pc' (access call q ctx w) (λ s w1. and_then (set_value call e ctx w1) (λ x w2. and_then (fitting_set low high x line ctx w2) (λ y w3. put_into s y w3))) (λ s w' k'. PlaceIn p n call c active site (place_temporary q a) s (Whole SetShape) w' k') Nothing la (omega arith) (omega arith) (omega arith)
-      (place_run p n call c active calls q a 0 o w k pc cut.0 (Whole SetShape) alive (opened_kept p c d 0 a w w k k o la (keeps_refl d 0 w k) opened) fits.0 cut.1)
+      runs_bind p (suc n) c d 0 a 0 d 0 w k pc cut.0 pc' (access call q ctx w)
+      (λ s w1. and_then (set_value call e ctx w1)
+      (λ x w2. and_then (fitting_set low high x line ctx w2) (λ y w3. put_into s y w3)))
+      (λ s w' k'. PlaceIn p n call c active site (place_temporary q a) s (Whole SetShape) w' k') Nothing la
+      (omega arith) (omega arith) (omega arith)
+      (place_run p n call c active calls q a 0 o w k pc cut.0 (Whole SetShape) alive
+      (opened_kept p c d 0 a w w k k o la (keeps_refl d 0 w k) opened) fits.0 cut.1)
       (λ s w1 k1 alive1 kept1 r1.
       let below = subst (λ y. IsBelow (suc y) site.base) same r1.1 in
-      runs_bind p (suc n) c d 0 (suc a) 0 d 0 w1 k1 cut.0 cut2.0 pc' (set_value call e ctx w1) (λ x w2. and_then (fitting_set low high x line ctx w2) (λ y w3. put_into s y w3)) (λ x w' k'. SetIn 0 x k') Nothing (omega (arith, la)) (omega arith) (omega arith) (omega arith)
-      (set_runs p n call c active calls e (suc a) 0 o w1 k1 cut.0 cut2.0 alive1 (opened_kept p c d 0 (suc a) w w1 k k1 o (omega (arith, la)) (keeps_less d 0 a 0 la (omega arith) kept1) opened) fits.1 cut.2)
+      runs_bind p (suc n) c d 0 (suc a) 0 d 0 w1 k1 cut.0 cut2.0 pc' (set_value call e ctx w1)
+      (λ x w2. and_then (fitting_set low high x line ctx w2) (λ y w3. put_into s y w3))
+      (λ x w' k'. SetIn 0 x k') Nothing (omega (arith, la)) (omega arith) (omega arith) (omega arith)
+      (set_runs p n call c active calls e (suc a) 0 o w1 k1 cut.0 cut2.0 alive1
+      (opened_kept p c d 0 (suc a) w w1 k k1 o (omega (arith, la))
+      (keeps_less d 0 a 0 la (omega arith) kept1) opened) fits.1 cut.2)
       (λ x w2 k2 alive2 kept2 r2.
       let at2 = site_kept p c (suc a) 0 w1 w2 k1 k2 site s (Whole SetShape) below kept2 r1.0 in
-      runs_bind p (suc n) c d 0 (suc a) 0 d 0 w2 k2 cut2.0 cut3.0 pc' (fitting_set low high x line ctx w2) (λ y w3. put_into s y w3) (λ y w' k'. (y ≡ SetValue x) × SetIn 0 x k') Nothing (omega (arith, la)) (omega arith) (omega arith) (omega arith)
+      runs_bind p (suc n) c d 0 (suc a) 0 d 0 w2 k2 cut2.0 cut3.0 pc' (fitting_set low high x line ctx w2)
+      (λ y w3. put_into s y w3) (λ y w' k'. (y ≡ SetValue x) × SetIn 0 x k') Nothing (omega (arith, la))
+      (omega arith) (omega arith) (omega arith)
       (set_checked p (suc n) c active (suc a) 0 t line low high o x w2 k2 cut2.0 cut3.0 lt alive2 r2 cut2.2)
       (λ y w3 k3 alive3 kept3 r3.
       let at3 = site_kept p c (suc a) 0 w2 w3 k2 k3 site s (Whole SetShape) below kept3 at2 in
       subst (λ z. Runs p (suc n) c d 0 w3 k3 cut3.0 pc' (put_into s z w3) Nothing) (sym r3.0)
-      (set_assigned p c active does d t u w3 k3 cut3.0 pc' site s x (omega (arith, la, lt)) (omega arith) alive3 at3 r3.1 (cut3.2.0, subst (λ z. Stands (code_in p) c.routine z R pc') (sym cut3.2.1) cut4.2)))))
+      (set_assigned p c active does d t u w3 k3 cut3.0 pc' site s x (omega (arith, la, lt))
+      (omega arith) alive3 at3 r3.1 (
+        cut3.2.0,
+        subst (λ z. Stands (code_in p) c.routine z R pc')
+            (sym cut3.2.1) cut4.2,
+      )))))

@@ -1,4 +1,4 @@
--- The records that `with` opened: where the code has them, what the meaning has, and their shapes, the innermost first.
+-- The records that `with` opened: where the code has them, what the meaning has, and their shapes, innermost first.
 use Rattle.std.specs.Prelude.{ℕ, List, []}
 use Rattle.ps_meaning.specs.Values.{Spot}
 use Rattle.ps_meaning.specs.Worlds.{Context, World}
@@ -14,7 +14,7 @@ pub record Opening : Type 0 where
 abbrev pub scope_in : Setting → Activated → Opening → Scope
 scope_in p c o = record { program = p.program; chain = chain_of c; opened = o.sites }
 
--- the scope by which the parts of the tree have their forms: where opened records stand counts for nothing there
+-- the scope by which the parts of the tree have their forms: where opened records are does not matter there
 abbrev pub plain_scope : Setting → Activated → Scope
 plain_scope p c = record { program = p.program; chain = chain_of c; opened = [] }
 

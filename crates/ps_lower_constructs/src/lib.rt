@@ -5,7 +5,7 @@
 
 ghost use Rattle.ps_lower_constructs.specs.Tasks.{EveryFuel};
 
-/// With every fuel, the code of a block, of a loop again and of a further turn does what they mean.
+/// With every fuel, the code of a block, of another round of a loop and of another turn does what they mean.
 #[tactic(auto, using(crate::proofs::Execute::execute_runs))]
 pub fn every_fuel()
     ensures { EveryFuel }

@@ -27,10 +27,12 @@ goes_alike : (x y : Shown) → GoesOn IsMore x y → IsStuck x.1 → IsStuck y.1
 goes_alike x y (inl e) s = subst (λ z. IsStuck z.1) e s
 goes_alike x y (inr h) s = absurd (not_more x.1 s h.0)
 
-pub never_stuck : (run_time : List TacRoutine) → AreRunTime run_time → (program : Program) → ProgramFits program → NeverStuck run_time program
+pub never_stuck : (run_time : List TacRoutine) → AreRunTime run_time → (program : Program) → ProgramFits program
+    → NeverStuck run_time program
 never_stuck run_time does program fits F G S H input bytes n stuck =
     let code = code_of run_time program in
     let shown = tac_run code (λ r. get_or F r 0) (λ t. get_or G t 0) S H input in
     let meant = run_within program F G S H input in
-    let c = same_has_converse meant shown (run_goes_on code (λ r. get_or F r 0) (λ t. get_or G t 0) S H input) (lowers run_time does program fits F G S H input bytes) n in
+    let c = same_has_converse meant shown (run_goes_on code (λ r. get_or F r 0) (λ t. get_or G t 0) S H input)
+    (lowers run_time does program fits F G S H input bytes) n in
     meaning_goes_on program F G S H input c.0 (goes_alike (shown n) (meant c.0) c.1 stuck)

@@ -11,28 +11,38 @@ use Rattle.ps_lower_code.specs.Programs.{code_of}
 use Rattle.ps_lower_relation.specs.RunTime.{WritesDo}
 use Rattle.ps_lower_laws.specs.Fits.{ProgramFits}
 
--- These routines do what is asked of the run-time routines, behind any program, under any costs and budgets.
+-- These routines do what is required of the run-time routines, after any program, under any costs and budgets.
 abbrev pub AreRunTime : List TacRoutine → Type 0
-AreRunTime run_time = (program : Program) (frames objects : List ℕ) (stack heap : ℕ) → WritesDo (record { program = program; run_time = run_time; frames = frames; objects = objects; stack = stack; heap = heap })
+AreRunTime run_time = (program : Program) (frames objects : List ℕ) (stack heap : ℕ) → WritesDo (record {
+  program = program;
+  run_time = run_time;
+  frames = frames;
+  objects = objects;
+  stack = stack;
+  heap = heap;
+})
 
 -- Under any costs and budgets and on any input of bytes, the code shows what the program shows, and nothing else.
 abbrev pub Lowers : List TacRoutine → Program → Type 0
 Lowers run_time program =
     (F G : List ℕ) (S H : ℕ) (input : List ℕ) → AreBytes input
-    → Same (run_within program F G S H input) (tac_run (code_of run_time program) (λ r. get_or F r 0) (λ t. get_or G t 0) S H input)
+    → Same (run_within program F G S H input)
+    (tac_run (code_of run_time program) (λ r. get_or F r 0) (λ t. get_or G t 0) S H input)
 
 abbrev pub IsStuck : Ending → Type 0
 IsStuck Stuck = Unit {0}
 IsStuck _ = ⊥
 
--- there is a next step wherever the code has not come to its end
+-- there is a next step wherever the code has not reached its end
 abbrev pub NeverStuck : List TacRoutine → Program → Type 0
 NeverStuck run_time program =
     (F G : List ℕ) (S H : ℕ) (input : List ℕ) → AreBytes input
     → (n : ℕ) → IsStuck (tac_run (code_of run_time program) (λ r. get_or F r 0) (λ t. get_or G t 0) S H input n).1 → ⊥
 
 abbrev pub ProgramsLower : Type 0
-ProgramsLower = (run_time : List TacRoutine) → AreRunTime run_time → (program : Program) → ProgramFits program → Lowers run_time program
+ProgramsLower = (run_time : List TacRoutine) → AreRunTime run_time → (program : Program) → ProgramFits program
+    → Lowers run_time program
 
 abbrev pub ProgramsGoOn : Type 0
-ProgramsGoOn = (run_time : List TacRoutine) → AreRunTime run_time → (program : Program) → ProgramFits program → NeverStuck run_time program
+ProgramsGoOn = (run_time : List TacRoutine) → AreRunTime run_time → (program : Program) → ProgramFits program
+    → NeverStuck run_time program

@@ -10,7 +10,7 @@ pub fn programs_lower()
     ensures { ProgramsLower }
 {}
 
-/// The code of a program has a next step wherever it has not come to its end.
+/// The code of a program has a next step wherever it has not reached its end.
 pub fn programs_go_on()
     ensures { ProgramsGoOn }
 {}

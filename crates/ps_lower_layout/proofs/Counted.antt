@@ -1,8 +1,10 @@
--- Every value of a shape has as many words.
-use Rattle.std.proofs.Common.{◌≡◌, ℕ, zero, suc, ◌+◌, ◌*◌, ◌/◌, List, [], ◌∷◌, length, refl, ap, ◌∙◌, length-append, arith}
+-- Every value of a shape has as many words as the shape.
+use Rattle.std.proofs.Common.{◌≡◌, ℕ, zero, suc, ◌+◌, ◌*◌, ◌/◌, List, [], ◌∷◌, length, refl, ap, ◌∙◌, length-append}
+use Rattle.std.proofs.Common.{arith}
 use Rattle.tac_code.specs.Memory.{Words, constant_words}
 use Rattle.ps_meaning.specs.Values.{Value, Values, nth, values_from, components_of}
-use Rattle.ps_lower_layout.specs.Shapes.{Shape, NumberShape, PointerShape, SetShape, ByteShape, ArrayShape, RecordShape, Shapes, no_shape, shape_before, word_count, word_counts}
+use Rattle.ps_lower_layout.specs.Shapes.{Shape, NumberShape, PointerShape, SetShape, ByteShape, ArrayShape}
+use Rattle.ps_lower_layout.specs.Shapes.{RecordShape, Shapes, no_shape, shape_before, word_count, word_counts}
 use Rattle.ps_lower_layout.specs.Words.{filled, bytes_of, each, value_words, field_words}
 
 bytes_length : (n : ℕ) (vs : Values) → length (bytes_of n vs) ≡ n
@@ -16,7 +18,8 @@ filled_words (a ∷ b ∷ []) = omega arith
 filled_words (a ∷ b ∷ c ∷ []) = omega arith
 filled_words (a ∷ b ∷ c ∷ d ∷ rest) = let e = filled_words rest in omega (arith, e)
 
-each_counted : (n k : ℕ) (words : Value → Words) (vs : Values) → ((v : Value) → length (words v) ≡ k) → length (each n words vs) ≡ n * k
+each_counted : (n k : ℕ) (words : Value → Words) (vs : Values) → ((v : Value) → length (words v) ≡ k) → length
+    (each n words vs) ≡ n * k
 each_counted zero k words vs h = omega arith
 each_counted (suc n) k words vs h =
     let e = each_counted n k words (values_from vs 1) h in
@@ -30,8 +33,10 @@ mutual
   counted (NumberShape first narrow) v = refl
   counted (PointerShape pointer) v = refl
   counted SetShape v = refl
-  counted (ByteShape count first) v = filled_words (bytes_of count (components_of v)) ∙ ap (λ n. (n + 3) / 4) (bytes_length count (components_of v))
-  counted (ArrayShape count shape) v = each_counted count (word_count shape) (λ u. value_words shape u) (components_of v) (λ u. counted shape u)
+  counted (ByteShape count first) v = filled_words (bytes_of count (components_of v)) ∙ ap (λ n. (n + 3) / 4)
+      (bytes_length count (components_of v))
+  counted (ArrayShape count shape) v = each_counted count (word_count shape) (λ u. value_words shape u)
+      (components_of v) (λ u. counted shape u)
   counted (RecordShape shapes) v = fields_counted shapes (components_of v)
 
   fields_counted : (shapes : Shapes) (vs : Values) → length (field_words shapes vs) ≡ word_counts shapes

@@ -1,10 +1,13 @@
--- Frames: what their entries are, and where they stand.
-use Rattle.std.specs.Prelude.{ℕ, ◌+◌, ◌*◌, Bool, true, false, if◌then◌else◌, List, [], ◌∷◌, ◌++◌, Option, Some, None, get_or}
+-- Frames: what their entries are, and where they are.
+use Rattle.std.specs.Prelude.{ℕ, ◌+◌, ◌*◌, Bool, true, false, if◌then◌else◌, List, [], ◌∷◌, ◌++◌, Option, Some, None}
+use Rattle.std.specs.Prelude.{get_or}
 use Rattle.ps_tree.specs.Types.{DataType}
-use Rattle.ps_tree.specs.Tree.{Formal, ValueFormal, VariableFormal, RoutineFormal, Formals, no_formal, formal_before, Routine}
+use Rattle.ps_tree.specs.Tree.{Formal, ValueFormal, VariableFormal, RoutineFormal, Formals, no_formal, formal_before}
+use Rattle.ps_tree.specs.Tree.{Routine}
 use Rattle.ps_lower_layout.specs.Shapes.{Shape, shape_of, word_count}
 
--- an entry of a frame: a variable, the address of one, or a routine with the address of the frame that it was declared in
+-- an entry of a frame: a variable, the address of one, or a routine with the address of the frame that it was declared
+-- in
 mutual
   pub data Kind : Type 0 where
     Own : Shape → Kind
@@ -50,8 +53,8 @@ kind_words (Own shape) = word_count shape
 kind_words (Reference shape) = 1
 kind_words (Closure kinds result) = 2
 
--- The places of a frame's parts, in words: the static link, the entries, and in the frame of the program block the two words
--- that tell what of the input was taken ahead; and how many words there are.
+-- The places of a frame's parts, in words: the static link, the entries, and in the frame of the program block the two
+-- words that record what was taken ahead of the input; and the number of words.
 pub record Layout : Type 0 where
   pub link : ℕ
   pub places : List ℕ
@@ -66,17 +69,22 @@ abbrev pub words_of_all : List Kind → ℕ
 words_of_all [] = 0
 words_of_all (kind ∷ rest) = kind_words kind + words_of_all rest
 
--- the program block alone has no routine round it
+-- only the program block has no enclosing routine
 abbrev pub is_program_block : List ℕ → Bool
 is_program_block [] = true
 is_program_block (r ∷ []) = true
 is_program_block (r ∷ s ∷ rest) = false
 
--- the only place where the order of a frame's parts is told
+-- the only place that says the order of a frame's parts
 abbrev pub layout_of : Routine → Layout
-layout_of r = record { link = 0; places = places_from 1 (entries r); input = 1 + words_of_all (entries r); size = 1 + words_of_all (entries r) + (if is_program_block r.chain then 2 else 0) }
+layout_of r = record {
+  link = 0;
+  places = places_from 1 (entries r);
+  input = 1 + words_of_all (entries r);
+  size = 1 + words_of_all (entries r) + (if is_program_block r.chain then 2 else 0);
+}
 
--- where an entry and the link stand, in bytes
+-- where an entry and the link are, in bytes
 abbrev pub entry_offset : Routine → ℕ → ℕ
 entry_offset r i = 4 * get_or (layout_of r).places i 0
 

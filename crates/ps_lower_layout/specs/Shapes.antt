@@ -1,11 +1,12 @@
 -- What the variables of a type are in memory: types without their denoters and names.
 use Rattle.std.specs.Prelude.{ℕ, zero, suc, ◌+◌, ◌*◌, ◌/◌, ℤ, pos, Bool, ◌&&◌, if◌then◌else◌, Option, Some, None}
-use Rattle.ps_tree.specs.Types.{DataType, OrdinalType, PointerType, NilType, SetType, EmptySetType, TextType, ArrayType, RecordType, FieldList, field_list, DataTypes, no_type, type_before}
+use Rattle.ps_tree.specs.Types.{DataType, OrdinalType, PointerType, NilType, SetType, EmptySetType, TextType}
+use Rattle.ps_tree.specs.Types.{ArrayType, RecordType, FieldList, field_list, DataTypes, no_type, type_before}
 use Rattle.ps_tree.specs.Sizes.{value_count, fits_byte}
 use Rattle.ps_meaning.specs.Values.{first_ordinal}
 
--- An ordinal, with its first value and whether its values are bytes; a pointer, with the number of its type; a set; a packed array whose components are
--- bytes, as a string has them; another array; a record.
+-- An ordinal, with its first value and whether its values are bytes; a pointer, with the number of its type; a set; a
+-- packed array whose components are bytes, as a string's are; another array; a record.
 mutual
   pub data Shape : Type 0 where
     NumberShape : (first : ℤ) (narrow : Bool) → Shape
@@ -32,7 +33,8 @@ abbrev mutual
   shape_of (SetType denoter packing base) = SetShape
   shape_of EmptySetType = SetShape
   shape_of (TextType length) = ByteShape length (pos 0)
-  shape_of (ArrayType at packed index component) = if packed && fits_byte component then ByteShape (value_count index) (first_of component) else ArrayShape (value_count index) (shape_of component)
+  shape_of (ArrayType at packed index component) = if packed && fits_byte component then ByteShape (value_count index)
+      (first_of component) else ArrayShape (value_count index) (shape_of component)
   shape_of (RecordType at packed fields) = RecordShape (field_shapes fields)
 
   pub field_shapes : FieldList → Shapes
@@ -42,7 +44,7 @@ abbrev mutual
   shapes_of no_type = no_shape
   shapes_of (type_before type rest) = shape_before (shape_of type) (shapes_of rest)
 
--- the words of a shape: a set has a bit for each of 0..255, bytes are filled up to whole words
+-- the words of a shape: a set has a bit for each of 0..255, bytes are padded to whole words
 abbrev mutual
   pub word_count : Shape → ℕ
   word_count (NumberShape first narrow) = 1
@@ -70,7 +72,7 @@ words_before no_shape k = 0
 words_before (shape_before shape rest) zero = 0
 words_before (shape_before shape rest) (suc k) = word_count shape + words_before rest k
 
--- what the components of an array take, in bytes
+-- the size of an array's components, in bytes
 abbrev pub component_bytes : Shape → ℕ
 component_bytes (ByteShape count first) = 1
 component_bytes (ArrayShape count shape) = byte_count shape

@@ -1,5 +1,6 @@
 -- Copies of words: into a block of which the words are known, from anywhere.
-use Rattle.std.proofs.Common.{◌≡◌, ◌⊎◌, inl, inr, ℕ, zero, suc, ◌+◌, ◌*◌, ◌<◌, ◌≤◌, [], ◌∷◌, ◌++◌, length, slice_get, Some, None, refl, sym, ap, ◌∙◌, arith, length-append}
+use Rattle.std.proofs.Common.{◌≡◌, ◌⊎◌, inl, inr, ℕ, zero, suc, ◌+◌, ◌*◌, ◌<◌, ◌≤◌, [], ◌∷◌, ◌++◌, length, slice_get}
+use Rattle.std.proofs.Common.{Some, None, refl, sym, ap, ◌∙◌, arith, length-append}
 use Rattle.tac_code.specs.declared.code.Block.{Block}
 use Rattle.tac_code.specs.declared.code.Value.{Value as Word}
 use Rattle.tac_code.specs.Memory.{Words, Memory, load, store}
@@ -15,16 +16,19 @@ pub same_words : (xs ys : Words) → length xs ≡ length ys → ((i : ℕ) → 
 same_words [] [] l h = refl
 same_words [] (y ∷ ys) l h = absurd (cc)
 same_words (x ∷ xs) [] l h = absurd (cc)
-same_words (x ∷ xs) (y ∷ ys) l h = ap (λ z. z ∷ xs) (same_some (h 0)) ∙ ap (λ zs. y ∷ zs) (same_words xs ys (omega arith) (λ i. h (suc i)))
+same_words (x ∷ xs) (y ∷ ys) l h = ap (λ z. z ∷ xs) (same_some (h 0)) ∙ ap (λ zs. y ∷ zs)
+    (same_words xs ys (omega arith) (λ i. h (suc i)))
 
--- two blocks of words are the same outside of a stretch
+-- two blocks of words are the same outside a stretch
 abbrev pub SameOutside : Words → Words → (from to : ℕ) → Type 0
 SameOutside xs ys from to = (i : ℕ) → (i < from) ⊎ (to ≤ i) → slice_get xs i ≡ slice_get ys i
 
 -- a memory by the words of one block
 pub record Holding (p : Setting) (b : Block) (memory : Words → Memory) : Type 0 where
-  pub reads : (ws : Words) (i : ℕ) (v : Word) → slice_get ws i ≡ Some (Some v) → load (text_at (code_in p)) (memory ws) b (4 * i) ≡ Some v
-  pub writes : (ws : Words) (i : ℕ) (v : Word) → i < length ws → store (memory ws) b (4 * i) v ≡ Some (memory (spliced i (Some v ∷ []) ws))
+  pub reads : (ws : Words) (i : ℕ) (v : Word) → slice_get ws i ≡ Some (Some v) → load (text_at (code_in p))
+      (memory ws) b (4 * i) ≡ Some v
+  pub writes : (ws : Words) (i : ℕ) (v : Word) → i < length ws → store (memory ws) b (4 * i) v ≡ Some
+      (memory (spliced i (Some v ∷ []) ws))
 
 -- What is read for word i, wherever the words before it have been written.
 pub record Source (p : Setting) (memory : Words → Memory) (after : Words) (place count : ℕ) (from : Block) (start i : ℕ) (before : Words) : Type 0 where
@@ -33,12 +37,16 @@ pub record Source (p : Setting) (memory : Words → Memory) (after : Words) (pla
   pub reads : load (text_at (code_in p)) (memory before) from (start + 4 * i) ≡ Some word
 
 abbrev pub Sources : Setting → (Words → Memory) → Words → (place count : ℕ) → Block → (start : ℕ) → Type 0
-Sources p memory after place count from start = (i : ℕ) → i < count → (before : Words) → SameOutside before after (place + i) (place + count) → Source p memory after place count from start i before
+Sources p memory after place count from start = (i : ℕ) → i < count → (before : Words) → SameOutside before after
+    (place + i) (place + count) → Source p memory after place count from start i before
 
 module _ (p : Setting) (to : Block) (memory : Words → Memory) (holding : Holding p to memory) (from : Block) (after : Words) where
-  -- one word more is the same
-  pub nearer : (before : Words) (place n : ℕ) (v : Word) → length before ≡ length after → place < length after → slice_get after place ≡ Some (Some v) → SameOutside before after place (place + suc n) → SameOutside (spliced place (Some v ∷ []) before) after (suc place) (suc place + n)
-  nearer before place n v l within e same i (inr far) = spliced_behind place (Some v ∷ []) before i (omega (arith, far)) ∙ same i (inr (omega (arith, far)))
+  -- one more word is the same
+  pub nearer : (before : Words) (place n : ℕ) (v : Word) → length before ≡ length after → place < length after
+      → slice_get after place ≡ Some (Some v) → SameOutside before after place (place + suc n) → SameOutside
+      (spliced place (Some v ∷ []) before) after (suc place) (suc place + n)
+  nearer before place n v l within e same i (inr far) = spliced_behind place (Some v ∷ []) before i (omega (arith, far))
+      ∙ same i (inr (omega (arith, far)))
   nearer before place n v l within e same i (inl near) = go (slice_lt i place)
     where
       slice_lt : (i place : ℕ) → (i < place) ⊎ (place ≤ i)
@@ -60,8 +68,11 @@ module _ (p : Setting) (to : Block) (memory : Words → Memory) (holding : Holdi
           ∙ sym e ∙ ap (slice_get after) (sym here)
 
   -- the words of the stretch, one after another
-  pub copied_up : (n place o start : ℕ) (before : Words) → o ≡ 4 * place → length before ≡ length after → place + n ≤ length after → SameOutside before after place (place + n) → Sources p memory after place n from start → CopiedUp p (memory before) to o from start n (memory after)
-  copied_up zero place o start before e l within same sources = ap memory (same_words before after l (λ i. same i (go i place)))
+  pub copied_up : (n place o start : ℕ) (before : Words) → o ≡ 4 * place → length before ≡ length after → place
+      + n ≤ length after → SameOutside before after place (place + n) → Sources p memory after place n from start
+      → CopiedUp p (memory before) to o from start n (memory after)
+  copied_up zero place o start before e l within same sources = ap memory
+      (same_words before after l (λ i. same i (go i place)))
     where
       go : (i place : ℕ) → (i < place) ⊎ (place + 0 ≤ i)
       go i zero = inr (omega arith)
@@ -83,7 +94,9 @@ module _ (p : Setting) (to : Block) (memory : Words → Memory) (holding : Holdi
         memory next,
         ap (load (text_at (code_in p)) (memory before) from) (sym there) ∙ x.reads,
         ap (λ k. store (memory before) to k v) e ∙ holding.writes before place v (omega (arith, l, within)),
-        copied_up n (suc place) (o + 4) (start + 4) next (omega (arith, e)) (spliced_length place (Some v ∷ []) before ∙ l) (omega (arith, within)) (nearer before place n v l (omega (arith, within)) at same) further,
+        copied_up n (suc place) (o + 4) (start + 4) next (omega (arith, e))
+            (spliced_length place (Some v ∷ []) before ∙ l) (omega (arith, within))
+            (nearer before place n v l (omega (arith, within)) at same) further,
       )
     where
       left : {i : ℕ} → (i < place + 0) ⊎ (place + suc n ≤ i) → (i < place) ⊎ (place + suc n ≤ i)
@@ -95,7 +108,11 @@ module _ (p : Setting) (to : Block) (memory : Words → Memory) (holding : Holdi
           let one : suc place + i ≡ place + suc i = omega arith in
           let two : start + 4 + 4 * i ≡ start + 4 * suc i = omega arith in
           let y = sources (suc i) (omega (arith, low)) before' (λ j side. same' j (moved side)) in
-          record { word = y.word; target = ap (slice_get after) one ∙ y.target; reads = ap (load (text_at (code_in p)) (memory before') from) two ∙ y.reads }
+          record {
+            word = y.word;
+            target = ap (slice_get after) one ∙ y.target;
+            reads = ap (load (text_at (code_in p)) (memory before') from) two ∙ y.reads;
+          }
         where
           moved : {j : ℕ} → (j < place + suc i) ⊎ (place + suc n ≤ j) → (j < suc place + i) ⊎ (suc place + n ≤ j)
           moved (inl a) = inl (omega arith)
@@ -115,25 +132,29 @@ repeated_length (suc n) xs =
     let c : suc n * length xs ≡ length xs + n * length xs = omega arith in
     omega (arith, a, e, c)
 
--- behind the same words
-behind_same : (xs ys zs : Words) (i : ℕ) → ((j : ℕ) → i ≡ length xs + j → slice_get ys j ≡ slice_get zs j) → slice_get (xs ++ ys) i ≡ slice_get (xs ++ zs) i
+-- after the same words
+behind_same : (xs ys zs : Words) (i : ℕ) → ((j : ℕ) → i ≡ length xs + j → slice_get ys j ≡ slice_get zs j) → slice_get
+    (xs ++ ys) i ≡ slice_get (xs ++ zs) i
 behind_same [] ys zs i h = h i (omega arith)
 behind_same (x ∷ xs) ys zs zero h = refl
 behind_same (x ∷ xs) ys zs (suc i) h = behind_same xs ys zs i (λ j e. h j (omega (arith, e)))
 
 pub behind_words : (xs ys : Words) (i : ℕ) → slice_get (xs ++ ys) (length xs + i) ≡ slice_get ys i
 behind_words [] ys i = let e : 0 + i ≡ i = omega arith in ap (slice_get ys) e
-behind_words (x ∷ xs) ys i = let e : suc (length xs) + i ≡ suc (length xs + i) = omega arith in ap (slice_get (x ∷ (xs ++ ys))) e ∙ behind_words xs ys i
+behind_words (x ∷ xs) ys i = let e : suc (length xs) + i ≡ suc (length xs + i) = omega arith
+    in ap (slice_get (x ∷ (xs ++ ys))) e ∙ behind_words xs ys i
 
 -- once more makes no difference before the end
-once_more : (n : ℕ) (xs : Words) (i : ℕ) → i < n * length xs → slice_get (repeated n xs) i ≡ slice_get (repeated (suc n) xs) i
+once_more : (n : ℕ) (xs : Words) (i : ℕ) → i < n * length xs → slice_get (repeated n xs) i ≡ slice_get
+    (repeated (suc n) xs) i
 once_more zero xs i l = absurd (omega (arith, l))
 once_more (suc n) xs i l =
     let c : suc n * length xs ≡ length xs + n * length xs = omega arith in
     behind_same xs (repeated n xs) (repeated (suc n) xs) i (λ j e. once_more n xs j (omega (arith, l, c, e)))
 
--- each word stands again one stretch further on
-pub again : (n : ℕ) (xs : Words) (i : ℕ) → i < n * length xs → slice_get (repeated (suc n) xs) (length xs + i) ≡ slice_get (repeated (suc n) xs) i
+-- each word is again one stretch further on
+pub again : (n : ℕ) (xs : Words) (i : ℕ) → i < n * length xs → slice_get (repeated (suc n) xs) (length xs + i)
+    ≡ slice_get (repeated (suc n) xs) i
 again n xs i l = behind_words xs (repeated n xs) i ∙ once_more n xs i l
 
 -- words that were written

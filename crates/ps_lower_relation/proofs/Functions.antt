@@ -1,5 +1,7 @@
 -- What the instructions of the required functions give.
-use Rattle.std.proofs.Common.{◌≡◌, ℕ, zero, suc, ◌+◌, ◌-◌, ◌%◌, ◌<◌, ◌≤◌, ℤ, pos, negsuc, ◌+ℤ◌, ◌-ℤ◌, unsigned_abs, int_lt, Bool, true, false, ◌&&◌, ◌==◌, nat_lt, nat_le, if◌then◌else◌, IsTrue, refl, sym, ap, ◌∙◌, arith, lt-ltb, ltb-true, ltb-false, le-leb, leb-true}
+use Rattle.std.proofs.Common.{◌≡◌, ℕ, zero, suc, ◌+◌, ◌-◌, ◌%◌, ◌<◌, ◌≤◌, ℤ, pos, negsuc, ◌+ℤ◌, ◌-ℤ◌, unsigned_abs}
+use Rattle.std.proofs.Common.{int_lt, Bool, true, false, ◌&&◌, ◌==◌, nat_lt, nat_le, if◌then◌else◌, IsTrue, refl, sym}
+use Rattle.std.proofs.Common.{ap, ◌∙◌, arith, lt-ltb, ltb-true, ltb-false, le-leb, leb-true}
 use Rattle.std.specs.Prelude.{bit_and}
 use Rattle.std.proofs.lemmas.Grind.{and_numeral}
 use Rattle.tac_code.specs.declared.code.BitOperator.TheVariants.{And}
@@ -45,10 +47,14 @@ not_under m = go (nat_lt m 0) refl
     go false e = refl
 
 next_at_most : (n m : ℕ) → nat_le (n + 1) m ≡ nat_lt n m
-next_at_most n m = same_test (nat_le (n + 1) m) (nat_lt n m) (λ e. let l = leb-true (n + 1) m e in lt-ltb n m (omega arith)) (λ e. let l = ltb-true n m e in le-leb (n + 1) m (omega arith))
+next_at_most n m = same_test (nat_le (n + 1) m) (nat_lt n m)
+    (λ e. let l = leb-true (n + 1) m e in lt-ltb n m (omega arith))
+    (λ e. let l = ltb-true n m e in le-leb (n + 1) m (omega arith))
 
 at_most_next : (n m : ℕ) → nat_le n m ≡ nat_lt n (suc m)
-at_most_next n m = same_test (nat_le n m) (nat_lt n (suc m)) (λ e. let l = leb-true n m e in lt-ltb n (suc m) (omega arith)) (λ e. let l = ltb-true n (suc m) e in le-leb n m (omega arith))
+at_most_next n m = same_test (nat_le n m) (nat_lt n (suc m))
+    (λ e. let l = leb-true n m e in lt-ltb n (suc m) (omega arith))
+    (λ e. let l = ltb-true n (suc m) e in le-leb n m (omega arith))
 
 up_from_minus : (n : ℕ) → negsuc (suc n) +ℤ pos 1 ≡ negsuc n
 up_from_minus n =
@@ -84,19 +90,27 @@ succ_between (pos n) (pos m) h = next_at_most n m
 succ_between (pos n) (negsuc m) h = refl
 succ_between (negsuc zero) (pos m) h = le-leb 0 m (omega arith)
 succ_between (negsuc zero) (negsuc m) h = sym (not_under m)
-succ_between (negsuc (suc n)) (pos m) h = let l = ltb-true (suc n) 2147483648 h in ap (λ s. is_between least s (pos m)) (up_from_minus n) ∙ both_true (nat_le n 2147483647) true (le-leb n 2147483647 (omega arith))
-succ_between (negsuc (suc n)) (negsuc m) h = let l = ltb-true (suc n) 2147483648 h in ap (λ s. is_between least s (negsuc m)) (up_from_minus n) ∙ both_true (nat_le n 2147483647) (nat_le m n) (le-leb n 2147483647 (omega arith)) ∙ at_most_next m n
+succ_between (negsuc (suc n)) (pos m) h = let l = ltb-true (suc n) 2147483648 h in ap (λ s. is_between least s (pos m))
+    (up_from_minus n) ∙ both_true (nat_le n 2147483647) true (le-leb n 2147483647 (omega arith))
+succ_between (negsuc (suc n)) (negsuc m) h = let l = ltb-true (suc n) 2147483648 h
+    in ap (λ s. is_between least s (negsuc m)) (up_from_minus n) ∙ both_true (nat_le n 2147483647) (nat_le m n)
+    (le-leb n 2147483647 (omega arith)) ∙ at_most_next m n
 
 pub pred_between : (x low : ℤ) → IsTrue (is_integer x) → is_between low (x -ℤ pos 1) greatest ≡ int_lt low x
 pred_between (pos zero) (pos m) h = sym (not_under m)
 pred_between (pos zero) (negsuc m) h = true_second (nat_le 0 m) true refl ∙ le-leb 0 m (omega arith)
-pred_between (pos (suc n)) (pos m) h = let l = ltb-true (suc n) 2147483648 h in ap (λ s. is_between (pos m) s greatest) (down_from_plus n) ∙ true_second (nat_le m n) (nat_le n 2147483647) (le-leb n 2147483647 (omega arith)) ∙ at_most_next m n
-pred_between (pos (suc n)) (negsuc m) h = let l = ltb-true (suc n) 2147483648 h in ap (λ s. is_between (negsuc m) s greatest) (down_from_plus n) ∙ le-leb n 2147483647 (omega arith)
+pred_between (pos (suc n)) (pos m) h = let l = ltb-true (suc n) 2147483648 h in ap (λ s. is_between (pos m) s greatest)
+    (down_from_plus n) ∙ true_second (nat_le m n) (nat_le n 2147483647) (le-leb n 2147483647 (omega arith))
+    ∙ at_most_next m n
+pred_between (pos (suc n)) (negsuc m) h = let l = ltb-true (suc n) 2147483648 h
+    in ap (λ s. is_between (negsuc m) s greatest) (down_from_plus n) ∙ le-leb n 2147483647 (omega arith)
 pred_between (negsuc n) (pos m) h = refl
-pred_between (negsuc n) (negsuc m) h = ap (λ s. is_between (negsuc m) s greatest) (down_from_minus n) ∙ true_second (nat_le (suc n) m) true refl ∙ ap (λ i. nat_le i m) (let e : suc n ≡ n + 1 = omega arith in e) ∙ next_at_most n m
+pred_between (negsuc n) (negsuc m) h = ap (λ s. is_between (negsuc m) s greatest) (down_from_minus n) ∙ true_second
+    (nat_le (suc n) m) true refl ∙ ap (λ i. nat_le i m) (let e : suc n ≡ n + 1 = omega arith in e) ∙ next_at_most n m
 
 -- no number beyond the integers has a bound among them
-pub succ_beyond : (x high : ℤ) → IsTrue (is_integer x) → IsTrue (is_integer high) → is_integer (x +ℤ pos 1) ≡ false → int_lt x high ≡ false
+pub succ_beyond : (x high : ℤ) → IsTrue (is_integer x) → IsTrue (is_integer high) → is_integer (x +ℤ pos 1) ≡ false
+    → int_lt x high ≡ false
 succ_beyond (pos n) (pos m) h g e =
     let l = ltb-false (n + 1) 2147483648 e in
     let k = ltb-true m 2147483648 g in
@@ -112,7 +126,8 @@ succ_beyond (negsuc (suc n)) high h g e =
     let k = ltb-false n 2147483648 (sym (ap is_integer (up_from_minus n)) ∙ e) in
     absurd (omega (arith, l, k))
 
-pub pred_beyond : (x low : ℤ) → IsTrue (is_integer x) → IsTrue (is_integer low) → is_integer (x -ℤ pos 1) ≡ false → int_lt low x ≡ false
+pub pred_beyond : (x low : ℤ) → IsTrue (is_integer x) → IsTrue (is_integer low) → is_integer (x -ℤ pos 1) ≡ false
+    → int_lt low x ≡ false
 pred_beyond (pos zero) low h g e = absurd (cc)
 pred_beyond (pos (suc n)) low h g e =
     let l = ltb-true (suc n) 2147483648 h in

@@ -1,5 +1,8 @@
 -- The operators of the meaning and of the code give the same.
-use Rattle.std.proofs.Common.{◌≡◌, ℕ, zero, suc, ◌+◌, ◌-◌, ◌%◌, ◌<◌, ◌≤◌, ℤ, pos, negsuc, ◌+ℤ◌, ◌-ℤ◌, ◌*ℤ◌, int_lt, int_le, int_div, unsigned_abs, Bool, true, false, not, ◌&&◌, nat_lt, nat_le, if◌then◌else◌, IsTrue, refl, sym, ap, ◌∙◌, arith, lt-ltb, ltb-true, ltb-false, le-leb, leb-true}
+use Rattle.std.proofs.Common.{◌≡◌, ℕ, zero, suc, ◌+◌, ◌-◌, ◌%◌, ◌<◌, ◌≤◌, ℤ, pos, negsuc, ◌+ℤ◌, ◌-ℤ◌, ◌*ℤ◌, int_lt}
+use Rattle.std.proofs.Common.{int_le, int_div, unsigned_abs, Bool, true, false, not, ◌&&◌, nat_lt, nat_le}
+use Rattle.std.proofs.Common.{if◌then◌else◌, IsTrue, refl, sym, ap, ◌∙◌, arith, lt-ltb, ltb-true, ltb-false, le-leb}
+use Rattle.std.proofs.Common.{leb-true}
 use Rattle.std.specs.Int.{int_rem_euclid}
 use Rattle.ps_tree.specs.declared.tree.ArithmeticOperator.{ArithmeticOperator}
 use Rattle.ps_tree.specs.declared.tree.ArithmeticOperator.TheVariants.{Add, Subtract, Multiply, Div, Mod}
@@ -7,8 +10,10 @@ use Rattle.ps_tree.specs.declared.tree.Relation.{Relation as TreeRelation}
 use Rattle.ps_tree.specs.declared.tree.Relation.TheVariants as asked
 use Rattle.tac_code.specs.declared.code.Relation.{Relation}
 use Rattle.tac_code.specs.declared.code.Relation.TheVariants.{Equal, NotEqual, Less, LessEqual, Greater, GreaterEqual}
-use Rattle.tac_code.specs.Numbers.{is_integer, is_zero, same_number, compared, is_in_range, number_of, bits, within, computed, Computed as Given, Gives, Fails, truth as truth_word}
-use Rattle.ps_meaning.specs.Operators.{Computed, Result, Fault, is_equal, is_between, integer, modulo, compute, truth, is_true, holds}
+use Rattle.tac_code.specs.Numbers.{is_integer, is_zero, same_number, compared, is_in_range, number_of, bits, within}
+use Rattle.tac_code.specs.Numbers.{computed, Computed as Given, Gives, Fails, truth as truth_word}
+use Rattle.ps_meaning.specs.Operators.{Computed, Result, Fault, is_equal, is_between, integer, modulo, compute, truth}
+use Rattle.ps_meaning.specs.Operators.{is_true, holds}
 use Rattle.ps_tree.specs.declared.tree.Direction.{Direction}
 use Rattle.ps_tree.specs.declared.tree.Direction.TheVariants.{To, Downto}
 use Rattle.tac_code.specs.declared.code.BitOperator.TheVariants.{Plus}
@@ -33,13 +38,15 @@ pub so_is : {b : Bool} → b ≡ true → IsTrue b
 so_is e = e
 
 below_or : (n m : ℕ) → nat_le n m ≡ nat_lt n (suc m)
-below_or n m = same_test (nat_le n m) (nat_lt n (suc m)) (λ e. let l = leb-true n m e in lt-ltb n (suc m) (omega arith)) (λ e. let l = ltb-true n (suc m) e in le-leb n m (omega arith))
+below_or n m = same_test (nat_le n m) (nat_lt n (suc m)) (λ e. let l = leb-true n m e in lt-ltb n (suc m) (omega arith))
+    (λ e. let l = ltb-true n (suc m) e in le-leb n m (omega arith))
 
 not_below : (n m : ℕ) → nat_le n m ≡ not (nat_lt m n)
 not_below n m = go (nat_lt m n) refl
   where
     go : (b : Bool) → nat_lt m n ≡ b → nat_le n m ≡ not b
-    go true e = same_test (nat_le n m) false (λ f. let l = leb-true n m f in let h = ltb-true m n e in absurd (omega arith)) (λ f. absurd (cc))
+    go true e = same_test (nat_le n m) false (λ f. let l = leb-true n m f in let h = ltb-true m n e in absurd
+        (omega arith)) (λ f. absurd (cc))
     go false e = let h = ltb-false m n e in le-leb n m (omega arith)
 
 -- what is not above
@@ -50,7 +57,8 @@ at_most (negsuc a) (pos b) = refl
 at_most (negsuc a) (negsuc b) = not_below b a
 
 pub in_range : (low x high : ℤ) → is_in_range low high x ≡ is_between low x high
-in_range low x high = ap (λ b. b && not (int_lt high x)) (sym (at_most low x)) ∙ ap (λ b. int_le low x && b) (sym (at_most x high))
+in_range low x high = ap (λ b. b && not (int_lt high x)) (sym (at_most low x)) ∙ ap (λ b. int_le low x && b)
+    (sym (at_most x high))
 
 pub between_integers : (x : ℤ) → is_between least x greatest ≡ is_integer x
 between_integers (pos n) = below_or n 2147483647
@@ -121,8 +129,10 @@ within_same : (z : ℤ) → within 1 z ≡ as_given (integer z)
 within_same z = go (is_integer z) refl
   where
     go : (b : Bool) → is_integer z ≡ b → within 1 z ≡ as_given (integer z)
-    go true e = ap (λ b. if b then Gives z else Fails 1) e ∙ ap (λ b. as_given (if b then Result z else Fault 1)) (sym (between_integers z ∙ e))
-    go false e = ap (λ b. if b then Gives z else Fails 1) e ∙ ap (λ b. as_given (if b then Result z else Fault 1)) (sym (between_integers z ∙ e))
+    go true e = ap (λ b. if b then Gives z else Fails 1) e ∙ ap (λ b. as_given (if b then Result z else Fault 1))
+        (sym (between_integers z ∙ e))
+    go false e = ap (λ b. if b then Gives z else Fails 1) e ∙ ap (λ b. as_given (if b then Result z else Fault 1))
+        (sym (between_integers z ∙ e))
 
 choose_given : (b : Bool) (x y : Computed) → (if b then as_given x else as_given y) ≡ as_given (if b then x else y)
 choose_given true x y = refl
@@ -136,7 +146,8 @@ divides x y =
 
 remainder : (x y : ℤ) (n : ℕ) → y ≡ pos (suc n) → int_rem_euclid x y ≡ modulo x (unsigned_abs y)
 remainder (pos a) y n e = refl
-remainder (negsuc a) y n e = ap (λ z. int_rem_euclid (negsuc a) z) e ∙ ap pos (less (a % suc n)) ∙ ap (λ z. modulo (negsuc a) (unsigned_abs z)) (sym e)
+remainder (negsuc a) y n e = ap (λ z. int_rem_euclid (negsuc a) z) e ∙ ap pos (less (a % suc n))
+    ∙ ap (λ z. modulo (negsuc a) (unsigned_abs z)) (sym e)
   where
     less : (k : ℕ) → suc n - 1 - k ≡ suc n - suc k
     less k = omega arith
@@ -160,7 +171,8 @@ computes Mod x y = moduloes x y
 
 -- ---- the step of a `for`: the sum modulo 2 ^ 32
 
-signed : (m : ℕ) (z : ℤ) → (m < 2147483648 → z ≡ pos m) → (2147483648 ≤ m → z ≡ negsuc (4294967296 - suc m)) → number_of m ≡ z
+signed : (m : ℕ) (z : ℤ) → (m < 2147483648 → z ≡ pos m) → (2147483648 ≤ m → z ≡ negsuc (4294967296 - suc m))
+    → number_of m ≡ z
 signed m z f g = go (nat_lt m 2147483648) refl
   where
     go : (b : Bool) → nat_lt m 2147483648 ≡ b → number_of m ≡ z
@@ -170,7 +182,8 @@ signed m z f g = go (nat_lt m 2147483648) refl
 step_up : (x : ℤ) → IsTrue (is_integer x) → bits Plus x (pos 1) ≡ succeeding To x
 step_up (pos n) h = go (nat_lt n 2147483647) refl
   where
-    go : (b : Bool) → nat_lt n 2147483647 ≡ b → bits Plus (pos n) (pos 1) ≡ (if b then pos n +ℤ pos 1 else negsuc 2147483647)
+    go : (b : Bool) → nat_lt n 2147483647 ≡ b → bits Plus (pos n) (pos 1)
+        ≡ (if b then pos n +ℤ pos 1 else negsuc 2147483647)
     go true e =
         let l = ltb-true n 2147483647 e in
         let m : (n + 1) % 4294967296 ≡ n + 1 = omega (arith, l) in
@@ -187,7 +200,8 @@ step_up (negsuc (suc n)) h =
     let back : 4294967296 - suc (4294967296 - suc n) ≡ n = omega (arith, l) in
     let less : nat_lt 1 (suc (suc n)) ≡ true = lt-ltb 1 (suc (suc n)) (omega arith) in
     let plain : suc (suc n) - suc 1 ≡ n = omega arith in
-    ap number_of m ∙ signed (4294967296 - suc n) (negsuc n) (λ q. absurd (omega (arith, l, q))) (λ q. ap negsuc (sym back))
+    ap number_of m ∙ signed (4294967296 - suc n) (negsuc n) (λ q. absurd (omega (arith, l, q)))
+    (λ q. ap negsuc (sym back))
     ∙ sym (ap (λ b. if b then negsuc (suc (suc n) - suc 1) else pos (1 - suc (suc n))) less ∙ ap negsuc plain)
 
 step_down : (x : ℤ) → IsTrue (is_integer x) → bits Plus x (negsuc 0) ≡ succeeding Downto x
@@ -208,19 +222,22 @@ step_down (negsuc n) h = go (nat_lt n 2147483647) refl
     low : n < 2147483648
     low = ltb-true n 2147483648 h
 
-    go : (b : Bool) → nat_lt n 2147483647 ≡ b → bits Plus (negsuc n) (negsuc 0) ≡ (if b then negsuc n -ℤ pos 1 else pos 2147483647)
+    go : (b : Bool) → nat_lt n 2147483647 ≡ b → bits Plus (negsuc n) (negsuc 0)
+        ≡ (if b then negsuc n -ℤ pos 1 else pos 2147483647)
     go true e =
         let l = ltb-true n 2147483647 e in
         let m : (4294967296 - suc n + 4294967295) % 4294967296 ≡ 4294967296 - suc (suc n) = omega (arith, l) in
         let back : 4294967296 - suc (4294967296 - suc (suc n)) ≡ suc n = omega (arith, l) in
         let z : n + 0 ≡ n = omega arith in
-        ap number_of m ∙ signed (4294967296 - suc (suc n)) (negsuc (suc n)) (λ q. absurd (omega (arith, l, q))) (λ q. ap negsuc (sym back)) ∙ ap (λ y. negsuc (suc y)) (sym z)
+        ap number_of m ∙ signed (4294967296 - suc (suc n)) (negsuc (suc n)) (λ q. absurd (omega (arith, l, q)))
+        (λ q. ap negsuc (sym back)) ∙ ap (λ y. negsuc (suc y)) (sym z)
     go false e =
         let g = ltb-false n 2147483647 e in
         let m : (4294967296 - suc n + 4294967295) % 4294967296 ≡ 2147483647 = omega (arith, low, g) in
         ap number_of m
 
-pub steps_on : (direction : Direction) (x : ℤ) → IsTrue (is_integer x) → bits Plus x (step_number direction) ≡ succeeding direction x
+pub steps_on : (direction : Direction) (x : ℤ) → IsTrue (is_integer x) → bits Plus x (step_number direction)
+    ≡ succeeding direction x
 steps_on To x h = step_up x h
 steps_on Downto x h = step_down x h
 
@@ -234,7 +251,8 @@ up_integer (negsuc zero) h = refl
 up_integer (negsuc (suc n)) h =
     let l = ltb-true (suc n) 2147483648 h in
     let less : nat_lt 1 (suc (suc n)) ≡ true = lt-ltb 1 (suc (suc n)) (omega arith) in
-    ap (λ b. is_integer (if b then negsuc (suc (suc n) - suc 1) else pos (1 - suc (suc n)))) less ∙ lt-ltb (suc (suc n) - suc 1) 2147483648 (omega (arith, l))
+    ap (λ b. is_integer (if b then negsuc (suc (suc n) - suc 1) else pos (1 - suc (suc n)))) less ∙ lt-ltb
+    (suc (suc n) - suc 1) 2147483648 (omega (arith, l))
 
 down_integer : (x : ℤ) → IsTrue (is_integer x) → IsTrue (is_integer (succeeding Downto x))
 down_integer (pos zero) h = refl
@@ -242,7 +260,8 @@ down_integer (pos (suc n)) h =
     let l = ltb-true (suc n) 2147483648 h in
     go (nat_lt (suc n) 1) refl
   where
-    go : (b : Bool) → nat_lt (suc n) 1 ≡ b → IsTrue (is_integer (if b then negsuc (1 - suc (suc n)) else pos (suc n - 1)))
+    go : (b : Bool) → nat_lt (suc n) 1 ≡ b → IsTrue
+        (is_integer (if b then negsuc (1 - suc (suc n)) else pos (suc n - 1)))
     go true e = let q = ltb-true (suc n) 1 e in absurd (omega arith)
     go false e = let l = ltb-true (suc n) 2147483648 h in lt-ltb (suc n - 1) 2147483648 (omega (arith, l))
 down_integer (negsuc n) h = go (nat_lt n 2147483647) refl
@@ -251,6 +270,7 @@ down_integer (negsuc n) h = go (nat_lt n 2147483647) refl
     go true e = let l = ltb-true n 2147483647 e in lt-ltb (suc (n + 0)) 2147483648 (omega (arith, l))
     go false e = refl
 
-pub succeeding_integer : (direction : Direction) (x : ℤ) → IsTrue (is_integer x) → IsTrue (is_integer (succeeding direction x))
+pub succeeding_integer : (direction : Direction) (x : ℤ) → IsTrue (is_integer x) → IsTrue
+    (is_integer (succeeding direction x))
 succeeding_integer To x h = up_integer x h
 succeeding_integer Downto x h = down_integer x h

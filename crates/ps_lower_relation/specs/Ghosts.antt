@@ -1,5 +1,6 @@
--- What stands behind the machine's memory: for each open activation the names of its variables, and what its words are.
-use Rattle.std.specs.Prelude.{◌≡◌, ℕ, suc, ◌+◌, ◌*◌, ◌<◌, ◌≤◌, ℤ, pos, negsuc, Bool, true, false, ◌&&◌, nat_eq, if◌then◌else◌, List, [], ◌∷◌, length, drop, replicate, slice_get, Option, Some, None}
+-- What the machine's memory represents: for each open activation the names of its variables, and what its words are.
+use Rattle.std.specs.Prelude.{◌≡◌, ℕ, suc, ◌+◌, ◌*◌, ◌<◌, ◌≤◌, ℤ, pos, negsuc, Bool, true, false, ◌&&◌, nat_eq}
+use Rattle.std.specs.Prelude.{if◌then◌else◌, List, [], ◌∷◌, length, drop, replicate, slice_get, Option, Some, None}
 use Rattle.std.specs.List.{All}
 use Rattle.ps_tree.specs.Tree.{Program, routine_at, domain_at}
 use Rattle.tac_code.specs.declared.code.Block.{Block}
@@ -15,11 +16,12 @@ use Rattle.tac_code_steps.specs.Splices.{Piece, placed}
 use Rattle.ps_lower_layout.specs.Shapes.{Shape, shape_of, Part, Whole}
 use Rattle.ps_lower_layout.specs.Words.{value_words}
 use Rattle.ps_lower_layout.specs.Paths.{PathIn, HasShape}
-use Rattle.ps_lower_layout.specs.Frames.{Kind, Own, Reference, Closure, Kinds, kinds_of, result_shape, entries, Layout, layout_of, is_program_block}
+use Rattle.ps_lower_layout.specs.Frames.{Kind, Own, Reference, Closure, Kinds, kinds_of, result_shape, entries, Layout}
+use Rattle.ps_lower_layout.specs.Frames.{layout_of, is_program_block}
 use Rattle.ps_lower_code.specs.Fits.{tail}
 
--- an entry of a frame: a variable of its own, under its name; the address of another; a routine, with the address of the frame
--- that it was declared in
+-- an entry of a frame: a variable of its own, under its name; the address of another; a routine, with the address of
+-- the frame that it was declared in
 pub data Slot : Type 0 where
   OwnSlot : Shape → (name : ℕ) → Slot
   ReferenceSlot : Shape → Block → (offset : ℕ) → Slot
@@ -47,7 +49,7 @@ slot_words store (OwnSlot shape n) = value_words shape (store n)
 slot_words store (ReferenceSlot shape b o) = Some (Address b o) ∷ []
 slot_words store (ClosureSlot kinds result r w) = Some (RoutineWord r) ∷ Some w ∷ []
 
--- ---- the input: what was taken ahead of the program's own taking
+-- ---- the input: what was taken ahead of the program itself
 
 -- -2 where nothing was, -1 where the end was, else the byte
 abbrev pub first_or_end : List ℕ → ℤ
@@ -65,11 +67,15 @@ abbrev pub input_words : Input → Words
 input_words i = Some (Number (ahead i)) ∷ Some (Number (begun i)) ∷ []
 
 abbrev pub tape_of : Input → (transcript : List ℕ) → Tape
-tape_of i transcript = record { input = if i.looked then drop 1 i.left else i.left; ended = i.looked && is_empty i.left; transcript = transcript }
+tape_of i transcript = record {
+  input = if i.looked then drop 1 i.left else i.left;
+  ended = i.looked && is_empty i.left;
+  transcript = transcript;
+}
 
 -- ---- the machine's memory is a function of the ghosts and of the world
 
--- The program block's frame has the words of the input in place of a static link.
+-- The program block's frame has the words of the input instead of a static link.
 abbrev pub first_piece : Layout → (is_program : Bool) → Input → Word → Piece
 first_piece layout true input link = record { place = layout.input; words = input_words input }
 first_piece layout false input link = record { place = layout.link; words = Some link ∷ [] }
@@ -77,7 +83,10 @@ first_piece layout false input link = record { place = layout.link; words = Some
 abbrev pub entry_pieces : (ℕ → Value) → (places : List ℕ) → List Slot → List Piece
 entry_pieces store [] xs = []
 entry_pieces store (k ∷ places) [] = []
-entry_pieces store (k ∷ places) (x ∷ xs) = record { place = k; words = slot_words store x } ∷ entry_pieces store places xs
+entry_pieces store (k ∷ places) (x ∷ xs) = record {
+  place = k;
+  words = slot_words store x;
+} ∷ entry_pieces store places xs
 
 module _ (program : Program) where
   abbrev pub layout_at : ℕ → Layout
@@ -106,19 +115,19 @@ found (g ∷ gs) a = if nat_eq g.number a then Some g else found gs a
 
 -- ---- what holds between the two
 
--- own names follow one another from m up to n
+-- own names are numbered consecutively from m up to n
 abbrev pub SlotsFrom : List Slot → ℕ → ℕ → Type 0
 SlotsFrom [] m n = m ≡ n
 SlotsFrom (OwnSlot shape k ∷ xs) m n = (k ≡ m) × SlotsFrom xs (suc m) n
 SlotsFrom (ReferenceSlot shape b o ∷ xs) m n = SlotsFrom xs m n
 SlotsFrom (ClosureSlot kinds result r w ∷ xs) m n = SlotsFrom xs m n
 
--- names that an outer activation declared lie below
+-- names that an outer activation declared are below
 abbrev pub Names : List Ghost → ℕ → Type 0
 Names [] next = Unit {0}
 Names (g ∷ gs) next = (n : ℕ) × SlotsFrom g.slots g.base n × (n ≤ next) × Names gs g.base
 
--- activations are numbered upwards
+-- activations are numbered in ascending order
 abbrev pub Numbered : List Ghost → ℕ → Type 0
 Numbered [] count = Unit {0}
 Numbered (g ∷ gs) count = (g.number < count) × Numbered gs g.number
@@ -133,7 +142,7 @@ SlotsFit made store [] = Unit {0}
 SlotsFit made store (x ∷ xs) = SlotFits made store x × SlotsFit made store xs
 
 module _ (program : Program) where
-  -- the first activation alone is of the program block
+  -- only the first activation is of the program block
   abbrev pub OnlyFirst : List Ghost → Type 0
   OnlyFirst [] = Unit {0}
   OnlyFirst (g ∷ gs) = (is_program_block (routine_at program g.routine).chain ≡ true → g.number ≡ 0) × OnlyFirst gs
@@ -141,7 +150,8 @@ module _ (program : Program) where
   -- each ghost has the entries of its routine, with values of their shapes
   abbrev pub GhostsFit : (made : List ℕ) → (ℕ → Value) → List Ghost → Type 0
   GhostsFit made store [] = Unit {0}
-  GhostsFit made store (g ∷ gs) = (slot_kinds g.slots ≡ entries (routine_at program g.routine)) × SlotsFit made store g.slots × GhostsFit made store gs
+  GhostsFit made store (g ∷ gs) = (slot_kinds g.slots ≡ entries (routine_at program g.routine))
+      × SlotsFit made store g.slots × GhostsFit made store gs
 
   abbrev pub ObjectsFit : (all made : List ℕ) → List Value → Type 0
   ObjectsFit all [] [] = Unit {0}
@@ -150,7 +160,7 @@ module _ (program : Program) where
   ObjectsFit all (t ∷ made) (v ∷ vs) = HasShape all v (shape_of (domain_at program t)) × ObjectsFit all made vs
 
   module _ (gs : List Ghost) (made : List ℕ) where
-    -- a part of a variable that an activation declared: so many bytes into its frame
+    -- a part of a variable that an activation declared, o bytes into its frame
     pub record DeclaredAt (name : ℕ) (path : List ℕ) (b : Block) (o : ℕ) (part : Part) : Type 0 where
       pub ghost : Ghost
       pub index : ℕ
@@ -175,7 +185,7 @@ module _ (program : Program) where
     RootAt (Declared name) path b o part = DeclaredAt name path b o part
     RootAt (Made object) path b o part = ObjectAt object path b o part
 
-    -- the spot stands at this address, and is such a part
+    -- the spot is at this address, and is such a part
     abbrev pub PlaceAt : Spot → Block → ℕ → Part → Type 0
     PlaceAt s b o part = RootAt s.root s.path b o part
 
@@ -199,7 +209,7 @@ module _ (program : Program) where
       pub same_result : result_shape (routine_at program r).result ≡ result
 
     abbrev mutual
-      -- the environment's innermost frame stands at w, and these are the routines of its frames
+      -- the environment's innermost frame is at w, and these are the routines of its frames
       pub EnvAt : Env → Word → List ℕ → Type 0
       EnvAt Outside w [] = Unit {0}
       EnvAt Outside w (r ∷ chain) = ⊥
@@ -216,7 +226,8 @@ module _ (program : Program) where
       FrameAt (routine_before r e f) [] = ⊥
       FrameAt (routine_before r e f) (OwnSlot shape n ∷ xs) = ⊥
       FrameAt (routine_before r e f) (ReferenceSlot shape b o ∷ xs) = ⊥
-      FrameAt (routine_before r e f) (ClosureSlot kinds result r' w ∷ xs) = (r ≡ r') × RoutineHere kinds result r × EnvAt e w (tail (routine_at program r).chain) × FrameAt f xs
+      FrameAt (routine_before r e f) (ClosureSlot kinds result r' w ∷ xs) = (r ≡ r') × RoutineHere kinds result r
+          × EnvAt e w (tail (routine_at program r).chain) × FrameAt f xs
 
   -- the world and the ghosts agree
   pub record Holds (gs : List Ghost) (w : World) (count : ℕ) : Type 0 where

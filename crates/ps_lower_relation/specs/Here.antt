@@ -1,5 +1,6 @@
 -- One activation that runs: what is fixed while it does, what changes, and the machine's state for both.
-use Rattle.std.specs.Prelude.{◌≡◌, ℕ, ◌+◌, ◌*◌, ◌/◌, ◌<◌, List, [], ◌∷◌, ◌++◌, length, slice_get, get_or, Option, Some, sum_by}
+use Rattle.std.specs.Prelude.{◌≡◌, ℕ, ◌+◌, ◌*◌, ◌/◌, ◌<◌, List, [], ◌∷◌, ◌++◌, length, slice_get, get_or, Option, Some}
+use Rattle.std.specs.Prelude.{sum_by}
 use Rattle.ps_tree.specs.Tree.{Program, routine_at, domain_at}
 use Rattle.tac_code.specs.declared.code.Block.{Block}
 use Rattle.tac_code.specs.declared.code.Block.TheVariants.{Frame as FrameBlock, Scratch as ScratchBlock}
@@ -24,7 +25,7 @@ use Rattle.ps_lower_code.specs.Routines.{routine_code}
 use Rattle.ps_lower_code.specs.Programs.{scratch_in, code_of}
 use Rattle.ps_lower_relation.specs.Ghosts.{Ghost, frames_of, objects_of, tape_of, PlaceAt, EnvAt, Holds, OnlyFirst}
 
--- a program with its run-time routines, what it costs and what it may
+-- a program with its run-time routines, what it costs and what it may use
 pub record Setting : Type 0 where
   pub program : Program
   pub run_time : List TacRoutine
@@ -40,16 +41,22 @@ abbrev pub code_in : Setting → Code
 code_in p = code_of p.run_time p.program
 
 abbrev pub machine_of : Setting → Machine
-machine_of p = record { code = code_in p; frames = λ r. get_or p.frames r 0; objects = λ t. get_or p.objects t 0; stack = p.stack; heap = p.heap }
+machine_of p = record {
+  code = code_in p;
+  frames = λ r. get_or p.frames r 0;
+  objects = λ t. get_or p.objects t 0;
+  stack = p.stack;
+  heap = p.heap;
+}
 
--- what changes: how many activations there have been, the temporaries, and the words of the scratch block
+-- what changes: the number of activations so far, the temporaries, and the words of the scratch block
 pub record Work : Type 0 where
   pub count : ℕ
   pub temporaries : Temporaries
   pub scratch : Words
 
--- An activation: its routine, and those round it; the meaning's environment, open routines and open calls; the ghosts, of which
--- its own is the first; its number, and where its caller waits; the callers, and their scratch blocks.
+-- An activation: its routine, and those enclosing it; the meaning's environment, open routines and open calls; the
+-- ghosts, the first of which is its own; its number, and where its caller waits; the callers, and their scratch blocks.
 pub record Activated : Type 0 where
   pub routine : ℕ
   pub outer : List ℕ
@@ -70,14 +77,28 @@ abbrev pub context : Activated → List Spot → Context
 context c opened = record { env = c.env; opened = opened; active = c.active; calls = c.calls }
 
 abbrev pub activation : Activated → (place : ℕ) → Temporaries → Activation
-activation c pc t = record { routine = c.routine; place = pc; number = c.number; temporaries = t; result = c.result; line = c.line }
+activation c pc t = record {
+  routine = c.routine;
+  place = pc;
+  number = c.number;
+  temporaries = t;
+  result = c.result;
+  line = c.line;
+}
 
 abbrev pub state : Setting → Activated → World → Work → (place : ℕ) → State
 state p c w k pc =
     record {
       current = activation c pc k.temporaries;
       callers = c.callers;
-      memory = record { frames = frames_of p.program w c.ghosts; scratch = record { number = c.number; words = k.scratch } ∷ c.waiting; objects = objects_of p.program w.made w.objects };
+      memory = record {
+        frames = frames_of p.program w c.ghosts;
+        scratch = record {
+          number = c.number;
+          words = k.scratch;
+        } ∷ c.waiting;
+        objects = objects_of p.program w.made w.objects;
+      };
       count = k.count;
       heap = sum_by (λ t. get_or p.objects t 0) w.made;
       tape = tape_of w.input w.transcript;
@@ -94,24 +115,26 @@ pub record AreSmall (program : Program) : Type 0 where
   pub objects : (t : ℕ) → byte_count (shape_of (domain_at program t)) < 2147483648
   pub scratch : (r : ℕ) → scratch_in (routine_code program (routine_at program r)) < 2147483648
 
--- what is fixed of an activation that runs
+-- what is fixed for a running activation
 pub record IsActive (p : Setting) (c : Activated) : Type 0 where
   pub small : AreSmall p.program
   pub within : c.routine < length p.program.routines
   pub chain : (routine_at p.program c.routine).chain ≡ chain_of c
   -- the costs of the open frames, and the lines of the open calls
-  pub spent : (pc : ℕ) (t : Temporaries) → open_bytes (code_in p) (λ r. get_or p.frames r 0) (activation c pc t ∷ c.callers) ≡ sum_by (λ r. get_or p.frames r 0) c.active
-  pub told : (pc : ℕ) (t : Temporaries) → open_calls (length (code_in p).program) (activation c pc t) c.callers ≡ c.calls
+  pub spent : (pc : ℕ) (t : Temporaries) → open_bytes (code_in p) (λ r. get_or p.frames r 0)
+      (activation c pc t ∷ c.callers) ≡ sum_by (λ r. get_or p.frames r 0) c.active
+  pub told : (pc : ℕ) (t : Temporaries) → open_calls (length (code_in p).program) (activation c pc t) c.callers
+      ≡ c.calls
   pub below : Below c.number c.waiting
   pub only : OnlyFirst p.program c.ghosts
 
--- what holds of it at each place: the objects that its environment may speak of are more and more
+-- what holds for it at each place: the set of objects that its environment may refer to only grows
 pub record Alive (p : Setting) (c : Activated) (w : World) (k : Work) : Type 0 where
   pub holds : Holds p.program c.ghosts w k.count
   pub stands : EnvAt p.program c.ghosts w.made c.env (Address (FrameBlock c.number) 0) (chain_of c)
   pub room : length k.scratch ≡ scratch_in (routine_code p.program (routine_at p.program c.routine)) / 4
 
--- ---- facts that stand in temporaries
+-- ---- facts about temporaries
 
 -- what a base is for an activation
 abbrev pub base_at : (number : ℕ) → Temporaries → Base → Option Word
@@ -132,9 +155,11 @@ pub record SiteAt (p : Setting) (c : Activated) (made : List ℕ) (t : Temporari
   pub place : PlaceAt p.program c.ghosts made s block (offset + site.offset) part
 
 -- the records that `with` opened, at sites in temporaries below d
-abbrev pub OpenedAt : Setting → Activated → (made : List ℕ) → Temporaries → (d : ℕ) → List Site → List Spot → List Shape → Type 0
+abbrev pub OpenedAt : Setting → Activated → (made : List ℕ) → Temporaries → (d : ℕ) → List Site → List Spot → List Shape
+    → Type 0
 OpenedAt p c made t d [] [] [] = Unit {0}
-OpenedAt p c made t d (x ∷ xs) (s ∷ ss) (h ∷ hs) = SiteAt p c made t x s (Whole h) × IsBelow d x.base × OpenedAt p c made t d xs ss hs
+OpenedAt p c made t d (x ∷ xs) (s ∷ ss) (h ∷ hs) = SiteAt p c made t x s (Whole h) × IsBelow d x.base
+    × OpenedAt p c made t d xs ss hs
 OpenedAt p c made t d xs ss hs = ⊥
 
 abbrev pub word_of : Sort → Value → Word

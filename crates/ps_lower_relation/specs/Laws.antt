@@ -7,4 +7,5 @@ use Rattle.ps_lower_relation.specs.Spans.{SpanIn}
 
 -- each part of a variable is a stretch of its words
 abbrev pub PartsAreSpans : Type 0
-PartsAreSpans = (made : List ℕ) (v : Value) (path : List ℕ) (outer inner : Shape) (j : ℕ) → HasShape made v outer → PathIn path outer (Whole inner) j → SpanIn made v path outer inner j
+PartsAreSpans = (made : List ℕ) (v : Value) (path : List ℕ) (outer inner : Shape) (j : ℕ) → HasShape made v outer
+    → PathIn path outer (Whole inner) j → SpanIn made v path outer inner j

@@ -1,5 +1,6 @@
--- What the lowering asks of the run-time routines.
-use Rattle.std.specs.Prelude.{◌≡◌, ◌==◌, ◌-ℤ◌, if◌then◌else◌, ℕ, zero, suc, ◌+◌, ◌*◌, ◌<◌, ◌%◌, ℤ, pos, unsigned_abs, IsTrue, List, [], ◌∷◌, length, slice_get, Some, ◌/◌, int_lt, Bool, true}
+-- What the lowering requires of the run-time routines.
+use Rattle.std.specs.Prelude.{◌≡◌, ◌==◌, ◌-ℤ◌, if◌then◌else◌, ℕ, zero, suc, ◌+◌, ◌*◌, ◌<◌, ◌%◌, ℤ, pos, unsigned_abs}
+use Rattle.std.specs.Prelude.{IsTrue, List, [], ◌∷◌, length, slice_get, Some, ◌/◌, int_lt, Bool, true}
 use Rattle.std.specs.List.{All}
 use Rattle.tac_code.specs.declared.code.Block.{Block}
 use Rattle.tac_code.specs.declared.code.Value.{Value as Word}
@@ -19,68 +20,115 @@ use Rattle.ps_lower_relation.specs.Sets.{set_number, bit_operator_of}
 use Rattle.ps_lower_relation.specs.Here.{Setting, machine_of, code_in}
 use Rattle.ps_lower_relation.specs.Reading.{ReadsDo}
 
--- the bytes of a string stand at an address
+-- the bytes of a string are at an address
 abbrev pub BytesAt : Setting → Memory → Block → ℕ → List ℕ → Type 0
-BytesAt p m b o text = (i byte : ℕ) → slice_get text i ≡ Some byte → load_byte (text_at (code_in p)) m b (o + i) ≡ Some byte
+BytesAt p m b o text = (i byte : ℕ) → slice_get text i ≡ Some byte → load_byte (text_at (code_in p)) m b (o + i)
+    ≡ Some byte
 
--- so many words go from one place to another, one after the other: each is read where those before it may have been written already
-abbrev pub CopiedUp : Setting → (before : Memory) → (to : Block) (place : ℕ) → (from : Block) (start : ℕ) → (count : ℕ) → (memory : Memory) → Type 0
+-- `count` words are copied from one place to another, one after the other: each is read when those before it may have
+-- been written already
+abbrev pub CopiedUp : Setting → (before : Memory) → (to : Block) (place : ℕ) → (from : Block) (start : ℕ) → (count : ℕ)
+    → (memory : Memory) → Type 0
 CopiedUp p before to place from start zero memory = before ≡ memory
 CopiedUp p before to place from start (suc n) memory =
-    (v : Word) × (middle : Memory) × (load (text_at (code_in p)) before from start ≡ Some v) × (store before to place v ≡ Some middle) × CopiedUp p middle to (place + 4) from (start + 4) n memory
+    (v : Word) × (middle : Memory) × (load (text_at (code_in p)) before from start ≡ Some v)
+    × (store before to place v ≡ Some middle) × CopiedUp p middle to (place + 4) from (start + 4) n memory
 
--- words that hold bytes go to bytes, one after the other: each is read where those before it may have been written already
-abbrev pub PackedUp : Setting → (before : Memory) → (to : Block) (place : ℕ) → (from : Block) (start : ℕ) → List ℕ → (after : Memory) → Type 0
+-- words that hold bytes are packed to bytes, one after the other: each is read when those before it may have been
+-- written already
+abbrev pub PackedUp : Setting → (before : Memory) → (to : Block) (place : ℕ) → (from : Block) (start : ℕ) → List ℕ
+    → (after : Memory) → Type 0
 PackedUp p before to place from start [] after = before ≡ after
 PackedUp p before to place from start (b ∷ bytes) after =
-    (middle : Memory) × (load (text_at (code_in p)) before from start ≡ Some (Number (pos b))) × (b < 256) × (store_byte before to place b ≡ Some middle) × PackedUp p middle to (place + 1) from (start + 4) bytes after
+    (middle : Memory) × (load (text_at (code_in p)) before from start ≡ Some (Number (pos b))) × (b < 256)
+    × (store_byte before to place b ≡ Some middle) × PackedUp p middle to (place + 1) from (start + 4) bytes after
 
--- bytes go to words, one after the other: each is read where those before it may have been written already
-abbrev pub UnpackedUp : Setting → (before : Memory) → (to : Block) (place : ℕ) → (from : Block) (start : ℕ) → List ℕ → (after : Memory) → Type 0
+-- bytes are unpacked to words, one after the other: each is read when those before it may have been written already
+abbrev pub UnpackedUp : Setting → (before : Memory) → (to : Block) (place : ℕ) → (from : Block) (start : ℕ) → List ℕ
+    → (after : Memory) → Type 0
 UnpackedUp p before to place from start [] after = before ≡ after
 UnpackedUp p before to place from start (b ∷ bytes) after =
-    (middle : Memory) × (load_byte (text_at (code_in p)) before from start ≡ Some b) × (store before to place (Number (pos b)) ≡ Some middle) × UnpackedUp p middle to (place + 4) from (start + 1) bytes after
+    (middle : Memory) × (load_byte (text_at (code_in p)) before from start ≡ Some b)
+    × (store before to place (Number (pos b)) ≡ Some middle) × UnpackedUp p middle to (place + 4) from
+    (start + 1) bytes after
 
--- so many words of one stretch are joined with those of another, one after the other
-abbrev pub JoinedUp : Setting → BitOperator → (before : Memory) → (to : Block) (place : ℕ) → (from : Block) (start : ℕ) → (count : ℕ) → (after : Memory) → Type 0
+-- `count` words of one stretch are combined with those of another, one after the other
+abbrev pub JoinedUp : Setting → BitOperator → (before : Memory) → (to : Block) (place : ℕ) → (from : Block) (start : ℕ)
+    → (count : ℕ) → (after : Memory) → Type 0
 JoinedUp p operator before to place from start zero after = before ≡ after
 JoinedUp p operator before to place from start (suc n) after =
-    (x : ℤ) × (y : ℤ) × (middle : Memory) × (load (text_at (code_in p)) before to place ≡ Some (Number x)) × (load (text_at (code_in p)) before from start ≡ Some (Number y)) × (store before to place (Number (bits operator x y)) ≡ Some middle) × JoinedUp p operator middle to (place + 4) from (start + 4) n after
+    (x : ℤ) × (y : ℤ) × (middle : Memory) × (load (text_at (code_in p)) before to place ≡ Some (Number x))
+    × (load (text_at (code_in p)) before from start ≡ Some (Number y))
+    × (store before to place (Number (bits operator x y)) ≡ Some middle) × JoinedUp p operator middle to
+    (place + 4) from (start + 4) n after
 
--- so many members from n on are added, one after the other: each is a bit of the word where it stands
+-- `count` members from n on are added, one after the other: each is a bit of its word
 abbrev pub AddedUp : Setting → (before : Memory) → Block → (offset : ℕ) → (n count : ℕ) → (after : Memory) → Type 0
 AddedUp p before b o n zero after = before ≡ after
 AddedUp p before b o n (suc count) after =
-    (x : ℤ) × (middle : Memory) × (load (text_at (code_in p)) before b (o + 4 * (n / 32)) ≡ Some (Number x)) × (store before b (o + 4 * (n / 32)) (Number (bits Or x (bits ShiftLeft (pos 1) (pos n)))) ≡ Some middle) × AddedUp p middle b o (suc n) count after
+    (x : ℤ) × (middle : Memory) × (load (text_at (code_in p)) before b (o + 4 * (n / 32)) ≡ Some (Number x))
+    × (store before b (o + 4 * (n / 32)) (Number (bits Or x (bits ShiftLeft (pos 1) (pos n)))) ≡ Some middle)
+    × AddedUp p middle b o (suc n) count after
 
--- the eight words of a set stand at an address
+-- the eight words of a set are at an address
 abbrev pub SetAt : Setting → Memory → Block → ℕ → (ℕ → Bool) → Type 0
 SetAt p m b o s = (q : ℕ) → q < 8 → load (text_at (code_in p)) m b (o + 4 * q) ≡ Some (Number (set_number s q))
 
--- sets: members from one to another are added, of which there are none where the first is above the last; two sets are joined; whether one
--- is included in another, and whether an integer is a member
+-- sets: the members from one to another are added, of which there are none where the first is above the last; two sets
+-- are combined; whether one is included in another, and whether an integer is a member
 pub record SetsDo (p : Setting) : Type 0 where
-  pub nothing : (x y : ℤ) (b : Block) (o : ℕ) (memory : Memory) (tape : Tape) → int_lt y x ≡ true → Does (machine_of p) 1 (Address b o ∷ Number x ∷ Number y ∷ []) memory tape (Number (pos 0)) memory tape
-  pub added : (n count : ℕ) (b : Block) (o : ℕ) (before after : Memory) (tape : Tape) → n + count < 256 → AddedUp p before b o n (suc count) after → o + 32 < 2147483648 → Does (machine_of p) 1 (Address b o ∷ Number (pos n) ∷ Number (pos (n + count)) ∷ []) before tape (Number (pos 0)) after tape
-  pub joined : (operator : SetOperator) (to : Block) (place : ℕ) (from : Block) (start : ℕ) (before after : Memory) (tape : Tape) → JoinedUp p (bit_operator_of operator) before to place from start 8 after → place + 32 < 2147483648 → start + 32 < 2147483648 → Does (machine_of p) (run_time_number (set_routine operator)) (Address to place ∷ Address from start ∷ []) before tape (Number (pos 0)) after tape
-  pub included : (b : Block) (o : ℕ) (b' : Block) (o' : ℕ) (s t : ℕ → Bool) (memory : Memory) (tape : Tape) → SetAt p memory b o s → SetAt p memory b' o' t → o + 32 < 2147483648 → o' + 32 < 2147483648 → Does (machine_of p) 5 (Address b o ∷ Address b' o' ∷ []) memory tape (Number (truth (is_included s t))) memory tape
-  pub member : (x : ℤ) (b : Block) (o : ℕ) (s : ℕ → Bool) (memory : Memory) (tape : Tape) → SetAt p memory b o s → o + 32 < 2147483648 → Does (machine_of p) 6 (Number x ∷ Address b o ∷ []) memory tape (Number (truth (is_member x s))) memory tape
+  pub nothing : (x y : ℤ) (b : Block) (o : ℕ) (memory : Memory) (tape : Tape) → int_lt y x ≡ true → Does
+      (machine_of p) 1 (Address b o ∷ Number x ∷ Number y ∷ []) memory tape (Number (pos 0)) memory tape
+  pub added : (n count : ℕ) (b : Block) (o : ℕ) (before after : Memory) (tape : Tape) → n + count < 256
+      → AddedUp p before b o n (suc count) after → o + 32 < 2147483648 → Does (machine_of p) 1
+      (Address b o ∷ Number (pos n) ∷ Number (pos (n + count)) ∷ []) before tape (Number (pos 0)) after tape
+  pub joined : (operator : SetOperator) (to : Block) (place : ℕ) (from : Block) (start : ℕ) (before after : Memory)
+      (tape : Tape) → JoinedUp p (bit_operator_of operator) before to place from start 8 after → place + 32 < 2147483648
+      → start + 32 < 2147483648 → Does (machine_of p) (run_time_number (set_routine operator))
+      (Address to place ∷ Address from start ∷ []) before tape (Number (pos 0)) after tape
+  pub included : (b : Block) (o : ℕ) (b' : Block) (o' : ℕ) (s t : ℕ → Bool) (memory : Memory) (tape : Tape)
+      → SetAt p memory b o s → SetAt p memory b' o' t → o + 32 < 2147483648 → o' + 32 < 2147483648 → Does
+      (machine_of p) 5 (Address b o ∷ Address b' o' ∷ []) memory tape (Number (truth (is_included s t))) memory tape
+  pub member : (x : ℤ) (b : Block) (o : ℕ) (s : ℕ → Bool) (memory : Memory) (tape : Tape) → SetAt p memory b o s → o
+      + 32 < 2147483648 → Does (machine_of p) 6 (Number x ∷ Address b o ∷ []) memory tape
+      (Number (truth (is_member x s))) memory tape
 
--- the first bytes that differ, the left less the right one, or 0
+-- the difference of the first bytes that differ, left minus right, or 0
 abbrev pub first_difference : List ℕ → List ℕ → ℤ
 first_difference [] right = pos 0
 first_difference (a ∷ left) [] = pos 0
 first_difference (a ∷ left) (b ∷ right) = if a == b then first_difference left right else pos a -ℤ pos b
 
--- writes: an integer, a character by any integer that stands for it, a string; words, which are copied; words that are packed to bytes, and bytes that are unpacked to words; two strings of one length, which are compared;
--- sets; and reads
+-- writes: an integer, a character by any integer that stands for it, a string; words, which are copied; words that are
+-- packed to bytes, and bytes that are unpacked to words; two strings of one length, which are compared; sets; and reads
 pub record WritesDo (p : Setting) : Type 0 where
   pub sets : SetsDo p
-  pub number : (x : ℤ) (width : ℕ) (memory : Memory) (tape : Tape) → IsTrue (is_integer x) → width < 2147483648 → Does (machine_of p) 10 (Number x ∷ Number (pos width) ∷ []) memory tape (Number (pos 0)) memory (wrote tape (right_aligned width (integer_text x)))
-  pub character : (x : ℤ) (width : ℕ) (memory : Memory) (tape : Tape) → IsTrue (is_integer x) → width < 2147483648 → Does (machine_of p) 11 (Number x ∷ Number (pos width) ∷ []) memory tape (Number (pos 0)) memory (wrote tape (right_aligned width (unsigned_abs x % 256 ∷ [])))
-  pub string : (b : Block) (o : ℕ) (text : List ℕ) (width : ℕ) (memory : Memory) (tape : Tape) → BytesAt p memory b o text → All (λ byte. byte < 256) text → o + length text < 2147483648 → width < 2147483648 → Does (machine_of p) 12 (Address b o ∷ Number (pos (length text)) ∷ Number (pos width) ∷ []) memory tape (Number (pos 0)) memory (wrote tape (fitted width text))
-  pub words : (to : Block) (place : ℕ) (from : Block) (start n : ℕ) (before after : Memory) (tape : Tape) → CopiedUp p before to place from start n after → place + 4 * n < 2147483648 → start + 4 * n < 2147483648 → Does (machine_of p) 0 (Address to place ∷ Address from start ∷ Number (pos (4 * n)) ∷ []) before tape (Number (pos 0)) after tape
-  pub packed : (to : Block) (place : ℕ) (from : Block) (start : ℕ) (bytes : List ℕ) (before after : Memory) (tape : Tape) → PackedUp p before to place from start bytes after → place + length bytes < 2147483648 → start + 4 * length bytes < 2147483648 → Does (machine_of p) 8 (Address to place ∷ Address from start ∷ Number (pos (length bytes)) ∷ []) before tape (Number (pos 0)) after tape
-  pub unpacked : (to : Block) (place : ℕ) (from : Block) (start : ℕ) (bytes : List ℕ) (before after : Memory) (tape : Tape) → UnpackedUp p before to place from start bytes after → place + 4 * length bytes < 2147483648 → start + length bytes < 2147483648 → Does (machine_of p) 9 (Address to place ∷ Address from start ∷ Number (pos (length bytes)) ∷ []) before tape (Number (pos 0)) after tape
-  pub difference : (x : Block) (place : ℕ) (y : Block) (start : ℕ) (left right : List ℕ) (memory : Memory) (tape : Tape) → BytesAt p memory x place left → BytesAt p memory y start right → All (λ byte. byte < 256) left → All (λ byte. byte < 256) right → length left ≡ length right → place + length left < 2147483648 → start + length right < 2147483648 → Does (machine_of p) 7 (Address x place ∷ Address y start ∷ Number (pos (length left)) ∷ []) memory tape (Number (first_difference left right)) memory tape
+  pub number : (x : ℤ) (width : ℕ) (memory : Memory) (tape : Tape) → IsTrue (is_integer x) → width < 2147483648 → Does
+      (machine_of p) 10 (Number x ∷ Number (pos width) ∷ []) memory tape (Number (pos 0)) memory
+      (wrote tape (right_aligned width (integer_text x)))
+  pub character : (x : ℤ) (width : ℕ) (memory : Memory) (tape : Tape) → IsTrue (is_integer x) → width < 2147483648
+      → Does (machine_of p) 11 (Number x ∷ Number (pos width) ∷ []) memory tape (Number (pos 0)) memory
+      (wrote tape (right_aligned width (unsigned_abs x % 256 ∷ [])))
+  pub string : (b : Block) (o : ℕ) (text : List ℕ) (width : ℕ) (memory : Memory) (tape : Tape)
+      → BytesAt p memory b o text → All (λ byte. byte < 256) text → o + length text < 2147483648 → width < 2147483648
+      → Does (machine_of p) 12 (Address b o ∷ Number (pos (length text)) ∷ Number (pos width) ∷ []) memory tape
+      (Number (pos 0)) memory (wrote tape (fitted width text))
+  pub words : (to : Block) (place : ℕ) (from : Block) (start n : ℕ) (before after : Memory) (tape : Tape)
+      → CopiedUp p before to place from start n after → place + 4 * n < 2147483648 → start + 4 * n < 2147483648 → Does
+      (machine_of p) 0 (Address to place ∷ Address from start ∷ Number (pos (4 * n)) ∷ []) before tape
+      (Number (pos 0)) after tape
+  pub packed : (to : Block) (place : ℕ) (from : Block) (start : ℕ) (bytes : List ℕ) (before after : Memory)
+      (tape : Tape) → PackedUp p before to place from start bytes after → place + length bytes < 2147483648 → start
+      + 4 * length bytes < 2147483648 → Does (machine_of p) 8
+      (Address to place ∷ Address from start ∷ Number (pos (length bytes)) ∷ []) before tape (Number (pos 0)) after tape
+  pub unpacked : (to : Block) (place : ℕ) (from : Block) (start : ℕ) (bytes : List ℕ) (before after : Memory)
+      (tape : Tape) → UnpackedUp p before to place from start bytes after → place + 4 * length bytes < 2147483648
+      → start + length bytes < 2147483648 → Does (machine_of p) 9
+      (Address to place ∷ Address from start ∷ Number (pos (length bytes)) ∷ []) before tape (Number (pos 0)) after tape
+  pub difference : (x : Block) (place : ℕ) (y : Block) (start : ℕ) (left right : List ℕ) (memory : Memory) (tape : Tape)
+      → BytesAt p memory x place left → BytesAt p memory y start right → All (λ byte. byte < 256) left → All
+      (λ byte. byte < 256) right → length left ≡ length right → place + length left < 2147483648 → start
+      + length right < 2147483648 → Does (machine_of p) 7
+      (Address x place ∷ Address y start ∷ Number (pos (length left)) ∷ []) memory tape
+      (Number (first_difference left right)) memory tape
   pub reads : ReadsDo p

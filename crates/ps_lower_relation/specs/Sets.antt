@@ -11,7 +11,7 @@ use Rattle.ps_lower_layout.specs.Words.{bits_from}
 abbrev pub set_number : (ℕ → Bool) → (q : ℕ) → ℤ
 set_number s q = number_of (bits_from 32 (32 * q) s)
 
--- what joins the words of two sets
+-- the operation that combines the words of two sets
 abbrev pub bit_operator_of : SetOperator → BitOperator
 bit_operator_of Union = Or
 bit_operator_of Difference = AndNot

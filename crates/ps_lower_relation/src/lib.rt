@@ -5,7 +5,7 @@
 
 ghost use Rattle.ps_lower_relation.specs.Laws.{PartsAreSpans};
 
-/// Each part of a variable is a stretch of its words, in what is read and in what is written.
+/// Each part of a variable is a stretch of its words, both when read and when written.
 #[tactic(auto, using(crate::proofs::Spans::span_in))]
 pub fn parts_are_spans()
     ensures { PartsAreSpans }

@@ -1,4 +1,4 @@
--- What the lowering asks of the run-time routines holds of this list of them.
+-- This list of run-time routines does what the lowering requires of them.
 use Rattle.std.specs.Prelude.{◌≡◌}
 use Rattle.tac_rt.specs.Bodies.{run_time_routines}
 use Rattle.ps_lower_relation.specs.Here.{Setting}

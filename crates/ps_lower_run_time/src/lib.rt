@@ -5,7 +5,7 @@
 
 ghost use Rattle.ps_lower_run_time.specs.Laws.{WritesAreDone};
 
-/// The routines that write and read, and the one that copies words, do what the lowering asks, behind any program (6.9).
+/// The routines that write and read, and the one that copies words, do what the lowering asks, after any program (6.9).
 pub fn writes_are_done()
     ensures { WritesAreDone }
 {}

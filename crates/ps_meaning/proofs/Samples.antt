@@ -7,7 +7,11 @@ use Rattle.ps_tree.specs.declared.tree.Range.TheVariants.{Within}
 use Rattle.ps_tree.specs.Types.{DataType, OrdinalType, ArrayType}
 use Rattle.ps_tree.specs.declared.tree.ArithmeticOperator.{ArithmeticOperator}
 use Rattle.ps_tree.specs.declared.tree.ArithmeticOperator.TheVariants.{Add}
-use Rattle.ps_tree.specs.Tree.{Place, Variable, Entry, Selector, Selectors, no_selector, selector_before, no_arithmetic_step, arithmetic_step_before, Expr, Number, Load, Arithmetic, Argument, Arguments, no_argument, argument_before, Literal, Width, DefaultWidth, GivenWidth, WriteInteger, WriteText, Statement, Assign, Write, Statements, no_statement, statement_before, no_formal, Routine, Program}
+use Rattle.ps_tree.specs.Tree.{Place, Variable, Entry, Selector, Selectors, no_selector, selector_before}
+use Rattle.ps_tree.specs.Tree.{no_arithmetic_step, arithmetic_step_before, Expr, Number, Load, Arithmetic, Argument}
+use Rattle.ps_tree.specs.Tree.{Arguments, no_argument, argument_before, Literal, Width, DefaultWidth, GivenWidth}
+use Rattle.ps_tree.specs.Tree.{WriteInteger, WriteText, Statement, Assign, Write, Statements, no_statement}
+use Rattle.ps_tree.specs.Tree.{statement_before, no_formal, Routine, Program}
 
 abbrev pub integer : Ordinal
 integer = record { host = Integer; subrange = None; low = negsuc 2147483647; high = pos 2147483647 }
@@ -74,13 +78,34 @@ abbrev pub write_string : List ℕ → Statement
 write_string text = Write (WriteText (Literal text) DefaultWidth ∷ [])
 
 abbrev pub block : List DataType → List Statement → Routine
-block variables body = record { chain = 0 ∷ []; formals = no_formal; result = None; variables = variables; body = statements body; line = 1 }
+block variables body = record {
+  chain = 0 ∷ [];
+  formals = no_formal;
+  result = None;
+  variables = variables;
+  body = statements body;
+  line = 1;
+}
 
 abbrev pub procedure : List ℕ → List DataType → List Statement → Routine
-procedure chain variables body = record { chain = chain; formals = no_formal; result = None; variables = variables; body = statements body; line = 1 }
+procedure chain variables body = record {
+  chain = chain;
+  formals = no_formal;
+  result = None;
+  variables = variables;
+  body = statements body;
+  line = 1;
+}
 
 abbrev pub function : List ℕ → List DataType → List Statement → Routine
-function chain variables body = record { chain = chain; formals = no_formal; result = Some integer_type; variables = variables; body = statements body; line = 1 }
+function chain variables body = record {
+  chain = chain;
+  formals = no_formal;
+  result = Some integer_type;
+  variables = variables;
+  body = statements body;
+  line = 1;
+}
 
 abbrev pub alone : List DataType → List Statement → Program
 alone variables body = record { routines = block variables body ∷ []; domains = [] }

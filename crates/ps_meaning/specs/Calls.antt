@@ -19,7 +19,7 @@ declared v others w =
     let rest = others (with_new w v) in
     record { frame = variable_before (entire (Declared w.next)) rest.frame; world = rest.world }
 
--- the block's variables have their first values
+-- the block's variables get their first values
 abbrev pub bind_variables : List DataType → World → Bound
 bind_variables [] w = record { frame = no_entry; world = w }
 bind_variables (type ∷ rest) w = declared (first type) (bind_variables rest) w
@@ -36,21 +36,27 @@ bind_actuals (RoutineActual r env ∷ actuals) variables w =
     let rest = bind_actuals actuals variables w in
     record { frame = routine_before r env rest.frame; world = rest.world }
 
--- a function's result has its first value
+-- a function's result gets its first value
 abbrev pub bind : Option DataType → List Actual → List DataType → World → Bound
 bind None actuals variables w = bind_actuals actuals variables w
 bind (Some type) actuals variables w = declared (first type) (bind_actuals actuals variables) w
 
--- a routine's block, entered; a stop where the frame bytes of the open routines would pass the stack
+-- a routine's block, entered; a stop where the frame bytes of the open routines would exceed the stack
 abbrev pub call_routine : Program → Costs → Next → Caller
 call_routine program costs next r parent actuals c =
     let routine = routine_at program r in
     if passes_stack costs (r ∷ c.active) then stop (Stack routine.line)
     else (λ w.
     let bound = bind routine.result actuals routine.variables w in
-    next (Block routine.body) (record { env = Within bound.frame parent; opened = []; active = r ∷ c.active; calls = c.calls }) bound.world)
+    next (Block routine.body) (record {
+      env = Within bound.frame parent;
+      opened = [];
+      active = r ∷ c.active;
+      calls = c.calls;
+    }) bound.world)
 
--- a task, done with n of fuel
+-- a task, executed with n of fuel
 abbrev pub execute : Program → Costs → ℕ → Next
 execute program costs zero task c = stop More
-execute program costs (suc n) task c = perform program costs (call_routine program costs (execute program costs n)) (execute program costs n) task c
+execute program costs (suc n) task c = perform program costs (call_routine program costs (execute program costs n))
+    (execute program costs n) task c

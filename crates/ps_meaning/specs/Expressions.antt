@@ -1,16 +1,29 @@
--- Variables, expressions and actual parameters (6.5, 6.7, 6.6.3): operands, indices, actual parameters and members
--- are taken from left to right.
-use Rattle.std.specs.Prelude.{ℕ, ℤ, pos, ◌-ℤ◌, unsigned_abs, int_lt, Bool, not, ◌&&◌, ◌==◌, is_none, if◌then◌else◌, List, [], ◌∷◌, get_or, Option, Some, None}
+-- Variables, expressions and actual parameters (6.5, 6.7, 6.6.3): operands, indices, actual parameters and members are
+-- taken from left to right.
+use Rattle.std.specs.Prelude.{ℕ, ℤ, pos, ◌-ℤ◌, unsigned_abs, int_lt, Bool, not, ◌&&◌, ◌==◌, is_none, if◌then◌else◌}
+use Rattle.std.specs.Prelude.{List, [], ◌∷◌, get_or, Option, Some, None}
 use Rattle.ps_tree.specs.declared.types.Host.TheVariants.{Integer}
 use Rattle.ps_tree.specs.declared.types.Ordinal.{Ordinal}
 use Rattle.ps_tree.specs.declared.tree.BooleanOperator.{BooleanOperator}
 use Rattle.ps_tree.specs.declared.tree.Range.{Range}
 use Rattle.ps_tree.specs.declared.tree.SetOperator.TheVariants.{Union}
 use Rattle.ps_tree.specs.Types.{DataType, ArrayType}
-use Rattle.ps_tree.specs.Tree.{Place, Variable, PlaceBase, Entry, Opened, Selector, Element, Field, Target, Selectors, no_selector, selector_before, ArithmeticSteps, no_arithmetic_step, arithmetic_step_before, Operands, no_operand, operand_before, SetSteps, no_set_step, set_step_before, Expr, Number, Nil, Load, Plus, Minus, Not, Arithmetic, Logic, Compare, ComparePointers, CompareSets, CompareStrings, In, Apply, Eof, Eoln, Call, CallFormal, SetExpr, LoadSet, Constructor, Combine, Member, One, Several, Members, no_member, member_before, Structure, Literal, Contents, Argument, ByValue, BySet, ByCopy, ByVariable, ByRoutine, ByFormal, Arguments, no_argument, argument_before}
-use Rattle.ps_meaning.specs.Values.{Value, OrdinalValue, NilValue, ObjectValue, SetValue, StructureValue, Declared, Made, Spot, entire, step, number_of, set_of, components_of, no_member_of, text_values}
-use Rattle.ps_meaning.specs.Operators.{integer, compute, apply, combine_truths, combine_sets, holds, pointers_hold, strings_hold, sets_hold, is_member, interval, is_between, is_true, truth, fits, set_fits}
-use Rattle.ps_meaning.specs.Worlds.{Env, above, frame_of, spot_in, routine_in, env_in, no_spot, Context, Gives, Act, Done, ◌>>=◌, ◌>>◌, give, fault, settled, contents, look}
+use Rattle.ps_tree.specs.Tree.{Place, Variable, PlaceBase, Entry, Opened, Selector, Element, Field, Target, Selectors}
+use Rattle.ps_tree.specs.Tree.{no_selector, selector_before, ArithmeticSteps, no_arithmetic_step}
+use Rattle.ps_tree.specs.Tree.{arithmetic_step_before, Operands, no_operand, operand_before, SetSteps, no_set_step}
+use Rattle.ps_tree.specs.Tree.{set_step_before, Expr, Number, Nil, Load, Plus, Minus, Not, Arithmetic, Logic, Compare}
+use Rattle.ps_tree.specs.Tree.{ComparePointers, CompareSets, CompareStrings, In, Apply, Eof, Eoln, Call, CallFormal}
+use Rattle.ps_tree.specs.Tree.{SetExpr, LoadSet, Constructor, Combine, Member, One, Several, Members, no_member}
+use Rattle.ps_tree.specs.Tree.{member_before, Structure, Literal, Contents, Argument, ByValue, BySet, ByCopy}
+use Rattle.ps_tree.specs.Tree.{ByVariable, ByRoutine, ByFormal, Arguments, no_argument, argument_before}
+use Rattle.ps_meaning.specs.Values.{Value, OrdinalValue, NilValue, ObjectValue, SetValue, StructureValue, Declared}
+use Rattle.ps_meaning.specs.Values.{Made, Spot, entire, step, number_of, set_of, components_of, no_member_of}
+use Rattle.ps_meaning.specs.Values.{text_values}
+use Rattle.ps_meaning.specs.Operators.{integer, compute, apply, combine_truths, combine_sets, holds, pointers_hold}
+use Rattle.ps_meaning.specs.Operators.{strings_hold, sets_hold, is_member, interval, is_between, is_true, truth, fits}
+use Rattle.ps_meaning.specs.Operators.{set_fits}
+use Rattle.ps_meaning.specs.Worlds.{Env, above, frame_of, spot_in, routine_in, env_in, no_spot, Context, Gives, Act}
+use Rattle.ps_meaning.specs.Worlds.{Done, ◌>>=◌, ◌>>◌, give, fault, settled, contents, look}
 
 -- an actual parameter as it was taken
 pub data Actual : Type 0 where
@@ -18,7 +31,7 @@ pub data Actual : Type 0 where
   VariableActual : Spot → Actual
   RoutineActual : (routine : ℕ) → Env → Actual
 
--- the call of a routine that was declared in an environment
+-- a call of a routine that was declared in an environment
 abbrev pub Caller : Type 0
 Caller = (routine : ℕ) → Env → List Actual → Context → Act Done
 
@@ -26,8 +39,8 @@ Caller = (routine : ℕ) → Env → List Actual → Context → Act Done
 abbrev pub calling : (line : ℕ) → Context → Context
 calling line c = record { env = c.env; opened = c.opened; active = c.active; calls = line ∷ c.calls }
 
--- an operand of an array or record type as it was taken: its contents are taken when all accesses of the operation
--- are made
+-- an operand of an array or record type as it was taken: its contents are read once all accesses of the operation are
+-- made
 pub data Held : Type 0 where
   HeldText : List ℕ → Held
   HeldSpot : Spot → Held
@@ -43,25 +56,28 @@ index_of _ = record { host = Integer; subrange = None; low = pos 0; high = pos 0
 
 -- the component of an array; error 5 for an index outside its type
 abbrev pub component_of : Spot → Ordinal → ℤ → (line : ℕ) → Context → Act Spot
-component_of s index x line c = if is_between index.low x index.high then give (step s (unsigned_abs (x -ℤ index.low))) else fault 5 line c
+component_of s index x line c = if is_between index.low x index.high then give (step s (unsigned_abs (x -ℤ index.low)))
+    else fault 5 line c
 
 -- the object that a pointer points to; error 6 for nil
 abbrev pub object_of : Value → (line : ℕ) → Context → Act Spot
 object_of (ObjectValue object) line c = give (entire (Made object))
 object_of _ line c = fault 6 line c
 
--- a value that goes into a variable of this range; error 4 for one outside it
+-- a value to be stored in a variable of this range; error 4 for one outside it
 abbrev pub fitting : Range → Value → (line : ℕ) → Context → Act Value
 fitting range v line c = if fits range v then give v else fault 4 line c
 
--- a set that goes into a variable of a set type; error 8 for a member outside its base
+-- a set to be stored in a variable of a set type; error 8 for a member outside its base
 abbrev pub fitting_set : ℤ → ℤ → (ℕ → Bool) → (line : ℕ) → Context → Act Value
 fitting_set low high s line c = if set_fits low high s then give (SetValue s) else fault 8 line c
 
--- a member, and members from one to another, of which there are none where the first is above the second; error 8
+-- a member, or the members from one to another, of which there are none where the first is above the second; error 8
 -- outside 0..255
 abbrev pub set_between : ℤ → ℤ → (line : ℕ) → Context → Act (ℕ → Bool)
-set_between x y line c = if int_lt y x then give no_member_of else (if is_between (pos 0) x (pos 255) && is_between (pos 0) y (pos 255) then give (interval x y) else fault 8 line c)
+set_between x y line c = if int_lt y x then give no_member_of
+    else (if is_between (pos 0) x (pos 255) && is_between (pos 0) y (pos 255) then give (interval x y)
+    else fault 8 line c)
 
 -- eoln has error 9 at the end of input
 abbrev pub line_end : Option ℕ → (line : ℕ) → Context → Act Value
@@ -161,9 +177,10 @@ module _ (call : Caller) where
       function_value r (above c.env up) actuals (calling line c)
     value (CallFormal up index arguments line) c = do
       actuals ← actuals_of arguments c
-      function_value (routine_in (frame_of (above c.env up)) index) (env_in (frame_of (above c.env up)) index) actuals (calling line c)
+      function_value (routine_in (frame_of (above c.env up)) index) (env_in (frame_of (above c.env up)) index) actuals
+          (calling line c)
 
-    -- each step is done before the next operand is evaluated: the number so far is its left operand
+    -- each step is applied before the next operand is evaluated; the number so far is its left operand
     pub computed : ArithmeticSteps → ℤ → Context → Act Value
     computed no_arithmetic_step x c = give (OrdinalValue x)
     computed (arithmetic_step_before operator e line rest) x c = do
@@ -171,7 +188,7 @@ module _ (call : Caller) where
       z ← settled (compute operator x (number_of y)) line c
       computed rest (number_of z) c
 
-    -- all operands are evaluated, whatever those before them are
+    -- all operands are evaluated, whatever the values of those before them
     pub combined : BooleanOperator → Operands → Bool → Context → Act Value
     combined operator no_operand x c = give (OrdinalValue (truth x))
     combined operator (operand_before e rest) x c = do
@@ -219,7 +236,7 @@ module _ (call : Caller) where
       s ← access p c
       give (HeldSpot s)
 
-    -- 6.6.3: an actual parameter is taken and checked; a structured value is copied now
+    -- 6.6.3: an actual parameter is taken and checked; a structured value is copied at this point
     pub actual_of : Argument → Context → Act Actual
     actual_of (ByValue e range line) c = do
       x ← value e c
@@ -237,7 +254,8 @@ module _ (call : Caller) where
       s ← access p c
       give (VariableActual s)
     actual_of (ByRoutine r up) c = give (RoutineActual r (above c.env up))
-    actual_of (ByFormal up index) c = give (RoutineActual (routine_in (frame_of (above c.env up)) index) (env_in (frame_of (above c.env up)) index))
+    actual_of (ByFormal up index) c = give (RoutineActual (routine_in (frame_of (above c.env up)) index)
+        (env_in (frame_of (above c.env up)) index))
 
     pub actuals_of : Arguments → Context → Act (List Actual)
     actuals_of no_argument c = give []

@@ -1,5 +1,7 @@
 -- What operators and required functions give (6.7.2, 6.6.6), and the tests of ranges (6.4.6).
-use Rattle.std.specs.Prelude.{ℕ, zero, suc, ◌-◌, ◌%◌, ℤ, pos, negsuc, ◌+ℤ◌, ◌-ℤ◌, ◌*ℤ◌, int_lt, int_le, int_div, unsigned_abs, Bool, true, false, not, ◌&&◌, ◌||◌, ◌==◌, nat_lt, if◌then◌else◌, List, [], ◌∷◌}
+use Rattle.std.specs.Prelude.{ℕ, zero, suc, ◌-◌, ◌%◌, ℤ, pos, negsuc, ◌+ℤ◌, ◌-ℤ◌, ◌*ℤ◌, int_lt, int_le, int_div}
+use Rattle.std.specs.Prelude.{unsigned_abs, Bool, true, false, not, ◌&&◌, ◌||◌, ◌==◌, nat_lt, if◌then◌else◌, List, []}
+use Rattle.std.specs.Prelude.{◌∷◌}
 use Rattle.ps_tree.specs.declared.tree.ArithmeticOperator.{ArithmeticOperator}
 use Rattle.ps_tree.specs.declared.tree.ArithmeticOperator.TheVariants.{Add, Subtract, Multiply, Div, Mod}
 use Rattle.ps_tree.specs.declared.tree.BooleanOperator.{BooleanOperator}
@@ -31,7 +33,7 @@ is_equal _ _ = false
 abbrev pub is_between : ℤ → ℤ → ℤ → Bool
 is_between low x high = int_le low x && int_le x high
 
--- error 1 where the result is no integer
+-- error 1 where the result is not an integer
 abbrev pub integer : ℤ → Computed
 integer x = if is_between (negsuc 2147483647) x (pos 2147483647) then Result x else Fault 1
 
@@ -87,9 +89,10 @@ abbrev pub pointers_hold : PointerRelation → Value → Value → Bool
 pointers_hold SamePointer a b = is_same_pointer a b
 pointers_hold OtherPointer a b = not (is_same_pointer a b)
 
--- strings are in the order of the first characters that differ; the two are alike where none do
+-- strings are ordered by the first characters that differ; they are equal where none do
 abbrev pub first_difference : Values → Values → ℤ × ℤ
-first_difference (value_before v vs) (value_before w ws) = if is_equal (number_of v) (number_of w) then first_difference vs ws else (number_of v, number_of w)
+first_difference (value_before v vs) (value_before w ws) = if is_equal (number_of v) (number_of w)
+    then first_difference vs ws else (number_of v, number_of w)
 first_difference _ _ = (pos 0, pos 0)
 
 abbrev pub strings_hold : Relation → Values → Values → Bool
@@ -101,7 +104,7 @@ combine_sets Union a b k = a k || b k
 combine_sets Difference a b k = a k && not (b k)
 combine_sets Intersection a b k = a k && b k
 
--- the test holds of each number below n
+-- the test holds for each number below n
 unfoldable pub all_below : ℕ → (ℕ → Bool) → Bool
 all_below zero test = true
 all_below (suc n) test = test n && all_below n test
@@ -124,7 +127,7 @@ is_member (negsuc n) s = false
 abbrev pub interval : ℤ → ℤ → ℕ → Bool
 interval low high k = is_between low (pos k) high
 
--- 6.4.6: a value lies within the range of a variable, and a set's members within a base
+-- 6.4.6: a value is within the range of a variable, and a set's members are within a base
 abbrev pub fits : Range → Value → Bool
 fits Any v = true
 fits (Within low high) v = is_between low (number_of v) high

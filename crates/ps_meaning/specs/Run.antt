@@ -9,20 +9,28 @@ use Rattle.ps_meaning.specs.Statements.{Costs}
 use Rattle.ps_meaning.specs.Calls.{call_routine, execute}
 
 abbrev pub first_world : List ℕ → World
-first_world input = record { next = 0; store = λ name. unset; objects = []; made = []; input = whole_input input; transcript = [] }
+first_world input = record {
+  next = 0;
+  store = λ name. unset;
+  objects = [];
+  made = [];
+  input = whole_input input;
+  transcript = [];
+}
 
 abbrev pub first_context : Context
 first_context = record { env = Outside; opened = []; active = []; calls = [] }
 
--- frame bytes by the routines' numbers, object bytes by the pointer types', and the bytes of stack and heap
+-- frame bytes by routine number, object bytes by pointer type number, and the bytes of stack and heap
 abbrev pub costs_of : List ℕ → List ℕ → ℕ → ℕ → Costs
 costs_of F G S H = record { frame = λ r. get_or F r 0; object = λ t. get_or G t 0; stack = S; heap = H }
 
 -- the program block is routine 0
 abbrev pub answer : Program → Costs → List ℕ → ℕ → Answer Done
-answer program costs input n = call_routine program costs (execute program costs n) 0 Outside [] first_context (first_world input)
+answer program costs input n = call_routine program costs (execute program costs n) 0 Outside [] first_context
+    (first_world input)
 
--- what an answer shows: a block that was done to its end is a normal ending
+-- what an answer shows: a block that ran to its end is a normal ending
 abbrev pub shown : Answer Done → Shown
 shown (Gives v w) = (w.transcript, Normal)
 shown (Ends transcript ending) = (transcript, ending)

@@ -1,11 +1,13 @@
 -- Text (6.9, 6.10): what each read looks at, takes and leaves, and what each write adds. Characters are bytes; byte
 -- 10 ends a line.
-use Rattle.std.specs.Prelude.{ℕ, zero, suc, ◌+◌, ◌-◌, ◌*◌, ◌/◌, ◌%◌, ℤ, pos, negsuc, neg_ℤ, Bool, true, false, not, ◌&&◌, ◌||◌, ◌==◌, nat_lt, nat_le, if◌then◌else◌, List, [], ◌∷◌, ◌++◌, length, drop, take, take_while, replicate, Option, Some, None, codes}
+use Rattle.std.specs.Prelude.{ℕ, zero, suc, ◌+◌, ◌-◌, ◌*◌, ◌/◌, ◌%◌, ℤ, pos, negsuc, neg_ℤ, Bool, true, false, not}
+use Rattle.std.specs.Prelude.{◌&&◌, ◌||◌, ◌==◌, nat_lt, nat_le, if◌then◌else◌, List, [], ◌∷◌, ◌++◌, length, drop, take}
+use Rattle.std.specs.Prelude.{take_while, replicate, Option, Some, None, codes}
 use Rattle.behavior.specs.Transcripts.{mark}
 
 -- The input that is left: its bytes; whether the first of them, or the end where there is none, was looked at; and
--- whether a line was begun and not ended, which counts as ended where the bytes end (a nonempty input whose last
--- byte isn't 10 counts as having it).
+-- whether a line was begun and not ended, which counts as ended where the bytes end (a nonempty input whose last byte
+-- isn't 10 counts as having it).
 pub record Input : Type 0 where
   pub left : List ℕ
   pub looked : Bool
@@ -26,7 +28,7 @@ next_character i = next_of i.left i.in_line
 abbrev pub looked_at : Input → Input
 looked_at i = record { left = i.left; looked = true; in_line = i.in_line }
 
--- a mark stands in the transcript for each first look at a byte of the input or at its end
+-- the transcript has a mark for each first look at a byte of the input or at its end
 abbrev pub look_marks : Input → List ℕ
 look_marks i = if i.looked then [] else mark ∷ []
 
@@ -42,8 +44,8 @@ taken i = taken_from i.left
 abbrev pub as_character : ℕ → ℕ
 as_character b = if b == 10 then 32 else b
 
--- An integer in the input: spaces and line ends are skipped, then it is the longest sequence of a sign, which may be
--- absent, and digits. `rest` is what is left, of which the first byte, or the end, is looked at last.
+-- An integer in the input: spaces and line ends are skipped, then it is the longest sequence of an optional sign and
+-- digits. `rest` is what is left; its first byte, or the end, is the last thing looked at.
 pub data Reading : Type 0 where
   EndFound : Reading
   NoInteger : Reading
@@ -88,17 +90,20 @@ scan_integer bytes =
     let magnitude = pos (number_written 0 written) in
     if is_empty start then record { found = EndFound; rest = [] }
     else (if is_empty written then record { found = NoInteger; rest = unsigned }
-    else record { found = Integer (if has_sign start 45 then neg_ℤ magnitude else magnitude); rest = drop (length written) unsigned })
+    else record {
+      found = Integer (if has_sign start 45 then neg_ℤ magnitude else magnitude);
+      rest = drop (length written) unsigned;
+    })
 
--- the marks of looks at all bytes from a place up to and with the first of the rest, or the end
+-- the marks of looks at all bytes from a place up to and including the first of the rest, or the end
 abbrev pub marks_to : Input → List ℕ → List ℕ
 marks_to i rest = replicate ((length i.left - length rest) + (if i.looked then 0 else 1)) mark
 
--- the input after an integer: its next byte, or the end, is looked at, and a line is begun
+-- the input after an integer: its next byte, or the end, has been looked at, and a line is begun
 abbrev pub after_integer : List ℕ → Input
 after_integer rest = record { left = rest; looked = true; in_line = true }
 
--- readln: all up to and with the line end is looked at and taken
+-- readln: everything up to and including the line end is looked at and taken
 abbrev pub has_line_end : List ℕ → Bool
 has_line_end [] = false
 has_line_end (b ∷ rest) = b == 10 || has_line_end rest
@@ -108,10 +113,19 @@ after_line_end [] = []
 after_line_end (b ∷ rest) = if b == 10 then rest else after_line_end rest
 
 abbrev pub after_line : Input → Input
-after_line i = if has_line_end i.left then record { left = after_line_end i.left; looked = false; in_line = false } else record { left = []; looked = true; in_line = false }
+after_line i = if has_line_end i.left then record {
+  left = after_line_end i.left;
+  looked = false;
+  in_line = false;
+} else record {
+  left = [];
+  looked = true;
+  in_line = false;
+}
 
 abbrev pub line_marks : Input → List ℕ
-line_marks i = if has_line_end i.left then replicate ((length i.left - length (after_line_end i.left)) - (if i.looked then 1 else 0)) mark else marks_to i []
+line_marks i = if has_line_end i.left then replicate
+    ((length i.left - length (after_line_end i.left)) - (if i.looked then 1 else 0)) mark else marks_to i []
 
 -- 6.9.3.1: a text right-aligned in a field of n characters, wider if needed
 abbrev pub right_aligned : ℕ → List ℕ → List ℕ
@@ -126,7 +140,7 @@ unfoldable pub digits : ℕ → ℕ → List ℕ
 digits zero n = []
 digits (suc k) n = if nat_lt n 10 then (48 + n) ∷ [] else digits k (n / 10) ++ (48 + n % 10) ∷ []
 
--- an integer has at most ten
+-- an integer has at most ten digits
 abbrev pub integer_text : ℤ → List ℕ
 integer_text (pos n) = digits 10 n
 integer_text (negsuc n) = 45 ∷ digits 10 (suc n)

@@ -1,13 +1,15 @@
--- Values (6.4), the first values of variables, and spots, which are what variables denote (6.5).
+-- Values (6.4), the first values of variables, and spots, which variables denote (6.5).
 use Rattle.std.specs.Prelude.{ℕ, zero, suc, ℤ, pos, Bool, false, ◌&&◌, is_none, if◌then◌else◌, List, [], ◌∷◌, ◌++◌}
 use Rattle.ps_tree.specs.declared.types.Host.TheVariants.{Integer}
 use Rattle.ps_tree.specs.declared.types.Ordinal.{Ordinal}
-use Rattle.ps_tree.specs.Types.{DataType, OrdinalType, PointerType, NilType, SetType, EmptySetType, TextType, ArrayType, RecordType, FieldList, field_list, DataTypes, no_type, type_before, is_same_host}
+use Rattle.ps_tree.specs.Types.{DataType, OrdinalType, PointerType, NilType, SetType, EmptySetType, TextType}
+use Rattle.ps_tree.specs.Types.{ArrayType, RecordType, FieldList, field_list, DataTypes, no_type, type_before}
+use Rattle.ps_tree.specs.Types.{is_same_host}
 use Rattle.ps_tree.specs.Sizes.{value_count}
 
 -- A whole number for a value of an ordinal type; for a pointer nil or the object that it points to; for a set the
--- test of its members, which lie in 0..255; for an array or a record the values of its components, in the order of
--- the indices or of the fields.
+-- membership test of its members, which are in 0..255; for an array or a record the values of its components, in the
+-- order of the indices or fields.
 mutual
   pub data Value : Type 0 where
     OrdinalValue : ℤ → Value
@@ -40,8 +42,8 @@ abbrev pub copies : ℕ → Value → Values
 copies zero v = no_value
 copies (suc n) v = value_before v (copies n v)
 
--- the first value of a variable: integer 0, a subrange its lowest value, other ordinals their first; pointers nil,
--- sets empty, structures component by component
+-- the first value of a variable: integer 0, a subrange its lowest value, other ordinals their first; pointers nil, sets
+-- empty, structures component by component
 abbrev pub first_ordinal : Ordinal → ℤ
 first_ordinal o = if is_same_host o.host Integer && is_none o.subrange then pos 0 else o.low
 
@@ -85,7 +87,7 @@ abbrev pub with_component : Value → ℕ → Value → Value
 with_component (StructureValue vs) k new = StructureValue (with_nth vs k new)
 with_component v k new = v
 
--- the components from k on, and n of these
+-- the components from k on, and the first n of them
 abbrev pub values_from : Values → ℕ → Values
 values_from vs zero = vs
 values_from no_value (suc k) = no_value
@@ -96,13 +98,13 @@ first_values zero vs = no_value
 first_values (suc n) no_value = no_value
 first_values (suc n) (value_before v rest) = value_before v (first_values n rest)
 
--- the components, of which those from k on are replaced
+-- the components, with those from k on replaced
 abbrev pub with_values : Values → ℕ → Values → Values
 with_values olds k no_value = olds
 with_values olds k (value_before v rest) = with_values (with_nth olds k v) (suc k) rest
 
--- A variable is one that was declared, under a name that was never used before, or an object that `new` made. A
--- spot is such a variable, or the part of it at the end of a path of component numbers, the outermost first.
+-- A variable is one that was declared, under a name never used before, or an object that `new` made. A spot is such a
+-- variable, or the part of it at the end of a path of component numbers, outermost first.
 pub data Root : Type 0 where
   Declared : (name : ℕ) → Root
   Made : (object : ℕ) → Root

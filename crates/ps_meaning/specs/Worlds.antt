@@ -5,9 +5,9 @@ use Rattle.ps_meaning.specs.Values.{Value, OrdinalValue, Root, Declared, Made, S
 use Rattle.ps_meaning.specs.Operators.{Computed, Result, Fault}
 use Rattle.ps_meaning.specs.Text.{Input, next_character, looked_at, look_marks, taken}
 
--- Frames, the innermost first. A frame has what the names of a block stand for, in the order of the routine's
--- entries: spots for its result, its value and variable parameters and its variables, and for a procedural or
--- functional parameter a routine with the environment in which it was declared.
+-- Frames, innermost first. A frame holds what the names of a block stand for, in the order of the routine's entries:
+-- spots for its result, its value and variable parameters and its variables, and for a procedural or functional
+-- parameter a routine with the environment in which it was declared.
 mutual
   pub data Env : Type 0 where
     Outside : Env
@@ -51,8 +51,8 @@ env_in (routine_before r e f) zero = e
 env_in (variable_before s f) (suc i) = env_in f i
 env_in (routine_before r e f) (suc i) = env_in f i
 
--- Where an expression or a statement stands: its environment, the records that `with` opened round it, the routines
--- whose blocks are open, and the lines of the calls that are open, each the innermost first.
+-- The context of an expression or a statement: its environment, the records that enclosing `with` statements opened,
+-- the routines whose blocks are open, and the lines of the open calls, each innermost first.
 pub record Context : Type 0 where
   pub env : Env
   pub opened : List Spot
@@ -148,9 +148,10 @@ says w bytes = record w { transcript = w.transcript ++ bytes }
 abbrev pub write_text : List ℕ → Act Done
 write_text bytes = λ w. Gives done (says w bytes)
 
--- a look at the next character of the input, and its taking
+-- a look at the next character of the input, and taking it
 abbrev pub look : Act (Option ℕ)
-look = λ w. Gives (next_character w.input) (record w { input = looked_at w.input; transcript = w.transcript ++ look_marks w.input })
+look = λ w. Gives (next_character w.input)
+    (record w { input = looked_at w.input; transcript = w.transcript ++ look_marks w.input })
 
 abbrev pub take_next : Act Done
 take_next = λ w. Gives done (record w { input = taken w.input })

@@ -1,5 +1,6 @@
--- A run's first world, what it tells, and transcripts without marks.
-use Rattle.std.proofs.Common.{◌≡◌, ◌≢◌, ℕ, zero, suc, ◌<◌, ◌≤◌, ◌+◌, nat_lt, false, List, [], ◌∷◌, ◌++◌, length, get_or, take, map, cond, append-nil, Vec, Global, refl, sym, ap, subst, ◌∙◌, arith}
+-- A run's first world, what it shows, and transcripts without marks.
+use Rattle.std.proofs.Common.{◌≡◌, ◌≢◌, ℕ, zero, suc, ◌<◌, ◌≤◌, ◌+◌, nat_lt, false, List, [], ◌∷◌, ◌++◌, length}
+use Rattle.std.proofs.Common.{get_or, take, map, cond, append-nil, Vec, Global, refl, sym, ap, subst, ◌∙◌, arith}
 use mathlib.Core.Path.{fun_ext}
 use Rattle.std.specs.List.{All}
 use Rattle.std.proofs.lemmas.Bool.{lt-ltb}
@@ -25,36 +26,82 @@ unfolding stored
 no_store = fun_ext {f = stored []} {g = λ (name : ℕ). m.unset} (λ name. refl)
 
 world_with : List Value → List Value → List ℕ → List ℕ → List ℕ → m.World
-world_with store objects made input transcript = record { next = 0; store = stored store; objects = map value_of objects; made = made; input = t.whole_input input; transcript = transcript }
+world_with store objects made input transcript = record {
+  next = 0;
+  store = stored store;
+  objects = map value_of objects;
+  made = made;
+  input = t.whole_input input;
+  transcript = transcript;
+}
 
-pub first_world_is : (store objects : List Value) (made input transcript : List ℕ) → store ≡ [] → objects ≡ [] → made ≡ [] → transcript ≡ [] → (let w : m.World = record { next = 0; store = stored store; objects = map value_of objects; made = made; input = record { left = input; looked = false; in_line = false }; transcript = transcript } in w) ≡ d.first_world input
+pub first_world_is : (store objects : List Value) (made input transcript : List ℕ) → store ≡ [] → objects ≡ [] → made
+    ≡ [] → transcript ≡ [] → (let w : m.World = record {
+      next = 0;
+      store = stored store;
+      objects = map value_of objects;
+      made = made;
+      input = record {
+        left = input;
+        looked = false;
+        in_line = false;
+      };
+      transcript = transcript;
+    } in w) ≡ d.first_world input
 unfolding world_with
 first_world_is store objects made input transcript e f g h =
-    ap (λ x. world_with x objects made input transcript) e ∙ ap (λ x. world_with [] x made input transcript) f ∙ ap (λ x. world_with [] [] x input transcript) g ∙ ap (λ x. world_with [] [] [] input x) h ∙ ap (λ (s : ℕ → v.Value). record { next = 0; store = s; objects = []; made = []; input = t.whole_input input; transcript = [] }) no_store
+    ap (λ x. world_with x objects made input transcript) e ∙ ap (λ x. world_with [] x made input transcript) f
+    ∙ ap (λ x. world_with [] [] x input transcript) g ∙ ap (λ x. world_with [] [] [] input x) h
+    ∙ ap (λ (s : ℕ → v.Value). record {
+      next = 0;
+      store = s;
+      objects = [];
+      made = [];
+      input = t.whole_input input;
+      transcript = [];
+    }) no_store
 
-pub answer_is : (job : Job) (n : ℕ) (input : List ℕ) → caller job n 0 m.Outside [] d.first_context (d.first_world input) ≡ d.answer (program_of job) (costs_in job) input n
+pub answer_is : (job : Job) (n : ℕ) (input : List ℕ) → caller job n 0 m.Outside [] d.first_context (d.first_world input)
+    ≡ d.answer (program_of job) (costs_in job) input n
 unfolding caller
 answer_is job n input = refl
 
-pub shown_done : (w : World) (calls : Vec ℕ Global) (a : m.Answer m.Done) → a ≡ m.Gives m.done (world_of w) → shown (record { transcript = w.transcript; ending = Normal; calls = calls }) ≡ d.shown a
+pub shown_done : (w : World) (calls : Vec ℕ Global) (a : m.Answer m.Done) → a ≡ m.Gives m.done (world_of w) → shown
+    (record {
+      transcript = w.transcript;
+      ending = Normal;
+      calls = calls;
+    }) ≡ d.shown a
 shown_done w calls a is = sym (ap d.shown is)
 
-pub shown_stopped : (w : World) (ending : Ending) (calls : Vec ℕ Global) (halt : Halt) (a : m.Answer m.Done) (k n : ℕ) → Halted a k n halt w → halt ≡ Ended ending calls → shown (record { transcript = w.transcript; ending = ending; calls = calls }) ≡ d.shown a
+pub shown_stopped : (w : World) (ending : Ending) (calls : Vec ℕ Global) (halt : Halt) (a : m.Answer m.Done) (k n : ℕ)
+    → Halted a k n halt w → halt ≡ Ended ending calls → shown (record {
+      transcript = w.transcript;
+      ending = ending;
+      calls = calls;
+    }) ≡ d.shown a
 shown_stopped w ending calls halt a k n h is =
     let ends : a ≡ m.Ends w.transcript.items (ending_of ending calls.items) = subst (λ s. Halted a k n s w) is h in
     sym (ap d.shown ends)
 
--- a mark, or a byte, more
-pub shown_mark : (xs : List ℕ) (i x : ℕ) → i < length xs → x ≡ get_or xs i 0 → x ≡ 256 → output (take (i + 1) xs) ≡ output (take i xs)
+-- one more mark, or byte
+pub shown_mark : (xs : List ℕ) (i x : ℕ) → i < length xs → x ≡ get_or xs i 0 → x ≡ 256 → output (take (i + 1) xs)
+    ≡ output (take i xs)
 shown_mark xs i x lt at is =
-    filter_more (λ b. nat_lt b mark) xs i 0 lt ∙ ap (λ y. output (take i xs) ++ cond (nat_lt y mark) (y ∷ []) []) (sym at ∙ is) ∙ append-nil (output (take i xs))
+    filter_more (λ b. nat_lt b mark) xs i 0 lt ∙ ap (λ y. output (take i xs) ++ cond (nat_lt y mark) (y ∷ []) [])
+    (sym at ∙ is) ∙ append-nil (output (take i xs))
 
-pub shown_byte : (xs : List ℕ) (i x : ℕ) → i < length xs → x ≡ get_or xs i 0 → x < 256 → output (take (i + 1) xs) ≡ output (take i xs) ++ x ∷ []
+pub shown_byte : (xs : List ℕ) (i x : ℕ) → i < length xs → x ≡ get_or xs i 0 → x < 256 → output (take (i + 1) xs)
+    ≡ output (take i xs) ++ x ∷ []
 shown_byte xs i x lt at low =
-    filter_more (λ b. nat_lt b mark) xs i 0 lt ∙ ap (λ y. output (take i xs) ++ cond (nat_lt y mark) (y ∷ []) []) (sym at) ∙ ap (λ b. output (take i xs) ++ cond b (x ∷ []) []) (lt-ltb x 256 low)
+    filter_more (λ b. nat_lt b mark) xs i 0 lt ∙ ap (λ y. output (take i xs) ++ cond (nat_lt y mark) (y ∷ []) [])
+    (sym at) ∙ ap (λ b. output (take i xs) ++ cond b (x ∷ []) []) (lt-ltb x 256 low)
 
 -- an item that is neither a byte nor a mark
-pub neither_byte_nor_mark : (xs : List ℕ) (i x : ℕ) → i < length xs → x ≡ get_or xs i 0 → x ≢ 256 → 256 ≤ x → All (λ b. b ≤ 256) xs → ⊥
+pub neither_byte_nor_mark : (xs : List ℕ) (i x : ℕ) → i < length xs → x ≡ get_or xs i 0 → x ≢ 256 → 256 ≤ x → All
+    (λ b. b ≤ 256) xs → ⊥
 neither_byte_nor_mark [] i x lt at other le all = absurd (omega arith)
-neither_byte_nor_mark (y ∷ rest) zero x lt at other le all = other (let low : y ≤ 256 = All-head (λ b. b ≤ 256) _ _ all in omega arith)
-neither_byte_nor_mark (y ∷ rest) (suc i) x lt at other le all = neither_byte_nor_mark rest i x (omega arith) at other le (All-tail (λ b. b ≤ 256) _ _ all)
+neither_byte_nor_mark (y ∷ rest) zero x lt at other le all = other
+    (let low : y ≤ 256 = All-head (λ b. b ≤ 256) _ _ all in omega arith)
+neither_byte_nor_mark (y ∷ rest) (suc i) x lt at other le all = neither_byte_nor_mark rest i x (omega arith) at other le
+    (All-tail (λ b. b ≤ 256) _ _ all)

@@ -1,7 +1,19 @@
--- How deep the parts of a program lie in one another: a statement, an expression or a variable takes one level more than
--- the highest of its parts. An operator's operands and a variable's indices are parts of the one chain that they stand in.
+-- How deep the parts of a program are nested: a statement, an expression or a variable takes one level more than the
+-- highest of its parts. An operator's operands and a variable's indices are parts of the one chain that they are in.
 use Rattle.std.specs.Prelude.{ℕ, suc, max, List, [], ◌∷◌}
-use Rattle.ps_tree.specs.Tree.{Place, Variable, Selector, Element, Field, Target, Selectors, no_selector, selector_before, ArithmeticSteps, no_arithmetic_step, arithmetic_step_before, Operands, no_operand, operand_before, SetSteps, no_set_step, set_step_before, Expr, Number, Nil, Load, Plus, Minus, Not, Arithmetic, Logic, Compare, ComparePointers, CompareSets, CompareStrings, In, Apply, Eof, Eoln, Call, CallFormal, SetExpr, LoadSet, Constructor, Combine, Member, One, Several, Members, no_member, member_before, Structure, Literal, Contents, Argument, ByValue, BySet, ByCopy, ByVariable, ByRoutine, ByFormal, Arguments, no_argument, argument_before, ReadVariable, ReadChar, ReadInteger, Width, DefaultWidth, GivenWidth, WriteParameter, WriteInteger, WriteChar, WriteBoolean, WriteText, Statement, Empty, Assign, AssignSet, AssignStructure, CallProcedure, CallFormalProcedure, Compound, If, IfElse, Case, While, Repeat, For, With, New, Pack, Unpack, Read, Readln, Write, Writeln, Statements, no_statement, statement_before, Elements, no_element, element_before, Routine, Program}
+use Rattle.ps_tree.specs.Tree.{Place, Variable, Selector, Element, Field, Target, Selectors, no_selector}
+use Rattle.ps_tree.specs.Tree.{selector_before, ArithmeticSteps, no_arithmetic_step, arithmetic_step_before, Operands}
+use Rattle.ps_tree.specs.Tree.{no_operand, operand_before, SetSteps, no_set_step, set_step_before, Expr, Number, Nil}
+use Rattle.ps_tree.specs.Tree.{Load, Plus, Minus, Not, Arithmetic, Logic, Compare, ComparePointers, CompareSets}
+use Rattle.ps_tree.specs.Tree.{CompareStrings, In, Apply, Eof, Eoln, Call, CallFormal, SetExpr, LoadSet, Constructor}
+use Rattle.ps_tree.specs.Tree.{Combine, Member, One, Several, Members, no_member, member_before, Structure, Literal}
+use Rattle.ps_tree.specs.Tree.{Contents, Argument, ByValue, BySet, ByCopy, ByVariable, ByRoutine, ByFormal, Arguments}
+use Rattle.ps_tree.specs.Tree.{no_argument, argument_before, ReadVariable, ReadChar, ReadInteger, Width, DefaultWidth}
+use Rattle.ps_tree.specs.Tree.{GivenWidth, WriteParameter, WriteInteger, WriteChar, WriteBoolean, WriteText, Statement}
+use Rattle.ps_tree.specs.Tree.{Empty, Assign, AssignSet, AssignStructure, CallProcedure, CallFormalProcedure, Compound}
+use Rattle.ps_tree.specs.Tree.{If, IfElse, Case, While, Repeat, For, With, New, Pack, Unpack, Read, Readln, Write}
+use Rattle.ps_tree.specs.Tree.{Writeln, Statements, no_statement, statement_before, Elements, no_element}
+use Rattle.ps_tree.specs.Tree.{element_before, Routine, Program}
 
 abbrev mutual
   pub place_height : Place → ℕ
@@ -117,11 +129,14 @@ abbrev mutual
   statement_height (Case e elements line) = suc (max (expr_height e) (elements_height elements))
   statement_height (While e s) = suc (max (expr_height e) (statement_height s))
   statement_height (Repeat body e) = suc (max (statements_height body) (expr_height e))
-  statement_height (For variable low high a from_line direction b to_line s) = suc (max (expr_height a) (max (expr_height b) (statement_height s)))
+  statement_height (For variable low high a from_line direction b to_line s) = suc
+      (max (expr_height a) (max (expr_height b) (statement_height s)))
   statement_height (With places s) = suc (max (places_height places) (statement_height s))
   statement_height (New p pointer line) = suc (place_height p)
-  statement_height (Pack p from_type e line q to_type) = suc (max (place_height p) (max (expr_height e) (place_height q)))
-  statement_height (Unpack p from_type q to_type e line) = suc (max (place_height p) (max (place_height q) (expr_height e)))
+  statement_height (Pack p from_type e line q to_type) = suc
+      (max (place_height p) (max (expr_height e) (place_height q)))
+  statement_height (Unpack p from_type q to_type e line) = suc
+      (max (place_height p) (max (place_height q) (expr_height e)))
   statement_height (Read variables) = suc (reads_height variables)
   statement_height (Readln variables line) = suc (reads_height variables)
   statement_height (Write parameters) = suc (writes_height parameters)

@@ -1,4 +1,4 @@
--- Parts of statements, and what a run tells.
+-- Parts of statements, and what a run shows.
 use Rattle.std.specs.Prelude.{◌≡◌, ℕ, ◌+◌, ◌*◌, ◌<◌, ℤ, Bool, true, false, if◌then◌else◌, Result, Ok, Err}
 use Rattle.behavior.specs.Transcripts.{Shown}
 use Rattle.ps_tree.specs.Tree as t
@@ -18,8 +18,8 @@ use Rattle.ps_meaning_runner.specs.declared.operators.Comparison.{Comparison}
 use Rattle.ps_meaning_runner.specs.View.{compared}
 use Rattle.ps_meaning_runner.specs.Heights.{highest}
 
--- The levels that calls with so much fuel may take: each is no higher than the highest body. A part of a body needs
--- those of its own height too.
+-- The levels that calls with this fuel may take: each is no higher than the highest body. A part of a body also needs
+-- those of its own height.
 unfoldable pub call_levels : Job → (fuel : ℕ) → ℕ
 call_levels job n = n * highest (program_of job)
 
@@ -27,7 +27,7 @@ abbrev pub levels : Job → (fuel height : ℕ) → ℕ
 levels job n height = height + call_levels job n
 
 -- where the definition's answer is known to end the run, or fewer levels were allowed than are needed; nothing is said
--- where memory was refused
+-- when out of memory
 abbrev pub Halted : {A : Type 0} → m.Answer A → (depth needed : ℕ) → Halt → World → Type 0
 Halted answer depth needed (Ended ending calls) w = answer ≡ m.Ends w.transcript.items (ending_of ending calls.items)
 Halted answer depth needed OutOfMemory w = Unit {0}
@@ -40,18 +40,22 @@ Runs view answer depth needed (Err halt) w = Halted answer depth needed halt w
 
 -- the truth of a condition
 abbrev pub truth_in : Job → ℕ → t.Expr → m.Context → m.Act Bool
-truth_in job n condition c = λ w. m.and_then (e.value (caller job n) condition c w) (λ x. m.give (is_true (v.number_of x)))
+truth_in job n condition c = λ w. m.and_then (e.value (caller job n) condition c w)
+    (λ x. m.give (is_true (v.number_of x)))
 
 abbrev pub truth_of : Bool → Bool
 truth_of b = b
 
 -- two values are compared
 abbrev pub comparing : Job → ℕ → Comparison → t.Expr → t.Expr → m.Context → m.Act v.Value
-comparing job n comparison a b c = λ w. m.and_then (e.value (caller job n) a c w) (λ x u. m.and_then (e.value (caller job n) b c u) (λ y. m.give (v.OrdinalValue (truth (compared comparison x y)))))
+comparing job n comparison a b c = λ w. m.and_then (e.value (caller job n) a c w)
+    (λ x u. m.and_then (e.value (caller job n) b c u) (λ y. m.give (v.OrdinalValue (truth (compared comparison x y)))))
 
--- the control variable of a for statement goes on, and there is a further turn; or it had the last value
+-- the control variable of a for statement advances, and there is another turn; or it had the last value
 abbrev pub advancing : v.Spot → Direction → (last : ℤ) → m.Act Bool
-advancing spot direction last = λ w. if is_equal (v.number_of (m.contents_in w spot)) last then m.Gives false w else m.Gives true (m.with_contents w spot (v.OrdinalValue (s.succeeding direction (v.number_of (m.contents_in w spot)))))
+advancing spot direction last = λ w. if is_equal (v.number_of (m.contents_in w spot)) last then m.Gives false w
+    else m.Gives true (m.with_contents w spot
+    (v.OrdinalValue (s.succeeding direction (v.number_of (m.contents_in w spot)))))
 
 -- the transcript and the ending
 abbrev pub shown : Ran → Shown

@@ -1,12 +1,14 @@
 -- What the runner's values stand for in the definitions.
-use Rattle.std.specs.Prelude.{◌≡◌, ℕ, ℤ, pos, negsuc, Option, Some, None, Bool, false, not, ◌&&◌, ◌||◌, List, [], ◌∷◌, get_or, Vec}
+use Rattle.std.specs.Prelude.{◌≡◌, ℕ, ℤ, pos, negsuc, Option, Some, None, Bool, false, not, ◌&&◌, ◌||◌, List, [], ◌∷◌}
+use Rattle.std.specs.Prelude.{get_or, Vec}
 use Rattle.std.specs.Global.{Global}
 use Rattle.ps_tree.specs.declared.tree.SetOperator.{SetOperator}
 use Rattle.ps_tree.specs.declared.tree.SetOperator.TheVariants.{Union, Difference, Intersection}
 use Rattle.ps_meaning.specs.Values as m
 use Rattle.ps_meaning.specs.Operators as o
 use Rattle.ps_meaning.specs.Text as t
-use Rattle.ps_meaning_runner.specs.declared.value.Value.{Value, Ordinal, Nil, Object, Set, Structure', Row_of-Value, end_of-Value, more_of-Value}
+use Rattle.ps_meaning_runner.specs.declared.value.Value.{Value, Ordinal, Nil, Object, Set, Structure', Row_of-Value}
+use Rattle.ps_meaning_runner.specs.declared.value.Value.{end_of-Value, more_of-Value}
 use Rattle.ps_meaning_runner.specs.declared.value.Root.{Root}
 use Rattle.ps_meaning_runner.specs.declared.value.Root.TheVariants.{Declared, Made}
 use Rattle.ps_meaning_runner.specs.declared.value.Spot.{Spot}

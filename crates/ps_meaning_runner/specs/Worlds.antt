@@ -1,5 +1,6 @@
 -- What the runner's environments, contexts and worlds stand for in the definitions.
-use Rattle.std.specs.Prelude.{◌≡◌, ◌+◌, nat_le, ℕ, ℤ, pos, int_lt, is_none, Bool, unsigned_abs, unwrap_or, if◌then◌else◌, Option, Some, zero, suc, List, [], ◌∷◌, map, Vec, Result, Ok, Err}
+use Rattle.std.specs.Prelude.{◌≡◌, ◌+◌, nat_le, ℕ, ℤ, pos, int_lt, is_none, Bool, unsigned_abs, unwrap_or}
+use Rattle.std.specs.Prelude.{if◌then◌else◌, Option, Some, zero, suc, List, [], ◌∷◌, map, Vec, Result, Ok, Err}
 use Rattle.std.specs.Global.{Global}
 use Rattle.behavior.specs.Endings as endings
 use Rattle.ps_tree.specs.Checked.{program_in}
@@ -34,7 +35,8 @@ use Rattle.ps_meaning_runner.specs.declared.world.Context.{Context}
 use Rattle.ps_meaning_runner.specs.declared.world.Input.{Input}
 use Rattle.ps_meaning_runner.specs.declared.world.World.{World}
 use Rattle.ps_meaning_runner.specs.declared.operands.Actual.{Actual}
-use Rattle.ps_meaning_runner.specs.declared.operands.Actual.TheVariants.{Value as ValueOf, Variable as VariableAt, Routine as RoutineIn}
+use Rattle.ps_meaning_runner.specs.declared.operands.Actual.TheVariants.{Value as ValueOf, Variable as VariableAt}
+use Rattle.ps_meaning_runner.specs.declared.operands.Actual.TheVariants.{Routine as RoutineIn}
 use Rattle.ps_meaning_runner.specs.declared.operands.Callee.{Callee}
 use Rattle.ps_meaning_runner.specs.declared.operands.Callee.TheVariants.{Declared, Formal}
 use Rattle.ps_meaning_runner.specs.declared.operands.Held.{Held}
@@ -79,7 +81,12 @@ numbers_of End = []
 numbers_of (Number' first p rest) = first ∷ numbers_of rest
 
 abbrev pub context_of : Context → m.Context
-context_of c = record { env = env_of c.env.value; opened = map spot_of c.opened.items; active = numbers_of c.active.value; calls = numbers_of c.calls.value }
+context_of c = record {
+  env = env_of c.env.value;
+  opened = map spot_of c.opened.items;
+  active = numbers_of c.active.value;
+  calls = numbers_of c.calls.value;
+}
 
 -- the values of names; those that were not given one are unset
 unfoldable pub stored : List Value → ℕ → v.Value
@@ -91,7 +98,14 @@ abbrev pub input_of : Input → t.Input
 input_of i = record { left = i.left.now; looked = i.looked; in_line = i.in_line }
 
 abbrev pub world_of : World → m.World
-world_of w = record { next = w.next; store = stored w.store.items; objects = map value_of w.objects.items; made = w.made.items; input = input_of w.input; transcript = w.transcript.items }
+world_of w = record {
+  next = w.next;
+  store = stored w.store.items;
+  objects = map value_of w.objects.items;
+  made = w.made.items;
+  input = input_of w.input;
+  transcript = w.transcript.items;
+}
 
 abbrev pub program_of : Job → Program
 program_of job = program_in job.program.now
@@ -99,14 +113,14 @@ program_of job = program_in job.program.now
 abbrev pub costs_in : Job → Costs
 costs_in job = costs_of job.frames.now job.objects.now job.stack job.heap
 
--- a call, and a task, with so much fuel
+-- a call, and a task, with this fuel
 unfoldable pub caller : Job → ℕ → Caller
 caller job n = call_routine (program_of job) (costs_in job) (execute (program_of job) (costs_in job) n)
 
 unfoldable pub next : Job → ℕ → Next
 next job n = execute (program_of job) (costs_in job) n
 
--- how a run ends, where the calls with these lines are open
+-- how a run ends, with the calls at these lines open
 abbrev pub ending_of : Ending → (calls : List ℕ) → endings.Ending
 ending_of Normal calls = endings.Normal
 ending_of (Error number line) calls = endings.failed number line calls
@@ -114,7 +128,7 @@ ending_of (Stack line) calls = endings.Stack line
 ending_of (Heap line) calls = endings.Heap line
 ending_of More calls = endings.More
 
--- where the definition's answer is known to end the run; nothing is said where memory was refused
+-- where the definition's answer is known to end the run; nothing is said when out of memory
 abbrev pub Stopped : {A : Type 0} → m.Answer A → Halt → World → Type 0
 Stopped answer (Ended ending calls) w = answer ≡ m.Ends w.transcript.items (ending_of ending calls.items)
 Stopped answer OutOfMemory w = Unit {0}
@@ -147,7 +161,7 @@ written Integer x n = m.write_text (t.right_aligned (unwrap_or n 11) (t.integer_
 written Char x n = m.write_text (t.right_aligned (unwrap_or n 1) (st.character x ∷ []))
 written Boolean x n = m.write_text (t.fitted (unwrap_or n 5) (t.boolean_text (o.is_true (v.number_of x))))
 
--- statements with so much fuel
+-- statements with n of fuel
 module _ (job : Job) (n : ℕ) where
   abbrev pub acting : Tree.Statement → m.Context → m.Act m.Done
   acting = st.act (program_of job) (costs_in job) (caller job n) (next job n)
@@ -170,9 +184,10 @@ module _ (job : Job) (n : ℕ) where
   abbrev pub writing : Tree.WriteParameter → m.Context → m.Act m.Done
   writing = st.write (program_of job) (costs_in job) (caller job n) (next job n)
 
-  -- a value is evaluated, then the width, and it is written in a form
+  -- a value is evaluated, then the width, and the value is written in a form
   abbrev pub writing_form : Form → Tree.Expr → Tree.Width → m.Context → m.Act m.Done
-  writing_form form x width c = λ w. m.and_then (e.value (caller job n) x c w) (λ y u. m.and_then (width_in width c u) (written form y))
+  writing_form form x width c = λ w. m.and_then (e.value (caller job n) x c w)
+      (λ y u. m.and_then (width_in width c u) (written form y))
 
   abbrev pub writing_all : List Tree.WriteParameter → m.Context → m.Act m.Done
   writing_all = st.writes (program_of job) (costs_in job) (caller job n) (next job n)
@@ -186,18 +201,21 @@ module _ (job : Job) (n : ℕ) where
   abbrev pub putting_object : v.Spot → (pointer line : ℕ) → m.Act m.Done
   putting_object s pointer line = λ w. m.and_then (making pointer line w) (m.put s)
 
-  -- a body, and then the further turns
+  -- a body, and then the other turns
   unfoldable pub turning : (variable : ℕ) → Direction → (last : ℤ) → Tree.Statement → m.Context → m.Act m.Done
-  turning variable direction last s c = λ w. m.and_then (acting s c w) (λ _. next job n (st.Further variable direction last s) c)
+  turning variable direction last s c = λ w. m.and_then (acting s c w)
+      (λ _. next job n (st.Further variable direction last s) c)
 
 -- what the elements of a case statement select
 abbrev pub Selects : Tree.Elements → ℤ → Tree.Statement → Type 0
-Selects elements x s = (job : Job) (n line : ℕ) (c : m.Context) (w : m.World) → selecting job n elements x line c w ≡ acting job n s c w
+Selects elements x s = (job : Job) (n line : ℕ) (c : m.Context) (w : m.World) → selecting job n elements x line c w
+    ≡ acting job n s c w
 
 abbrev pub SelectsNone : Tree.Elements → ℤ → Type 0
-SelectsNone elements x = (job : Job) (n line : ℕ) (c : m.Context) (w : m.World) → selecting job n elements x line c w ≡ m.fault 7 line c w
+SelectsNone elements x = (job : Job) (n line : ℕ) (c : m.Context) (w : m.World) → selecting job n elements x line c w
+    ≡ m.fault 7 line c w
 
--- the routine that a call names, and the environment that this was declared in
+-- the routine that a call names, and the environment in which it was declared
 abbrev pub callee_routine : Callee → m.Context → ℕ
 callee_routine (Declared routine up) c = routine
 callee_routine (Formal up index) c = m.routine_in (m.frame_of (m.above c.env up)) index
@@ -208,18 +226,28 @@ callee_env (Formal up index) c = m.env_in (m.frame_of (m.above c.env up)) index
 
 -- a call of what was named, and the value of one
 abbrev pub called : Job → ℕ → Callee → Tree.Arguments → (line : ℕ) → m.Context → m.Act m.Done
-called job n callee arguments line c = λ w. m.and_then (e.actuals_of (caller job n) arguments c w) (λ actuals. caller job n (callee_routine callee c) (callee_env callee c) actuals (e.calling line c))
+called job n callee arguments line c = λ w. m.and_then (e.actuals_of (caller job n) arguments c w)
+    (λ actuals. caller job n (callee_routine callee c) (callee_env callee c) actuals (e.calling line c))
 
 abbrev pub called_value : Job → ℕ → Callee → Tree.Arguments → (line : ℕ) → m.Context → m.Act v.Value
-called_value job n callee arguments line c = λ w. m.and_then (e.actuals_of (caller job n) arguments c w) (λ actuals. e.function_value (caller job n) (callee_routine callee c) (callee_env callee c) actuals (e.calling line c))
+called_value job n callee arguments line c = λ w. m.and_then (e.actuals_of (caller job n) arguments c w)
+    (λ actuals. e.function_value (caller job n) (callee_routine callee c) (callee_env callee c) actuals
+    (e.calling line c))
 
 -- a for statement whose bounds were evaluated
-abbrev pub counting : Job → ℕ → (variable : ℕ) (low high : ℤ) → v.Value → (from_line : ℕ) → Direction → v.Value → (to_line : ℕ) → Tree.Statement → m.Context → m.Act m.Done
-counting job n variable low high x from_line direction y to_line s c = if st.is_past direction (v.number_of x) (v.number_of y) then m.give m.done else (λ w. m.and_then (e.fitting (WithinBounds low high) x from_line c w) (λ _ u. m.and_then (e.fitting (WithinBounds low high) y to_line c u) (λ _ z. m.and_then (m.put (st.own_spot variable c) x z) (λ _. turning job n variable direction (v.number_of y) s c))))
+abbrev pub counting : Job → ℕ → (variable : ℕ) (low high : ℤ) → v.Value → (from_line : ℕ) → Direction → v.Value
+    → (to_line : ℕ) → Tree.Statement → m.Context → m.Act m.Done
+counting job n variable low high x from_line direction y to_line s c = if st.is_past direction (v.number_of x)
+    (v.number_of y) then m.give m.done else (λ w. m.and_then (e.fitting (WithinBounds low high) x from_line c w)
+    (λ _ u. m.and_then (e.fitting (WithinBounds low high) y to_line c u)
+    (λ _ z. m.and_then (m.put (st.own_spot variable c) x z)
+    (λ _. turning job n variable direction (v.number_of y) s c))))
 
 -- what comes before the first turn of a for statement
-abbrev pub beginning : (variable : ℕ) → Range → v.Value → (from_line : ℕ) → v.Value → (to_line : ℕ) → m.Context → m.Act m.Done
-beginning variable range x from_line y to_line c = λ w. m.and_then (e.fitting range x from_line c w) (λ _ u. m.and_then (e.fitting range y to_line c u) (λ _. m.put (st.own_spot variable c) x))
+abbrev pub beginning : (variable : ℕ) → Range → v.Value → (from_line : ℕ) → v.Value → (to_line : ℕ) → m.Context
+    → m.Act m.Done
+beginning variable range x from_line y to_line c = λ w. m.and_then (e.fitting range x from_line c w)
+    (λ _ u. m.and_then (e.fitting range y to_line c u) (λ _. m.put (st.own_spot variable c) x))
 
 -- eof and eoln look at the next character
 abbrev pub at_end : m.Act v.Value
@@ -228,11 +256,11 @@ at_end = λ w. m.and_then (m.look w) (λ next. m.give (v.OrdinalValue (o.truth (
 abbrev pub at_line_end : (line : ℕ) → m.Context → m.Act v.Value
 at_line_end line c = λ w. m.and_then (m.look w) (λ next. e.line_end next line c)
 
--- readln takes the rest of the line when its variables were read
+-- readln takes the rest of the line once its variables were read
 abbrev pub rest_of_line : (line : ℕ) → m.Context → m.Act m.Done
 rest_of_line line c = λ w. m.and_then (m.look w) (λ next. st.line_read next line c)
 
--- a value, a set or the contents of an operand go into a variable
+-- a value, a set or the contents of an operand are stored in a variable
 abbrev pub putting_fitting : v.Spot → Range → v.Value → (line : ℕ) → m.Context → m.Act m.Done
 putting_fitting s range x line c = λ w. m.and_then (e.fitting range x line c w) (m.put s)
 
@@ -244,11 +272,13 @@ putting_contents s held = λ w. m.and_then (e.contents_of held w) (m.put s)
 
 -- an integer that is read, in a range
 abbrev pub integer_in : (low high : ℤ) (line : ℕ) → m.Context → m.Act v.Value
-integer_in low high line c = λ w. m.and_then (st.scan w) (λ found u. m.and_then (st.integer_found found line c u) (λ x. e.fitting (WithinBounds low high) x line c))
+integer_in low high line c = λ w. m.and_then (st.scan w)
+    (λ found u. m.and_then (st.integer_found found line c u) (λ x. e.fitting (WithinBounds low high) x line c))
 
 -- a character and an integer that are read into a variable
 abbrev pub character_into : v.Spot → (low high : ℤ) (line : ℕ) → m.Context → m.Act m.Done
-character_into s low high line c = λ w. m.and_then (m.look w) (λ next u. m.and_then (st.character_read next line c u) (λ x. putting_fitting s (WithinBounds low high) x line c))
+character_into s low high line c = λ w. m.and_then (m.look w)
+    (λ next u. m.and_then (st.character_read next line c u) (λ x. putting_fitting s (WithinBounds low high) x line c))
 
 abbrev pub integer_into : v.Spot → (low high : ℤ) (line : ℕ) → m.Context → m.Act m.Done
 integer_into s low high line c = λ w. m.and_then (integer_in low high line c w) (m.put s)
@@ -264,7 +294,9 @@ reading_into (Tree.ReadInteger p low high line) s c = integer_into s low high li
 
 -- two strings that were accessed
 abbrev pub strings_compared : Relation → e.Held → e.Held → m.Act v.Value
-strings_compared relation x y = λ w. m.and_then (e.contents_of x w) (λ a u. m.and_then (e.contents_of y u) (λ b. m.give (v.OrdinalValue (o.truth (o.strings_hold relation (v.components_of a) (v.components_of b))))))
+strings_compared relation x y = λ w. m.and_then (e.contents_of x w)
+    (λ a u. m.and_then (e.contents_of y u) (λ b. m.give
+    (v.OrdinalValue (o.truth (o.strings_hold relation (v.components_of a) (v.components_of b))))))
 
 abbrev pub opened_in : Context → List v.Spot
 opened_in c = map spot_of c.opened.items
@@ -288,13 +320,17 @@ used_up = ends endings.More
 abbrev pub width_checked : ℤ → (line : ℕ) → m.Context → m.Act (Option ℕ)
 width_checked x line c = if int_lt x (pos 1) then m.fault 11 line c else m.give (Some (unsigned_abs x))
 
--- pack and unpack, when their operands were accessed
+-- pack and unpack, once their operands were accessed
 abbrev pub packing : v.Spot → Ordinal → ℕ → v.Spot → Ordinal → (line : ℕ) → m.Context → m.Act m.Done
-packing a from k z to line c = λ w. m.and_then (m.contents a w) (λ x. if nat_le (k + value_count to) (value_count from) then m.put z (v.StructureValue (v.first_values (value_count to) (v.values_from (v.components_of x) k))) else m.fault 5 line c)
+packing a from k z to line c = λ w. m.and_then (m.contents a w)
+    (λ x. if nat_le (k + value_count to) (value_count from) then m.put z
+    (v.StructureValue (v.first_values (value_count to) (v.values_from (v.components_of x) k))) else m.fault 5 line c)
 
 abbrev pub unpacking : v.Spot → Ordinal → v.Spot → Ordinal → ℕ → (line : ℕ) → m.Context → m.Act m.Done
-unpacking z from a to k line c = λ w. m.and_then (m.contents z w) (λ x u. m.and_then (m.contents a u) (λ y. if nat_le (k + value_count from) (value_count to) then m.put a (v.StructureValue (v.with_values (v.components_of y) k (v.components_of x))) else m.fault 5 line c))
+unpacking z from a to k line c = λ w. m.and_then (m.contents z w)
+    (λ x u. m.and_then (m.contents a u) (λ y. if nat_le (k + value_count from) (value_count to) then m.put a
+    (v.StructureValue (v.with_values (v.components_of y) k (v.components_of x))) else m.fault 5 line c))
 
--- the context with the lines of these calls open
+-- the context with the calls at these lines open
 abbrev pub with_calls : List ℕ → m.Context → m.Context
 with_calls calls c = record { env = c.env; opened = c.opened; active = c.active; calls = calls }

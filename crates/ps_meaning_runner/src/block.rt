@@ -9,7 +9,9 @@ ghost use Rattle.ps_meaning.specs.Expressions as m;
 ghost use Rattle.ps_meaning.specs.Statements.{Block};
 ghost use Rattle.ps_meaning.specs.Calls as d;
 ghost use Rattle.ps_meaning_runner.specs.View.{value_of};
-ghost use Rattle.ps_meaning_runner.specs.Worlds.{Stopped, actual_of, callee_env, callee_routine, caller, context_of, entries_of, env_of, next, numbers_of, program_of, with_calls, world_of};
+ghost use Rattle.ps_meaning_runner.specs.Worlds.{Stopped, actual_of, callee_env, callee_routine, caller, context_of};
+ghost use Rattle.ps_meaning_runner.specs.Worlds.{entries_of, env_of, next, numbers_of, program_of, with_calls};
+ghost use Rattle.ps_meaning_runner.specs.Worlds.{world_of};
 ghost use Rattle.ps_meaning_runner.specs.Blocks.{with_entry, with_entries, bound_in};
 
 use crate::cost::passes_stack;
@@ -35,7 +37,8 @@ struct Called<'b> {
 impl<'a> World<'a> {
     /// The entry of a new variable with a value.
     fn declared(&mut self, alloc: Global, value: Value) -> Result<Entry, AllocError>
-        ensures { IfOk result (λ e. (others : w.World → d.Bound) → d.declared (value_of value) others (world_of self.old) ≡ with_entry e (others (world_of self.new))) }
+        ensures { IfOk result (λ e. (others : w.World → d.Bound) → d.declared (value_of value) others
+            (world_of self.old) ≡ with_entry e (others (world_of self.new))) }
     {
         let name = self.declare(value)?;
         Ok(Entry::Variable(Spot::entire(alloc, Root::Declared(name))))
@@ -45,7 +48,9 @@ impl<'a> World<'a> {
     /// environment.
     #[tactic(auto, unfolding(crate::specs::Worlds::actual_of, crate::specs::Worlds::entry_before))]
     fn actual_entry(&mut self, alloc: Global, actual: &Actual) -> Result<Entry, AllocError>
-        ensures { IfOk result (λ e. (rest : List m.Actual) (variables : List DataType) → d.bind_actuals (actual_of actual.now ∷ rest) variables (world_of self.old) ≡ with_entry e (d.bind_actuals rest variables (world_of self.new))) }
+        ensures { IfOk result (λ e. (rest : List m.Actual) (variables : List DataType) → d.bind_actuals
+            (actual_of actual.now ∷ rest) variables (world_of self.old) ≡ with_entry e
+            (d.bind_actuals rest variables (world_of self.new))) }
     {
         match actual {
             Actual::Value(value) => self.declared(alloc, value.copy(alloc)?),
@@ -63,7 +68,9 @@ impl<'a> World<'a> {
         alloc: Global,
         result_ty: Option<&Ty>,
     ) -> Result<Vec<Entry>, AllocError>
-        ensures { IfOk result (λ frame. (actuals : List m.Actual) (variables : List DataType) → d.bind (option_map type_of (option_copied result_ty.entry)) actuals variables (world_of self.old) ≡ with_entries frame.items (d.bind_actuals actuals variables (world_of self.new))) }
+        ensures { IfOk result (λ frame. (actuals : List m.Actual) (variables : List DataType) → d.bind
+            (option_map type_of (option_copied result_ty.entry)) actuals variables (world_of self.old)
+            ≡ with_entries frame.items (d.bind_actuals actuals variables (world_of self.new))) }
     {
         let mut frame = Vec::new(alloc);
         match result_ty {
@@ -84,7 +91,9 @@ impl<'a> World<'a> {
         actuals: &[Actual],
         frame: &mut Vec<Entry>,
     ) -> Result<(), AllocError>
-        ensures { OnOk result ((variables : List DataType) → with_entries frame.old.items (d.bind_actuals (map actual_of actuals.now) variables (world_of self.old)) ≡ with_entries frame.new.items (d.bind_variables variables (world_of self.new))) }
+        ensures { OnOk result ((variables : List DataType) → with_entries frame.old.items
+            (d.bind_actuals (map actual_of actuals.now) variables (world_of self.old)) ≡ with_entries frame.new.items
+            (d.bind_variables variables (world_of self.new))) }
     {
         for actual in actuals {
             frame.push(self.actual_entry(alloc, actual)?)?;
@@ -100,7 +109,9 @@ impl<'a> World<'a> {
         types: &[Ty],
         frame: &mut Vec<Entry>,
     ) -> Result<(), AllocError>
-        ensures { OnOk result (with_entries frame.old.items (d.bind_variables (map type_of types.now) (world_of self.old)) ≡ bound_in frame.new.items (world_of self.new)) }
+        ensures { OnOk result (with_entries frame.old.items
+            (d.bind_variables (map type_of types.now) (world_of self.old)) ≡ bound_in frame.new.items
+            (world_of self.new)) }
     {
         for ty in types {
             let value = first(alloc, ty)?;
@@ -117,7 +128,9 @@ impl<'a> World<'a> {
         actuals: &[Actual],
         variables: &[Ty],
     ) -> Result<Vec<Entry>, AllocError>
-        ensures { IfOk result (λ frame. d.bind (option_map type_of (option_copied result_ty.entry)) (map actual_of actuals.now) (map type_of variables.now) (world_of self.old) ≡ bound_in frame.items (world_of self.new)) }
+        ensures { IfOk result (λ frame. d.bind (option_map type_of (option_copied result_ty.entry))
+            (map actual_of actuals.now) (map type_of variables.now) (world_of self.old) ≡ bound_in frame.items
+            (world_of self.new)) }
     {
         let mut frame = self.bind_result(alloc, result_ty)?;
         self.bind_actuals(alloc, actuals, &mut frame)?;
@@ -126,10 +139,11 @@ impl<'a> World<'a> {
     }
 }
 
-/// What a call needs of the routine with a number; the program has an empty routine for each number past its own.
+/// What a call needs of the routine with a number; past its own routines, the program has an empty one for each number.
 #[tactic(auto, using(crate::proofs::Blocks::routine_found, crate::proofs::Blocks::routine_past), unfolding(ps_tree::specs::View::statements_of))]
 fn routine_numbered<'b>(job: &'b Job<'b>, number: u32) -> Called<'b>
-    ensures result { (routine_at (program_of job.now) number).result ≡ option_map type_of (option_copied result.result) }
+    ensures result { (routine_at (program_of job.now) number).result ≡ option_map type_of
+        (option_copied result.result) }
     ensures variables { (routine_at (program_of job.now) number).variables ≡ map type_of result.variables.now }
     ensures body { (routine_at (program_of job.now) number).body ≡ statements_of result.body.now }
     ensures line { (routine_at (program_of job.now) number).line ≡ result.line }
@@ -150,7 +164,7 @@ fn routine_numbered<'b>(job: &'b Job<'b>, number: u32) -> Called<'b>
     }
 }
 
-/// An environment with a frame more.
+/// An environment with one more frame.
 #[tactic(auto, using(crate::proofs::Worlds::env_of_Within))]
 fn env_within(alloc: Global, frame: Vec<Entry>, outer: Rc<Env>) -> Result<Rc<Env>, AllocError>
     ensures { IfOk result (λ env. env_of env.value ≡ w.Within (entries_of frame.items) (env_of outer.value)) }
@@ -159,9 +173,9 @@ fn env_within(alloc: Global, frame: Vec<Entry>, outer: Rc<Env>) -> Result<Rc<Env
 }
 
 impl<'a> World<'a> {
-    /// Enters the block of a routine that was declared in an environment, at a call with these actual parameters, with the
-    /// lines of the calls that are then open: its statements, and the context in which they are to be done. An end for
-    /// stack where the frame bytes of the open routines would pass it.
+    /// Enters the block of a routine that was declared in an environment, at a call with these actual parameters, and
+    /// gives its statements and the context to execute them in. `calls` are the lines of the calls that are then open.
+    /// Ends for stack where the frame bytes of the open routines would exceed it.
     #[tactic(auto, using(crate::proofs::Blocks::block_entered))]
     pub fn enter_with<'b>(
         &mut self,
@@ -172,9 +186,13 @@ impl<'a> World<'a> {
         c: &Context,
         job: &'b Job<'b>,
     ) -> Result<(&'b [Statement], Context), Halt>
-        ensures entered { IfOk result (λ b. (n : ℕ) → caller job.now n routine (env_of parent.value) (map actual_of actuals.now) (with_calls (numbers_of calls.value) (context_of c.now)) (world_of self.old) ≡ next job.now n (Block (statements_of b.0.now)) (context_of b.1) (world_of self.new)) }
+        ensures entered { IfOk result (λ b. (n : ℕ) → caller job.now n routine (env_of parent.value)
+            (map actual_of actuals.now) (with_calls (numbers_of calls.value) (context_of c.now)) (world_of self.old)
+            ≡ next job.now n (Block (statements_of b.0.now)) (context_of b.1) (world_of self.new)) }
         ensures body { IfOk result (λ b. statements_of b.0.now ≡ (routine_at (program_of job.now) routine).body) }
-        ensures stopped { IfErr result (λ stop. (n : ℕ) → Stopped (caller job.now n routine (env_of parent.value) (map actual_of actuals.now) (with_calls (numbers_of calls.value) (context_of c.now)) (world_of self.old)) stop self.new) }
+        ensures stopped { IfErr result (λ stop. (n : ℕ) → Stopped
+            (caller job.now n routine (env_of parent.value) (map actual_of actuals.now)
+            (with_calls (numbers_of calls.value) (context_of c.now)) (world_of self.old)) stop self.new) }
     {
         let called = routine_numbered(job, routine);
         let active = Numbers::before(job.alloc, routine, &c.active)?;
@@ -204,9 +222,14 @@ impl<'a> World<'a> {
         c: &Context,
         job: &'b Job<'b>,
     ) -> Result<(&'b [Statement], Context), Halt>
-        ensures entered { IfOk result (λ b. (n : ℕ) → caller job.now n (callee_routine callee (context_of c.now)) (callee_env callee (context_of c.now)) (map actual_of actuals.items) (m.calling line (context_of c.now)) (world_of self.old) ≡ next job.now n (Block (statements_of b.0.now)) (context_of b.1) (world_of self.new)) }
-        ensures body { IfOk result (λ b. statements_of b.0.now ≡ (routine_at (program_of job.now) (callee_routine callee (context_of c.now))).body) }
-        ensures stopped { IfErr result (λ stop. (n : ℕ) → Stopped (caller job.now n (callee_routine callee (context_of c.now)) (callee_env callee (context_of c.now)) (map actual_of actuals.items) (m.calling line (context_of c.now)) (world_of self.old)) stop self.new) }
+        ensures entered { IfOk result (λ b. (n : ℕ) → caller job.now n (callee_routine callee (context_of c.now))
+            (callee_env callee (context_of c.now)) (map actual_of actuals.items) (m.calling line (context_of c.now))
+            (world_of self.old) ≡ next job.now n (Block (statements_of b.0.now)) (context_of b.1) (world_of self.new)) }
+        ensures body { IfOk result (λ b. statements_of b.0.now
+            ≡ (routine_at (program_of job.now) (callee_routine callee (context_of c.now))).body) }
+        ensures stopped { IfErr result (λ stop. (n : ℕ) → Stopped
+            (caller job.now n (callee_routine callee (context_of c.now)) (callee_env callee (context_of c.now))
+            (map actual_of actuals.items) (m.calling line (context_of c.now)) (world_of self.old)) stop self.new) }
     {
         let (routine, parent) = callee.found(c)?;
         let calls = Numbers::before(c.alloc, u32::from(line), &c.calls)?;

@@ -8,7 +8,8 @@ ghost use Rattle.ps_meaning.specs.Worlds.{contents};
 ghost use Rattle.ps_meaning.specs.Statements.{Block};
 ghost use Rattle.ps_meaning_runner.specs.View.{value_of};
 ghost use Rattle.ps_meaning_runner.specs.Worlds as r;
-ghost use Rattle.ps_meaning_runner.specs.Worlds.{Answers, Stopped, called, called_value, next, program_of, context_of, world_of, done_of};
+ghost use Rattle.ps_meaning_runner.specs.Worlds.{Answers, Stopped, called, called_value, next, program_of, context_of};
+ghost use Rattle.ps_meaning_runner.specs.Worlds.{world_of, done_of};
 ghost use Rattle.ps_meaning_runner.specs.Heights.{arguments_height, statements_height, highest};
 ghost use Rattle.ps_meaning_runner.specs.Runs.{Runs, levels};
 
@@ -29,11 +30,13 @@ pub fn used_up(world: &World, c: &Context) -> Halt
     world.ended(Ending::More, &c.calls, c.alloc)
 }
 
-/// Does a block of the program.
+/// Executes a block of the program.
 #[cycle(run)]
 pub fn do_block(world: &mut World, body: &[Statement], here: Here) -> Result<(), Halt>
     requires { statements_height (statements_of body.now) ≤ highest (program_of here.job.now) }
-    ensures { Runs done_of (next here.entry.job.now here.entry.fuel (Block (statements_of body.now)) (context_of here.entry.context.now) (world_of world.old)) here.entry.depth (levels here.entry.job.now here.entry.fuel 0) result world.new }
+    ensures { Runs done_of (next here.entry.job.now here.entry.fuel (Block (statements_of body.now))
+        (context_of here.entry.context.now) (world_of world.old)) here.entry.depth
+        (levels here.entry.job.now here.entry.fuel 0) result world.new }
 {
     if here.fuel == 0 {
         Err(used_up(world, here.context))
@@ -56,7 +59,9 @@ pub fn call_procedure(
     line: u16,
     here: Here,
 ) -> Result<(), Halt>
-    ensures { Runs done_of (called here.entry.job.now here.entry.fuel callee (arguments_of arguments.now) line (context_of here.entry.context.now) (world_of world.old)) here.entry.depth (levels here.entry.job.now here.entry.fuel (arguments_height (arguments_of arguments.now))) result world.new }
+    ensures { Runs done_of (called here.entry.job.now here.entry.fuel callee (arguments_of arguments.now) line
+        (context_of here.entry.context.now) (world_of world.old)) here.entry.depth
+        (levels here.entry.job.now here.entry.fuel (arguments_height (arguments_of arguments.now))) result world.new }
 {
     let actuals = take_actuals(world, arguments, here)?;
     let (body, inner) = world.enter(callee, actuals, line, here.context, here.job)?;
@@ -77,7 +82,9 @@ pub fn call_value(
     line: u16,
     here: Here,
 ) -> Result<Value, Halt>
-    ensures { Runs value_of (called_value here.entry.job.now here.entry.fuel callee (arguments_of arguments.now) line (context_of here.entry.context.now) (world_of world.old)) here.entry.depth (levels here.entry.job.now here.entry.fuel (arguments_height (arguments_of arguments.now))) result world.new }
+    ensures { Runs value_of (called_value here.entry.job.now here.entry.fuel callee (arguments_of arguments.now) line
+        (context_of here.entry.context.now) (world_of world.old)) here.entry.depth
+        (levels here.entry.job.now here.entry.fuel (arguments_height (arguments_of arguments.now))) result world.new }
 {
     let actuals = take_actuals(world, arguments, here)?;
     let name = world.next;

@@ -22,7 +22,10 @@ use ps_tree::tree::{CaseElement, Expr, Statement};
 #[cycle(run)]
 #[tactic(auto, using(crate::proofs::Answers::halted_then, crate::proofs::Answers::runs_deeper))]
 pub fn act_if(world: &mut World, condition: &Expr, body: &Statement, here: Here) -> Result<(), Halt>
-    ensures { Runs done_of (acting here.entry.job.now here.entry.fuel (Tree.If (expr_of condition.now) (statement_of body.now)) (context_of here.entry.context.now) (world_of world.old)) here.entry.depth (levels here.entry.job.now here.entry.fuel (max (expr_height (expr_of condition.now)) (statement_height (statement_of body.now)))) result world.new }
+    ensures { Runs done_of (acting here.entry.job.now here.entry.fuel
+        (Tree.If (expr_of condition.now) (statement_of body.now)) (context_of here.entry.context.now)
+        (world_of world.old)) here.entry.depth (levels here.entry.job.now here.entry.fuel
+        (max (expr_height (expr_of condition.now)) (statement_height (statement_of body.now)))) result world.new }
 {
     let x = evaluate(world, condition, here)?;
     if is_true(x.number()) {
@@ -42,7 +45,13 @@ pub fn act_if_else(
     otherwise: &Statement,
     here: Here,
 ) -> Result<(), Halt>
-    ensures { Runs done_of (acting here.entry.job.now here.entry.fuel (Tree.IfElse (expr_of condition.now) (statement_of body.now) (statement_of otherwise.now)) (context_of here.entry.context.now) (world_of world.old)) here.entry.depth (levels here.entry.job.now here.entry.fuel (max (expr_height (expr_of condition.now)) (max (statement_height (statement_of body.now)) (statement_height (statement_of otherwise.now))))) result world.new }
+    ensures { Runs done_of (acting here.entry.job.now here.entry.fuel
+        (Tree.IfElse (expr_of condition.now) (statement_of body.now) (statement_of otherwise.now))
+        (context_of here.entry.context.now) (world_of world.old)) here.entry.depth
+        (levels here.entry.job.now here.entry.fuel
+        (max (expr_height (expr_of condition.now))
+        (max (statement_height (statement_of body.now)) (statement_height (statement_of otherwise.now))))) result
+        world.new }
 {
     let x = evaluate(world, condition, here)?;
     if is_true(x.number()) {
@@ -62,7 +71,10 @@ pub fn choose(
     line: u16,
     here: Here,
 ) -> Result<(), Halt>
-    ensures { Runs done_of (acting here.entry.job.now here.entry.fuel (Tree.Case (expr_of index.now) (elements_of elements.now) line) (context_of here.entry.context.now) (world_of world.old)) here.entry.depth (levels here.entry.job.now here.entry.fuel (max (expr_height (expr_of index.now)) (elements_height (elements_of elements.now)))) result world.new }
+    ensures { Runs done_of (acting here.entry.job.now here.entry.fuel
+        (Tree.Case (expr_of index.now) (elements_of elements.now) line) (context_of here.entry.context.now)
+        (world_of world.old)) here.entry.depth (levels here.entry.job.now here.entry.fuel
+        (max (expr_height (expr_of index.now)) (elements_height (elements_of elements.now)))) result world.new }
 {
     let x = evaluate(world, index, here)?;
     match selected(elements, &x) {
@@ -73,8 +85,10 @@ pub fn choose(
 
 /// The statement of the element that has a constant, if one has it.
 fn selected<'t>(elements: &'t [CaseElement], x: &Value) -> Option<&'t Statement>
-    ensures chosen { MatchOption result (SelectsNone (elements_of elements.now) (number_of (value_of x.now))) (λ body. Selects (elements_of elements.now) (number_of (value_of x.now)) (statement_of body.now)) }
-    ensures within { MatchOption result (elements.now ≡ elements.now) (λ body. statement_height (statement_of body.now) ≤ elements_height (elements_of elements.now)) }
+    ensures chosen { MatchOption result (SelectsNone (elements_of elements.now) (number_of (value_of x.now)))
+        (λ body. Selects (elements_of elements.now) (number_of (value_of x.now)) (statement_of body.now)) }
+    ensures within { MatchOption result (elements.now ≡ elements.now)
+        (λ body. statement_height (statement_of body.now) ≤ elements_height (elements_of elements.now)) }
 {
     for element in elements {
         if has_constant(element.constants.as_slice(), x) {

@@ -1,4 +1,4 @@
-// What a run costs, and whether it passes its budget.
+// What a run costs, and whether it exceeds its budget.
 
 ghost use Rattle.std.specs.Prelude.{◌≡◌, ◌+◌, ◌<◌, ◌++◌, ◌∷◌, [], get_or, sum_by, MatchOption};
 ghost use Rattle.ps_meaning.specs.Statements as m;
@@ -16,11 +16,12 @@ fn cost_of(costs: &[u32], number: u32) -> u64
     }
 }
 
-/// What the costs of these numbers leave of a budget; none where they pass it. Where no costs are listed nothing is
-/// summed.
+/// What is left of a budget after the costs of these numbers; `None` where they exceed it. Where no costs are listed
+/// nothing is summed.
 #[tactic(auto, using(crate::proofs::Costs::free_of_cost))]
 fn left_after(costs: &[u32], numbers: &[u32], budget: u64) -> Option<u64>
-    ensures { MatchOption result (budget < sum_by (λ n. get_or costs.now n 0) numbers.now) (λ left. left + sum_by (λ n. get_or costs.now n 0) numbers.now ≡ budget) }
+    ensures { MatchOption result (budget < sum_by (λ n. get_or costs.now n 0) numbers.now)
+        (λ left. left + sum_by (λ n. get_or costs.now n 0) numbers.now ≡ budget) }
 {
     if costs.len() == 0 {
         return Some(budget);
@@ -36,7 +37,7 @@ fn left_after(costs: &[u32], numbers: &[u32], budget: u64) -> Option<u64>
     Some(left)
 }
 
-/// The bytes of the objects that were made, and of one more of this pointer type, pass the heap.
+/// Whether the bytes of the objects made, and of one more of this pointer type, exceed the heap.
 pub fn passes_heap(job: &Job, made: &[u32], pointer: u32) -> bool
     ensures { result ≡ m.passes_heap (costs_in job.now) (made.now ++ pointer ∷ []) }
 {
@@ -46,7 +47,7 @@ pub fn passes_heap(job: &Job, made: &[u32], pointer: u32) -> bool
     }
 }
 
-/// The frame bytes of the open routines pass the stack. Where no costs are listed nothing is summed.
+/// Whether the frame bytes of the open routines exceed the stack. Where no costs are listed nothing is summed.
 #[tactic(auto, using(crate::proofs::Worlds::numbers_of_Number, crate::proofs::Costs::free_of_cost), unfolding(crate::specs::Worlds::numbers_of))]
 pub fn passes_stack(job: &Job, active: &Numbers) -> bool
     ensures { result ≡ m.passes_stack (costs_in job.now) (numbers_of active.now) }

@@ -1,4 +1,4 @@
-// What reads look at and take of the input.
+// What reads look at in the input and take from it.
 
 ghost use Rattle.std.specs.Prelude.{◌++◌, replicate, ◌≡◌, IfOk, OnOk};
 ghost use Rattle.ps_meaning.specs.Expressions as e;
@@ -21,7 +21,7 @@ use ps_tree::tree::Range;
 use std::alloc::AllocError;
 
 impl<'a> World<'a> {
-    /// A look at the next character of the input.
+    /// Looks at the next character of the input.
     fn look(&mut self) -> Result<Option<u8>, AllocError>
         ensures { IfOk result (λ b. look (world_of self.old) ≡ Gives b (world_of self.new)) }
     {
@@ -76,7 +76,7 @@ impl<'a> World<'a> {
     }
 }
 
-/// So many first looks, marked.
+/// Marks `count` first looks.
 fn add_marks(transcript: &mut Vec<u16>, count: usize) -> Result<(), AllocError>
     ensures { OnOk result (transcript.new.items ≡ transcript.old.items ++ replicate count mark) }
 {
@@ -87,7 +87,7 @@ fn add_marks(transcript: &mut Vec<u16>, count: usize) -> Result<(), AllocError>
 }
 
 impl<'a> World<'a> {
-    /// The rest of the line is looked at and taken; error 9 at the end of input.
+    /// Looks at the rest of the line and takes it; error 9 at the end of input.
     #[tactic(auto, using(crate::proofs::Answers::stops))]
     fn line_read(&mut self, next: Option<u8>, line: u16, c: &Context) -> Result<(), Halt>
         ensures { Answers done_of (m.line_read next line (context_of c.now) (world_of self.old)) result self.new }
@@ -99,9 +99,10 @@ impl<'a> World<'a> {
         Ok(())
     }
 
-    /// Looks at the rest of the line, and takes it.
+    /// Looks at the rest of the line and takes it.
     fn skip_line(&mut self) -> Result<(), AllocError>
-        ensures { OnOk result (world_of self.new ≡ with_input (world_of self.old) (after_line (world_of self.old).input) (line_marks (world_of self.old).input)) }
+        ensures { OnOk result (world_of self.new ≡ with_input (world_of self.old) (after_line (world_of self.old).input)
+            (line_marks (world_of self.old).input)) }
     {
         let looks = self.input.looks_to_line();
         add_marks(&mut self.transcript, looks)?;
@@ -112,7 +113,9 @@ impl<'a> World<'a> {
     /// Looks for an integer in the input, and takes what it finds.
     fn scan(&mut self) -> Result<Reading, AllocError>
         ensures found { IfOk result (λ r. IsReading (scan_integer (world_of self.old).input.left).found r) }
-        ensures world { OnOk result (world_of self.new ≡ with_input (world_of self.old) (after_integer (scan_integer (world_of self.old).input.left).rest) (marks_to (world_of self.old).input (scan_integer (world_of self.old).input.left).rest)) }
+        ensures world { OnOk result (world_of self.new ≡ with_input (world_of self.old)
+            (after_integer (scan_integer (world_of self.old).input.left).rest)
+            (marks_to (world_of self.old).input (scan_integer (world_of self.old).input.left).rest)) }
     {
         let (found, rest) = scan_integer(self.input.left);
         let looks = self.input.looks_to(rest.len());
@@ -125,8 +128,8 @@ impl<'a> World<'a> {
         Ok(found)
     }
 
-    /// Reads an integer for a variable of this range: error 9 at the end of input, 10 where no integer stands there,
-    /// 4 for one outside the range.
+    /// Reads an integer for a variable of this range: error 9 at the end of input, 10 where there is no integer, 4 for
+    /// one outside the range.
     fn integer_read(&mut self, low: i32, high: i32, line: u16, c: &Context) -> Result<Value, Halt>
         ensures { Answers value_of (r.integer_in low high line (context_of c.now) (world_of self.old)) result self.new }
     {
@@ -144,7 +147,8 @@ impl<'a> World<'a> {
         line: u16,
         c: &Context,
     ) -> Result<Value, Halt>
-        ensures { (r : t.Reading) → IsReading r found → Answers value_of (integer_fitting r low high line (context_of c.now) (world_of self.now)) result self.now }
+        ensures { (r : t.Reading) → IsReading r found → Answers value_of
+            (integer_fitting r low high line (context_of c.now) (world_of self.now)) result self.now }
     {
         let number = match found {
             Reading::EndFound => 9,
@@ -167,7 +171,8 @@ impl<'a> World<'a> {
         line: u16,
         c: &Context,
     ) -> Result<(), Halt>
-        ensures { Answers done_of (r.character_into (spot_of spot.now) low high line (context_of c.now) (world_of self.old)) result self.new }
+        ensures { Answers done_of (r.character_into (spot_of spot.now) low high line (context_of c.now)
+            (world_of self.old)) result self.new }
     {
         let next = self.look()?;
         let x = self.character_read(next, line, c)?;
@@ -184,7 +189,8 @@ impl<'a> World<'a> {
         line: u16,
         c: &Context,
     ) -> Result<(), Halt>
-        ensures { Answers done_of (r.integer_into (spot_of spot.now) low high line (context_of c.now) (world_of self.old)) result self.new }
+        ensures { Answers done_of (r.integer_into (spot_of spot.now) low high line (context_of c.now)
+            (world_of self.old)) result self.new }
     {
         let v = self.integer_read(low, high, line, c)?;
         self.put(spot, v)

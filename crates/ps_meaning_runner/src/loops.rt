@@ -24,7 +24,7 @@ use crate::world::{Context, Here, World, spot_in};
 use ps_tree::tree::{Direction, Expr, Range, Statement};
 use std::alloc::AllocError;
 
-/// A for statement has no turn.
+/// Whether a for statement has no turn.
 fn is_past(direction: Direction, x: &Value, y: &Value) -> bool
     ensures { result ≡ m.is_past direction (number_of (value_of x.now)) (number_of (value_of y.now)) }
 {
@@ -52,7 +52,10 @@ pub fn repeat_while(
     body: &Statement,
     here: Here,
 ) -> Result<(), Halt>
-    ensures { Runs done_of (acting here.entry.job.now here.entry.fuel (Tree.While (expr_of condition.now) (statement_of body.now)) (context_of here.entry.context.now) (world_of world.old)) here.entry.depth (levels here.entry.job.now here.entry.fuel (max (expr_height (expr_of condition.now)) (statement_height (statement_of body.now)))) result world.new }
+    ensures { Runs done_of (acting here.entry.job.now here.entry.fuel
+        (Tree.While (expr_of condition.now) (statement_of body.now)) (context_of here.entry.context.now)
+        (world_of world.old)) here.entry.depth (levels here.entry.job.now here.entry.fuel
+        (max (expr_height (expr_of condition.now)) (statement_height (statement_of body.now)))) result world.new }
 {
     let mut left = here.fuel;
     loop {
@@ -76,7 +79,10 @@ pub fn repeat_until(
     condition: &Expr,
     here: Here,
 ) -> Result<(), Halt>
-    ensures { Runs done_of (acting here.entry.job.now here.entry.fuel (Tree.Repeat (statements_of body.now) (expr_of condition.now)) (context_of here.entry.context.now) (world_of world.old)) here.entry.depth (levels here.entry.job.now here.entry.fuel (max (statements_height (statements_of body.now)) (expr_height (expr_of condition.now)))) result world.new }
+    ensures { Runs done_of (acting here.entry.job.now here.entry.fuel
+        (Tree.Repeat (statements_of body.now) (expr_of condition.now)) (context_of here.entry.context.now)
+        (world_of world.old)) here.entry.depth (levels here.entry.job.now here.entry.fuel
+        (max (statements_height (statements_of body.now)) (expr_height (expr_of condition.now)))) result world.new }
 {
     let mut left = here.fuel;
     loop {
@@ -107,7 +113,12 @@ pub fn count(
     body: &Statement,
     here: Here,
 ) -> Result<(), Halt>
-    ensures { Runs done_of (acting here.entry.job.now here.entry.fuel (Tree.For variable low high (expr_of from.now) from_line direction (expr_of to.now) to_line (statement_of body.now)) (context_of here.entry.context.now) (world_of world.old)) here.entry.depth (levels here.entry.job.now here.entry.fuel (max (expr_height (expr_of from.now)) (max (expr_height (expr_of to.now)) (statement_height (statement_of body.now))))) result world.new }
+    ensures { Runs done_of (acting here.entry.job.now here.entry.fuel
+        (Tree.For variable low high (expr_of from.now) from_line direction (expr_of to.now) to_line
+        (statement_of body.now)) (context_of here.entry.context.now) (world_of world.old)) here.entry.depth
+        (levels here.entry.job.now here.entry.fuel
+        (max (expr_height (expr_of from.now)) (max (expr_height (expr_of to.now))
+        (statement_height (statement_of body.now))))) result world.new }
 {
     let x = evaluate(world, from, here)?;
     let y = evaluate(world, to, here)?;
@@ -140,7 +151,8 @@ fn begin_turns(
     to_line: u16,
     c: &Context,
 ) -> Result<(), Halt>
-    ensures { Answers done_of (r.beginning variable range (value_of x.now) from_line (value_of y.now) to_line (context_of c.now) (world_of world.old)) result world.new }
+    ensures { Answers done_of (r.beginning variable range (value_of x.now) from_line (value_of y.now) to_line
+        (context_of c.now) (world_of world.old)) result world.new }
 {
     check_bound(world, range, x, from_line, c)?;
     check_bound(world, range, y, to_line, c)?;
@@ -156,8 +168,10 @@ fn check_bound(
     line: u16,
     c: &Context,
 ) -> Result<(), Halt>
-    ensures fits { OnOk result (fitting range (value_of bound.now) line (context_of c.now) (world_of world.now) ≡ Gives (value_of bound.now) (world_of world.now)) }
-    ensures stopped { IfErr result (λ stop. Stopped (fitting range (value_of bound.now) line (context_of c.now) (world_of world.now)) stop world.now) }
+    ensures fits { OnOk result (fitting range (value_of bound.now) line (context_of c.now) (world_of world.now) ≡ Gives
+        (value_of bound.now) (world_of world.now)) }
+    ensures stopped { IfErr result (λ stop. Stopped
+        (fitting range (value_of bound.now) line (context_of c.now) (world_of world.now)) stop world.now) }
 {
     if fits(range, bound) {
         Ok(())
@@ -168,13 +182,14 @@ fn check_bound(
 
 /// Assigns to a variable of the block itself.
 fn set_own(world: &mut World, variable: u32, value: &Value, c: &Context) -> Result<(), Halt>
-    ensures { Answers done_of (put (own_spot variable (context_of c.now)) (value_of value.now) (world_of world.old)) result world.new }
+    ensures { Answers done_of (put (own_spot variable (context_of c.now)) (value_of value.now) (world_of world.old))
+        result world.new }
 {
     let spot = spot_in(c.alloc, &c.env, variable)?;
     world.put(&spot, value.copy(c.alloc)?)
 }
 
-/// The turns of a for statement, from the one that begins.
+/// The turns of a for statement, starting with the one that begins.
 #[cycle(run)]
 fn turns(
     world: &mut World,
@@ -184,7 +199,10 @@ fn turns(
     body: &Statement,
     here: Here,
 ) -> Result<(), Halt>
-    ensures { Runs done_of (turning here.entry.job.now here.entry.fuel variable direction (number_of (value_of last.now)) (statement_of body.now) (context_of here.entry.context.now) (world_of world.old)) here.entry.depth (levels here.entry.job.now here.entry.fuel (statement_height (statement_of body.now))) result world.new }
+    ensures { Runs done_of (turning here.entry.job.now here.entry.fuel variable direction
+        (number_of (value_of last.now)) (statement_of body.now) (context_of here.entry.context.now)
+        (world_of world.old)) here.entry.depth (levels here.entry.job.now here.entry.fuel
+        (statement_height (statement_of body.now))) result world.new }
 {
     let mut left = here.fuel;
     loop {
@@ -200,7 +218,7 @@ fn turns(
     }
 }
 
-/// The control variable goes on to its next value; false where it has the last.
+/// Advances the control variable to its next value; false where it has the last.
 #[tactic(auto, unfolding(crate::specs::View::value_of))]
 fn advance(
     world: &mut World,
@@ -209,7 +227,8 @@ fn advance(
     last: &Value,
     c: &Context,
 ) -> Result<bool, Halt>
-    ensures { Answers truth_of (advancing (own_spot variable (context_of c.now)) direction (number_of (value_of last.now)) (world_of world.old)) result world.new }
+    ensures { Answers truth_of (advancing (own_spot variable (context_of c.now)) direction
+        (number_of (value_of last.now)) (world_of world.old)) result world.new }
 {
     let spot = spot_in(c.alloc, &c.env, variable)?;
     let x = world.contents(c.alloc, &spot)?.number();

@@ -6,7 +6,9 @@ ghost use Rattle.ps_meaning.specs.Worlds.{contents_in, settled, no_spot, Gives, 
 ghost use Rattle.ps_meaning.specs.Expressions as m;
 ghost use Rattle.ps_meaning.specs.Statements.{index_place};
 ghost use Rattle.ps_meaning_runner.specs.View.{listed, members_of_set, number_of_place, value_of, spot_of, computed_of};
-ghost use Rattle.ps_meaning_runner.specs.Worlds.{Answers, callee_env, callee_routine, context_of, env_of, world_of, actual_of, held_of, done_of, putting_fitting, putting_fitting_set, putting_contents, strings_compared};
+ghost use Rattle.ps_meaning_runner.specs.Worlds.{Answers, callee_env, callee_routine, context_of, env_of, world_of};
+ghost use Rattle.ps_meaning_runner.specs.Worlds.{actual_of, held_of, done_of, putting_fitting, putting_fitting_set};
+ghost use Rattle.ps_meaning_runner.specs.Worlds.{putting_contents, strings_compared};
 
 use crate::operators::{Computed, fits, interval, set_fits, strings_hold, truth};
 use crate::stop::Halt;
@@ -24,7 +26,7 @@ pub enum Actual {
     Routine(u32, Rc<Env>),
 }
 
-// Actual parameters and operands are let go part by part, in one call wherever one is.
+// Actual parameters and operands are dropped part by part, by one call wherever one is dropped.
 impl Drop for Actual {
     fn drop(self) {
         match self {
@@ -35,8 +37,8 @@ impl Drop for Actual {
     }
 }
 
-/// What a call names: a routine that is declared so many frames out, or a procedural or functional parameter of the
-/// frame so many frames out.
+/// What a call names: a routine that is declared `up` frames out, or a procedural or functional parameter of the frame
+/// `up` frames out.
 #[derive(Clone, Copy)]
 pub enum Callee {
     Declared { routine: u32, up: u32 },
@@ -44,7 +46,7 @@ pub enum Callee {
 }
 
 impl Callee {
-    /// Its routine, with the environment that this was declared in.
+    /// Its routine, with the environment in which that was declared.
     pub fn found(self, c: &Context) -> Result<(u32, Rc<Env>), AllocError>
         ensures routine { IfOk result (λ r. r.0 ≡ callee_routine self (context_of c.now)) }
         ensures env { IfOk result (λ r. env_of r.1.value ≡ callee_env self (context_of c.now)) }
@@ -106,7 +108,8 @@ impl<'a> World<'a> {
         line: u16,
         c: &Context,
     ) -> Result<Actual, Halt>
-        ensures { Answers actual_of (and_then (m.fitting range (value_of value) line (context_of c.now) (world_of self.now)) (λ x. give (m.ValueActual x))) result self.now }
+        ensures { Answers actual_of (and_then (m.fitting range (value_of value) line (context_of c.now)
+            (world_of self.now)) (λ x. give (m.ValueActual x))) result self.now }
     {
         Ok(Actual::Value(self.fitting(range, value, line, c)?))
     }
@@ -121,7 +124,8 @@ impl<'a> World<'a> {
         line: u16,
         c: &Context,
     ) -> Result<Actual, Halt>
-        ensures { Answers actual_of (and_then (m.fitting_set low high (members_of_set tests) line (context_of c.now) (world_of self.now)) (λ x. give (m.ValueActual x))) result self.now }
+        ensures { Answers actual_of (and_then (m.fitting_set low high (members_of_set tests) line (context_of c.now)
+            (world_of self.now)) (λ x. give (m.ValueActual x))) result self.now }
     {
         Ok(Actual::Value(self.fitting_set(low, high, tests, line, c)?))
     }
@@ -129,7 +133,8 @@ impl<'a> World<'a> {
     /// The actual parameter of a value parameter that takes a copy of an operand's contents.
     #[tactic(auto, unfolding(crate::specs::Worlds::actual_of))]
     pub fn copy_passed(&self, held: &Held, c: &Context) -> Result<Actual, Halt>
-        ensures { Answers actual_of (and_then (m.contents_of (held_of held.now) (world_of self.now)) (λ x. give (m.ValueActual x))) result self.now }
+        ensures { Answers actual_of (and_then (m.contents_of (held_of held.now) (world_of self.now))
+            (λ x. give (m.ValueActual x))) result self.now }
     {
         Ok(Actual::Value(self.contents_of(held, c)?))
     }
@@ -137,7 +142,8 @@ impl<'a> World<'a> {
     /// The actual parameter that passes on a routine.
     #[tactic(auto, unfolding(crate::specs::Worlds::actual_of))]
     pub fn passed(&self, callee: Callee, c: &Context) -> Result<Actual, Halt>
-        ensures { Answers actual_of (Gives (m.RoutineActual (callee_routine callee (context_of c.now)) (callee_env callee (context_of c.now))) (world_of self.now)) result self.now }
+        ensures { Answers actual_of (Gives (m.RoutineActual (callee_routine callee (context_of c.now))
+            (callee_env callee (context_of c.now))) (world_of self.now)) result self.now }
     {
         let (routine, parent) = callee.found(c)?;
         Ok(Actual::Routine(routine, parent))
@@ -146,7 +152,8 @@ impl<'a> World<'a> {
     /// What was computed, or its error at a line.
     #[tactic(auto, using(crate::proofs::Answers::stops), unfolding(crate::specs::View::value_of))]
     pub fn settled(&self, computed: Computed, line: u16, c: &Context) -> Result<Value, Halt>
-        ensures { Answers value_of (settled (computed_of computed) line (context_of c.now) (world_of self.now)) result self.now }
+        ensures { Answers value_of (settled (computed_of computed) line (context_of c.now) (world_of self.now)) result
+            self.now }
     {
         match computed {
             Computed::Result(number) => Ok(Value::Ordinal(number)),
@@ -164,7 +171,8 @@ impl<'a> World<'a> {
         line: u16,
         c: &Context,
     ) -> Result<Spot, Halt>
-        ensures { Answers spot_of (m.component_of (spot_of spot) index x line (context_of c.now) (world_of self.now)) result self.now }
+        ensures { Answers spot_of (m.component_of (spot_of spot) index x line (context_of c.now) (world_of self.now))
+            result self.now }
     {
         if index.low <= x && x <= index.high {
             Ok(spot.step(x.abs_diff(index.low))?)
@@ -176,7 +184,8 @@ impl<'a> World<'a> {
     /// The number of an index's component; error 5 for one outside the index type.
     #[tactic(auto, using(crate::proofs::Answers::stops))]
     pub fn index_place(&self, index: Ordinal, x: i32, line: u16, c: &Context) -> Result<u32, Halt>
-        ensures { Answers number_of_place (index_place index x line (context_of c.now) (world_of self.now)) result self.now }
+        ensures { Answers number_of_place (index_place index x line (context_of c.now) (world_of self.now)) result
+            self.now }
     {
         if index.low <= x && x <= index.high {
             Ok(x.abs_diff(index.low))
@@ -188,7 +197,8 @@ impl<'a> World<'a> {
     /// The object that a pointer points to; error 6 for nil.
     #[tactic(auto, using(crate::proofs::Answers::stops), unfolding(crate::specs::View::value_of))]
     pub fn object_of(&self, value: &Value, line: u16, c: &Context) -> Result<Spot, Halt>
-        ensures { Answers spot_of (m.object_of (value_of value.now) line (context_of c.now) (world_of self.now)) result self.now }
+        ensures { Answers spot_of (m.object_of (value_of value.now) line (context_of c.now) (world_of self.now)) result
+            self.now }
     {
         match value {
             Value::Object(object) => Ok(Spot::entire(c.alloc, Root::Made(*object))),
@@ -198,9 +208,10 @@ impl<'a> World<'a> {
         }
     }
 
-    /// The object that the pointer in a variable designates; error 6 for none.
+    /// The object that the pointer in a variable points to; error 6 for nil.
     pub fn target_of(&self, spot: &Spot, line: u16, c: &Context) -> Result<Spot, Halt>
-        ensures { Answers spot_of (m.object_of (contents_in (world_of self.now) (spot_of spot.now)) line (context_of c.now) (world_of self.now)) result self.now }
+        ensures { Answers spot_of (m.object_of (contents_in (world_of self.now) (spot_of spot.now)) line
+            (context_of c.now) (world_of self.now)) result self.now }
     {
         let pointer = self.contents(c.alloc, spot)?;
         self.object_of(&pointer, line, c)
@@ -230,7 +241,8 @@ impl<'a> World<'a> {
     /// The contents of an operand.
     #[tactic(auto, using(crate::proofs::Values::value_of_Structure), unfolding(crate::specs::Worlds::held_of))]
     pub fn contents_of(&self, held: &Held, c: &Context) -> Result<Value, AllocError>
-        ensures { IfOk result (λ v. m.contents_of (held_of held.now) (world_of self.now) ≡ Gives (value_of v) (world_of self.now)) }
+        ensures { IfOk result (λ v. m.contents_of (held_of held.now) (world_of self.now) ≡ Gives (value_of v)
+            (world_of self.now)) }
     {
         match held {
             Held::Text(characters) => Ok(Value::Structure(text_values(c.alloc, characters)?)),
@@ -238,10 +250,11 @@ impl<'a> World<'a> {
         }
     }
 
-    /// A value that goes into a variable of this range; error 4 for one outside it.
+    /// A value to be stored in a variable of this range; error 4 for one outside it.
     #[tactic(auto, using(crate::proofs::Answers::stops))]
     pub fn fitting(&self, range: Range, value: Value, line: u16, c: &Context) -> Result<Value, Halt>
-        ensures { Answers value_of (m.fitting range (value_of value) line (context_of c.now) (world_of self.now)) result self.now }
+        ensures { Answers value_of (m.fitting range (value_of value) line (context_of c.now) (world_of self.now)) result
+            self.now }
     {
         if fits(range, &value) {
             Ok(value)
@@ -250,7 +263,7 @@ impl<'a> World<'a> {
         }
     }
 
-    /// A set that goes into a variable of a set type; error 8 for a member outside its base.
+    /// A set to be stored in a variable of a set type; error 8 for a member outside its base.
     #[tactic(auto, using(crate::proofs::Answers::stops), unfolding(crate::specs::View::value_of))]
     pub fn fitting_set(
         &self,
@@ -260,7 +273,8 @@ impl<'a> World<'a> {
         line: u16,
         c: &Context,
     ) -> Result<Value, Halt>
-        ensures { Answers value_of (m.fitting_set low high (listed tests.items) line (context_of c.now) (world_of self.now)) result self.now }
+        ensures { Answers value_of (m.fitting_set low high (listed tests.items) line (context_of c.now)
+            (world_of self.now)) result self.now }
     {
         if set_fits(low, high, tests.as_slice()) {
             Ok(Value::Set(tests))
@@ -293,7 +307,8 @@ impl<'a> World<'a> {
         line: u16,
         c: &Context,
     ) -> Result<(), Halt>
-        ensures { Answers done_of (putting_fitting (spot_of spot.now) range (value_of value) line (context_of c.now) (world_of self.old)) result self.new }
+        ensures { Answers done_of (putting_fitting (spot_of spot.now) range (value_of value) line (context_of c.now)
+            (world_of self.old)) result self.new }
     {
         let fitting = self.fitting(range, value, line, c)?;
         self.put(spot, fitting)
@@ -310,7 +325,8 @@ impl<'a> World<'a> {
         line: u16,
         c: &Context,
     ) -> Result<(), Halt>
-        ensures { Answers done_of (putting_fitting_set (spot_of spot.now) low high (members_of_set tests) line (context_of c.now) (world_of self.old)) result self.new }
+        ensures { Answers done_of (putting_fitting_set (spot_of spot.now) low high (members_of_set tests) line
+            (context_of c.now) (world_of self.old)) result self.new }
     {
         let fitting = self.fitting_set(low, high, tests, line, c)?;
         self.put(spot, fitting)
@@ -318,7 +334,8 @@ impl<'a> World<'a> {
 
     /// Assigns the contents of an operand to a variable.
     pub fn put_contents(&mut self, spot: &Spot, held: &Held, c: &Context) -> Result<(), Halt>
-        ensures { Answers done_of (putting_contents (spot_of spot.now) (held_of held.now) (world_of self.old)) result self.new }
+        ensures { Answers done_of (putting_contents (spot_of spot.now) (held_of held.now) (world_of self.old)) result
+            self.new }
     {
         let value = self.contents_of(held, c)?;
         self.put(spot, value)
@@ -333,7 +350,8 @@ impl<'a> World<'a> {
         y: &Held,
         c: &Context,
     ) -> Result<Value, Halt>
-        ensures { Answers value_of (strings_compared relation (held_of x.now) (held_of y.now) (world_of self.now)) result self.now }
+        ensures { Answers value_of (strings_compared relation (held_of x.now) (held_of y.now) (world_of self.now))
+            result self.now }
     {
         let left = self.contents_of(x, c)?;
         let right = self.contents_of(y, c)?;
@@ -342,7 +360,7 @@ impl<'a> World<'a> {
     }
 }
 
-/// An actual parameter more.
+/// Adds an actual parameter.
 pub fn keep(actuals: &mut Vec<Actual>, actual: Actual) -> Result<(), AllocError>
     ensures { OnOk result (map actual_of actuals.new.items ≡ map actual_of actuals.old.items ++ actual_of actual ∷ []) }
 {

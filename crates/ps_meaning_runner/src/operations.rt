@@ -9,7 +9,8 @@ ghost use Rattle.ps_meaning.specs.Values.{OrdinalValue, number_of};
 ghost use Rattle.ps_meaning.specs.Worlds.{settled};
 ghost use Rattle.ps_meaning_runner.specs.View.{value_of};
 ghost use Rattle.ps_meaning_runner.specs.Worlds.{Answers, caller, context_of, world_of};
-ghost use Rattle.ps_meaning_runner.specs.Heights.{expr_height, steps_height, operands_height, set_height, structure_height};
+ghost use Rattle.ps_meaning_runner.specs.Heights.{expr_height, steps_height, operands_height, set_height};
+ghost use Rattle.ps_meaning_runner.specs.Heights.{structure_height};
 ghost use Rattle.ps_meaning_runner.specs.Runs.{Runs, comparing, levels};
 
 use crate::expressions::{evaluate, evaluate_set, evaluate_truth, take_operand};
@@ -48,7 +49,10 @@ pub fn calculate(
     steps: &[ArithmeticStep],
     here: Here,
 ) -> Result<Value, Halt>
-    ensures { Runs value_of (m.value (caller here.entry.job.now here.entry.fuel) (Tree.Arithmetic (expr_of first.now) (arithmetic_of steps.now)) (context_of here.entry.context.now) (world_of world.old)) here.entry.depth (levels here.entry.job.now here.entry.fuel (max (expr_height (expr_of first.now)) (steps_height (arithmetic_of steps.now)))) result world.new }
+    ensures { Runs value_of (m.value (caller here.entry.job.now here.entry.fuel)
+        (Tree.Arithmetic (expr_of first.now) (arithmetic_of steps.now)) (context_of here.entry.context.now)
+        (world_of world.old)) here.entry.depth (levels here.entry.job.now here.entry.fuel
+        (max (expr_height (expr_of first.now)) (steps_height (arithmetic_of steps.now)))) result world.new }
 {
     let mut x = evaluate(world, first, here)?;
     for step in steps {
@@ -58,7 +62,7 @@ pub fn calculate(
     Ok(x.ordinal())
 }
 
-/// The number so far with the operand of the next step; errors 1, 2 and 3.
+/// The number so far combined with the operand of the next step; errors 1, 2 and 3.
 fn calculated(
     world: &World,
     step: &ArithmeticStep,
@@ -66,13 +70,14 @@ fn calculated(
     y: &Value,
     c: &Context,
 ) -> Result<Value, Halt>
-    ensures { Answers value_of (settled (compute step.now.operator (number_of (value_of x.now)) (number_of (value_of y.now))) step.now.line.number (context_of c.now) (world_of world.now)) result world.now }
+    ensures { Answers value_of (settled (compute step.now.operator (number_of (value_of x.now))
+        (number_of (value_of y.now))) step.now.line.number (context_of c.now) (world_of world.now)) result world.now }
 {
     let computed = compute(step.operator, x.number(), y.number());
     world.settled(computed, step.line.number, c)
 }
 
-/// `and` and `or`, of which all operands are evaluated.
+/// `and` and `or`; all operands are evaluated.
 #[cycle(run)]
 #[tactic(auto)]
 pub fn combine(
@@ -82,7 +87,10 @@ pub fn combine(
     rest: &[Expr],
     here: Here,
 ) -> Result<Value, Halt>
-    ensures { Runs value_of (m.value (caller here.entry.job.now here.entry.fuel) (Tree.Logic operator (expr_of first.now) (operands_of rest.now)) (context_of here.entry.context.now) (world_of world.old)) here.entry.depth (levels here.entry.job.now here.entry.fuel (max (expr_height (expr_of first.now)) (operands_height (operands_of rest.now)))) result world.new }
+    ensures { Runs value_of (m.value (caller here.entry.job.now here.entry.fuel)
+        (Tree.Logic operator (expr_of first.now) (operands_of rest.now)) (context_of here.entry.context.now)
+        (world_of world.old)) here.entry.depth (levels here.entry.job.now here.entry.fuel
+        (max (expr_height (expr_of first.now)) (operands_height (operands_of rest.now)))) result world.new }
 {
     let mut x = evaluate_truth(world, first, here)?;
     for operand in rest {
@@ -102,7 +110,10 @@ pub fn compare(
     right: &Expr,
     here: Here,
 ) -> Result<Value, Halt>
-    ensures { Runs value_of (comparing here.entry.job.now here.entry.fuel comparison (expr_of left.now) (expr_of right.now) (context_of here.entry.context.now) (world_of world.old)) here.entry.depth (levels here.entry.job.now here.entry.fuel (max (expr_height (expr_of left.now)) (expr_height (expr_of right.now)))) result world.new }
+    ensures { Runs value_of (comparing here.entry.job.now here.entry.fuel comparison (expr_of left.now)
+        (expr_of right.now) (context_of here.entry.context.now) (world_of world.old)) here.entry.depth
+        (levels here.entry.job.now here.entry.fuel
+        (max (expr_height (expr_of left.now)) (expr_height (expr_of right.now)))) result world.new }
 {
     let x = evaluate(world, left, here)?;
     let y = evaluate(world, right, here)?;
@@ -119,14 +130,17 @@ pub fn compare_sets(
     right: &SetExpr,
     here: Here,
 ) -> Result<Value, Halt>
-    ensures { Runs value_of (m.value (caller here.entry.job.now here.entry.fuel) (Tree.CompareSets relation (set_of left.now) (set_of right.now)) (context_of here.entry.context.now) (world_of world.old)) here.entry.depth (levels here.entry.job.now here.entry.fuel (max (set_height (set_of left.now)) (set_height (set_of right.now)))) result world.new }
+    ensures { Runs value_of (m.value (caller here.entry.job.now here.entry.fuel)
+        (Tree.CompareSets relation (set_of left.now) (set_of right.now)) (context_of here.entry.context.now)
+        (world_of world.old)) here.entry.depth (levels here.entry.job.now here.entry.fuel
+        (max (set_height (set_of left.now)) (set_height (set_of right.now)))) result world.new }
 {
     let x = evaluate_set(world, left, here)?;
     let y = evaluate_set(world, right, here)?;
     Ok(Value::truth(sets_hold(relation, x.as_slice(), y.as_slice())))
 }
 
-/// A relation between two strings, whose contents are taken when both are accessed.
+/// A relation between two strings, whose contents are read once both are accessed.
 #[cycle(run)]
 #[tactic(auto, using(crate::proofs::Answers::halted_then, crate::proofs::Answers::answers_run))]
 pub fn compare_strings(
@@ -136,7 +150,11 @@ pub fn compare_strings(
     right: &Structure,
     here: Here,
 ) -> Result<Value, Halt>
-    ensures { Runs value_of (m.value (caller here.entry.job.now here.entry.fuel) (Tree.CompareStrings relation (structure_of left.now) (structure_of right.now)) (context_of here.entry.context.now) (world_of world.old)) here.entry.depth (levels here.entry.job.now here.entry.fuel (max (structure_height (structure_of left.now)) (structure_height (structure_of right.now)))) result world.new }
+    ensures { Runs value_of (m.value (caller here.entry.job.now here.entry.fuel)
+        (Tree.CompareStrings relation (structure_of left.now) (structure_of right.now))
+        (context_of here.entry.context.now) (world_of world.old)) here.entry.depth
+        (levels here.entry.job.now here.entry.fuel
+        (max (structure_height (structure_of left.now)) (structure_height (structure_of right.now)))) result world.new }
 {
     let x = take_operand(world, left, here)?;
     let y = take_operand(world, right, here)?;
@@ -152,7 +170,10 @@ pub fn test_member(
     right: &SetExpr,
     here: Here,
 ) -> Result<Value, Halt>
-    ensures { Runs value_of (m.value (caller here.entry.job.now here.entry.fuel) (Tree.In (expr_of left.now) (set_of right.now)) (context_of here.entry.context.now) (world_of world.old)) here.entry.depth (levels here.entry.job.now here.entry.fuel (max (expr_height (expr_of left.now)) (set_height (set_of right.now)))) result world.new }
+    ensures { Runs value_of (m.value (caller here.entry.job.now here.entry.fuel)
+        (Tree.In (expr_of left.now) (set_of right.now)) (context_of here.entry.context.now) (world_of world.old))
+        here.entry.depth (levels here.entry.job.now here.entry.fuel
+        (max (expr_height (expr_of left.now)) (set_height (set_of right.now)))) result world.new }
 {
     let x = evaluate(world, left, here)?.number();
     let s = evaluate_set(world, right, here)?;

@@ -1,8 +1,12 @@
 // Operators, required functions, and tests of ranges.
 
-ghost use Rattle.std.specs.Prelude.{◌≡◌, ◌<◌, ◌≤◌, ◌+◌, ◌-◌, ◌<ℤ◌, ◌*ℤ◌, ◌-ℤ◌, ◌≢◌, int_div, unsigned_abs, ℕ, pos, negsuc, not, ◌||◌, IfOk, length, get_or};
+ghost use Rattle.std.specs.Prelude.{◌≡◌, ◌<◌, ◌≤◌, ◌+◌, ◌-◌, ◌<ℤ◌, ◌*ℤ◌, ◌-ℤ◌, ◌≢◌, int_div, unsigned_abs, ℕ, pos};
+ghost use Rattle.std.specs.Prelude.{negsuc, not, ◌||◌, IfOk, length, get_or};
 ghost use Rattle.ps_meaning.specs.Operators as m;
-ghost use Rattle.ps_meaning.specs.Operators.{is_equal, is_between, is_true, truth, combine_truths, combine_sets, holds, pointers_hold, strings_hold, first_difference, sets_hold, is_included, is_member, interval, fits, set_fits, all_below, is_among, modulo, is_same_pointer};
+ghost use Rattle.ps_meaning.specs.Operators.{is_equal, is_between, is_true, truth, combine_truths, combine_sets, holds};
+ghost use Rattle.ps_meaning.specs.Operators.{pointers_hold, strings_hold, first_difference, sets_hold, is_included};
+ghost use Rattle.ps_meaning.specs.Operators.{is_member, interval, fits, set_fits, all_below, is_among, modulo};
+ghost use Rattle.ps_meaning.specs.Operators.{is_same_pointer};
 ghost use Rattle.ps_meaning_runner.specs.View.{compared, listed, tested, value_of, values_of, computed_of, integer_of};
 
 use crate::value::Value;
@@ -19,7 +23,7 @@ pub enum Computed {
     Fault(u16),
 }
 
-/// Error 1 where the result is no integer.
+/// Error 1 where the result is not an integer.
 #[tactic(auto, unfolding(crate::specs::View::integer_of))]
 pub fn integer(x: i64) -> Computed
     ensures { computed_of result ≡ integer_of x }
@@ -31,7 +35,7 @@ pub fn integer(x: i64) -> Computed
     }
 }
 
-/// A number with the other sign; error 1 where that is no integer.
+/// A number with its sign changed; error 1 where that is not an integer.
 pub fn negated(x: i32) -> Computed
     ensures { computed_of result ≡ integer_of (pos 0 -ℤ x) }
 {
@@ -164,7 +168,7 @@ fn holds(relation: Relation, x: i32, y: i32) -> bool
     }
 }
 
-/// Two pointers are nil, or point to one object.
+/// Whether two pointers are both nil, or point to the same object.
 #[tactic(auto, unfolding(crate::specs::View::value_of))]
 fn is_same_pointer(a: &Value, b: &Value) -> bool
     ensures { result ≡ is_same_pointer (value_of a.now) (value_of b.now) }
@@ -197,7 +201,7 @@ pub enum Comparison {
 }
 
 impl Comparison {
-    /// It holds between two values.
+    /// Whether the relation holds between two values.
     pub fn holds(self, x: &Value, y: &Value) -> bool
         ensures { result ≡ compared self (value_of x.now) (value_of y.now) }
     {
@@ -208,7 +212,7 @@ impl Comparison {
     }
 }
 
-/// A value lies within the range of a variable.
+/// Whether a value is within the range of a variable.
 #[tactic(auto, unfolding(crate::specs::View::value_of))]
 pub fn fits(range: Range, value: &Value) -> bool
     ensures { result ≡ fits range (value_of value.now) }
@@ -222,7 +226,7 @@ pub fn fits(range: Range, value: &Value) -> bool
     }
 }
 
-/// A number is one of these.
+/// Whether a number is one of these.
 pub fn is_among(x: i32, constants: &[i32]) -> bool
     ensures { result ≡ is_among x constants.now }
 {
@@ -236,14 +240,14 @@ pub fn is_among(x: i32, constants: &[i32]) -> bool
     false
 }
 
-/// The number is a member of the listed set.
+/// Whether the number is a member of the listed set.
 fn has(tests: &[bool], number: usize) -> bool
     ensures { result ≡ listed tests.now number }
 {
     number < tests.len() && tests[number]
 }
 
-/// The sets' members that an operator gives.
+/// The tests of the set that an operator gives.
 #[tactic(auto, using(crate::proofs::SetsAndStrings::combined_next, crate::proofs::SetsAndStrings::combined_all))]
 pub fn combine_sets(
     alloc: Global,
@@ -270,7 +274,7 @@ fn combine_tests(operator: SetOperator, a: bool, b: bool) -> bool
     }
 }
 
-/// Each member of a below a number is one of b.
+/// Whether each member of a below a number is a member of b.
 #[tactic(auto, unfolding(ps_meaning::specs::Operators::all_below))]
 fn are_included(below: usize, a: &[bool], b: &[bool]) -> bool
     ensures { result ≡ all_below below (λ k. not (listed a.now k) || listed b.now k) }
@@ -285,7 +289,7 @@ fn are_included(below: usize, a: &[bool], b: &[bool]) -> bool
     true
 }
 
-/// Each member of a, up to 255, is one of b.
+/// Whether each member of a, up to 255, is a member of b.
 fn is_included(a: &[bool], b: &[bool]) -> bool
     ensures { result ≡ is_included (listed a.now) (listed b.now) }
 {
@@ -304,21 +308,21 @@ pub fn sets_hold(relation: SetRelation, a: &[bool], b: &[bool]) -> bool
     }
 }
 
-/// A number lies between two bounds.
+/// Whether a number is between two bounds.
 fn is_between(low: i32, x: i32, high: i32) -> bool
     ensures { result ≡ is_between low x high }
 {
     low <= x && x <= high
 }
 
-/// A number is no member of a set, or lies between two bounds.
+/// Whether a number is no member of a set, or is between two bounds.
 fn is_allowed(number: u16, low: i32, high: i32, tests: &[bool]) -> bool
     ensures { result ≡ (not (listed tests.now number) || is_between low (pos number) high) }
 {
     !has(tests, usize::from(number)) || is_between(low, i32::from(number), high)
 }
 
-/// Each member of a set below a number lies between two bounds.
+/// Whether each member of a set below a number is between two bounds.
 #[tactic(auto, unfolding(ps_meaning::specs::Operators::all_below))]
 fn are_between(below: u16, low: i32, high: i32, tests: &[bool]) -> bool
     ensures { result ≡ all_below below (λ k. not (listed tests.now k) || is_between low (pos k) high) }
@@ -333,7 +337,7 @@ fn are_between(below: u16, low: i32, high: i32, tests: &[bool]) -> bool
     true
 }
 
-/// Each member of a set, up to 255, lies between two bounds.
+/// Whether each member of a set, up to 255, is between two bounds.
 pub fn set_fits(low: i32, high: i32, tests: &[bool]) -> bool
     ensures { result ≡ set_fits low high (listed tests.now) }
 {
@@ -359,7 +363,7 @@ pub fn interval(alloc: Global, low: u8, high: u8) -> Result<Vec<bool>, AllocErro
     Ok(tests)
 }
 
-/// Two ordinals are equal.
+/// Whether two ordinals are equal.
 pub fn is_equal(x: i32, y: i32) -> bool
     ensures { result ≡ is_equal x y }
 {

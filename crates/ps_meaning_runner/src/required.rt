@@ -1,4 +1,4 @@
-// The required procedures new, pack and unpack, when their variables were accessed.
+// The required procedures new, pack and unpack, once their variables were accessed.
 
 ghost use Rattle.std.specs.Prelude.{◌≡◌, ◌+◌, ◌++◌, ◌∷◌, [], ℕ, List, IfOk, OnOk, length, take, drop};
 ghost use Rattle.ps_tree.specs.Tree.{domain_at};
@@ -29,7 +29,7 @@ fn first_object(job: &Job, pointer: u32) -> Result<Value, AllocError>
 }
 
 impl<'a> World<'a> {
-    /// Assigns a new object with its first value; an end for heap where its bytes would pass it.
+    /// Assigns a new object with its first value; ends for heap where its bytes would exceed it.
     #[tactic(auto, using(crate::proofs::Answers::stops))]
     pub fn put_object(
         &mut self,
@@ -39,7 +39,8 @@ impl<'a> World<'a> {
         c: &Context,
         job: &Job,
     ) -> Result<(), Halt>
-        ensures { (n : ℕ) → Answers done_of (r.putting_object job.now n (spot_of spot.now) pointer line (world_of self.old)) result self.new }
+        ensures { (n : ℕ) → Answers done_of (r.putting_object job.now n (spot_of spot.now) pointer line
+            (world_of self.old)) result self.new }
     {
         if passes_heap(job, self.made.as_slice(), pointer) {
             return Err(self.ended(Ending::Heap { line }, &c.calls, c.alloc));
@@ -73,7 +74,7 @@ fn values_from(values: &[Value], from: usize) -> &[Value]
     }
 }
 
-/// The first values, so many of them.
+/// The first `count` values.
 #[tactic(auto, using(std::proofs::lemmas::List::take_all))]
 fn first_values(values: &[Value], count: usize) -> &[Value]
     ensures { result.now ≡ take count values.now }
@@ -85,7 +86,7 @@ fn first_values(values: &[Value], count: usize) -> &[Value]
     }
 }
 
-/// So many of the values from a place on.
+/// `count` of the values, from a place on.
 #[tactic(auto, using(crate::proofs::Procedures::values_between))]
 fn values_between(
     alloc: Global,
@@ -99,7 +100,7 @@ fn values_between(
     copy_all(alloc, first_values(rest, count as usize))
 }
 
-/// The values, of which those from a place on are replaced.
+/// The values, with those from a place on replaced.
 #[tactic(auto, using(crate::proofs::Procedures::replaced_next, crate::proofs::Procedures::replaced_past, crate::proofs::Procedures::replaced_end))]
 fn with_values(
     alloc: Global,
@@ -122,26 +123,30 @@ fn with_values(
 }
 
 impl<'a> World<'a> {
-    /// An array's value of so many components of another array, from a place on.
+    /// An array's value: `count` components of another array, from a place on.
     #[tactic(auto, using(crate::proofs::Values::value_of_Structure))]
     fn packed(&self, alloc: Global, a: &Spot, k: u32, count: u64) -> Result<Value, AllocError>
-        ensures { IfOk result (λ x. value_of x ≡ v.StructureValue (v.first_values count (v.values_from (v.components_of (contents_in (world_of self.now) (spot_of a.now))) k))) }
+        ensures { IfOk result (λ x. value_of x ≡ v.StructureValue
+            (v.first_values count (v.values_from (v.components_of (contents_in (world_of self.now) (spot_of a.now)))
+            k))) }
     {
         let value = self.contents(alloc, a)?;
         Ok(Value::Structure(values_between(alloc, value.components(), k, count)?))
     }
 
-    /// An array's value, of which the components from a place on are those of another array.
+    /// An array's value, with the components from a place on replaced by those of another array.
     #[tactic(auto, using(crate::proofs::Values::value_of_Structure))]
     fn unpacked(&self, alloc: Global, z: &Spot, a: &Spot, k: u32) -> Result<Value, AllocError>
-        ensures { IfOk result (λ x. value_of x ≡ v.StructureValue (v.with_values (v.components_of (contents_in (world_of self.now) (spot_of a.now))) k (v.components_of (contents_in (world_of self.now) (spot_of z.now))))) }
+        ensures { IfOk result (λ x. value_of x ≡ v.StructureValue
+            (v.with_values (v.components_of (contents_in (world_of self.now) (spot_of a.now))) k
+            (v.components_of (contents_in (world_of self.now) (spot_of z.now))))) }
     {
         let news = self.contents(alloc, z)?;
         let olds = self.contents(alloc, a)?;
         Ok(Value::Structure(with_values(alloc, olds.components(), k, news.components())?))
     }
 
-    /// Packs the components of an array from a place on into another; error 5 where there are too few of them.
+    /// Packs the components of an array, from a place on, into another; error 5 where there are too few of them.
     #[tactic(auto, using(crate::proofs::Answers::stops))]
     pub fn pack(
         &mut self,
@@ -153,7 +158,8 @@ impl<'a> World<'a> {
         line: u16,
         c: &Context,
     ) -> Result<(), Halt>
-        ensures { Answers done_of (r.packing (spot_of a.now) from k (spot_of z.now) to line (context_of c.now) (world_of self.old)) result self.new }
+        ensures { Answers done_of (r.packing (spot_of a.now) from k (spot_of z.now) to line (context_of c.now)
+            (world_of self.old)) result self.new }
     {
         let count = to.value_count();
         if from.value_count() < u64::from(k) + count {
@@ -163,7 +169,7 @@ impl<'a> World<'a> {
         self.put(z, value)
     }
 
-    /// Unpacks an array into the components of another from a place on; error 5 where there are too few of them.
+    /// Unpacks an array into the components of another, from a place on; error 5 where there are too few of them.
     #[tactic(auto, using(crate::proofs::Answers::stops))]
     pub fn unpack(
         &mut self,
@@ -175,7 +181,8 @@ impl<'a> World<'a> {
         line: u16,
         c: &Context,
     ) -> Result<(), Halt>
-        ensures { Answers done_of (r.unpacking (spot_of z.now) from (spot_of a.now) to k line (context_of c.now) (world_of self.old)) result self.new }
+        ensures { Answers done_of (r.unpacking (spot_of z.now) from (spot_of a.now) to k line (context_of c.now)
+            (world_of self.old)) result self.new }
     {
         if to.value_count() < u64::from(k) + from.value_count() {
             return Err(self.fault(5, line, c));

@@ -7,7 +7,8 @@ ghost use Rattle.behavior.specs.Transcripts.{output};
 ghost use Rattle.ps_tree.specs.Checked.{program_in};
 ghost use Rattle.ps_meaning.specs.Worlds.{Outside};
 ghost use Rattle.ps_meaning.specs.Run as m;
-ghost use Rattle.ps_meaning_runner.specs.Worlds.{caller, context_of, env_of, numbers_of, world_of, done_of, program_of, costs_in};
+ghost use Rattle.ps_meaning_runner.specs.Worlds.{caller, context_of, env_of, numbers_of, world_of, done_of, program_of};
+ghost use Rattle.ps_meaning_runner.specs.Worlds.{costs_in};
 ghost use Rattle.ps_meaning_runner.specs.declared.run.TheConstants.{DEPTH};
 ghost use Rattle.ps_meaning_runner.specs.declared.run.Refusal.TheVariants.{TooDeep};
 ghost use Rattle.ps_meaning_runner.specs.declared.run.TranscriptFault.TheVariants.{NoByteAndNoMark};
@@ -22,8 +23,8 @@ use ps_tree::program::Checked;
 use std::alloc::{AllocError, Global};
 use std::rc::Rc;
 
-/// How deep calls, statements and expressions may lie in one another on a host's stack of 8 MB: one of them takes at
-/// most about 4 KB there. A call of a Pascal function takes some four of them.
+/// How deep calls, statements and expressions may be nested on a host's stack of 8 MB: each of them takes at most about
+/// 4 KB there. A call of a Pascal function takes some four of them.
 pub const DEPTH: u32 = 2_000;
 
 /// Why there is no answer.
@@ -31,12 +32,12 @@ pub const DEPTH: u32 = 2_000;
 pub enum Refusal {
     /// A growth was refused.
     OutOfMemory,
-    /// Calls, statements and expressions lie deeper in one another than was allowed.
+    /// Calls, statements and expressions are nested deeper than was allowed.
     TooDeep,
 }
 
-/// How a run went: its transcript, where 256 marks a first look at a byte of the input or at its end; how it ended; and the
-/// lines of the calls that were open at its end, the innermost first.
+/// How a run went: its transcript, where 256 marks a first look at a byte of the input or at its end; how it ended; and
+/// the lines of the calls that were open at its end, innermost first.
 #[derive(Drop)]
 pub struct Ran {
     pub transcript: Vec<u16>,
@@ -92,10 +93,11 @@ fn first_context(alloc: Global) -> Result<Context, AllocError>
     })
 }
 
-/// Does the program block.
+/// Executes the program block.
 #[tactic(auto, using(crate::proofs::Heights::body_within, crate::proofs::Answers::stopped_halts))]
 fn run_job(world: &mut World, job: &Job, fuel: u64, depth: u32) -> Result<(), Halt>
-    ensures { Runs done_of (caller job.now fuel 0 Outside [] m.first_context (world_of world.old)) depth (levels job.now fuel 0) result world.new }
+    ensures { Runs done_of (caller job.now fuel 0 Outside [] m.first_context (world_of world.old)) depth
+        (levels job.now fuel 0) result world.new }
 {
     let c = first_context(job.alloc)?;
     let parent = outside(job.alloc)?;
@@ -113,7 +115,8 @@ fn run_job(world: &mut World, job: &Job, fuel: u64, depth: u32) -> Result<(), Ha
 /// How a run on an input went.
 #[tactic(auto, unfolding(crate::specs::Runs::call_levels))]
 fn run_on(job: &Job, input: &[u8], fuel: u64, depth: u32) -> Result<Ran, Refusal>
-    ensures told { IfOk result (λ k. shown k ≡ m.shown (m.answer (program_of job.now) (costs_in job.now) input.now fuel)) }
+    ensures told { IfOk result (λ k. shown k ≡ m.shown
+        (m.answer (program_of job.now) (costs_in job.now) input.now fuel)) }
     ensures refused { IfErr result (λ refusal. refusal ≡ TooDeep → depth < fuel * highest (program_of job.now)) }
 {
     let mut world = first_world(job.alloc, input);
@@ -133,7 +136,7 @@ fn run_on(job: &Job, input: &[u8], fuel: u64, depth: u32) -> Result<Ran, Refusal
     }
 }
 
-/// What a run costs, and what it may: the frame bytes of each routine and the object bytes of each pointer type, by
+/// What a run costs, and what it may use: the frame bytes of each routine and the object bytes of each pointer type, by
 /// their numbers, and the bytes of stack and heap.
 #[derive(Clone, Copy)]
 pub struct Budget<'a> {
@@ -143,9 +146,9 @@ pub struct Budget<'a> {
     pub heap: u64,
 }
 
-/// The run of a program on an input with so much fuel, within costs and a budget. It is refused where memory is, or
-/// where calls, statements and expressions lie deeper in one another than so many: `DEPTH` of them go onto a stack of
-/// 8 MB, and more onto a larger one. As many as the fuel times the height of the program's highest body are enough.
+/// The run of a program on an input with `fuel`, within costs and a budget. It is refused when out of memory, or where
+/// calls, statements and expressions are nested deeper than `depth`: `DEPTH` of them fit onto a stack of 8 MB, and more
+/// onto a larger one. The fuel times the height of the program's highest body are enough.
 pub fn reference_to_depth(
     alloc: Global,
     program: &Checked,
@@ -154,7 +157,9 @@ pub fn reference_to_depth(
     fuel: u64,
     depth: u32,
 ) -> Result<Ran, Refusal>
-    ensures run { IfOk result (λ k. shown k ≡ m.run_within (program_in program.now) budget.now.frames.now budget.now.objects.now budget.now.stack budget.now.heap input.now fuel) }
+    ensures run { IfOk result (λ k. shown k ≡ m.run_within
+        (program_in program.now) budget.now.frames.now budget.now.objects.now budget.now.stack budget.now.heap input.now
+        fuel) }
     ensures refused { IfErr result (λ refusal. refusal ≡ TooDeep → depth < fuel * highest (program_in program.now)) }
 {
     let job = Job {
@@ -168,8 +173,8 @@ pub fn reference_to_depth(
     run_on(&job, input, fuel, depth)
 }
 
-/// The run of a program on an input with so much fuel, within costs and a budget. It is refused where memory is, or
-/// where calls, statements and expressions lie deeper in one another than `DEPTH`.
+/// The run of a program on an input with `fuel`, within costs and a budget. It is refused when out of memory, or where
+/// calls, statements and expressions are nested deeper than `DEPTH`.
 pub fn reference_within(
     alloc: Global,
     program: &Checked,
@@ -177,13 +182,15 @@ pub fn reference_within(
     input: &[u8],
     fuel: u64,
 ) -> Result<Ran, Refusal>
-    ensures run { IfOk result (λ k. shown k ≡ m.run_within (program_in program.now) budget.now.frames.now budget.now.objects.now budget.now.stack budget.now.heap input.now fuel) }
+    ensures run { IfOk result (λ k. shown k ≡ m.run_within
+        (program_in program.now) budget.now.frames.now budget.now.objects.now budget.now.stack budget.now.heap input.now
+        fuel) }
     ensures refused { IfErr result (λ refusal. refusal ≡ TooDeep → DEPTH < fuel * highest (program_in program.now)) }
 {
     reference_to_depth(alloc, program, budget, input, fuel, DEPTH)
 }
 
-/// The run of a program on an input with so much fuel, without costs. It is refused as that within costs is.
+/// The run of a program on an input with `fuel`, without costs. It is refused as the one within costs is.
 pub fn reference(alloc: Global, program: &Checked, input: &[u8], fuel: u64) -> Result<Ran, Refusal>
     ensures run { IfOk result (λ k. shown k ≡ m.run (program_in program.now) input.now fuel) }
     ensures refused { IfErr result (λ refusal. refusal ≡ TooDeep → DEPTH < fuel * highest (program_in program.now)) }
@@ -197,7 +204,7 @@ pub fn reference(alloc: Global, program: &Checked, input: &[u8], fuel: u64) -> R
     reference_within(alloc, program, &free, input, fuel)
 }
 
-/// The lines of the calls that are open at an error, of which the first 16 are told.
+/// The lines of the calls that are open at an error; only the first 16 are reported.
 fn first_lines(ran: Ran) -> Vec<u32>
     ensures { result.items ≡ calls_of (shown ran).1 }
 {
@@ -210,8 +217,8 @@ fn first_lines(ran: Ran) -> Vec<u32>
     lines
 }
 
-/// The lines of the calls that are open at an error, the innermost first, the first 16 of them; none where no error is
-/// met.
+/// The lines of the calls that are open at an error, innermost first, the first 16 of them; none where there is no
+/// error.
 pub fn trail(alloc: Global, program: &Checked, input: &[u8], fuel: u64) -> Result<Vec<u32>, Refusal>
     ensures told { IfOk result (λ v. v.items ≡ calls_of (m.run (program_in program.now) input.now fuel).1) }
     ensures refused { IfErr result (λ refusal. refusal ≡ TooDeep → DEPTH < fuel * highest (program_in program.now)) }
@@ -225,7 +232,7 @@ pub fn trail(alloc: Global, program: &Checked, input: &[u8], fuel: u64) -> Resul
 pub enum TranscriptFault {
     /// A growth was refused.
     OutOfMemory,
-    /// An item is neither a byte nor a mark, as in no run's transcript.
+    /// An item is neither a byte nor a mark; no run's transcript has such an item.
     NoByteAndNoMark,
 }
 

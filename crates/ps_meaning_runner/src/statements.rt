@@ -4,7 +4,8 @@ ghost use Rattle.std.specs.Prelude.{map, max};
 ghost use Rattle.ps_tree.specs.Tree as Tree;
 ghost use Rattle.ps_tree.specs.View.{type_of, place_of, expr_of, set_of, structure_of, statement_of, statements_of};
 ghost use Rattle.ps_meaning_runner.specs.Worlds.{context_of, world_of, done_of, acting, acting_all};
-ghost use Rattle.ps_meaning_runner.specs.Heights.{place_height, places_height, expr_height, set_height, structure_height, statement_height, statements_height};
+ghost use Rattle.ps_meaning_runner.specs.Heights.{place_height, places_height, expr_height, set_height};
+ghost use Rattle.ps_meaning_runner.specs.Heights.{structure_height, statement_height, statements_height};
 ghost use Rattle.ps_meaning_runner.specs.Runs.{Runs, levels};
 
 use crate::calls::call_procedure;
@@ -18,11 +19,13 @@ use crate::world::{Context, Here, World};
 use ps_tree::tree::{Expr, Place, Range, SetExpr, Statement, Structure};
 use ps_tree::types::Ty;
 
-/// Does a statement.
+/// Executes a statement.
 #[cycle(run)]
 #[tactic(auto, using(crate::proofs::Answers::runs_deeper, crate::proofs::Answers::halted_then, crate::proofs::Answers::answers_run, crate::proofs::Trees::statement_of_Compound, crate::proofs::Trees::statement_of_Repeat, crate::proofs::Trees::statement_of_Case), unfolding(ps_tree::specs::View::statement_of, crate::specs::View::value_of))]
 pub fn act(world: &mut World, statement: &Statement, here: Here) -> Result<(), Halt>
-    ensures { Runs done_of (acting here.entry.job.now here.entry.fuel (statement_of statement.now) (context_of here.entry.context.now) (world_of world.old)) here.entry.depth (levels here.entry.job.now here.entry.fuel (statement_height (statement_of statement.now))) result world.new }
+    ensures { Runs done_of (acting here.entry.job.now here.entry.fuel (statement_of statement.now)
+        (context_of here.entry.context.now) (world_of world.old)) here.entry.depth
+        (levels here.entry.job.now here.entry.fuel (statement_height (statement_of statement.now))) result world.new }
 {
     if here.depth == 0 {
         return Err(Halt::TooDeep);
@@ -151,11 +154,13 @@ pub fn act(world: &mut World, statement: &Statement, here: Here) -> Result<(), H
     }
 }
 
-/// Does statements, one after another.
+/// Executes statements, one after another.
 #[cycle(run)]
 #[tactic(auto, using(crate::proofs::Acts::acts_next, crate::proofs::Acts::acts_end))]
 pub fn act_all(world: &mut World, statements: &[Statement], here: Here) -> Result<(), Halt>
-    ensures { Runs done_of (acting_all here.entry.job.now here.entry.fuel (statements_of statements.now) (context_of here.entry.context.now) (world_of world.old)) here.entry.depth (levels here.entry.job.now here.entry.fuel (statements_height (statements_of statements.now))) result world.new }
+    ensures { Runs done_of (acting_all here.entry.job.now here.entry.fuel (statements_of statements.now)
+        (context_of here.entry.context.now) (world_of world.old)) here.entry.depth
+        (levels here.entry.job.now here.entry.fuel (statements_height (statements_of statements.now))) result world.new }
 {
     for statement in statements {
         act(world, statement, here)?;
@@ -174,7 +179,10 @@ fn assign(
     line: u16,
     here: Here,
 ) -> Result<(), Halt>
-    ensures { Runs done_of (acting here.entry.job.now here.entry.fuel (Tree.Assign (place_of target.now) range (expr_of value.now) line) (context_of here.entry.context.now) (world_of world.old)) here.entry.depth (levels here.entry.job.now here.entry.fuel (max (place_height (place_of target.now)) (expr_height (expr_of value.now)))) result world.new }
+    ensures { Runs done_of (acting here.entry.job.now here.entry.fuel
+        (Tree.Assign (place_of target.now) range (expr_of value.now) line) (context_of here.entry.context.now)
+        (world_of world.old)) here.entry.depth (levels here.entry.job.now here.entry.fuel
+        (max (place_height (place_of target.now)) (expr_height (expr_of value.now)))) result world.new }
 {
     let spot = access(world, target, here)?;
     let x = evaluate(world, value, here)?;
@@ -193,7 +201,10 @@ fn assign_set(
     line: u16,
     here: Here,
 ) -> Result<(), Halt>
-    ensures { Runs done_of (acting here.entry.job.now here.entry.fuel (Tree.AssignSet (place_of target.now) low high (set_of value.now) line) (context_of here.entry.context.now) (world_of world.old)) here.entry.depth (levels here.entry.job.now here.entry.fuel (max (place_height (place_of target.now)) (set_height (set_of value.now)))) result world.new }
+    ensures { Runs done_of (acting here.entry.job.now here.entry.fuel
+        (Tree.AssignSet (place_of target.now) low high (set_of value.now) line) (context_of here.entry.context.now)
+        (world_of world.old)) here.entry.depth (levels here.entry.job.now here.entry.fuel
+        (max (place_height (place_of target.now)) (set_height (set_of value.now)))) result world.new }
 {
     let spot = access(world, target, here)?;
     let x = evaluate_set(world, value, here)?;
@@ -209,7 +220,10 @@ fn assign_structure(
     value: &Structure,
     here: Here,
 ) -> Result<(), Halt>
-    ensures { Runs done_of (acting here.entry.job.now here.entry.fuel (Tree.AssignStructure (place_of target.now) (structure_of value.now)) (context_of here.entry.context.now) (world_of world.old)) here.entry.depth (levels here.entry.job.now here.entry.fuel (max (place_height (place_of target.now)) (structure_height (structure_of value.now)))) result world.new }
+    ensures { Runs done_of (acting here.entry.job.now here.entry.fuel
+        (Tree.AssignStructure (place_of target.now) (structure_of value.now)) (context_of here.entry.context.now)
+        (world_of world.old)) here.entry.depth (levels here.entry.job.now here.entry.fuel
+        (max (place_height (place_of target.now)) (structure_height (structure_of value.now)))) result world.new }
 {
     let spot = access(world, target, here)?;
     let held = take_operand(world, value, here)?;
@@ -219,7 +233,10 @@ fn assign_structure(
 /// A with statement: each record is opened in the context of those before it.
 #[cycle(run)]
 fn act_with(world: &mut World, places: &[Place], body: &Statement, here: Here) -> Result<(), Halt>
-    ensures { Runs done_of (acting here.entry.job.now here.entry.fuel (Tree.With (map place_of places.now) (statement_of body.now)) (context_of here.entry.context.now) (world_of world.old)) here.entry.depth (levels here.entry.job.now here.entry.fuel (max (places_height (map place_of places.now)) (statement_height (statement_of body.now)))) result world.new }
+    ensures { Runs done_of (acting here.entry.job.now here.entry.fuel
+        (Tree.With (map place_of places.now) (statement_of body.now)) (context_of here.entry.context.now)
+        (world_of world.old)) here.entry.depth (levels here.entry.job.now here.entry.fuel
+        (max (places_height (map place_of places.now)) (statement_height (statement_of body.now)))) result world.new }
 {
     let mut inner = here.context.copy()?;
     for place in places {
@@ -250,7 +267,12 @@ fn pack(
     to_ty: &Ty,
     here: Here,
 ) -> Result<(), Halt>
-    ensures { Runs done_of (acting here.entry.job.now here.entry.fuel (Tree.Pack (place_of from.now) (type_of from_ty.now) (expr_of index.now) line (place_of to.now) (type_of to_ty.now)) (context_of here.entry.context.now) (world_of world.old)) here.entry.depth (levels here.entry.job.now here.entry.fuel (max (place_height (place_of from.now)) (max (expr_height (expr_of index.now)) (place_height (place_of to.now))))) result world.new }
+    ensures { Runs done_of (acting here.entry.job.now here.entry.fuel
+        (Tree.Pack (place_of from.now) (type_of from_ty.now) (expr_of index.now) line (place_of to.now)
+        (type_of to_ty.now)) (context_of here.entry.context.now) (world_of world.old)) here.entry.depth
+        (levels here.entry.job.now here.entry.fuel
+        (max (place_height (place_of from.now)) (max (expr_height (expr_of index.now))
+        (place_height (place_of to.now))))) result world.new }
 {
     let a = access(world, from, here)?;
     let x = evaluate(world, index, here)?.number();
@@ -280,7 +302,12 @@ fn unpack(
     line: u16,
     here: Here,
 ) -> Result<(), Halt>
-    ensures { Runs done_of (acting here.entry.job.now here.entry.fuel (Tree.Unpack (place_of from.now) (type_of from_ty.now) (place_of to.now) (type_of to_ty.now) (expr_of index.now) line) (context_of here.entry.context.now) (world_of world.old)) here.entry.depth (levels here.entry.job.now here.entry.fuel (max (place_height (place_of from.now)) (max (place_height (place_of to.now)) (expr_height (expr_of index.now))))) result world.new }
+    ensures { Runs done_of (acting here.entry.job.now here.entry.fuel
+        (Tree.Unpack (place_of from.now) (type_of from_ty.now) (place_of to.now) (type_of to_ty.now)
+        (expr_of index.now) line) (context_of here.entry.context.now) (world_of world.old)) here.entry.depth
+        (levels here.entry.job.now here.entry.fuel
+        (max (place_height (place_of from.now)) (max (place_height (place_of to.now))
+        (expr_height (expr_of index.now))))) result world.new }
 {
     let z = access(world, from, here)?;
     let a = access(world, to, here)?;

@@ -1,7 +1,11 @@
 // Text: what reads look at and take, and what writes add.
 
-ghost use Rattle.std.specs.Prelude.{replicate, ◌≡◌, ◌+◌, ◌-◌, ◌≤◌, ◌<◌, ◌++◌, ◌∷◌, [], ◌^◌, min, ℕ, pos, neg_ℤ, length, drop, take_while, if◌then◌else◌, IfOk};
-ghost use Rattle.ps_meaning.specs.Text.{next_character, looked_at, look_marks, taken, as_character, is_blank, after_blanks, is_digit, has_sign, after_sign, number_written, digits, scan_integer, has_line_end, after_line_end, after_line, line_marks, right_aligned, fitted, integer_text, boolean_text};
+ghost use Rattle.std.specs.Prelude.{replicate, ◌≡◌, ◌+◌, ◌-◌, ◌≤◌, ◌<◌, ◌++◌, ◌∷◌, [], ◌^◌, min, ℕ, pos, neg_ℤ, length};
+ghost use Rattle.std.specs.Prelude.{drop, take_while, if◌then◌else◌, IfOk};
+ghost use Rattle.ps_meaning.specs.Text.{next_character, looked_at, look_marks, taken, as_character, is_blank};
+ghost use Rattle.ps_meaning.specs.Text.{after_blanks, is_digit, has_sign, after_sign, number_written, digits};
+ghost use Rattle.ps_meaning.specs.Text.{scan_integer, has_line_end, after_line_end, after_line, line_marks};
+ghost use Rattle.ps_meaning.specs.Text.{right_aligned, fitted, integer_text, boolean_text};
 ghost use Rattle.behavior.specs.Transcripts.{mark};
 ghost use Rattle.ps_meaning_runner.specs.Worlds.{input_of};
 ghost use Rattle.ps_meaning_runner.specs.View.{IsNumber, IsReading};
@@ -71,7 +75,7 @@ fn after_blanks(bytes: &[u8]) -> &[u8]
     left
 }
 
-/// The first byte is this sign.
+/// Whether the first byte is this sign.
 fn has_sign(bytes: &[u8], sign: u8) -> bool
     ensures { result ≡ has_sign bytes.now sign }
 {
@@ -92,7 +96,7 @@ fn after_sign(bytes: &[u8]) -> &[u8]
     }
 }
 
-/// The byte is a decimal digit.
+/// Whether the byte is a decimal digit.
 fn is_digit(byte: u8) -> bool
     ensures { result ≡ is_digit byte }
 {
@@ -111,7 +115,7 @@ fn digit_count(bytes: &[u8]) -> usize
     count
 }
 
-/// The number that digits write; numbers from 2^32 on are told as 2^32.
+/// The number that digits write; numbers from 2^32 on are given as 2^32.
 #[tactic(auto, using(crate::proofs::Written::written_next))]
 fn magnitude(written: &[u8]) -> u64
     ensures { result ≡ min (number_written 0 written.now) (2 ^ 32) }
@@ -123,7 +127,7 @@ fn magnitude(written: &[u8]) -> u64
     sum
 }
 
-/// The decimal digits of a number of at most so many digits.
+/// The decimal digits of a number of at most `count` digits.
 #[tactic(auto, unfolding(ps_meaning::specs::Text::digits))]
 fn digits(alloc: Global, count: u8, number: u32) -> Result<Vec<u8>, AllocError>
     ensures { IfOk result (λ v. v.items ≡ digits count number) }
@@ -162,7 +166,7 @@ pub fn boolean_text(b: bool) -> &'static [u8]
     if b { b"true" } else { b"false" }
 }
 
-/// A text right-aligned in a field of so many characters, wider if needed.
+/// A text right-aligned in a field of `width` characters, wider if needed.
 pub fn right_aligned(alloc: Global, width: u32, text: &[u8]) -> Result<Vec<u8>, AllocError>
     ensures { IfOk result (λ v. v.items ≡ right_aligned width text.now) }
 {
@@ -174,7 +178,7 @@ pub fn right_aligned(alloc: Global, width: u32, text: &[u8]) -> Result<Vec<u8>, 
     Ok(field)
 }
 
-/// A string right-aligned in a field of so many characters, or its first characters.
+/// A string right-aligned in a field of `width` characters, or its first characters.
 pub fn fitted(alloc: Global, width: u32, text: &[u8]) -> Result<Vec<u8>, AllocError>
     ensures { IfOk result (λ v. v.items ≡ fitted width text.now) }
 {
@@ -186,7 +190,7 @@ pub fn fitted(alloc: Global, width: u32, text: &[u8]) -> Result<Vec<u8>, AllocEr
     }
 }
 
-/// An integer that was read; a number that is no integer of the language is none.
+/// An integer that was read; none for a number that is not an integer of the language.
 #[derive(Clone, Copy)]
 pub enum Reading {
     EndFound,
@@ -211,7 +215,7 @@ fn signed(is_negative: bool, magnitude: u64) -> Option<i32>
     }
 }
 
-/// The digits that bytes begin with.
+/// The digits at the start of the bytes.
 #[tactic(auto, using(crate::proofs::Written::digits_first, crate::proofs::Written::digits_within))]
 fn digits_in(bytes: &[u8]) -> &[u8]
     ensures { result.now ≡ take_while is_digit bytes.now }
@@ -219,7 +223,7 @@ fn digits_in(bytes: &[u8]) -> &[u8]
     &bytes[..digit_count(bytes)]
 }
 
-/// The bytes after the digits that they begin with.
+/// The bytes after the digits at their start.
 #[tactic(auto, using(crate::proofs::Written::digits_within, crate::proofs::Written::whole_rest))]
 fn after_digits(bytes: &[u8]) -> &[u8]
     ensures { result.now ≡ drop (length (take_while is_digit bytes.now)) bytes.now }
@@ -275,7 +279,7 @@ fn after_line_end(bytes: &[u8]) -> &[u8]
 }
 
 impl<'a> Input<'a> {
-    /// The input after the rest of a line, and its end, is taken.
+    /// The input after the rest of a line, and its end, are taken.
     pub fn after_line(self) -> Input<'a>
         ensures { input_of result ≡ after_line (input_of self.entry) }
     {
@@ -294,7 +298,7 @@ impl<'a> Input<'a> {
         }
     }
 
-    /// How many first looks it takes to look at all bytes up to and with the first of the rest, or the end.
+    /// How many first looks it takes to look at all bytes up to and including the first of the rest, or at the end.
     pub fn looks_to(&self, rest: usize) -> usize
         ensures { result ≡ (length self.now.left.now - rest) + (if self.now.looked then 0 else 1) }
     {

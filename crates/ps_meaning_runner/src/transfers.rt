@@ -10,8 +10,10 @@ ghost use Rattle.ps_meaning.specs.Values.{components_of};
 ghost use Rattle.ps_meaning.specs.Worlds.{and_then, write_text};
 ghost use Rattle.ps_meaning_runner.specs.View.{value_of, values_of, spot_of};
 ghost use Rattle.ps_meaning_runner.specs.Worlds as r;
-ghost use Rattle.ps_meaning_runner.specs.Worlds.{Answers, acting, context_of, world_of, done_of, held_of, reading_all, width_in, width_checked, writing, writing_all};
-ghost use Rattle.ps_meaning_runner.specs.Heights.{expr_height, structure_height, reads_height, width_height, write_height, writes_height};
+ghost use Rattle.ps_meaning_runner.specs.Worlds.{Answers, acting, context_of, world_of, done_of, held_of, reading_all};
+ghost use Rattle.ps_meaning_runner.specs.Worlds.{width_in, width_checked, writing, writing_all};
+ghost use Rattle.ps_meaning_runner.specs.Heights.{expr_height, structure_height, reads_height, width_height};
+ghost use Rattle.ps_meaning_runner.specs.Heights.{write_height, writes_height};
 ghost use Rattle.ps_meaning_runner.specs.Runs.{Runs, levels};
 
 use crate::expressions::{access, evaluate, take_operand};
@@ -27,7 +29,9 @@ use std::alloc::{AllocError, Global};
 /// Reads variables.
 #[cycle(run)]
 pub fn read_all(world: &mut World, variables: &[ReadVariable], here: Here) -> Result<(), Halt>
-    ensures { Runs done_of (reading_all here.entry.job.now here.entry.fuel (map read_of variables.now) (context_of here.entry.context.now) (world_of world.old)) here.entry.depth (levels here.entry.job.now here.entry.fuel (reads_height (map read_of variables.now))) result world.new }
+    ensures { Runs done_of (reading_all here.entry.job.now here.entry.fuel (map read_of variables.now)
+        (context_of here.entry.context.now) (world_of world.old)) here.entry.depth
+        (levels here.entry.job.now here.entry.fuel (reads_height (map read_of variables.now))) result world.new }
 {
     for variable in variables {
         let spot = access(world, place_read(variable), here)?;
@@ -50,7 +54,8 @@ impl<'a> World<'a> {
     /// Reads into the variable at a spot.
     #[tactic(auto, unfolding(ps_tree::specs::View::read_of))]
     fn read_into(&mut self, spot: &Spot, variable: &ReadVariable, c: &Context) -> Result<(), Halt>
-        ensures { Answers done_of (r.reading_into (read_of variable.now) (spot_of spot.now) (context_of c.now) (world_of self.old)) result self.new }
+        ensures { Answers done_of (r.reading_into (read_of variable.now) (spot_of spot.now) (context_of c.now)
+            (world_of self.old)) result self.new }
     {
         match variable {
             ReadVariable::Char {
@@ -87,7 +92,9 @@ impl<'a> World<'a> {
 #[cycle(run)]
 #[tactic(auto, using(crate::proofs::Answers::halted_then, crate::proofs::Answers::answers_run), unfolding(ps_tree::specs::View::width_of))]
 fn evaluate_width(world: &mut World, width: &Width, here: Here) -> Result<Option<u32>, Halt>
-    ensures { Runs r.width_of (width_in here.entry.job.now here.entry.fuel (width_of width.now) (context_of here.entry.context.now) (world_of world.old)) here.entry.depth (levels here.entry.job.now here.entry.fuel (width_height (width_of width.now))) result world.new }
+    ensures { Runs r.width_of (width_in here.entry.job.now here.entry.fuel (width_of width.now)
+        (context_of here.entry.context.now) (world_of world.old)) here.entry.depth
+        (levels here.entry.job.now here.entry.fuel (width_height (width_of width.now))) result world.new }
 {
     match width {
         Width::Default => Ok(None),
@@ -101,7 +108,9 @@ fn evaluate_width(world: &mut World, width: &Width, here: Here) -> Result<Option
 /// Writes parameters.
 #[cycle(run)]
 pub fn write_all(world: &mut World, parameters: &[WriteParameter], here: Here) -> Result<(), Halt>
-    ensures { Runs done_of (writing_all here.entry.job.now here.entry.fuel (map write_of parameters.now) (context_of here.entry.context.now) (world_of world.old)) here.entry.depth (levels here.entry.job.now here.entry.fuel (writes_height (map write_of parameters.now))) result world.new }
+    ensures { Runs done_of (writing_all here.entry.job.now here.entry.fuel (map write_of parameters.now)
+        (context_of here.entry.context.now) (world_of world.old)) here.entry.depth
+        (levels here.entry.job.now here.entry.fuel (writes_height (map write_of parameters.now))) result world.new }
 {
     for parameter in parameters {
         write_one(world, parameter, here)?;
@@ -121,7 +130,9 @@ enum Form {
 #[cycle(run)]
 #[tactic(auto, using(crate::proofs::Answers::runs_deeper), unfolding(ps_tree::specs::View::write_of))]
 fn write_one(world: &mut World, parameter: &WriteParameter, here: Here) -> Result<(), Halt>
-    ensures { Runs done_of (writing here.entry.job.now here.entry.fuel (write_of parameter.now) (context_of here.entry.context.now) (world_of world.old)) here.entry.depth (levels here.entry.job.now here.entry.fuel (write_height (write_of parameter.now))) result world.new }
+    ensures { Runs done_of (writing here.entry.job.now here.entry.fuel (write_of parameter.now)
+        (context_of here.entry.context.now) (world_of world.old)) here.entry.depth
+        (levels here.entry.job.now here.entry.fuel (write_height (write_of parameter.now))) result world.new }
 {
     match parameter {
         WriteParameter::Integer { value, width } => {
@@ -147,14 +158,17 @@ fn write_evaluated(
     width: &Width,
     here: Here,
 ) -> Result<(), Halt>
-    ensures { Runs done_of (r.writing_form here.entry.job.now here.entry.fuel form (expr_of value.now) (width_of width.now) (context_of here.entry.context.now) (world_of world.old)) here.entry.depth (levels here.entry.job.now here.entry.fuel (max (expr_height (expr_of value.now)) (width_height (width_of width.now)))) result world.new }
+    ensures { Runs done_of (r.writing_form here.entry.job.now here.entry.fuel form (expr_of value.now)
+        (width_of width.now) (context_of here.entry.context.now) (world_of world.old)) here.entry.depth
+        (levels here.entry.job.now here.entry.fuel
+        (max (expr_height (expr_of value.now)) (width_height (width_of width.now)))) result world.new }
 {
     let x = evaluate(world, value, here)?;
     let n = evaluate_width(world, width, here)?;
     write_value(world, here.context.alloc, form, &x, n)
 }
 
-/// Writes the contents of an operand, which are taken after the width is evaluated.
+/// Writes the contents of an operand, which are read after the width is evaluated.
 #[cycle(run)]
 #[tactic(auto, using(crate::proofs::Answers::halted_then, crate::proofs::Answers::answers_run))]
 fn write_contents(
@@ -163,7 +177,10 @@ fn write_contents(
     width: &Width,
     here: Here,
 ) -> Result<(), Halt>
-    ensures { Runs done_of (writing here.entry.job.now here.entry.fuel (Tree.WriteText (structure_of value.now) (width_of width.now)) (context_of here.entry.context.now) (world_of world.old)) here.entry.depth (levels here.entry.job.now here.entry.fuel (max (structure_height (structure_of value.now)) (width_height (width_of width.now)))) result world.new }
+    ensures { Runs done_of (writing here.entry.job.now here.entry.fuel
+        (Tree.WriteText (structure_of value.now) (width_of width.now)) (context_of here.entry.context.now)
+        (world_of world.old)) here.entry.depth (levels here.entry.job.now here.entry.fuel
+        (max (structure_height (structure_of value.now)) (width_height (width_of width.now)))) result world.new }
 {
     let held = take_operand(world, value, here)?;
     let n = evaluate_width(world, width, here)?;
@@ -191,7 +208,8 @@ fn characters(alloc: Global, values: &[Value]) -> Result<Vec<u8>, AllocError>
 
 /// Writes an integer, in a field of 11 characters where no width is given (6.9.3.2).
 fn write_integer(world: &mut World, alloc: Global, x: i32, width: Option<u32>) -> Result<(), Halt>
-    ensures { Answers done_of (write_text (text.right_aligned (unwrap_or (r.width_of width) 11) (text.integer_text x)) (world_of world.old)) result world.new }
+    ensures { Answers done_of (write_text (text.right_aligned (unwrap_or (r.width_of width) 11) (text.integer_text x))
+        (world_of world.old)) result world.new }
 {
     let text = integer_text(alloc, x)?;
     let field = right_aligned(alloc, width.unwrap_or(11), text.as_slice())?;
@@ -200,7 +218,8 @@ fn write_integer(world: &mut World, alloc: Global, x: i32, width: Option<u32>) -
 
 /// Writes a character (6.9.3.2).
 fn write_character(world: &mut World, alloc: Global, x: u8, width: Option<u32>) -> Result<(), Halt>
-    ensures { Answers done_of (write_text (text.right_aligned (unwrap_or (r.width_of width) 1) (x ∷ [])) (world_of world.old)) result world.new }
+    ensures { Answers done_of (write_text (text.right_aligned (unwrap_or (r.width_of width) 1) (x ∷ []))
+        (world_of world.old)) result world.new }
 {
     let field = right_aligned(alloc, width.unwrap_or(1), &[x])?;
     world.write(field.as_slice())
@@ -208,7 +227,8 @@ fn write_character(world: &mut World, alloc: Global, x: u8, width: Option<u32>) 
 
 /// Writes a Boolean, in a field of 5 characters where no width is given (6.9.3.5).
 fn write_truth(world: &mut World, alloc: Global, x: bool, width: Option<u32>) -> Result<(), Halt>
-    ensures { Answers done_of (write_text (text.fitted (unwrap_or (r.width_of width) 5) (text.boolean_text x)) (world_of world.old)) result world.new }
+    ensures { Answers done_of (write_text (text.fitted (unwrap_or (r.width_of width) 5) (text.boolean_text x))
+        (world_of world.old)) result world.new }
 {
     let field = fitted(alloc, width.unwrap_or(5), boolean_text(x))?;
     world.write(field.as_slice())
@@ -233,7 +253,9 @@ fn write_value(
 
 /// Writes the contents of an operand that is a string, in a field of its length where no width is given (6.9.3.6).
 fn write_string(world: &mut World, held: &Held, width: Option<u32>, c: &Context) -> Result<(), Halt>
-    ensures { Answers done_of (and_then (contents_of (held_of held.now) (world_of world.old)) (λ v. write_text (text.fitted (unwrap_or (r.width_of width) (length (m.characters (components_of v)))) (m.characters (components_of v))))) result world.new }
+    ensures { Answers done_of (and_then (contents_of (held_of held.now) (world_of world.old))
+        (λ v. write_text (text.fitted (unwrap_or (r.width_of width) (length (m.characters (components_of v))))
+        (m.characters (components_of v))))) result world.new }
 {
     let value = world.contents_of(held, c)?;
     let text = characters(c.alloc, value.components())?;

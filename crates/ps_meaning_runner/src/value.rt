@@ -1,7 +1,9 @@
 // Values, first values, and the parts of variables.
 
 ghost use Rattle.std.specs.Prelude.{◌≡◌, pos, IfOk, MatchOption};
-ghost use Rattle.ps_meaning.specs.Values.{OrdinalValue, StructureValue, number_of, set_of, components_of, component, first, first_fields, first_ordinal, copies, nth, with_nth, part, with_part, entire, step, text_values};
+ghost use Rattle.ps_meaning.specs.Values.{OrdinalValue, StructureValue, number_of, set_of, components_of, component};
+ghost use Rattle.ps_meaning.specs.Values.{first, first_fields, first_ordinal, copies, nth, with_nth, part, with_part};
+ghost use Rattle.ps_meaning.specs.Values.{entire, step, text_values};
 ghost use Rattle.ps_meaning.specs.Worlds.{unset};
 ghost use Rattle.ps_tree.specs.View.{type_of};
 ghost use Rattle.ps_meaning_runner.specs.View.{listed, value_of, values_of, root_of, spot_of};
@@ -32,8 +34,8 @@ pub struct Spot {
     pub path: Vec<u32>,
 }
 
-// How these are let go: part by part. Said here, it is one call wherever one is let go; were it derived, it would stand
-// written out there.
+// Values are dropped part by part. A written `drop` is one call wherever a value is dropped; a derived one would be
+// expanded there.
 impl Drop for Value {
     #[cycle(letting_go)]
     fn drop(self) {
@@ -158,7 +160,7 @@ fn first_ordinal(ordinal: Ordinal) -> i32
     }
 }
 
-/// The value of an array, of so many copies of a value.
+/// The value of an array: `count` copies of a value.
 #[tactic(auto, using(crate::proofs::Values::copies_next, crate::proofs::Values::value_of_Structure), unfolding(crate::specs::View::values_of))]
 fn filled(alloc: Global, count: u64, value: &Value) -> Result<Value, AllocError>
     ensures { IfOk result (λ v. value_of v ≡ StructureValue (copies count (value_of value.now))) }
@@ -230,7 +232,8 @@ impl Value {
     /// The component with a number, if there is one.
     #[tactic(auto, using(crate::proofs::Values::nth_within, crate::proofs::Values::nth_past))]
     fn component(&self, number: u32) -> Option<&Value>
-        ensures { MatchOption result (component (value_of self.now) number ≡ unset) (λ v. component (value_of self.now) number ≡ value_of v.now) }
+        ensures { MatchOption result (component (value_of self.now) number ≡ unset)
+            (λ v. component (value_of self.now) number ≡ value_of v.now) }
     {
         self.components().get(number as usize)
     }
@@ -253,11 +256,12 @@ pub fn part(alloc: Global, value: &Value, path: &[u32]) -> Result<Value, AllocEr
     whole.copy(alloc)
 }
 
-/// The values with another in the place of the part at the end of a path, which begins with a number of theirs.
+/// The values, with another in place of the part at the end of a path, which begins with the number of one of them.
 #[cycle(with)]
 #[tactic(auto, using(crate::proofs::Values::component_put, crate::proofs::Values::with_nth_past))]
 fn with_component(values: Vec<Value>, first: u32, rest: &[u32], new: Value) -> Vec<Value>
-    ensures { values_of result.items ≡ with_nth (values_of values.items) first (with_part (nth (values_of values.items) first) rest.now (value_of new)) }
+    ensures { values_of result.items ≡ with_nth (values_of values.items) first
+        (with_part (nth (values_of values.items) first) rest.now (value_of new)) }
 {
     let mut values = values;
     let place = first as usize;
@@ -270,7 +274,7 @@ fn with_component(values: Vec<Value>, first: u32, rest: &[u32], new: Value) -> V
 }
 
 impl Value {
-    /// The value with another in the place of the part at the end of a path.
+    /// The value, with another in place of the part at the end of a path.
     #[cycle(with)]
     #[tactic(auto, using(crate::proofs::Values::value_of_Structure), unfolding(crate::specs::View::value_of))]
     pub fn with_part(self, path: &[u32], new: Value) -> Value

@@ -3,9 +3,12 @@
 ghost use Rattle.std.specs.Prelude.{◌≡◌, ◌+◌, ◌<◌, ◌≤◌, ◌∷◌, map, IfOk, OnOk, MatchOption, length};
 ghost use Rattle.ps_meaning.specs.Values as v;
 ghost use Rattle.ps_meaning.specs.Statements.{with_opened};
-ghost use Rattle.ps_meaning.specs.Worlds.{above, frame_of, spot_in, routine_in, env_in, contents_in, with_contents, put, write_text, value_at_root, with_new, says, unset, no_spot, Outside};
+ghost use Rattle.ps_meaning.specs.Worlds.{above, frame_of, spot_in, routine_in, env_in, contents_in, with_contents};
+ghost use Rattle.ps_meaning.specs.Worlds.{put, write_text, value_at_root, with_new, says, unset, no_spot, Outside};
 ghost use Rattle.ps_meaning_runner.specs.View.{value_of, root_of, spot_of};
-ghost use Rattle.ps_meaning_runner.specs.Worlds.{context_of, env_of, entries_of, entry_spot, entry_routine, entry_env, numbers_of, world_of, done_of, ending_of, Answers, Stopped, ends, faults};
+ghost use Rattle.ps_meaning_runner.specs.Worlds.{context_of, env_of, entries_of, entry_spot, entry_routine, entry_env};
+ghost use Rattle.ps_meaning_runner.specs.Worlds.{numbers_of, world_of, done_of, ending_of, Answers, Stopped, ends};
+ghost use Rattle.ps_meaning_runner.specs.Worlds.{faults};
 
 use crate::ending::Ending;
 use crate::stop::Halt;
@@ -27,7 +30,7 @@ pub struct Job<'a> {
     pub heap: u64,
 }
 
-/// The frames that enclose a place in the text, the innermost first.
+/// The frames that enclose a place in the text, innermost first.
 #[cycle(env)]
 #[derive(Drop)]
 pub enum Env {
@@ -43,15 +46,15 @@ pub enum Entry {
     Routine { routine: u32, env: Rc<Env> },
 }
 
-/// Numbers, of which the last that was added is the first.
+/// Numbers, the last added first.
 #[derive(Drop)]
 pub enum Numbers {
     End,
     Number { first: u32, rest: Rc<Numbers> },
 }
 
-/// Where an expression or a statement stands: its environment, the records that `with` opened round it, the routines
-/// whose blocks are open, and the lines of the calls that are open, each the innermost first.
+/// The context of an expression or a statement: its environment, the records that enclosing `with` statements opened,
+/// the routines whose blocks are open, and the lines of the open calls, each innermost first.
 pub struct Context {
     pub alloc: Global,
     pub env: Rc<Env>,
@@ -60,7 +63,7 @@ pub struct Context {
     pub calls: Rc<Numbers>,
 }
 
-// A context is let go part by part, in one call wherever one is.
+// A context is dropped part by part, by one call wherever one is dropped.
 impl Drop for Context {
     fn drop(self) {
         let Context {
@@ -73,7 +76,7 @@ impl Drop for Context {
     }
 }
 
-/// Where a part of a run is done: of what job, in what context, with so much fuel and at most so many levels.
+/// Where a part of a run is executed: in what job and context, with how much fuel and at most how many levels.
 #[derive(Clone, Copy)]
 pub struct Here<'a> {
     pub job: &'a Job<'a>,
@@ -102,7 +105,7 @@ pub struct World<'a> {
     pub transcript: Vec<u16>,
 }
 
-/// The environment so many frames out.
+/// The environment `up` frames out.
 #[tactic(auto, using(crate::proofs::Worlds::env_of_Within, crate::proofs::Worlds::above_outside, crate::proofs::Worlds::above_within), unfolding(crate::specs::Worlds::env_of))]
 pub fn above(env: &Rc<Env>, up: u32) -> Result<Rc<Env>, AllocError>
     ensures { IfOk result (λ e. env_of e.value ≡ above (env_of env.now.value) up) }
@@ -133,9 +136,12 @@ fn entries(env: &Env) -> &[Entry]
 /// What a name of the innermost frame stands for, if the frame has it.
 #[tactic(auto, using(crate::proofs::Worlds::spot_within, crate::proofs::Worlds::spot_past, crate::proofs::Worlds::routine_within, crate::proofs::Worlds::routine_past, crate::proofs::Worlds::env_within, crate::proofs::Worlds::env_past))]
 fn entry_at(env: &Env, index: u32) -> Option<&Entry>
-    ensures spot { MatchOption result (spot_in (frame_of (env_of env.now)) index ≡ no_spot) (λ e. spot_in (frame_of (env_of env.now)) index ≡ entry_spot e.now) }
-    ensures routine { MatchOption result (routine_in (frame_of (env_of env.now)) index ≡ 0) (λ e. routine_in (frame_of (env_of env.now)) index ≡ entry_routine e.now) }
-    ensures env { MatchOption result (env_in (frame_of (env_of env.now)) index ≡ Outside) (λ e. env_in (frame_of (env_of env.now)) index ≡ entry_env e.now) }
+    ensures spot { MatchOption result (spot_in (frame_of (env_of env.now)) index ≡ no_spot)
+        (λ e. spot_in (frame_of (env_of env.now)) index ≡ entry_spot e.now) }
+    ensures routine { MatchOption result (routine_in (frame_of (env_of env.now)) index ≡ 0)
+        (λ e. routine_in (frame_of (env_of env.now)) index ≡ entry_routine e.now) }
+    ensures env { MatchOption result (env_in (frame_of (env_of env.now)) index ≡ Outside)
+        (λ e. env_in (frame_of (env_of env.now)) index ≡ entry_env e.now) }
 {
     entries(env).get(index as usize)
 }
@@ -151,7 +157,7 @@ pub fn spot_in(alloc: Global, env: &Env, index: u32) -> Result<Spot, AllocError>
     }
 }
 
-/// The spot that a name of the frame so many frames out stands for.
+/// The spot that a name of the frame `up` frames out stands for.
 pub fn spot_above(c: &Context, up: u32, index: u32) -> Result<Spot, AllocError>
     ensures { IfOk result (λ s. spot_of s ≡ spot_in (frame_of (above (env_of c.now.env.value) up)) index) }
 {
@@ -171,7 +177,7 @@ fn routine_in(alloc: Global, env: &Env, index: u32) -> Result<(u32, Rc<Env>), Al
     }
 }
 
-/// The routine that a name of the frame so many frames out stands for, with its environment.
+/// The routine that a name of the frame `up` frames out stands for, with its environment.
 pub fn routine_above(c: &Context, up: u32, index: u32) -> Result<(u32, Rc<Env>), AllocError>
     ensures routine { IfOk result (λ r. r.0 ≡ routine_in (frame_of (above (env_of c.now.env.value) up)) index) }
     ensures env { IfOk result (λ r. env_of r.1.value ≡ env_in (frame_of (above (env_of c.now.env.value) up)) index) }
@@ -195,7 +201,8 @@ impl<'a> World<'a> {
     /// The value of a whole variable.
     #[tactic(auto, using(crate::proofs::Worlds::stored_within, crate::proofs::Worlds::stored_past, crate::proofs::Worlds::object_within, crate::proofs::Worlds::object_past))]
     fn value_at_root(&self, root: Root) -> Option<&Value>
-        ensures { MatchOption result (value_at_root (world_of self.now) (root_of root) ≡ unset) (λ x. value_at_root (world_of self.now) (root_of root) ≡ value_of x.now) }
+        ensures { MatchOption result (value_at_root (world_of self.now) (root_of root) ≡ unset)
+            (λ x. value_at_root (world_of self.now) (root_of root) ≡ value_of x.now) }
     {
         match root {
             Root::Declared(name) => self.store.as_slice().get(name),
@@ -229,7 +236,8 @@ impl<'a> World<'a> {
     /// Assigns to a part of a variable that was declared.
     #[tactic(auto, using(crate::proofs::Worlds::stored_put))]
     fn put_declared(&mut self, name: usize, path: &[u32], value: Value) -> Result<(), AllocError>
-        ensures { OnOk result (world_of self.new ≡ with_contents (world_of self.old) (record { root = v.Declared name; path = path.now }) (value_of value)) }
+        ensures { OnOk result (world_of self.new ≡ with_contents (world_of self.old)
+            (record { root = v.Declared name; path = path.now }) (value_of value)) }
     {
         self.reach(name)?;
         let old = mem::replace(&mut self.store[name], Value::Nil);
@@ -240,7 +248,8 @@ impl<'a> World<'a> {
     /// Assigns to a part of an object.
     #[tactic(auto, using(crate::proofs::Worlds::object_put, crate::proofs::Worlds::no_object_put))]
     fn put_made(&mut self, object: usize, path: &[u32], value: Value)
-        ensures { world_of self.new ≡ with_contents (world_of self.old) (record { root = v.Made object; path = path.now }) (value_of value) }
+        ensures { world_of self.new ≡ with_contents (world_of self.old)
+            (record { root = v.Made object; path = path.now }) (value_of value) }
     {
         if object < self.objects.len() {
             let old = mem::replace(&mut self.objects[object], Value::Nil);
@@ -260,7 +269,7 @@ impl<'a> World<'a> {
         Ok(())
     }
 
-    /// A new variable with a value; its name.
+    /// A new variable with a value; gives its name.
     #[tactic(auto, using(crate::proofs::Worlds::stored_set))]
     pub fn declare(&mut self, value: Value) -> Result<usize, AllocError>
         ensures world { OnOk result (world_of self.new ≡ with_new (world_of self.old) (value_of value)) }
@@ -276,7 +285,7 @@ impl<'a> World<'a> {
         Ok(name)
     }
 
-    /// Bytes more in the transcript.
+    /// Adds bytes to the transcript.
     #[tactic(auto, using(std::proofs::lemmas::List::take_more))]
     fn say(&mut self, bytes: &[u8]) -> Result<(), AllocError>
         ensures { OnOk result (world_of self.new ≡ says (world_of self.old) bytes.now) }
@@ -312,7 +321,7 @@ impl Numbers {
 }
 
 impl<'a> World<'a> {
-    /// The end of the run, with the lines of the calls that are open; or the want of memory for them.
+    /// The end of the run, with the lines of the calls that are open; or out of memory for them.
     pub fn ended(&self, ending: Ending, calls: &Numbers, alloc: Global) -> Halt
         ensures { Stopped (ends (ending_of ending (numbers_of calls.now)) (world_of self.now)) result self.now }
     {
@@ -356,10 +365,11 @@ impl Context {
         })
     }
 
-    /// A record more is opened.
+    /// Opens one more record.
     #[tactic(auto)]
     pub fn open(&mut self, spot: Spot) -> Result<(), AllocError>
-        ensures { OnOk result (context_of self.new ≡ with_opened (spot_of spot ∷ map spot_of self.old.opened.items) (context_of self.old)) }
+        ensures { OnOk result (context_of self.new ≡ with_opened (spot_of spot ∷ map spot_of self.old.opened.items)
+            (context_of self.old)) }
     {
         self.opened.insert(0, spot)?;
         Ok(())

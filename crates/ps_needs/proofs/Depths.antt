@@ -1,6 +1,7 @@
 -- What a table of depths tells of paths: the depth of a routine is what it and the routines that it calls, one within
 -- another, take at most. A routine that comes to itself has none.
-use Rattle.std.proofs.Common.{◌≡◌, ◌⊎◌, inl, inr, ℕ, zero, suc, ◌+◌, ◌≤◌, ◌<◌, List, [], ◌∷◌, get_or, sum_by, Option, Some, refl, arith}
+use Rattle.std.proofs.Common.{◌≡◌, ◌⊎◌, inl, inr, ℕ, zero, suc, ◌+◌, ◌≤◌, ◌<◌, List, [], ◌∷◌, get_or, sum_by, Option}
+use Rattle.std.proofs.Common.{Some, refl, arith}
 use Rattle.std.proofs.lemmas.List.Sums.{sum_by-cons}
 use Rattle.ps_tree.specs.Tree.{Program}
 use Rattle.ps_needs.specs.Paths.{MayCall, Path, program_block, call_within, HoldsAll}
@@ -20,12 +21,15 @@ pub record Depths (program : Program) (F : List ℕ) (depth : ℕ → Option ℕ
   -- every routine that it calls has a depth, and there is room for it
   pub calls : (r s d : ℕ) → depth r ≡ Some d → MayCall program r s → (e : ℕ) × (depth s ≡ Some e) × (price F r + e ≤ d)
   -- it is the frame alone, or one of the calls takes all of it
-  pub taken : (r d : ℕ) → depth r ≡ Some d → (d ≡ price F r) ⊎ ((s e : ℕ) × MayCall program r s × (depth s ≡ Some e) × (price F r + e ≡ d))
+  pub taken : (r d : ℕ) → depth r ≡ Some d → (d ≡ price F r)
+      ⊎ ((s e : ℕ) × MayCall program r s × (depth s ≡ Some e) × (price F r + e ≡ d))
 
 module _ (program : Program) (F : List ℕ) where
   module _ (depth : ℕ → Option ℕ) (depths : Depths program F depth) (S : ℕ) (begins : depth 0 ≡ Some S) where
-    path_bounded : (rs : List ℕ) → Path program rs → (d : ℕ) × (depth (get_or rs 0 0) ≡ Some d) × (spent F rs + d ≤ S + price F (get_or rs 0 0))
-    path_bounded _ program_block = let one = grown F 0 [] in let total : spent F (0 ∷ []) + S ≤ S + price F 0 = omega (arith, one) in (S, begins, total)
+    path_bounded : (rs : List ℕ) → Path program rs → (d : ℕ) × (depth (get_or rs 0 0) ≡ Some d)
+        × (spent F rs + d ≤ S + price F (get_or rs 0 0))
+    path_bounded _ program_block = let one = grown F 0 [] in let total : spent F (0 ∷ []) + S ≤ S + price F 0 = omega
+        (arith, one) in (S, begins, total)
     path_bounded _ (call_within r s rest path may) =
         let before = path_bounded (r ∷ rest) path in
         let next = depths.calls r s before.0 before.1 may in
@@ -44,12 +48,19 @@ module _ (program : Program) (F : List ℕ) where
         omega (arith, l, m)
 
     module _ (frames : (r d : ℕ) → depth r ≡ Some d → 1 ≤ price F r) where
-      taken_below : (n r : ℕ) (rest : List ℕ) (d : ℕ) → Path program (r ∷ rest) → depth r ≡ Some d → d ≤ n → (rs : List ℕ) × Path program rs × (spent F rs ≡ spent F rest + d)
-      taken_below zero r rest d path e l = let own = depths.own r d e in let some = frames r d e in absurd (omega (arith, l, own, some))
-      taken_below (suc n) r rest d path e l = go (depths.taken r d e) (λ s f may is m. taken_below n s (r ∷ rest) f (call_within r s rest path may) is m)
+      taken_below : (n r : ℕ) (rest : List ℕ) (d : ℕ) → Path program (r ∷ rest) → depth r ≡ Some d → d ≤ n
+          → (rs : List ℕ) × Path program rs × (spent F rs ≡ spent F rest + d)
+      taken_below zero r rest d path e l = let own = depths.own r d e in let some = frames r d e in absurd
+          (omega (arith, l, own, some))
+      taken_below (suc n) r rest d path e l = go (depths.taken r d e)
+          (λ s f may is m. taken_below n s (r ∷ rest) f (call_within r s rest path may) is m)
         where
-          go : (d ≡ price F r) ⊎ ((s f : ℕ) × MayCall program r s × (depth s ≡ Some f) × (price F r + f ≡ d)) → ((s f : ℕ) → MayCall program r s → depth s ≡ Some f → f ≤ n → (rs : List ℕ) × Path program rs × (spent F rs ≡ spent F (r ∷ rest) + f)) → (rs : List ℕ) × Path program rs × (spent F rs ≡ spent F rest + d)
-          go (inl is) k = let one = grown F r rest in let sum : spent F (r ∷ rest) ≡ spent F rest + d = omega (arith, is, one) in (r ∷ rest, path, sum)
+          go : (d ≡ price F r) ⊎ ((s f : ℕ) × MayCall program r s × (depth s ≡ Some f) × (price F r + f ≡ d))
+              → ((s f : ℕ) → MayCall program r s → depth s ≡ Some f → f ≤ n → (rs : List ℕ) × Path program rs
+              × (spent F rs ≡ spent F (r ∷ rest) + f)) → (rs : List ℕ) × Path program rs
+              × (spent F rs ≡ spent F rest + d)
+          go (inl is) k = let one = grown F r rest in let sum : spent F (r ∷ rest) ≡ spent F rest + d = omega
+              (arith, is, one) in (r ∷ rest, path, sum)
           go (inr c) k =
               let some = frames r d e in
               let is = c.4 in
@@ -60,12 +71,14 @@ module _ (program : Program) (F : List ℕ) where
 
       -- and one path takes all of it
       pub depth_is_least : IsLeast program F S
-      depth_is_least = let taken = taken_below S 0 [] S program_block begins (omega arith) in let none : spent F [] ≡ 0 = refl in let sum = taken.2 in (depth_holds, (taken.0, taken.1, omega (arith, sum, none)))
+      depth_is_least = let taken = taken_below S 0 [] S program_block begins (omega arith) in let none : spent F []
+          ≡ 0 = refl in let sum = taken.2 in (depth_holds, (taken.0, taken.1, omega (arith, sum, none)))
 
   -- where the program block is one of the routines that call one of themselves, there is no end
   module _ (Endless : ℕ → Type 0) (frames : (r : ℕ) → Endless r → 1 ≤ price F r) (begins : Endless 0) (next : (r : ℕ) → Endless r → (s : ℕ) × MayCall program r s × Endless s) where
     longer : (k : ℕ) → (r : ℕ) × (rest : List ℕ) × Path program (r ∷ rest) × Endless r × (k < spent F (r ∷ rest))
-    longer zero = let some = frames 0 begins in let one = grown F 0 [] in let l : 0 < spent F (0 ∷ []) = omega (arith, some, one) in (0, [], program_block, begins, l)
+    longer zero = let some = frames 0 begins in let one = grown F 0 [] in let l : 0 < spent F (0 ∷ []) = omega
+        (arith, some, one) in (0, [], program_block, begins, l)
     longer (suc k) =
         let before = longer k in
         let called = next before.0 before.3 in

@@ -23,4 +23,5 @@ PathsAreEnough checked =
 abbrev pub NeedsEnough : Type 0
 NeedsEnough =
     (text : List ℕ) (tokens : List Token) (tree : syntax.Program) (checked : Program)
-    → AreBytes text → IsSource text → IsTokens text tokens → IsTreeOf text tokens tree → program text tree ≡ Yes checked → PathsAreEnough checked
+    → AreBytes text → IsSource text → IsTokens text tokens → IsTreeOf text tokens tree → program text tree ≡ Yes checked
+    → PathsAreEnough checked

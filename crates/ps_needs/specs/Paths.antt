@@ -14,7 +14,8 @@ IsPassed program s = (r : ℕ) × Contains (uses program r) (Passed s)
 
 -- The block of r has a call of s, by its name, or one of a parameter, which may stand for any routine that is passed.
 abbrev pub MayCall : Program → (r s : ℕ) → Type 0
-MayCall program r s = Contains (uses program r) (Called s) ⊎ (Contains (uses program r) ParameterCalled × IsPassed program s)
+MayCall program r s = Contains (uses program r) (Called s)
+    ⊎ (Contains (uses program r) ParameterCalled × IsPassed program s)
 
 -- The routines of calls that are open one within another, the innermost first: the program block, which is routine 0,
 -- is called once, before all others. A routine that calls itself stands there once for each call.

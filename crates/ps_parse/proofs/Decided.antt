@@ -1,6 +1,7 @@
--- Whether some tokens begin a program of any height is told by the reading of a level, where those before the last
--- ones were read by a lower level.
-use Rattle.std.proofs.Common.{◌≡◌, ◌≢◌, ℕ, zero, suc, ◌+◌, ◌-◌, ◌≤◌, List, [], ◌∷◌, ◌++◌, length, Ok, Err, ◌⊎◌, inl, inr, refl, sym, ap, ◌∙◌, subst, arith, append_assoc, append-nil, length-append}
+-- The reading of a level shows whether some tokens begin a program of any height, if those before the last ones were
+-- read by a lower level.
+use Rattle.std.proofs.Common.{◌≡◌, ◌≢◌, ℕ, zero, suc, ◌+◌, ◌-◌, ◌≤◌, List, [], ◌∷◌, ◌++◌, length, Ok, Err, ◌⊎◌, inl}
+use Rattle.std.proofs.Common.{inr, refl, sym, ap, ◌∙◌, subst, arith, append_assoc, append-nil, length-append}
 use Rattle.std.proofs.lemmas.List.{take_all}
 use Rattle.ps_scan.specs.declared.token.Token.{Token}
 use Rattle.ps_syntax.specs.declared.program.Program.{Program}
@@ -18,7 +19,7 @@ use Rattle.ps_parse.proofs.ViableWhole.{refused_begins, left_begins}
 use Rattle.ps_parse.proofs.Rising.{Rise, level, risen, rising}
 use Rattle.ps_parse.proofs.RisingLevels.{above, program_rises}
 
--- ---- what is read of tokens hangs on those before the place where it stops
+-- ---- what is read of tokens depends on those before the place where it stops
 module _ {A : Type 0} (p : Parser A) (h : Local p) where
   -- the tokens that a rest leaves begin with the same one, if there are any
   same_first : (c r : Tokens) → length c ≢ 0 → first (c ++ r) ≡ first c
@@ -33,18 +34,21 @@ module _ {A : Type 0} (p : Parser A) (h : Local p) where
   alone_at c r (Ok (x, [])) e l = refl
   alone_at c r (Ok (x, t ∷ q)) e l =
       let one = h.reads c x (t ∷ q) e in
-      let more : p (c ++ r) ≡ Ok (x, (t ∷ q) ++ r) = ap p (ap (λ (z : Tokens). z ++ r) one.1 ∙ append_assoc one.0 (t ∷ q) r) ∙ one.2 ((t ∷ q) ++ r) refl in
+      let more : p (c ++ r) ≡ Ok (x, (t ∷ q) ++ r) = ap p
+      (ap (λ (z : Tokens). z ++ r) one.1 ∙ append_assoc one.0 (t ∷ q) r) ∙ one.2 ((t ∷ q) ++ r) refl in
       absurd (omega (arith, l, stop_is _ _ more, length-append (t ∷ q) r))
   alone_at c r (Err zero) e l = refl
   alone_at c r (Err (suc n)) e l =
       let one = h.refuses c (suc n) e in
-      let more : p (c ++ r) ≡ Err (length (one.1 ++ r)) = ap p (ap (λ (z : Tokens). z ++ r) one.2 ∙ append_assoc one.0 one.1 r) ∙ one.4 (one.1 ++ r) (same_first one.1 r (λ z. omega (arith, one.3, z))) in
+      let more : p (c ++ r) ≡ Err (length (one.1 ++ r)) = ap p
+      (ap (λ (z : Tokens). z ++ r) one.2 ∙ append_assoc one.0 one.1 r) ∙ one.4 (one.1 ++ r)
+      (same_first one.1 r (λ z. omega (arith, one.3, z))) in
       absurd (omega (arith, l, stop_is _ _ more, one.3, length-append one.1 r))
 
   pub alone : (c r : Tokens) → stop (p (c ++ r)) ≤ length r → stop (p c) ≡ 0
   alone c r l = alone_at c r (p c) refl l
 
-  -- where the tokens behind the place where it stopped begin: in the rest, or with a token before it
+  -- where the tokens after the place where it stopped begin: in the rest, or with a token before it
   abbrev pub Place : Tokens → Tokens → Tokens → Tokens → Type 0
   Place c r d q = (length q ≤ length r) ⊎ ((t : Token) × (m : Tokens) × (q ≡ (t ∷ m) ++ r) × (c ≡ d ++ t ∷ m))
 
@@ -54,7 +58,13 @@ module _ {A : Type 0} (p : Parser A) (h : Local p) where
   place (t ∷ c) r (u ∷ d) q e =
       elim (place c r d q (ap tail e)) [
         | inl l ↦ inl l
-        | inr w ↦ inr (w.0, w.1, w.2, ap (λ (z : Tokens). t ∷ z) w.3 ∙ ap (λ (z : Token). z ∷ (d ++ w.0 ∷ w.1)) (ap (head t) e))
+        | inr w ↦ inr (
+          w.0,
+          w.1,
+          w.2,
+          ap (λ (z : Tokens). t ∷ z) w.3 ∙ ap (λ (z : Token). z ∷ (d ++ w.0 ∷ w.1))
+              (ap (head t) e),
+        )
       ]
     where
       tail : Tokens → Tokens
@@ -70,13 +80,15 @@ module _ {A : Type 0} (p : Parser A) (h : Local p) where
       let one = h.reads (c ++ r) x q e in
       elim (place c r one.0 q one.1) [
         | inl l ↦ l
-        | inr w ↦ (let more : p c ≡ Ok (x, w.0 ∷ w.1) = ap p w.3 ∙ one.2 (w.0 ∷ w.1) (sym (ap first w.2)) in absurd (omega (arith, z, stop_is _ _ more)))
+        | inr w ↦ (let more : p c ≡ Ok (x, w.0 ∷ w.1) = ap p w.3 ∙ one.2 (w.0 ∷ w.1) (sym (ap first w.2)) in absurd
+            (omega (arith, z, stop_is _ _ more)))
       ]
   among_at c r (Err n) e z =
       let one = h.refuses (c ++ r) n e in
       elim (place c r one.0 one.1 one.2) [
         | inl l ↦ omega (arith, l, one.3)
-        | inr w ↦ (let more : p c ≡ Err (length (w.0 ∷ w.1)) = ap p w.3 ∙ one.4 (w.0 ∷ w.1) (sym (ap first w.2)) in absurd (omega (arith, z, stop_is _ _ more)))
+        | inr w ↦ (let more : p c ≡ Err (length (w.0 ∷ w.1)) = ap p w.3 ∙ one.4 (w.0 ∷ w.1) (sym (ap first w.2))
+            in absurd (omega (arith, z, stop_is _ _ more)))
       ]
 
   -- and tokens that are read to their end alone, are among others
@@ -101,10 +113,12 @@ module _ (text : List ℕ) where
   above_least (suc n) d = omega (arith, above_least n d)
 
   -- what derives within some levels is read by a level that is high enough
-  is_read : (n m : ℕ) (ts : Tokens) (p : Program) → DerivesWithin (is_forward text) m ts p → reading text (suc (above n m)) ts ≡ Ok (p, [])
+  is_read : (n m : ℕ) (ts : Tokens) (p : Program) → DerivesWithin (is_forward text) m ts p → reading text
+      (suc (above n m)) ts ≡ Ok (p, [])
   is_read n m ts p d =
       let low = within_is_low (is_forward text) m ts p d in
-      derived_is_read (is_forward text) (suc (above n m)) ts p (low_is_within (is_forward text) (suc (above n m)) ts p (low.0, omega (arith, low.1, above_least n m)))
+      derived_is_read (is_forward text) (suc (above n m)) ts p
+      (low_is_within (is_forward text) (suc (above n m)) ts p (low.0, omega (arith, low.1, above_least n m)))
 
   -- where two levels refuse the last of some tokens alike, all above them do
   stuck : {A : Type 0} {k : ℕ} {a b o : Outcome A} → Rise A k a b o → stop a ≤ 1 → stop b ≢ 0 → stop o ≢ 0
@@ -112,11 +126,16 @@ module _ (text : List ℕ) where
   stuck (risen k a l i) s ne = ne
   stuck (rising k j a l i m) s ne = absurd (ne (omega (arith, s, i)))
 
-  pub no_more : (n : ℕ) (c : Tokens) (t : Token) → stop (reading text n c) ≡ 0 → stop (reading text (suc n) (c ++ t ∷ [])) ≢ 0 → Begins text (c ++ t ∷ []) → ⊥
+  pub no_more : (n : ℕ) (c : Tokens) (t : Token) → stop (reading text n c) ≡ 0 → stop
+      (reading text (suc n) (c ++ t ∷ [])) ≢ 0 → Begins text (c ++ t ∷ []) → ⊥
   no_more n c t z ne b =
-      let whole : reading text (suc (above n b.2.0)) ((c ++ t ∷ []) ++ b.0) ≡ Ok (b.1, []) = is_read n b.2.0 ((c ++ t ∷ []) ++ b.0) b.1 b.2.1 in
-      let high : stop (reading text (suc (above n b.2.0)) (c ++ t ∷ [])) ≡ 0 = alone (reading text (suc (above n b.2.0))) (looks (suc (above n b.2.0))) (c ++ t ∷ []) b.0 (omega (arith, ap stop whole)) in
-      stuck ((program_rises (is_forward text) b.2.0 n).at (c ++ t ∷ [])) (among (reading text n) (looks n) c (t ∷ []) z) ne high
+      let whole : reading text (suc (above n b.2.0)) ((c ++ t ∷ []) ++ b.0) ≡ Ok (b.1, []) = is_read n b.2.0
+      ((c ++ t ∷ []) ++ b.0) b.1 b.2.1 in
+      let high : stop (reading text (suc (above n b.2.0)) (c ++ t ∷ [])) ≡ 0 = alone
+      (reading text (suc (above n b.2.0))) (looks (suc (above n b.2.0))) (c ++ t ∷ []) b.0
+      (omega (arith, ap stop whole)) in
+      stuck ((program_rises (is_forward text) b.2.0 n).at (c ++ t ∷ []))
+      (among (reading text n) (looks n) c (t ∷ []) z) ne high
 
   plus_one : (n : ℕ) (w : Tokens) → n + suc (length w) ≡ suc n + length w
   plus_one n w = omega arith
@@ -128,11 +147,24 @@ module _ (text : List ℕ) where
   zero_or_not zero = inl refl
   zero_or_not (suc n) = inr (λ e. omega (arith, e))
 
-  -- as many tokens more as levels
-  pub none_more : (w : Tokens) (n : ℕ) (c : Tokens) → stop (reading text n c) ≡ 0 → stop (reading text (n + length w) (c ++ w)) ≢ 0 → Begins text (c ++ w) → ⊥
-  none_more [] n c z ne b = ne (ap (λ (m : ℕ). stop (reading text m (c ++ []))) (omega arith) ∙ ap (λ (q : Tokens). stop (reading text n q)) (append-nil c) ∙ z)
+  -- as many more tokens as levels
+  pub none_more : (w : Tokens) (n : ℕ) (c : Tokens) → stop (reading text n c) ≡ 0 → stop
+      (reading text (n + length w) (c ++ w)) ≢ 0 → Begins text (c ++ w) → ⊥
+  none_more [] n c z ne b = ne (ap (λ (m : ℕ). stop (reading text m (c ++ []))) (omega arith)
+      ∙ ap (λ (q : Tokens). stop (reading text n q)) (append-nil c) ∙ z)
   none_more (t ∷ w) n c z ne b =
       elim (zero_or_not (stop (reading text (suc n) (c ++ t ∷ [])))) [
-        | inl e ↦ none_more w (suc n) (c ++ t ∷ []) e (λ i. ne (ap (λ (m : ℕ). stop (reading text m (c ++ t ∷ w))) (plus_one n w) ∙ ap (λ (q : Tokens). stop (reading text (suc n + length w) q)) (sym (one_by_one c w t)) ∙ i)) (subst (λ (q : Tokens). Begins text q) (sym (one_by_one c w t)) b)
-        | inr i ↦ no_more n c t z i (w ++ b.0, b.1, (b.2.0, subst (λ (q : Tokens). DerivesWithin (is_forward text) b.2.0 q b.1) (ap (λ (q : Tokens). q ++ b.0) (sym (one_by_one c w t)) ∙ append_assoc (c ++ t ∷ []) w b.0) b.2.1))
+        | inl e ↦ none_more w (suc n) (c ++ t ∷ []) e
+            (λ i. ne (ap (λ (m : ℕ). stop (reading text m (c ++ t ∷ w))) (plus_one n w)
+            ∙ ap (λ (q : Tokens). stop (reading text (suc n + length w) q)) (sym (one_by_one c w t)) ∙ i))
+            (subst (λ (q : Tokens). Begins text q) (sym (one_by_one c w t)) b)
+        | inr i ↦ no_more n c t z i (
+          w ++ b.0,
+          b.1,
+          (
+            b.2.0,
+            subst (λ (q : Tokens). DerivesWithin (is_forward text) b.2.0 q b.1)
+                (ap (λ (q : Tokens). q ++ b.0) (sym (one_by_one c w t)) ∙ append_assoc (c ++ t ∷ []) w b.0) b.2.1,
+          ),
+        )
       ]

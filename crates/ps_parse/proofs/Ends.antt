@@ -7,7 +7,8 @@ use Rattle.ps_parse_grammar.specs.Symbols.{Tokens}
 use Rattle.ps_parse.specs.Steps.{sees}
 use Rattle.ps_parse.proofs.Exact.{same_is}
 
--- how tightly a token binds what stands before it: 1 a relation, 2 and 3 an operator, 4 a part of a variable or a list of parameters
+-- how tightly a token binds to what comes before it: 1 a relation, 2 and 3 an operator, 4 a part of a variable or a
+-- list of parameters
 abbrev pub binds : Kind → ℕ
 binds k.LeftBracket = 4
 binds k.LeftParen = 4
@@ -92,5 +93,6 @@ follows_unseen k [] h e = refl
 follows_unseen k (t ∷ ts) h e = go (same t.kind k) refl
   where
     go : (b : Bool) → same t.kind k ≡ b → same t.kind k ≡ false
-    go true q = absurd (let kinds : follow t.kind ≡ follow k = ap follow (same_is t.kind k q) in omega (arith, h, kinds))
+    go true q = absurd (let kinds : follow t.kind ≡ follow k = ap follow (same_is t.kind k q) in omega
+        (arith, h, kinds))
     go false q = q

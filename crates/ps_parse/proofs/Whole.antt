@@ -1,4 +1,4 @@
--- What the reading of all tokens tells.
+-- What the reading of all tokens shows.
 use Rattle.std.proofs.Common.{◌≡◌, ◌≢◌, ℕ, List, [], ◌∷◌, length, Ok, Err, refl, sym, ap, ◌∙◌, arith}
 use Rattle.ps_syntax.specs.declared.program.Program.{Program}
 use Rattle.ps_parse_grammar.specs.Symbols.{Tokens}
@@ -19,16 +19,23 @@ module _ (text : List ℕ) (ts : Tokens) where
   within : (q : Program) → IsTreeOf text ts q → DerivesWithin (is_forward text) 500 ts q
   within q t = low_is_within (is_forward text) 500 ts q (t.derives, t.low)
 
-  pub derives : (y : Program) (r : Tokens) → program (is_forward text) (read_block (is_forward text) 500) ts ≡ Ok (y, r) → length r ≡ 0 → IsTreeOf text ts y
+  pub derives : (y : Program) (r : Tokens) → program (is_forward text) (read_block (is_forward text) 500) ts ≡ Ok (y, r)
+      → length r ≡ 0 → IsTreeOf text ts y
   derives y r e l =
-      let d = within_is_low (is_forward text) 500 ts y (reads_derived (is_forward text) 500 ts y (e ∙ ap (λ (q : Tokens). Ok (y, q)) (nothing_left r l))) in
+      let d = within_is_low (is_forward text) 500 ts y
+      (reads_derived (is_forward text) 500 ts y (e ∙ ap (λ (q : Tokens). Ok (y, q)) (nothing_left r l))) in
       record { derives = d.0; low = d.1 }
 
-  pub only : (y : Program) (r : Tokens) → program (is_forward text) (read_block (is_forward text) 500) ts ≡ Ok (y, r) → (q : Program) → IsTreeOf text ts q → q ≡ y
+  pub only : (y : Program) (r : Tokens) → program (is_forward text) (read_block (is_forward text) 500) ts ≡ Ok (y, r)
+      → (q : Program) → IsTreeOf text ts q → q ≡ y
   only y r e q t = sym (first_part y q r [] (sym e ∙ derived_is_read (is_forward text) 500 ts q (within q t)))
 
-  pub left_over : (y : Program) (r : Tokens) → program (is_forward text) (read_block (is_forward text) 500) ts ≡ Ok (y, r) → length r ≢ 0 → (q : Program) → IsTreeOf text ts q → ⊥
-  left_over y r e l q t = l (ap length (second_part y q r [] (sym e ∙ derived_is_read (is_forward text) 500 ts q (within q t))))
+  pub left_over : (y : Program) (r : Tokens) → program (is_forward text) (read_block (is_forward text) 500) ts ≡ Ok
+      (y, r) → length r ≢ 0 → (q : Program) → IsTreeOf text ts q → ⊥
+  left_over y r e l q t = l (ap length (second_part y q r []
+      (sym e ∙ derived_is_read (is_forward text) 500 ts q (within q t))))
 
-  pub never : (left : ℕ) → program (is_forward text) (read_block (is_forward text) 500) ts ≡ Err left → (q : Program) → IsTreeOf text ts q → ⊥
-  never left e q t = (let h : ◌≡◌ {A = Outcome Program} (Err left) (Ok (q, [])) = sym e ∙ derived_is_read (is_forward text) 500 ts q (within q t) in cc)
+  pub never : (left : ℕ) → program (is_forward text) (read_block (is_forward text) 500) ts ≡ Err left → (q : Program)
+      → IsTreeOf text ts q → ⊥
+  never left e q t = (let h : ◌≡◌ {A = Outcome Program} (Err left) (Ok (q, [])) = sym e ∙ derived_is_read
+      (is_forward text) 500 ts q (within q t) in cc)

@@ -25,7 +25,8 @@ use Rattle.ps_syntax.specs.declared.program.Routine.TheVariants as q
 use Rattle.ps_syntax.specs.declared.program.Block.{Block, roll-Block}
 use Rattle.ps_syntax.specs.declared.program.Program.{Program}
 use Rattle.ps_parse_grammar.specs.Symbols.{Tokens}
-use Rattle.ps_parse.specs.Steps.{Parser, if_some, first, skip, sees, ◌>>=◌, ◌>>◌, ◌<$>◌, pure, refuse, refuse_from, eat, accept, expect, separated, terminated, many, part, if_begins}
+use Rattle.ps_parse.specs.Steps.{Parser, if_some, first, skip, sees, ◌>>=◌, ◌>>◌, ◌<$>◌, pure, refuse, refuse_from}
+use Rattle.ps_parse.specs.Steps.{eat, accept, expect, separated, terminated, many, part, if_begins}
 use Rattle.ps_parse.specs.ReadStatements.{constant, read_statement}
 
 unfoldable pub names : Parser (List Span)
@@ -204,7 +205,8 @@ module _ (is_forward : Span → Bool) where
     unfoldable pub after_heading : Heading → Parser Routine
     after_heading heading = λ ts. (do
       directive ← accept k.Name
-      if_some directive (λ at. if is_forward at then pure (q.Forward heading) else refuse_from (length ts)) (q.Whole heading <$> block)) ts
+      if_some directive (λ at. if is_forward at then pure (q.Forward heading) else refuse_from (length ts))
+          (q.Whole heading <$> block)) ts
 
     unfoldable pub procedure_routine : Parser Routine
     procedure_routine = do
@@ -246,7 +248,14 @@ module _ (is_forward : Span → Bool) where
       begin ← expect k.Begin
       statements ← separated k.Semicolon statement
       expect k.End
-      pure (roll-Block (record { constants = constants; types = types; variables = vs; routines = routines; begin = begin; statements = statements }))
+      pure (roll-Block (record {
+        constants = constants;
+        types = types;
+        variables = vs;
+        routines = routines;
+        begin = begin;
+        statements = statements;
+      }))
 
   unfoldable pub read_block : ℕ → Parser Block
   read_block zero = refuse

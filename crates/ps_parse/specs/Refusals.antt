@@ -1,4 +1,4 @@
--- The numbers of refusals, and the lines and places that they are told at (this project's format).
+-- The numbers of refusals, and the lines and places at which they are reported (this project's format).
 use Rattle.std.specs.Prelude.{ℕ, min, List, [], ◌∷◌, length, drop, Option, Some, None}
 use Rattle.ps_text.specs.declared.Span.{Span}
 use Rattle.ps_text.specs.Lines.{line_at}
@@ -25,20 +25,21 @@ abbrev pub place_of : ParseRefusal → Option Span
 place_of OutOfMemory = None
 place_of (Faulty fault line at from to) = Some (record { from = from; to = to })
 
--- where the first of some tokens of a text begins; the end of the text, where there is none
+-- where the first of some tokens of a text begins; the end of the text if there is none
 abbrev pub first_place : List ℕ → Tokens → ℕ
 first_place text [] = length text
 first_place text (t ∷ ts) = min t.span.from (length text)
 
--- the line of the token with a number, counted from 0
+-- the line of the token with a given number, counted from 0
 abbrev pub token_line : List ℕ → Tokens → ℕ → ℕ
 token_line text ts at = line_at text (first_place text (drop at ts))
 
--- the span of the first of some tokens of a text; that of no byte at its end, where there is none
+-- the span of the first of some tokens of a text; an empty one at the end of the text if there is none
 abbrev pub first_span : List ℕ → Tokens → Span
 first_span text [] = record { from = length text; to = length text }
 first_span text (t ∷ ts) = t.span
 
--- what is told of the token with a number
+-- what is reported of the token with a given number
 abbrev pub refusal_at : List ℕ → Tokens → ℕ → ParseFault → ParseRefusal
-refusal_at text ts at fault = Faulty fault (token_line text ts at) (min at 4294967295) (first_span text (drop at ts)).from (first_span text (drop at ts)).to
+refusal_at text ts at fault = Faulty fault (token_line text ts at) (min at 4294967295)
+    (first_span text (drop at ts)).from (first_span text (drop at ts)).to

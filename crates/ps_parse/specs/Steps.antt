@@ -1,5 +1,7 @@
--- What a parser is made of: a function from the tokens that are left to what it read and the tokens after that, or, where it refuses, how many tokens are left from the one on that it refuses.
-use Rattle.std.specs.Prelude.{◌≡◌, ◌≢◌, ℕ, zero, suc, Bool, true, false, if◌then◌else◌, List, [], ◌∷◌, ◌++◌, length, Option, Some, None, Result, Ok, Err}
+-- What a parser is made of: a function from the tokens that are left to what it read and the tokens after that, or,
+-- where it refuses, the number of tokens left from the one on that it refuses.
+use Rattle.std.specs.Prelude.{◌≡◌, ◌≢◌, ℕ, zero, suc, Bool, true, false, if◌then◌else◌, List, [], ◌∷◌, ◌++◌, length}
+use Rattle.std.specs.Prelude.{Option, Some, None, Result, Ok, Err}
 use Rattle.ps_text.specs.declared.Span.{Span}
 use Rattle.ps_scan.specs.declared.token.Kind.{Kind}
 use Rattle.ps_scan.specs.declared.token.Token.{Token}
@@ -33,7 +35,7 @@ infixr 11 ◌<$>◌
 abbrev pub ◌<$>◌ : {A B : Type 0} → (A → B) → Parser A → Parser B
 f <$> p = p >>= (λ x. pure (f x))
 
--- goes on with what was found, or else
+-- continues with what was found, or else with the alternative
 abbrev pub if_some : {A B : Type 0} → Option A → (A → Parser B) → Parser B → Parser B
 if_some None f p = p
 if_some (Some x) f p = f x
@@ -41,7 +43,7 @@ if_some (Some x) f p = f x
 abbrev pub refuse : {A : Type 0} → Parser A
 refuse = λ ts. Err (length ts)
 
--- refuses from an earlier token on, from which so many are left
+-- refuses from an earlier token on, from which the given number of tokens is left
 abbrev pub refuse_from : {A : Type 0} → ℕ → Parser A
 refuse_from left = λ ts. Err left
 
@@ -97,7 +99,7 @@ abbrev pub accept_one : Bool → Span → Parser (Option Span)
 accept_one true at = skip >> pure (Some at)
 accept_one false at = pure None
 
--- takes the next token if it is of this kind, and answers where it stands
+-- takes the next token if it is of this kind, and returns its place
 unfoldable pub accept : Kind → Parser (Option Span)
 accept k = λ ts. if_some (first ts) (λ t. accept_one (same t.kind k) t.span) (pure None) ts
 
@@ -116,7 +118,7 @@ terminated separator stop item = do
   x ← item
   λ ts. terminated_from separator stop item (length ts) (x ∷ []) ts
 
--- {item}, at most n times, where item answers none and takes nothing where no item comes next
+-- {item}, at most n times, where item returns none and takes nothing if no item comes next
 unfoldable pub many_from : {A : Type 0} → Parser (Option A) → ℕ → List A → Parser (List A)
 many_from item zero found = pure found
 many_from item (suc n) found = do
@@ -139,17 +141,17 @@ part word begins item = do
     x ← item
     λ ts. many_from (if_begins begins item) (length ts) (x ∷ []) ts) else pure []
 
--- how many tokens are left where a parser stops, whether it read or refused
+-- the number of tokens left where a parser stops, whether it read or refused
 abbrev pub stop : {A : Type 0} → Outcome A → ℕ
 stop (Ok q) = length q.1
 stop (Err n) = n
 
--- how many tokens are left from the token on that a fault is told at
+-- the number of tokens left from the one on at which a fault is reported
 abbrev pub left_of : Fault → ℕ
 left_of OutOfMemory = 0
 left_of (Unexpected left) = left
 
--- A function that parses gives what the parser reads, and refuses just where it refuses, unless memory runs out.
+-- A function that parses returns what the parser reads, and refuses exactly where it refuses, unless memory runs out.
 abbrev pub Reads : {A : Type 0} → Outcome A → Result A Fault → Tokens → Type 0
 Reads outcome (Ok a) new = outcome ≡ Ok (a, new)
 Reads outcome (Err e) new = e ≢ OutOfMemory → outcome ≡ Err (left_of e)

@@ -1,4 +1,4 @@
-//! Answers of calls that may fail, put together. What an answer holds goes on as it is, whatever its type.
+//! Combines the answers of calls that may fail. What an answer holds is passed on as it is, whatever its type.
 
 ghost use Rattle.std.specs.Prelude.{◌≡◌, ◌≢◌, ◌++◌, ◌∷◌, [], OnOk, IfOk, IfErr, IsOkAnd, Ok, Err};
 ghost use Rattle.ps_parse.specs.declared.error.Fault.TheVariants.{OutOfMemory};

@@ -1,4 +1,4 @@
-//! Why tokens are no program, and where.
+//! Why tokens are not a program, and where.
 
 ghost use Rattle.std.specs.Prelude.{◌≡◌};
 ghost use Rattle.ps_parse.specs.Refusals.{number_of_fault, number_of, line_of, place_of};
@@ -8,14 +8,14 @@ use std::alloc::AllocError;
 use std::fmt;
 use thiserror::Error;
 
-/// Why no program of a height of at most `MAX_HEIGHT` goes on with a token. It is shown by its name.
+/// Why no program of a height of at most `MAX_HEIGHT` continues with a token. It is displayed as its name.
 #[derive(Clone, Copy, Debug)]
 pub enum ParseFault {
-    /// No program at all does, and the token is of no construction that the profile leaves out.
+    /// No program at all does, and the token does not belong to a construction that the profile leaves out.
     NotAProgram,
     /// A higher program does.
     TooDeep,
-    /// The token is of a construction that the profile leaves out.
+    /// The token belongs to a construction that the profile leaves out.
     NotInProfile,
 }
 
@@ -30,7 +30,7 @@ impl fmt::Display for ParseFault {
 }
 
 impl ParseFault {
-    /// The number of the refusal that tells the fault.
+    /// The number of the refusal that reports the fault.
     pub fn number(self) -> u32
         ensures { result ≡ number_of_fault self }
     {
@@ -42,14 +42,14 @@ impl ParseFault {
     }
 }
 
-/// Why tokens are no program of a height of at most `MAX_HEIGHT`: the fault of the first token that no
-/// derivation takes. It is shown by the fault's name.
+/// Why tokens are no program of a height of at most `MAX_HEIGHT`: the fault of the first token that no derivation
+/// takes. It is displayed as the fault's name.
 #[derive(Clone, Copy, Debug, Error)]
 pub enum ParseRefusal {
-    /// A growth was refused.
+    /// The allocator refused memory.
     OutOfMemory,
-    /// The fault, with the line of the token, from 1 on, the token's number, counted from 0, and the offsets
-    /// of its first byte and of the one behind its last. The end counts as a token, at the end of the text.
+    /// The fault, with the line of the token, counted from 1, the token's number, counted from 0, and the offsets of
+    /// its first byte and of the one after its last. The end counts as a token, at the end of the text.
     Faulty {
         fault: ParseFault,
         line: u32,
@@ -79,7 +79,7 @@ impl ParseRefusal {
         }
     }
 
-    /// The line that it is told at, if it has one.
+    /// The line at which it is reported, if it has one.
     pub fn line(self) -> Option<u32>
         ensures { result ≡ line_of self }
     {
@@ -89,7 +89,7 @@ impl ParseRefusal {
         }
     }
 
-    /// The place in the text that it is told at, if it has one.
+    /// The place in the text at which it is reported, if it has one.
     pub fn place(self) -> Option<Span>
         ensures { result ≡ place_of self }
     {
@@ -100,8 +100,8 @@ impl ParseRefusal {
     }
 }
 
-/// Why a part of the parser read nothing: memory, or a token that it can't take, by how many tokens are
-/// left from it on.
+/// Why a part of the parser read nothing: memory ran out, or it can't take a token, which is given by the number of
+/// tokens left from it on.
 #[derive(Clone, Copy)]
 pub enum Fault {
     OutOfMemory,

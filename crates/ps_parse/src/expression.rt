@@ -88,7 +88,7 @@ impl<'a> Parser<'a> {
         Some((operator, token.span))
     }
 
-    /// Whether the next token goes on with an expression after a factor.
+    /// Whether the next token continues an expression after a factor.
     fn sees_operator(&self) -> bool
         ensures { result ≡ read.sees_operator self.now.rest.now }
     {
@@ -130,7 +130,7 @@ impl<'a> Parser<'a> {
         }
     }
 
-    /// A factor alone is answered here, where no part is held while another is read.
+    /// A factor alone is returned here, where no part is held while another is read.
     #[cycle(expression)]
     #[tactic(auto, unfolding(crate::specs::ReadExpressions::read_expr, crate::specs::ReadExpressions::compared, crate::specs::ReadExpressions::simple, crate::specs::ReadExpressions::term))]
     pub fn expr(&mut self, depth: u32) -> Result<Expr, Fault>
@@ -152,7 +152,7 @@ impl<'a> Parser<'a> {
         Ok(Expr::Simple(Simple { sign, first, more }))
     }
 
-    /// An expression of which the sign and the first factor were read.
+    /// An expression whose sign and first factor have been read.
     #[cycle(expression)]
     fn expr_from(
         &mut self,
@@ -172,7 +172,7 @@ impl<'a> Parser<'a> {
         }
     }
 
-    /// The simple expression after a relation, which goes to the heap.
+    /// The simple expression after a relation, allocated on the heap.
     #[cycle(expression)]
     #[tactic(auto, unfolding(crate::specs::ReadExpressions::simple, crate::specs::ReadExpressions::term))]
     fn right_side(&mut self, depth: u32) -> Result<Boxed<Simple>, Fault>
@@ -183,8 +183,8 @@ impl<'a> Parser<'a> {
         boxed_answer(self.alloc, self.simple_from(depth, sign, first))
     }
 
-    /// As `expr`, where the value goes to the heap. A factor alone goes there straight, so that a level of
-    /// parentheses hands only the factor up.
+    /// Like `expr`, with the value allocated on the heap. A factor alone goes there directly, so that a level of
+    /// parentheses passes only the factor up.
     #[cycle(expression)]
     #[tactic(auto, unfolding(crate::specs::ReadExpressions::read_expr, crate::specs::ReadExpressions::compared, crate::specs::ReadExpressions::simple, crate::specs::ReadExpressions::term))]
     pub fn boxed_expr(&mut self, depth: u32) -> Result<Boxed<Expr>, Fault>
@@ -206,7 +206,7 @@ impl<'a> Parser<'a> {
         boxed_answer(self.alloc, Ok(Expr::Simple(Simple { sign, first, more })))
     }
 
-    /// As `expr_from`, where the value goes to the heap. Inlined, it would make the frame of each level of
+    /// Like `expr_from`, with the value allocated on the heap. Inlined, it would make the frame of each level of
     /// parentheses several times as large.
     #[cycle(expression)]
     #[inline(never)]
@@ -221,7 +221,7 @@ impl<'a> Parser<'a> {
         boxed_answer(self.alloc, self.expr_from(depth, sign, first))
     }
 
-    /// A simple expression of which the sign and the first factor were read.
+    /// A simple expression whose sign and first factor have been read.
     #[cycle(expression)]
     fn simple_from(
         &mut self,
@@ -229,7 +229,8 @@ impl<'a> Parser<'a> {
         sign: Option<(Sign, Span)>,
         first: Factor,
     ) -> Result<Simple, Fault>
-        ensures { Reads (read.simple_after (read.read_factor depth) sign first self.old.rest.now) result self.new.rest.now }
+        ensures { Reads (read.simple_after (read.read_factor depth) sign first self.old.rest.now) result
+            self.new.rest.now }
     {
         let first = self.term_from(depth, first)?;
         let (first, more) = beside(first, self.terms(depth))?;
@@ -238,7 +239,8 @@ impl<'a> Parser<'a> {
 
     #[cycle(expression)]
     fn terms(&mut self, depth: u32) -> Result<Items<AddedTerm>, Fault>
-        ensures { Reads (many (read.added (read.term (read.read_factor depth))) self.old.rest.now) result self.new.rest.now }
+        ensures { Reads (many (read.added (read.term (read.read_factor depth))) self.old.rest.now) result
+            self.new.rest.now }
     {
         let mut found = Items::new(self.alloc);
         while let Some((operator, at)) = self.adding() {
@@ -249,7 +251,7 @@ impl<'a> Parser<'a> {
         Ok(found)
     }
 
-    /// A term of which the first factor was read.
+    /// A term whose first factor has been read.
     #[cycle(expression)]
     fn term_from(&mut self, depth: u32, first: Factor) -> Result<Term, Fault>
         ensures { Reads (read.term_from (read.read_factor depth) first self.old.rest.now) result self.new.rest.now }
@@ -326,7 +328,7 @@ impl<'a> Parser<'a> {
         boxed_answer(self.alloc, self.factor(depth - 1))
     }
 
-    /// Goes past the parentheses that come next, at most so many, and answers how many they are.
+    /// Skips the parentheses that come next, at most `most` of them, and returns their number.
     fn opened(&mut self, most: u32) -> u32
         ensures count { result ≡ read.parentheses most self.old.rest.now }
         ensures most { result ≤ most }
@@ -340,8 +342,8 @@ impl<'a> Parser<'a> {
         most
     }
 
-    /// A group after its parenthesis. Those that come next are taken at once and closed one by one, so that parentheses
-    /// which stand directly within others need no call and no memory of their own.
+    /// A group after its parenthesis. The parentheses that come next are taken at once and closed one by one, so that
+    /// parentheses directly within others need no call and no memory of their own.
     #[cycle(expression)]
     fn group(&mut self, depth: u32, at: Span) -> Result<Factor, Fault>
         ensures { Reads (read.group (read.read_expr depth) at self.old.rest.now) result self.new.rest.now }

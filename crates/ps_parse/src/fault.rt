@@ -1,4 +1,4 @@
-//! Why tokens are refused: some of them are read again, with the next token or with what could stand in its place.
+//! Why tokens are refused: some of them are read again, with the next token or with what could be in its place.
 
 ghost use Rattle.std.specs.Prelude.{◌≡◌, ◌≢◌, ◌+◌, ◌-◌, ◌≤◌, ◌↔◌, ◌++◌, true, length, IfOk};
 ghost use Rattle.ps_parse.specs.declared.error.Fault.TheVariants as faults;
@@ -19,7 +19,8 @@ use std::alloc::{AllocError, Global};
 /// The refusal of a fault.
 pub fn refusal_of(alloc: Global, source: &Source, tokens: &[Token], fault: Fault) -> ParseRefusal
     requires stopped { fault ≢ faults.OutOfMemory → stop (reading source.now 500 tokens.now) ≡ left_of fault }
-    requires untaken { fault ≢ faults.OutOfMemory → NoneTakesAt source.now tokens.now (length tokens.now - left_of fault) }
+    requires untaken { fault ≢ faults.OutOfMemory → NoneTakesAt source.now tokens.now
+        (length tokens.now - left_of fault) }
     ensures { IsTold source.now tokens.now result }
 {
     let Fault::Unexpected(left) = fault else {
@@ -55,7 +56,7 @@ fn fault_of(
     }
 }
 
-/// Whether the first of some tokens after others is of a construction that the profile leaves out.
+/// Whether the first of some tokens after others belongs to a construction that the profile leaves out.
 fn is_left_out(
     alloc: Global,
     text: &[u8],
@@ -79,7 +80,7 @@ fn is_left_out(
     }
 }
 
-/// Whether a program of any height begins with some tokens and a few more. As many levels more are enough.
+/// Whether a program of any height begins with some tokens and a few more. As many extra levels are enough.
 fn begins(alloc: Global, text: &[u8], before: &[Token], more: &[Token]) -> Result<bool, AllocError>
     requires stopped { stop (reading text.now 500 before.now) ≡ 0 }
     requires few { length more.now ≤ 5 }
@@ -100,7 +101,7 @@ fn begins(alloc: Global, text: &[u8], before: &[Token], more: &[Token]) -> Resul
     }
 }
 
-/// What is told of the token with a number.
+/// What is reported of the token with a given number.
 fn refusal_at(source: &Source, tokens: &[Token], at: usize, fault: ParseFault) -> ParseRefusal
     ensures { result ≡ refusal_at source.now tokens.now at fault }
 {

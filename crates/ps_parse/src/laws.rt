@@ -2,8 +2,8 @@
 
 ghost use Rattle.ps_parse.specs.Untaken.{RefusalsAreOne};
 
-/// Of tokens that have no tree one refusal is told, unless memory ran out: its fault, its line and its place are
-/// given by the tokens and the text.
+/// Only one refusal is reported of tokens that have no tree, unless memory ran out: its fault, its line and its
+/// place are determined by the tokens and the text.
 pub fn refusals_are_one()
     ensures { RefusalsAreOne }
 {}

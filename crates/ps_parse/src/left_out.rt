@@ -7,7 +7,7 @@ use ps_scan::{Kind, Token};
 use ps_text::Span;
 use std::alloc::{AllocError, Global};
 
-/// The place of a token that is none of the text.
+/// The place of a token that is not in the text.
 const NOWHERE: Span = Span { from: 0, to: 0 };
 
 /// What begins a statement and nothing else.
@@ -40,7 +40,7 @@ const SECTION: [Token; 5] = [
     },
 ];
 
-/// What goes on with another parameter that has a width.
+/// What continues with another parameter that has a width.
 const PARAMETER: [Token; 3] = [
     Token {
         kind: Kind::Comma,
@@ -56,10 +56,11 @@ const PARAMETER: [Token; 3] = [
     },
 ];
 
-/// What the profile has in the place of a token of a construction that it leaves out. `is_colon_next` tells whether
-/// `:` stands behind the token.
+/// What the profile has in place of a token of a construction that it leaves out. `is_colon_next` says whether `:`
+/// comes after the token.
 pub fn in_place_of(kind: Kind, is_colon_next: bool) -> Option<&'static [Token]>
-    ensures { MatchOption result (in_place_of kind is_colon_next ≡ None) (λ tokens. in_place_of kind is_colon_next ≡ Some tokens.now) }
+    ensures { MatchOption result (in_place_of kind is_colon_next ≡ None)
+        (λ tokens. in_place_of kind is_colon_next ≡ Some tokens.now) }
 {
     match kind {
         Kind::Label | Kind::Goto | Kind::File | Kind::Slash => Some(&[]),
@@ -70,7 +71,7 @@ pub fn in_place_of(kind: Kind, is_colon_next: bool) -> Option<&'static [Token]>
     }
 }
 
-/// Some tokens, and others behind them.
+/// Some tokens, and others after them.
 pub fn followed_by(
     alloc: Global,
     before: &[Token],

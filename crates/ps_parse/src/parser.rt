@@ -41,7 +41,7 @@ impl<'a> Parser<'a> {
         }
     }
 
-    /// Goes past the next token.
+    /// Skips the next token.
     pub fn skip(&mut self)
         ensures after { self.new.rest.now ≡ spec.rest self.old.rest.now }
     {
@@ -74,7 +74,7 @@ impl<'a> Parser<'a> {
         }
     }
 
-    /// Takes the next token if it is of this kind, and answers where it stands.
+    /// Takes the next token if it is of this kind, and returns its place.
     #[tactic(auto, unfolding(crate::specs::Steps::accept))]
     pub fn accept(&mut self, kind: Kind) -> Option<Span>
         ensures read { spec.accept kind self.old.rest.now ≡ Ok (result, self.new.rest.now) }
@@ -101,10 +101,12 @@ impl<'a> Parser<'a> {
         }
     }
 
-    /// What was read, if a token of this kind comes next, which is taken.
+    /// What was read, if a token of this kind comes next, which is taken too.
     pub fn followed_by<A: Drop>(&mut self, kind: Kind, read: Result<A, Fault>) -> Result<A, Fault>
-        ensures ok { IfOk result (λ value. (read ≡ Ok value) × (at : Span) × (spec.expect kind self.old.rest.now ≡ Ok (at, self.new.rest.now))) }
-        ensures err { IfErr result (λ fault. fault ≢ OutOfMemory → (read ≡ Err fault) ⊎ ((value : A) × (read ≡ Ok value) × (spec.expect kind self.old.rest.now ≡ Err (spec.left_of fault)))) }
+        ensures ok { IfOk result (λ value. (read ≡ Ok value) × (at : Span)
+            × (spec.expect kind self.old.rest.now ≡ Ok (at, self.new.rest.now))) }
+        ensures err { IfErr result (λ fault. fault ≢ OutOfMemory → (read ≡ Err fault)
+            ⊎ ((value : A) × (read ≡ Ok value) × (spec.expect kind self.old.rest.now ≡ Err (spec.left_of fault)))) }
     {
         match read {
             Ok(value) => {

@@ -51,7 +51,8 @@ impl<'a> Parser<'a> {
 
     /// A section of names and their type, after the word `var` if they are variable parameters.
     fn plain_section(&mut self, depth: u32, are_variable: bool) -> Result<Section, Fault>
-        ensures { Reads (read.plain_section (read.read_formals depth) (if are_variable then x.Variable else x.Value) self.old.rest.now) result self.new.rest.now }
+        ensures { Reads (read.plain_section (read.read_formals depth)
+            (if are_variable then x.Variable else x.Value) self.old.rest.now) result self.new.rest.now }
     {
         let read = self.names();
         let names = self.followed_by(Kind::Colon, read)?;
@@ -142,7 +143,8 @@ impl<'a> Parser<'a> {
     }
 
     fn constant_part(&mut self) -> Result<Items<ConstantDefinition>, Fault>
-        ensures { Reads (part k.Const read.begins_name read.constant_definition self.old.rest.now) result self.new.rest.now }
+        ensures { Reads (part k.Const read.begins_name read.constant_definition self.old.rest.now) result
+            self.new.rest.now }
     {
         let mut found = Items::new(self.alloc);
         let mut is_more = self.eat(Kind::Const);
@@ -154,7 +156,8 @@ impl<'a> Parser<'a> {
     }
 
     fn type_part(&mut self, depth: u32) -> Result<Items<TypeDefinition>, Fault>
-        ensures { Reads (part k.Type read.begins_name (read.type_definition (read.read_type depth)) self.old.rest.now) result self.new.rest.now }
+        ensures { Reads (part k.Type read.begins_name (read.type_definition (read.read_type depth)) self.old.rest.now)
+            result self.new.rest.now }
     {
         let mut found = Items::new(self.alloc);
         let mut is_more = self.eat(Kind::Type);
@@ -166,7 +169,8 @@ impl<'a> Parser<'a> {
     }
 
     fn variable_part(&mut self, depth: u32) -> Result<Items<Variables>, Fault>
-        ensures { Reads (part k.Var read.begins_name (read.variables (read.read_type depth)) self.old.rest.now) result self.new.rest.now }
+        ensures { Reads (part k.Var read.begins_name (read.variables (read.read_type depth)) self.old.rest.now) result
+            self.new.rest.now }
     {
         let mut found = Items::new(self.alloc);
         let mut is_more = self.eat(Kind::Var);
@@ -186,7 +190,8 @@ impl<'a> Parser<'a> {
     #[cycle(block)]
     #[tactic(auto, unfolding(crate::specs::ReadPrograms::after_heading))]
     fn after_heading(&mut self, text: &[u8], depth: u32, heading: Heading) -> Result<Routine, Fault>
-        ensures { Reads (read.after_heading (is_forward text.now) (read.read_formals depth) (read.read_block (is_forward text.now) depth) heading self.old.rest.now) result self.new.rest.now }
+        ensures { Reads (read.after_heading (is_forward text.now) (read.read_formals depth)
+            (read.read_block (is_forward text.now) depth) heading self.old.rest.now) result self.new.rest.now }
     {
         let left = self.left();
         match self.accept(Kind::Name) {
@@ -202,7 +207,8 @@ impl<'a> Parser<'a> {
     #[cycle(block)]
     #[tactic(auto, unfolding(crate::specs::ReadPrograms::procedure_routine))]
     fn procedure_routine(&mut self, text: &[u8], depth: u32) -> Result<Routine, Fault>
-        ensures { Reads (read.procedure_routine (is_forward text.now) (read.read_formals depth) (read.read_block (is_forward text.now) depth) self.old.rest.now) result self.new.rest.now }
+        ensures { Reads (read.procedure_routine (is_forward text.now) (read.read_formals depth)
+            (read.read_block (is_forward text.now) depth) self.old.rest.now) result self.new.rest.now }
     {
         let read = self.procedure(depth);
         let heading = self.followed_by(Kind::Semicolon, read)?;
@@ -212,7 +218,8 @@ impl<'a> Parser<'a> {
     #[cycle(block)]
     #[tactic(auto, unfolding(crate::specs::ReadPrograms::function_routine, crate::specs::Steps::eat))]
     fn function_routine(&mut self, text: &[u8], depth: u32) -> Result<Routine, Fault>
-        ensures { Reads (read.function_routine (is_forward text.now) (read.read_formals depth) (read.read_block (is_forward text.now) depth) self.old.rest.now) result self.new.rest.now }
+        ensures { Reads (read.function_routine (is_forward text.now) (read.read_formals depth)
+            (read.read_block (is_forward text.now) depth) self.old.rest.now) result self.new.rest.now }
     {
         let name = self.expect(Kind::Name)?;
         if self.eat(Kind::Semicolon) {
@@ -226,7 +233,8 @@ impl<'a> Parser<'a> {
     #[cycle(block)]
     #[tactic(auto, unfolding(crate::specs::ReadPrograms::routine_head))]
     fn routine_head(&mut self, text: &[u8], depth: u32) -> Result<Routine, Fault>
-        ensures { Reads (read.routine_head (is_forward text.now) (read.read_formals depth) (read.read_block (is_forward text.now) depth) self.old.rest.now) result self.new.rest.now }
+        ensures { Reads (read.routine_head (is_forward text.now) (read.read_formals depth)
+            (read.read_block (is_forward text.now) depth) self.old.rest.now) result self.new.rest.now }
     {
         let Some(token) = self.peek() else {
             return Err(self.refusal());
@@ -247,7 +255,8 @@ impl<'a> Parser<'a> {
     #[cycle(block)]
     #[tactic(auto, using(crate::proofs::Closed::closed), unfolding(crate::specs::ReadPrograms::routine))]
     fn routine(&mut self, text: &[u8], depth: u32) -> Result<Routine, Fault>
-        ensures { Reads (read.routine (is_forward text.now) (read.read_formals depth) (read.read_block (is_forward text.now) depth) self.old.rest.now) result self.new.rest.now }
+        ensures { Reads (read.routine (is_forward text.now) (read.read_formals depth)
+            (read.read_block (is_forward text.now) depth) self.old.rest.now) result self.new.rest.now }
     {
         let routine = self.routine_head(text, depth)?;
         let end = self.expect(Kind::Semicolon);
@@ -256,7 +265,9 @@ impl<'a> Parser<'a> {
 
     #[cycle(block)]
     fn routines(&mut self, text: &[u8], depth: u32) -> Result<Items<Routine>, Fault>
-        ensures { Reads (many (if_begins read.begins_routine (read.routine (is_forward text.now) (read.read_formals depth) (read.read_block (is_forward text.now) depth))) self.old.rest.now) result self.new.rest.now }
+        ensures { Reads (many (if_begins read.begins_routine
+            (read.routine (is_forward text.now) (read.read_formals depth)
+            (read.read_block (is_forward text.now) depth))) self.old.rest.now) result self.new.rest.now }
     {
         let mut found = Items::new(self.alloc);
         while self.sees_routine() {
@@ -268,7 +279,9 @@ impl<'a> Parser<'a> {
     #[cycle(block)]
     #[tactic(auto, using(crate::proofs::Closed::closed), unfolding(crate::specs::ReadPrograms::any_block))]
     fn any_block(&mut self, text: &[u8], depth: u32) -> Result<Block, Fault>
-        ensures { Reads (read.any_block (is_forward text.now) (read.read_type depth) (read.read_formals depth) (read_statement depth) (read.read_block (is_forward text.now) depth) self.old.rest.now) result self.new.rest.now }
+        ensures { Reads (read.any_block (is_forward text.now) (read.read_type depth) (read.read_formals depth)
+            (read_statement depth) (read.read_block (is_forward text.now) depth) self.old.rest.now) result
+            self.new.rest.now }
     {
         let constants = self.constant_part()?;
         let types = self.type_part(depth)?;
@@ -300,7 +313,8 @@ impl<'a> Parser<'a> {
 
     #[tactic(auto, using(crate::proofs::Closed::closed), unfolding(crate::specs::ReadPrograms::program_names, crate::specs::Steps::eat))]
     fn program_names(&mut self, text: &[u8], depth: u32) -> Result<Items<Span>, Fault>
-        ensures { Reads (read.program_names (is_forward text.now) (read.read_block (is_forward text.now) depth) self.old.rest.now) result self.new.rest.now }
+        ensures { Reads (read.program_names (is_forward text.now)
+            (read.read_block (is_forward text.now) depth) self.old.rest.now) result self.new.rest.now }
     {
         if !self.eat(Kind::LeftParen) {
             return Ok(Items::new(self.alloc));
@@ -312,7 +326,8 @@ impl<'a> Parser<'a> {
 
     #[tactic(auto, using(crate::proofs::Closed::closed), unfolding(crate::specs::ReadPrograms::program))]
     pub fn program(&mut self, text: &[u8], depth: u32) -> Result<Program, Fault>
-        ensures { Reads (read.program (is_forward text.now) (read.read_block (is_forward text.now) depth) self.old.rest.now) result self.new.rest.now }
+        ensures { Reads (read.program (is_forward text.now)
+            (read.read_block (is_forward text.now) depth) self.old.rest.now) result self.new.rest.now }
     {
         self.expect(Kind::Program)?;
         let name = self.expect(Kind::Name)?;
@@ -328,7 +343,7 @@ impl<'a> Parser<'a> {
     }
 }
 
-/// Whether the name is spelled `forward`, in whichever case.
+/// Whether the name is spelled `forward`, ignoring case.
 fn names_forward(text: &[u8], at: Span) -> bool
     ensures { result ≡ is_forward text.now at }
 {

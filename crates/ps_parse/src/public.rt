@@ -20,14 +20,14 @@ use std::alloc::Global;
 /// The tree that derives from the tokens of the text, of a height of at most `MAX_HEIGHT`
 /// (ISO 7185 6.2 to 6.10).
 ///
-/// Refused is what has no such tree, at the first token that no derivation from the start can take: with
-/// `TooDeep` where a higher program goes on with it, else with `NotInProfile` where it is of a construction
-/// that the profile leaves out, else with `NotAProgram`.
+/// Tokens without such a tree are refused at the first token that no derivation from the start can take: with `TooDeep`
+/// where a higher program goes on with it, else with `NotInProfile` where it belongs to a construction that the profile
+/// leaves out, else with `NotAProgram`.
 pub fn parse(alloc: Global, source: &Source, tokens: &[Token]) -> Result<Program, ParseRefusal>
     ensures derives { IfOk result (IsTreeOf source.now tokens.now) }
     // The tokens have no other tree.
     ensures only { IfOk result (λ p. (other : Program) → IsTreeOf source.now tokens.now other → other ≡ p) }
-    // Unless memory ran out, the fault of the first token that no derivation takes is told.
+    // Unless memory ran out, the fault of the first token that no derivation takes is reported.
     ensures told { IfErr result (IsTold source.now tokens.now) }
 {
     match whole_program(alloc, source.bytes(), tokens) {
@@ -36,17 +36,18 @@ pub fn parse(alloc: Global, source: &Source, tokens: &[Token]) -> Result<Program
     }
 }
 
-/// Lets a tree go. That each of its parts is let go is proved here, once, and not in the crates that hand a tree over.
+/// Frees a tree. That each of its parts is freed is proved here, once, and not in the crates that pass a tree on.
 pub fn release(tree: Program) {
     drop(tree);
 }
 
-/// The program that all tokens are.
+/// The program that all the tokens together are.
 fn whole_program(alloc: Global, text: &[u8], tokens: &[Token]) -> Result<Program, Fault>
     ensures derives { IfOk result (IsTreeOf text.now tokens.now) }
     ensures only { IfOk result (λ p. (other : Program) → IsTreeOf text.now tokens.now other → other ≡ p) }
     ensures stopped { IfErr result (λ e. e ≢ OutOfMemory → stop (reading text.now 500 tokens.now) ≡ left_of e) }
-    ensures untaken { IfErr result (λ e. e ≢ OutOfMemory → NoneTakesAt text.now tokens.now (length tokens.now - left_of e)) }
+    ensures untaken { IfErr result (λ e. e ≢ OutOfMemory → NoneTakesAt text.now tokens.now
+        (length tokens.now - left_of e)) }
 {
     let mut parser = Parser {
         alloc,

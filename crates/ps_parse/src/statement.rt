@@ -79,7 +79,8 @@ impl<'a> Parser<'a> {
     }
 
     fn parameters(&mut self, depth: u32) -> Result<Items<Parameter>, Fault>
-        ensures { Reads (separated k.Comma (read.parameter (expression.read_expr depth)) self.old.rest.now) result self.new.rest.now }
+        ensures { Reads (separated k.Comma (read.parameter (expression.read_expr depth)) self.old.rest.now) result
+            self.new.rest.now }
     {
         let mut found = Items::new(self.alloc);
         loop {
@@ -100,7 +101,8 @@ impl<'a> Parser<'a> {
     }
 
     fn variables(&mut self, depth: u32) -> Result<Items<Variable>, Fault>
-        ensures { Reads (separated k.Comma (read.named_variable (expression.read_expr depth)) self.old.rest.now) result self.new.rest.now }
+        ensures { Reads (separated k.Comma (read.named_variable (expression.read_expr depth)) self.old.rest.now) result
+            self.new.rest.now }
     {
         let mut found = Items::new(self.alloc);
         loop {
@@ -132,7 +134,8 @@ impl<'a> Parser<'a> {
         selectors: Items<ps_syntax::Selector>,
         becomes: Option<Span>,
     ) -> Result<Statement, Fault>
-        ensures { Reads (read.assigned (expression.read_expr depth) name selectors becomes self.old.rest.now) result self.new.rest.now }
+        ensures { Reads (read.assigned (expression.read_expr depth) name selectors becomes self.old.rest.now) result
+            self.new.rest.now }
     {
         match becomes {
             Some(at) => {
@@ -164,7 +167,7 @@ impl<'a> Parser<'a> {
         }
     }
 
-    /// As `statement`, where the value goes to the heap.
+    /// Like `statement`, with the value allocated on the heap.
     #[cycle(statement)]
     fn boxed_statement(&mut self, depth: u32) -> Result<Boxed<Statement>, Fault>
         ensures { Reads (read.read_statement depth self.old.rest.now) result self.new.rest.now }
@@ -174,7 +177,8 @@ impl<'a> Parser<'a> {
 
     #[cycle(statement)]
     fn unnamed_statement(&mut self, depth: u32, token: Token) -> Result<Statement, Fault>
-        ensures { Reads (read.unnamed_by (expression.read_expr depth) (read.read_statement depth) token.kind token.span self.old.rest.now) result self.new.rest.now }
+        ensures { Reads (read.unnamed_by (expression.read_expr depth)
+            (read.read_statement depth) token.kind token.span self.old.rest.now) result self.new.rest.now }
     {
         match token.kind {
             Kind::Begin => {
@@ -225,7 +229,8 @@ impl<'a> Parser<'a> {
     #[cycle(statement)]
     #[tactic(auto, using(crate::proofs::Closed::closed), unfolding(crate::specs::ReadStatements::compound, crate::specs::ReadStatements::sequence))]
     fn compound(&mut self, depth: u32) -> Result<Statement, Fault>
-        ensures { Reads (read.compound (expression.read_expr depth) (read.read_statement depth) self.old.rest.now) result self.new.rest.now }
+        ensures { Reads (read.compound (expression.read_expr depth) (read.read_statement depth) self.old.rest.now)
+            result self.new.rest.now }
     {
         let statements = self.sequence(depth)?;
         let end = self.expect(Kind::End);
@@ -235,7 +240,8 @@ impl<'a> Parser<'a> {
     #[cycle(statement)]
     #[tactic(auto, unfolding(crate::specs::ReadStatements::if_statement, crate::specs::Steps::eat))]
     fn if_statement(&mut self, depth: u32) -> Result<Statement, Fault>
-        ensures { Reads (read.if_statement (expression.read_expr depth) (read.read_statement depth) self.old.rest.now) result self.new.rest.now }
+        ensures { Reads (read.if_statement (expression.read_expr depth) (read.read_statement depth) self.old.rest.now)
+            result self.new.rest.now }
     {
         let condition = self.boxed_expr(depth)?;
         self.expect(Kind::Then)?;
@@ -250,7 +256,8 @@ impl<'a> Parser<'a> {
     #[cycle(statement)]
     #[tactic(auto, unfolding(crate::specs::ReadStatements::element))]
     fn element(&mut self, depth: u32) -> Result<Element, Fault>
-        ensures { Reads (read.element (expression.read_expr depth) (read.read_statement depth) self.old.rest.now) result self.new.rest.now }
+        ensures { Reads (read.element (expression.read_expr depth) (read.read_statement depth) self.old.rest.now) result
+            self.new.rest.now }
     {
         let read = self.constants();
         let constants = self.followed_by(Kind::Colon, read)?;
@@ -263,7 +270,9 @@ impl<'a> Parser<'a> {
 
     #[cycle(statement)]
     fn elements(&mut self, depth: u32) -> Result<Items<Element>, Fault>
-        ensures { Reads (terminated k.Semicolon k.End (read.element (expression.read_expr depth) (read.read_statement depth)) self.old.rest.now) result self.new.rest.now }
+        ensures { Reads (terminated k.Semicolon k.End
+            (read.element (expression.read_expr depth) (read.read_statement depth)) self.old.rest.now) result
+            self.new.rest.now }
     {
         let mut found = Items::new(self.alloc);
         loop {
@@ -280,7 +289,8 @@ impl<'a> Parser<'a> {
     #[cycle(statement)]
     #[tactic(auto, using(crate::proofs::Closed::closed), unfolding(crate::specs::ReadStatements::case_statement))]
     fn case_statement(&mut self, depth: u32, at: Span) -> Result<Statement, Fault>
-        ensures { Reads (read.case_statement (expression.read_expr depth) (read.read_statement depth) at self.old.rest.now) result self.new.rest.now }
+        ensures { Reads (read.case_statement (expression.read_expr depth)
+            (read.read_statement depth) at self.old.rest.now) result self.new.rest.now }
     {
         let read = self.boxed_expr(depth);
         let index = self.followed_by(Kind::Of, read)?;
@@ -292,7 +302,8 @@ impl<'a> Parser<'a> {
     #[cycle(statement)]
     #[tactic(auto, unfolding(crate::specs::ReadStatements::while_statement))]
     fn while_statement(&mut self, depth: u32) -> Result<Statement, Fault>
-        ensures { Reads (read.while_statement (expression.read_expr depth) (read.read_statement depth) self.old.rest.now) result self.new.rest.now }
+        ensures { Reads (read.while_statement (expression.read_expr depth)
+            (read.read_statement depth) self.old.rest.now) result self.new.rest.now }
     {
         let read = self.boxed_expr(depth);
         let condition = self.followed_by(Kind::Do, read)?;
@@ -303,7 +314,8 @@ impl<'a> Parser<'a> {
     #[cycle(statement)]
     #[tactic(auto, unfolding(crate::specs::ReadStatements::repeat_statement, crate::specs::ReadStatements::sequence))]
     fn repeat_statement(&mut self, depth: u32) -> Result<Statement, Fault>
-        ensures { Reads (read.repeat_statement (expression.read_expr depth) (read.read_statement depth) self.old.rest.now) result self.new.rest.now }
+        ensures { Reads (read.repeat_statement (expression.read_expr depth)
+            (read.read_statement depth) self.old.rest.now) result self.new.rest.now }
     {
         let read = self.sequence(depth);
         let statements = self.followed_by(Kind::Until, read)?;
@@ -314,7 +326,8 @@ impl<'a> Parser<'a> {
     #[cycle(statement)]
     #[tactic(auto, unfolding(crate::specs::ReadStatements::for_statement))]
     fn for_statement(&mut self, depth: u32) -> Result<Statement, Fault>
-        ensures { Reads (read.for_statement (expression.read_expr depth) (read.read_statement depth) self.old.rest.now) result self.new.rest.now }
+        ensures { Reads (read.for_statement (expression.read_expr depth) (read.read_statement depth) self.old.rest.now)
+            result self.new.rest.now }
     {
         let read = self.expect(Kind::Name);
         let variable = self.followed_by(Kind::Assign, read)?;
@@ -337,7 +350,8 @@ impl<'a> Parser<'a> {
     #[cycle(statement)]
     #[tactic(auto, unfolding(crate::specs::ReadStatements::with_statement))]
     fn with_statement(&mut self, depth: u32) -> Result<Statement, Fault>
-        ensures { Reads (read.with_statement (expression.read_expr depth) (read.read_statement depth) self.old.rest.now) result self.new.rest.now }
+        ensures { Reads (read.with_statement (expression.read_expr depth) (read.read_statement depth) self.old.rest.now)
+            result self.new.rest.now }
     {
         let read = self.variables(depth);
         let records = self.followed_by(Kind::Do, read)?;

@@ -109,7 +109,8 @@ impl<'a> Parser<'a> {
     #[cycle(ty)]
     #[tactic(auto, unfolding(crate::specs::ReadPrograms::structure, crate::specs::ReadPrograms::set_of))]
     fn structure(&mut self, depth: u32) -> Result<Structure, Fault>
-        ensures { Reads (read.structure (read.read_index depth) (read.read_type depth) self.old.rest.now) result self.new.rest.now }
+        ensures { Reads (read.structure (read.read_index depth) (read.read_type depth) self.old.rest.now) result
+            self.new.rest.now }
     {
         let Some(token) = self.peek() else {
             return Err(self.refusal());
@@ -135,7 +136,8 @@ impl<'a> Parser<'a> {
     #[cycle(ty)]
     #[tactic(auto, unfolding(crate::specs::ReadPrograms::array))]
     fn array(&mut self, depth: u32, at: Span) -> Result<Structure, Fault>
-        ensures { Reads (read.array (read.read_index depth) (read.read_type depth) at self.old.rest.now) result self.new.rest.now }
+        ensures { Reads (read.array (read.read_index depth) (read.read_type depth) at self.old.rest.now) result
+            self.new.rest.now }
     {
         self.expect(Kind::LeftBracket)?;
         let read = self.indices(depth);
@@ -148,7 +150,8 @@ impl<'a> Parser<'a> {
     #[cycle(ty)]
     #[tactic(auto, using(crate::proofs::Closed::closed), unfolding(crate::specs::ReadPrograms::record_of, crate::specs::Steps::eat))]
     fn record(&mut self, depth: u32, at: Span) -> Result<Structure, Fault>
-        ensures { Reads (read.record_of (read.read_index depth) (read.read_type depth) at self.old.rest.now) result self.new.rest.now }
+        ensures { Reads (read.record_of (read.read_index depth) (read.read_type depth) at self.old.rest.now) result
+            self.new.rest.now }
     {
         if self.eat(Kind::End) {
             return Ok(Structure::Record(at, Items::new(self.alloc)));
@@ -161,7 +164,8 @@ impl<'a> Parser<'a> {
     #[cycle(ty)]
     #[tactic(auto, unfolding(crate::specs::ReadPrograms::fields))]
     fn fields(&mut self, depth: u32) -> Result<Fields, Fault>
-        ensures { Reads (read.fields (read.read_index depth) (read.read_type depth) self.old.rest.now) result self.new.rest.now }
+        ensures { Reads (read.fields (read.read_index depth) (read.read_type depth) self.old.rest.now) result
+            self.new.rest.now }
     {
         let names = self.names()?;
         self.expect(Kind::Colon)?;
@@ -171,7 +175,8 @@ impl<'a> Parser<'a> {
 
     #[cycle(ty)]
     fn sections_of_record(&mut self, depth: u32) -> Result<Items<Fields>, Fault>
-        ensures { Reads (terminated k.Semicolon k.End (read.fields (read.read_index depth) (read.read_type depth)) self.old.rest.now) result self.new.rest.now }
+        ensures { Reads (terminated k.Semicolon k.End
+            (read.fields (read.read_index depth) (read.read_type depth)) self.old.rest.now) result self.new.rest.now }
     {
         let mut found = Items::new(self.alloc);
         loop {

@@ -16,11 +16,18 @@ use Rattle.ps_syntax.specs.declared.expression.Expr.TheViews.{out-roll-Member}
 use Rattle.ps_syntax.specs.declared.expression.Expr.TheOpen.{Member-F}
 use Rattle.ps_syntax.specs.declared.expression.Simple as simples
 use Rattle.ps_syntax.specs.declared.expression.Term as terms
-use Rattle.ps_syntax.specs.First.{first_of_factor, first_of_term, first_of_simple, first_of_expr, first_of_member, member_layer_first, first_of_constant, first_of_ordinal, first_of_structure, first_of_type}
+use Rattle.ps_syntax.specs.First.{first_of_factor, first_of_term, first_of_simple, first_of_expr, first_of_member}
+use Rattle.ps_syntax.specs.First.{member_layer_first, first_of_constant, first_of_ordinal, first_of_structure}
+use Rattle.ps_syntax.specs.First.{first_of_type}
 use Rattle.ps_parse_grammar.specs.Symbols.{Symbol}
-use Rattle.ps_parse_grammar.specs.Expressions.{IsMember, single, range, selected, IsFactor, variable, call, number, text, nil, empty, set, group, not, IsTerm, term, IsSimple, plain, signed, IsExpr, alone, compare, factor_within, expr_within}
-use Rattle.ps_parse_grammar.specs.Statements.{IsConstant, number as plain_number, signed_number, name, signed_name, text as plain_text}
-use Rattle.ps_parse_grammar.specs.Programs.{IsOrdinal, named, enumeration, subrange, IsStructure, array, empty_record, filled_record, set as set_type, IsType, ordinal, pointer, structure, packed, index_within, type_within}
+use Rattle.ps_parse_grammar.specs.Expressions.{IsMember, single, range, selected, IsFactor, variable, call, number}
+use Rattle.ps_parse_grammar.specs.Expressions.{text, nil, empty, set, group, not, IsTerm, term, IsSimple, plain}
+use Rattle.ps_parse_grammar.specs.Expressions.{signed, IsExpr, alone, compare, factor_within, expr_within}
+use Rattle.ps_parse_grammar.specs.Statements.{IsConstant, number as plain_number, signed_number, name, signed_name}
+use Rattle.ps_parse_grammar.specs.Statements.{text as plain_text}
+use Rattle.ps_parse_grammar.specs.Programs.{IsOrdinal, named, enumeration, subrange, IsStructure, array, empty_record}
+use Rattle.ps_parse_grammar.specs.Programs.{filled_record, set as set_type, IsType, ordinal, pointer, structure}
+use Rattle.ps_parse_grammar.specs.Programs.{packed, index_within, type_within}
 use Rattle.ps_parse_grammar.specs.Places.{BeginsAtFirst, PartsBeginAtFirst}
 use Rattle.ps_parse_grammar.proofs.Groups.{grouped_first}
 
@@ -51,10 +58,12 @@ compared_first S h y ts r (alone {x = x} d) = h x ts r d
 compared_first S h y ts r (compare op at x z d d') = h x ts _ d
 
 first_of_one : (x : Expr) → first_of_member (member.One x) ≡ first_of_expr x
-first_of_one x = ap first_of_member (sym (member.rolls-One x)) ∙ ap member_layer_first (out-roll-Member (Member-F.One x))
+first_of_one x = ap first_of_member (sym (member.rolls-One x)) ∙ ap member_layer_first
+    (out-roll-Member (Member-F.One x))
 
 first_of_range : (x y : Expr) → first_of_member (member.Range x y) ≡ first_of_expr x
-first_of_range x y = ap first_of_member (sym (member.rolls-Range x y)) ∙ ap member_layer_first (out-roll-Member (Member-F.Range x y))
+first_of_range x y = ap first_of_member (sym (member.rolls-Range x y)) ∙ ap member_layer_first
+    (out-roll-Member (Member-F.Range x y))
 
 member_first : (E : Symbol Expr) → BeginsAtFirst E first_of_expr → BeginsAtFirst (IsMember E) first_of_member
 member_first E h y ts r (single {x = x} d) = first_of_one x ∙ h x ts r d

@@ -1,8 +1,10 @@
--- Symbols at two levels: what derives at the first is at most k high, and what is at most n high derives at the second too.
+-- Symbols at two levels: what derives at the first is at most k high, and what is at most n high derives at the second
+-- too.
 use Rattle.std.proofs.Common.{ℕ, ◌≤◌, List, map, arith}
 use Rattle.ps_scan.specs.declared.token.Kind.{Kind}
 use Rattle.ps_syntax.specs.Height.{greatest}
-use Rattle.ps_parse_grammar.specs.Symbols.{Tokens, Symbol, nothing, Many, none, more, Separated, one, several, Terminated, exactly, trailing}
+use Rattle.ps_parse_grammar.specs.Symbols.{Tokens, Symbol, nothing, Many, none, more, Separated, one, several}
+use Rattle.ps_parse_grammar.specs.Symbols.{Terminated, exactly, trailing}
 use Rattle.ps_parse_grammar.specs.Programs.{IsPart, without, filled}
 
 pub record Level {T : Type 0} (S : Symbol T) (h : T → ℕ) (k n : ℕ) (S' : Symbol T) : Type 0 where
@@ -27,7 +29,8 @@ module _ {T : Type 0} (S S' : Symbol T) (h : T → ℕ) (k n : ℕ) (l : Level S
 
   many_lowers : (xs : List T) (ts r : Tokens) → Many S xs ts r → greatest_of h xs ≤ n → Many S' xs ts r
   many_lowers xs ts r none le = none
-  many_lowers xs ts r (more {x = x} {xs = ys} {m = m} d ds) le = more (l.lowers x ts m d (omega (arith, le))) (many_lowers ys m r ds (omega (arith, le)))
+  many_lowers xs ts r (more {x = x} {xs = ys} {m = m} d ds) le = more (l.lowers x ts m d (omega (arith, le)))
+      (many_lowers ys m r ds (omega (arith, le)))
 
   pub many_level : Level (Many S) (greatest_of h) k n (Many S')
   many_level = record { bounded = many_bounded; lowers = many_lowers }
@@ -35,11 +38,14 @@ module _ {T : Type 0} (S S' : Symbol T) (h : T → ℕ) (k n : ℕ) (l : Level S
   module _ (separator : Kind) where
     separated_bounded : (xs : List T) (ts r : Tokens) → Separated separator S xs ts r → greatest_of h xs ≤ k
     separated_bounded xs ts r (one {x = x} d) = omega (arith, l.bounded x ts r d)
-    separated_bounded xs ts r (several {x = x} {xs = ys} {m = m} d ds) = omega (arith, l.bounded x ts _ d, separated_bounded ys m r ds)
+    separated_bounded xs ts r (several {x = x} {xs = ys} {m = m} d ds) = omega
+        (arith, l.bounded x ts _ d, separated_bounded ys m r ds)
 
-    separated_lowers : (xs : List T) (ts r : Tokens) → Separated separator S xs ts r → greatest_of h xs ≤ n → Separated separator S' xs ts r
+    separated_lowers : (xs : List T) (ts r : Tokens) → Separated separator S xs ts r → greatest_of h xs ≤ n
+        → Separated separator S' xs ts r
     separated_lowers xs ts r (one {x = x} d) le = one (l.lowers x ts r d (omega (arith, le)))
-    separated_lowers xs ts r (several {x = x} {xs = ys} {m = m} d ds) le = several (l.lowers x ts _ d (omega (arith, le))) (separated_lowers ys m r ds (omega (arith, le)))
+    separated_lowers xs ts r (several {x = x} {xs = ys} {m = m} d ds) le = several
+        (l.lowers x ts _ d (omega (arith, le))) (separated_lowers ys m r ds (omega (arith, le)))
 
     pub separated_level : Level (Separated separator S) (greatest_of h) k n (Separated separator S')
     separated_level = record { bounded = separated_bounded; lowers = separated_lowers }
@@ -48,7 +54,8 @@ module _ {T : Type 0} (S S' : Symbol T) (h : T → ℕ) (k n : ℕ) (l : Level S
     terminated_bounded xs ts r (exactly d) = separated_bounded xs ts r d
     terminated_bounded xs ts r (trailing d) = separated_bounded xs ts _ d
 
-    terminated_lowers : (xs : List T) (ts r : Tokens) → Terminated separator S xs ts r → greatest_of h xs ≤ n → Terminated separator S' xs ts r
+    terminated_lowers : (xs : List T) (ts r : Tokens) → Terminated separator S xs ts r → greatest_of h xs ≤ n
+        → Terminated separator S' xs ts r
     terminated_lowers xs ts r (exactly d) le = exactly (separated_lowers xs ts r d le)
     terminated_lowers xs ts r (trailing d) le = trailing (separated_lowers xs ts _ d le)
 
@@ -58,11 +65,13 @@ module _ {T : Type 0} (S S' : Symbol T) (h : T → ℕ) (k n : ℕ) (l : Level S
   module _ (word : Kind) where
     part_bounded : (xs : List T) (ts r : Tokens) → IsPart word S xs ts r → greatest_of h xs ≤ k
     part_bounded xs ts r without = omega arith
-    part_bounded xs ts r (filled {x = x} {xs = ys} {ts = l'} {m = m} d ds) = omega (arith, l.bounded x l' m d, many_bounded ys m r ds)
+    part_bounded xs ts r (filled {x = x} {xs = ys} {ts = l'} {m = m} d ds) = omega
+        (arith, l.bounded x l' m d, many_bounded ys m r ds)
 
     part_lowers : (xs : List T) (ts r : Tokens) → IsPart word S xs ts r → greatest_of h xs ≤ n → IsPart word S' xs ts r
     part_lowers xs ts r without le = without
-    part_lowers xs ts r (filled {x = x} {xs = ys} {ts = l'} {m = m} d ds) le = filled (l.lowers x l' m d (omega (arith, le))) (many_lowers ys m r ds (omega (arith, le)))
+    part_lowers xs ts r (filled {x = x} {xs = ys} {ts = l'} {m = m} d ds) le = filled
+        (l.lowers x l' m d (omega (arith, le))) (many_lowers ys m r ds (omega (arith, le)))
 
     pub part_level : Level (IsPart word S) (greatest_of h) k n (IsPart word S')
     part_level = record { bounded = part_bounded; lowers = part_lowers }

@@ -1,4 +1,4 @@
--- Parentheses that stand directly within one another are one part of the tree, which has their number. So a text has one tree.
+-- Parentheses directly within one another are one part of the tree, which holds their number. So a text has one tree.
 use Rattle.std.specs.Prelude.{ℕ, suc, List, [], ◌∷◌, Option, Some, None}
 use Rattle.ps_text.specs.declared.Span.{Span}
 use Rattle.ps_syntax.specs.declared.expression.Sign.{Sign}
@@ -33,7 +33,7 @@ abbrev pub inside_layer : ExprLayer → Inside
 inside_layer (Expr-F.Simple x) = inside_simple (out-Simple x).sign (out-Simple x).first (out-Simple x).more
 inside_layer (Expr-F.Compare x op at y) = None
 
--- of an expression that is in parentheses as a whole: no sign stands before them, and nothing after them
+-- of an expression that is in parentheses as a whole: no sign comes before them, and nothing after them
 unfoldable pub inside : Expr → Inside
 inside x = inside_layer (out-Expr x)
 
@@ -41,10 +41,10 @@ abbrev pub without : Expr → Inside → ℕ × Expr
 without x None = (0, x)
 without x (Some p) = (suc p.0, p.1)
 
--- how many parentheses an expression is in as a whole, and what is in them
+-- the number of parentheses around an expression as a whole, and what is in them
 unfoldable pub stripped : Expr → ℕ × Expr
 stripped x = without x (inside x)
 
--- what an expression is in a parenthesis at this place
+-- an expression as it is in a parenthesis at this place
 unfoldable pub grouped : Span → Expr → Factor
 grouped at x = f.Group at (stripped x).0 (stripped x).1

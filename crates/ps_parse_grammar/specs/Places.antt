@@ -1,6 +1,7 @@
 -- Where a part of a tree begins: at its first token.
 use Rattle.std.specs.Prelude.{◌≡◌, ℕ, [], ◌∷◌}
-use Rattle.ps_syntax.specs.First.{first_of_factor, first_of_term, first_of_simple, first_of_expr, first_of_member, first_of_constant, first_of_ordinal, first_of_structure, first_of_type}
+use Rattle.ps_syntax.specs.First.{first_of_factor, first_of_term, first_of_simple, first_of_expr, first_of_member}
+use Rattle.ps_syntax.specs.First.{first_of_constant, first_of_ordinal, first_of_structure, first_of_type}
 use Rattle.ps_parse_grammar.specs.Symbols.{Tokens, Symbol}
 use Rattle.ps_parse_grammar.specs.Expressions.{IsMember, IsTerm, IsSimple, factor_within, expr_within}
 use Rattle.ps_parse_grammar.specs.Statements.{IsConstant}
@@ -15,7 +16,7 @@ first_place (t ∷ ts) = t.span.from
 abbrev pub BeginsAtFirst : {T : Type 0} → Symbol T → (T → ℕ) → Type 0
 BeginsAtFirst {T} S first = (x : T) (ts r : Tokens) → S x ts r → first x ≡ first_place ts
 
--- the same of each part that a line is told of
+-- the same for each part at which a line is reported
 pub record PartsBeginAtFirst : Type 0 where
   pub factors : (n : ℕ) → BeginsAtFirst (factor_within n) first_of_factor
   pub terms : (n : ℕ) → BeginsAtFirst (IsTerm (factor_within n)) first_of_term

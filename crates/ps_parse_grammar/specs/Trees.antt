@@ -13,6 +13,7 @@ pub record IsTreeOf (text : List ℕ) (ts : Tokens) (p : Program) : Type 0 where
   pub derives : Derives (is_forward text) ts p
   pub low : height_of p ≤ MAX_HEIGHT
 
--- A tree derives within n levels just where it derives and is at most n high.
+-- A tree derives within n levels exactly where it derives and is at most n high.
 abbrev pub LevelsAreHeights : Type 0
-LevelsAreHeights = (f : Span → Bool) (n : ℕ) (ts : Tokens) (p : Program) → DerivesWithin f n ts p ↔ (Derives f ts p × (height_of p ≤ n))
+LevelsAreHeights = (f : Span → Bool) (n : ℕ) (ts : Tokens) (p : Program) → DerivesWithin f n ts p
+    ↔ (Derives f ts p × (height_of p ≤ n))

@@ -4,16 +4,16 @@
 ghost use Rattle.ps_parse_grammar.specs.Trees.{LevelsAreHeights};
 ghost use Rattle.ps_parse_grammar.specs.Places.{PartsBeginAtFirst};
 
-/// How high a program's tree may be.
+/// The greatest height of a program's tree.
 pub const MAX_HEIGHT: u32 = 500;
 
-/// The law that ties derivations to heights: a tree derives within n levels just where it derives and
-/// is at most n high.
+/// The law that ties derivations to heights: a tree derives within n levels exactly where it derives and is at most n
+/// high.
 pub fn level_law()
     ensures { LevelsAreHeights }
 {}
 
-/// The law of places: each part of a tree begins where the first token from which it derives begins.
+/// The law of places: each part of a tree begins where the first of the tokens that it derives from begins.
 pub fn place_law()
     ensures { PartsBeginAtFirst }
 {}

@@ -1,9 +1,10 @@
--- The lexical classes are told apart by their first byte.
+-- The lexical classes are distinguished by their first byte.
 use Rattle.std.proofs.Common.{◌≡◌, ℕ, ◌⊎◌, inl, inr, true, false, cond, ◌==◌, [], ◌∷◌, ◌++◌, Some, refl, subst, arith}
 use Rattle.std.proofs.lemmas.Bool.Decides.{nat_tests}
 use Rattle.std.specs.Char.{is_ascii_alphabetic, is_ascii_digit}
 use Rattle.ps_scan.specs.declared.token.Kind.{Kind}
-use Rattle.ps_scan.specs.Lexemes.{IsWord, IsDigits, IsReal, IsString, quoted, IsLexeme, word, digits, real, string, symbol}
+use Rattle.ps_scan.specs.Lexemes.{IsWord, IsDigits, IsReal, IsString, quoted, IsLexeme, word, digits, real, string}
+use Rattle.ps_scan.specs.Lexemes.{symbol}
 use Rattle.ps_scan.specs.Tables.{Bytes, symbol_kind}
 use Rattle.ps_scan.proofs.Reals.{digits_begin, real_begins}
 use Rattle.ps_scan.proofs.Symbols.{is_other, symbol_first, symbol_short}
@@ -30,7 +31,8 @@ pub data Begins (u : Bytes) (b : ℕ) : Type 0 where
 
 pub begins : (u v : Bytes) (b : ℕ) (bs : Bytes) → u ++ v ≡ b ∷ bs → IsLexeme u → Begins u b
 begins [] v b bs e (word w) = absurd w
-begins (c ∷ cs) v b bs e (word w) = let same : c ≡ b = cc in with_letter (class_of_letter b (subst (λ z. is_ascii_alphabetic z ≡ true) same w.0)) w
+begins (c ∷ cs) v b bs e (word w) = let same : c ≡ b = cc in with_letter
+    (class_of_letter b (subst (λ z. is_ascii_alphabetic z ≡ true) same w.0)) w
 begins u v b bs e (digits d) = with_digit (class_of_digit b (digits_begin u v b bs d e)) (inl d)
 begins u v b bs e (real r) = with_digit (class_of_digit b (real_begins u v b bs r e)) (inr r)
 begins u v b bs e (string s) = with_quote (string_begins u v b bs s e) s
@@ -39,7 +41,8 @@ begins u v b bs e (string s) = with_quote (string_begins u v b bs s e) s
     string_begins u v b bs (quoted inner) e = let same : 39 ≡ b = cc in subst (λ z. class_of z ≡ 2) same refl
 begins [] v b bs e (symbol {kind = kind} s) = let short = symbol_short [] kind s in cc
 begins (c ∷ cs) v b bs e (symbol {kind = kind} s) =
-    let same : c ≡ b = cc in with_other (class_of_other b (subst (λ z. is_other z ≡ true) same (symbol_first (c ∷ cs) kind s))) s
+    let same : c ≡ b = cc in with_other (class_of_other b
+    (subst (λ z. is_other z ≡ true) same (symbol_first (c ∷ cs) kind s))) s
 
 -- ---- what a lexeme is, by its first byte
 pub word_at : (u : Bytes) (b : ℕ) → is_ascii_alphabetic b ≡ true → Begins u b → IsWord u

@@ -1,5 +1,7 @@
 -- Numbers and real literals at the front of bytes.
-use Rattle.std.proofs.Common.{◌≡◌, ◌≢◌, ℕ, ◌+◌, ◌<◌, ◌≤◌, inl, inr, true, false, cond, [], ◌∷◌, ◌++◌, length, take, drop, Ok, slice_index, refl, sym, ap, ◌∙◌, subst, arith, append_assoc, length-append, take-append-drop}
+use Rattle.std.proofs.Common.{◌≡◌, ◌≢◌, ℕ, ◌+◌, ◌<◌, ◌≤◌, inl, inr, true, false, cond, [], ◌∷◌, ◌++◌, length, take}
+use Rattle.std.proofs.Common.{drop, Ok, slice_index, refl, sym, ap, ◌∙◌, subst, arith, append_assoc, length-append}
+use Rattle.std.proofs.Common.{take-append-drop}
 use Rattle.std.proofs.lemmas.Bool.{and_from, false_from_ne_true}
 use Rattle.std.proofs.lemmas.Bool.Decides.{nat_tests}
 use Rattle.std.proofs.lemmas.List.{take_at, drop_at}
@@ -19,9 +21,10 @@ use Rattle.ps_scan.proofs.FirstBytes.{begins, number_at}
 use Rattle.ps_scan.proofs.Fronts.{IsFound, stands, no_comment_at, no_string_at, either}
 use Rattle.ps_scan.proofs.FrontWords.{stops_not_joined, word_front, word_len_is}
 use Rattle.ps_scan.proofs.Prefixes.{Stops, prefix_is, prefix_passes, prefix_stops, prefix_longest}
-use Rattle.ps_scan.proofs.Reals.{digits_pass, digits_first, real_parts, number_len, number_len_is, real_reaches, real_is}
+use Rattle.ps_scan.proofs.Reals.{digits_pass, digits_first, real_parts, number_len, number_len_is, real_reaches}
+use Rattle.ps_scan.proofs.Reals.{real_is}
 
--- what the digits w, which rest follows, come to
+-- what is found for the digits w, which rest follows
 abbrev number_by : Bytes → Bytes → Finding
 number_by w rest =
     cond (nat_lt 0 (s.real_len rest)) (fault_of fault.RealNumber 0 (length w + s.real_len rest))
@@ -32,7 +35,12 @@ number_by w rest =
 number_is : (w rest : Bytes) → IsDigits w → Stops is_ascii_digit rest → s.number (w ++ rest) ≡ number_by w rest
 unfolding s.number
 number_is w rest d stops =
-    rw (prefix_is is_ascii_digit w rest (digits_pass w d) stops, take_at w rest (length w) refl, drop_at w rest (length w) refl) refl
+    rw (
+      prefix_is is_ascii_digit w rest (digits_pass w d) stops,
+      take_at w rest (length w) refl,
+      drop_at w rest
+          (length w) refl,
+    ) refl
 
 digit_no_paren : (b : ℕ) → is_ascii_digit b ≡ true → b ≢ 40
 digit_no_paren b digit same = grind (arith, nat_tests)
@@ -46,7 +54,7 @@ some_is n h = grind (arith, nat_tests)
 none_is : (n : ℕ) → nat_lt 0 n ≡ false → n ≡ 0
 none_is n h = grind (arith, nat_tests)
 
--- where a number begins no lexeme goes further than its digits and what is found behind them
+-- where a number begins, no lexeme extends past its digits and what is found after them
 numbers_reach : (b : ℕ) (w rest : Bytes) → IsDigits (b ∷ w) → Stops is_ascii_digit rest → (u v : Bytes)
     → b ∷ (w ++ rest) ≡ u ++ v → IsLexeme u
     → length u ≤ length (b ∷ w) + s.real_len rest
@@ -146,7 +154,7 @@ number_sound b bs digit =
 
 -- ---- complete
 
--- no digit comes where no letter and no digit does
+-- no digit comes where neither a letter nor a digit does
 digitless : (rest : Bytes) → Stops is_ascii_alphanumeric rest → Stops is_ascii_digit rest
 digitless [] stops = tt
 digitless (b ∷ bs) stops = grind (arith, nat_tests)

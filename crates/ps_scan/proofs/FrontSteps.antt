@@ -1,5 +1,6 @@
--- The scanner finds what stands at the front of bytes, and nothing else.
-use Rattle.std.proofs.Common.{◌≡◌, ◌≢◌, ℕ, ◌<◌, ◌⊎◌, inl, inr, true, false, ◌==◌, ◌&&◌, List, [], ◌∷◌, ◌++◌, length, Ok, slice_index, refl, sym, ap, ◌∙◌, subst, arith, length-append}
+-- The scanner finds what is at the front of the bytes, and nothing else.
+use Rattle.std.proofs.Common.{◌≡◌, ◌≢◌, ℕ, ◌<◌, ◌⊎◌, inl, inr, true, false, ◌==◌, ◌&&◌, List, [], ◌∷◌, ◌++◌, length}
+use Rattle.std.proofs.Common.{Ok, slice_index, refl, sym, ap, ◌∙◌, subst, arith, length-append}
 use Rattle.std.proofs.lemmas.Bool.{and_parts, and_from, false_from_ne_true}
 use Rattle.std.proofs.lemmas.Bool.Decides.{Decides-eqb, nat_tests}
 use Rattle.std.specs.Char.{is_ascii_alphabetic, is_ascii_digit}
@@ -7,8 +8,10 @@ use Rattle.ps_scan.specs.declared.refusal.ScanFault.{ScanFault}
 use Rattle.ps_scan.specs.declared.refusal.ScanFault.TheVariants as fault
 use Rattle.ps_scan.specs.declared.token.Kind.{Kind}
 use Rattle.ps_scan.specs.declared.token.Token.{Token}
-use Rattle.ps_scan.specs.Faults.{IsFault, begins_nothing, open_comment, brace_opens, star_opens, open_string, empty_string, touching, too_large, real_literal, IsOpenString}
-use Rattle.ps_scan.specs.Lexemes.{IsWord, IsDigits, IsReal, done, IsString, quoted, IsLexeme, word, digits, string, symbol, IsOfKind, of_word, of_number, of_string, of_symbol}
+use Rattle.ps_scan.specs.Faults.{IsFault, begins_nothing, open_comment, brace_opens, star_opens, open_string}
+use Rattle.ps_scan.specs.Faults.{empty_string, touching, too_large, real_literal, IsOpenString}
+use Rattle.ps_scan.specs.Lexemes.{IsWord, IsDigits, IsReal, done, IsString, quoted, IsLexeme, word, digits, string}
+use Rattle.ps_scan.specs.Lexemes.{symbol, IsOfKind, of_word, of_number, of_string, of_symbol}
 use Rattle.ps_scan.specs.Lexis.{IsLongest, IsJoined, TokensFrom}
 use Rattle.ps_scan.specs.Scanner as s
 use Rattle.ps_scan.specs.Scanner.{front, fault_of, separator_of, token_of}
@@ -16,8 +19,10 @@ use Rattle.ps_scan.specs.Separators.{is_blank, brace, IsSeparator, blank, braced
 use Rattle.ps_scan.specs.Tables.{Bytes}
 use Rattle.ps_scan.proofs.FrontWords.{word_is, word_sound, stops_not_joined}
 use Rattle.ps_scan.proofs.FrontNumbers.{number_sound, number_complete, large_complete, touch_complete, real_complete}
-use Rattle.ps_scan.proofs.FrontStrings.{string_sound, Ends, string_ends, string_stops, string_complete, open_complete, empty_complete}
-use Rattle.ps_scan.proofs.FrontComments.{braced_sound, starred_sound, braced_complete, starred_complete, braced_open, starred_open}
+use Rattle.ps_scan.proofs.FrontStrings.{string_sound, Ends, string_ends, string_stops, string_complete, open_complete}
+use Rattle.ps_scan.proofs.FrontStrings.{empty_complete}
+use Rattle.ps_scan.proofs.FrontComments.{braced_sound, starred_sound, braced_complete, starred_complete, braced_open}
+use Rattle.ps_scan.proofs.FrontComments.{starred_open}
 use Rattle.ps_scan.proofs.FrontSymbols.{symbol_front_sound, symbol_complete}
 use Rattle.ps_scan.proofs.Fronts.{IsFound, separates, either}
 use Rattle.ps_scan.proofs.Reals.{digits_first, real_begins, real_parts}

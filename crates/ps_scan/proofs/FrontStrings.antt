@@ -1,5 +1,6 @@
 -- Strings at the front of bytes.
-use Rattle.std.proofs.Common.{◌≡◌, ℕ, ◌+◌, ◌<◌, ◌≤◌, ◌⊎◌, inl, inr, true, false, ◌==◌, List, [], ◌∷◌, ◌++◌, length, Option, Some, None, Ok, refl, sym, ap, ◌∙◌, subst, arith, append_assoc, length-append}
+use Rattle.std.proofs.Common.{◌≡◌, ℕ, ◌+◌, ◌<◌, ◌≤◌, ◌⊎◌, inl, inr, true, false, ◌==◌, List, [], ◌∷◌, ◌++◌, length}
+use Rattle.std.proofs.Common.{Option, Some, None, Ok, refl, sym, ap, ◌∙◌, subst, arith, append_assoc, length-append}
 use Rattle.std.proofs.lemmas.Bool.{ne_eqb, eqb-false, false_from_ne_true}
 use Rattle.std.proofs.lemmas.Bool.Decides.{Decides-eqb, nat_tests}
 use Rattle.ps_scan.specs.declared.refusal.ScanFault.TheVariants as fault
@@ -16,7 +17,8 @@ use Rattle.ps_scan.proofs.FirstBytes.{begins, string_at}
 use Rattle.ps_scan.proofs.Fronts.{IsFound, stands, no_comment_at, either, heads}
 use Rattle.ps_scan.proofs.Prefixes.{Stops}
 use Rattle.ps_scan.proofs.Reals.{digits_first}
-use Rattle.ps_scan.proofs.Strings.{is_quote, string_end_is, string_end_sound, inner_longest, inner_joins, string_opens, open_at_once, open_has_none}
+use Rattle.ps_scan.proofs.Strings.{is_quote, string_end_is, string_end_sound, inner_longest, inner_joins, string_opens}
+use Rattle.ps_scan.proofs.Strings.{open_at_once, open_has_none}
 
 string_front : (inner rest : Bytes) → IsInner inner → Stops is_quote rest → IsLongest (39 ∷ (inner ++ 39 ∷ [])) rest
 string_front inner rest i stops = record {
@@ -100,7 +102,7 @@ next_string bs r ts (separator s rest (starred c) later) e = absurd (eqb-false 4
 next_string bs r ts (token w rest longest kind apart later) e =
     (w, rest, refl, string_at w (begins w rest 39 r e longest.fits))
 
--- where another string begins right behind one, both are one that is longer
+-- where another string begins right after one, both together are a longer one
 not_two : (inner rest u v : Bytes) → IsInner inner → IsLongest (39 ∷ (inner ++ 39 ∷ [])) rest → rest ≡ u ++ v
     → IsString u → ⊥
 not_two inner rest u v i longest e (quoted {bs = other} j) =

@@ -1,5 +1,6 @@
 -- Symbols at the front of bytes.
-use Rattle.std.proofs.Common.{◌≡◌, ◌≢◌, ℕ, suc, ◌⊎◌, inl, inr, true, false, ◌==◌, ◌&&◌, [], ◌∷◌, ◌++◌, length, Option, Some, None, Ok, slice_index, refl, sym, ap, ◌∙◌, subst, arith, eq-eqb}
+use Rattle.std.proofs.Common.{◌≡◌, ◌≢◌, ℕ, suc, ◌⊎◌, inl, inr, true, false, ◌==◌, ◌&&◌, [], ◌∷◌, ◌++◌, length, Option}
+use Rattle.std.proofs.Common.{Some, None, Ok, slice_index, refl, sym, ap, ◌∙◌, subst, arith, eq-eqb}
 use Rattle.std.proofs.lemmas.Bool.{and_from}
 use Rattle.std.proofs.lemmas.Bool.Decides.{nat_tests}
 use Rattle.std.specs.Char.{is_ascii_alphabetic, is_ascii_digit}
@@ -15,7 +16,8 @@ use Rattle.ps_scan.specs.Tables.{Bytes, symbol_kind}
 use Rattle.ps_scan.proofs.FirstBytes.{begins, symbol_at}
 use Rattle.ps_scan.proofs.Fronts.{IsFound, stands, no_string_at}
 use Rattle.ps_scan.proofs.Reals.{digits_first}
-use Rattle.ps_scan.proofs.Symbols.{is_other, symbol_first, symbol_short, pair_is, single_is, pair_nil, AtSymbol, two, one, neither, symbol_begins, symbol_sound, symbol_two, symbol_one}
+use Rattle.ps_scan.proofs.Symbols.{is_other, symbol_first, symbol_short, pair_is, single_is, pair_nil, AtSymbol, two}
+use Rattle.ps_scan.proofs.Symbols.{one, neither, symbol_begins, symbol_sound, symbol_two, symbol_one}
 
 -- the bytes of a symbol: one or two
 short_cases : (u : Bytes) (kind : Kind) → symbol_kind u ≡ Some kind
@@ -39,7 +41,7 @@ other_apart b bs other (inr is_digits) = no_digit b other (digits_first b bs is_
     no_digit : (b : ℕ) → is_other b ≡ true → is_ascii_digit b ≡ true → ⊥
     no_digit b other digit = grind (arith, nat_tests)
 
--- no comment opens where its two bytes don't stand
+-- no comment opens where its two bytes don't come
 no_opening : (a : ℕ) (bs : Bytes) → (a == 40 && slice_index bs 0 == 42) ≡ false → (v : Bytes) → a ∷ bs ≡ 40 ∷ 42 ∷ v → ⊥
 no_opening a [] none v e = cc
 no_opening a (b ∷ bs) none v e =
@@ -68,7 +70,11 @@ one_front a bs kind found alone none = record {
   fits = symbol found;
   longest = λ u v e is_lexeme.
       (let s = symbols_at u v a bs (symbol_first (a ∷ []) kind found) e is_lexeme in
-      elim (short_cases u s.0 s.1) [ inl t ↦ omega (arith, ap length t.1) | inr t ↦ absurd (no_second u v bs s.0 t.0 t.1 alone e s.1 t.2) ]);
+      elim (short_cases u s.0 s.1) [
+        | inl t ↦ omega (arith, ap length t.1)
+        | inr t ↦ absurd
+            (no_second u v bs s.0 t.0 t.1 alone e s.1 t.2)
+      ]);
   no_comment = no_opening a bs none;
 }
   where

@@ -1,5 +1,6 @@
 -- Words at the front of bytes.
-use Rattle.std.proofs.Common.{◌≡◌, ◌≢◌, ℕ, Bool, true, [], ◌∷◌, ◌++◌, length, take, drop, refl, sym, ap, ◌∙◌, subst, arith, append_assoc, length-append, take-append-drop}
+use Rattle.std.proofs.Common.{◌≡◌, ◌≢◌, ℕ, Bool, true, [], ◌∷◌, ◌++◌, length, take, drop, refl, sym, ap, ◌∙◌, subst}
+use Rattle.std.proofs.Common.{arith, append_assoc, length-append, take-append-drop}
 use Rattle.std.proofs.lemmas.Bool.{and_from, and_parts, false_from_ne_true}
 use Rattle.std.proofs.lemmas.Bool.Decides.{nat_tests}
 use Rattle.std.proofs.lemmas.List.{take_at}
@@ -55,7 +56,8 @@ pub word_is : (b : ℕ) (w rest : Bytes) → is_ascii_alphabetic b ≡ true → 
     → s.word (b ∷ (w ++ rest)) ≡ token_of (length (b ∷ w)) (word_kind (b ∷ w))
 unfolding s.word
 word_is b w rest letter passes stops =
-    ap (λ n. token_of n (word_kind (take n (b ∷ (w ++ rest))))) (prefix_is is_ascii_alphanumeric (b ∷ w) rest (and_from _ _ (letter_alnum b letter) passes) stops)
+    ap (λ n. token_of n (word_kind (take n (b ∷ (w ++ rest)))))
+    (prefix_is is_ascii_alphanumeric (b ∷ w) rest (and_from _ _ (letter_alnum b letter) passes) stops)
     ∙ ap (λ z. token_of (length (b ∷ w)) (word_kind z)) (take_at (b ∷ w) rest (length (b ∷ w)) refl)
 
 pub word_sound : (b : ℕ) (bs : Bytes) → is_ascii_alphabetic b ≡ true → Front (b ∷ bs) (s.word (b ∷ bs))

@@ -1,4 +1,4 @@
--- What stands at the front of bytes, as the definition has it.
+-- What is at the front of the bytes, according to the definition.
 use Rattle.std.proofs.Common.{◌≡◌, ◌≢◌, ℕ, ◌⊎◌, Bool, true, false, cond, Ok, Err, refl, ◌∷◌, ◌++◌, length}
 use Rattle.ps_scan.specs.declared.lexeme.Lexeme.{Lexeme}
 use Rattle.ps_scan.specs.declared.token.Kind.{Kind}

@@ -1,26 +1,29 @@
--- Each text comes to one list of tokens, or to one first fault.
-use Rattle.std.proofs.Common.{◌≡◌, ℕ, zero, suc, ◌+◌, ◌<◌, ◌≤◌, List, [], ◌∷◌, ◌++◌, length, drop, Ok, Err, refl, sym, ap, ◌∙◌, arith, length-append, length-drop}
+-- Each text has exactly one outcome: a list of tokens, or a first fault.
+use Rattle.std.proofs.Common.{◌≡◌, ℕ, zero, suc, ◌+◌, ◌<◌, ◌≤◌, List, [], ◌∷◌, ◌++◌, length, drop, Ok, Err, refl, sym}
+use Rattle.std.proofs.Common.{ap, ◌∙◌, arith, length-append, length-drop}
 use Rattle.std.proofs.lemmas.List.{drop_at}
 use Rattle.ps_text.specs.declared.Span.{Span}
 use Rattle.ps_scan.specs.declared.lexeme.Lexeme.{Lexeme}
 use Rattle.ps_scan.specs.declared.refusal.ScanFault.{ScanFault}
 use Rattle.ps_scan.specs.declared.token.Token.{Token}
-use Rattle.ps_scan.specs.Faults.{span_at, RefusedFrom, here, behind_separator, behind_token, Scanned, Tokens, Refused, IsScanOf}
+use Rattle.ps_scan.specs.Faults.{span_at, RefusedFrom, here, behind_separator, behind_token, Scanned, Tokens, Refused}
+use Rattle.ps_scan.specs.Faults.{IsScanOf}
 use Rattle.ps_scan.specs.Laws.{EachTextIsScanned}
 use Rattle.ps_scan.specs.Lexis.{IsTokens, TokensFrom, nothing, separator, token}
 use Rattle.ps_scan.specs.Scanner.{Finding, front, separator_of, token_of}
 use Rattle.ps_scan.specs.Tables.{Bytes}
 use Rattle.ps_scan.proofs.Fronts.{Front, separates, stands, IsFound}
-use Rattle.ps_scan.proofs.FrontSteps.{front_sound, separator_complete, token_complete, ends_by_tokens, ends_where_closed, fault_complete}
+use Rattle.ps_scan.proofs.FrontSteps.{front_sound, separator_complete, token_complete, ends_by_tokens}
+use Rattle.ps_scan.proofs.FrontSteps.{ends_where_closed, fault_complete}
 use Rattle.ps_scan.proofs.Places.{separator_some, token_some, fault_within}
 use Rattle.ps_scan.proofs.Scans.{tokens_of, IsScanFrom, behind, step_by}
 
--- what is found at the front, and what the rest comes to
+-- what is found at the front, and the outcome of the rest
 abbrev after : ℕ → Bytes → (ℕ → Bytes → Scanned) → Finding → Scanned
 after n bs rest (Ok l) = behind (tokens_of n l) (rest (n + l.length) (drop l.length bs))
 after n bs rest (Err f) = Refused f.fault (span_at (n + f.ahead) f.length)
 
--- what bytes come to that are no longer than the first number
+-- the outcome of bytes no longer than the first number
 scan_from : (most : ℕ) → ℕ → Bytes → Scanned
 scan_from zero n bs = Tokens []
 scan_from (suc most) n [] = Tokens []
@@ -54,7 +57,7 @@ unfolding scan_from
 found_step most n [] found some e = absurd (omega arith)
 found_step most n (b ∷ bs) found some e = ap (after n (b ∷ bs) (scan_from most)) e
 
--- behind a lexeme the rest comes to the answer
+-- after a lexeme the rest has the outcome
 lexeme_step : (most n : ℕ) (w rest : Bytes) (l : Lexeme) (answer : Scanned) → 0 < length w → l.length ≡ length w
     → front (w ++ rest) ≡ Ok l
     → scan_from most (n + length w) rest ≡ answer → scan_from (suc most) n (w ++ rest) ≡ behind (tokens_of n l) answer

@@ -1,11 +1,14 @@
--- Where the tokens of a text stand.
-use Rattle.std.proofs.Common.{◌≡◌, ℕ, zero, suc, ◌+◌, ◌<◌, ◌≤◌, List, [], ◌∷◌, ◌++◌, length, refl, ap, arith, length-append, subst}
+-- The places of a text's tokens.
+use Rattle.std.proofs.Common.{◌≡◌, ℕ, zero, suc, ◌+◌, ◌<◌, ◌≤◌, List, [], ◌∷◌, ◌++◌, length, refl, ap, arith}
+use Rattle.std.proofs.Common.{length-append, subst}
 use Rattle.std.specs.List.{All}
 use Rattle.ps_text.specs.declared.Span.{Span}
 use Rattle.ps_scan.specs.declared.refusal.ScanFault.{ScanFault}
 use Rattle.ps_scan.specs.declared.token.Kind.{Kind}
 use Rattle.ps_scan.specs.declared.token.Token.{Token}
-use Rattle.ps_scan.specs.Faults.{IsOpening, brace_opens, star_opens, IsFault, begins_nothing, open_comment, open_string, empty_string, touching, too_large, real_literal, RefusedFrom, here, behind_separator, behind_token}
+use Rattle.ps_scan.specs.Faults.{IsOpening, brace_opens, star_opens, IsFault, begins_nothing, open_comment}
+use Rattle.ps_scan.specs.Faults.{open_string, empty_string, touching, too_large, real_literal, RefusedFrom, here}
+use Rattle.ps_scan.specs.Faults.{behind_separator, behind_token}
 use Rattle.ps_scan.specs.Laws.{TokensStandInOrder, FaultsStandWithin}
 use Rattle.ps_scan.specs.Lexemes.{IsOfKind, of_word, of_number, of_string, of_symbol}
 use Rattle.ps_scan.specs.Lexis.{IsTokens, TokensFrom, nothing, separator, token}
@@ -43,12 +46,17 @@ ordered_from {n = n} low (separator s rest {ts = ts} is later) le =
     let high : n + length s + length rest ≡ n + length (s ++ rest) = omega (arith, length-append s rest) in
     subst (λ z. AreOrdered low z ts) high (ordered_from low later (omega arith))
 ordered_from {n = n} low (token {kind = kind} {ts = ts} w rest longest is apart later) le =
-    let high : n + length w + length rest ≡ n + length (w ++ rest) = omega (arith, length-append w rest) in
-    (le, omega (arith, token_some w kind is), subst (λ z. AreOrdered (n + length w) z ts) high (ordered_from (n + length w) later (omega arith)))
+    let high : n + length w + length rest ≡ n + length (w ++ rest) = omega (arith, length-append w rest) in (
+      le,
+      omega (arith, token_some w kind is),
+      subst (λ z. AreOrdered (n + length w) z ts) high
+          (ordered_from (n + length w) later (omega arith)),
+    )
 
 pub tokens_ordered : (text : Bytes) (ts : List Token) → IsTokens text ts → AreOrdered 0 (length text) ts
 tokens_ordered text ts tokens =
-    let high : 0 + length text ≡ length text = omega arith in subst (λ z. AreOrdered 0 z ts) high (ordered_from 0 tokens (omega arith))
+    let high : 0 + length text ≡ length text = omega arith in subst (λ z. AreOrdered 0 z ts) high
+    (ordered_from 0 tokens (omega arith))
 
 ordered_rises : (low high : ℕ) (ts : List Token) → AreOrdered low high ts → low ≤ high
 ordered_rises low high [] ordered = ordered
@@ -69,7 +77,7 @@ opening_some : (w : Bytes) → IsOpening w → 0 < length w
 opening_some w brace_opens = omega arith
 opening_some w star_opens = omega arith
 
--- what is told of a fault lies in the bytes that it begins, and has a byte
+-- the place of a fault lies in the bytes that it begins, and has at least one byte
 pub fault_within : {why : ScanFault} {ahead len : ℕ} {bs : Bytes} → IsFault bs why ahead len
     → (0 < len) × (ahead + len ≤ length bs)
 fault_within (begins_nothing rest never) = (omega arith, omega arith)

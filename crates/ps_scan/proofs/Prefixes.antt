@@ -1,5 +1,6 @@
 -- The longest prefix whose bytes pass a test.
-use Rattle.std.proofs.Common.{◌≡◌, ℕ, suc, ◌+◌, ◌≤◌, Bool, true, false, cond, [], ◌∷◌, ◌++◌, length, take, drop, refl, arith}
+use Rattle.std.proofs.Common.{◌≡◌, ℕ, suc, ◌+◌, ◌≤◌, Bool, true, false, cond, [], ◌∷◌, ◌++◌, length, take, drop, refl}
+use Rattle.std.proofs.Common.{arith}
 use Rattle.std.proofs.lemmas.Bool.{and_parts}
 use Rattle.std.specs.List.{list_all, prefix_len}
 use Rattle.ps_scan.specs.Tables.{Bytes}
@@ -9,7 +10,8 @@ abbrev pub Stops : (ℕ → Bool) → Bytes → Type 0
 Stops p [] = Unit {0}
 Stops p (b ∷ bs) = p b ≡ false
 
-pub prefix_is : (p : ℕ → Bool) (w rest : Bytes) → list_all p w ≡ true → Stops p rest → prefix_len p (w ++ rest) ≡ length w
+pub prefix_is : (p : ℕ → Bool) (w rest : Bytes) → list_all p w ≡ true → Stops p rest → prefix_len p (w ++ rest)
+    ≡ length w
 prefix_is p [] [] all stops = refl
 prefix_is p [] (b ∷ bs) all stops = rw stops refl
 prefix_is p (b ∷ bs) rest all stops =
@@ -38,5 +40,7 @@ pub prefix_some : (p : ℕ → Bool) (b : ℕ) (bs : Bytes) → p b ≡ true →
 prefix_some p b bs passes = rw passes (omega arith)
 
 -- the first byte of the prefix stays
-pub prefix_first : (p : ℕ → Bool) (b : ℕ) (bs : Bytes) → p b ≡ true → take (prefix_len p (b ∷ bs)) (b ∷ bs) ≡ b ∷ take (prefix_len p bs) bs
-prefix_first p b bs passes = let more : 1 + prefix_len p bs ≡ suc (prefix_len p bs) = omega arith in rw (passes, more) refl
+pub prefix_first : (p : ℕ → Bool) (b : ℕ) (bs : Bytes) → p b ≡ true → take (prefix_len p (b ∷ bs)) (b ∷ bs) ≡ b ∷ take
+    (prefix_len p bs) bs
+prefix_first p b bs passes = let more : 1 + prefix_len p bs ≡ suc (prefix_len p bs) = omega arith in rw
+    (passes, more) refl

@@ -1,5 +1,7 @@
--- Real literals: what comes after the first digits tells whether there is one, and how far it reaches.
-use Rattle.std.proofs.Common.{◌≡◌, ℕ, ◌+◌, ◌<◌, ◌≤◌, Bool, true, false, ◌==◌, ◌&&◌, ◌⊎◌, inl, inr, [], ◌∷◌, ◌++◌, length, take, drop, slice_index, refl, sym, ap, ◌∙◌, subst, arith, append_assoc, length-append, eq-eqb, take-append-drop}
+-- Real literals: what comes after the first digits shows whether there is one, and how far it extends.
+use Rattle.std.proofs.Common.{◌≡◌, ℕ, ◌+◌, ◌<◌, ◌≤◌, Bool, true, false, ◌==◌, ◌&&◌, ◌⊎◌, inl, inr, [], ◌∷◌, ◌++◌}
+use Rattle.std.proofs.Common.{length, take, drop, slice_index, refl, sym, ap, ◌∙◌, subst, arith, append_assoc}
+use Rattle.std.proofs.Common.{length-append, eq-eqb, take-append-drop}
 use Rattle.std.proofs.lemmas.Bool.{and_parts, or_cases, or_left, or_right, and_from}
 use Rattle.std.proofs.lemmas.Bool.Decides.{Decides-eqb, nat_tests}
 use Rattle.std.proofs.lemmas.List.{drop_at}
@@ -136,7 +138,7 @@ pub number_len_is : (w rest : Bytes) → IsDigits w → Stops is_ascii_digit res
 number_len_is w rest d stops =
     rw (prefix_is is_ascii_digit w rest (digits_pass w d) stops, drop_at w rest (length w) refl) refl
 
--- no real literal goes further
+-- no real literal extends further
 pub real_reaches : (u v : Bytes) → IsReal u → length u ≤ number_len (u ++ v)
 real_reaches u v r =
     let p = real_parts u v r in
@@ -213,7 +215,11 @@ signed_at e sign next is = elim (decided (to_ascii_lowercase e == 101 && is_asci
   where
     sign_of : (b : ℕ) → is_sign b ≡ true → (b ≡ 43) ⊎ (b ≡ 45)
     sign_of b h =
-        elim (or_cases (b == 43) (b == 45) h) [ inl plus ↦ inl ((Decides-eqb b 43).0 plus) | inr minus ↦ inr ((Decides-eqb b 45).0 minus) ]
+        elim (or_cases (b == 43) (b == 45) h) [
+          | inl plus ↦ inl ((Decides-eqb b 43).0 plus)
+          | inr minus ↦ inr
+              ((Decides-eqb b 45).0 minus)
+        ]
 
 no_scale : scale_len [] ≡ 0
 unfolding scale_len scale_by

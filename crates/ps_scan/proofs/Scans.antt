@@ -1,5 +1,7 @@
--- The scanner's loop: the tokens so far, and then what the bytes that are left come to, is what the text comes to.
-use Rattle.std.proofs.Common.{◌≡◌, ℕ, ◌+◌, ◌<◌, ◌≤◌, List, [], ◌∷◌, ◌++◌, length, drop, Option, Some, None, Ok, Err, refl, sym, ap, subst, arith, append_assoc, append-nil, drop-cons}
+-- The scanner's loop: the tokens so far, followed by the outcome of the bytes that are left, are the outcome of the
+-- text.
+use Rattle.std.proofs.Common.{◌≡◌, ℕ, ◌+◌, ◌<◌, ◌≤◌, List, [], ◌∷◌, ◌++◌, length, drop, Option, Some, None, Ok, Err}
+use Rattle.std.proofs.Common.{refl, sym, ap, subst, arith, append_assoc, append-nil, drop-cons}
 use Rattle.std.proofs.lemmas.List.{drop_at, drop-drop, drop_all}
 use Rattle.ps_scan.specs.declared.lexeme.FaultAhead.{FaultAhead}
 use Rattle.ps_scan.specs.declared.lexeme.Lexeme.{Lexeme}
@@ -20,12 +22,12 @@ token_by (Some kind) from len = token_at kind from len ∷ []
 abbrev pub tokens_of : ℕ → Lexeme → List Token
 tokens_of from l = token_by l.kind from l.length
 
--- what the bytes from an offset on come to
+-- the outcome of the bytes from an offset on
 abbrev pub IsScanFrom : ℕ → Bytes → Scanned → Type 0
 IsScanFrom n bs (Tokens ts) = TokensFrom n bs ts
 IsScanFrom n bs (Refused why place) = RefusedFrom n bs why place
 
--- tokens before what bytes come to
+-- tokens before the outcome of bytes
 abbrev pub behind : List Token → Scanned → Scanned
 behind ts (Tokens us) = Tokens (ts ++ us)
 behind ts (Refused why place) = Refused why place

@@ -1,5 +1,6 @@
 -- Strings: how far one reaches.
-use Rattle.std.proofs.Common.{◌≡◌, ℕ, ◌+◌, ◌≤◌, ◌⊎◌, inl, inr, Bool, true, false, cond, ◌==◌, ◌||◌, [], ◌∷◌, ◌++◌, length, Some, None, refl, sym, ap, ◌∙◌, subst, arith, append_assoc}
+use Rattle.std.proofs.Common.{◌≡◌, ℕ, ◌+◌, ◌≤◌, ◌⊎◌, inl, inr, Bool, true, false, cond, ◌==◌, ◌||◌, [], ◌∷◌, ◌++◌}
+use Rattle.std.proofs.Common.{length, Some, None, refl, sym, ap, ◌∙◌, subst, arith, append_assoc}
 use Rattle.std.proofs.lemmas.Bool.{ne_eqb, eqb-false, or_parts, or_cases}
 use Rattle.std.proofs.lemmas.Bool.Decides.{Decides-eqb}
 use Rattle.ps_scan.specs.Tables.{Bytes}
@@ -20,7 +21,7 @@ string_end_is n rest (plain {b = b} {bs = bs} other line return inner) stops =
     ∙ ap Some (omega arith))
 string_end_is n rest (quote {bs = bs} inner) stops = string_end_is (n + 1 + 1) rest inner stops ∙ ap Some (omega arith)
 
--- the string ends by m bytes, of which n are passed: the rest of it, its closing apostrophe and what follows
+-- the string ends within m bytes, n of which have been read: the rest of it, its closing apostrophe and what follows
 pub record Closes (n m : ℕ) (bs : Bytes) : Type 0 where
   pub inner : Bytes
   pub rest : Bytes
@@ -42,7 +43,14 @@ close : (n m : ℕ) (bs : Bytes) → Pends (n + 1) m bs → Closes n m (39 ∷ b
 close n m bs (ends at stops) =
     record { inner = []; rest = bs; split = refl; is_inner = done; len = omega arith; stops = stops }
 close n m _ (goes_on {bs = bs} c) =
-    record { inner = 39 ∷ 39 ∷ c.inner; rest = c.rest; split = ap (λ z. 39 ∷ 39 ∷ z) c.split; is_inner = quote c.is_inner; len = omega (arith, c.len); stops = c.stops }
+    record {
+      inner = 39 ∷ 39 ∷ c.inner;
+      rest = c.rest;
+      split = ap (λ z. 39 ∷ 39 ∷ z) c.split;
+      is_inner = quote c.is_inner;
+      len = omega (arith, c.len);
+      stops = c.stops;
+    }
 
 some_is : (m n : ℕ) → Some n ≡ Some m → m ≡ n
 some_is m n e = cc
@@ -52,26 +60,30 @@ ends_within true n m [] e = ends (some_is m n e) tt
 ends_within false n m [] e = cc
 ends_within true n m (b ∷ bs) e =
     elim (b == 39) as (λ v. (b == 39) ≡ v → cond v (string_end false (n + 1) bs) (Some n) ≡ Some m → Pends n m (b ∷ bs)) [
-      | true ↦ λ same found. subst (λ z. Pends n m (z ∷ bs)) (sym ((Decides-eqb b 39).0 same)) (goes_on (ends_within false (n + 1) m bs found))
+      | true ↦ λ same found. subst (λ z. Pends n m (z ∷ bs)) (sym ((Decides-eqb b 39).0 same))
+          (goes_on (ends_within false (n + 1) m bs found))
       | false ↦ λ other found. ends (some_is m n found) other
     ] refl e
 ends_within false n m (b ∷ bs) e =
-    elim (b == 39) as (λ v. (b == 39) ≡ v → cond v (string_end true (n + 1) bs) (cond (b == 10 || b == 13) None (string_end false (n + 1) bs)) ≡ Some m → Closes n m (b ∷ bs)) [
-      | true ↦ λ same found. subst (λ z. Closes n m (z ∷ bs)) (sym ((Decides-eqb b 39).0 same)) (close n m bs (ends_within true (n + 1) m bs found))
-      | false ↦ λ other found. elim (b == 10 || b == 13) as (λ v. (b == 10 || b == 13) ≡ v → cond v None (string_end false (n + 1) bs) ≡ Some m → Closes n m (b ∷ bs)) [
-        | true ↦ λ _ nothing. cc
-        | false ↦ λ line later.
-            (let c = ends_within false (n + 1) m bs later in
-            let parts = or_parts (b == 10) (b == 13) line in
-            record {
-              inner = b ∷ c.inner;
-              rest = c.rest;
-              split = ap (λ z. b ∷ z) c.split;
-              is_inner = plain (eqb-false b 39 other) (eqb-false b 10 parts.0) (eqb-false b 13 parts.1) c.is_inner;
-              len = omega (arith, c.len);
-              stops = c.stops;
-            })
-      ] refl found
+    elim (b == 39) as (λ v. (b == 39) ≡ v → cond v (string_end true (n + 1) bs)
+    (cond (b == 10 || b == 13) None (string_end false (n + 1) bs)) ≡ Some m → Closes n m (b ∷ bs)) [
+      | true ↦ λ same found. subst (λ z. Closes n m (z ∷ bs)) (sym ((Decides-eqb b 39).0 same))
+          (close n m bs (ends_within true (n + 1) m bs found))
+      | false ↦ λ other found. elim (b == 10 || b == 13) as
+          (λ v. (b == 10 || b == 13) ≡ v → cond v None (string_end false (n + 1) bs) ≡ Some m → Closes n m (b ∷ bs)) [
+            | true ↦ λ _ nothing. cc
+            | false ↦ λ line later.
+                (let c = ends_within false (n + 1) m bs later in
+                let parts = or_parts (b == 10) (b == 13) line in
+                record {
+                  inner = b ∷ c.inner;
+                  rest = c.rest;
+                  split = ap (λ z. b ∷ z) c.split;
+                  is_inner = plain (eqb-false b 39 other) (eqb-false b 10 parts.0) (eqb-false b 13 parts.1) c.is_inner;
+                  len = omega (arith, c.len);
+                  stops = c.stops;
+                })
+          ] refl found
     ] refl e
 
 pub string_end_sound : (n m : ℕ) (bs : Bytes) → string_end false n bs ≡ Some m → Closes n m bs
@@ -133,7 +145,13 @@ opened false n (b ∷ bs) e =
       | true ↦ λ same none. subst (λ z. Opens (z ∷ bs)) (sym ((Decides-eqb b 39).0 same)) (opened true (n + 1) bs none)
       | false ↦ λ other none. elim (b == 10 || b == 13) as (λ v. (b == 10 || b == 13) ≡ v
           → cond v None (string_end false (n + 1) bs) ≡ None → Opens (b ∷ bs)) [
-            | true ↦ λ line _. record { inner = []; rest = b ∷ bs; split = refl; is_inner = done; ends = line_end b line }
+            | true ↦ λ line _. record {
+              inner = [];
+              rest = b ∷ bs;
+              split = refl;
+              is_inner = done;
+              ends = line_end b line;
+            }
             | false ↦ λ line later.
                 (let o = opened false (n + 1) bs later in
                 let parts = or_parts (b == 10) (b == 13) line in
@@ -149,9 +167,13 @@ opened false n (b ∷ bs) e =
   where
     line_end : (b : ℕ) → (b == 10 || b == 13) ≡ true → (b ≡ 10) ⊎ (b ≡ 13)
     line_end b h =
-        elim (or_cases (b == 10) (b == 13) h) [ inl line ↦ inl ((Decides-eqb b 10).0 line) | inr return ↦ inr ((Decides-eqb b 13).0 return) ]
+        elim (or_cases (b == 10) (b == 13) h) [
+          | inl line ↦ inl ((Decides-eqb b 10).0 line)
+          | inr return ↦ inr
+              ((Decides-eqb b 13).0 return)
+        ]
 
--- what goes on behind an apostrophe and inner bytes, and has no end, is open
+-- what continues after an apostrophe and inner bytes, and has no end, is open
 pub string_opens : (n : ℕ) (before bs : Bytes) → IsInner before → string_end false n bs ≡ None
     → IsOpenString (39 ∷ (before ++ 39 ∷ 39 ∷ bs))
 string_opens n before bs i e =

@@ -1,5 +1,6 @@
 -- Symbols: the code's two steps find what the table has.
-use Rattle.std.proofs.Common.{◌≡◌, ◌≢◌, ℕ, Bool, true, false, cond, not, ◌==◌, ◌||◌, ◌&&◌, List, [], ◌∷◌, length, Option, Some, None, Ok, slice_index, refl, sym, ap, ◌∙◌, subst}
+use Rattle.std.proofs.Common.{◌≡◌, ◌≢◌, ℕ, Bool, true, false, cond, not, ◌==◌, ◌||◌, ◌&&◌, List, [], ◌∷◌, length}
+use Rattle.std.proofs.Common.{Option, Some, None, Ok, slice_index, refl, sym, ap, ◌∙◌, subst}
 use Rattle.std.proofs.lemmas.Bool.{and_parts}
 use Rattle.std.proofs.lemmas.Slice.Eq.{bytes_eq-Decides}
 use Rattle.std.specs.Char.{is_ascii_alphanumeric}
@@ -19,7 +20,8 @@ lookup_passes : (q : Bytes → Bool) (es : List Spelling) (u : Bytes) (kind : Ki
 lookup_passes q [] u kind each found = cc
 lookup_passes q (e ∷ es) u kind each found =
     let parts = and_parts (q e.0) (list_all (λ e. q e.0) es) each in
-    elim (bytes_eq u e.0) as (λ v. bytes_eq u e.0 ≡ v → cond v (Some e.1) (lookup (bytes_eq u) es) ≡ Some kind → q u ≡ true) [
+    elim (bytes_eq u e.0) as (λ v. bytes_eq u e.0 ≡ v → cond v (Some e.1) (lookup (bytes_eq u) es) ≡ Some kind → q u
+    ≡ true) [
       | true ↦ λ same _. subst (λ z. q z ≡ true) (sym ((bytes_eq-Decides u e.0).0 same)) parts.0
       | false ↦ λ _ later. lookup_passes q es u kind parts.1 later
     ] refl found
@@ -57,7 +59,7 @@ pub pair_nil : (a : ℕ) → pair a 0 ≡ None
 unfolding pair
 pair_nil a = simp and_false
 
--- a byte begins a symbol just where it is one
+-- a byte begins a symbol exactly where it is one
 abbrev is_some_kind : Option Kind → Bool
 is_some_kind None = false
 is_some_kind (Some kind) = true

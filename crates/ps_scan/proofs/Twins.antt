@@ -4,5 +4,6 @@ use Rattle.std.proofs.lemmas.List.{drop_more}
 use Rattle.ps_scan.specs.Tables.{Bytes}
 use Rattle.ps_scan.specs.Values.{characters_after}
 
-pub twin_passes : (bs : Bytes) (i : ℕ) → i < length bs → characters_after true (drop i bs) ≡ characters_after false (drop (i + 1) bs)
+pub twin_passes : (bs : Bytes) (i : ℕ) → i < length bs → characters_after true (drop i bs) ≡ characters_after false
+    (drop (i + 1) bs)
 twin_passes bs i inside = rw (drop_more bs i 0 inside) refl

@@ -1,5 +1,5 @@
--- Why a text has no tokens (ISO 7185, 6.1): the first place where no token and no separator of the profile stands, and
--- what does stand there.
+-- Why a text has no tokens (ISO 7185, 6.1): the first place where the text has neither a token nor a separator of the
+-- profile, and what it has there.
 use Rattle.std.specs.Prelude.{◌≡◌, ℕ, ◌+◌, ◌<◌, ◌⊎◌, List, [], ◌∷◌, ◌++◌, length}
 use Rattle.ps_text.specs.declared.Span.{Span}
 use Rattle.ps_scan.specs.declared.TheConstants.{MAX_NUMBER}
@@ -12,12 +12,12 @@ use Rattle.ps_scan.specs.Lexemes.{IsWord, IsDigits, digits_value, IsReal, IsInne
 use Rattle.ps_scan.specs.Lexis.{IsLongest, IsJoined, IsTokens}
 use Rattle.ps_scan.specs.Separators.{IsSeparator}
 
--- the line ends at the front of the bytes, or the text does
+-- the line or the text ends at the front of the bytes
 abbrev pub EndsLine : Bytes → Type 0
 EndsLine [] = Unit {0}
 EndsLine (b ∷ bs) = (b ≡ 10) ⊎ (b ≡ 13)
 
--- a string that its line ends within: two apostrophes stand for one, and none closes it (6.1.7)
+-- a string whose line ends within it: two apostrophes denote one, and none closes it (6.1.7)
 pub data IsOpenString : Bytes → Type 0 where
   unclosed : (inner rest : Bytes) → IsInner inner → EndsLine rest → IsOpenString (39 ∷ (inner ++ rest))
 
@@ -30,18 +30,18 @@ pub data IsOpening : Bytes → Type 0 where
 abbrev pub HasNoSeparator : Bytes → Type 0
 HasNoSeparator bs = (s rest : Bytes) → bs ≡ s ++ rest → IsSeparator s → ⊥
 
--- What begins at the front of the bytes in place of a token and a separator: each case names what is told, by how many
--- bytes stand ahead of it and how many it has.
+-- What begins at the front of the bytes in place of a token or a separator: each case names the fault, the number of
+-- bytes before the reported ones, and the number of those.
 pub data IsFault : Bytes → ScanFault → (ahead len : ℕ) → Type 0 where
-  -- a byte that no lexeme and no separator begins with
+  -- a byte that begins no lexeme and no separator
   begins_nothing : {b : ℕ} (rest : Bytes) → ((u : Bytes) → IsLexeme (b ∷ u) ⊎ IsSeparator (b ∷ u) → ⊥)
       → IsFault (b ∷ rest) fault.BadByte 0 1
   -- what opens a comment that has no end
   open_comment : (w rest : Bytes) → IsOpening w → HasNoSeparator (w ++ rest)
       → IsFault (w ++ rest) fault.OpenComment 0 (length w)
-  -- the apostrophe of a string that its line ends within
+  -- the apostrophe of a string whose line ends within it
   open_string : (rest : Bytes) → IsOpenString (39 ∷ rest) → IsFault (39 ∷ rest) fault.OpenString 0 1
-  -- a string of no character
+  -- an empty string
   empty_string : (rest : Bytes) → IsLongest (39 ∷ 39 ∷ []) rest → (IsOpenString (39 ∷ 39 ∷ rest) → ⊥)
       → IsFault (39 ∷ 39 ∷ rest) fault.EmptyString 0 2
   -- a word that touches the number before it, whatever number that is (6.1.8)
@@ -53,22 +53,23 @@ pub data IsFault : Bytes → ScanFault → (ahead len : ℕ) → Type 0 where
   -- a real number, which the profile leaves out (6.1.5)
   real_literal : (w rest : Bytes) → IsLongest w rest → IsReal w → IsFault (w ++ rest) fault.RealNumber 0 (length w)
 
--- so many bytes from an offset on
+-- the span of the given length from an offset
 abbrev pub span_at : ℕ → ℕ → Span
 span_at from len = record { from = from; to = from + len }
 
--- The first fault of the bytes from an offset on, and its place: separators and tokens stand before it. Where a string is
--- open no token stands, though what is before its last apostrophe may be one.
+-- The first fault of the bytes from an offset on, and its place: separators and tokens come before it. Where a string
+-- is open there is no token, though what is before its last apostrophe may be one.
 pub data RefusedFrom : ℕ → Bytes → ScanFault → Span → Type 0 where
   here : {n ahead len : ℕ} {bs : Bytes} {why : ScanFault} → IsFault bs why ahead len
       → RefusedFrom n bs why (span_at (n + ahead) len)
   behind_separator : {n : ℕ} {why : ScanFault} {place : Span} (s rest : Bytes) → IsSeparator s
       → RefusedFrom (n + length s) rest why place → RefusedFrom n (s ++ rest) why place
   behind_token : {n : ℕ} {kind : Kind} {why : ScanFault} {place : Span} (w rest : Bytes)
-      → IsLongest w rest → IsOfKind w kind → (IsWord w ⊎ IsDigits w → IsJoined rest → ⊥) → (IsOpenString (w ++ rest) → ⊥)
+      → IsLongest w rest → IsOfKind w kind → (IsWord w ⊎ IsDigits w → IsJoined rest → ⊥)
+      → (IsOpenString (w ++ rest) → ⊥)
       → RefusedFrom (n + length w) rest why place → RefusedFrom n (w ++ rest) why place
 
--- what a text comes to: its tokens, or its first fault with the place
+-- the outcome of a text: its tokens, or its first fault with the place
 pub data Scanned : Type 0 where
   Tokens : List Token → Scanned
   Refused : ScanFault → Span → Scanned

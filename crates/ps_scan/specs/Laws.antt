@@ -13,12 +13,12 @@ abbrev pub EachTextIsScanned : Type 0
 EachTextIsScanned = (text : Bytes)
     → (answer : Scanned) × IsScanOf text answer × ((other : Scanned) → IsScanOf text other → other ≡ answer)
 
--- the tokens of a text stand in it, one after the other
+-- the tokens of a text come one after the other within it
 abbrev pub TokensStandInOrder : Type 0
 TokensStandInOrder = (text : Bytes) (ts : List Token) → IsTokens text ts
     → AreOrdered 0 (length text) ts × All (IsWithin (length text)) ts
 
--- what is told of a fault stands in the text, and has a byte at least
+-- the place of a fault lies within the text, and has at least one byte
 abbrev pub FaultsStandWithin : Type 0
 FaultsStandWithin = (text : Bytes) (why : ScanFault) (place : Span) → RefusedFrom 0 text why place
     → (place.from < place.to) × (place.to ≤ length text)

@@ -24,7 +24,8 @@ digits_value = fold (λ n b. 10 * n + (b - 48)) 0
 -- e, an optional sign, and digits (6.1.5)
 pub data IsScale : Bytes → Type 0 where
   unsigned : {e : ℕ} {ds : Bytes} → to_ascii_lowercase e ≡ 101 → IsDigits ds → IsScale (e ∷ ds)
-  signed : {e sign : ℕ} {ds : Bytes} → to_ascii_lowercase e ≡ 101 → (sign ≡ 43) ⊎ (sign ≡ 45) → IsDigits ds → IsScale (e ∷ sign ∷ ds)
+  signed : {e sign : ℕ} {ds : Bytes} → to_ascii_lowercase e ≡ 101 → (sign ≡ 43) ⊎ (sign ≡ 45) → IsDigits ds → IsScale
+      (e ∷ sign ∷ ds)
 
 -- a real literal (6.1.5)
 pub data IsReal : Bytes → Type 0 where
@@ -32,7 +33,7 @@ pub data IsReal : Bytes → Type 0 where
   with_both : (a b s : Bytes) → IsDigits a → IsDigits b → IsScale s → IsReal (a ++ 46 ∷ (b ++ s))
   with_scale : (a s : Bytes) → IsDigits a → IsScale s → IsReal (a ++ s)
 
--- what stands between the apostrophes of a string: two apostrophes stand for one, and a line doesn't end within (6.1.7)
+-- what is between the apostrophes of a string: two apostrophes denote one, and no line ends within (6.1.7)
 pub data IsInner : Bytes → Type 0 where
   done : IsInner []
   plain : {b : ℕ} {bs : Bytes} → b ≢ 39 → b ≢ 10 → b ≢ 13 → IsInner bs → IsInner (b ∷ bs)
@@ -50,7 +51,8 @@ pub data IsLexeme : Bytes → Type 0 where
   string : {w : Bytes} → IsString w → IsLexeme w
   symbol : {w : Bytes} {kind : Kind} → symbol_kind w ≡ Some kind → IsLexeme w
 
--- The kind of a token. A word is a word-symbol or a name. A number that is too large, a real literal and an empty string are no tokens.
+-- The kind of a token. A word is a word-symbol or a name. A number that is too large, a real literal and an empty
+-- string are not tokens.
 pub data IsOfKind : Bytes → Kind → Type 0 where
   of_word : {w : Bytes} {kind : Kind} → IsWord w → kind ≡ word_kind w → IsOfKind w kind
   of_number : {w : Bytes} → IsDigits w → digits_value w ≤ MAX_NUMBER → IsOfKind w k.Number

@@ -22,18 +22,18 @@ abbrev pub number_of : ScanRefusal → ℕ
 number_of r.OutOfMemory = 9
 number_of (r.Faulty why line from to) = number_of_fault why
 
--- the line of the fault, and 0 where memory ran out
+-- the line of the fault, or 0 where memory ran out
 abbrev pub line_of : ScanRefusal → ℕ
 line_of r.OutOfMemory = 0
 line_of (r.Faulty why line from to) = line
 
--- the place of the fault, and none where memory ran out
+-- the place of the fault, or none where memory ran out
 abbrev pub place_of : ScanRefusal → Option Span
 place_of r.OutOfMemory = None
 place_of (r.Faulty why line from to) = Some (record { from = from; to = to })
 
--- What is told of a text is its first fault, the place of that, and the line of its first byte. Want of memory tells
--- nothing.
+-- What is reported of a text is its first fault, with its place and the line of its first byte. Running out of memory
+-- reports nothing.
 abbrev pub IsTold : Bytes → ScanRefusal → Type 0
 IsTold text r.OutOfMemory = Unit {0}
 IsTold text (r.Faulty why line from to) =

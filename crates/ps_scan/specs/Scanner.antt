@@ -1,5 +1,7 @@
--- The scanner as functions on bytes, which the code follows step by step. Bytes read as 0 past their end, and 0 begins nothing.
-use Rattle.std.specs.Prelude.{ℕ, ◌+◌, Bool, true, false, ◌&&◌, ◌||◌, ◌==◌, nat_lt, if◌then◌else◌, List, [], ◌∷◌, take, drop, slice_index, Option, Some, None, Result, Ok, Err}
+-- The scanner as functions on bytes, which the code follows step by step. Bytes past the end read as 0, and 0 begins
+-- nothing.
+use Rattle.std.specs.Prelude.{ℕ, ◌+◌, Bool, true, false, ◌&&◌, ◌||◌, ◌==◌, nat_lt, if◌then◌else◌, List, [], ◌∷◌, take}
+use Rattle.std.specs.Prelude.{drop, slice_index, Option, Some, None, Result, Ok, Err}
 use Rattle.std.specs.Char.{is_ascii_alphabetic, is_ascii_alphanumeric, is_ascii_digit, to_ascii_lowercase}
 use Rattle.std.specs.List.{prefix_len}
 use Rattle.std.specs.Str.{str_eq_ignore_ascii_case}
@@ -14,18 +16,18 @@ use Rattle.ps_scan.specs.Lexemes.{digits_value}
 use Rattle.ps_scan.specs.Separators.{is_blank}
 use Rattle.ps_scan.specs.Tables.{Bytes, Spelling, word_kind}
 
--- ---- what stands at the front of the bytes
+-- ---- what is at the front of the bytes
 abbrev pub separator_of : ℕ → Lexeme
 separator_of len = record { kind = None; length = len }
 
 abbrev pub token_of : ℕ → Kind → Lexeme
 token_of len kind = record { kind = Some kind; length = len }
 
--- what the front of bytes comes to
+-- what is found at the front of the bytes
 abbrev pub Finding : Type 0
 Finding = Result Lexeme FaultAhead
 
--- a fault that some bytes stand before
+-- a fault that some bytes precede
 abbrev pub fault_of : ScanFault → (ahead len : ℕ) → Finding
 fault_of why ahead len = Err (record { fault = why; ahead = ahead; length = len })
 
@@ -50,11 +52,11 @@ is_sign b = b == 43 || b == 45
 abbrev pub sign_len : ℕ → ℕ
 sign_len b = if is_sign b then 1 else 0
 
--- how many bytes a fraction has, with its point; 0 where none comes
+-- the length of a fraction, with its point; 0 where there is none
 unfoldable pub fraction_len : Bytes → ℕ
 fraction_len bs = if slice_index bs 0 == 46 && is_ascii_digit (slice_index bs 1) then 1 + digits_len (drop 1 bs) else 0
 
--- how many bytes a scale has, whose letter and sign are so many; 0 where none comes
+-- the length of a scale whose letter and sign take the given number of bytes; 0 where there is none
 unfoldable pub scale_by : ℕ → Bytes → ℕ
 scale_by opening bs =
     if to_ascii_lowercase (slice_index bs 0) == 101 && is_ascii_digit (slice_index bs opening)
@@ -63,7 +65,7 @@ scale_by opening bs =
 unfoldable pub scale_len : Bytes → ℕ
 scale_len bs = scale_by (1 + sign_len (slice_index bs 1)) bs
 
--- how many bytes of a real literal stand behind its first digits; 0 where there is none
+-- the length of a real literal after its first digits; 0 where there is none
 unfoldable pub real_len : Bytes → ℕ
 real_len bs = fraction_len bs + scale_len (drop (fraction_len bs) bs)
 
@@ -77,7 +79,8 @@ number bs =
     else Ok (token_of len k.Number)))
 
 -- ---- strings
--- The length of a string, some of whose bytes are passed. Pending: an apostrophe was the last of them, and is the closing one unless another comes.
+-- The length of a string, of which n bytes have been read. Pending: the last of them was an apostrophe, which closes
+-- the string unless another follows.
 abbrev pub string_end : Bool → ℕ → Bytes → Option ℕ
 string_end true n [] = Some n
 string_end false n [] = None
@@ -93,10 +96,12 @@ unfoldable pub string : Bytes → Finding
 string bs = string_of (string_end false 1 (drop 1 bs))
 
 -- ---- comments
--- How many bytes a comment has after its opening, some of which are passed. The flag says that a star was the last of them.
+-- The length of a comment after its opening, of which n bytes have been read. The flag says that the last of them was a
+-- star.
 abbrev pub comment_end : Bool → ℕ → Bytes → Option ℕ
 comment_end after_star n [] = None
-comment_end after_star n (b ∷ bs) = if b == 125 || (b == 41 && after_star) then Some (n + 1) else comment_end (b == 42) (n + 1) bs
+comment_end after_star n (b ∷ bs) = if b == 125 || (b == 41 && after_star) then Some (n + 1) else comment_end (b == 42)
+    (n + 1) bs
 
 abbrev pub comment_of : ℕ → Option ℕ → Finding
 comment_of opening None = fault_of fault.OpenComment 0 opening
@@ -108,16 +113,20 @@ comment opening bs = comment_of opening (comment_end false 0 (drop opening bs))
 -- ---- symbols
 unfoldable pub pair : ℕ → ℕ → Option Kind
 pair a b =
-    if a == 60 && b == 62 then Some k.NotEqual else (if a == 60 && b == 61 then Some k.LessEqual else (if a == 62 && b == 61 then Some k.GreaterEqual
+    if a == 60 && b == 62 then Some k.NotEqual
+    else (if a == 60 && b == 61 then Some k.LessEqual else (if a == 62 && b == 61 then Some k.GreaterEqual
     else (if a == 40 && b == 46 then Some k.LeftBracket else (if a == 46 && b == 41 then Some k.RightBracket
     else (if a == 46 && b == 46 then Some k.DotDot else (if a == 58 && b == 61 then Some k.Assign else None))))))
 
 unfoldable pub single : ℕ → Option Kind
 single a =
-    if a == 43 then Some k.Plus else (if a == 45 then Some k.Minus else (if a == 42 then Some k.Star else (if a == 47 then Some k.Slash
+    if a == 43 then Some k.Plus else (if a == 45 then Some k.Minus
+    else (if a == 42 then Some k.Star else (if a == 47 then Some k.Slash
     else (if a == 61 then Some k.Equal else (if a == 60 then Some k.Less else (if a == 62 then Some k.Greater
-    else (if a == 91 then Some k.LeftBracket else (if a == 93 then Some k.RightBracket else (if a == 40 then Some k.LeftParen else (if a == 41 then Some k.RightParen
-    else (if a == 46 then Some k.Dot else (if a == 44 then Some k.Comma else (if a == 58 then Some k.Colon else (if a == 59 then Some k.Semicolon
+    else (if a == 91 then Some k.LeftBracket else (if a == 93 then Some k.RightBracket
+    else (if a == 40 then Some k.LeftParen else (if a == 41 then Some k.RightParen
+    else (if a == 46 then Some k.Dot else (if a == 44 then Some k.Comma
+    else (if a == 58 then Some k.Colon else (if a == 59 then Some k.Semicolon
     else (if a == 94 then Some k.Caret else (if a == 64 then Some k.Caret else None))))))))))))))))
 
 abbrev pub symbol_of : Option Kind → Option Kind → Finding
@@ -128,7 +137,7 @@ symbol_of None None = fault_of fault.BadByte 0 1
 unfoldable pub symbol : Bytes → Finding
 symbol bs = symbol_of (pair (slice_index bs 0) (slice_index bs 1)) (single (slice_index bs 0))
 
--- ---- the front of the bytes, of which there is at least one
+-- ---- the front of the bytes, which are not empty
 unfoldable pub front : Bytes → Finding
 front bs =
     let b = slice_index bs 0 in

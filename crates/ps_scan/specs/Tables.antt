@@ -12,33 +12,38 @@ Bytes = List ℕ
 abbrev pub Spelling : Type 0
 Spelling = Bytes × Kind
 
--- the word-symbols, in small letters
+-- the word-symbols, in lower case
 abbrev pub word_symbols : List Spelling
 word_symbols =
     (codes "do", k.Do) ∷ (codes "if", k.If) ∷ (codes "in", k.In) ∷ (codes "of", k.Of) ∷ (codes "or", k.Or) ∷ (codes "to", k.To)
-    ∷ (codes "and", k.And) ∷ (codes "div", k.Div) ∷ (codes "end", k.End) ∷ (codes "for", k.For) ∷ (codes "mod", k.Mod) ∷ (codes "nil", k.Nil)
+    ∷ (codes "and", k.And) ∷ (codes "div", k.Div) ∷ (codes "end", k.End) ∷ (codes "for", k.For) ∷ (codes "mod", k.Mod)
+    ∷ (codes "nil", k.Nil)
     ∷ (codes "not", k.Not) ∷ (codes "set", k.Set) ∷ (codes "var", k.Var)
     ∷ (codes "case", k.Case) ∷ (codes "else", k.Else) ∷ (codes "file", k.File) ∷ (codes "goto", k.Goto) ∷ (codes "then", k.Then)
     ∷ (codes "type", k.Type) ∷ (codes "with", k.With)
-    ∷ (codes "array", k.Array) ∷ (codes "begin", k.Begin) ∷ (codes "const", k.Const) ∷ (codes "label", k.Label) ∷ (codes "until", k.Until)
+    ∷ (codes "array", k.Array) ∷ (codes "begin", k.Begin) ∷ (codes "const", k.Const) ∷ (codes "label", k.Label)
+    ∷ (codes "until", k.Until)
     ∷ (codes "while", k.While)
     ∷ (codes "downto", k.Downto) ∷ (codes "packed", k.Packed) ∷ (codes "record", k.Record) ∷ (codes "repeat", k.Repeat)
     ∷ (codes "program", k.Program) ∷ (codes "function", k.Function) ∷ (codes "procedure", k.Procedure) ∷ []
 
--- the symbols; "@" stands for "^", and "(." and ".)" stand for the brackets
+-- the symbols; "@" is another spelling of "^", and "(." and ".)" of the brackets
 abbrev pub symbols : List Spelling
 symbols =
     (codes "+", k.Plus) ∷ (codes "-", k.Minus) ∷ (codes "*", k.Star) ∷ (codes "/", k.Slash)
-    ∷ (codes "=", k.Equal) ∷ (codes "<>", k.NotEqual) ∷ (codes "<", k.Less) ∷ (codes ">", k.Greater) ∷ (codes "<=", k.LessEqual) ∷ (codes ">=", k.GreaterEqual)
-    ∷ (codes "[", k.LeftBracket) ∷ (codes "(.", k.LeftBracket) ∷ (codes "]", k.RightBracket) ∷ (codes ".)", k.RightBracket)
+    ∷ (codes "=", k.Equal) ∷ (codes "<>", k.NotEqual) ∷ (codes "<", k.Less) ∷ (codes ">", k.Greater)
+    ∷ (codes "<=", k.LessEqual) ∷ (codes ">=", k.GreaterEqual)
+    ∷ (codes "[", k.LeftBracket) ∷ (codes "(.", k.LeftBracket) ∷ (codes "]", k.RightBracket)
+    ∷ (codes ".)", k.RightBracket)
     ∷ (codes "(", k.LeftParen) ∷ (codes ")", k.RightParen)
-    ∷ (codes ".", k.Dot) ∷ (codes "..", k.DotDot) ∷ (codes ",", k.Comma) ∷ (codes ":", k.Colon) ∷ (codes ";", k.Semicolon)
+    ∷ (codes ".", k.Dot) ∷ (codes "..", k.DotDot) ∷ (codes ",", k.Comma) ∷ (codes ":", k.Colon)
+    ∷ (codes ";", k.Semicolon)
     ∷ (codes "^", k.Caret) ∷ (codes "@", k.Caret) ∷ (codes ":=", k.Assign) ∷ []
 
--- the kind of a word: that of the word-symbol that it spells, in whichever case, or a name
+-- the kind of a word: that of the word-symbol that it spells, ignoring case, or of a name
 unfoldable pub word_kind : Bytes → Kind
 word_kind w = unwrap_or (lookup (λ key. bytes_eq key (map to_ascii_lowercase w)) word_symbols) k.Name
 
--- the kind of a symbol, where the bytes are one
+-- the kind of a symbol, if the bytes are one
 unfoldable pub symbol_kind : Bytes → Option Kind
 symbol_kind w = lookup (bytes_eq w) symbols

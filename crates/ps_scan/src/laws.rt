@@ -2,19 +2,19 @@
 
 ghost use Rattle.ps_scan.specs.Laws.{EachTextIsScanned, TokensStandInOrder, FaultsStandWithin};
 
-/// Each text has its tokens or its first fault, never both, and no others of either.
+/// Each text has either tokens or a first fault, never both, and only one of either.
 #[tactic(auto, using(crate::proofs::OneAnswer::each_text_is_scanned))]
 pub fn each_text_is_scanned()
     ensures { EachTextIsScanned }
 {}
 
-/// The tokens of a text stand in it, one after the other, and each has a byte at least.
+/// The tokens of a text come one after the other within it, and each has at least one byte.
 #[tactic(auto, using(crate::proofs::Places::tokens_stand_in_order))]
 pub fn tokens_stand_in_order()
     ensures { TokensStandInOrder }
 {}
 
-/// The place of a text's first fault is a part of the text, of a byte at least.
+/// The place of a text's first fault lies within the text, and has at least one byte.
 #[tactic(auto, using(crate::proofs::Places::faults_stand_within))]
 pub fn faults_stand_within()
     ensures { FaultsStandWithin }

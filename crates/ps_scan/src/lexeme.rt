@@ -1,6 +1,7 @@
 //! The token or the separator at the front of bytes.
 
-ghost use Rattle.std.specs.Prelude.{◌≡◌, ◌+◌, ◌*◌, ◌-◌, ◌^◌, ◌<◌, ◌≤◌, ◌↔◌, IsTrue, true, false, length, drop, slice_index, IfOk, IfErr, IfSome};
+ghost use Rattle.std.specs.Prelude.{◌≡◌, ◌+◌, ◌*◌, ◌-◌, ◌^◌, ◌<◌, ◌≤◌, ◌↔◌, IsTrue, true, false, length, drop};
+ghost use Rattle.std.specs.Prelude.{slice_index, IfOk, IfErr, IfSome};
 ghost use Rattle.ps_scan.specs.Scanner as spec;
 ghost use Rattle.ps_scan.specs.Separators.{is_blank as blank};
 
@@ -9,14 +10,14 @@ use crate::token::Kind;
 use crate::values::small_value;
 use crate::words::word_kind;
 
-/// What stands at the front of bytes: a token of a kind, or a separator where there is none, and how many bytes it takes.
+/// What is at the front of the bytes: a token of a kind, or a separator where there is none; and its length in bytes.
 #[derive(Clone, Copy)]
 pub struct Lexeme {
     pub kind: Option<Kind>,
     pub length: usize,
 }
 
-/// A fault at the front of bytes: how many stand before what is told of it, and how many it has.
+/// A fault at the front of the bytes: how many bytes come before the reported ones, and how many are reported.
 #[derive(Clone, Copy)]
 pub struct FaultAhead {
     pub fault: ScanFault,
@@ -24,7 +25,7 @@ pub struct FaultAhead {
     pub length: usize,
 }
 
-/// A fault of the first bytes.
+/// A fault at the very front of the bytes.
 fn fault_of(fault: ScanFault, length: usize) -> FaultAhead
     ensures { result ≡ record { fault = fault; ahead = 0; length = length } }
 {
@@ -35,7 +36,7 @@ fn fault_of(fault: ScanFault, length: usize) -> FaultAhead
     }
 }
 
-/// What stands at the front of the bytes: the longest token, or a separator; or the fault there.
+/// What is at the front of the bytes: the longest token, or a separator; or the fault there.
 #[tactic(auto, unfolding(crate::specs::Scanner::front))]
 pub fn front(text: &[u8]) -> Result<Lexeme, FaultAhead>
     requires { 0 < length text.now }
@@ -93,7 +94,7 @@ fn word(text: &[u8]) -> Lexeme
     }
 }
 
-/// How many letters and digits there are at the front.
+/// The number of letters and digits at the front.
 fn word_len(text: &[u8]) -> usize
     ensures value { result ≡ spec.word_len text.now }
     ensures within { result ≤ length text.now }
@@ -136,7 +137,7 @@ fn number(text: &[u8]) -> Result<Lexeme, FaultAhead>
     })
 }
 
-/// How many digits there are at the front.
+/// The number of digits at the front.
 fn digits_len(text: &[u8]) -> usize
     ensures value { result ≡ spec.digits_len text.now }
     ensures within { result ≤ length text.now }
@@ -149,8 +150,7 @@ fn digits_len(text: &[u8]) -> usize
     text.len()
 }
 
-/// How many bytes of a real literal stand behind its first digits: those of its fraction and its scale, or 0 where
-/// neither comes.
+/// The length of a real literal after its first digits: that of its fraction and its scale, or 0 where it has neither.
 #[tactic(auto, unfolding(crate::specs::Scanner::real_len))]
 fn real_len(text: &[u8]) -> usize
     ensures value { result ≡ spec.real_len text.now }
@@ -160,7 +160,7 @@ fn real_len(text: &[u8]) -> usize
     fraction + scale_len(&text[fraction..])
 }
 
-/// How many bytes a fraction has, with its point, or 0.
+/// The length of a fraction, with its point, or 0.
 #[tactic(auto, unfolding(crate::specs::Scanner::fraction_len))]
 fn fraction_len(text: &[u8]) -> usize
     ensures value { result ≡ spec.fraction_len text.now }
@@ -173,7 +173,7 @@ fn fraction_len(text: &[u8]) -> usize
     }
 }
 
-/// How many bytes a scale has, with its letter and its sign, or 0.
+/// The length of a scale, with its letter and its sign, or 0.
 #[tactic(auto, unfolding(crate::specs::Scanner::scale_len))]
 fn scale_len(text: &[u8]) -> usize
     ensures value { result ≡ spec.scale_len text.now }
@@ -182,7 +182,7 @@ fn scale_len(text: &[u8]) -> usize
     scale_by(1 + sign_len(byte_at(text, 1)), text)
 }
 
-/// How many bytes a scale has, whose letter and sign take so many, or 0.
+/// The length of a scale whose letter and sign take `opening` bytes, or 0.
 #[tactic(auto, unfolding(crate::specs::Scanner::scale_by))]
 fn scale_by(opening: usize, text: &[u8]) -> usize
     ensures value { result ≡ spec.scale_by opening text.now }
@@ -195,7 +195,7 @@ fn scale_by(opening: usize, text: &[u8]) -> usize
     }
 }
 
-/// How many bytes a sign takes: 1, or 0 where there is none.
+/// The length of a sign: 1, or 0 where there is none.
 fn sign_len(byte: u8) -> usize
     ensures value { result ≡ spec.sign_len byte }
     ensures within { result ≤ 1 }
@@ -203,7 +203,7 @@ fn sign_len(byte: u8) -> usize
     if byte == b'+' || byte == b'-' { 1 } else { 0 }
 }
 
-/// A string, from its opening apostrophe on.
+/// A string, from its opening apostrophe.
 #[tactic(auto, unfolding(crate::specs::Scanner::string))]
 fn string(text: &[u8]) -> Result<Lexeme, FaultAhead>
     requires { 0 < length text.now }
@@ -223,13 +223,13 @@ fn string(text: &[u8]) -> Result<Lexeme, FaultAhead>
     })
 }
 
-/// The length of a string, by the bytes after its opening apostrophe.
+/// The length of a string, given the bytes after its opening apostrophe.
 fn string_end(text: &[u8]) -> Option<usize>
     requires { length text.now < 2 ^ 63 }
     ensures value { result ≡ spec.string_end false 1 text.now }
     ensures within { IfSome result (λ end. (2 ≤ end) × (end ≤ length text.now + 1)) }
 {
-    // Whether the byte before was an apostrophe that closes the string unless another comes.
+    // Whether the byte before was an apostrophe that closes the string unless another follows.
     let mut is_pending = false;
     for (at, byte) in text.iter().enumerate() {
         if *byte == b'\'' {
@@ -247,7 +247,7 @@ fn string_end(text: &[u8]) -> Option<usize>
     }
 }
 
-/// A comment, whose opening has so many bytes.
+/// A comment whose opening has `opening` bytes.
 #[tactic(auto, unfolding(crate::specs::Scanner::comment))]
 fn comment(opening: usize, text: &[u8]) -> Result<Lexeme, FaultAhead>
     requires some { 1 ≤ opening }
@@ -265,7 +265,7 @@ fn comment(opening: usize, text: &[u8]) -> Result<Lexeme, FaultAhead>
     }
 }
 
-/// How many bytes a comment has after its opening.
+/// The length of a comment after its opening.
 fn comment_end(text: &[u8]) -> Option<usize>
     ensures value { result ≡ spec.comment_end false 0 text.now }
     ensures within { IfSome result (λ end. end ≤ length text.now) }

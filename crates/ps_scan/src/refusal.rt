@@ -7,16 +7,16 @@ use ps_text::Span;
 use std::fmt;
 use thiserror::Error;
 
-/// What stands in a text where no token and no separator does (ISO 7185, 6.1). It is shown by its name.
+/// What is in a text where neither a token nor a separator is (ISO 7185, 6.1). It is displayed as its name.
 #[derive(Clone, Copy, Debug)]
 pub enum ScanFault {
     /// A byte that begins no token and no separator.
     BadByte,
-    /// A comment without its end. Its place is that of its opening.
+    /// A comment that is not closed. Its place is that of its opening.
     OpenComment,
-    /// A string that meets the end of its line or of the text. Its place is that of its opening.
+    /// A string that reaches the end of its line or of the text. Its place is that of its opening.
     OpenString,
-    /// A string of no character.
+    /// An empty string.
     EmptyString,
     /// A name or a word-symbol that touches the number before it.
     SeparatorMissing,
@@ -41,7 +41,7 @@ impl fmt::Display for ScanFault {
 }
 
 impl ScanFault {
-    /// The number of the refusal that tells the fault.
+    /// The number of the refusal that reports the fault.
     pub fn number(self) -> u32
         ensures { result ≡ number_of_fault self }
     {
@@ -57,11 +57,11 @@ impl ScanFault {
     }
 }
 
-/// Why a text has no tokens: its first fault, with the offsets of the first byte that is told and of the one behind the
-/// last, and the line of the first. It is shown by the fault's name.
+/// Why a text has no tokens: its first fault, with the offsets of the first reported byte and of the one after the
+/// last, and the line of the first. It is displayed as the fault's name.
 #[derive(Clone, Copy, Debug, Error)]
 pub enum ScanRefusal {
-    /// A growth was refused.
+    /// The allocator refused memory.
     OutOfMemory,
     /// The text's first fault.
     Faulty {
@@ -92,7 +92,7 @@ impl ScanRefusal {
         }
     }
 
-    /// The line of the fault, and 0 where memory ran out.
+    /// The line of the fault, or 0 where memory ran out.
     pub fn line(self) -> u32
         ensures { result ≡ line_of self }
     {
@@ -102,7 +102,7 @@ impl ScanRefusal {
         }
     }
 
-    /// The place of the fault in the text, and none where memory ran out.
+    /// The place of the fault in the text, or none where memory ran out.
     pub fn place(self) -> Option<Span>
         ensures { result ≡ place_of self }
     {

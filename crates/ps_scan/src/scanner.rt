@@ -14,7 +14,7 @@ use std::alloc::Global;
 
 /// The tokens of a text, or else its first fault with the place (ISO 7185, 6.1).
 ///
-/// Each text has one of the two, and one alone: `each_text_is_scanned`. Want of memory tells nothing of it.
+/// Each text has exactly one of the two: `each_text_is_scanned`. Running out of memory says nothing about this.
 pub fn scan(alloc: Global, source: &Source<'_>) -> Result<Vec<Token>, ScanRefusal>
     ensures { MatchResult result (λ tokens. IsTokens source.now tokens.items) (IsTold source.now) }
 {
@@ -41,7 +41,7 @@ pub fn scan(alloc: Global, source: &Source<'_>) -> Result<Vec<Token>, ScanRefusa
     Ok(tokens)
 }
 
-/// The refusal of a fault that stands at an offset, or ahead of it.
+/// The refusal of a fault that was found at an offset, and begins there or after it.
 fn refusal_of(source: &Source<'_>, at: usize, found: FaultAhead) -> ScanRefusal
     requires limits { IsSource source.now }
     requires within { at + found.ahead + found.length ≤ length source.now }

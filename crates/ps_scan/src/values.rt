@@ -1,4 +1,4 @@
-//! What numbers, strings and names stand for.
+//! What numbers, strings and names denote.
 
 ghost use Rattle.std.specs.Prelude.{◌≡◌, ◌≤◌, ◌-◌, ◌↔◌, IsTrue, IfOk, length, slice_range};
 ghost use Rattle.std.specs.Option.{SomeIff};
@@ -8,10 +8,10 @@ ghost use Rattle.ps_scan.specs.Values.{number_of_digits, characters, spelling};
 use crate::MAX_NUMBER;
 use std::alloc::{AllocError, Global};
 
-/// A growth was refused.
+/// The allocator refused memory.
 pub type OutOfMemory = AllocError;
 
-/// The value of a number's digits, or `MAX_NUMBER` where they denote more, as no token's do.
+/// The value of a number's digits, or `MAX_NUMBER` where they denote more, which no token's do.
 pub fn number_value(digits: &[u8]) -> u32
     ensures { result ≡ number_of_digits digits.now }
 {
@@ -51,7 +51,7 @@ pub fn string_value(alloc: Global, literal: &[u8]) -> Result<Vec<u8>, OutOfMemor
     Ok(found)
 }
 
-/// How many characters a string has, which is given with its apostrophes.
+/// The number of characters in a string, which is given with its apostrophes.
 #[tactic(auto, unfolding(crate::specs::Values::characters))]
 pub fn string_length(literal: &[u8]) -> usize
     ensures { result ≡ length (characters literal.now) }
@@ -79,7 +79,7 @@ fn between_apostrophes(literal: &[u8]) -> &[u8]
     &literal[1..literal.len() - 1]
 }
 
-/// A name's spelling in small letters, since case has no meaning.
+/// A name's spelling in lower case, since case is not significant.
 pub fn name_spelling(alloc: Global, name: &[u8]) -> Result<Vec<u8>, OutOfMemory>
     ensures { IfOk result (λ found. found.items ≡ spelling name.now) }
 {
@@ -88,7 +88,7 @@ pub fn name_spelling(alloc: Global, name: &[u8]) -> Result<Vec<u8>, OutOfMemory>
         .collect(alloc)
 }
 
-/// Whether two names are the same, in whichever case.
+/// Whether two names are the same, ignoring case.
 pub fn is_same_name(a: &[u8], b: &[u8]) -> bool
     ensures { IsTrue result ↔ (spelling a.now ≡ spelling b.now) }
 {

@@ -45,14 +45,14 @@ const WORD_SYMBOLS: [(&[u8], Kind); 35] = [
     (b"procedure", Kind::Procedure),
 ];
 
-/// Whether two words are the same, in whichever case.
+/// Whether two words are the same, ignoring case.
 fn is_same(a: &[u8], b: &[u8]) -> bool
     ensures { result ≡ str_eq_ignore_ascii_case a.now b.now }
 {
     a.eq_ignore_ascii_case(b)
 }
 
-/// The kind of the first spelling of a table that a word has, in whichever case, or a name.
+/// The kind of the first spelling in a table that matches a word, ignoring case; otherwise that of a name.
 fn find(mut table: &[(&[u8], Kind)], word: &[u8]) -> Kind
     ensures { result ≡ spec.find_word (map (λ e. (e.0.now, e.1)) table.entry.now) word.now }
 {
@@ -65,7 +65,7 @@ fn find(mut table: &[(&[u8], Kind)], word: &[u8]) -> Kind
     Kind::Name
 }
 
-/// The kind of a word: that of a word-symbol, or a name.
+/// The kind of a word: that of a word-symbol, or of a name.
 pub fn word_kind(word: &[u8]) -> Kind
     ensures { result ≡ kind_of_word word.now }
 {

@@ -21,7 +21,7 @@ use Rattle.ps_syntax.specs.declared.program.Structure.{Structure, out-Structure}
 use Rattle.ps_syntax.specs.declared.program.Structure.TheOpen.{Structure-F, TypeDenoter-F}
 use Rattle.ps_syntax.specs.declared.program.TypeDenoter.{TypeDenoter, out-TypeDenoter}
 
--- a sign stands before what it applies to
+-- a sign comes before what it applies to
 abbrev pub sign_or : Option (Sign × Span) → ℕ → ℕ
 sign_or None at = at
 sign_or (Some s) at = s.1.from

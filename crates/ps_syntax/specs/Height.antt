@@ -1,4 +1,6 @@
--- The height of a tree: the greatest number of blocks, formal lists, types, index and base ordinals, statements, expressions and factors after `not` that lie one inside the other. Variables, terms, and the `begin` and `end` of a block don't count.
+-- The height of a tree: the greatest number of blocks, formal lists, types, index and base ordinals, statements,
+-- expressions and factors after `not` that are nested in one another. Variables, terms, and the `begin` and `end` of a
+-- block don't count.
 use Rattle.std.specs.Prelude.{ℕ, suc, ◌+◌, max, List, [], ◌∷◌, map}
 use Rattle.ps_syntax.specs.declared.expression.Expr.{Expr}
 use Rattle.ps_syntax.specs.declared.expression.Factor.{Factor}
@@ -9,8 +11,11 @@ use Rattle.ps_syntax.specs.declared.expression.MultipliedFactor.{MultipliedFacto
 use Rattle.ps_syntax.specs.declared.expression.Simple.{Simple}
 use Rattle.ps_syntax.specs.declared.expression.Term.{Term}
 use Rattle.ps_syntax.specs.declared.expression.Variable.{Variable}
-use Rattle.ps_syntax.specs.declared.expression.Expr.TheOpen.{Expr-F, Factor-F, Member-F, Selector-F, AddedTerm-F, MultipliedFactor-F, Simple-F, Term-F, Variable-F}
-use Rattle.ps_syntax.specs.declared.expression.Expr.TheFolds.{fold-Expr, fold-Factor, fold-Member, fold-Selector, fold-AddedTerm, fold-MultipliedFactor, fold-Simple, fold-Term, fold-Variable}
+use Rattle.ps_syntax.specs.declared.expression.Expr.TheOpen.{Expr-F, Factor-F, Member-F, Selector-F, AddedTerm-F}
+use Rattle.ps_syntax.specs.declared.expression.Expr.TheOpen.{MultipliedFactor-F, Simple-F, Term-F, Variable-F}
+use Rattle.ps_syntax.specs.declared.expression.Expr.TheFolds.{fold-Expr, fold-Factor, fold-Member, fold-Selector}
+use Rattle.ps_syntax.specs.declared.expression.Expr.TheFolds.{fold-AddedTerm, fold-MultipliedFactor, fold-Simple}
+use Rattle.ps_syntax.specs.declared.expression.Expr.TheFolds.{fold-Term, fold-Variable}
 use Rattle.ps_syntax.specs.declared.statement.Parameter.{Parameter}
 use Rattle.ps_syntax.specs.declared.statement.Parameter.TheVariants as p
 use Rattle.ps_syntax.specs.declared.statement.Statement.{Statement}
@@ -82,31 +87,40 @@ expr_step (Expr-F.Simple x) = suc x
 expr_step (Expr-F.Compare x op at y) = suc (max x y)
 
 abbrev pub height_of_expr : Expr → ℕ
-height_of_expr = fold-Expr ℕ ℕ ℕ ℕ ℕ ℕ ℕ ℕ ℕ expr_step factor_step member_step selector_step added_step multiplied_step simple_step term_step variable_step
+height_of_expr = fold-Expr ℕ ℕ ℕ ℕ ℕ ℕ ℕ ℕ ℕ expr_step factor_step member_step selector_step added_step multiplied_step
+    simple_step term_step variable_step
 
 abbrev pub height_of_factor : Factor → ℕ
-height_of_factor = fold-Factor ℕ ℕ ℕ ℕ ℕ ℕ ℕ ℕ ℕ expr_step factor_step member_step selector_step added_step multiplied_step simple_step term_step variable_step
+height_of_factor = fold-Factor ℕ ℕ ℕ ℕ ℕ ℕ ℕ ℕ ℕ expr_step factor_step member_step selector_step added_step
+    multiplied_step simple_step term_step variable_step
 
 abbrev pub height_of_member : Member → ℕ
-height_of_member = fold-Member ℕ ℕ ℕ ℕ ℕ ℕ ℕ ℕ ℕ expr_step factor_step member_step selector_step added_step multiplied_step simple_step term_step variable_step
+height_of_member = fold-Member ℕ ℕ ℕ ℕ ℕ ℕ ℕ ℕ ℕ expr_step factor_step member_step selector_step added_step
+    multiplied_step simple_step term_step variable_step
 
 abbrev pub height_of_selector : Selector → ℕ
-height_of_selector = fold-Selector ℕ ℕ ℕ ℕ ℕ ℕ ℕ ℕ ℕ expr_step factor_step member_step selector_step added_step multiplied_step simple_step term_step variable_step
+height_of_selector = fold-Selector ℕ ℕ ℕ ℕ ℕ ℕ ℕ ℕ ℕ expr_step factor_step member_step selector_step added_step
+    multiplied_step simple_step term_step variable_step
 
 abbrev pub height_of_added : AddedTerm → ℕ
-height_of_added = fold-AddedTerm ℕ ℕ ℕ ℕ ℕ ℕ ℕ ℕ ℕ expr_step factor_step member_step selector_step added_step multiplied_step simple_step term_step variable_step
+height_of_added = fold-AddedTerm ℕ ℕ ℕ ℕ ℕ ℕ ℕ ℕ ℕ expr_step factor_step member_step selector_step added_step
+    multiplied_step simple_step term_step variable_step
 
 abbrev pub height_of_multiplied : MultipliedFactor → ℕ
-height_of_multiplied = fold-MultipliedFactor ℕ ℕ ℕ ℕ ℕ ℕ ℕ ℕ ℕ expr_step factor_step member_step selector_step added_step multiplied_step simple_step term_step variable_step
+height_of_multiplied = fold-MultipliedFactor ℕ ℕ ℕ ℕ ℕ ℕ ℕ ℕ ℕ expr_step factor_step member_step selector_step
+    added_step multiplied_step simple_step term_step variable_step
 
 abbrev pub height_of_simple : Simple → ℕ
-height_of_simple = fold-Simple ℕ ℕ ℕ ℕ ℕ ℕ ℕ ℕ ℕ expr_step factor_step member_step selector_step added_step multiplied_step simple_step term_step variable_step
+height_of_simple = fold-Simple ℕ ℕ ℕ ℕ ℕ ℕ ℕ ℕ ℕ expr_step factor_step member_step selector_step added_step
+    multiplied_step simple_step term_step variable_step
 
 abbrev pub height_of_term : Term → ℕ
-height_of_term = fold-Term ℕ ℕ ℕ ℕ ℕ ℕ ℕ ℕ ℕ expr_step factor_step member_step selector_step added_step multiplied_step simple_step term_step variable_step
+height_of_term = fold-Term ℕ ℕ ℕ ℕ ℕ ℕ ℕ ℕ ℕ expr_step factor_step member_step selector_step added_step multiplied_step
+    simple_step term_step variable_step
 
 abbrev pub height_of_variable : Variable → ℕ
-height_of_variable = fold-Variable ℕ ℕ ℕ ℕ ℕ ℕ ℕ ℕ ℕ expr_step factor_step member_step selector_step added_step multiplied_step simple_step term_step variable_step
+height_of_variable = fold-Variable ℕ ℕ ℕ ℕ ℕ ℕ ℕ ℕ ℕ expr_step factor_step member_step selector_step added_step
+    multiplied_step simple_step term_step variable_step
 
 -- ---- statements
 
@@ -199,7 +213,8 @@ abbrev pub height_of_variables : List Variables → ℕ
 height_of_variables ds = greatest (map (λ (d : Variables). height_of_type d.ty) ds)
 
 abbrev pub block_step : Block-F ℕ ℕ → ℕ
-block_step b = suc (max (max (height_of_types b.types) (height_of_variables b.variables)) (max (greatest b.routines) (greatest (map height_of_statement b.statements))))
+block_step b = suc (max (max (height_of_types b.types) (height_of_variables b.variables))
+    (max (greatest b.routines) (greatest (map height_of_statement b.statements))))
 
 abbrev pub height_of_block : Block → ℕ
 height_of_block = fold-Block ℕ ℕ routine_step block_step

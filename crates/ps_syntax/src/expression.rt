@@ -1,7 +1,8 @@
 //! Expressions. Names, numbers and strings are spans of the text.
 
 ghost use Rattle.std.specs.Prelude.{◌≡◌};
-ghost use Rattle.ps_syntax.specs.First.{sign_or, first_of_factor, first_of_term, first_of_simple, first_of_expr, first_of_member};
+ghost use Rattle.ps_syntax.specs.First.{sign_or, first_of_factor, first_of_term, first_of_simple, first_of_expr};
+ghost use Rattle.ps_syntax.specs.First.{first_of_member};
 
 use ps_text::Span;
 use sqlite_items::{Boxed, Items};
@@ -42,7 +43,7 @@ pub enum Multiplying {
     And,
 }
 
-/// A simple expression, or two that a relation stands between.
+/// A simple expression, or two with a relation between them.
 #[cycle(expression)]
 #[derive(Drop)]
 pub enum Expr {
@@ -59,7 +60,7 @@ pub struct Simple {
     pub more: Items<AddedTerm>,
 }
 
-/// An adding operator, where it stands, and the term after it.
+/// An adding operator, its place, and the term after it.
 #[cycle(expression)]
 #[derive(Drop)]
 pub struct AddedTerm {
@@ -84,7 +85,7 @@ pub struct MultipliedFactor {
     pub factor: Factor,
 }
 
-/// A factor (6.7.1). Each but a variable begins at its span.
+/// A factor (6.7.1). Each kind but a variable begins at its span.
 #[cycle(expression)]
 #[derive(Drop)]
 pub enum Factor {
@@ -95,8 +96,8 @@ pub enum Factor {
     Nil(Span),
     /// The bracket, and the members.
     Set(Span, Items<Member>),
-    /// The outermost of parentheses that stand directly within one another, how many stand within it, and the
-    /// expression in the innermost. That is no group alone, so a text has one tree.
+    /// Of parentheses directly within one another: the outermost, how many are within it, and the expression in the
+    /// innermost. That is not itself a group, so a text has one tree.
     Group(Span, u32, Boxed<Expr>),
     Not(Span, Boxed<Factor>),
 }
@@ -113,7 +114,7 @@ pub struct Variable {
 #[cycle(expression)]
 #[derive(Drop)]
 pub enum Selector {
-    /// Several indices are those of arrays in one another.
+    /// Several indices are those of nested arrays.
     Index(Items<Expr>),
     Field(Span),
     /// The `^`.
@@ -128,7 +129,7 @@ pub enum Member {
     Range(Boxed<Expr>, Boxed<Expr>),
 }
 
-/// Where a part that a sign may stand before begins.
+/// Where a part that may have a sign in front begins.
 pub(crate) fn after_sign(sign: &Option<(Sign, Span)>, at: u32) -> u32
     ensures { result ≡ sign_or sign.now at }
 {

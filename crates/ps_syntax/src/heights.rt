@@ -1,7 +1,12 @@
 //! The height of a tree.
 
 ghost use Rattle.std.specs.Prelude.{◌≡◌, map, max, min};
-ghost use Rattle.ps_syntax.specs.Height.{greatest, height_of, height_of_expr, height_of_factor, height_of_member, height_of_selector, height_of_simple, height_of_term, height_of_added, height_of_multiplied, height_of_variable, height_of_parameter, height_of_statement, height_of_element, height_of_type, height_of_structure, height_of_fields, height_of_heading, height_of_formals, height_of_section, height_of_types, height_of_variables, height_of_routine, height_of_block};
+ghost use Rattle.ps_syntax.specs.Height.{greatest, height_of, height_of_expr, height_of_factor, height_of_member};
+ghost use Rattle.ps_syntax.specs.Height.{height_of_selector, height_of_simple, height_of_term, height_of_added};
+ghost use Rattle.ps_syntax.specs.Height.{height_of_multiplied, height_of_variable, height_of_parameter};
+ghost use Rattle.ps_syntax.specs.Height.{height_of_statement, height_of_element, height_of_type, height_of_structure};
+ghost use Rattle.ps_syntax.specs.Height.{height_of_fields, height_of_heading, height_of_formals, height_of_section};
+ghost use Rattle.ps_syntax.specs.Height.{height_of_types, height_of_variables, height_of_routine, height_of_block};
 
 use crate::expression::{
     AddedTerm, Expr, Factor, Member, MultipliedFactor, Selector, Simple, Term, Variable,
@@ -13,9 +18,9 @@ use crate::program::{
 use crate::statement::{Element, Parameter, Statement};
 use sqlite_items::Boxed;
 
-/// The height of a program's tree, or `u32::MAX` where it is higher: the greatest number of blocks,
-/// formal lists, types, index and base ordinals, statements, expressions and factors after `not` that
-/// lie one inside the other. Variables, terms, and the `begin` and `end` of a block don't count.
+/// The height of a program's tree, or `u32::MAX` where it is higher: the greatest number of blocks, formal lists,
+/// types, index and base ordinals, statements, expressions and factors after `not` that are nested in one another.
+/// Variables, terms, and the `begin` and `end` of a block don't count.
 pub fn height(program: &Program) -> u32
     ensures { result ≡ min (height_of program.now) u32.MAX }
 {
@@ -175,7 +180,7 @@ fn variables_height(variables: &[Variable]) -> u32
     most
 }
 
-/// The height of an expression, or that of what stands beside it where that is higher.
+/// The height of an expression, or that of what is beside it if that is higher.
 fn beside(expr: &Boxed<Expr>, other: u32) -> u32
     ensures { result ≡ max (min (height_of_expr expr.now) u32.MAX) other }
 {

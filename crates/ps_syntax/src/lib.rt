@@ -2,8 +2,8 @@
 //!
 //! Names, numbers and strings are spans of the text.
 //!
-//! Contracts see a tree as plain data: its lists are `Items` and its single children `Boxed`, which
-//! have no pointer and no capacity in their value, so that two trees that read alike are equal.
+//! Contracts see a tree as plain data: its lists are `Items` and its single children `Boxed`, whose values have no
+//! pointer and no capacity, so two trees that read alike are equal.
 #![tactic(auto)]
 
 mod expression;

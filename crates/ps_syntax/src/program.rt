@@ -7,7 +7,7 @@ use crate::statement::{Constant, Statement};
 use ps_text::Span;
 use sqlite_items::{Boxed, Items};
 
-/// A type of which the values have ordinals.
+/// A type whose values have ordinals.
 #[derive(Drop)]
 pub enum Ordinal {
     Name(Span),
@@ -32,7 +32,7 @@ pub enum TypeDenoter {
 #[cycle(ty)]
 #[derive(Drop)]
 pub enum Structure {
-    /// The `array`, the indices and the component. Several indices are those of arrays in one another.
+    /// The `array`, the indices and the component. Several indices are those of nested arrays.
     Array(Span, Items<Ordinal>, Boxed<TypeDenoter>),
     /// The `record`, and the fields.
     Record(Span, Items<Fields>),
@@ -78,7 +78,7 @@ pub enum Section {
     Routine(Heading),
 }
 
-/// The name, the formal parameters, and of a function the type of the result.
+/// The name, the formal parameters, and the result type of a function.
 #[cycle(heading)]
 #[derive(Drop)]
 pub enum Heading {

@@ -55,7 +55,7 @@ pub enum Statement {
     With(Items<Variable>, Boxed<Statement>),
 }
 
-/// The statement that some constants choose.
+/// The statement that some constants select.
 #[cycle(statement)]
 #[derive(Drop)]
 pub struct Element {

@@ -1,5 +1,6 @@
 -- The line ends before an offset, found in the list of all.
-use Rattle.std.proofs.Common.{◌≡◌, ℕ, zero, suc, ◌+◌, ◌<◌, ◌≤◌, Bool, true, false, cond, List, [], ◌∷◌, length, take, get_or, refl, arith, ◌∙◌, sym, ap}
+use Rattle.std.proofs.Common.{◌≡◌, ℕ, zero, suc, ◌+◌, ◌<◌, ◌≤◌, Bool, true, false, cond, List, [], ◌∷◌, length, take}
+use Rattle.std.proofs.Common.{get_or, refl, arith, ◌∙◌, sym, ap}
 use Rattle.std.proofs.lemmas.Bool.{ltb-false}
 use Rattle.std.proofs.lemmas.Bool.Decides.{Decides-ltb}
 use Rattle.std.proofs.lemmas.List.Sums.{sum_by-cons}
@@ -9,17 +10,20 @@ use Rattle.std.specs.Prelude.{nat_lt}
 use Rattle.ps_text.specs.declared.TheConstants.{MAX_LINES}
 use Rattle.ps_text.specs.Lines.{is_line_end, line_ends, IsSource}
 
--- no line end stands before the first byte
-first_or_later : (n d : ℕ) (es : List ℕ) (v : Bool) (i : ℕ) → ((j : ℕ) → j < length es → n + 1 ≤ get_or es j d) → i < length (cond v (n ∷ es) es) → n ≤ get_or (cond v (n ∷ es) es) i d
+-- no line end comes before the first byte
+first_or_later : (n d : ℕ) (es : List ℕ) (v : Bool) (i : ℕ) → ((j : ℕ) → j < length es → n + 1 ≤ get_or es j d)
+    → i < length (cond v (n ∷ es) es) → n ≤ get_or (cond v (n ∷ es) es) i d
 first_or_later n d es true zero later inside = omega arith
 first_or_later n d es true (suc i) later inside = omega (arith, later i (omega arith))
 first_or_later n d es false i later inside = omega (arith, later i inside)
 
 pub ends_from_first : (n : ℕ) (bs : List ℕ) (d i : ℕ) → i < length (line_ends n bs) → n ≤ get_or (line_ends n bs) i d
 ends_from_first n [] d i inside = absurd (omega arith)
-ends_from_first n (b ∷ bs) d i inside = first_or_later n d (line_ends (n + 1) bs) (is_line_end b) i (ends_from_first (n + 1) bs d) inside
+ends_from_first n (b ∷ bs) d i inside = first_or_later n d (line_ends (n + 1) bs) (is_line_end b) i
+    (ends_from_first (n + 1) bs d) inside
 
-rise_on : (n d : ℕ) (es : List ℕ) (v : Bool) (i j : ℕ) → ((k : ℕ) → k < length es → n + 1 ≤ get_or es k d) → ((i j : ℕ) → i ≤ j → j < length es → get_or es i d ≤ get_or es j d)
+rise_on : (n d : ℕ) (es : List ℕ) (v : Bool) (i j : ℕ) → ((k : ℕ) → k < length es → n + 1 ≤ get_or es k d)
+    → ((i j : ℕ) → i ≤ j → j < length es → get_or es i d ≤ get_or es j d)
     → i ≤ j → j < length (cond v (n ∷ es) es) → get_or (cond v (n ∷ es) es) i d ≤ get_or (cond v (n ∷ es) es) j d
 rise_on n d es true zero zero later rises le inside = omega arith
 rise_on n d es true zero (suc j) later rises le inside = omega (arith, later j (omega arith))
@@ -27,10 +31,12 @@ rise_on n d es true (suc i) zero later rises le inside = absurd (omega arith)
 rise_on n d es true (suc i) (suc j) later rises le inside = rises i j (omega arith) (omega arith)
 rise_on n d es false i j later rises le inside = rises i j le inside
 
-ends_rise_at : (n : ℕ) (bs : List ℕ) (d i j : ℕ) → i ≤ j → j < length (line_ends n bs) → get_or (line_ends n bs) i d ≤ get_or (line_ends n bs) j d
+ends_rise_at : (n : ℕ) (bs : List ℕ) (d i j : ℕ) → i ≤ j → j < length (line_ends n bs) → get_or
+    (line_ends n bs) i d ≤ get_or (line_ends n bs) j d
 ends_rise_at n [] d i j le inside = absurd (omega arith)
 ends_rise_at n (b ∷ bs) d i j le inside =
-    rise_on n d (line_ends (n + 1) bs) (is_line_end b) i j (ends_from_first (n + 1) bs d) (ends_rise_at (n + 1) bs d) le inside
+    rise_on n d (line_ends (n + 1) bs) (is_line_end b) i j (ends_from_first (n + 1) bs d)
+    (ends_rise_at (n + 1) bs d) le inside
 
 pub ends_rise : (n : ℕ) (bs : List ℕ) → IsNonDecreasing (line_ends n bs)
 ends_rise n bs i j d le inside = ends_rise_at n bs d i j le inside
@@ -44,9 +50,16 @@ pub record Parts (m r : ℕ) (es : List ℕ) : Type 0 where
 none_before : (n r : ℕ) (bs : List ℕ) → Parts (n + 0) r (line_ends n bs) → r ≡ 0
 none_before n zero bs parts = refl
 none_before n (suc r) bs parts =
-    absurd (omega (arith, parts.within, parts.before 0 (omega arith), ends_from_first n bs 0 0 (omega (arith, parts.within))))
+    absurd (omega (
+      arith,
+      parts.within,
+      parts.before 0 (omega arith),
+      ends_from_first n bs 0 0
+          (omega (arith, parts.within)),
+    ))
 
-count_on : (n k r count : ℕ) (es : List ℕ) (v : Bool) → ((q : ℕ) → Parts (n + 1 + k) q es → count ≡ q) → Parts (n + suc k) r (cond v (n ∷ es) es) → cond v 1 0 + count ≡ r
+count_on : (n k r count : ℕ) (es : List ℕ) (v : Bool) → ((q : ℕ) → Parts (n + 1 + k) q es → count ≡ q) → Parts
+    (n + suc k) r (cond v (n ∷ es) es) → cond v 1 0 + count ≡ r
 count_on n k zero count es true counted parts = absurd (omega (arith, parts.after 0 (omega arith) (omega arith)))
 count_on n k (suc r) count es true counted parts =
     let one : 1 + r ≡ suc r = omega arith in
@@ -68,10 +81,12 @@ count_is n zero r bs parts = let none = none_before n r bs parts in omega arith
 count_is n (suc k) r [] parts = omega (arith, parts.within)
 count_is n (suc k) r (b ∷ bs) parts =
     sum_by-cons (λ x. cond (is_line_end x) 1 0) b (take k bs)
-    ∙ count_on n k r (count_by is_line_end (take k bs)) (line_ends (n + 1) bs) (is_line_end b) (λ q. count_is (n + 1) k q bs) parts
+    ∙ count_on n k r (count_by is_line_end (take k bs)) (line_ends (n + 1) bs) (is_line_end b)
+    (λ q. count_is (n + 1) k q bs) parts
 
--- a search by bisection finds how many line ends come before an offset
-pub count_from_point : (bs : List ℕ) (k r : ℕ) → r ≤ length (line_ends 0 bs) → IsPartitionPoint (λ y. nat_lt y k ≡ true) (λ y. nat_lt y k ≡ false) (line_ends 0 bs) r
+-- a binary search finds how many line ends come before an offset
+pub count_from_point : (bs : List ℕ) (k r : ℕ) → r ≤ length (line_ends 0 bs) → IsPartitionPoint (λ y. nat_lt y k ≡ true)
+    (λ y. nat_lt y k ≡ false) (line_ends 0 bs) r
     → count_by is_line_end (take k bs) ≡ r
 count_from_point bs k r within point = count_is 0 k r bs (record {
   within = within;
@@ -86,7 +101,8 @@ length_on n es false = omega arith
 pub length-line_ends : (n : ℕ) (bs : List ℕ) → length (line_ends n bs) ≡ count_by is_line_end bs
 length-line_ends n [] = refl
 length-line_ends n (b ∷ bs) =
-    length_on n (line_ends (n + 1) bs) (is_line_end b) ∙ ap (λ z. cond (is_line_end b) 1 0 + z) (length-line_ends (n + 1) bs)
+    length_on n (line_ends (n + 1) bs) (is_line_end b) ∙ ap (λ z. cond (is_line_end b) 1 0 + z)
+    (length-line_ends (n + 1) bs)
     ∙ sym (sum_by-cons (λ x. cond (is_line_end x) 1 0) b bs)
 
 -- a text within the limits has fewer line ends than lines

@@ -11,10 +11,10 @@ use std::marker::Model;
 pub use table::{LineTable, OutOfMemory};
 use thiserror::Error;
 
-/// The most bytes that a text has.
+/// The greatest number of bytes in a text.
 pub const MAX_LENGTH: usize = 1_048_576;
 
-/// The most lines that a text has.
+/// The greatest number of lines in a text.
 pub const MAX_LINES: usize = 65_535;
 
 /// Byte 10, which ends a line.
@@ -27,13 +27,13 @@ pub struct Span {
     pub to: u32,
 }
 
-/// Why bytes are no source text.
+/// Why bytes are not a source text.
 #[derive(Clone, Copy, Debug, Error)]
 pub enum TextRefusal {
     /// The text has more than `MAX_LENGTH` bytes.
     #[error("TooLong")]
     TooLong,
-    /// The text has more than `MAX_LINES` lines. This is told of a text that isn't too long.
+    /// The text has more than `MAX_LINES` lines. This is reported only of a text that isn't too long.
     #[error("TooManyLines")]
     TooManyLines,
 }
@@ -50,7 +50,7 @@ impl TextRefusal {
     }
 }
 
-/// A source text: lent bytes within the limits. A contract sees it as the list of its bytes.
+/// A source text: borrowed bytes within the limits. A contract sees it as the list of its bytes.
 #[derive(Drop)]
 pub struct Source<'a> {
     bytes: &'a [u8],
@@ -65,7 +65,7 @@ impl<'a> Model for Source<'a> {
 }
 
 impl<'a> Source<'a> {
-    /// The text of these bytes. It takes no memory.
+    /// The text of these bytes. It allocates nothing.
     pub fn new(bytes: &'a [u8]) -> Result<Source<'a>, TextRefusal>
         ensures source { IfOk result (λ source. source ≡ bytes.now) }
         ensures accepted { IsOk result ↔ IsSource bytes.now }
@@ -82,7 +82,7 @@ impl<'a> Source<'a> {
         Ok(Source { bytes })
     }
 
-    /// How many bytes the text has.
+    /// The length of the text, in bytes.
     pub fn len(&self) -> u32
         ensures length { result ≡ length self.now }
         ensures limits { IsSource self.now }
@@ -90,7 +90,7 @@ impl<'a> Source<'a> {
         self.bytes.len() as u32
     }
 
-    /// Whether the text has no byte.
+    /// Whether the text is empty.
     pub fn is_empty(&self) -> bool
         ensures { IsTrue result ↔ (length self.now ≡ 0) }
     {
@@ -114,7 +114,7 @@ impl<'a> Source<'a> {
         &self.bytes[span.from as usize..span.to as usize]
     }
 
-    /// The line of an offset, from 1 on: 1 plus the bytes 10 before it.
+    /// The line of an offset, counted from 1: 1 plus the number of bytes 10 before it.
     pub fn line_of(&self, offset: u32) -> u32
         requires { offset ≤ length self.now }
         ensures line { result ≡ line_at self.now offset }
@@ -124,7 +124,7 @@ impl<'a> Source<'a> {
     }
 }
 
-/// How many lines the bytes have.
+/// The number of lines in the bytes.
 fn lines_of(bytes: &[u8]) -> u32
     requires { length bytes.now ≤ MAX_LENGTH }
     ensures { result ≡ line_count bytes.now }

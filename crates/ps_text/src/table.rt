@@ -9,11 +9,11 @@ use crate::Source;
 use std::alloc::{AllocError, Global};
 use std::marker::Model;
 
-/// A growth was refused.
+/// The allocator refused memory.
 pub type OutOfMemory = AllocError;
 
-/// A text of which the offsets of all line ends are at hand, for many questions about lines. A contract sees it as the
-/// list of the text's bytes.
+/// A text with the offsets of all its line ends, for many questions about lines. A contract sees it as the list of the
+/// text's bytes.
 #[derive(Drop)]
 pub struct LineTable<'a> {
     text: &'a [u8],
@@ -38,7 +38,7 @@ impl<'a> LineTable<'a> {
         Ok(LineTable { text, ends })
     }
 
-    /// The line of an offset, as `Source::line_of` tells it.
+    /// The line of an offset, the same as `Source::line_of` gives.
     pub fn line_of(&self, offset: u32) -> u32
         requires { offset ≤ length self.now }
         ensures line { result ≡ line_at self.now offset }
@@ -48,11 +48,12 @@ impl<'a> LineTable<'a> {
     }
 }
 
-/// How many of the offsets, which rise, come before another.
+/// The number of offsets, which are in rising order, that come before another.
 fn count_before(ends: &[u32], offset: u32) -> u32
     requires rise { IsNonDecreasing ends.now }
     requires few { length ends.now < MAX_LINES }
-    ensures point { IsPartitionPoint (λ end. nat_lt end offset ≡ true) (λ end. nat_lt end offset ≡ false) ends.now result }
+    ensures point { IsPartitionPoint (λ end. nat_lt end offset ≡ true)
+        (λ end. nat_lt end offset ≡ false) ends.now result }
     ensures within { result ≤ length ends.now }
 {
     ends.partition_point(|end| *end < offset) as u32

@@ -1,8 +1,8 @@
--- Bytes with zeros behind them.
+-- Bytes padded with zeros.
 use Rattle.std.proofs.Common.{◌≡◌, ℕ, ◌-◌, ◌≤◌, ◌%◌, List, [], ◌∷◌, ◌++◌, length, take, refl, ap, ◌∙◌, arith}
 use Rattle.ps_tree.specs.Characters.{filled}
 
--- zeros behind so many bytes, up to whole words
+-- zeros after the given number of bytes, up to whole words
 abbrev pub zeros : ℕ → List ℕ
 zeros n = take ((4 - n % 4) % 4) (0 ∷ 0 ∷ 0 ∷ [])
 
@@ -15,7 +15,7 @@ filled_is (a ∷ b ∷ c ∷ d ∷ rest) =
     let k : (4 - length (a ∷ b ∷ c ∷ d ∷ rest) % 4) % 4 ≡ (4 - length rest % 4) % 4 = omega arith in
     ap (λ n. a ∷ b ∷ c ∷ d ∷ (rest ++ take n (0 ∷ 0 ∷ 0 ∷ []))) k ∙ ap (λ l. a ∷ b ∷ c ∷ d ∷ l) (filled_is rest)
 
--- the bytes that were filled stand before the zeros
+-- the bytes that were filled come before the zeros
 pub filled_from : (l : List ℕ) → take (length l) (filled l) ≡ l
 filled_from [] = refl
 filled_from (a ∷ []) = refl

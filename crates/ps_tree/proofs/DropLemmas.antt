@@ -1,5 +1,6 @@
 -- What is left when a type is taken out of some is no deeper.
-use Rattle.std.proofs.Common.{◌≡◌, ℕ, zero, suc, ◌+◌, ◌*◌, ◌-◌, ◌<◌, ◌≤◌, List, [], ◌∷◌, length, take, slice_set, slice_index_or, subst, sym, ap, arith}
+use Rattle.std.proofs.Common.{◌≡◌, ℕ, zero, suc, ◌+◌, ◌*◌, ◌-◌, ◌<◌, ◌≤◌, List, [], ◌∷◌, length, take, slice_set}
+use Rattle.std.proofs.Common.{slice_index_or, subst, sym, ap, arith}
 use Rattle.std.specs.List.{swap_remove}
 use denote.Param.Weighed.{most, at_most}
 use Rattle.ps_tree.specs.declared.types.Ty.{Ty}
@@ -19,16 +20,21 @@ module _ {X : Type 0} (f : X → ℕ) where
   most-set : (xs : List X) (i : ℕ) (y : X) (n : ℕ) → f y ≤ n → most f xs ≤ n → most f (slice_set xs i y) ≤ n
   most-set [] i y n p q = q
   most-set (x ∷ xs) zero y n p q = omega arith
-  most-set (x ∷ xs) (suc i) y n p q = let h : most f (slice_set xs i y) ≤ n = most-set xs i y n p (omega arith) in omega arith
+  most-set (x ∷ xs) (suc i) y n p q = let h : most f (slice_set xs i y) ≤ n = most-set xs i y n p (omega arith)
+      in omega arith
 
   most-removed : (xs : List X) (i : ℕ) (d : X) → i < length xs → most f (swap_remove xs i d) ≤ most f xs
   most-removed xs i d p =
       let last : f (slice_index_or xs (length xs - 1) d) ≤ most f xs = at_most f xs (length xs - 1) d (omega arith) in
-      let set : most f (slice_set xs i (slice_index_or xs (length xs - 1) d)) ≤ most f xs = most-set xs i (slice_index_or xs (length xs - 1) d) (most f xs) last (omega arith) in
-      let h : most f (take (length xs - 1) (slice_set xs i (slice_index_or xs (length xs - 1) d))) ≤ most f (slice_set xs i (slice_index_or xs (length xs - 1) d)) = most-take (length xs - 1) (slice_set xs i (slice_index_or xs (length xs - 1) d)) in
+      let set : most f (slice_set xs i (slice_index_or xs (length xs - 1) d)) ≤ most f xs = most-set xs i
+      (slice_index_or xs (length xs - 1) d) (most f xs) last (omega arith) in
+      let h : most f (take (length xs - 1) (slice_set xs i (slice_index_or xs (length xs - 1) d))) ≤ most f
+      (slice_set xs i (slice_index_or xs (length xs - 1) d)) = most-take (length xs - 1)
+      (slice_set xs i (slice_index_or xs (length xs - 1) d)) in
       omega arith
 
-pub deepest_left : (ts new : List Ty) (i : ℕ) (t : Ty) → i < length ts → new ≡ swap_remove ts i t → deepest new ≤ deepest ts
+pub deepest_left : (ts new : List Ty) (i : ℕ) (t : Ty) → i < length ts → new ≡ swap_remove ts i t
+    → deepest new ≤ deepest ts
 deepest_left ts new i t p e = subst (λ l. deepest l ≤ deepest ts) (sym e) (most-removed size-Ty ts i t p)
 
 pub deepest_taken : (ts : List Ty) (i : ℕ) (t : Ty) → i < length ts → t ≡ slice_index_or ts i t → size-Ty t ≤ deepest ts
@@ -53,6 +59,7 @@ unfolding depth
 in_types [] = omega arith
 in_types (t ∷ ts) = omega (arith, in_type t, in_types ts)
 
-pub deepest_of_fields : (names : List (List ℕ)) (ts : List Ty) (fields : FieldList) → fields ≡ field_list names (types_of ts) → deepest ts ≤ 2 * depth_of_fields fields + 1
+pub deepest_of_fields : (names : List (List ℕ)) (ts : List Ty) (fields : FieldList) → fields ≡ field_list names
+    (types_of ts) → deepest ts ≤ 2 * depth_of_fields fields + 1
 unfolding depth
 deepest_of_fields names ts fields e = subst (λ f. deepest ts ≤ 2 * depth_of_fields f + 1) (sym e) (in_types ts)

@@ -1,10 +1,15 @@
 -- Loops that add up the extents of a list's items.
-use Rattle.std.proofs.Common.{◌≡◌, ℕ, suc, map, ◌+◌, ◌<◌, ◌≤◌, List, [], ◌∷◌, length, drop, get_or, refl, sym, ap, ◌∙◌, arith}
+use Rattle.std.proofs.Common.{◌≡◌, ℕ, suc, map, ◌+◌, ◌<◌, ◌≤◌, List, [], ◌∷◌, length, drop, get_or, refl, sym, ap, ◌∙◌}
+use Rattle.std.proofs.Common.{arith}
 use Rattle.std.proofs.Math.Seq.{drop-cons}
 use Rattle.std.proofs.lemmas.List.{drop_all}
 use Rattle.ps_tree.specs.declared.count.Extent.{Extent}
-use Rattle.ps_tree.specs.Counts.{◌⊕◌, nothing, capped, argument_extent, arguments_extent, member_extent, members_extent, place_extent, selector_extent, selectors_extent, expr_extent, arithmetic_extent, operands_extent, set_extent, set_steps_extent, node, places_extent, read_extent, reads_extent, write_extent, writes_extent}
-use Rattle.ps_tree.specs.View.{argument_of, arguments_of, member_of, members_of, place_of, selector_of, selectors_of, expr_of, arithmetic_of, operands_of, set_of, set_steps_of, read_of, write_of}
+use Rattle.ps_tree.specs.Counts.{◌⊕◌, nothing, capped, argument_extent, arguments_extent, member_extent}
+use Rattle.ps_tree.specs.Counts.{members_extent, place_extent, selector_extent, selectors_extent, expr_extent}
+use Rattle.ps_tree.specs.Counts.{arithmetic_extent, operands_extent, set_extent, set_steps_extent, node, places_extent}
+use Rattle.ps_tree.specs.Counts.{read_extent, reads_extent, write_extent, writes_extent}
+use Rattle.ps_tree.specs.View.{argument_of, arguments_of, member_of, members_of, place_of, selector_of, selectors_of}
+use Rattle.ps_tree.specs.View.{expr_of, arithmetic_of, operands_of, set_of, set_steps_of, read_of, write_of}
 use Rattle.ps_tree.specs.declared.tree.Argument.{Argument}
 use Rattle.ps_tree.specs.declared.tree.Member.{Member}
 use Rattle.ps_tree.specs.declared.tree.Place.{Place}
@@ -15,7 +20,13 @@ use Rattle.ps_tree.specs.declared.tree.SetStep.{SetStep, out-SetStep}
 use Rattle.ps_tree.specs.declared.tree.ReadVariable.{ReadVariable}
 use Rattle.ps_tree.specs.declared.tree.WriteParameter.{WriteParameter}
 
-extent_eq : (m n p q : ℕ) → m ≡ p → n ≡ q → let a : Extent = record { nodes = m; taken = n } in let b : Extent = record { nodes = p; taken = q } in a ≡ b
+extent_eq : (m n p q : ℕ) → m ≡ p → n ≡ q → let a : Extent = record {
+  nodes = m;
+  taken = n;
+} in let b : Extent = record {
+  nodes = p;
+  taken = q;
+} in a ≡ b
 extent_eq m n p q e f = cc
 
 assoc : (a b c : Extent) → (a ⊕ b) ⊕ c ≡ a ⊕ (b ⊕ c)
@@ -30,10 +41,15 @@ pub record Summed {A : Type 0} (size : List A → Extent) (start : Extent) (item
   pub told : total ≡ capped so_far
   pub left : so_far ⊕ size (drop i items) ≡ start ⊕ size items
 
-pub summed_start : {A : Type 0} (size : List A → Extent) (start : Extent) (items : List A) (total : Extent) → total ≡ capped start → Summed size start items 0 total
+pub summed_start : {A : Type 0} (size : List A → Extent) (start : Extent) (items : List A) (total : Extent) → total
+    ≡ capped start → Summed size start items 0 total
 summed_start size start items total e = record { so_far = start; told = e; left = refl }
 
-pub summed_next : {A : Type 0} (size : List A → Extent) (one : A → Extent) → ((x : A) (xs : List A) → size (x ∷ xs) ≡ one x ⊕ size xs) → (start : Extent) (items : List A) (i : ℕ) (total item next : Extent) (d : A) → i < length items → Summed size start items i total → item ≡ capped (one (get_or items i d)) → ((x y : Extent) → total ≡ capped x → item ≡ capped y → next ≡ capped (x ⊕ y)) → Summed size start items (i + 1) next
+pub summed_next : {A : Type 0} (size : List A → Extent) (one : A → Extent)
+    → ((x : A) (xs : List A) → size (x ∷ xs) ≡ one x ⊕ size xs) → (start : Extent) (items : List A) (i : ℕ)
+    (total item next : Extent) (d : A) → i < length items → Summed size start items i total → item ≡ capped
+    (one (get_or items i d)) → ((x y : Extent) → total ≡ capped x → item ≡ capped y → next ≡ capped (x ⊕ y))
+    → Summed size start items (i + 1) next
 summed_next size one law start items i total item next d h s e f = record {
   so_far = s.so_far ⊕ one (get_or items i d);
   told = f s.so_far (one (get_or items i d)) s.told e;
@@ -45,15 +61,19 @@ summed_next size one law start items i total item next d h s e f = record {
       ∙ s.left;
 }
 
-pub summed_end : {A : Type 0} (size : List A → Extent) → size [] ≡ nothing → (start : Extent) (items : List A) (i : ℕ) (total : Extent) → length items ≤ i → Summed size start items i total → total ≡ capped (start ⊕ size items)
+pub summed_end : {A : Type 0} (size : List A → Extent) → size [] ≡ nothing → (start : Extent) (items : List A) (i : ℕ)
+    (total : Extent) → length items ≤ i → Summed size start items i total → total ≡ capped (start ⊕ size items)
 summed_end size none start items i total h s =
-    s.told ∙ ap capped (sym (nothing_right s.so_far) ∙ ap (λ x. s.so_far ⊕ x) (sym none) ∙ ap (λ l. s.so_far ⊕ size l) (sym (drop_all i items h)) ∙ s.left)
+    s.told ∙ ap capped (sym (nothing_right s.so_far) ∙ ap (λ x. s.so_far ⊕ x) (sym none) ∙ ap (λ l. s.so_far ⊕ size l)
+    (sym (drop_all i items h)) ∙ s.left)
 
 nothing_left : (a : Extent) → nothing ⊕ a ≡ a
 nothing_left a = extent_eq _ _ _ _ (omega arith) (omega arith)
 
-pub summed_all : {A : Type 0} (size : List A → Extent) → size [] ≡ nothing → (items : List A) (i : ℕ) (total : Extent) → length items ≤ i → Summed size nothing items i total → total ≡ capped (size items)
-summed_all size none items i total h s = summed_end size none nothing items i total h s ∙ ap capped (nothing_left (size items))
+pub summed_all : {A : Type 0} (size : List A → Extent) → size [] ≡ nothing → (items : List A) (i : ℕ) (total : Extent)
+    → length items ≤ i → Summed size nothing items i total → total ≡ capped (size items)
+summed_all size none items i total h s = summed_end size none nothing items i total h s ∙ ap capped
+    (nothing_left (size items))
 
 -- the arguments of a call
 abbrev pub arguments_size : List Argument → Extent
@@ -63,7 +83,8 @@ pub arguments_none : arguments_size [] ≡ nothing
 unfolding arguments_extent arguments_of
 arguments_none = refl
 
-pub arguments_more : (x : Argument) (xs : List Argument) → arguments_size (x ∷ xs) ≡ argument_extent (argument_of x) ⊕ arguments_size xs
+pub arguments_more : (x : Argument) (xs : List Argument) → arguments_size (x ∷ xs) ≡ argument_extent (argument_of x)
+    ⊕ arguments_size xs
 unfolding arguments_extent arguments_of
 arguments_more x xs = refl
 
@@ -75,7 +96,8 @@ pub members_none : members_size [] ≡ nothing
 unfolding members_extent members_of
 members_none = refl
 
-pub members_more : (x : Member) (xs : List Member) → members_size (x ∷ xs) ≡ member_extent (member_of x) ⊕ members_size xs
+pub members_more : (x : Member) (xs : List Member) → members_size (x ∷ xs) ≡ member_extent (member_of x)
+    ⊕ members_size xs
 unfolding members_extent members_of
 members_more x xs = refl
 
@@ -90,7 +112,8 @@ pub selectors_none : selectors_size [] ≡ nothing
 unfolding selectors_extent selectors_of
 selectors_none = refl
 
-pub selectors_more : (x : Selector) (xs : List Selector) → selectors_size (x ∷ xs) ≡ selector_extent (selector_of x) ⊕ selectors_size xs
+pub selectors_more : (x : Selector) (xs : List Selector) → selectors_size (x ∷ xs) ≡ selector_extent (selector_of x)
+    ⊕ selectors_size xs
 unfolding selectors_extent selectors_of
 selectors_more x xs = refl
 
@@ -105,7 +128,8 @@ pub arithmetic_none : arithmetic_size [] ≡ nothing
 unfolding arithmetic_extent arithmetic_of
 arithmetic_none = refl
 
-pub arithmetic_more : (x : ArithmeticStep) (xs : List ArithmeticStep) → arithmetic_size (x ∷ xs) ≡ arithmetic_one x ⊕ arithmetic_size xs
+pub arithmetic_more : (x : ArithmeticStep) (xs : List ArithmeticStep) → arithmetic_size (x ∷ xs) ≡ arithmetic_one x
+    ⊕ arithmetic_size xs
 unfolding arithmetic_extent arithmetic_of
 arithmetic_more x xs = refl
 
@@ -155,7 +179,8 @@ pub reads_none : reads_size [] ≡ nothing
 unfolding reads_extent
 reads_none = refl
 
-pub reads_more : (x : ReadVariable) (xs : List ReadVariable) → reads_size (x ∷ xs) ≡ read_extent (read_of x) ⊕ reads_size xs
+pub reads_more : (x : ReadVariable) (xs : List ReadVariable) → reads_size (x ∷ xs) ≡ read_extent (read_of x)
+    ⊕ reads_size xs
 unfolding reads_extent
 reads_more x xs = refl
 
@@ -166,6 +191,7 @@ pub writes_none : writes_size [] ≡ nothing
 unfolding writes_extent
 writes_none = refl
 
-pub writes_more : (x : WriteParameter) (xs : List WriteParameter) → writes_size (x ∷ xs) ≡ write_extent (write_of x) ⊕ writes_size xs
+pub writes_more : (x : WriteParameter) (xs : List WriteParameter) → writes_size (x ∷ xs) ≡ write_extent (write_of x)
+    ⊕ writes_size xs
 unfolding writes_extent
 writes_more x xs = refl

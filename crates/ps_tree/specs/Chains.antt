@@ -1,13 +1,16 @@
--- The chains of the checked tree: a variable's selectors (6.5), and operators of one kind with their operands (6.7.2), from left to right.
--- What comes next goes to the end of the chain that stands before it, so `(a + b) + c` and `a + b + c` are one chain of two steps.
+-- The chains of the checked tree: a variable's selectors (6.5), and operators of one kind with their operands (6.7.2),
+-- from left to right. What comes next is added at the end of the chain before it, so `(a + b) + c` and `a + b + c` are
+-- one chain of two steps.
 use Rattle.std.specs.Prelude.{ℕ}
 use Rattle.ps_tree.specs.declared.tree.ArithmeticOperator.{ArithmeticOperator}
 use Rattle.ps_tree.specs.declared.tree.BooleanOperator.{BooleanOperator}
 use Rattle.ps_tree.specs.declared.tree.BooleanOperator.TheVariants.{And, Or}
 use Rattle.ps_tree.specs.declared.tree.SetOperator.{SetOperator}
-use Rattle.ps_tree.specs.Tree.{Place, Variable, Selector, Selectors, no_selector, selector_before, ArithmeticSteps, no_arithmetic_step, arithmetic_step_before, Operands, no_operand, operand_before, SetSteps, no_set_step, set_step_before, Expr, Arithmetic, Logic, SetExpr, Combine}
+use Rattle.ps_tree.specs.Tree.{Place, Variable, Selector, Selectors, no_selector, selector_before, ArithmeticSteps}
+use Rattle.ps_tree.specs.Tree.{no_arithmetic_step, arithmetic_step_before, Operands, no_operand, operand_before}
+use Rattle.ps_tree.specs.Tree.{SetSteps, no_set_step, set_step_before, Expr, Arithmetic, Logic, SetExpr, Combine}
 
--- ---- variables: a selector behind the others
+-- ---- variables: a selector after the others
 
 unfoldable pub selector_after : Selectors → Selector → Selectors
 selector_after no_selector s = selector_before s no_selector
@@ -20,7 +23,8 @@ selected (Variable base selectors) s = Variable base (selector_after selectors s
 
 unfoldable pub arithmetic_step_after : ArithmeticSteps → ArithmeticOperator → Expr → ℕ → ArithmeticSteps
 arithmetic_step_after no_arithmetic_step operator e line = arithmetic_step_before operator e line no_arithmetic_step
-arithmetic_step_after (arithmetic_step_before p first n rest) operator e line = arithmetic_step_before p first n (arithmetic_step_after rest operator e line)
+arithmetic_step_after (arithmetic_step_before p first n rest) operator e line = arithmetic_step_before p first n
+    (arithmetic_step_after rest operator e line)
 
 unfoldable pub calculated : ArithmeticOperator → ℕ → Expr → Expr → Expr
 calculated operator line (Arithmetic first steps) e = Arithmetic first (arithmetic_step_after steps operator e line)

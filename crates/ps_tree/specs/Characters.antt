@@ -1,7 +1,7 @@
 -- Strings as constants of the code.
 use Rattle.std.specs.Prelude.{ℕ, List, [], ◌∷◌}
 
--- bytes with zeros behind them, up to whole words
+-- bytes padded with zeros to whole words
 abbrev pub filled : List ℕ → List ℕ
 filled [] = []
 filled (a ∷ []) = a ∷ 0 ∷ 0 ∷ 0 ∷ []

@@ -1,4 +1,4 @@
--- What a checked program is seen as.
+-- The view of a checked program.
 use Rattle.std.specs.Prelude.{List}
 use Rattle.ps_tree.specs.declared.tree.Routine.{Routine}
 use Rattle.ps_tree.specs.declared.types.Ty.{Ty}
@@ -10,6 +10,6 @@ pub record Parts : Type 0 where
   pub routines : List Routine
   pub domains : List Ty
 
--- the program that they stand for
+-- the program that they denote
 abbrev pub program_in : Parts → Program
 program_in parts = program_of parts.routines parts.domains

@@ -1,13 +1,28 @@
 -- The nodes and cells of a routine, and the limits that a checked program keeps (this project's limits).
-use Rattle.std.specs.Prelude.{ℕ, ◌+◌, ◌-◌, ◌^◌, min, Bool, true, ◌&&◌, nat_le, List, [], ◌∷◌, length, Option, Some, None}
+use Rattle.std.specs.Prelude.{ℕ, ◌+◌, ◌-◌, ◌^◌, min, Bool, true, ◌&&◌, nat_le, List, [], ◌∷◌, length, Option, Some}
+use Rattle.std.specs.Prelude.{None}
 use Rattle.ps_tree.specs.declared.count.Extent.{Extent}
 use Rattle.ps_tree.specs.Types.{DataType}
 use Rattle.ps_tree.specs.Sizes.{cells}
-use Rattle.ps_tree.specs.Tree.{Place, Variable, Selector, Element, Field, Target, Selectors, no_selector, selector_before, ArithmeticSteps, no_arithmetic_step, arithmetic_step_before, Operands, no_operand, operand_before, SetSteps, no_set_step, set_step_before, Expr, Number, Nil, Load, Plus, Minus, Not, Arithmetic, Logic, Compare, ComparePointers, CompareSets, CompareStrings, In, Apply, Eof, Eoln, Call, CallFormal, SetExpr, LoadSet, Constructor, Combine, Member, One, Several, Members, no_member, member_before, Structure, Literal, Contents, Argument, ByValue, BySet, ByCopy, ByVariable, ByRoutine, ByFormal, Arguments, no_argument, argument_before, ReadVariable, ReadChar, ReadInteger, Width, DefaultWidth, GivenWidth, WriteParameter, WriteInteger, WriteChar, WriteBoolean, WriteText, Statement, Empty, Assign, AssignSet, AssignStructure, CallProcedure, CallFormalProcedure, Compound, If, IfElse, Case, While, Repeat, For, With, New, Pack, Unpack, Read, Readln, Write, Writeln, Statements, no_statement, statement_before, Elements, no_element, element_before, Formal, ValueFormal, VariableFormal, RoutineFormal, Formals, no_formal, formal_before, Routine, Program}
+use Rattle.ps_tree.specs.Tree.{Place, Variable, Selector, Element, Field, Target, Selectors, no_selector}
+use Rattle.ps_tree.specs.Tree.{selector_before, ArithmeticSteps, no_arithmetic_step, arithmetic_step_before, Operands}
+use Rattle.ps_tree.specs.Tree.{no_operand, operand_before, SetSteps, no_set_step, set_step_before, Expr, Number, Nil}
+use Rattle.ps_tree.specs.Tree.{Load, Plus, Minus, Not, Arithmetic, Logic, Compare, ComparePointers, CompareSets}
+use Rattle.ps_tree.specs.Tree.{CompareStrings, In, Apply, Eof, Eoln, Call, CallFormal, SetExpr, LoadSet, Constructor}
+use Rattle.ps_tree.specs.Tree.{Combine, Member, One, Several, Members, no_member, member_before, Structure, Literal}
+use Rattle.ps_tree.specs.Tree.{Contents, Argument, ByValue, BySet, ByCopy, ByVariable, ByRoutine, ByFormal, Arguments}
+use Rattle.ps_tree.specs.Tree.{no_argument, argument_before, ReadVariable, ReadChar, ReadInteger, Width, DefaultWidth}
+use Rattle.ps_tree.specs.Tree.{GivenWidth, WriteParameter, WriteInteger, WriteChar, WriteBoolean, WriteText, Statement}
+use Rattle.ps_tree.specs.Tree.{Empty, Assign, AssignSet, AssignStructure, CallProcedure, CallFormalProcedure, Compound}
+use Rattle.ps_tree.specs.Tree.{If, IfElse, Case, While, Repeat, For, With, New, Pack, Unpack, Read, Readln, Write}
+use Rattle.ps_tree.specs.Tree.{Writeln, Statements, no_statement, statement_before, Elements, no_element}
+use Rattle.ps_tree.specs.Tree.{element_before, Formal, ValueFormal, VariableFormal, RoutineFormal, Formals, no_formal}
+use Rattle.ps_tree.specs.Tree.{formal_before, Routine, Program}
 
--- An extent is how many nodes a part of the tree has, and how many cells its variables take, and the copies of arrays and records that its calls make.
--- Nodes are statements (empty ones too), operators and leading signs, operands (numbers, strings, nil, variables, calls, set constructors),
--- selectors, actual parameters, write parameters and set members.
+-- An extent is the number of nodes in a part of the tree, and of cells for its variables and for the copies of arrays
+-- and records that its calls make. Nodes are statements (empty ones too), operators and leading signs, operands
+-- (numbers, strings, nil, variables, calls, set constructors), selectors, actual parameters, write parameters and set
+-- members.
 abbrev pub nothing : Extent
 nothing = record { nodes = 0; taken = 0 }
 
@@ -21,7 +36,7 @@ infixl 6 ◌⊕◌
 abbrev pub ◌⊕◌ : Extent → Extent → Extent
 a ⊕ b = record { nodes = a.nodes + b.nodes; taken = a.taken + b.taken }
 
--- an extent that is told up to the largest number of eight bytes
+-- an extent given up to the largest number of eight bytes
 abbrev pub capped : Extent → Extent
 capped a = record { nodes = min a.nodes (2 ^ 64 - 1); taken = min a.taken (2 ^ 64 - 1) }
 
@@ -143,12 +158,15 @@ unfoldable mutual
   statement_extent (While e s) = node ⊕ expr_extent e ⊕ statement_extent s
   statement_extent (Repeat body e) = node ⊕ statements_extent body ⊕ expr_extent e
   -- the name of the control variable is an operand
-  statement_extent (For variable low high a from_line direction b to_line s) = node ⊕ (node ⊕ expr_extent a) ⊕ expr_extent b ⊕ statement_extent s
+  statement_extent (For variable low high a from_line direction b to_line s) = node ⊕ (node ⊕ expr_extent a)
+      ⊕ expr_extent b ⊕ statement_extent s
   statement_extent (With places s) = node ⊕ places_extent places ⊕ statement_extent s
   -- with one actual parameter, and with three
   statement_extent (New p pointer line) = node ⊕ node ⊕ place_extent p
-  statement_extent (Pack p from_type e line q to_type) = node ⊕ (node ⊕ place_extent p) ⊕ (node ⊕ expr_extent e) ⊕ (node ⊕ place_extent q)
-  statement_extent (Unpack p from_type q to_type e line) = node ⊕ (node ⊕ place_extent p) ⊕ (node ⊕ place_extent q) ⊕ (node ⊕ expr_extent e)
+  statement_extent (Pack p from_type e line q to_type) = node ⊕ (node ⊕ place_extent p) ⊕ (node ⊕ expr_extent e)
+      ⊕ (node ⊕ place_extent q)
+  statement_extent (Unpack p from_type q to_type e line) = node ⊕ (node ⊕ place_extent p) ⊕ (node ⊕ place_extent q)
+      ⊕ (node ⊕ expr_extent e)
   statement_extent (Read variables) = node ⊕ reads_extent variables
   statement_extent (Readln variables line) = node ⊕ reads_extent variables
   statement_extent (Write parameters) = node ⊕ writes_extent parameters
@@ -183,7 +201,8 @@ result_extent (Some type) = copy_of type
 
 -- of a routine's own block and heading: its formal parameters, its result, its variables and its statements
 unfoldable pub routine_extent : Routine → Extent
-routine_extent r = formals_extent r.formals ⊕ result_extent r.result ⊕ variables_extent r.variables ⊕ statements_extent r.body
+routine_extent r = formals_extent r.formals ⊕ result_extent r.result ⊕ variables_extent r.variables
+    ⊕ statements_extent r.body
 
 abbrev pub routine_nodes : Routine → ℕ
 routine_nodes r = (routine_extent r).nodes
@@ -207,7 +226,8 @@ unfoldable mutual
   pub is_small_formal : Formal → Bool
   is_small_formal (ValueFormal type) = is_small type
   is_small_formal (VariableFormal type) = is_small type
-  is_small_formal (RoutineFormal formals result) = is_short formals && are_small_formals formals && is_small_result result
+  is_small_formal (RoutineFormal formals result) = is_short formals && are_small_formals formals
+      && is_small_result result
 
   pub are_small_formals : Formals → Bool
   are_small_formals no_formal = true
@@ -217,9 +237,12 @@ unfoldable pub are_small : List DataType → Bool
 are_small [] = true
 are_small (type ∷ rest) = is_small type && are_small rest
 
--- nested at most 15 deep within the program block, its heading and its variables as above, at most 100,000 cells and 4,194,304 nodes
+-- nested at most 15 deep within the program block, its heading and its variables as above, at most 100,000 cells and
+-- 4,194,304 nodes
 unfoldable pub is_routine_within_limits : Routine → Bool
-is_routine_within_limits r = nat_le (length r.chain) 16 && is_short r.formals && are_small_formals r.formals && is_small_result r.result && are_small r.variables && nat_le (routine_cells r) 100000 && nat_le (routine_nodes r) 4194304
+is_routine_within_limits r = nat_le (length r.chain) 16 && is_short r.formals && are_small_formals r.formals
+    && is_small_result r.result && are_small r.variables && nat_le (routine_cells r) 100000 && nat_le
+    (routine_nodes r) 4194304
 
 unfoldable pub are_routines_within_limits : List Routine → Bool
 are_routines_within_limits [] = true
@@ -227,4 +250,5 @@ are_routines_within_limits (r ∷ rest) = is_routine_within_limits r && are_rout
 
 -- with at most 1,048,576 routines and pointer types
 unfoldable pub is_within_limits : Program → Bool
-is_within_limits p = nat_le (length p.routines) 1048576 && nat_le (length p.domains) 1048576 && are_small p.domains && are_routines_within_limits p.routines
+is_within_limits p = nat_le (length p.routines) 1048576 && nat_le (length p.domains) 1048576 && are_small p.domains
+    && are_routines_within_limits p.routines

@@ -1,13 +1,16 @@
 -- The size of a type's variables, in cells and in bytes (this project's format).
-use Rattle.std.specs.Prelude.{ℕ, zero, suc, max, min, ◌+◌, ◌*◌, ◌/◌, pos, ◌-ℤ◌, unsigned_abs, int_lt, int_le, Bool, false, ◌&&◌, if◌then◌else◌, List, [], ◌∷◌}
+use Rattle.std.specs.Prelude.{ℕ, zero, suc, max, min, ◌+◌, ◌*◌, ◌/◌, pos, ◌-ℤ◌, unsigned_abs, int_lt, int_le, Bool}
+use Rattle.std.specs.Prelude.{false, ◌&&◌, if◌then◌else◌, List, [], ◌∷◌}
 use Rattle.ps_tree.specs.declared.types.Ordinal.{Ordinal}
-use Rattle.ps_tree.specs.Types.{DataType, OrdinalType, PointerType, NilType, SetType, EmptySetType, TextType, ArrayType, RecordType, FieldList, field_list, DataTypes, no_type, type_before}
+use Rattle.ps_tree.specs.Types.{DataType, OrdinalType, PointerType, NilType, SetType, EmptySetType, TextType}
+use Rattle.ps_tree.specs.Types.{ArrayType, RecordType, FieldList, field_list, DataTypes, no_type, type_before}
 
 -- the number of values of an ordinal type
 abbrev pub value_count : Ordinal → ℕ
 value_count o = if int_lt o.high o.low then 0 else unsigned_abs (o.high -ℤ o.low) + 1
 
--- An ordinal or a pointer has one cell, a set eight, an array its length times its component's cells, a record the sum over its fields, or one cell without any.
+-- An ordinal or a pointer has one cell, a set eight, an array its length times its component's cells, a record the sum
+-- over its fields, or one cell if it has none.
 unfoldable mutual
   pub cells : DataType → ℕ
   cells (OrdinalType o) = 1
@@ -36,7 +39,8 @@ fits_byte _ = false
 abbrev pub whole_words : ℕ → ℕ
 whole_words n = 4 * ((n + 3) / 4)
 
--- An ordinal or a pointer takes four bytes, a set 32. A packed array of components that fit a byte takes one for each, and is filled up to whole words.
+-- An ordinal or a pointer takes four bytes, a set 32. A packed array of components that fit a byte takes one for each,
+-- padded to whole words.
 unfoldable mutual
   pub bytes : DataType → ℕ
   bytes (OrdinalType o) = 4
@@ -45,7 +49,8 @@ unfoldable mutual
   bytes (SetType denoter packing base) = 32
   bytes EmptySetType = 32
   bytes (TextType length) = whole_words length
-  bytes (ArrayType at packed index component) = if packed && fits_byte component then whole_words (value_count index) else value_count index * bytes component
+  bytes (ArrayType at packed index component) = if packed && fits_byte component then whole_words (value_count index)
+      else value_count index * bytes component
   bytes (RecordType at packed fields) = record_bytes fields
 
   pub record_bytes : FieldList → ℕ
@@ -61,12 +66,13 @@ bytes_before no_type k = 0
 bytes_before (type_before type rest) zero = 0
 bytes_before (type_before type rest) (suc k) = bytes type + bytes_before rest k
 
--- where each of these fields begins, if the first does at n, told up to m. No contract speaks of it: it is what a record type keeps.
+-- where each of these fields begins, if the first does at n, given up to m. No contract speaks of it: a record type
+-- stores it.
 abbrev pub beginnings : (m n : ℕ) → DataTypes → List ℕ
 beginnings m n no_type = []
 beginnings m n (type_before type rest) = n ∷ beginnings m (min (n + bytes type) m) rest
 
--- how deep the records and arrays in a type stand in one another
+-- how deep the records and arrays in a type are nested
 unfoldable mutual
   pub depth : DataType → ℕ
   depth (OrdinalType o) = 0

@@ -1,4 +1,4 @@
--- The checked tree: the program with every name resolved, and with the line of each token that an error is told at.
+-- The checked tree: the program with every name resolved, and the line of each token at which an error is reported.
 use Rattle.std.specs.Prelude.{ℕ, ℤ, List, [], get_or, Option, None}
 use Rattle.ps_tree.specs.declared.tree.ArithmeticOperator.{ArithmeticOperator}
 use Rattle.ps_tree.specs.declared.tree.BooleanOperator.{BooleanOperator}
@@ -11,13 +11,14 @@ use Rattle.ps_tree.specs.declared.tree.Range.{Range}
 use Rattle.ps_tree.specs.declared.tree.Direction.{Direction}
 use Rattle.ps_tree.specs.Types.{DataType, PointerType}
 
--- A name is resolved to `up`, the levels of routines from its use out to its block, and what it is there:
--- an entry (a routine's result, if it is a function, then its formal parameters, then its variables) or a routine's number.
+-- A name is resolved to `up`, the number of levels of routines from its use out to its block, and what it is there: an
+-- entry (a routine's result, if it is a function, then its formal parameters, then its variables) or a routine's
+-- number.
 
 -- what a variable's name denotes by itself
 pub data PlaceBase : Type 0 where
   Entry : (up index : ℕ) → PlaceBase
-  -- a field's name alone: of the record that a `with` opened, the innermost of which is 0
+  -- a field's name alone: of the record that a `with` opened; the innermost is 0
   Opened : (which : ℕ) (record_type : DataType) (number : ℕ) → PlaceBase
 
 mutual
@@ -47,7 +48,7 @@ mutual
     Not : Expr → Expr
     -- a first operand, and operators with their next operands, from left to right
     Arithmetic : Expr → ArithmeticSteps → Expr
-    -- operands with one operator between each two
+    -- operands with the same operator between each two
     Logic : BooleanOperator → Expr → Operands → Expr
     Compare : Relation → Expr → Expr → Expr
     ComparePointers : PointerRelation → Expr → Expr → Expr
@@ -58,7 +59,7 @@ mutual
     Apply : RequiredFunction → Expr → (line : ℕ) → Expr
     Eof : Expr
     Eoln : (line : ℕ) → Expr
-    -- a function that is declared `up` levels out, and a functional parameter, with the line of its name
+    -- a function declared `up` levels out, and a functional parameter, with the line of its name
     Call : (routine up : ℕ) → Arguments → (line : ℕ) → Expr
     CallFormal : (up index : ℕ) → Arguments → (line : ℕ) → Expr
 
@@ -97,7 +98,8 @@ mutual
 
   -- 6.6.3: actual parameters, with the line of the first token
   pub data Argument : Type 0 where
-    -- by value: for a formal parameter of this range, of a set type whose base has these bounds, of this structured type
+    -- by value: for a formal parameter of this range, of a set type whose base has these bounds, of this structured
+    -- type
     ByValue : Expr → Range → (line : ℕ) → Argument
     BySet : SetExpr → (low high : ℤ) (line : ℕ) → Argument
     ByCopy : Structure → DataType → Argument
@@ -143,8 +145,10 @@ mutual
     Case : Expr → Elements → (line : ℕ) → Statement
     While : Expr → Statement → Statement
     Repeat : Statements → Expr → Statement
-    -- the control variable is an entry of the routine itself, with these bounds; each bound of the loop with the line of its first token
-    For : (variable : ℕ) (low high : ℤ) → Expr → (from_line : ℕ) → Direction → Expr → (to_line : ℕ) → Statement → Statement
+    -- the control variable is an entry of the routine itself, with these bounds; each bound of the loop with the line
+    -- of its first token
+    For : (variable : ℕ) (low high : ℤ) → Expr → (from_line : ℕ) → Direction → Expr → (to_line : ℕ) → Statement
+        → Statement
     With : List Place → Statement → Statement
     -- with the number of the pointer's type and the line of the name new
     New : Place → (pointer line : ℕ) → Statement
@@ -177,7 +181,7 @@ mutual
     no_formal : Formals
     formal_before : Formal → Formals → Formals
 
--- 6.6: a routine: its number and those of the routines round it, the innermost first, and the line of its block's `begin`
+-- 6.6: a routine: its number and those of the routines around it, innermost first, and the line of its block's `begin`
 pub record Routine : Type 0 where
   pub chain : List ℕ
   pub formals : Formals
@@ -186,7 +190,8 @@ pub record Routine : Type 0 where
   pub body : Statements
   pub line : ℕ
 
--- 6.10: a program: its routines by their numbers, of which 0 is the program block, and the domain types of its pointer types by theirs
+-- 6.10: a program: its routines by their numbers, where 0 is the program block, and the domain types of its pointer
+-- types by theirs
 pub record Program : Type 0 where
   pub routines : List Routine
   pub domains : List DataType

@@ -1,5 +1,7 @@
--- A type as a tree of numbers, and back: by it two types are told apart. No contract speaks of it: the toolchain asks for it, so that structs can be seen as types.
-use Rattle.std.specs.Prelude.{◌≡◌, ℕ, zero, suc, ℤ, pos, negsuc, Bool, true, false, List, [], ◌∷◌, Option, Some, None, refl}
+-- A type as a tree of numbers, and back: this tells two types apart. No contract speaks of it: the toolchain asks for
+-- it, so that structs can be seen as types.
+use Rattle.std.specs.Prelude.{◌≡◌, ℕ, zero, suc, ℤ, pos, negsuc, Bool, true, false, List, [], ◌∷◌, Option, Some, None}
+use Rattle.std.specs.Prelude.{refl}
 use Rattle.std.specs.Coded.{Coded, code_by}
 use base.Stored.{Gv, gnil, gnum, gcons}
 use denote.Struct.Codes.{itself}
@@ -8,7 +10,8 @@ use Rattle.ps_tree.specs.declared.types.Host.TheVariants.{Integer, Char, Boolean
 use Rattle.ps_tree.specs.declared.types.Ordinal.{Ordinal}
 use Rattle.ps_tree.specs.declared.types.Packing.{Packing}
 use Rattle.ps_tree.specs.declared.types.Packing.TheVariants.{Packed, Unpacked, Either}
-use Rattle.ps_tree.specs.Types.{DataType, OrdinalType, PointerType, NilType, SetType, EmptySetType, TextType, ArrayType, RecordType, FieldList, field_list, DataTypes, no_type, type_before}
+use Rattle.ps_tree.specs.Types.{DataType, OrdinalType, PointerType, NilType, SetType, EmptySetType, TextType}
+use Rattle.ps_tree.specs.Types.{ArrayType, RecordType, FieldList, field_list, DataTypes, no_type, type_before}
 
 abbrev pub number : Gv → ℕ
 number gnil = 0
@@ -98,13 +101,24 @@ packing_back Unpacked = refl
 packing_back Either = refl
 
 abbrev pub code_ordinal : Ordinal → Gv
-code_ordinal o = gcons (gcons (code_host o.host) (code_option o.subrange)) (gcons (code_integer o.low) (code_integer o.high))
+code_ordinal o = gcons (gcons (code_host o.host) (code_option o.subrange))
+    (gcons (code_integer o.low) (code_integer o.high))
 
 abbrev pub to_ordinal : Gv → Ordinal
-to_ordinal g = record { host = to_host (left (left g)); subrange = to_option (right (left g)); low = to_integer (left (right g)); high = to_integer (right (right g)) }
+to_ordinal g = record {
+  host = to_host (left (left g));
+  subrange = to_option (right (left g));
+  low = to_integer (left (right g));
+  high = to_integer (right (right g));
+}
 
 pub ordinal_back : (o : Ordinal) → to_ordinal (code_ordinal o) ≡ o
-ordinal_back o = λ i. record { host = host_back o.host i; subrange = option_back o.subrange i; low = integer_back o.low i; high = integer_back o.high i }
+ordinal_back o = λ i. record {
+  host = host_back o.host i;
+  subrange = option_back o.subrange i;
+  low = integer_back o.low i;
+  high = integer_back o.high i;
+}
 
 abbrev pub code_name : List ℕ → Gv
 code_name [] = gnil
@@ -138,11 +152,14 @@ abbrev mutual
   code_type (OrdinalType o) = gcons (gnum 0) (gcons (code_ordinal o) gnil)
   code_type (PointerType n) = gcons (gnum 1) (gcons (gnum n) gnil)
   code_type NilType = gcons (gnum 2) (gcons gnil gnil)
-  code_type (SetType denoter packing base) = gcons (gnum 3) (gcons (gcons (code_option denoter) (gcons (code_packing packing) (code_ordinal base))) gnil)
+  code_type (SetType denoter packing base) = gcons (gnum 3)
+      (gcons (gcons (code_option denoter) (gcons (code_packing packing) (code_ordinal base))) gnil)
   code_type EmptySetType = gcons (gnum 4) (gcons gnil gnil)
   code_type (TextType length) = gcons (gnum 5) (gcons (gnum length) gnil)
-  code_type (ArrayType at packed index component) = gcons (gnum 6) (gcons (gcons (gnum at) (gcons (code_bool packed) (code_ordinal index))) (gcons (code_type component) gnil))
-  code_type (RecordType at packed (field_list names types)) = gcons (gnum 7) (gcons (gcons (gnum at) (gcons (code_bool packed) (code_names names))) (code_types types))
+  code_type (ArrayType at packed index component) = gcons (gnum 6)
+      (gcons (gcons (gnum at) (gcons (code_bool packed) (code_ordinal index))) (gcons (code_type component) gnil))
+  code_type (RecordType at packed (field_list names types)) = gcons (gnum 7)
+      (gcons (gcons (gnum at) (gcons (code_bool packed) (code_names names))) (code_types types))
 
   pub code_types : DataTypes → Gv
   code_types no_type = gnil
@@ -160,13 +177,16 @@ abbrev pub by_form : ℕ → Gv → DataTypes → DataType
 by_form zero g ts = OrdinalType (to_ordinal g)
 by_form (suc zero) g ts = PointerType (number g)
 by_form (suc (suc zero)) g ts = NilType
-by_form (suc (suc (suc zero))) g ts = SetType (to_option (left g)) (to_packing (left (right g))) (to_ordinal (right (right g)))
+by_form (suc (suc (suc zero))) g ts = SetType (to_option (left g)) (to_packing (left (right g)))
+    (to_ordinal (right (right g)))
 by_form (suc (suc (suc (suc zero)))) g ts = EmptySetType
 by_form (suc (suc (suc (suc (suc zero))))) g ts = TextType (number g)
-by_form (suc (suc (suc (suc (suc (suc zero)))))) g ts = ArrayType (number (left g)) (to_bool (left (right g))) (to_ordinal (right (right g))) (first ts)
-by_form (suc (suc (suc (suc (suc (suc (suc n))))))) g ts = RecordType (number (left g)) (to_bool (left (right g))) (field_list (to_names (right (right g))) ts)
+by_form (suc (suc (suc (suc (suc (suc zero)))))) g ts = ArrayType (number (left g)) (to_bool (left (right g)))
+    (to_ordinal (right (right g))) (first ts)
+by_form (suc (suc (suc (suc (suc (suc (suc n))))))) g ts = RecordType (number (left g)) (to_bool (left (right g)))
+    (field_list (to_names (right (right g))) ts)
 
--- the type that this stands for, and the types, where it stands for a list of them
+-- the type that this represents, and the types, where it represents a list of them
 abbrev pub back : Gv → DataType × DataTypes
 back gnil = (NilType, no_type)
 back (gnum n) = (NilType, no_type)
@@ -177,11 +197,14 @@ mutual
   type_back (OrdinalType o) = λ i. OrdinalType (ordinal_back o i)
   type_back (PointerType n) = refl
   type_back NilType = refl
-  type_back (SetType denoter packing base) = λ i. SetType (option_back denoter i) (packing_back packing i) (ordinal_back base i)
+  type_back (SetType denoter packing base) = λ i. SetType (option_back denoter i) (packing_back packing i)
+      (ordinal_back base i)
   type_back EmptySetType = refl
   type_back (TextType length) = refl
-  type_back (ArrayType at packed index component) = λ i. ArrayType at (bool_back packed i) (ordinal_back index i) (type_back component i)
-  type_back (RecordType at packed (field_list names types)) = λ i. RecordType at (bool_back packed i) (field_list (names_back names i) (types_back types i))
+  type_back (ArrayType at packed index component) = λ i. ArrayType at (bool_back packed i) (ordinal_back index i)
+      (type_back component i)
+  type_back (RecordType at packed (field_list names types)) = λ i. RecordType at (bool_back packed i)
+      (field_list (names_back names i) (types_back types i))
 
   pub types_back : (ts : DataTypes) → (back (code_types ts)).1 ≡ ts
   types_back no_type = refl

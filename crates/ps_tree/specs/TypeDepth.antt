@@ -1,4 +1,4 @@
--- What stands in a type is less deep. No contract speaks of it: by it a walk through a type ends.
+-- What is in a type is less deep. No contract speaks of it: it makes a walk through a type terminate.
 use Rattle.std.specs.Prelude.{ℕ, ◌≤◌, max, List, [], ◌∷◌}
 use Rattle.std.proofs.Common.{arith}
 use denote.Param.Weighed.{most}
@@ -25,10 +25,11 @@ unfolding depth
 deep_in_types [] = omega arith
 deep_in_types (t ∷ ts) = omega (arith, deep_in_type t, deep_in_types ts)
 
-pub deep_in_fields : (names : List (List ℕ)) (ts : List Ty) → max (most deep-Ty ts) 0 ≤ depth_of_fields (field_list names (types_of ts))
+pub deep_in_fields : (names : List (List ℕ)) (ts : List Ty) → max (most deep-Ty ts) 0 ≤ depth_of_fields
+    (field_list names (types_of ts))
 unfolding depth
 deep_in_fields names ts = omega (arith, deep_in_types ts)
 
--- how deep the deepest of some types is
+-- the depth of the deepest of some types
 abbrev pub deepest : List Ty → ℕ
 deepest ts = most size-Ty ts

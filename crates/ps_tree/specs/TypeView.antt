@@ -1,6 +1,7 @@
--- What the types of the program stand for in the definitions.
+-- What the types of the program denote in the definitions.
 use Rattle.std.specs.Prelude.{List, map}
-use Rattle.ps_tree.specs.Types.{DataType, OrdinalType, PointerType, NilType, SetType, EmptySetType, TextType, ArrayType, RecordType, DataTypes, listed}
+use Rattle.ps_tree.specs.Types.{DataType, OrdinalType, PointerType, NilType, SetType, EmptySetType, TextType}
+use Rattle.ps_tree.specs.Types.{ArrayType, RecordType, DataTypes, listed}
 use Rattle.ps_tree.specs.declared.types.Ty.{Ty}
 use Rattle.ps_tree.specs.declared.types.Ty.TheVariants.{Simple, Pointer, Nil, Set, EmptySet, Text, Array, Record}
 

@@ -1,5 +1,8 @@
--- The types of a program (6.4): what a type is, when two are one type (6.4.1), compatible (6.4.5) and assignment-compatible (6.4.6).
-use Rattle.std.specs.Prelude.{◌≡◌, ℕ, zero, suc, option_map, option_and_then, nat_le, ℤ, pos, negsuc, Bool, true, false, ◌&&◌, ◌||◌, ◌==◌, if◌then◌else◌, int_lt, List, [], ◌∷◌, Option, Some, None, is_some, is_none, IsTrue}
+-- The types of a program (6.4): what a type is, when two are the same (6.4.1), compatible (6.4.5) and
+-- assignment-compatible (6.4.6).
+use Rattle.std.specs.Prelude.{◌≡◌, ℕ, zero, suc, option_map, option_and_then, nat_le, ℤ, pos, negsuc, Bool, true}
+use Rattle.std.specs.Prelude.{false, ◌&&◌, ◌||◌, ◌==◌, if◌then◌else◌, int_lt, List, [], ◌∷◌, Option, Some, None}
+use Rattle.std.specs.Prelude.{is_some, is_none, IsTrue}
 use Rattle.ps_tree.specs.declared.types.Host.{Host}
 use Rattle.ps_tree.specs.declared.types.Host.TheVariants.{Integer, Char, Boolean, Enumeration}
 use Rattle.ps_tree.specs.declared.types.Ordinal.{Ordinal}
@@ -7,8 +10,9 @@ use Rattle.ps_tree.specs.declared.types.Packing.{Packing}
 use Rattle.ps_tree.specs.declared.types.Packing.TheVariants.{Packed, Unpacked}
 use Rattle.ps_tree.specs.Names.{place}
 
--- Each denoter other than a type name makes a new type (6.4.1): a set, array or record type, a subrange and an enumerated
--- type bear the offset of their denoter's first token. A pointer type bears its number among the pointer types.
+-- Each denoter other than a type name makes a new type (6.4.1): a set, array or record type, a subrange and an
+-- enumerated type carry the offset of their denoter's first token. A pointer type carries its number among the pointer
+-- types.
 mutual
   pub data DataType : Type 0 where
     OrdinalType : Ordinal → DataType
@@ -24,7 +28,7 @@ mutual
     ArrayType : (at : ℕ) (packed : Bool) (index : Ordinal) → DataType → DataType
     RecordType : (at : ℕ) (packed : Bool) → FieldList → DataType
 
-  -- the names of the fields and their types, in one order
+  -- the names of the fields and their types, in the same order
   pub data FieldList : Type 0 where
     field_list : (names : List (List ℕ)) → DataTypes → FieldList
 
@@ -43,16 +47,17 @@ is_same_host Boolean Boolean = true
 is_same_host (Enumeration a m) (Enumeration b n) = a == b
 is_same_host _ _ = false
 
--- both there, and one number
+-- both are present, and are the same number
 abbrev pub are_same : Option ℕ → Option ℕ → Bool
 are_same (Some a) (Some b) = a == b
 are_same _ _ = false
 
--- one ordinal type: of one host, and subranges of one denoter if subranges at all
+-- the same ordinal type: with the same host, and subranges of the same denoter if subranges at all
 abbrev pub is_same_ordinal : Ordinal → Ordinal → Bool
-is_same_ordinal o p = is_same_host o.host p.host && (are_same o.subrange p.subrange || (is_none o.subrange && is_none p.subrange))
+is_same_ordinal o p = is_same_host o.host p.host
+    && (are_same o.subrange p.subrange || (is_none o.subrange && is_none p.subrange))
 
--- 6.4.1: one type
+-- 6.4.1: the same type
 unfoldable pub is_same_type : DataType → DataType → Bool
 is_same_type (OrdinalType o) (OrdinalType p) = is_same_ordinal o p
 is_same_type (PointerType a) (PointerType b) = a == b
@@ -83,7 +88,8 @@ is_string_index o = is_same_host o.host Integer && is_some o.subrange && is_one 
 -- 6.4.3.2: the length of the strings that are the values of a string type
 unfoldable pub string_length : DataType → Option ℕ
 string_length (TextType length) = Some length
-string_length (ArrayType at true index component) = if is_char component && is_string_index index then Some (natural index.high) else None
+string_length (ArrayType at true index component) = if is_char component && is_string_index index then Some
+    (natural index.high) else None
 string_length _ = None
 
 -- two sets are both packed or both not; a set constructor is both
@@ -99,10 +105,11 @@ pub data Compatible : DataType → DataType → Type 0 where
   -- b: one is a subrange of the other, or both are subranges of one host
   ordinals : (o p : Ordinal) → IsTrue (is_same_host o.host p.host) → Compatible (OrdinalType o) (OrdinalType p)
   -- c: they are sets with compatible bases, both packed or both not; [] is of every set type
-  sets : (a b : Option ℕ) (k l : Packing) (o p : Ordinal) → IsTrue (is_same_host o.host p.host) → IsTrue (goes_with k l) → Compatible (SetType a k o) (SetType b l p)
+  sets : (a b : Option ℕ) (k l : Packing) (o p : Ordinal) → IsTrue (is_same_host o.host p.host) → IsTrue (goes_with k l)
+      → Compatible (SetType a k o) (SetType b l p)
   empty_first : (b : Option ℕ) (l : Packing) (p : Ordinal) → Compatible EmptySetType (SetType b l p)
   empty_second : (a : Option ℕ) (k : Packing) (o : Ordinal) → Compatible (SetType a k o) EmptySetType
-  -- d: they are string types with equally many components
+  -- d: they are string types with the same number of components
   strings : (s t : DataType) (n : ℕ) → string_length s ≡ Some n → string_length t ≡ Some n → Compatible s t
   -- nil is of every pointer type
   nil_first : (n : ℕ) → Compatible NilType (PointerType n)
@@ -115,11 +122,12 @@ has_variables EmptySetType = false
 has_variables (TextType n) = false
 has_variables _ = true
 
--- 6.4.6: a value of the first type may go into a variable of the second, its range apart, which is tested as the program runs
+-- 6.4.6: a value of the first type may be assigned to a variable of the second, apart from its range, which is tested
+-- at run time
 abbrev pub Assignable : DataType → DataType → Type 0
 Assignable from to = IsTrue (has_variables to) × Compatible from to
 
--- the test for it
+-- the same as a test
 unfoldable pub is_compatible : DataType → DataType → Bool
 is_compatible (OrdinalType o) (OrdinalType p) = is_same_host o.host p.host
 is_compatible (SetType a k o) (SetType b l p) = are_same a b || (is_same_host o.host p.host && goes_with k l)
@@ -143,7 +151,8 @@ type_at no_type n = None
 type_at (type_before type rest) zero = Some type
 type_at (type_before type rest) (suc n) = type_at rest n
 
--- the field at this place, by its number and its type. Numbers go up to 4294967295 (this project's limit; no text of 1,048,576 bytes comes near).
+-- the field at this place, by its number and its type. Numbers go up to 4294967295 (this project's limit; no text of
+-- 1,048,576 bytes comes near).
 abbrev pub field_at : DataTypes → ℕ → Option (ℕ × DataType)
 field_at types n = if nat_le n 4294967295 then option_map (λ type. (n, type)) (type_at types n) else None
 

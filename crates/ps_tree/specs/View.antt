@@ -1,4 +1,4 @@
--- What the values of the program's types stand for in the definitions.
+-- What the values of the program's types denote in the definitions.
 pub use Rattle.ps_tree.specs.TypeView.{type_of, types_of}
 use Rattle.std.specs.Prelude.{List, [], ◌∷◌, map, option_map}
 use Rattle.ps_tree.specs.Tree as Tree
@@ -9,23 +9,38 @@ use Rattle.ps_tree.specs.declared.tree.PlaceBase.TheVariants.{Entry, Opened}
 use Rattle.ps_tree.specs.declared.tree.Selector.{Selector, Element, Field, Target}
 use Rattle.ps_tree.specs.declared.tree.ArithmeticStep.{ArithmeticStep, out-ArithmeticStep}
 use Rattle.ps_tree.specs.declared.tree.SetStep.{SetStep, out-SetStep}
-use Rattle.ps_tree.specs.declared.tree.Expr.{Expr, Number, Nil, Load', Plus', Minus', Not', Arithmetic', Logic', Compare', ComparePointers', CompareSets', CompareStrings', In', Apply', Eof, Eoln, Call', CallFormal', Row_of-Argument, end_of-Argument, more_of-Argument}
-use Rattle.ps_tree.specs.declared.tree.SetExpr.{SetExpr, Constructor', Combine', Row_of-Member, end_of-Member, more_of-Member}
+use Rattle.ps_tree.specs.declared.tree.Expr.{Expr, Number, Nil, Load', Plus', Minus', Not', Arithmetic', Logic'}
+use Rattle.ps_tree.specs.declared.tree.Expr.{Compare', ComparePointers', CompareSets', CompareStrings', In', Apply'}
+use Rattle.ps_tree.specs.declared.tree.Expr.{Eof, Eoln, Call', CallFormal', Row_of-Argument, end_of-Argument}
+use Rattle.ps_tree.specs.declared.tree.Expr.{more_of-Argument}
+use Rattle.ps_tree.specs.declared.tree.SetExpr.{SetExpr, Constructor', Combine', Row_of-Member, end_of-Member}
+use Rattle.ps_tree.specs.declared.tree.SetExpr.{more_of-Member}
 use Rattle.ps_tree.specs.declared.tree.SetExpr.{Load' as LoadSet'}
 use Rattle.ps_tree.specs.declared.tree.Member.{Member, One, Range as Several}
 use Rattle.ps_tree.specs.declared.tree.Structure.{Structure, Literal, Contents'}
-use Rattle.ps_tree.specs.declared.tree.Expr.{Row_of-Selector, end_of-Selector, more_of-Selector, Row_of-ArithmeticStep, end_of-ArithmeticStep, more_of-ArithmeticStep, Row_of-Expr, end_of-Expr, more_of-Expr}
+use Rattle.ps_tree.specs.declared.tree.Expr.{Row_of-Selector, end_of-Selector, more_of-Selector, Row_of-ArithmeticStep}
+use Rattle.ps_tree.specs.declared.tree.Expr.{end_of-ArithmeticStep, more_of-ArithmeticStep, Row_of-Expr, end_of-Expr}
+use Rattle.ps_tree.specs.declared.tree.Expr.{more_of-Expr}
 use Rattle.ps_tree.specs.declared.tree.SetExpr.{Row_of-SetStep, end_of-SetStep, more_of-SetStep}
-use Rattle.ps_tree.specs.declared.tree.Argument.{Argument, Value as ByValue, Set as BySet, Copy as ByCopy, Variable' as ByVariable', Routine as ByRoutine, Formal as ByFormal}
+use Rattle.ps_tree.specs.declared.tree.Argument.{Argument, Value as ByValue, Set as BySet, Copy as ByCopy}
+use Rattle.ps_tree.specs.declared.tree.Argument.{Variable' as ByVariable', Routine as ByRoutine, Formal as ByFormal}
 use Rattle.ps_tree.specs.declared.tree.ReadVariable.{ReadVariable}
 use Rattle.ps_tree.specs.declared.tree.ReadVariable.TheVariants.{Char as ReadChar, Integer as ReadInteger}
 use Rattle.ps_tree.specs.declared.tree.Width.{Width}
 use Rattle.ps_tree.specs.declared.tree.Width.TheVariants.{Default, Given}
 use Rattle.ps_tree.specs.declared.tree.WriteParameter.{WriteParameter}
-use Rattle.ps_tree.specs.declared.tree.WriteParameter.TheVariants.{Integer as WriteInteger, Char as WriteChar, Boolean as WriteBoolean, Text as WriteText}
-use Rattle.ps_tree.specs.declared.tree.Statement.{Statement, Empty, Assign, AssignSet, AssignStructure, Call as CallProcedure, CallFormal as CallFormalProcedure, Compound', If', IfElse', Case', While', Repeat', For', With', New, Pack, Unpack, Read, Readln, Write, Writeln, Row_of-Statement, end_of-Statement, more_of-Statement, Row_of-CaseElement, end_of-CaseElement, more_of-CaseElement}
+use Rattle.ps_tree.specs.declared.tree.WriteParameter.TheVariants.{Integer as WriteInteger, Char as WriteChar}
+use Rattle.ps_tree.specs.declared.tree.WriteParameter.TheVariants.{Boolean as WriteBoolean, Text as WriteText}
+use Rattle.ps_tree.specs.declared.tree.Statement.{Statement, Empty, Assign, AssignSet, AssignStructure}
+use Rattle.ps_tree.specs.declared.tree.Statement.{Call as CallProcedure, CallFormal as CallFormalProcedure, Compound'}
+use Rattle.ps_tree.specs.declared.tree.Statement.{If', IfElse', Case', While', Repeat', For', With', New, Pack, Unpack}
+use Rattle.ps_tree.specs.declared.tree.Statement.{Read, Readln, Write, Writeln, Row_of-Statement, end_of-Statement}
+use Rattle.ps_tree.specs.declared.tree.Statement.{more_of-Statement, Row_of-CaseElement, end_of-CaseElement}
+use Rattle.ps_tree.specs.declared.tree.Statement.{more_of-CaseElement}
 use Rattle.ps_tree.specs.declared.tree.CaseElement.{CaseElement, out-CaseElement}
-use Rattle.ps_tree.specs.declared.tree.Formal.{Formal, Value as ValueFormal, Variable as VariableFormal, Routine' as RoutineFormal', Row_of-Formal, end_of-Formal, more_of-Formal}
+use Rattle.ps_tree.specs.declared.tree.Formal.{Formal, Value as ValueFormal, Variable as VariableFormal}
+use Rattle.ps_tree.specs.declared.tree.Formal.{Routine' as RoutineFormal', Row_of-Formal, end_of-Formal}
+use Rattle.ps_tree.specs.declared.tree.Formal.{more_of-Formal}
 use Rattle.ps_tree.specs.declared.tree.Routine.{Routine}
 
 abbrev pub base_of : PlaceBase → Tree.PlaceBase
@@ -64,7 +79,8 @@ unfoldable mutual
 
   pub arithmetic_of_row : {m : _} → Row_of-ArithmeticStep m → Tree.ArithmeticSteps
   arithmetic_of_row end_of-ArithmeticStep = Tree.no_arithmetic_step
-  arithmetic_of_row (more_of-ArithmeticStep operator e line rest) = Tree.arithmetic_step_before operator (expr_of e) line.number (arithmetic_of_row rest)
+  arithmetic_of_row (more_of-ArithmeticStep operator e line rest) = Tree.arithmetic_step_before operator
+      (expr_of e) line.number (arithmetic_of_row rest)
 
   pub operands_of_row : {m : _} → Row_of-Expr m → Tree.Operands
   operands_of_row end_of-Expr = Tree.no_operand
@@ -89,7 +105,8 @@ unfoldable mutual
 
   pub structure_of : Structure → Tree.Structure
   structure_of (Literal characters) = Tree.Literal characters
-  structure_of (Contents' p base shape row at ty) = Tree.Contents (Tree.Variable (base_of base) (selectors_of_row row)) (type_of ty)
+  structure_of (Contents' p base shape row at ty) = Tree.Contents (Tree.Variable (base_of base) (selectors_of_row row))
+      (type_of ty)
 
   pub argument_of : Argument → Tree.Argument
   argument_of (ByValue e range line) = Tree.ByValue (expr_of e) range line.number
@@ -103,7 +120,8 @@ unfoldable mutual
   arguments_of_row end_of-Argument = Tree.no_argument
   arguments_of_row (more_of-Argument a rest) = Tree.argument_before (argument_of a) (arguments_of_row rest)
 
--- lists of selectors, and a variable: where its name stands in the text is left out, as with the control variable of a `for` statement
+-- lists of selectors, and a variable: the place of its name in the text is left out, as for the control variable of a
+-- `for` statement
 unfoldable pub selectors_of : List Selector → Tree.Selectors
 selectors_of [] = Tree.no_selector
 selectors_of (s ∷ rest) = Tree.selector_before (selector_of s) (selectors_of rest)
@@ -114,7 +132,8 @@ place_of place = Tree.Variable (base_of place.base) (selectors_of place.selector
 -- lists of operands with their operators
 unfoldable pub arithmetic_of : List ArithmeticStep → Tree.ArithmeticSteps
 arithmetic_of [] = Tree.no_arithmetic_step
-arithmetic_of (s ∷ rest) = Tree.arithmetic_step_before (out-ArithmeticStep s).operator (expr_of (out-ArithmeticStep s).operand) (out-ArithmeticStep s).line.number (arithmetic_of rest)
+arithmetic_of (s ∷ rest) = Tree.arithmetic_step_before (out-ArithmeticStep s).operator
+    (expr_of (out-ArithmeticStep s).operand) (out-ArithmeticStep s).line.number (arithmetic_of rest)
 
 unfoldable pub operands_of : List Expr → Tree.Operands
 operands_of [] = Tree.no_operand
@@ -122,7 +141,8 @@ operands_of (e ∷ rest) = Tree.operand_before (expr_of e) (operands_of rest)
 
 unfoldable pub set_steps_of : List SetStep → Tree.SetSteps
 set_steps_of [] = Tree.no_set_step
-set_steps_of (s ∷ rest) = Tree.set_step_before (out-SetStep s).operator (set_of (out-SetStep s).operand) (set_steps_of rest)
+set_steps_of (s ∷ rest) = Tree.set_step_before (out-SetStep s).operator (set_of (out-SetStep s).operand)
+    (set_steps_of rest)
 
 -- lists of arguments, as the tree has them
 unfoldable pub arguments_of : List Argument → Tree.Arguments
@@ -153,19 +173,24 @@ unfoldable mutual
   statement_of (Assign place range e line) = Tree.Assign (place_of place) range (expr_of e) line.number
   statement_of (AssignSet place low high e line) = Tree.AssignSet (place_of place) low high (set_of e) line.number
   statement_of (AssignStructure place e) = Tree.AssignStructure (place_of place) (structure_of e)
-  statement_of (CallProcedure routine up arguments line) = Tree.CallProcedure routine up (arguments_of arguments.items) line.number
-  statement_of (CallFormalProcedure up index arguments line) = Tree.CallFormalProcedure up index (arguments_of arguments.items) line.number
+  statement_of (CallProcedure routine up arguments line) = Tree.CallProcedure routine up
+      (arguments_of arguments.items) line.number
+  statement_of (CallFormalProcedure up index arguments line) = Tree.CallFormalProcedure up index
+      (arguments_of arguments.items) line.number
   statement_of (Compound' shape row) = Tree.Compound (statements_of_row row)
   statement_of (If' e p s) = Tree.If (expr_of e) (statement_of s)
   statement_of (IfElse' e p s q t) = Tree.IfElse (expr_of e) (statement_of s) (statement_of t)
   statement_of (Case' e shape row line) = Tree.Case (expr_of e) (elements_of_row row) line.number
   statement_of (While' e p s) = Tree.While (expr_of e) (statement_of s)
   statement_of (Repeat' shape row e) = Tree.Repeat (statements_of_row row) (expr_of e)
-  statement_of (For' variable at low high a from_line direction b to_line p s) = Tree.For variable low high (expr_of a) from_line.number direction (expr_of b) to_line.number (statement_of s)
+  statement_of (For' variable at low high a from_line direction b to_line p s) = Tree.For variable low high
+      (expr_of a) from_line.number direction (expr_of b) to_line.number (statement_of s)
   statement_of (With' places p s) = Tree.With (map place_of places.items) (statement_of s)
   statement_of (New place pointer line) = Tree.New (place_of place) pointer line.number
-  statement_of (Pack a from_ty e line z to_ty) = Tree.Pack (place_of a.value) (type_of from_ty) (expr_of e) line.number (place_of z.value) (type_of to_ty)
-  statement_of (Unpack z from_ty a to_ty e line) = Tree.Unpack (place_of z.value) (type_of from_ty) (place_of a.value) (type_of to_ty) (expr_of e) line.number
+  statement_of (Pack a from_ty e line z to_ty) = Tree.Pack (place_of a.value) (type_of from_ty) (expr_of e) line.number
+      (place_of z.value) (type_of to_ty)
+  statement_of (Unpack z from_ty a to_ty e line) = Tree.Unpack (place_of z.value) (type_of from_ty) (place_of a.value)
+      (type_of to_ty) (expr_of e) line.number
   statement_of (Read variables) = Tree.Read (map read_of variables.items)
   statement_of (Readln variables line) = Tree.Readln (map read_of variables.items) line.number
   statement_of (Write parameters) = Tree.Write (map write_of parameters.items)
@@ -177,7 +202,8 @@ unfoldable mutual
 
   pub elements_of_row : {m : _} → Row_of-CaseElement m → Tree.Elements
   elements_of_row end_of-CaseElement = Tree.no_element
-  elements_of_row (more_of-CaseElement constants s rest) = Tree.element_before constants.items (statement_of s) (elements_of_row rest)
+  elements_of_row (more_of-CaseElement constants s rest) = Tree.element_before constants.items (statement_of s)
+      (elements_of_row rest)
 
 -- lists of statements and case elements
 unfoldable pub statements_of : List Statement → Tree.Statements
@@ -186,7 +212,8 @@ statements_of (s ∷ rest) = Tree.statement_before (statement_of s) (statements_
 
 unfoldable pub elements_of : List CaseElement → Tree.Elements
 elements_of [] = Tree.no_element
-elements_of (e ∷ rest) = Tree.element_before (out-CaseElement e).constants.items (statement_of (out-CaseElement e).body) (elements_of rest)
+elements_of (e ∷ rest) = Tree.element_before (out-CaseElement e).constants.items (statement_of (out-CaseElement e).body)
+    (elements_of rest)
 
 unfoldable mutual
   pub formal_of : Formal → Tree.Formal

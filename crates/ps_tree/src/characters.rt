@@ -7,8 +7,8 @@ use std::alloc::{AllocError, Global};
 use std::marker::Model;
 use std::rc::Rc;
 
-/// The characters of a string (6.1.7), a byte each, which stand in memory once: a clone shares them. Behind them stand
-/// zeros up to whole words, as in a constant of the code. A contract sees the list of the characters.
+/// The characters of a string (6.1.7), one byte each, which are in memory once: a clone shares them. They are padded
+/// with zeros to whole words, as in a constant of the code. A contract sees the list of the characters.
 pub struct Characters {
     bytes: Rc<Vec<u8>>,
     count: usize,
@@ -42,7 +42,7 @@ impl Clone for Characters {
     }
 }
 
-/// Characters with zeros behind them, up to whole words.
+/// Characters padded with zeros to whole words.
 #[tactic(auto, using(crate::proofs::CharacterLemmas::filled_is))]
 fn filled(characters: Vec<u8>) -> Result<Vec<u8>, AllocError>
     ensures { IfOk result (λ bytes. bytes.items ≡ filled characters.items) }
@@ -65,7 +65,7 @@ impl Characters {
         Ok(Characters { bytes, count })
     }
 
-    /// How many there are.
+    /// The number of characters.
     pub fn len(&self) -> usize
         ensures { result ≡ length self.now }
     {
@@ -79,7 +79,7 @@ impl Characters {
         &self.bytes.as_slice()[..self.count]
     }
 
-    /// The characters with zeros behind them, up to whole words: the bytes that all uses share.
+    /// The characters padded with zeros to whole words: the bytes that all uses share.
     pub fn filled(&self) -> Result<Rc<Vec<u8>>, AllocError>
         ensures { IfOk result (λ bytes. bytes.value.items ≡ filled self.now) }
     {

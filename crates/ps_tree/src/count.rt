@@ -2,8 +2,16 @@
 
 ghost use Rattle.std.specs.Prelude.{◌≡◌, ℕ, map};
 ghost use Rattle.ps_tree.specs.Types.{DataType};
-ghost use Rattle.ps_tree.specs.Counts.{capped, ◌⊕◌, nothing, node, copy_of, place_extent, selector_extent, selectors_extent, expr_extent, arithmetic_extent, operands_extent, set_extent, set_steps_extent, member_extent, members_extent, structure_extent, argument_extent, arguments_extent, places_extent, read_extent, reads_extent, width_extent, write_extent, writes_extent, statement_extent, statements_extent, elements_extent};
-ghost use Rattle.ps_tree.specs.View.{type_of, place_of, selector_of, selectors_of, expr_of, arithmetic_of, operands_of, set_of, set_steps_of, member_of, members_of, structure_of, argument_of, arguments_of, read_of, width_of, write_of, statement_of, statements_of, elements_of};
+ghost use Rattle.ps_tree.specs.Counts.{capped, ◌⊕◌, nothing, node, copy_of, place_extent, selector_extent};
+ghost use Rattle.ps_tree.specs.Counts.{selectors_extent, expr_extent, arithmetic_extent, operands_extent, set_extent};
+ghost use Rattle.ps_tree.specs.Counts.{set_steps_extent, member_extent, members_extent, structure_extent};
+ghost use Rattle.ps_tree.specs.Counts.{argument_extent, arguments_extent, places_extent, read_extent, reads_extent};
+ghost use Rattle.ps_tree.specs.Counts.{width_extent, write_extent, writes_extent, statement_extent, statements_extent};
+ghost use Rattle.ps_tree.specs.Counts.{elements_extent};
+ghost use Rattle.ps_tree.specs.View.{type_of, place_of, selector_of, selectors_of, expr_of, arithmetic_of, operands_of};
+ghost use Rattle.ps_tree.specs.View.{set_of, set_steps_of, member_of, members_of, structure_of, argument_of};
+ghost use Rattle.ps_tree.specs.View.{arguments_of, read_of, width_of, write_of, statement_of, statements_of};
+ghost use Rattle.ps_tree.specs.View.{elements_of};
 
 use crate::tree::{
     Argument, ArithmeticStep, CaseElement, Expr, Member, Place, ReadVariable, Selector, SetExpr,
@@ -11,7 +19,7 @@ use crate::tree::{
 };
 use crate::types::Ty;
 
-/// How many nodes a part of the tree has, and how many cells its variables and the copies at its calls take.
+/// The number of nodes in a part of the tree, and of cells for its variables and the copies at its calls.
 #[derive(Clone, Copy)]
 pub struct Extent {
     pub nodes: u64,
@@ -62,7 +70,8 @@ fn two(a: Extent, b: Extent) -> Extent
 
 /// The extent of a node and three parts.
 fn three(a: Extent, b: Extent, c: Extent) -> Extent
-    ensures { (x : Extent) (y : Extent) (z : Extent) → a ≡ capped x → b ≡ capped y → c ≡ capped z → result ≡ capped (node ⊕ x ⊕ y ⊕ z) }
+    ensures { (x : Extent) (y : Extent) (z : Extent) → a ≡ capped x → b ≡ capped y → c ≡ capped z → result ≡ capped
+        (node ⊕ x ⊕ y ⊕ z) }
 {
     both(two(a, b), c)
 }

@@ -7,7 +7,7 @@ use indexmap::IndexSet;
 use std::alloc::{AllocError, Global};
 use std::marker::Model;
 
-/// The spellings of a region's defining points, in small letters, in their order. Finding one takes as long as reading it.
+/// The spellings of a region's defining points, in lower case, in their order. Finding one takes as long as reading it.
 /// A contract sees the list of them.
 pub struct Names {
     set: IndexSet<Vec<u8>>,
@@ -35,7 +35,7 @@ impl Names {
         }
     }
 
-    /// Adds a name at the end, unless it is there, and tells whether it was added.
+    /// Adds a name at the end unless it is present, and returns whether it was added.
     pub fn add(&mut self, name: Vec<u8>) -> Result<bool, AllocError>
         ensures added { IfOk result (λ added. added ≡ not (has self.old name.items)) }
         ensures names { IfOk result (λ added. self.new ≡ (if added then self.old ++ name.items ∷ [] else self.old)) }
@@ -52,14 +52,14 @@ impl Names {
         self.set.get_index_of(name)
     }
 
-    /// Whether the name is there.
+    /// Whether the name is present.
     pub fn contains(&self, name: &[u8]) -> bool
         ensures { result ≡ has self.now name.now }
     {
         self.find(name).is_some()
     }
 
-    /// How many names there are.
+    /// The number of names.
     pub fn len(&self) -> usize
         ensures { result ≡ length self.now }
     {

@@ -1,8 +1,12 @@
 // A checked program.
 
-ghost use Rattle.std.specs.Prelude.{◌≡◌, ◌↔◌, ◌&&◌, ◌^◌, ◌-◌, ◌<◌, ◌≤◌, length, min, map, IsTrue, IsSome, IfSome, option_map, slice_index};
+ghost use Rattle.std.specs.Prelude.{◌≡◌, ◌↔◌, ◌&&◌, ◌^◌, ◌-◌, ◌<◌, ◌≤◌, length, min, map, IsTrue, IsSome, IfSome};
+ghost use Rattle.std.specs.Prelude.{option_map, slice_index};
 ghost use Rattle.ps_tree.specs.Tree.{routine_at};
-ghost use Rattle.ps_tree.specs.Counts.{capped, formals_extent, routine_extent, routine_nodes, routine_cells, variables_extent, result_extent, formal_cells, is_small, is_small_result, is_short, is_small_formal, are_small_formals, are_small, is_routine_within_limits, are_routines_within_limits, is_within_limits};
+ghost use Rattle.ps_tree.specs.Counts.{capped, formals_extent, routine_extent, routine_nodes, routine_cells};
+ghost use Rattle.ps_tree.specs.Counts.{variables_extent, result_extent, formal_cells, is_small, is_small_result};
+ghost use Rattle.ps_tree.specs.Counts.{is_short, is_small_formal, are_small_formals, are_small};
+ghost use Rattle.ps_tree.specs.Counts.{is_routine_within_limits, are_routines_within_limits, is_within_limits};
 ghost use Rattle.ps_tree.specs.View.{type_of, formal_of, formals_of, routine_of, program_of};
 
 use crate::count::{Extent, NOTHING, both, copy, count_statements};
@@ -22,7 +26,7 @@ fn cells_of_formal(formal: &Formal) -> u64
     }
 }
 
-/// How many formal parameters a heading has, and their cells.
+/// The number of formal parameters in a heading, and their cells.
 fn count_formals(formals: &[Formal]) -> Extent
     ensures { result ≡ capped (formals_extent (formals_of formals.now)) }
 {
@@ -70,8 +74,8 @@ impl Routine {
         both(both(both(formals, outcome), variables), body)
     }
 
-    /// The statements, operators and leading signs, operands, selectors, actual and write parameters and set members
-    /// of the routine's own block, and the formal parameters of its heading. 2^64 and more are told as 2^64 - 1.
+    /// The statements, operators and leading signs, operands, selectors, actual and write parameters and set members of
+    /// the routine's own block, and the formal parameters of its heading. A count of 2^64 or more is given as 2^64 - 1.
     pub fn nodes(&self) -> u64
         ensures { result ≡ min (routine_nodes (routine_of self.now)) (2 ^ 64 - 1) }
     {
@@ -79,7 +83,7 @@ impl Routine {
     }
 
     /// The cells of the routine's formal parameters, result and variables, and of the value parameters of array or
-    /// record type at each call in its own block. 2^64 and more are told as 2^64 - 1.
+    /// record type at each call in its own block. A count of 2^64 or more is given as 2^64 - 1.
     pub fn cells(&self) -> u64
         ensures { result ≡ min (routine_cells (routine_of self.now)) (2 ^ 64 - 1) }
     {
@@ -87,7 +91,7 @@ impl Routine {
     }
 
     /// The routine keeps the limits: nested at most 15 deep within the program block, at most 32 formal parameters in
-    /// its heading and in each within it, types of at most 100,000 cells there and of its variables, 100,000 cells and
+    /// its heading and in each within it, types of at most 100,000 cells there and for its variables, 100,000 cells and
     /// 4,194,304 nodes in all.
     #[tactic(auto, unfolding(crate::specs::Counts::is_routine_within_limits))]
     fn is_within_limits(&self) -> bool
@@ -141,9 +145,10 @@ fn is_short(formals: &[Formal]) -> bool
     count_formals(formals).nodes <= 32
 }
 
-/// Whether a procedural parameter's heading keeps the limits, where it is known of its formal parameters.
+/// Whether a procedural parameter's heading keeps the limits, given whether its formal parameters do.
 fn heading_keeps(small: bool, formals: &[Formal], result_type: &Option<Ty>) -> bool
-    ensures { result ≡ (is_short (formals_of formals.now) && small && is_small_result (option_map type_of result_type.now)) }
+    ensures { result ≡ (is_short (formals_of formals.now) && small && is_small_result
+        (option_map type_of result_type.now)) }
 {
     is_short(formals) && small && is_small_result(result_type)
 }
@@ -185,7 +190,7 @@ fn are_routines_within_limits(routines: &[Routine]) -> bool
     true
 }
 
-/// A program of these routines and domain types keeps the limits.
+/// A program with these routines and domain types keeps the limits.
 #[tactic(auto, using(crate::proofs::FormalLemmas::limits_of))]
 fn are_within_limits(routines: &[Routine], domains: &[Ty]) -> bool
     ensures { result ≡ is_within_limits (program_of routines.now domains.now) }
@@ -196,8 +201,8 @@ fn are_within_limits(routines: &[Routine], domains: &[Ty]) -> bool
         && are_routines_within_limits(routines)
 }
 
-/// A checked program: its routines by their numbers, of which 0 is the program block, and the domain types of its
-/// pointer types by theirs.
+/// A checked program: its routines by their numbers, where 0 is the program block, and the domain types of its pointer
+/// types by theirs.
 pub struct Checked {
     routines: Vec<Routine>,
     domains: Vec<Ty>,
@@ -234,7 +239,7 @@ impl Model for Checked {
 impl Checked {
     ghost use Rattle.ps_tree.specs.Checked.{program_in};
 
-    /// The program of these routines and domain types, where it keeps the limits: at most 1,048,576 routines and as many
+    /// The program with these routines and domain types, if it keeps the limits: at most 1,048,576 routines and as many
     /// pointer types, types of at most 100,000 cells (domains, variables, results and formal parameters, those of a
     /// procedural parameter's heading too), and each routine nested at most 15 deep within the program block, with at
     /// most 32 formal parameters in its heading and in each within it, 100,000 cells and 4,194,304 nodes.
@@ -275,8 +280,8 @@ impl Checked {
         self.routines[routine as usize].cells()
     }
 
-    /// The nodes of a routine: the statements, operators and leading signs, operands, selectors, actual parameters, write
-    /// parameters and set members in its own block, and the formal parameters of its heading.
+    /// The nodes of a routine: the statements, operators and leading signs, operands, selectors, actual parameters,
+    /// write parameters and set members in its own block, and the formal parameters of its heading.
     pub fn nodes(&self, routine: u32) -> u64
         requires { routine < length self.now.routines }
         ensures { result ≡ routine_nodes (routine_at (program_in self.now) routine) }

@@ -1,4 +1,4 @@
-// The checked tree: the program with every name resolved, and with the line of each token that an error is told at.
+// The checked tree: the program with every name resolved, and the line of each token at which an error is reported.
 
 ghost use Rattle.std.specs.Prelude.{◌≡◌, ◌++◌, ◌∷◌, [], IfOk};
 ghost use Rattle.ps_tree.specs.View.{place_of, selector_of, expr_of, set_of};
@@ -61,7 +61,7 @@ pub enum SetRelation {
     Includes,
 }
 
-/// A required function of an ordinal (6.6.6). `succ` and `pred` bear the greatest and the least value of their type.
+/// A required function of an ordinal (6.6.6). `succ` and `pred` carry the greatest and the least value of their type.
 #[derive(Clone, Copy)]
 pub enum RequiredFunction {
     Abs,
@@ -73,7 +73,7 @@ pub enum RequiredFunction {
     Pred { low: i32 },
 }
 
-/// The values that a variable of a simple type takes: those of an ordinal type, or any where it is a pointer.
+/// The values that a variable of a simple type takes: those of an ordinal type, or any if it is a pointer.
 #[derive(Clone, Copy)]
 pub enum Range {
     Any,
@@ -87,8 +87,8 @@ pub enum Direction {
     Downto,
 }
 
-/// A variable (6.5): what its name denotes, and the selectors behind the name, from left to right. `at` is where the name
-/// begins in the text; it means nothing for what the program does, and serves to tell a refusal there.
+/// A variable (6.5): what its name denotes, and the selectors after the name, from left to right. `at` is where the
+/// name begins in the text; it has no bearing on what the program does, and serves only to report a refusal there.
 #[cycle(tree)]
 pub struct Place {
     pub base: PlaceBase,
@@ -99,9 +99,9 @@ pub struct Place {
 /// What a variable's name denotes by itself.
 pub enum PlaceBase {
     /// An entire variable, a formal parameter or a function's result: entry `index` of the routine `up` levels out.
-    /// A routine's entries are its result, where it is a function, its formal parameters and its variables.
+    /// A routine's entries are its result, if it is a function, then its formal parameters and its variables.
     Entry { up: u32, index: u32 },
-    /// A field's name alone: field `number` of the record that a `with` around it opened; the innermost is 0.
+    /// A field's name alone: field `number` of the record opened by an enclosing `with`; the innermost is 0.
     Opened { which: u32, ty: Ty, number: u32 },
 }
 
@@ -135,7 +135,7 @@ pub enum Expr {
         first: Box<Expr>,
         steps: Vec<ArithmeticStep>,
     },
-    /// A first operand and at least one more, with one operator between each two.
+    /// A first operand and at least one more, with the same operator between each two.
     Logic {
         operator: BooleanOperator,
         first: Box<Expr>,
@@ -176,7 +176,7 @@ pub enum Expr {
     Eoln {
         line: Line,
     },
-    /// A call of a function that is declared in the block `up` levels out.
+    /// A call of a function declared in the block `up` levels out.
     Call {
         routine: u32,
         up: u32,
@@ -192,7 +192,7 @@ pub enum Expr {
     },
 }
 
-/// An operator on integers and the operand behind it; `line` is that of the operator.
+/// An operator on integers and the operand after it; `line` is that of the operator.
 #[cycle(tree)]
 pub struct ArithmeticStep {
     pub operator: ArithmeticOperator,
@@ -212,7 +212,7 @@ pub enum SetExpr {
     },
 }
 
-/// An operator on sets and the operand behind it.
+/// An operator on sets and the operand after it.
 #[cycle(tree)]
 pub struct SetStep {
     pub operator: SetOperator,
@@ -256,7 +256,7 @@ pub enum Argument {
     },
     /// A variable parameter.
     Variable(Place),
-    /// A routine that is declared in the block `up` levels out.
+    /// A routine declared in the block `up` levels out.
     Routine {
         routine: u32,
         up: u32,
@@ -320,7 +320,7 @@ pub enum Statement {
         target: Place,
         value: Structure,
     },
-    /// A call of a procedure that is declared in the block `up` levels out.
+    /// A call of a procedure declared in the block `up` levels out.
     Call {
         routine: u32,
         up: u32,
@@ -435,8 +435,8 @@ pub enum Formal {
     },
 }
 
-/// A routine. `chain` has its number and those of the routines round it, the innermost first; routine 0 is the
-/// program block. `line` is that of its block's `begin`.
+/// A routine. `chain` has its number and those of the routines around it, innermost first; routine 0 is the program
+/// block. `line` is that of its block's `begin`.
 pub struct Routine {
     pub chain: Vec<u32>,
     pub formals: Vec<Formal>,
@@ -446,9 +446,9 @@ pub struct Routine {
     pub line: Line,
 }
 
-// Chains (6.5 and 6.7.2): what comes next goes to the end of the chain that stands before it.
+// Chains (6.5 and 6.7.2): what comes next is added at the end of the chain before it.
 
-/// A list with one more item at its end. Most lists stay at one item, so there is room for no more at first.
+/// A list with one more item at its end. Most lists stay at one item, so at first there is no room for more.
 fn appended<A: Drop>(list: Vec<A>, item: A) -> Result<Vec<A>, AllocError>
     ensures { IfOk result (λ longer. longer.items ≡ list.items ++ item ∷ []) }
 {
@@ -460,7 +460,7 @@ fn appended<A: Drop>(list: Vec<A>, item: A) -> Result<Vec<A>, AllocError>
     Ok(longer)
 }
 
-/// A first operand, on the heap, and the list of the one item behind it.
+/// A first operand, on the heap, and the list of the one item after it.
 fn chain<A: Drop, B: Drop>(alloc: Global, first: A, item: B) -> Result<(Box<A>, Vec<B>), AllocError>
     ensures first { IfOk result (λ pair. pair.0.value ≡ first) }
     ensures rest { IfOk result (λ pair. pair.1.items ≡ item ∷ []) }
@@ -600,8 +600,8 @@ impl SetExpr {
     }
 }
 
-// How values of these types are let go: part by part. Said here, it is proved once; were it derived, each crate above that
-// lets a value go would prove it again.
+// How values of these types are dropped: part by part. Written here, it is proved once; were it derived, each crate
+// above that drops a value would prove it again.
 impl Drop for Place {
     #[cycle(letting_go)]
     fn drop(self) {

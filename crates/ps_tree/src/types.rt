@@ -1,8 +1,12 @@
-// Types: what they are, when two are one, and their sizes.
+// Types: what they are, when two are the same, and their sizes.
 
-ghost use Rattle.std.specs.Prelude.{◌≡◌, ◌↔◌, ◌+◌, ◌*◌, ◌-◌, ◌^◌, ◌<◌, ◌≤◌, min, IfOk, IfSome, IsTrue, option_map, ℕ, List};
-ghost use Rattle.ps_tree.specs.Types.{Compatible, Assignable, is_same_host, are_same, is_same_ordinal, is_same_type, is_char, is_string_index, string_length, goes_with, has_variables, is_compatible, is_assignable, field_list, field_types, field_at, field_in};
-ghost use Rattle.ps_tree.specs.Sizes.{depth, depth_of_fields, value_count, fits_byte, whole_words, cells, record_cells, bytes, record_bytes, field_bytes, bytes_before, beginnings};
+ghost use Rattle.std.specs.Prelude.{◌≡◌, ◌↔◌, ◌+◌, ◌*◌, ◌-◌, ◌^◌, ◌<◌, ◌≤◌, min, IfOk, IfSome, IsTrue, option_map, ℕ};
+ghost use Rattle.std.specs.Prelude.{List};
+ghost use Rattle.ps_tree.specs.Types.{Compatible, Assignable, is_same_host, are_same, is_same_ordinal, is_same_type};
+ghost use Rattle.ps_tree.specs.Types.{is_char, is_string_index, string_length, goes_with, has_variables, is_compatible};
+ghost use Rattle.ps_tree.specs.Types.{is_assignable, field_list, field_types, field_at, field_in};
+ghost use Rattle.ps_tree.specs.Sizes.{depth, depth_of_fields, value_count, fits_byte, whole_words, cells, record_cells};
+ghost use Rattle.ps_tree.specs.Sizes.{bytes, record_bytes, field_bytes, bytes_before, beginnings};
 ghost use Rattle.ps_tree.specs.TypeDepth.{deepest};
 ghost use Rattle.ps_tree.specs.TypeView.{type_of, types_of};
 ghost use Rattle.ps_tree.specs.declared.types.Component.TheDeep.{size-Ty};
@@ -12,7 +16,7 @@ use std::alloc::{AllocError, Global};
 use std::marker::Model;
 use std::rc::Rc;
 
-/// What the values of an ordinal type are (6.4.2.2, 6.4.2.3). An enumerated type is known by its denoter.
+/// What the values of an ordinal type are (6.4.2.2, 6.4.2.3). An enumerated type is identified by its denoter.
 #[derive(Clone, Copy)]
 pub enum Host {
     Integer,
@@ -22,8 +26,8 @@ pub enum Host {
     Enumeration { at: u32, greatest: i32 },
 }
 
-/// An ordinal type (6.4.2): its host, the offset of its own denoter's first token where it is a subrange, and its
-/// lowest and highest value.
+/// An ordinal type (6.4.2): its host, the offset of its own denoter's first token if it is a subrange, and its lowest
+/// and highest values.
 #[derive(Clone, Copy)]
 pub struct Ordinal {
     pub host: Host,
@@ -40,9 +44,9 @@ pub enum Packing {
     Either,
 }
 
-/// A type (6.4). One that is made by a denoter of its own bears the offset of the denoter's first token, so that two
-/// denoters of one form are two types. A pointer type bears its number among the pointer types, counted in the order
-/// of their denoters; its domain type, which may contain it, stands in the program's list of domains.
+/// A type (6.4). One made by a denoter of its own carries the offset of the denoter's first token, so that two denoters
+/// of the same form are two types. A pointer type carries its number among the pointer types, counted in the order of
+/// their denoters; its domain type, which may contain it, is in the program's list of domains.
 #[cycle(types)]
 pub enum Ty {
     /// integer, char, Boolean, an enumerated type or a subrange
@@ -52,7 +56,7 @@ pub enum Ty {
     },
     /// the type of `nil`
     Nil,
-    /// A set type; without a denoter the type of a set constructor or of an operation on sets.
+    /// A set type; without a denoter, the type of a set constructor or of an operation on sets.
     Set {
         at: Option<u32>,
         packing: Packing,
@@ -85,8 +89,8 @@ pub struct Component {
     byte_count: u32,
 }
 
-/// The fields of a record type: their names, in small letters, their types, and where they begin, in one order. With the sizes
-/// of a record.
+/// The fields of a record type: their names, in lower case, their types, and where they begin, in the same order; with
+/// the sizes of a record.
 #[cycle(types)]
 pub struct Fields {
     names: Names,
@@ -126,7 +130,7 @@ impl Drop for Ty {
 }
 
 impl Ty {
-    /// Lets the type go but for the one with the most cells of those within that no other type has.
+    /// Drops the type except for the one with the most cells among the types in it that no other type shares.
     #[cycle(types)]
     fn largest_within(self) -> Option<Ty>
         ensures { IfSome result (λ ty. size-Ty ty < size-Ty self) }
@@ -194,7 +198,7 @@ impl Drop for Fields {
     }
 }
 
-/// Lets types go, the one with the most cells last.
+/// Drops types, the one with the most cells last.
 #[cycle(types)]
 fn release_all(types: Vec<Ty>) {
     let mut rest = types;
@@ -204,9 +208,8 @@ fn release_all(types: Vec<Ty>) {
     }
 }
 
-/// Lets a type go, and in this loop the types within it that no other type has. Of the fields of a record the one with
-/// the most cells is the last: each other has at most half of the record's. So types that are nested deep in one another
-/// need little stack.
+/// Drops a type, and in this loop the types within it that no other type shares. Among the fields of a record the one
+/// with the most cells is last: each other has at most half of the record's. So deeply nested types need little stack.
 #[cycle(types)]
 fn release(ty: Ty) {
     let mut rest = ty;
@@ -261,7 +264,7 @@ impl Model for Fields {
     ghost size_decreases = { λ f h. deep_in_fields f.names f.types.items };
 }
 
-/// Two types have values of one kind: all their subranges apart, they are one type.
+/// Two types have values of one kind: apart from all their subranges, they are the same type.
 pub fn same_host(a: Host, b: Host) -> bool
     ensures { result ≡ is_same_host a b }
 {
@@ -300,7 +303,7 @@ fn packings_agree(a: Packing, b: Packing) -> bool
 }
 
 impl Ordinal {
-    /// How many values the type has.
+    /// The number of values of the type.
     pub fn value_count(self) -> u64
         ensures value { result ≡ value_count self }
         ensures small { result ≤ 2 ^ 32 }
@@ -377,7 +380,7 @@ impl Ty {
         }
     }
 
-    /// The length of the strings that are the type's values, where it is a string type (6.4.3.2).
+    /// The length of the strings that are the type's values, if it is a string type (6.4.3.2).
     #[tactic(auto, unfolding(crate::specs::TypeView::type_of, crate::specs::Types::string_length))]
     pub fn string_length(&self) -> Option<u32>
         ensures { result ≡ string_length (type_of self.now) }
@@ -406,7 +409,7 @@ impl Ty {
     }
 }
 
-/// One type (6.4.1).
+/// The same type (6.4.1).
 #[tactic(auto, unfolding(crate::specs::TypeView::type_of, crate::specs::Types::is_same_type))]
 pub fn same_type(a: &Ty, b: &Ty) -> bool
     ensures { result ≡ is_same_type (type_of a.now) (type_of b.now) }
@@ -432,7 +435,7 @@ pub fn same_type(a: &Ty, b: &Ty) -> bool
     }
 }
 
-/// String types with equally many components.
+/// String types with the same number of components.
 #[tactic(auto, unfolding(crate::specs::TypeView::type_of))]
 fn same_strings(a: &Ty, b: &Ty) -> bool
     ensures { result ≡ are_same (string_length (type_of a.now)) (string_length (type_of b.now)) }
@@ -498,8 +501,8 @@ fn may_be_of_a_variable(ty: &Ty) -> bool
     }
 }
 
-/// A value of the first type may go into a variable of the second (6.4.6). The value itself is tested as the program
-/// runs.
+/// A value of the first type may be assigned to a variable of the second (6.4.6). The value itself is tested at run
+/// time.
 pub fn assignable(from: &Ty, to: &Ty) -> bool
     ensures rule { IsTrue result ↔ Assignable (type_of from.now) (type_of to.now) }
     ensures value { result ≡ is_assignable (type_of from.now) (type_of to.now) }
@@ -515,7 +518,7 @@ fn whole_words(n: u64) -> u64
     4 * ((n + 3) / 4)
 }
 
-/// The number, or the largest of four bytes where it is above that.
+/// The number, or the largest of four bytes if it is above that.
 fn capped(n: u64) -> u32
     ensures { result ≡ min n (2 ^ 32 - 1) }
 {
@@ -541,7 +544,7 @@ impl Ty {
     }
 
     /// The cells of a variable of the type: 1 for an ordinal or a pointer, 8 for a set, for an array its length times
-    /// its component's, for a record the sum, or 1 where it has no field. A count of 2^64 and more is told as 2^64 - 1.
+    /// its component's, for a record the sum, or 1 if it has no field. A count of 2^64 or more is given as 2^64 - 1.
     #[tactic(auto, using(crate::proofs::SizeLemmas::times_capped), unfolding(crate::specs::TypeView::type_of, crate::specs::Sizes::cells))]
     pub fn cells(&self) -> u64
         ensures { result ≡ min (cells (type_of self.now)) (2 ^ 64 - 1) }
@@ -560,8 +563,8 @@ impl Ty {
     }
 
     /// The bytes of a variable of the type: 4 for an ordinal or a pointer, 32 for a set, for an array its length times
-    /// its component's, for a record the sum. A packed array whose components lie in 0..255 takes one for each, filled
-    /// up to a multiple of 4. A count of 2^32 and more is told as 2^32 - 1.
+    /// its component's, for a record the sum. A packed array whose components lie in 0..255 takes one for each, padded
+    /// to a multiple of 4. A count of 2^32 or more is given as 2^32 - 1.
     #[tactic(auto, using(crate::proofs::SizeLemmas::times_capped), unfolding(crate::specs::TypeView::type_of, crate::specs::Sizes::bytes))]
     pub fn bytes(&self) -> u32
         ensures { result ≡ min (bytes (type_of self.now)) (2 ^ 32 - 1) }
@@ -588,7 +591,7 @@ impl Ty {
 }
 
 impl Component {
-    /// The type, as that of components.
+    /// The type, as that of an array's components.
     pub fn new(ty: Ty) -> Component
         ensures { result ≡ type_of ty }
     {
@@ -636,7 +639,8 @@ impl Component {
 
 /// The cells of a record with fields of these types.
 fn cells_of_all(types: &[Ty]) -> u64
-    ensures { (names : List (List ℕ)) → result ≡ min (record_cells (field_list names (types_of types.now))) (2 ^ 64 - 1) }
+    ensures { (names : List (List ℕ)) → result ≡ min (record_cells (field_list names (types_of types.now)))
+        (2 ^ 64 - 1) }
 {
     if types.is_empty() {
         return 1;
@@ -672,7 +676,7 @@ fn offsets_of_all(alloc: Global, types: &[Ty]) -> Result<Vec<u32>, AllocError>
     Ok(offsets)
 }
 
-/// Takes out the type with the most cells.
+/// Removes the type with the most cells.
 #[tactic(auto, using(crate::proofs::DropLemmas::deepest_left, crate::proofs::DropLemmas::deepest_taken))]
 fn take_largest(types: &mut Vec<Ty>) -> Option<Ty>
     ensures rest { deepest types.new.items ≤ deepest types.old.items }
@@ -721,7 +725,8 @@ impl Fields {
         })
     }
 
-    /// The field of this name (6.4.3.3): its number, counted from 0, and its type. A number above 2^32 - 1 can't be told.
+    /// The field with this name (6.4.3.3): its number, counted from 0, and its type. No number above 2^32 - 1 can be
+    /// given.
     pub fn find(&self, name: &[u8]) -> Option<(u32, &Ty)>
         ensures { option_map (λ f. (f.0, type_of f.1.now)) result ≡ field_in self.now name.now }
     {
@@ -752,8 +757,8 @@ impl Fields {
         self.types.as_slice()
     }
 
-    /// Where the field of this number, counted from 0, begins: so many bytes behind the record's first, told up to 2^32 - 1.
-    /// Past the last field it is where the record ends.
+    /// Where the field with this number, counted from 0, begins: its offset in bytes from the record's first, given up
+    /// to 2^32 - 1. Past the last field it is where the record ends.
     pub fn offset(&self, number: u32) -> u32
         ensures { result ≡ min (bytes_before (field_types self.now) number) (2 ^ 32 - 1) }
     {

@@ -1,4 +1,4 @@
--- What is read, written and alive in a body that adds what a call gives to a parameter, and tries again while that is 0.
+-- What is read, written and alive in a body that adds a call's result to a parameter, and tries again while that is 0.
 use Rattle.std.proofs.Common.{◌≡◌, ℕ, true, false, List, [], ◌∷◌, slice_get, Option, pos, refl}
 use Rattle.tac_code.specs.declared.code.Operator.TheVariants.{Add}
 use Rattle.tac_code.specs.declared.code.Relation.TheVariants.{Equal}
@@ -12,7 +12,8 @@ use Rattle.risc_alloc.specs.Homes.{home_in}
 
 body : List Instruction
 body =
-    Call 1 2 [] 5 ∷ Arithmetic Add 2 0 (operand.Temporary 1) 6 5 ∷ BranchBack Equal 2 (operand.Number (pos 0)) 2 ∷ Return 2 ∷ []
+    Call 1 2 [] 5 ∷ Arithmetic Add 2 0 (operand.Temporary 1) 6 5 ∷ BranchBack Equal 2 (operand.Number (pos 0)) 2
+    ∷ Return 2 ∷ []
 
 at : ℕ → Option Instruction
 at place = slice_get body place
@@ -29,11 +30,12 @@ a_branch_leads_on_and_back : (leads (at 2) 2 3 ≡ true) × (leads (at 2) 2 0 �
 unfolding at body
 a_branch_leads_on_and_back = (refl, refl, refl)
 
-a_call_comes_back : (comes_back at 1 1 ≡ true) × (comes_back at 1 0 ≡ false) × (comes_back at 2 2 ≡ false) × (comes_back at 0 0 ≡ false)
+a_call_comes_back : (comes_back at 1 1 ≡ true) × (comes_back at 1 0 ≡ false) × (comes_back at 2 2 ≡ false)
+    × (comes_back at 0 0 ≡ false)
 unfolding at body
 a_call_comes_back = (refl, refl, refl, refl)
 
--- The parameter is alive across the call, and behind the sum, since the branch goes back.
+-- The parameter is alive across the call, and after the sum, since the branch goes back.
 a_parameter_is_alive : Alive at 1 0
 unfolding at body
 a_parameter_is_alive = Used 1 0 refl

@@ -1,5 +1,6 @@
 -- The parts in which the code looks at an instruction are the whole.
-use Rattle.std.proofs.Common.{◌≡◌, ℕ, suc, ◌+◌, ◌-◌, ◌<◌, ◌⊎◌, inl, inr, ⊎_elim, Bool, true, false, ◌||◌, nat_eq, List, [], ◌∷◌, ◌++◌, length, slice_index, Option, Some, None, refl, sym, ap, ◌∙◌, arith}
+use Rattle.std.proofs.Common.{◌≡◌, ℕ, suc, ◌+◌, ◌-◌, ◌<◌, ◌⊎◌, inl, inr, ⊎_elim, Bool, true, false, ◌||◌, nat_eq, List}
+use Rattle.std.proofs.Common.{[], ◌∷◌, ◌++◌, length, slice_index, Option, Some, None, refl, sym, ap, ◌∙◌, arith}
 use Rattle.std.specs.Option.{option_to_list}
 use Rattle.std.proofs.lemmas.Bool.{eqb-true, or_cases}
 use Rattle.tac_code.specs.declared.code.Operand.{Operand}
@@ -7,9 +8,13 @@ use Rattle.tac_code.specs.declared.code.Operand.TheVariants as operand
 use Rattle.tac_code.specs.declared.code.Base.{Base}
 use Rattle.tac_code.specs.declared.code.Base.TheVariants as base
 use Rattle.tac_code.specs.declared.code.Instruction.{Instruction}
-use Rattle.tac_code.specs.declared.code.Instruction.TheVariants.{Arithmetic, Bits, Compare, Offset, Index, Load, Store, LoadByte, StoreByte, Jump, JumpBack, Branch, BranchBack, Call, CallValue, Return, Trap, End}
-use Rattle.risc_alloc.specs.Flow.{in_operand, in_base, read_by, written_by, is_among, is_it, reads, writes, leads, gives_to}
-use Rattle.risc_alloc.specs.Parts.{in_operand_or_none, in_base_or_none, read_first, read_second, read_passed, is_call, falls, target_of}
+use Rattle.tac_code.specs.declared.code.Instruction.TheVariants.{Arithmetic, Bits, Compare, Offset, Index, Load, Store}
+use Rattle.tac_code.specs.declared.code.Instruction.TheVariants.{LoadByte, StoreByte, Jump, JumpBack, Branch}
+use Rattle.tac_code.specs.declared.code.Instruction.TheVariants.{BranchBack, Call, CallValue, Return, Trap, End}
+use Rattle.risc_alloc.specs.Flow.{in_operand, in_base, read_by, written_by, is_among, is_it, reads, writes, leads}
+use Rattle.risc_alloc.specs.Flow.{gives_to}
+use Rattle.risc_alloc.specs.Parts.{in_operand_or_none, in_base_or_none, read_first, read_second, read_passed, is_call}
+use Rattle.risc_alloc.specs.Parts.{falls, target_of}
 use Rattle.risc_alloc.specs.Windows.{IsIn}
 
 in_operand_is : (b : Operand) → in_operand b ≡ option_to_list (in_operand_or_none b) ++ []
@@ -58,13 +63,15 @@ among_append u (x ∷ xs) ys e =
 among_some : (u : ℕ) (o : Option ℕ) → is_among u (option_to_list o) ≡ true → o ≡ Some u
 among_some u None e = absurd (cc)
 among_some u (Some t) e =
-    ⊎_elim (λ (same : nat_eq u t ≡ true). ap Some (sym (eqb-true u t same))) (λ (no : false ≡ true). absurd (cc)) (or_cases (nat_eq u t) false e)
+    ⊎_elim (λ (same : nat_eq u t ≡ true). ap Some (sym (eqb-true u t same))) (λ (no : false ≡ true). absurd (cc))
+    (or_cases (nat_eq u t) false e)
 
 pub among_in : (u : ℕ) (list : List ℕ) → is_among u list ≡ true → IsIn list u
 among_in u [] e = absurd (cc)
 among_in u (x ∷ xs) e =
     ⊎_elim
-    (λ (same : nat_eq u x ≡ true). let lt : 0 < length (x ∷ xs) = omega arith in let at : slice_index (x ∷ xs) 0 ≡ u = sym (eqb-true u x same) in (0, lt, at))
+    (λ (same : nat_eq u x ≡ true). let lt : 0 < length (x ∷ xs) = omega arith in let at : slice_index (x ∷ xs) 0
+    ≡ u = sym (eqb-true u x same) in (0, lt, at))
     (λ (rest : is_among u xs ≡ true). later (among_in u xs rest))
     (or_cases (nat_eq u x) (is_among u xs) e)
   where
@@ -78,7 +85,8 @@ pub data ReadAs (i : Instruction) (u : ℕ) : Type 0 where
 
 pub read_as : (i : Instruction) (u : ℕ) → reads (Some i) u ≡ true → ReadAs i u
 read_as i u e =
-    let whole : is_among u (together (read_first i) (read_second i) (read_passed i)) ≡ true = sym (ap (λ (l : List ℕ). is_among u l) (parts_are i)) ∙ e in
+    let whole : is_among u (together (read_first i) (read_second i) (read_passed i)) ≡ true = sym
+    (ap (λ (l : List ℕ). is_among u l) (parts_are i)) ∙ e in
     ⊎_elim
     (λ (first : is_among u (option_to_list (read_first i)) ≡ true). First (among_some u (read_first i) first))
     (λ (rest : is_among u (option_to_list (read_second i) ++ read_passed i) ≡ true).
@@ -108,11 +116,13 @@ calls_of _ t e = absurd (cc)
 
 one_of : (a b : ℕ) → is_among a (b ∷ []) ≡ true → a ≡ b
 one_of a b e =
-    ⊎_elim (λ (same : nat_eq a b ≡ true). eqb-true a b same) (λ (no : false ≡ true). absurd (cc)) (or_cases (nat_eq a b) false e)
+    ⊎_elim (λ (same : nat_eq a b ≡ true). eqb-true a b same) (λ (no : false ≡ true). absurd (cc))
+    (or_cases (nat_eq a b) false e)
 
 two_of : (a b c : ℕ) → is_among a (b ∷ c ∷ []) ≡ true → (a ≡ b) ⊎ (a ≡ c)
 two_of a b c e =
-    ⊎_elim (λ (same : nat_eq a b ≡ true). inl (eqb-true a b same)) (λ (rest : is_among a (c ∷ []) ≡ true). inr (one_of a c rest)) (or_cases (nat_eq a b) (is_among a (c ∷ [])) e)
+    ⊎_elim (λ (same : nat_eq a b ≡ true). inl (eqb-true a b same))
+    (λ (rest : is_among a (c ∷ []) ≡ true). inr (one_of a c rest)) (or_cases (nat_eq a b) (is_among a (c ∷ [])) e)
 
 pub data LeadsAs (i : Instruction) (place next : ℕ) : Type 0 where
   Falls : falls i ≡ true → next ≡ suc place → LeadsAs i place next
@@ -122,9 +132,11 @@ pub leads_as : (i : Instruction) (place next : ℕ) → leads (Some i) place nex
 leads_as (Jump n) place next e = Jumps (ap Some (sym (one_of next (suc place + n) e)))
 leads_as (JumpBack n) place next e = Jumps (ap Some (sym (one_of next (place - n) e)))
 leads_as (Branch relation a b n) place next e =
-    ⊎_elim (λ (on : next ≡ suc place). Falls refl on) (λ (there : next ≡ suc place + n). Jumps (ap Some (sym there))) (two_of next (suc place) (suc place + n) e)
+    ⊎_elim (λ (on : next ≡ suc place). Falls refl on) (λ (there : next ≡ suc place + n). Jumps (ap Some (sym there)))
+    (two_of next (suc place) (suc place + n) e)
 leads_as (BranchBack relation a b n) place next e =
-    ⊎_elim (λ (on : next ≡ suc place). Falls refl on) (λ (there : next ≡ place - n). Jumps (ap Some (sym there))) (two_of next (suc place) (place - n) e)
+    ⊎_elim (λ (on : next ≡ suc place). Falls refl on) (λ (there : next ≡ place - n). Jumps (ap Some (sym there)))
+    (two_of next (suc place) (place - n) e)
 leads_as (Return a) place next e = absurd (cc)
 leads_as (Trap error line) place next e = absurd (cc)
 leads_as End place next e = absurd (cc)

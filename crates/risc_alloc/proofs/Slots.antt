@@ -1,5 +1,7 @@
--- Slots of their own are never shared, and code that is sound reads only temporaries that there are.
-use Rattle.std.proofs.Common.{◌≡◌, ◌≢◌, ℕ, zero, suc, ◌<◌, ◌≤◌, ◌⊎◌, inl, inr, ⊎_elim, true, List, [], ◌∷◌, ◌++◌, length, get_or, slice_get, slice_index, Option, Some, None, IfSome, refl, sym, ap, ◌∙◌, subst, arith}
+-- Slots of their own are never shared, and sound code reads only temporaries that exist.
+use Rattle.std.proofs.Common.{◌≡◌, ◌≢◌, ℕ, zero, suc, ◌<◌, ◌≤◌, ◌⊎◌, inl, inr, ⊎_elim, true, List, [], ◌∷◌, ◌++◌}
+use Rattle.std.proofs.Common.{length, get_or, slice_get, slice_index, Option, Some, None, IfSome, refl, sym, ap, ◌∙◌}
+use Rattle.std.proofs.Common.{subst, arith}
 use Rattle.std.proofs.lemmas.Bool.{cases_lt}
 use Rattle.std.proofs.lemmas.List.{length-append}
 use Rattle.std.proofs.lemmas.Option.{slice_get_within, slice_get_cases, same_Some}
@@ -8,7 +10,10 @@ use Rattle.tac_code.specs.declared.code.Operand.TheVariants as operand
 use Rattle.tac_code.specs.declared.code.Base.{Base}
 use Rattle.tac_code.specs.declared.code.Base.TheVariants as base
 use Rattle.tac_code.specs.declared.code.Instruction.{Instruction}
-use Rattle.tac_code.specs.declared.code.Instruction.TheVariants.{Copy, Arithmetic, Bits, Compare, CheckRange, CheckPointer, Offset, Index, Load, Store, LoadByte, StoreByte, Branch, BranchBack, Call, CallValue, Return, Put}
+use Rattle.tac_code.specs.declared.code.Instruction.TheVariants.{Copy, Arithmetic, Bits, Compare, CheckRange}
+use Rattle.tac_code.specs.declared.code.Instruction.TheVariants.{CheckPointer, Offset, Index, Load, Store, LoadByte}
+use Rattle.tac_code.specs.declared.code.Instruction.TheVariants.{StoreByte, Branch, BranchBack, Call, CallValue}
+use Rattle.tac_code.specs.declared.code.Instruction.TheVariants.{Return, Put}
 use Rattle.tac_code.specs.declared.code.TacRoutine.{TacRoutine}
 use Rattle.tac_code.specs.declared.check.Limits.{Limits}
 use Rattle.tac_code.specs.Meaning.{Code}
@@ -31,13 +36,15 @@ operand_below : (n : ℕ) (b : Operand) → IsOperand n b → IfSome (in_operand
 operand_below n (operand.Temporary t) h = h
 operand_below n (operand.Number z) h = tt
 
-base_below : (l : Limits) (b : Base) (offset bytes : ℕ) → IsBase l b offset bytes → IfSome (in_base_or_none b) (λ u. u < l.temporaries)
+base_below : (l : Limits) (b : Base) (offset bytes : ℕ) → IsBase l b offset bytes → IfSome (in_base_or_none b)
+    (λ u. u < l.temporaries)
 base_below l base.Frame offset bytes h = tt
 base_below l base.Scratch offset bytes h = tt
 base_below l base.Program offset bytes h = tt
 base_below l (base.Temporary t) offset bytes h = h
 
-first_below : (l : Limits) (place : ℕ) (i : Instruction) → IsSoundAt l place i → IfSome (read_first i) (λ u. u < l.temporaries)
+first_below : (l : Limits) (place : ℕ) (i : Instruction) → IsSoundAt l place i → IfSome (read_first i)
+    (λ u. u < l.temporaries)
 first_below l place (Copy t a) s = s.1
 first_below l place (Arithmetic operator t a b error line) s = s.1
 first_below l place (Bits operator t a b) s = s.1
@@ -54,7 +61,8 @@ first_below l place (Return a) s = s
 first_below l place (Put a) s = s
 first_below l place _ s = tt
 
-second_below : (l : Limits) (place : ℕ) (i : Instruction) → IsSoundAt l place i → IfSome (read_second i) (λ u. u < l.temporaries)
+second_below : (l : Limits) (place : ℕ) (i : Instruction) → IsSoundAt l place i → IfSome (read_second i)
+    (λ u. u < l.temporaries)
 second_below l place (Arithmetic operator t a b error line) s = operand_below l.temporaries b s.2
 second_below l place (Bits operator t a b) s = operand_below l.temporaries b s.2
 second_below l place (Compare relation t a b) s = operand_below l.temporaries b s.2
@@ -72,7 +80,8 @@ operands_below : (n : ℕ) (list : List ℕ) (u : ℕ) → AreOperands n list �
 operands_below n list u h at =
     let below : slice_index list at.0 < n = h.1 at.0 0 at.1 in subst (λ (x : ℕ). x < n) at.2 below
 
-passed_below : (l : Limits) (place : ℕ) (i : Instruction) (u : ℕ) → IsSoundAt l place i → IsIn (read_passed i) u → u < l.temporaries
+passed_below : (l : Limits) (place : ℕ) (i : Instruction) (u : ℕ) → IsSoundAt l place i → IsIn (read_passed i) u
+    → u < l.temporaries
 passed_below l place (Call t r operands line) u s at = operands_below l.temporaries operands u s.2 at
 passed_below l place (CallValue t a operands line) u s at = operands_below l.temporaries operands u s.2 at
 passed_below l place _ u s at = let lt : at.0 < 0 = at.1 in absurd (omega arith)
@@ -86,7 +95,8 @@ reads_at l place i u s (First e) = below_of l.temporaries (read_first i) u e (fi
 reads_at l place i u s (Second e) = below_of l.temporaries (read_second i) u e (second_below l place i s)
 reads_at l place i u s (PassedTo at) = passed_below l place i u s at
 
-pub reads_below : (code : Code) (routine : TacRoutine) → IsSoundRoutine (limits_of code routine) routine → ReadsBelow routine.temporaries routine.body
+pub reads_below : (code : Code) (routine : TacRoutine) → IsSoundRoutine (limits_of code routine) routine
+    → ReadsBelow routine.temporaries routine.body
 reads_below code routine sound =
     λ place i u e r. reads_at (limits_of code routine) place i u (sound.body place i e) (read_as i u r)
 
@@ -95,13 +105,14 @@ reads_below code routine sound =
 module _ (body : List Instruction) (homes : List Home) (below : ReadsBelow (length homes) body) (own : IsOwn homes) where
   used_below : (place u : ℕ) → reads (slice_get body place) u ≡ true → u < length homes
   used_below place u e =
-      let some = some_read (slice_get body place) u e in below place some.0 u some.1 (subst (λ (o : Option Instruction). reads o u ≡ true) some.1 e)
+      let some = some_read (slice_get body place) u e in below place some.0 u some.1
+      (subst (λ (o : Option Instruction). reads o u ≡ true) some.1 e)
 
   alive_below : (place u : ℕ) → Alive (placed body) place u → u < length homes
   alive_below place u (Used p v e) = used_below p v e
   alive_below place u (Passed p next v l n rest) = alive_below next v rest
 
-  -- a slot of its own, or what is told of what is no temporary
+  -- a slot of its own, or the home that counts for what is not a temporary
   own_is : (t : ℕ) → (home_in homes t ≡ Slot t) ⊎ (home_in homes t ≡ Reg 0)
   own_is t = go (slice_get homes t) refl
     where
@@ -112,7 +123,8 @@ module _ (body : List Instruction) (homes : List Home) (below : ReadsBelow (leng
   alive_own : (place u : ℕ) → Alive (placed body) place u → home_in homes u ≡ Slot u
   alive_own place u a = go (slice_get_cases homes u).1
     where
-      go : ((x : Home) × (u < length homes) × (slice_get homes u ≡ Some x) × (get_or homes u x ≡ x)) ⊎ ((length homes ≤ u) × (slice_get homes u ≡ None)) → home_in homes u ≡ Slot u
+      go : ((x : Home) × (u < length homes) × (slice_get homes u ≡ Some x) × (get_or homes u x ≡ x))
+          ⊎ ((length homes ≤ u) × (slice_get homes u ≡ None)) → home_in homes u ≡ Slot u
       go (inl h) = ap found h.2 ∙ own u h.0 h.2
       go (inr h) = let lt : u < length homes = alive_below place u a in absurd (omega (arith, h.0))
 
@@ -120,7 +132,8 @@ module _ (body : List Instruction) (homes : List Home) (below : ReadsBelow (leng
   unshared : (place u t : ℕ) → Alive (placed body) place u → u ≢ t → home_in homes u ≢ home_in homes t
   unshared place u t a ne e =
       let is : home_in homes u ≡ Slot u = alive_own place u a in
-      ⊎_elim (λ (slot : home_in homes t ≡ Slot t). let same : Slot u ≡ Slot t = sym is ∙ e ∙ slot in ne (cc)) (λ (reg : home_in homes t ≡ Reg 0). let same : Slot u ≡ Reg 0 = sym is ∙ e ∙ reg in cc) (own_is t)
+      ⊎_elim (λ (slot : home_in homes t ≡ Slot t). let same : Slot u ≡ Slot t = sym is ∙ e ∙ slot in ne (cc))
+      (λ (reg : home_in homes t ≡ Reg 0). let same : Slot u ≡ Reg 0 = sym is ∙ e ∙ reg in cc) (own_is t)
 
   slot_below : (t j : ℕ) → home_in homes t ≡ Slot j → j < length homes
   slot_below t j e = go (slice_get homes t) refl e
@@ -128,11 +141,14 @@ module _ (body : List Instruction) (homes : List Home) (below : ReadsBelow (leng
       go : (o : Option Home) → slice_get homes t ≡ o → found o ≡ Slot j → j < length homes
       go None none same = absurd (cc)
       go (Some h) some same =
-          let lt : t < length homes = slice_get_within homes t h some in let slot : Slot t ≡ Slot j = sym (own t h some) ∙ same in let eq : t ≡ j = cc in omega arith
+          let lt : t < length homes = slice_get_within homes t h some in let slot : Slot t ≡ Slot j = sym (own t h some)
+          ∙ same in let eq : t ≡ j = cc in omega arith
 
   register_below : (t q : ℕ) → home_in homes t ≡ Reg q → q < 12
   register_below t q e =
-      ⊎_elim (λ (slot : home_in homes t ≡ Slot t). let no : Reg q ≡ Slot t = sym e ∙ slot in absurd (cc)) (λ (reg : home_in homes t ≡ Reg 0). let zeroth : Reg q ≡ Reg 0 = sym e ∙ reg in let eq : q ≡ 0 = cc in omega arith) (own_is t)
+      ⊎_elim (λ (slot : home_in homes t ≡ Slot t). let no : Reg q ≡ Slot t = sym e ∙ slot in absurd (cc))
+      (λ (reg : home_in homes t ≡ Reg 0). let zeroth : Reg q ≡ Reg 0 = sym e ∙ reg in let eq : q ≡ 0 = cc
+      in omega arith) (own_is t)
 
   pub own_fits : (parameters : ℕ) → Fits (placed body) parameters homes
   own_fits parameters = record {
@@ -144,7 +160,8 @@ module _ (body : List Instruction) (homes : List Home) (below : ReadsBelow (leng
     entered = λ t u lt a ne. unshared 0 u t a ne;
   }
 
-pub own_routine_fits : (routine : TacRoutine) (homes : List Home) → length homes ≡ routine.temporaries → ReadsBelow routine.temporaries routine.body → IsOwn homes → RoutineFits routine homes
+pub own_routine_fits : (routine : TacRoutine) (homes : List Home) → length homes ≡ routine.temporaries
+    → ReadsBelow routine.temporaries routine.body → IsOwn homes → RoutineFits routine homes
 own_routine_fits routine homes count below own =
     own_fits routine.body homes (subst (λ (n : ℕ). ReadsBelow n routine.body) (sym count) below) own routine.parameters
 
@@ -156,7 +173,8 @@ get_append_here (x ∷ xs) ys zero lt = refl
 get_append_here (x ∷ xs) ys (suc t) lt =
     let less : t < length xs = omega arith in get_append_here xs ys t less
 
-get_append_last : (xs : List Home) (x y : Home) (t : ℕ) → length xs ≤ t → slice_get (xs ++ x ∷ []) t ≡ Some y → (t ≡ length xs) × (y ≡ x)
+get_append_last : (xs : List Home) (x y : Home) (t : ℕ) → length xs ≤ t → slice_get (xs ++ x ∷ []) t ≡ Some y
+    → (t ≡ length xs) × (y ≡ x)
 get_append_last [] x y zero le e = (refl, sym (same_Some x y e))
 get_append_last [] x y (suc t) le e = absurd (cc)
 get_append_last (z ∷ xs) x y zero le e = absurd (omega arith)
@@ -165,13 +183,15 @@ get_append_last (z ∷ xs) x y (suc t) le e =
 
 pub own_length : (n : ℕ) → length (own_slots n) ≡ n
 own_length zero = refl
-own_length (suc n) = let rest : length (own_slots n) ≡ n = own_length n in omega (arith, length-append (own_slots n) (Slot n ∷ []))
+own_length (suc n) = let rest : length (own_slots n) ≡ n = own_length n in omega
+    (arith, length-append (own_slots n) (Slot n ∷ []))
 
 pub own_slots_are : (n : ℕ) → IsOwn (own_slots n)
 own_slots_are zero t home e = absurd (cc)
 own_slots_are (suc n) t home e =
     ⊎_elim
-    (λ (lt : t < length (own_slots n)). own_slots_are n t home (sym (get_append_here (own_slots n) (Slot n ∷ []) t lt) ∙ e))
+    (λ (lt : t < length (own_slots n)). own_slots_are n t home
+    (sym (get_append_here (own_slots n) (Slot n ∷ []) t lt) ∙ e))
     (λ (le : length (own_slots n) ≤ t).
     let last = get_append_last (own_slots n) (Slot n) home t le e in
     let at : n ≡ t = sym (last.0 ∙ own_length n) in

@@ -5,7 +5,11 @@ use Rattle.tac_code.specs.declared.code.Operand.TheVariants as operand
 use Rattle.tac_code.specs.declared.code.Base.{Base}
 use Rattle.tac_code.specs.declared.code.Base.TheVariants as base
 use Rattle.tac_code.specs.declared.code.Instruction.{Instruction}
-use Rattle.tac_code.specs.declared.code.Instruction.TheVariants.{Literal, Copy, Arithmetic, Bits, Compare, CheckRange, CheckPointer, Text, Offset, Index, RoutineValue, Load, Store, LoadByte, StoreByte, Jump, JumpBack, Branch, BranchBack, Call, CallValue, Return, Trap, Take, Put, New, End}
+use Rattle.tac_code.specs.declared.code.Instruction.TheVariants.{Literal, Copy, Arithmetic, Bits, Compare, CheckRange}
+use Rattle.tac_code.specs.declared.code.Instruction.TheVariants.{CheckPointer, Text, Offset, Index, RoutineValue, Load}
+use Rattle.tac_code.specs.declared.code.Instruction.TheVariants.{Store, LoadByte, StoreByte, Jump, JumpBack, Branch}
+use Rattle.tac_code.specs.declared.code.Instruction.TheVariants.{BranchBack, Call, CallValue, Return, Trap, Take, Put}
+use Rattle.tac_code.specs.declared.code.Instruction.TheVariants.{New, End}
 
 -- the temporary of a right operand, or of a base, where there is one
 abbrev pub in_operand : Operand → List ℕ
@@ -73,7 +77,8 @@ result_of (Call t r operands line) = Some t
 result_of (CallValue t a operands line) = Some t
 result_of _ = None
 
--- The places that an instruction at a place leads to, where no error ends the run. A call leads to the place to which it comes back.
+-- The places that an instruction at a place leads to, where no error ends the run. A call leads to the place to which
+-- it comes back.
 abbrev pub next_of : Instruction → ℕ → List ℕ
 next_of (Jump n) place = (suc place + n) ∷ []
 next_of (JumpBack n) place = (place - n) ∷ []
@@ -113,7 +118,8 @@ abbrev pub gives_to : Option Instruction → ℕ → Bool
 gives_to None t = false
 gives_to (Some i) t = is_it t (result_of i)
 
--- Whether a call comes back to a place, with a result for a temporary. A routine is told by the instructions at its places.
+-- Whether a call comes back to a place, with a result for a temporary. A routine is given by the instructions at its
+-- places.
 abbrev pub comes_back : (ℕ → Option Instruction) → ℕ → ℕ → Bool
 comes_back at zero t = false
 comes_back at (suc place) t = gives_to (at place) t

@@ -15,7 +15,7 @@ temporaries_before [] r = 0
 temporaries_before (routine ∷ rest) zero = 0
 temporaries_before (routine ∷ rest) (suc r) = routine.temporaries + temporaries_before rest r
 
--- all temporaries of a code: those before the routine behind its last
+-- all temporaries of a code: those before the routine after its last
 abbrev pub all_temporaries : Code → ℕ
 all_temporaries code = temporaries_before (routines code) (length (routines code))
 
@@ -24,7 +24,7 @@ abbrev pub homes_of : Code → List Home → ℕ → List Home
 homes_of code homes r =
     take (temporaries_in (slice_get (routines code) r)) (drop (temporaries_before (routines code) r) homes)
 
--- A temporary's home among its routine's. What is no temporary is told to be in register 0.
+-- A temporary's home among its routine's. What is not a temporary counts as being in register 0.
 abbrev pub found : Option Home → Home
 found None = Reg 0
 found (Some home) = home

@@ -5,7 +5,10 @@ use Rattle.tac_code.specs.declared.code.Operand.TheVariants as operand
 use Rattle.tac_code.specs.declared.code.Base.{Base}
 use Rattle.tac_code.specs.declared.code.Base.TheVariants as base
 use Rattle.tac_code.specs.declared.code.Instruction.{Instruction}
-use Rattle.tac_code.specs.declared.code.Instruction.TheVariants.{Copy, Arithmetic, Bits, Compare, CheckRange, CheckPointer, Offset, Index, Load, Store, LoadByte, StoreByte, Jump, JumpBack, Branch, BranchBack, Call, CallValue, Return, Trap, Put, End}
+use Rattle.tac_code.specs.declared.code.Instruction.TheVariants.{Copy, Arithmetic, Bits, Compare, CheckRange}
+use Rattle.tac_code.specs.declared.code.Instruction.TheVariants.{CheckPointer, Offset, Index, Load, Store, LoadByte}
+use Rattle.tac_code.specs.declared.code.Instruction.TheVariants.{StoreByte, Jump, JumpBack, Branch, BranchBack, Call}
+use Rattle.tac_code.specs.declared.code.Instruction.TheVariants.{CallValue, Return, Trap, Put, End}
 use Rattle.risc_alloc.specs.declared.flow.Exit.{Exit}
 
 abbrev pub in_operand_or_none : Operand → Option ℕ

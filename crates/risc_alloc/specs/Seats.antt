@@ -3,12 +3,12 @@ use Rattle.std.specs.Prelude.{◌≡◌, ℕ, ◌+◌, ◌<◌, List, length, sl
 use Rattle.risc_alloc.specs.declared.homes.Home.{Home}
 use Rattle.risc_alloc.specs.declared.homes.Home.TheVariants.{Slot, Reg}
 
--- the twelve registers, and behind them the slots
+-- the twelve registers, and after them the slots
 abbrev pub seat_number : Home → ℕ
 seat_number (Reg q) = q
 seat_number (Slot j) = 12 + j
 
--- a home that a routine of so many temporaries has
+-- a home that a routine with this many temporaries has
 abbrev pub IsHome : ℕ → Home → Type 0
 IsHome temporaries (Reg q) = q < 12
 IsHome temporaries (Slot j) = j < temporaries

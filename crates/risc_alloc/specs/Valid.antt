@@ -15,10 +15,14 @@ pub record Valid (code : Code) (homes : List Home) : Type 0 where
   pub slot : (r t j : ℕ) → home_of code homes r t ≡ Slot j → j < temporaries_in (slice_get (routines code) r)
   pub register : (r t q : ℕ) → home_of code homes r t ≡ Reg q → q < 12
   -- no two that are alive at one place share a home
-  pub apart : (r place t u : ℕ) → Alive (fetch code r) place t → Alive (fetch code r) place u → t ≢ u → home_of code homes r t ≢ home_of code homes r u
-  -- nor does one that an instruction writes share it with another that is alive behind the instruction
-  pub written : (r place next t u : ℕ) → leads (fetch code r place) place next ≡ true → writes (fetch code r place) t ≡ true → Alive (fetch code r) next u → u ≢ t → home_of code homes r u ≢ home_of code homes r t
-  -- what is alive behind a call has a slot, but for the call's result
-  pub called : (r place t u : ℕ) → comes_back (fetch code r) place t ≡ true → Alive (fetch code r) place u → u ≢ t → (j : ℕ) × (home_of code homes r u ≡ Slot j)
+  pub apart : (r place t u : ℕ) → Alive (fetch code r) place t → Alive (fetch code r) place u → t ≢ u
+      → home_of code homes r t ≢ home_of code homes r u
+  -- nor does one that an instruction writes share it with another that is alive after the instruction
+  pub written : (r place next t u : ℕ) → leads (fetch code r place) place next ≡ true → writes (fetch code r place) t
+      ≡ true → Alive (fetch code r) next u → u ≢ t → home_of code homes r u ≢ home_of code homes r t
+  -- what is alive after a call has a slot, except for the call's result
+  pub called : (r place t u : ℕ) → comes_back (fetch code r) place t ≡ true → Alive (fetch code r) place u → u ≢ t
+      → (j : ℕ) × (home_of code homes r u ≡ Slot j)
   -- the entry of a routine writes all its parameters at once
-  pub entered : (r t u : ℕ) (routine : TacRoutine) → slice_get (routines code) r ≡ Some routine → t < routine.parameters → Alive (fetch code r) 0 u → u ≢ t → home_of code homes r u ≢ home_of code homes r t
+  pub entered : (r t u : ℕ) (routine : TacRoutine) → slice_get (routines code) r ≡ Some routine → t < routine.parameters
+      → Alive (fetch code r) 0 u → u ≢ t → home_of code homes r u ≢ home_of code homes r t

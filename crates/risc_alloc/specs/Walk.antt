@@ -21,12 +21,13 @@ abbrev pub IsClaimHeld : Window → Claims → (holders : List ℕ) → ℕ → 
 IsClaimHeld window claims holders place =
     (list : List ℕ) × (claim_at claims place ≡ Some list) × ((u : ℕ) → IsIn list u → IsHeldHere window holders u)
 
--- Where an instruction leads, what is alive there is alive behind it. Of a place that it jumps to, what is claimed is.
+-- Where an instruction leads, what is alive there is alive after it; at a jump's target, that is what is claimed.
 pub record Flows (window : Window) (claims : Claims) (i : Instruction) (place : ℕ) (next out : List ℕ) : Type 0 where
   pub falls : falls i ≡ true → Keeps window next out
   pub jumps : (target : ℕ) → target_of i place ≡ Some target → IsClaimHeld window claims out target
 
--- What an instruction writes has its home to itself, and is dead before it. Behind a call nothing but its result holds a register.
+-- What an instruction writes has its home to itself, and is dead before it. After a call nothing but its result holds a
+-- register.
 pub record Writes (window : Window) (i : Instruction) (out left : List ℕ) : Type 0 where
   pub free : (t : ℕ) → writes (Some i) t ≡ true → IsFreeFor window out t
   pub called : (t : ℕ) → gives_to (Some i) t ≡ true → window.registers ≡ true → IsEmptyBut window out t
@@ -37,7 +38,7 @@ pub record Reads (window : Window) (i : Instruction) (left table : List ℕ) : T
   pub read : (u : ℕ) → reads (Some i) u ≡ true → IsHeldHere window table u
   pub kept : Keeps window left table
 
--- one instruction: from what is alive behind it to what is alive before it
+-- one instruction: from what is alive after it to what is alive before it
 pub record Step (window : Window) (claims : Claims) (i : Instruction) (place : ℕ) (next table : List ℕ) : Type 0 where
   pub out : List ℕ
   pub left : List ℕ
@@ -48,16 +49,18 @@ pub record Step (window : Window) (claims : Claims) (i : Instruction) (place : �
 -- what is found alive at a place that a jump leads to is claimed
 abbrev pub IsClaimed : Claims → ℕ → List ℕ → Type 0
 IsClaimed claims place holders =
-    (list : List ℕ) → claim_at claims place ≡ Some list → (window : Window) (u : ℕ) → Held window holders u → IsIn list u
+    (list : List ℕ) → claim_at claims place ≡ Some list → (window : Window) (u : ℕ) → Held window holders u
+    → IsIn list u
 
--- a walk that found nothing beside what was claimed, from the end of a body to a place
+-- a walk that found nothing beyond what was claimed, from the end of a body to a place
 pub record Walked (window : Window) (claims : Claims) (body : List Instruction) (from : ℕ) (table : List ℕ) : Type 0 where
   pub tables : ℕ → List ℕ
   pub here : tables from ≡ table
-  pub steps : (place : ℕ) (i : Instruction) → from ≤ place → slice_get body place ≡ Some i → Step window claims i place (tables (suc place)) (tables place)
+  pub steps : (place : ℕ) (i : Instruction) → from ≤ place → slice_get body place ≡ Some i → Step window claims i place
+      (tables (suc place)) (tables place)
   pub claimed : (place : ℕ) → from ≤ place → place < length body → IsClaimed claims place (tables place)
 
--- a walk over the whole body that found nothing beside what was claimed, and nobody else in the seat of a parameter
+-- a walk over the whole body that found nothing beyond what was claimed, and nobody else in the seat of a parameter
 pub record IsSettled (window : Window) (body : List Instruction) (parameters : ℕ) : Type 0 where
   pub claims : Claims
   pub table : List ℕ

@@ -8,8 +8,8 @@ use crate::flow::exit_of;
 use std::alloc::Global;
 use tac_code::code::{Instruction, OutOfMemory};
 
-/// What is claimed to be alive at each place that a jump leads to, in the order of seats. A walk that finds nothing beside what is
-/// claimed knows that each claim is at least what is alive there.
+/// What is claimed to be alive at each place that a jump leads to, in the order of seats. A walk that finds nothing
+/// beyond what is claimed shows that each claim is at least what is alive there.
 #[derive(Drop)]
 pub(crate) struct Claims {
     lists: Vec<Option<Vec<u32>>>,
@@ -34,7 +34,7 @@ impl Claims {
         Ok(claims)
     }
 
-    /// What is claimed of a place; None where no jump leads.
+    /// What is claimed of a place; `None` where no jump leads there.
     pub(crate) fn get(&self, place: usize) -> Option<&[u32]>
         ensures { option_copied result ≡ claim_at self.now place }
     {

@@ -2,7 +2,8 @@
 
 ghost use Rattle.std.specs.Prelude.{◌≡◌, suc, ◌+◌, ◌-◌, IfSome};
 ghost use Rattle.risc_alloc.specs.Flow.{written_by};
-ghost use Rattle.risc_alloc.specs.Parts.{IsExit, is_call, read_first, read_second, read_passed, in_operand_or_none, in_base_or_none};
+ghost use Rattle.risc_alloc.specs.Parts.{IsExit, is_call, read_first, read_second, read_passed, in_operand_or_none};
+ghost use Rattle.risc_alloc.specs.Parts.{in_base_or_none};
 
 use tac_code::code::{Base, Instruction, Operand};
 

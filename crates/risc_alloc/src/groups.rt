@@ -1,13 +1,13 @@
 //! Which of a routine's first temporaries are alive where jumps lead: a word for each place, however many there are.
-//! Nothing is proved of it: what is chosen by it is tested.
+//! Nothing is proved about it: what is chosen by it is tested.
 
 use crate::flow::{exit_of, read_first, read_passed, read_second, written};
 use crate::walk::WALKS;
 use std::alloc::Global;
 use tac_code::code::{Instruction, OutOfMemory};
 
-/// So many temporaries of a routine are considered, those of the lowest numbers. A group of them is a word, with a bit for
-/// each.
+/// The number of temporaries of a routine that are considered, those with the lowest numbers. A group of them is a
+/// word, with a bit for each.
 pub(crate) const CONSIDERED: u32 = 64;
 
 /// The group of one temporary, which is empty where it isn't considered.
@@ -46,14 +46,14 @@ pub(crate) fn group_written(instruction: &Instruction) -> u64 {
     group_of_some(written(instruction))
 }
 
-/// Who was found alive at each place that a jump leads to.
+/// Which are found alive at each place that a jump leads to.
 #[derive(Drop)]
 pub(crate) struct Groups {
     found: Vec<Option<u64>>,
 }
 
 impl Groups {
-    // Nobody is alive where the jumps of a body lead.
+    // No temporary is alive where the jumps of a body lead.
     fn new(alloc: Global, body: &[Instruction]) -> Result<Groups, OutOfMemory> {
         let mut found = vec![in alloc; None; body.len()]?;
         for (place, instruction) in body.iter().enumerate() {
@@ -67,7 +67,7 @@ impl Groups {
         Ok(Groups { found })
     }
 
-    /// Who was found at a place, where a jump leads.
+    /// Which are found at a place, where a jump leads there.
     pub(crate) fn get(&self, place: usize) -> u64 {
         if place < self.found.len() {
             self.found[place].unwrap_or(0)
@@ -76,7 +76,7 @@ impl Groups {
         }
     }
 
-    // Tells who is alive at a place; true where a jump leads there and that is more than was found.
+    // Records which are alive at a place; true where a jump leads there and that is more than was found.
     fn meet(&mut self, place: usize, alive: u64) -> bool {
         if place >= self.found.len() {
             return false;
@@ -90,7 +90,7 @@ impl Groups {
         }
     }
 
-    // From who is alive at the next place to who is before an instruction.
+    // From those alive at the next place to those alive before an instruction.
     fn step_back(&self, body: &[Instruction], place: usize, alive: u64) -> u64 {
         if place >= body.len() {
             return alive;
@@ -108,7 +108,7 @@ impl Groups {
         behind & !group_written(instruction) | group_read(instruction)
     }
 
-    // Walks once from the end of a body to its begin; true where more was found.
+    // Walks once from the end of a body to its beginning; true where more was found.
     fn walk(&mut self, body: &[Instruction]) -> bool {
         let mut grew = false;
         let mut alive = 0;
@@ -122,7 +122,7 @@ impl Groups {
     }
 }
 
-/// Walks until nothing new is found. None where walks go on to find more.
+/// Walks until nothing new is found. `None` where walks go on to find more.
 pub(crate) fn settled_groups(
     alloc: Global,
     body: &[Instruction],

@@ -9,7 +9,7 @@ pub enum Home {
     Reg(u8),
 }
 
-/// The parts of a `Placement`, untested: a home for each temporary, in the order of routines and of temporaries in them.
+/// The parts of a `Placement`, untested: a home for each temporary, in the order of routines and their temporaries.
 #[derive(Drop)]
 pub struct Raw {
     pub homes: Vec<Home>,
@@ -18,7 +18,8 @@ pub struct Raw {
 /// Why a placement was refused.
 #[derive(Clone, Copy)]
 pub enum PlaceRefusal {
-    /// Two temporaries that may be alive at once share a home, or one lives in a register across a call, or a home does not exist.
+    /// Two temporaries that may be alive at once share a home, one lives in a register across a call, or a home does
+    /// not exist.
     BadPlacement,
     OutOfMemory,
 }

@@ -1,5 +1,5 @@
-// Which of a routine's temporaries are alive together, and what each register would spare. Nothing is proved of it: what is chosen by
-// it is tested.
+// Which of a routine's temporaries are alive together, and what each register would save. Nothing is proved about it:
+// what is chosen by it is tested.
 
 use crate::flow::{exit_of, is_call, read_passed};
 use crate::groups::{CONSIDERED, Groups, group_of, group_read, group_written, settled_groups};
@@ -11,22 +11,23 @@ use tac_code::code::{Instruction, OutOfMemory, TacRoutine};
 #[derive(Clone, Copy)]
 pub(crate) struct Candidate {
     pub temporary: u32,
-    /// Those that are alive where it is or is written, itself among them. No other of them may share a register with it.
+    /// Those that are alive where it is or is written, itself included. No other of them may share a register with it.
     pub meets: u64,
     /// Whether it is alive across a call.
     pub spans: bool,
-    /// The words that each register spares, each as often as it is executed, which is only guessed; below 0 those that it takes.
+    /// The words that each register saves, weighted by a guess of how often they are executed; negative for those that
+    /// it costs.
     pub votes: [i64; REGISTERS],
 }
 
-// So many operands come in registers.
+// How many operands come in registers.
 const CARRIED: usize = 8;
 
-// What a parameter in its own register spares: a store and a load, at each entry of the routine, which is somewhat more than all of its
-// places are executed.
+// What a parameter in its own register saves: a store and a load at each entry of the routine, which happens somewhat
+// more often than all of its places are executed.
 const ENTERED: i64 = 3;
 
-// The loops around a place that are counted, since a product for each would soon be too large.
+// How many nested loops around a place are counted, since a product over all would soon be too large.
 const MOST_LOOPS: u32 = 3;
 
 fn unmet(alloc: Global, temporaries: u32) -> Result<Vec<Candidate>, OutOfMemory> {
@@ -62,7 +63,7 @@ fn span(candidates: &mut [Candidate], group: u64) {
     }
 }
 
-// A register spares a temporary so many words.
+// A register saves a temporary this many words.
 fn vote(candidates: &mut [Candidate], temporary: u32, register: usize, words: i64) {
     let index = temporary as usize;
     if index < candidates.len() && register < REGISTERS {
@@ -71,8 +72,8 @@ fn vote(candidates: &mut [Candidate], temporary: u32, register: usize, words: i6
     }
 }
 
-// Operand j of so many that come in registers spares a word in register j. In a later one it takes a word more, since that one is taken
-// before its turn.
+// Operand j, of `carried` that come in registers, saves a word in register j. In a later one it costs one more word,
+// since that one is taken before its turn.
 fn vote_operand(
     candidates: &mut [Candidate],
     temporary: u32,
@@ -97,7 +98,7 @@ fn vote_operands(candidates: &mut [Candidate], list: &[u32], words: i64) {
     }
 }
 
-// What is returned goes in register 0, and so the result of a call comes.
+// A returned value goes in register 0, and so does the result of a call.
 fn vote_result(candidates: &mut [Candidate], instruction: &Instruction, words: i64) {
     match instruction {
         Instruction::Return { from } => vote(candidates, *from, 0, words),
@@ -116,11 +117,11 @@ fn vote_parameters(candidates: &mut [Candidate], parameters: u32) {
     }
 }
 
-/// Where a walk over a body stands, from its end to its begin.
+/// Where a walk over a body is, from its end to its beginning.
 #[derive(Drop)]
 struct Survey {
     candidates: Vec<Candidate>,
-    // who is alive there
+    // which are alive there
     alive: u64,
     // how many loops are around
     loops: u32,
@@ -152,7 +153,7 @@ impl Survey {
         }
     }
 
-    // From what is alive at the next place to what is alive behind an instruction.
+    // From what is alive at the next place to what is alive after an instruction.
     fn go_behind(
         &mut self,
         groups: &Groups,
@@ -172,7 +173,7 @@ impl Survey {
         }
     }
 
-    // Each loop makes four of one execution.
+    // Each loop multiplies executions by four.
     fn weight(&self) -> i64 {
         1i64.wrapping_shl(self.loops.min(MOST_LOOPS).wrapping_mul(2))
     }
@@ -192,7 +193,7 @@ impl Survey {
     }
 }
 
-// All parameters come at the entry, beside what is alive there.
+// All parameters come at the entry, along with what is alive there.
 fn enter(survey: &mut Survey, parameters: u32) {
     let mut group = survey.alive;
     for parameter in 0..CONSIDERED {
@@ -222,7 +223,7 @@ fn surveyed(
     Ok(survey.candidates)
 }
 
-/// A routine's temporaries that may get registers, in their order. None where walks go on to find who is alive.
+/// A routine's temporaries that may get registers, in their order. `None` where walks go on to find which are alive.
 pub(crate) fn candidates_of(
     alloc: Global,
     routine: &TacRoutine,

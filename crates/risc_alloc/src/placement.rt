@@ -29,12 +29,13 @@ ghost use Rattle.risc_alloc.specs.Slots.{every_slot};
 ghost use Rattle.risc_alloc.specs.Valid.{Valid};
 
 impl Placement {
-    /// The placement with these homes, where what is alive keeps its home to itself and has a slot across calls. What gives each
-    /// temporary a slot of its own number is never refused as bad.
+    /// The placement with these homes, where what is alive keeps its home to itself and has a slot across calls. One
+    /// that gives each temporary the slot of its own number is never refused as bad.
     pub fn new(alloc: Global, tac: &Tac, raw: Raw) -> Result<Placement, PlaceRefusal>
         ensures valid { IfOk result (λ placement. Valid tac.now placement) }
         ensures homes { IfOk result (λ placement. placement ≡ raw.homes.items) }
-        ensures refused { IfErr result (λ refusal. refusal ≡ BadPlacement → raw.homes.items ≢ every_slot (routines tac.now)) }
+        ensures refused { IfErr result (λ refusal. refusal ≡ BadPlacement → raw.homes.items ≢ every_slot
+            (routines tac.now)) }
     {
         match are_placed(alloc, tac, raw.homes.as_slice()) {
             Ok(true) => Ok(Placement { raw }),

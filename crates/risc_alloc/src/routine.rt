@@ -48,9 +48,9 @@ fn is_settled(alloc: Global, routine: &TacRoutine, window: &Window) -> Result<bo
     }
 }
 
-// Whether those who are alive together sit apart in the twelve seats from one on, as far as walks tell it. What sits in
-// the slot of its number shares it with nobody where it isn't marked. So walks are made with the registers, and only with
-// such slots in which others sit.
+// Whether those that are alive together have different seats among the twelve from one on, as far as walks can tell.
+// What sits in the slot of its number shares it with none where it isn't marked. So walks are made with the registers,
+// and only with slots in which others sit.
 fn is_apart_from(
     alloc: Global,
     routine: &TacRoutine,
@@ -68,7 +68,7 @@ fn is_apart_from(
     is_settled(alloc, routine, &window)
 }
 
-// The same of so many seats, twelve at a time.
+// The same for `count` seats, twelve at a time.
 fn are_apart(
     alloc: Global,
     routine: &TacRoutine,
@@ -89,7 +89,7 @@ fn are_apart(
     Ok(true)
 }
 
-// Whether what is alive keeps its home to itself, as far as walks tell it.
+// Whether what is alive keeps its home to itself, as far as walks can tell.
 fn is_apart(alloc: Global, routine: &TacRoutine, homes: &[Home]) -> Result<bool, OutOfMemory>
     requires { length homes.now ≡ routine.now.temporaries }
     ensures { IfOk result (λ apart. IsTrue apart → RoutineFits routine.now homes.now) }
@@ -101,7 +101,7 @@ fn is_apart(alloc: Global, routine: &TacRoutine, homes: &[Home]) -> Result<bool,
     }
 }
 
-/// Whether the homes of a routine's temporaries fit it. Slots of their own always do, and take no walk.
+/// Whether the homes of a routine's temporaries fit it. Slots of their own always do, and need no walk.
 pub(crate) fn is_placed(
     alloc: Global,
     routine: &TacRoutine,

@@ -1,4 +1,4 @@
-// Registers for temporaries, by what each would spare.
+// Registers for temporaries, by what each would save.
 
 use crate::groups::group_of;
 use crate::homes::Home;
@@ -10,13 +10,14 @@ use std::alloc::Global;
 use tac_code::code::{OutOfMemory, TacRoutine};
 use tac_code::tac::Tac;
 
-/// Scans each routine, and gives registers 0 to 11 to its temporaries, a pair at a time: the temporary and the free register that spare
-/// the most words at calls. What spans a call, or finds no register free, has the slot of its number.
+/// Scans each routine, and gives registers 0 to 11 to its temporaries, a pair at a time: the temporary and the free
+/// register that save the most words at calls. What spans a call, or finds no register free, has the slot of its
+/// number.
 #[derive(Clone, Copy, Drop)]
 pub struct Scan;
 
 impl Placer for Scan {
-    // What is chosen is tested like any other placement. Where it failed, which it does for no code that is known, slots are given.
+    // What is chosen is tested like any other placement. Should it fail, which is known for no code, slots are given.
     fn place(&self, alloc: Global, tac: &Tac) -> Result<Placement, OutOfMemory> {
         let homes = scanned(alloc, tac)?;
         if are_placed(alloc, tac, homes.as_slice())? {
@@ -26,7 +27,7 @@ impl Placer for Scan {
     }
 }
 
-// A register for a temporary, and the words that it spares.
+// A register for a temporary, and the words that it saves.
 #[derive(Clone, Copy)]
 struct Choice {
     temporary: u32,
@@ -41,7 +42,7 @@ fn spares_more(words: i64, best: Option<Choice>) -> bool {
     }
 }
 
-// The better one of a choice and the best for one more temporary, whose register is held by nobody that it meets.
+// The better of a choice and the best for one more temporary, in a register that none of those it meets holds.
 fn best_with(
     best: Option<Choice>,
     candidate: &Candidate,
@@ -72,7 +73,7 @@ fn best_of(candidates: &[Candidate], group: u64, held: &[u64; REGISTERS]) -> Opt
     best
 }
 
-// Who lives somewhere, but not across a call.
+// Which live somewhere, but not across a call.
 fn group_of_short(candidates: &[Candidate]) -> u64 {
     let mut group = 0;
     for candidate in candidates {
@@ -92,7 +93,7 @@ fn give(homes: &mut [Home], held: &mut [u64; REGISTERS], choice: Choice) {
     }
 }
 
-// Gives registers in the order of what they spare.
+// Gives registers in the order of what they save.
 fn give_registers(homes: &mut [Home], candidates: &[Candidate]) {
     let mut held = [0; REGISTERS];
     let mut group = group_of_short(candidates);

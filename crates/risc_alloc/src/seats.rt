@@ -1,4 +1,4 @@
-// Homes as numbers of seats: the twelve registers, and behind them the slots.
+// Homes as numbers of seats: the twelve registers, and after them the slots.
 
 ghost use Rattle.std.specs.Prelude.{IfSome, IfOk};
 ghost use Rattle.risc_alloc.specs.Seats.{IsSeatOf, AreSeatsOf};
@@ -10,7 +10,7 @@ use tac_code::code::OutOfMemory;
 /// The registers that hold temporaries.
 pub(crate) const REGISTERS: usize = 12;
 
-// None where a routine of so many temporaries has no such home.
+// None where a routine with this many temporaries has no such home.
 fn seat_of(home: Home, temporaries: usize) -> Option<usize>
     ensures { IfSome result (IsSeatOf temporaries home) }
 {

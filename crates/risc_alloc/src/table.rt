@@ -8,14 +8,14 @@ use crate::window::{SEATS, Window};
 use std::alloc::Global;
 use tac_code::code::OutOfMemory;
 
-/// Who holds each seat of a window where a walk over a body stands: a temporary's number and 1, or 0 for nobody. So what
-/// is alive is what holds its seat, and two temporaries that are alive never share one.
+/// Who holds each seat of a window at one point of a walk over a body: a temporary's number plus 1, or 0 for nobody. So
+/// what is alive is what holds its seat, and two temporaries that are alive never share one.
 #[derive(Drop)]
 pub(crate) struct Table {
     holders: Vec<u32>,
 }
 
-/// The seat of a temporary, and how the temporary is told there.
+/// The seat of a temporary, and the number that stands for the temporary there.
 #[derive(Clone, Copy)]
 struct Seat {
     number: usize,
@@ -71,7 +71,7 @@ impl Table {
         holder == seat.holder
     }
 
-    /// The same of a temporary, where there is one.
+    /// The same for a temporary, where there is one.
     pub(crate) fn add_some(&mut self, window: &Window, temporary: Option<u32>) -> bool
         ensures kept { IsTrue result → Keeps window.now self.old.holders.items self.new.holders.items }
         ensures added { IsTrue result → IfSome temporary (IsHeldHere window.now self.new.holders.items) }
@@ -82,7 +82,7 @@ impl Table {
         }
     }
 
-    /// The same of each of a list.
+    /// The same for each of a list.
     pub(crate) fn add_all(&mut self, window: &Window, list: &[u32]) -> bool
         ensures kept { IsTrue result → Keeps window.now self.old.holders.items self.new.holders.items }
         ensures added { IsTrue result → (u : ℕ) → IsIn list.now u → IsHeldHere window.now self.new.holders.items u }
@@ -138,7 +138,7 @@ impl Table {
         true
     }
 
-    /// Whether all who hold a seat are in a list, which tells them in the order of seats.
+    /// Whether all who hold a seat are in a list, which is in the order of seats.
     pub(crate) fn is_within(&self, list: &[u32]) -> bool
         ensures { IsTrue result → (window : Window) (u : ℕ) → Held window self.now.holders.items u → IsIn list.now u }
     {

@@ -1,4 +1,4 @@
-// Walks over a body, from its end to its begin, that find what is alive.
+// Walks over a body, from its end to its beginning, that find what is alive.
 
 ghost use Rattle.std.specs.Prelude.{◌≡◌, ℕ, ◌<◌, true, false, length, slice_get, IsTrue, IfOk, IfSome, Some};
 ghost use Rattle.tac_code.specs.declared.code.Instruction.{Instruction as Element};
@@ -17,17 +17,17 @@ use tac_code::code::{Instruction, OutOfMemory};
 /// The most walks over a body until one finds nothing new. Without a limit the time would grow with the depth of loops.
 pub(crate) const WALKS: u32 = 16;
 
-/// What a walk came to.
+/// The result of a walk.
 #[derive(Clone, Copy)]
 enum Verdict {
     /// Two temporaries want one home, or one wants a register across a call.
     Clash,
-    /// More is alive than was claimed, which is now.
+    /// More is alive than was claimed; it is claimed now.
     Grew,
     Stable,
 }
 
-// Nothing goes on to the next place from what does not lead there.
+// Nothing is alive after what does not lead to the next place.
 fn fall_back(table: &mut Table, falls: bool)
     ensures { falls ≡ true → table.new.holders.items ≡ table.old.holders.items }
 {
@@ -36,7 +36,8 @@ fn fall_back(table: &mut Table, falls: bool)
     }
 }
 
-// What is claimed of the place that is jumped to is alive before the jump; false where nothing is claimed of it, or at a clash.
+// What is claimed of the place that is jumped to is alive before the jump; false where nothing is claimed of it, or at
+// a clash.
 fn jump_back(table: &mut Table, claims: &Claims, window: &Window, target: Option<usize>) -> bool
     ensures kept { IsTrue result → Keeps window.now table.old.holders.items table.new.holders.items }
     ensures claimed { IsTrue result → IfSome target (IsClaimHeld window.now claims.now table.new.holders.items) }
@@ -50,7 +51,7 @@ fn jump_back(table: &mut Table, claims: &Claims, window: &Window, target: Option
     }
 }
 
-// From what is alive at the next place to what is alive behind an instruction.
+// From what is alive at the next place to what is alive after an instruction.
 fn flow_back(
     table: &mut Table,
     claims: &Claims,
@@ -59,7 +60,8 @@ fn flow_back(
     place: usize,
     places: usize,
 ) -> bool
-    ensures { IsTrue result → Flows window.now claims.now instruction.now place table.old.holders.items table.new.holders.items }
+    ensures { IsTrue result → Flows window.now claims.now instruction.now place table.old.holders.items
+        table.new.holders.items }
 {
     let Some(exit) = exit_of(instruction, place, places) else {
         return false;
@@ -68,9 +70,10 @@ fn flow_back(
     jump_back(table, claims, window, exit.target)
 }
 
-// What is written is dead before; false where another holds a register behind a call.
+// What is written is dead before it; false where another holds a register after a call.
 fn is_free_behind(table: &Table, window: &Window, instruction: &Instruction, to: u32) -> bool
-    ensures { IsTrue result → is_call instruction.now ≡ true → window.now.registers ≡ true → IsEmptyBut window.now table.now.holders.items to }
+    ensures { IsTrue result → is_call instruction.now ≡ true → window.now.registers ≡ true
+        → IsEmptyBut window.now table.now.holders.items to }
 {
     !is_call(instruction) || !window.has_registers() || table.is_empty_but(to)
 }
@@ -109,7 +112,8 @@ fn step_back(
     place: usize,
 ) -> bool
     requires { place < length body.now }
-    ensures { IsTrue result → (i : Element) → slice_get body.now place ≡ Some i → Step window.now claims.now i place table.old.holders.items table.new.holders.items }
+    ensures { IsTrue result → (i : Element) → slice_get body.now place ≡ Some i
+        → Step window.now claims.now i place table.old.holders.items table.new.holders.items }
 {
     let instruction = &body[place];
     if !flow_back(table, claims, window, instruction, place, body.len()) {
@@ -150,7 +154,8 @@ fn walk(
     body: &[Instruction],
 ) -> Result<Verdict, OutOfMemory>
     ensures same { IfOk result (λ verdict. verdict ≡ Stable → claims.new ≡ claims.old) }
-    ensures walked { IfOk result (λ verdict. verdict ≡ Stable → Walked window.now claims.old body.now 0 table.new.holders.items) }
+    ensures walked { IfOk result (λ verdict. verdict ≡ Stable
+        → Walked window.now claims.old body.now 0 table.new.holders.items) }
 {
     let mut grew = false;
     let mut place = body.len();
@@ -166,14 +171,15 @@ fn walk(
     Ok(if grew { Verdict::Grew } else { Verdict::Stable })
 }
 
-/// Walks until nothing new is found. None at a clash, and where walks go on to find more.
+/// Walks until nothing new is found. `None` at a clash, and where walks go on to find more.
 pub(crate) fn settle(
     alloc: Global,
     table: &mut Table,
     window: &Window,
     body: &[Instruction],
 ) -> Result<Option<Claims>, OutOfMemory>
-    ensures { IfOk result (λ found. IfSome found (λ claims. Walked window.now claims body.now 0 table.new.holders.items)) }
+    ensures { IfOk result (λ found. IfSome found
+        (λ claims. Walked window.now claims body.now 0 table.new.holders.items)) }
 {
     let mut claims = Claims::new(alloc, body)?;
     for _ in 0..WALKS {

@@ -1,4 +1,4 @@
-//! Windows: twelve seats at a time, so that a walk knows of a place at most twelve temporaries.
+//! Windows: twelve seats at a time, so that a walk tracks at most twelve temporaries at a place.
 
 ghost use Rattle.std.specs.Prelude.{◌≡◌, ℕ, ◌+◌, ◌<◌, ◌≤◌, false, length, slice_index, IsTrue, IfSome, IfOk};
 ghost use Rattle.risc_alloc.specs.Windows.{IsWindow, IsMarked, MarksStrangers};
@@ -7,7 +7,7 @@ use crate::seats::REGISTERS;
 use std::alloc::Global;
 use tac_code::code::OutOfMemory;
 
-/// The seats of a window, which are the registers or as many slots.
+/// The seats of a window: the registers, or as many slots.
 pub(crate) const SEATS: usize = REGISTERS;
 
 const ELSEWHERE: u8 = 12;
@@ -46,7 +46,7 @@ impl Window {
         })
     }
 
-    /// The seat of a temporary, 12 for one elsewhere; None of what is no temporary of the routine.
+    /// The seat of a temporary, 12 for one elsewhere; `None` for what is not a temporary of the routine.
     pub(crate) fn seat(&self, temporary: u32) -> Option<usize>
         ensures there { IfSome result (λ s. temporary < length self.now.seats.items) }
         ensures number { IfSome result (λ s. s ≡ slice_index self.now.seats.items temporary) }
@@ -84,7 +84,7 @@ fn sits_in_its_own(seat: usize, temporary: usize) -> bool
     seat >= REGISTERS && seat - REGISTERS == temporary
 }
 
-/// Marks each of so many seats in which somebody sits whose own it is not: two sit in one only where it is marked.
+/// Marks each of `count` seats where a temporary sits outside its own slot: two sit in one only where it is marked.
 pub(crate) fn marks_of_strangers(
     alloc: Global,
     seats: &[usize],

@@ -14,6 +14,7 @@ few_at l k (Call t r list line) s = s.2.0
 few_at l k (CallValue t a list line) s = s.2.0
 few_at l k _ s = tt
 
-pub passes_few : (code : Code) (r k : ℕ) (routine : TacRoutine) (i : Instruction) → IsSound code → slice_get (routines code) r ≡ Some routine → slice_get routine.body k ≡ Some i → PassesFew i
+pub passes_few : (code : Code) (r k : ℕ) (routine : TacRoutine) (i : Instruction) → IsSound code → slice_get
+    (routines code) r ≡ Some routine → slice_get routine.body k ≡ Some i → PassesFew i
 passes_few code r k routine i sound is at =
     few_at (limits_of code routine) k i ((sound_routine code sound r routine is).body k i at)

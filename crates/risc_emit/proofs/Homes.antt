@@ -1,5 +1,6 @@
--- The homes of a routine's temporaries lie among all homes.
-use Rattle.std.proofs.Common.{◌≡◌, ℕ, ◌+◌, ◌<◌, ◌≤◌, List, [], ◌∷◌, length, take, drop, slice_get, Option, Some, None, refl, sym, ap, ◌∙◌, arith}
+-- The homes of a routine's temporaries are among all homes.
+use Rattle.std.proofs.Common.{◌≡◌, ℕ, ◌+◌, ◌<◌, ◌≤◌, List, [], ◌∷◌, length, take, drop, slice_get, Option, Some, None}
+use Rattle.std.proofs.Common.{refl, sym, ap, ◌∙◌, arith}
 use Rattle.tac_code.specs.declared.code.TacRoutine.{TacRoutine}
 use Rattle.tac_code.specs.Meaning.{Code, routines}
 use Rattle.risc_alloc.specs.declared.homes.Home.{Home}
@@ -16,9 +17,11 @@ module _ (code : Code) (homes : List Home) (valid : Valid code homes) (r first :
       let within = before_within (routines code) r routine is in
       omega (arith, begins, count, within)
 
-  pub homes_are_own : (own : List Home) → r < length (routines code) → own ≡ take routine.temporaries (drop first homes) → AreHomes code homes r own
+  pub homes_are_own : (own : List Home) → r < length (routines code) → own ≡ take routine.temporaries (drop first homes)
+      → AreHomes code homes r own
   homes_are_own own lt part =
-      let same : own ≡ homes_of code homes r = part ∙ ap (λ n. take routine.temporaries (drop n homes)) begins ∙ sym (homes_part code homes r routine is) in
+      let same : own ≡ homes_of code homes r = part ∙ ap (λ n. take routine.temporaries (drop n homes)) begins ∙ sym
+      (homes_part code homes r routine is) in
       record {
         exists = lt;
         is_own = same;
@@ -29,7 +32,8 @@ pub before_none : (rs : List TacRoutine) → 0 ≡ temporaries_before rs 0
 before_none [] = refl
 before_none (x ∷ rs) = refl
 
-pub before_next : (rs : List TacRoutine) (r first : ℕ) (x : TacRoutine) → first ≡ temporaries_before rs r → slice_get rs r ≡ Some x → first + x.temporaries ≡ temporaries_before rs (r + 1)
+pub before_next : (rs : List TacRoutine) (r first : ℕ) (x : TacRoutine) → first ≡ temporaries_before rs r
+    → slice_get rs r ≡ Some x → first + x.temporaries ≡ temporaries_before rs (r + 1)
 before_next rs r first x begins is = ap (λ n. n + x.temporaries) begins ∙ sym (before_more rs r x is)
 
 -- what is found among the homes of a routine is the temporary's home, and its register is below 12

@@ -1,5 +1,6 @@
 -- A draft that has too many words already is part of a code that has.
-use Rattle.std.proofs.Common.{◌≡◌, ℕ, ◌+◌, ◌<◌, Bool, true, nat_lt, List, ◌++◌, length, length-append, take, Some, slice_get, ap, arith}
+use Rattle.std.proofs.Common.{◌≡◌, ℕ, ◌+◌, ◌<◌, Bool, true, nat_lt, List, ◌++◌, length, length-append, take, Some}
+use Rattle.std.proofs.Common.{slice_get, ap, arith}
 use Rattle.tac_code.specs.declared.code.TacRoutine.{TacRoutine}
 use Rattle.tac_code.specs.Meaning.{routines}
 use Rattle.risc_emit_relation.specs.Context.{Context}
@@ -13,7 +14,11 @@ use Rattle.risc_emit.proofs.Drafting.{Drafted}
 more : (a b : ℕ) → nat_lt a b ≡ true → a < b
 more a b e = grind (arith, e)
 
-pub drafted_past : (c : Context) (r : ℕ) (routine : TacRoutine) (front : List Piece) (behind : List ℕ) (k n : ℕ) (ps : List Piece) (ts : List ℕ) (ms : List Mark) → slice_get (routines c.code) r ≡ Some routine → length front ≡ entry_place c r → length behind ≡ length (routines_texts (take r (routines c.code))) → Drafted c r routine front behind k ps ts ms → nat_lt n (length ps + length ts) ≡ true → n < length (program_pieces c) + length (routines_texts (routines c.code))
+pub drafted_past : (c : Context) (r : ℕ) (routine : TacRoutine) (front : List Piece) (behind : List ℕ) (k n : ℕ)
+    (ps : List Piece) (ts : List ℕ) (ms : List Mark) → slice_get (routines c.code) r ≡ Some routine → length front
+    ≡ entry_place c r → length behind ≡ length (routines_texts (take r (routines c.code)))
+    → Drafted c r routine front behind k ps ts ms → nat_lt n (length ps + length ts) ≡ true → n < length
+    (program_pieces c) + length (routines_texts (routines c.code))
 drafted_past c r routine front behind k n ps ts ms own entry first d past =
     let lt = more n (length ps + length ts) past in
     let site = site_low c r k routine own in

@@ -1,5 +1,6 @@
--- The places of the marks are those of the pieces, and they lie within them.
-use Rattle.std.proofs.Common.{◌≡◌, ℕ, zero, suc, ◌+◌, ◌<◌, ◌≤◌, ◌⊎◌, inl, inr, List, [], ◌∷◌, length, length-append, take, Option, Some, None, slice_get, refl, sym, ap, ◌∙◌, arith}
+-- The places of the marks are those of the pieces, and are within them.
+use Rattle.std.proofs.Common.{◌≡◌, ℕ, zero, suc, ◌+◌, ◌<◌, ◌≤◌, ◌⊎◌, inl, inr, List, [], ◌∷◌, length, length-append}
+use Rattle.std.proofs.Common.{take, Option, Some, None, slice_get, refl, sym, ap, ◌∙◌, arith}
 use Rattle.tac_code.specs.declared.code.Instruction.{Instruction}
 use Rattle.tac_code.specs.declared.code.TacRoutine.{TacRoutine}
 use Rattle.tac_code.specs.Meaning.{Code, routines}
@@ -8,7 +9,9 @@ use Rattle.risc_emit_relation.specs.Context.{Context}
 use Rattle.risc_emit_relation.proofs.Basics.{get_within}
 use Rattle.risc_emit_forms.specs.Pieces.{AtPlace, AtEntry, AtText}
 use Rattle.risc_emit_forms.specs.Forms.{form, entry_form}
-use Rattle.risc_emit_laws.specs.Drawn.{body_pieces, routine_pieces, routines_pieces, start_pieces, program_pieces, entry_place, site_place, instruction_texts, body_texts, routines_texts, text_place}
+use Rattle.risc_emit_laws.specs.Drawn.{body_pieces, routine_pieces, routines_pieces, start_pieces, program_pieces}
+use Rattle.risc_emit_laws.specs.Drawn.{entry_place, site_place, instruction_texts, body_texts, routines_texts}
+use Rattle.risc_emit_laws.specs.Drawn.{text_place}
 use Rattle.risc_emit_laws.proofs.Drawn.{routine_step}
 use Rattle.risc_emit.specs.declared.marks.Mark.{Mark}
 use Rattle.risc_emit.specs.declared.marks.Marks.{Marks}
@@ -25,10 +28,11 @@ get_there [] n lt = absurd (omega (arith, lt))
 get_there (x ∷ xs) zero lt = (x, refl)
 get_there (x ∷ xs) (suc n) lt = get_there xs n (omega (arith, lt))
 
--- ---- what comes before a place lies within the whole
+-- ---- what comes before a place is within the whole
 
 module _ (c : Context) where
-  body_part : (r k : ℕ) (is : List Instruction) (j : ℕ) → length (body_pieces c r k (take j is)) ≤ length (body_pieces c r k is)
+  body_part : (r k : ℕ) (is : List Instruction) (j : ℕ) → length (body_pieces c r k (take j is)) ≤ length
+      (body_pieces c r k is)
   body_part r k is zero = omega arith
   body_part r k [] (suc j) = omega arith
   body_part r k (x ∷ is) (suc j) =
@@ -37,7 +41,8 @@ module _ (c : Context) where
       let m = length-append (form c r k x) (body_pieces c r (suc k) (take j is)) in
       omega (arith, rest, n, m)
 
-  pub site_low : (r k : ℕ) (routine : TacRoutine) → slice_get (routines c.code) r ≡ Some routine → site_place c r routine k ≤ length (program_pieces c)
+  pub site_low : (r k : ℕ) (routine : TacRoutine) → slice_get (routines c.code) r ≡ Some routine
+      → site_place c r routine k ≤ length (program_pieces c)
   site_low r k routine is =
       let z : 0 + r ≡ r = omega arith in
       let step = routine_step c 0 (routines c.code) r routine is in
@@ -47,7 +52,8 @@ module _ (c : Context) where
       let own = length-append (entry_form c r routine) (body_pieces c r 0 routine.body) in
       omega (arith, step, there, part, whole, own)
 
-  entry_low : (r : ℕ) (routine : TacRoutine) → slice_get (routines c.code) r ≡ Some routine → entry_place c r ≤ length (program_pieces c)
+  entry_low : (r : ℕ) (routine : TacRoutine) → slice_get (routines c.code) r ≡ Some routine → entry_place c r ≤ length
+      (program_pieces c)
   entry_low r routine is = let n = site_low r 0 routine is in omega (arith, n)
 
 body_texts_part : (is : List Instruction) (k : ℕ) → length (body_texts (take k is)) ≤ length (body_texts is)
@@ -59,7 +65,8 @@ body_texts_part (x ∷ is) (suc k) =
     let m = length-append (instruction_texts x) (body_texts (take k is)) in
     omega (arith, rest, n, m)
 
-routines_texts_part : (xs : List TacRoutine) (r : ℕ) (routine : TacRoutine) → slice_get xs r ≡ Some routine → length (routines_texts (take r xs)) + length (body_texts routine.body) ≤ length (routines_texts xs)
+routines_texts_part : (xs : List TacRoutine) (r : ℕ) (routine : TacRoutine) → slice_get xs r ≡ Some routine → length
+    (routines_texts (take r xs)) + length (body_texts routine.body) ≤ length (routines_texts xs)
 routines_texts_part [] r routine e = absurd (cc e)
 routines_texts_part (x ∷ xs) zero routine e =
     let same : x ≡ routine = cc e in
@@ -72,7 +79,8 @@ routines_texts_part (x ∷ xs) (suc r) routine e =
     let m = length-append (body_texts x.body) (routines_texts (take r xs)) in
     omega (arith, rest, n, m)
 
-pub text_low : (code : Code) (r k : ℕ) (routine : TacRoutine) → slice_get (routines code) r ≡ Some routine → text_place code r routine k ≤ length (routines_texts (routines code))
+pub text_low : (code : Code) (r k : ℕ) (routine : TacRoutine) → slice_get (routines code) r ≡ Some routine
+    → text_place code r routine k ≤ length (routines_texts (routines code))
 text_low code r k routine is =
     let a = routines_texts_part (routines code) r routine is in
     let b = body_texts_part routine.body k in
@@ -81,29 +89,34 @@ text_low code r k routine is =
 -- ---- marks
 
 module _ (code : Code) (homes : List Home) (marks : List Marks) (marked : AreMarked (laid_out code homes) marks) where
-  pub sites : (r k : ℕ) (routine : TacRoutine) → slice_get (routines code) r ≡ Some routine → k ≤ length routine.body → site_at marks r k ≡ site_place (laid_out code homes) r routine k
+  pub sites : (r k : ℕ) (routine : TacRoutine) → slice_get (routines code) r ≡ Some routine → k ≤ length routine.body
+      → site_at marks r k ≡ site_place (laid_out code homes) r routine k
   sites r k routine is le =
       let m = marked.each r routine is in
       let p = m.2.each k le in
       ap (λ o. site_of (mark_in o k)) m.1 ∙ ap site_of p.1 ∙ p.2
 
-  pub texts : (r k : ℕ) (routine : TacRoutine) → slice_get (routines code) r ≡ Some routine → k ≤ length routine.body → text_at marks r k ≡ text_place code r routine k
+  pub texts : (r k : ℕ) (routine : TacRoutine) → slice_get (routines code) r ≡ Some routine → k ≤ length routine.body
+      → text_at marks r k ≡ text_place code r routine k
   texts r k routine is le =
       let m = marked.each r routine is in
       let p = m.2.each k le in
       ap (λ o. text_of (mark_in o k)) m.1 ∙ ap text_of p.1 ∙ p.3
 
-  pub entries : (r : ℕ) (routine : TacRoutine) → slice_get (routines code) r ≡ Some routine → entry_at marks r ≡ entry_place (laid_out code homes) r
+  pub entries : (r : ℕ) (routine : TacRoutine) → slice_get (routines code) r ≡ Some routine → entry_at marks r
+      ≡ entry_place (laid_out code homes) r
   entries r routine is = let m = marked.each r routine is in ap entry_of m.1 ∙ m.2.entry
 
-  routine_of : (r : ℕ) (m : Marks) → slice_get marks r ≡ Some m → (routine : TacRoutine) × (slice_get (routines code) r ≡ Some routine)
+  routine_of : (r : ℕ) (m : Marks) → slice_get marks r ≡ Some m → (routine : TacRoutine)
+      × (slice_get (routines code) r ≡ Some routine)
   routine_of r m is =
       let lt = get_within marks r m is in
       let n = marked.count in
       get_there (routines code) r (omega (arith, lt, n))
 
   -- a place that has a mark is one of its routine
-  place_of : (r k : ℕ) (m : Marks) (mark : Mark) → slice_get marks r ≡ Some m → slice_get m.places.items k ≡ Some mark → (routine : TacRoutine) × (slice_get (routines code) r ≡ Some routine) × (k ≤ length routine.body)
+  place_of : (r k : ℕ) (m : Marks) (mark : Mark) → slice_get marks r ≡ Some m → slice_get m.places.items k ≡ Some mark
+      → (routine : TacRoutine) × (slice_get (routines code) r ≡ Some routine) × (k ≤ length routine.body)
   place_of r k m mark is here =
       let found = routine_of r m is in
       let own = marked.each r found.0 found.1 in
@@ -119,7 +132,9 @@ module _ (code : Code) (homes : List Home) (marks : List Marks) (marked : AreMar
   pub site_within : (r k : ℕ) → site_at marks r k ≤ length (program_pieces (laid_out code homes))
   site_within r k = go (is_some (slice_get marks r))
     where
-      by_mark : (m : Marks) → slice_get marks r ≡ Some m → (slice_get m.places.items k ≡ None) ⊎ ((x : Mark) × (slice_get m.places.items k ≡ Some x)) → site_at marks r k ≤ length (program_pieces (laid_out code homes))
+      by_mark : (m : Marks) → slice_get marks r ≡ Some m → (slice_get m.places.items k ≡ None)
+          ⊎ ((x : Mark) × (slice_get m.places.items k ≡ Some x)) → site_at marks r k ≤ length
+          (program_pieces (laid_out code homes))
       by_mark m is (inl none) =
           let n = ap (λ o. site_of (mark_in o k)) is ∙ ap site_of none in omega (arith, n)
       by_mark m is (inr x) =
@@ -128,14 +143,17 @@ module _ (code : Code) (homes : List Home) (marks : List Marks) (marked : AreMar
           let low = site_low (laid_out code homes) r k p.0 p.1 in
           omega (arith, n, low)
 
-      go : (slice_get marks r ≡ None) ⊎ ((m : Marks) × (slice_get marks r ≡ Some m)) → site_at marks r k ≤ length (program_pieces (laid_out code homes))
+      go : (slice_get marks r ≡ None) ⊎ ((m : Marks) × (slice_get marks r ≡ Some m)) → site_at marks r k ≤ length
+          (program_pieces (laid_out code homes))
       go (inl none) = let n = ap (λ o. site_of (mark_in o k)) none in omega (arith, n)
       go (inr m) = by_mark m.0 m.1 (is_some (slice_get m.0.places.items k))
 
   pub text_within : (r k : ℕ) → text_at marks r k ≤ length (routines_texts (routines code))
   text_within r k = go (is_some (slice_get marks r))
     where
-      by_mark : (m : Marks) → slice_get marks r ≡ Some m → (slice_get m.places.items k ≡ None) ⊎ ((x : Mark) × (slice_get m.places.items k ≡ Some x)) → text_at marks r k ≤ length (routines_texts (routines code))
+      by_mark : (m : Marks) → slice_get marks r ≡ Some m → (slice_get m.places.items k ≡ None)
+          ⊎ ((x : Mark) × (slice_get m.places.items k ≡ Some x)) → text_at marks r k ≤ length
+          (routines_texts (routines code))
       by_mark m is (inl none) =
           let n = ap (λ o. text_of (mark_in o k)) is ∙ ap text_of none in omega (arith, n)
       by_mark m is (inr x) =
@@ -144,14 +162,16 @@ module _ (code : Code) (homes : List Home) (marks : List Marks) (marked : AreMar
           let low = text_low code r k p.0 p.1 in
           omega (arith, n, low)
 
-      go : (slice_get marks r ≡ None) ⊎ ((m : Marks) × (slice_get marks r ≡ Some m)) → text_at marks r k ≤ length (routines_texts (routines code))
+      go : (slice_get marks r ≡ None) ⊎ ((m : Marks) × (slice_get marks r ≡ Some m)) → text_at marks r k ≤ length
+          (routines_texts (routines code))
       go (inl none) = let n = ap (λ o. text_of (mark_in o k)) none in omega (arith, n)
       go (inr m) = by_mark m.0 m.1 (is_some (slice_get m.0.places.items k))
 
   pub entry_within : (r : ℕ) → entry_at marks r ≤ length (program_pieces (laid_out code homes))
   entry_within r = go (is_some (slice_get marks r))
     where
-      go : (slice_get marks r ≡ None) ⊎ ((m : Marks) × (slice_get marks r ≡ Some m)) → entry_at marks r ≤ length (program_pieces (laid_out code homes))
+      go : (slice_get marks r ≡ None) ⊎ ((m : Marks) × (slice_get marks r ≡ Some m)) → entry_at marks r ≤ length
+          (program_pieces (laid_out code homes))
       go (inl none) = let n = ap entry_of none in omega (arith, n)
       go (inr m) =
           let found = routine_of r m.0 m.1 in
@@ -159,7 +179,8 @@ module _ (code : Code) (homes : List Home) (marks : List Marks) (marked : AreMar
           let low = entry_low (laid_out code homes) r found.0 found.1 in
           omega (arith, n, low)
 
-  pub are_near : (n : ℕ) → n ≡ length (program_pieces (laid_out code homes)) → length (program_pieces (laid_out code homes)) + length (routines_texts (routines code)) ≤ 1048576 → AreNear marks n
+  pub are_near : (n : ℕ) → n ≡ length (program_pieces (laid_out code homes)) → length
+      (program_pieces (laid_out code homes)) + length (routines_texts (routines code)) ≤ 1048576 → AreNear marks n
   are_near n is few (AtPlace r k) = let s = site_within r k in omega (arith, few, s)
   are_near n is few (AtEntry r) = let s = entry_within r in omega (arith, few, s)
   are_near n is few (AtText r k) = let s = text_within r k in omega (arith, few, is, s)

@@ -1,5 +1,6 @@
--- One row more is one fewer left, and one word more.
-use Rattle.std.proofs.Common.{◌≡◌, ℕ, zero, suc, ◌+◌, ◌*◌, ◌<◌, ◌≤◌, ◌⊎◌, inl, inr, List, [], ◌∷◌, ◌++◌, length, length-append, map, drop, get_or, Some, slice_get, refl, sym, ap, ◌∙◌, subst, arith}
+-- One more row is one fewer left, and one more word.
+use Rattle.std.proofs.Common.{◌≡◌, ℕ, zero, suc, ◌+◌, ◌*◌, ◌<◌, ◌≤◌, ◌⊎◌, inl, inr, List, [], ◌∷◌, ◌++◌, length}
+use Rattle.std.proofs.Common.{length-append, map, drop, get_or, Some, slice_get, refl, sym, ap, ◌∙◌, subst, arith}
 use Rattle.std.proofs.lemmas.List.{append-nil, append_assoc}
 use Rattle.tac_code.specs.declared.code.TacRoutine.{TacRoutine}
 use Rattle.risc_word.specs.Words.{Denotes}
@@ -10,7 +11,8 @@ use Rattle.risc_image.specs.declared.rows.TrapRow.{TrapRow}
 use Rattle.risc_image.specs.declared.rows.CallRow.{CallRow}
 use Rattle.risc_emit_relation.specs.Context.{Context}
 use Rattle.risc_emit_forms.specs.Pieces.{instr_at}
-use Rattle.risc_emit_laws.specs.Drawn.{entry_place, trap_row_of, trap_rows_of, call_row_of, call_rows_of, frame_rows_of, object_rows_of}
+use Rattle.risc_emit_laws.specs.Drawn.{entry_place, trap_row_of, trap_rows_of, call_row_of, call_rows_of}
+use Rattle.risc_emit_laws.specs.Drawn.{frame_rows_of, object_rows_of}
 use Rattle.risc_emit.specs.declared.pieces.Piece.{Piece}
 use Rattle.risc_emit.specs.Meant.{meant, all_meant}
 use Rattle.risc_emit.specs.Placed.{AreWordsTo}
@@ -37,50 +39,86 @@ next n = omega arith
 
 -- ---- traps and calls
 
-pub trap_step : (ps : List Piece) (at : ℕ) (p : Piece) (rows more all : List TrapRow) → slice_get ps at ≡ Some p → more ≡ rows ++ trap_row_of at (meant p) → rows ++ trap_rows_of at (all_meant (drop at ps)) ≡ all → more ++ trap_rows_of (at + 1) (all_meant (drop (at + 1) ps)) ≡ all
+pub trap_step : (ps : List Piece) (at : ℕ) (p : Piece) (rows more all : List TrapRow) → slice_get ps at ≡ Some p → more
+    ≡ rows ++ trap_row_of at (meant p) → rows ++ trap_rows_of at (all_meant (drop at ps)) ≡ all → more ++ trap_rows_of
+    (at + 1) (all_meant (drop (at + 1) ps)) ≡ all
 trap_step ps at p rows more all e is inv =
     let rest = trap_rows_of (at + 1) (map meant (drop (suc at) ps)) in
     let here = ap (λ xs. rows ++ trap_rows_of at (map meant xs)) (drop_get ps at p e) in
-    subst (λ n. more ++ trap_rows_of (at + 1) (map meant (drop n ps)) ≡ all) (next at) (ap (λ x. x ++ rest) is ∙ append_assoc rows (trap_row_of at (meant p)) rest ∙ sym here ∙ inv)
+    subst (λ n. more ++ trap_rows_of (at + 1) (map meant (drop n ps)) ≡ all) (next at)
+    (ap (λ x. x ++ rest) is ∙ append_assoc rows (trap_row_of at (meant p)) rest ∙ sym here ∙ inv)
 
-pub trap_all : (ps : List Piece) (at : ℕ) (rows all : List TrapRow) → length ps ≤ at → rows ++ trap_rows_of at (all_meant (drop at ps)) ≡ all → rows ≡ all
+pub trap_all : (ps : List Piece) (at : ℕ) (rows all : List TrapRow) → length ps ≤ at → rows ++ trap_rows_of at
+    (all_meant (drop at ps)) ≡ all → rows ≡ all
 trap_all ps at rows all le inv =
     sym (append-nil rows) ∙ sym (ap (λ xs. rows ++ trap_rows_of at (map meant xs)) (drop_past ps at le)) ∙ inv
 
-pub call_step : (ps : List Piece) (at : ℕ) (p : Piece) (rows more all : List CallRow) → slice_get ps at ≡ Some p → more ≡ rows ++ call_row_of at (meant p) → rows ++ call_rows_of at (all_meant (drop at ps)) ≡ all → more ++ call_rows_of (at + 1) (all_meant (drop (at + 1) ps)) ≡ all
+pub call_step : (ps : List Piece) (at : ℕ) (p : Piece) (rows more all : List CallRow) → slice_get ps at ≡ Some p → more
+    ≡ rows ++ call_row_of at (meant p) → rows ++ call_rows_of at (all_meant (drop at ps)) ≡ all → more ++ call_rows_of
+    (at + 1) (all_meant (drop (at + 1) ps)) ≡ all
 call_step ps at p rows more all e is inv =
     let rest = call_rows_of (at + 1) (map meant (drop (suc at) ps)) in
     let here = ap (λ xs. rows ++ call_rows_of at (map meant xs)) (drop_get ps at p e) in
-    subst (λ n. more ++ call_rows_of (at + 1) (map meant (drop n ps)) ≡ all) (next at) (ap (λ x. x ++ rest) is ∙ append_assoc rows (call_row_of at (meant p)) rest ∙ sym here ∙ inv)
+    subst (λ n. more ++ call_rows_of (at + 1) (map meant (drop n ps)) ≡ all) (next at)
+    (ap (λ x. x ++ rest) is ∙ append_assoc rows (call_row_of at (meant p)) rest ∙ sym here ∙ inv)
 
-pub call_all : (ps : List Piece) (at : ℕ) (rows all : List CallRow) → length ps ≤ at → rows ++ call_rows_of at (all_meant (drop at ps)) ≡ all → rows ≡ all
+pub call_all : (ps : List Piece) (at : ℕ) (rows all : List CallRow) → length ps ≤ at → rows ++ call_rows_of at
+    (all_meant (drop at ps)) ≡ all → rows ≡ all
 call_all ps at rows all le inv =
     sym (append-nil rows) ∙ sym (ap (λ xs. rows ++ call_rows_of at (map meant xs)) (drop_past ps at le)) ∙ inv
 
 -- ---- frames and objects
 
 module _ (c : Context) where
-  pub frame_step : (xs : List TacRoutine) (n : ℕ) (row : FrameRow) (rows more all : List FrameRow) → n < length xs → row.entry ≡ 4 * entry_place c n → row.bytes ≡ c.costs n → more ≡ rows ++ row ∷ [] → rows ++ frame_rows_of c n (drop n xs) ≡ all → more ++ frame_rows_of c (n + 1) (drop (n + 1) xs) ≡ all
+  pub frame_step : (xs : List TacRoutine) (n : ℕ) (row : FrameRow) (rows more all : List FrameRow) → n < length xs
+      → row.entry ≡ 4 * entry_place c n → row.bytes ≡ c.costs n → more ≡ rows ++ row ∷ [] → rows ++ frame_rows_of c n
+      (drop n xs) ≡ all → more ++ frame_rows_of c (n + 1) (drop (n + 1) xs) ≡ all
   frame_step xs n row rows more all lt entry bytes is inv =
       let x = get_there xs n lt in
       let rest = frame_rows_of c (suc n) (drop (suc n) xs) in
       let here = ap (λ ys. rows ++ frame_rows_of c n ys) (drop_get xs n x.0 x.1) in
-      let first : row ≡ record { entry = 4 * entry_place c n; bytes = c.costs n } = ap (λ a. record { entry = a; bytes = row.bytes }) entry ∙ ap (λ b. record { entry = 4 * entry_place c n; bytes = b }) bytes in
-      subst (λ m. more ++ frame_rows_of c m (drop m xs) ≡ all) (next n) (ap (λ y. y ++ rest) is ∙ append_assoc rows (row ∷ []) rest ∙ ap (λ y. rows ++ y ∷ rest) first ∙ sym here ∙ inv)
+      let first : row ≡ record {
+        entry = 4 * entry_place c n;
+        bytes = c.costs n;
+      } = ap (λ a. record {
+        entry = a;
+        bytes = row.bytes;
+      }) entry ∙ ap (λ b. record {
+        entry = 4 * entry_place c n;
+        bytes = b;
+      }) bytes in
+      subst (λ m. more ++ frame_rows_of c m (drop m xs) ≡ all) (next n)
+      (ap (λ y. y ++ rest) is ∙ append_assoc rows (row ∷ []) rest ∙ ap (λ y. rows ++ y ∷ rest) first ∙ sym here
+      ∙ inv)
 
-  pub frame_all : (xs : List TacRoutine) (n : ℕ) (rows all : List FrameRow) → length xs ≤ n → rows ++ frame_rows_of c n (drop n xs) ≡ all → rows ≡ all
+  pub frame_all : (xs : List TacRoutine) (n : ℕ) (rows all : List FrameRow) → length xs ≤ n → rows ++ frame_rows_of c n
+      (drop n xs) ≡ all → rows ≡ all
   frame_all xs n rows all le inv =
       sym (append-nil rows) ∙ sym (ap (λ ys. rows ++ frame_rows_of c n ys) (drop_past xs n le)) ∙ inv
 
-  pub object_step : (xs : List ℕ) (n : ℕ) (row : ObjectRow) (rows more all : List ObjectRow) → n < length xs → row.pointer_type ≡ n → row.bytes ≡ c.sizes n → more ≡ rows ++ row ∷ [] → rows ++ object_rows_of c n (drop n xs) ≡ all → more ++ object_rows_of c (n + 1) (drop (n + 1) xs) ≡ all
+  pub object_step : (xs : List ℕ) (n : ℕ) (row : ObjectRow) (rows more all : List ObjectRow) → n < length xs
+      → row.pointer_type ≡ n → row.bytes ≡ c.sizes n → more ≡ rows ++ row ∷ [] → rows ++ object_rows_of c n (drop n xs)
+      ≡ all → more ++ object_rows_of c (n + 1) (drop (n + 1) xs) ≡ all
   object_step xs n row rows more all lt number bytes is inv =
       let x = get_there xs n lt in
       let rest = object_rows_of c (suc n) (drop (suc n) xs) in
       let here = ap (λ ys. rows ++ object_rows_of c n ys) (drop_get xs n x.0 x.1) in
-      let first : row ≡ record { pointer_type = n; bytes = c.sizes n } = ap (λ a. record { pointer_type = a; bytes = row.bytes }) number ∙ ap (λ b. record { pointer_type = n; bytes = b }) bytes in
-      subst (λ m. more ++ object_rows_of c m (drop m xs) ≡ all) (next n) (ap (λ y. y ++ rest) is ∙ append_assoc rows (row ∷ []) rest ∙ ap (λ y. rows ++ y ∷ rest) first ∙ sym here ∙ inv)
+      let first : row ≡ record {
+        pointer_type = n;
+        bytes = c.sizes n;
+      } = ap (λ a. record {
+        pointer_type = a;
+        bytes = row.bytes;
+      }) number ∙ ap (λ b. record {
+        pointer_type = n;
+        bytes = b;
+      }) bytes in
+      subst (λ m. more ++ object_rows_of c m (drop m xs) ≡ all) (next n)
+      (ap (λ y. y ++ rest) is ∙ append_assoc rows (row ∷ []) rest ∙ ap (λ y. rows ++ y ∷ rest) first ∙ sym here
+      ∙ inv)
 
-  pub object_all : (xs : List ℕ) (n : ℕ) (rows all : List ObjectRow) → length xs ≤ n → rows ++ object_rows_of c n (drop n xs) ≡ all → rows ≡ all
+  pub object_all : (xs : List ℕ) (n : ℕ) (rows all : List ObjectRow) → length xs ≤ n → rows ++ object_rows_of c n
+      (drop n xs) ≡ all → rows ≡ all
   object_all xs n rows all le inv =
       sym (append-nil rows) ∙ sym (ap (λ ys. rows ++ object_rows_of c n ys) (drop_past xs n le)) ∙ inv
 
@@ -103,7 +141,9 @@ less_or_same i n lt = grind (arith, lt)
 pub no_words : (c : Context) (ps : List Piece) → AreWordsTo c ps 0 []
 no_words c ps = record { count = refl; each = λ i p lt e. absurd (omega (arith, lt)) }
 
-pub word_step : (c : Context) (ps : List Piece) (at : ℕ) (p : Piece) (w : ℕ) (words more : List ℕ) → slice_get ps at ≡ Some p → Denotes w (instr_at c at (meant p)) → more ≡ words ++ w ∷ [] → AreWordsTo c ps at words → AreWordsTo c ps (at + 1) more
+pub word_step : (c : Context) (ps : List Piece) (at : ℕ) (p : Piece) (w : ℕ) (words more : List ℕ) → slice_get ps at
+    ≡ Some p → Denotes w (instr_at c at (meant p)) → more ≡ words ++ w ∷ [] → AreWordsTo c ps at words → AreWordsTo c ps
+    (at + 1) more
 word_step c ps at p w words more here d is inv =
     let n = length-append words (w ∷ []) in
     let m = ap length is in
@@ -115,7 +155,10 @@ word_step c ps at p w words more here d is inv =
 
     new : IsAt more at (instr_at c at (meant p))
     new =
-        record { word = ap (λ ws. slice_get ws at) is ∙ get_last words w at inv.count ∙ ap Some (sym d.table); ranges = d.ranges }
+        record {
+          word = ap (λ ws. slice_get ws at) is ∙ get_last words w at inv.count ∙ ap Some (sym d.table);
+          ranges = d.ranges;
+        }
 
     some_same : {X : Type 0} (x y : X) → Some x ≡ Some y → x ≡ y
     some_same x y e = cc e
@@ -124,4 +167,5 @@ word_step c ps at p w words more here d is inv =
     each i q e (inl lt) = old i q (inv.each i q lt e)
     each i q e (inr same) =
         let it : p ≡ q = some_same p q (sym here ∙ sym (ap (slice_get ps) same) ∙ e) in
-        subst (λ k. IsAt more k (instr_at c k (meant q))) (sym same) (subst (λ x. IsAt more at (instr_at c at (meant x))) it new)
+        subst (λ k. IsAt more k (instr_at c k (meant q))) (sym same)
+        (subst (λ x. IsAt more at (instr_at c at (meant x))) it new)

@@ -1,5 +1,7 @@
--- What the parts of an image are made of is all that the law of emission asks.
-use Rattle.std.proofs.Common.{◌≡◌, ℕ, zero, suc, ◌+◌, ◌%◌, ◌<◌, ◌≤◌, Bool, true, false, cond, nat_lt, List, [], ◌∷◌, ◌++◌, length, length-append, map, Option, Some, None, slice_get, refl, sym, ap, ◌∙◌, subst, arith}
+-- What the parts of an image are made from is all that the law of emission requires.
+use Rattle.std.proofs.Common.{◌≡◌, ℕ, zero, suc, ◌+◌, ◌%◌, ◌<◌, ◌≤◌, Bool, true, false, cond, nat_lt, List, [], ◌∷◌}
+use Rattle.std.proofs.Common.{◌++◌, length, length-append, map, Option, Some, None, is_some, slice_get, refl, sym, ap}
+use Rattle.std.proofs.Common.{◌∙◌, subst, arith}
 use Rattle.std.proofs.lemmas.List.{length-map}
 use Rattle.tac_code.specs.declared.code.TacRoutine.{TacRoutine}
 use Rattle.tac_code.specs.Meaning.{Code, routines}
@@ -11,10 +13,12 @@ use Rattle.risc_image.specs.Image.{Image, IsWellFormed}
 use Rattle.risc_emit_relation.specs.Context.{Context}
 use Rattle.risc_emit_relation.proofs.Basics.{get_within}
 use Rattle.risc_emit_forms.specs.Pieces as piece
-use Rattle.risc_emit_forms.specs.Pieces.{AtPlace, AtEntry, AtText, Plain, Goes, Fails, Enters, Joins, EntersAt, High, Low, instr_at}
+use Rattle.risc_emit_forms.specs.Pieces.{AtPlace, AtEntry, AtText, Plain, Goes, Fails, Enters, Joins, EntersAt, High}
+use Rattle.risc_emit_forms.specs.Pieces.{Low, instr_at}
 use Rattle.risc_emit_laws.specs.Plan.{context}
 use Rattle.risc_emit_laws.specs.Emits.{Emits}
-use Rattle.risc_emit_laws.specs.Drawn.{program_pieces, trap_rows_of, call_rows_of, frame_rows_of, object_rows_of, routines_texts, text_place, IsTabled}
+use Rattle.risc_emit_laws.specs.Drawn.{program_pieces, trap_rows_of, call_rows_of, frame_rows_of, object_rows_of}
+use Rattle.risc_emit_laws.specs.Drawn.{routines_texts, text_place, IsTabled}
 use Rattle.risc_emit.specs.declared.pieces.Piece.{Piece}
 use Rattle.risc_emit.specs.declared.marks.Marks.{Marks}
 use Rattle.risc_emit.specs.Layout.{object_cost_in, laid_out}
@@ -23,7 +27,8 @@ use Rattle.risc_emit.specs.Marked.{AreMarked}
 use Rattle.risc_emit.specs.Placed.{site_at, entry_at, constant_at, placed, AreWordsOf}
 use Rattle.risc_emit.specs.Emitted.{HasBounds}
 use Rattle.risc_emit.proofs.Laid.{plan_of, cost_whole}
-use Rattle.risc_emit.proofs.Emitted.{IsWritten, written_emits, written_formed, routines_counted, types_counted, frame_charged, object_charged}
+use Rattle.risc_emit.proofs.Emitted.{IsWritten, written_emits, written_formed, routines_counted, types_counted}
+use Rattle.risc_emit.proofs.Emitted.{frame_charged, object_charged}
 use Rattle.risc_emit.proofs.Places.{sites, texts, entries, text_within}
 
 -- ---- lists
@@ -33,7 +38,8 @@ get_first [] ys i x e = absurd (cc e)
 get_first (y ∷ xs) ys zero x e = e
 get_first (y ∷ xs) ys (suc i) x e = get_first xs ys i x e
 
-get_meant : (ps : List Piece) (i : ℕ) (p : piece.Piece) → slice_get (map meant ps) i ≡ Some p → (q : Piece) × (slice_get ps i ≡ Some q) × (meant q ≡ p)
+get_meant : (ps : List Piece) (i : ℕ) (p : piece.Piece) → slice_get (map meant ps) i ≡ Some p → (q : Piece)
+    × (slice_get ps i ≡ Some q) × (meant q ≡ p)
 get_meant [] i p e = absurd (cc e)
 get_meant (x ∷ ps) zero p e = (x, refl, some_same (meant x) p e)
   where
@@ -102,7 +108,8 @@ module _ (code : Code) (homes : List Home) (sound : IsSound code) (valid : Valid
   code_is : image.code ≡ m.code_words.first ++ routines_texts (routines code)
   code_is = m.code_words.is ∙ ap (λ ws. m.code_words.first ++ ws) m.texts
 
-  code_count : length image.code ≡ length (program_pieces (laid_out code homes)) + length (routines_texts (routines code))
+  code_count : length image.code ≡ length (program_pieces (laid_out code homes)) + length
+      (routines_texts (routines code))
   code_count =
       let whole = ap length code_is in
       let n = length-append m.code_words.first (routines_texts (routines code)) in
@@ -125,7 +132,9 @@ module _ (code : Code) (homes : List Home) (sound : IsSound code) (valid : Valid
         sizes = sizes_whole code sound;
       }
 
-  constants_placed : (r k : ℕ) (routine : TacRoutine) → slice_get (routines code) r ≡ Some routine → k < length routine.body → constant_at marks (length pieces) r k ≡ length m.code_words.first + text_place code r routine k
+  constants_placed : (r k : ℕ) (routine : TacRoutine) → slice_get (routines code) r ≡ Some routine
+      → k < length routine.body → constant_at marks (length pieces) r k ≡ length m.code_words.first
+      + text_place code r routine k
   constants_placed r k routine is lt =
       let t = texts code homes marks m.marked r k routine is (omega (arith, lt)) in
       let f = m.code_words.words.count in
@@ -138,20 +147,26 @@ module _ (code : Code) (homes : List Home) (sound : IsSound code) (valid : Valid
       let count = code_count in
       omega (arith, t, n, count)
 
-  word_at : (heap stack at : ℕ) (p : piece.Piece) → slice_get (program_pieces (laid_out code homes)) at ≡ Some p → IsAt image.code at (instr_at (context code homes (plan_of code (site_at marks) (entry_at marks) (constant_at marks (length pieces))) image heap stack) at p)
+  word_at : (heap stack at : ℕ) (p : piece.Piece) → slice_get (program_pieces (laid_out code homes)) at ≡ Some p
+      → IsAt image.code at (instr_at (context code homes
+      (plan_of code (site_at marks) (entry_at marks) (constant_at marks (length pieces))) image heap stack) at p)
   word_at heap stack at p e =
       let q = get_meant pieces at p (ap (λ ps. slice_get ps at) m.meant ∙ e) in
       let lt = get_within pieces at q.0 q.1 in
       let here = m.code_words.words.each at q.0 lt q.1 in
-      let d = context code homes (plan_of code (site_at marks) (entry_at marks) (constant_at marks (length pieces))) image heap stack in
-      let same : instr_at (placed marks (length pieces)) at (meant q.0) ≡ instr_at d at p = instrs_same (placed marks (length pieces)) d (λ r k. refl) (λ r. refl) (λ r k. refl) at (meant q.0) ∙ ap (instr_at d at) q.2 in
+      let d = context code homes (plan_of code (site_at marks) (entry_at marks) (constant_at marks (length pieces)))
+      image heap stack in
+      let same : instr_at (placed marks (length pieces)) at (meant q.0) ≡ instr_at d at p = instrs_same
+      (placed marks (length pieces)) d (λ r k. refl) (λ r. refl) (λ r k. refl) at (meant q.0)
+      ∙ ap (instr_at d at) q.2 in
       let in_first : IsAt m.code_words.first at (instr_at d at p) = subst (IsAt m.code_words.first at) same here in
       record {
         word = ap (λ ws. slice_get ws at) m.code_words.is ∙ get_first m.code_words.first words at _ in_first.word;
         ranges = in_first.ranges;
       }
 
-  pub is_written : IsWritten code homes image (site_at marks) (entry_at marks) (constant_at marks (length pieces)) m.code_words.first
+  pub is_written : IsWritten code homes image (site_at marks) (entry_at marks)
+      (constant_at marks (length pieces)) m.code_words.first
   is_written =
       record {
         tabled = tabled;
@@ -172,15 +187,27 @@ module _ (code : Code) (homes : List Home) (sound : IsSound code) (valid : Valid
   pub made_bounded : HasBounds code image
   made_bounded =
       record {
+        calls = ap is_some m.calls;
         routines = routines_counted code homes sound valid image _ _ _ _ is_written;
         types = types_counted code homes sound valid image _ _ _ _ is_written;
-        frames = λ r routine is. frame_charged code homes sound valid image _ _ _ _ is_written r routine (below r (length code.program) (get_within code.program r routine is)) (get_first code.program code.run_time r routine is);
+        frames = λ r routine is. frame_charged code homes sound valid image _ _ _ _ is_written r routine
+            (below r (length code.program) (get_within code.program r routine is))
+            (get_first code.program code.run_time r routine is);
         objects = object_charged code homes sound valid image _ _ _ _ is_written;
       }
 
 -- the parts that are put together
-pub is_made : (code : Code) (homes : List Home) (own marks : List Marks) (drawn : List piece.Piece) (pieces : List Piece) (own_texts words : List ℕ) (image : Image) → AreMarked (laid_out code homes) own → marks ≡ own → all_meant pieces ≡ drawn → drawn ≡ program_pieces (laid_out code homes) → own_texts ≡ routines_texts (routines code) → words ≡ own_texts → length (program_pieces (laid_out code homes)) + length (routines_texts (routines code)) ≤ 1048576 → image.global ≡ 0 → AreWordsOf (placed marks (length pieces)) pieces words image.code → image.frames ≡ frame_rows_of (laid_out code homes) 0 code.program → image.objects ≡ object_rows_of (laid_out code homes) 0 code.objects → image.traps ≡ trap_rows_of 0 (all_meant pieces) → image.calls ≡ Some (call_rows_of 0 (all_meant pieces)) → IsMade code homes marks pieces words image
-is_made code homes own marks drawn pieces own_texts words image marked e_marks e_pieces e_drawn e_texts e_words few global code_words frames objects traps calls =
+pub is_made : (code : Code) (homes : List Home) (own marks : List Marks) (drawn : List piece.Piece)
+    (pieces : List Piece) (own_texts words : List ℕ) (image : Image) → AreMarked (laid_out code homes) own → marks ≡ own
+    → all_meant pieces ≡ drawn → drawn ≡ program_pieces (laid_out code homes) → own_texts ≡ routines_texts
+    (routines code) → words ≡ own_texts → length (program_pieces (laid_out code homes)) + length
+    (routines_texts (routines code)) ≤ 1048576 → image.global ≡ 0 → AreWordsOf
+    (placed marks (length pieces)) pieces words image.code → image.frames ≡ frame_rows_of
+    (laid_out code homes) 0 code.program → image.objects ≡ object_rows_of (laid_out code homes) 0 code.objects
+    → image.traps ≡ trap_rows_of 0 (all_meant pieces) → image.calls ≡ Some (call_rows_of 0 (all_meant pieces))
+    → IsMade code homes marks pieces words image
+is_made code homes own marks drawn pieces own_texts words image marked e_marks e_pieces e_drawn e_texts e_words few
+    global code_words frames objects traps calls =
     record {
       meant = e_pieces ∙ e_drawn;
       texts = e_words ∙ e_texts;

@@ -1,4 +1,4 @@
--- A routine that is being written: what its pieces hang on.
+-- A routine that is being written: what its pieces depend on.
 use Rattle.std.specs.Prelude.{◌≡◌, ℕ, ◌<◌, List, length, slice_get, Some}
 use Rattle.tac_code.specs.Meaning.{Code, routines}
 use Rattle.risc_alloc.specs.declared.homes.Home.{Home}
@@ -20,7 +20,7 @@ place_of code homes r = record { code = code; homes = homes; number = r }
 abbrev pub context_of : Place → Context
 context_of place = laid_out place.code place.homes
 
--- the offsets are those of the layout, and far from the greatest numbers
+-- the offsets are those of the layout, and far below the greatest numbers
 pub record AreOffsets (code : Code) (r : ℕ) (offsets : Offsets) : Type 0 where
   pub link : offsets.link ≡ link_at code r
   pub slots : offsets.slots ≡ slots_at code r
@@ -28,7 +28,8 @@ pub record AreOffsets (code : Code) (r : ℕ) (offsets : Offsets) : Type 0 where
   pub scratch : offsets.scratch ≡ scratch_at code r
   pub program : offsets.program ≡ frame_at code 0
   pub cost : offsets.cost ≡ frame_cost code r
-  pub small : (offsets.frame < 1099511627776) × (offsets.scratch < 1099511627776) × (offsets.program < 1099511627776) × (offsets.cost < 1099511627776)
+  pub small : (offsets.frame < 1099511627776) × (offsets.scratch < 1099511627776) × (offsets.program < 1099511627776)
+      × (offsets.cost < 1099511627776)
 
 -- the homes of a routine's temporaries; registers are 0 to 11
 pub record AreHomes (code : Code) (homes : List Home) (r : ℕ) (own : List Home) : Type 0 where

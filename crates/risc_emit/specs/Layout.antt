@@ -1,6 +1,7 @@
--- How frames are laid out, and what an activation and an object are charged for. A frame of the program holds from its beginning the link
--- and the caller's frame, 65 operands for calls, where a run-time routine also stands, the stack's limit and the heap's next address, then
--- the slots, the frame block and the scratch block. A run-time routine's link stands behind its 8 operands.
+-- How frames are laid out, and what an activation and an object are charged for. A frame of the program holds from its
+-- beginning the link and the caller's frame, 65 operands for calls, where a run-time routine's frame also is, the
+-- stack's limit and the heap's next address, then the slots, the frame block and the scratch block. A run-time
+-- routine's link comes after its 8 operands.
 use Rattle.std.specs.Prelude.{ℕ, ◌+◌, ◌*◌, Bool, nat_lt, if◌then◌else◌, List, length, slice_get, Option, Some, None}
 use Rattle.tac_code.specs.declared.code.TacRoutine.{TacRoutine}
 use Rattle.tac_code.specs.Meaning.{Code, routines}
@@ -44,7 +45,7 @@ used code r = scratch_at code r + scratch_in (routine_at code r)
 abbrev pub frame_cost : Code → ℕ → ℕ
 frame_cost code r = if is_of_program code r then used code r else 0
 
--- no object is without bytes, so no two have one address
+-- no object is without bytes, so no two have the same address
 abbrev pub object_cost : ℕ → ℕ
 object_cost bytes = if nat_lt bytes 4 then 4 else bytes
 
@@ -52,7 +53,7 @@ abbrev pub object_cost_in : Option ℕ → ℕ
 object_cost_in None = 0
 object_cost_in (Some bytes) = object_cost bytes
 
--- The code with its layout, before it is known where words stand: on this alone hangs which pieces an instruction has.
+-- The code with its layout, before it is known where words go: which pieces an instruction has depends on this alone.
 abbrev pub laid_out : Code → List Home → Context
 laid_out code homes =
     record {

@@ -1,5 +1,5 @@
--- What is asked of instructions whose words hang on more: how many operands a call passes, at most so many as a frame has room for; and how
--- far behind a register a load goes that is short of an offset.
+-- What is required of instructions whose words depend on more: that a call passes no more operands than a frame has
+-- room for; and how far after a register a load goes that is short of an offset.
 use Rattle.std.specs.Prelude.{ℕ, ◌+◌, ◌<◌, ◌≤◌, length, Option, Some, None}
 use Rattle.tac_code.specs.declared.code.Instruction.{Instruction}
 use Rattle.tac_code.specs.declared.code.Instruction.TheVariants.{Load, Call, CallValue}

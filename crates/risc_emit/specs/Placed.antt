@@ -41,7 +41,7 @@ entry_at marks routine = entry_of (slice_get marks routine)
 abbrev pub constant_at : List Marks → ℕ → ℕ → ℕ → ℕ
 constant_at marks constants routine place = constants + text_at marks routine place
 
--- These places. Which instruction a piece is hangs on nothing else, so the code is empty here.
+-- These places. Which instruction a piece is depends on nothing else, so the code is empty here.
 abbrev pub placed : List Marks → ℕ → Context
 placed marks constants =
     record (laid_out (record { program = []; run_time = []; objects = [] }) []) {
@@ -54,12 +54,12 @@ placed marks constants =
 abbrev pub AreNear : List Marks → ℕ → Type 0
 AreNear marks constants = (label : Label) → label_place (placed marks constants) label ≤ 1048576
 
--- so many first words are those of the pieces
+-- the words of the first n pieces
 pub record AreWordsTo (c : Context) (pieces : List Piece) (n : ℕ) (words : List ℕ) : Type 0 where
   pub count : length words ≡ n
   pub each : (at : ℕ) (p : Piece) → at < n → slice_get pieces at ≡ Some p → IsAt words at (instr_at c at (meant p))
 
--- the words of all pieces, and behind them these
+-- the words of all pieces, and these after them
 pub record AreWordsOf (c : Context) (pieces : List Piece) (texts code : List ℕ) : Type 0 where
   pub first : List ℕ
   pub words : AreWordsTo c pieces (length pieces) first

@@ -72,7 +72,8 @@ pub(crate) fn put_difference(
     left: u32,
     operand: Operand,
 ) -> Result<(), OutOfMemory>
-    ensures { OnOk result (pieces.new ≡ pieces.old ++ form.both (context_of frame.now) frame.now.number left operand (form.difference (context_of frame.now) frame.now.number left operand ∷ [])) }
+    ensures { OnOk result (pieces.new ≡ pieces.old ++ form.both (context_of frame.now) frame.now.number left operand
+        (form.difference (context_of frame.now) frame.now.number left operand ∷ [])) }
 {
     put_operation(frame, pieces, Operation::Sub, r12(), left, operand)
 }
@@ -85,7 +86,9 @@ fn put_operate(
     left: u32,
     operand: Operand,
 ) -> Result<(), OutOfMemory>
-    ensures { OnOk result (pieces.new ≡ pieces.old ++ form.both (context_of frame.now) frame.now.number left operand (form.operate (context_of frame.now) frame.now.number operation (home (context_of frame.now) frame.now.number to) left operand ∷ [])) }
+    ensures { OnOk result (pieces.new ≡ pieces.old ++ form.both (context_of frame.now) frame.now.number left operand
+        (form.operate (context_of frame.now) frame.now.number operation
+        (home (context_of frame.now) frame.now.number to) left operand ∷ [])) }
 {
     put_operation(frame, pieces, operation, target(frame, to), left, operand)
 }
@@ -98,13 +101,16 @@ pub(crate) fn put_bits(
     left: u32,
     operand: Operand,
 ) -> Result<(), OutOfMemory>
-    ensures { OnOk result (pieces.new ≡ pieces.old ++ form.both (context_of frame.now) frame.now.number left operand (form.operate (context_of frame.now) frame.now.number (form.bit_operation operator) (home (context_of frame.now) frame.now.number to) left operand ∷ form.save (context_of frame.now) frame.now.number (home (context_of frame.now) frame.now.number to))) }
+    ensures { OnOk result (pieces.new ≡ pieces.old ++ form.both (context_of frame.now) frame.now.number left operand
+        (form.operate (context_of frame.now) frame.now.number (form.bit_operation operator)
+        (home (context_of frame.now) frame.now.number to) left operand ∷ form.save
+        (context_of frame.now) frame.now.number (home (context_of frame.now) frame.now.number to))) }
 {
     put_operate(frame, pieces, bit_operation(operator), to, left, operand)?;
     save(frame, pieces, to)
 }
 
-// Whether a temporary's register holds its own difference from 0 already, with N and Z.
+// Whether a temporary's register already holds its difference from 0, with N and Z.
 fn is_own(frame: &Frame<'_>, told: Option<u32>, to: u32, left: u32, operand: Operand) -> bool
     ensures { result ≡ form.is_own (context_of frame.now) frame.now.number told to left operand }
 {
@@ -131,7 +137,8 @@ fn put_unlike(
     left: u32,
     operand: Operand,
 ) -> Result<(), OutOfMemory>
-    ensures { OnOk result (pieces.new ≡ pieces.old ++ form.unlike_form (context_of frame.now) frame.now.number told to left operand) }
+    ensures { OnOk result (pieces.new ≡ pieces.old ++ form.unlike_form
+        (context_of frame.now) frame.now.number told to left operand) }
 {
     if !is_own(frame, told, to, left, operand) {
         put_operate(frame, pieces, Operation::Sub, to, left, operand)?;
@@ -148,7 +155,8 @@ fn put_truth(
     left: u32,
     operand: Operand,
 ) -> Result<(), OutOfMemory>
-    ensures { OnOk result (pieces.new ≡ pieces.old ++ form.truth_form (context_of frame.now) frame.now.number relation to left operand) }
+    ensures { OnOk result (pieces.new ≡ pieces.old ++ form.truth_form
+        (context_of frame.now) frame.now.number relation to left operand) }
 {
     let register = target(frame, to);
     put_difference(frame, pieces, left, operand)?;
@@ -170,7 +178,8 @@ pub(crate) fn put_compare(
     left: u32,
     operand: Operand,
 ) -> Result<(), OutOfMemory>
-    ensures { OnOk result (pieces.new ≡ pieces.old ++ form.compare_form (context_of frame.now) frame.now.number told relation to left operand) }
+    ensures { OnOk result (pieces.new ≡ pieces.old ++ form.compare_form
+        (context_of frame.now) frame.now.number told relation to left operand) }
 {
     match relation {
         Relation::NotEqual => put_unlike(frame, pieces, told, to, left, operand),
@@ -193,7 +202,10 @@ fn put_sum(
     error: u8,
     line: u16,
 ) -> Result<(), OutOfMemory>
-    ensures { OnOk result (pieces.new ≡ pieces.old ++ form.both (context_of frame.now) frame.now.number left operand (form.operate (context_of frame.now) frame.now.number operation (home (context_of frame.now) frame.now.number to) left operand ∷ piece.Fails on.OverflowSet error line ∷ form.save (context_of frame.now) frame.now.number (home (context_of frame.now) frame.now.number to))) }
+    ensures { OnOk result (pieces.new ≡ pieces.old ++ form.both (context_of frame.now) frame.now.number left operand
+        (form.operate (context_of frame.now) frame.now.number operation
+        (home (context_of frame.now) frame.now.number to) left operand ∷ piece.Fails on.OverflowSet error line
+        ∷ form.save (context_of frame.now) frame.now.number (home (context_of frame.now) frame.now.number to))) }
 {
     put_operate(frame, pieces, operation, to, left, operand)?;
     let fails = Piece::Fails(Condition::OverflowSet, error, line);
@@ -210,7 +222,8 @@ fn put_product(
     error: u8,
     line: u16,
 ) -> Result<(), OutOfMemory>
-    ensures { OnOk result (pieces.new ≡ pieces.old ++ form.multiply_form (context_of frame.now) frame.now.number to left operand error line) }
+    ensures { OnOk result (pieces.new ≡ pieces.old ++ form.multiply_form
+        (context_of frame.now) frame.now.number to left operand error line) }
 {
     put_operate(frame, pieces, Operation::Mul, to, left, operand)?;
     // R15 takes 0 where the product has 32 bits: H is 0, or all ones above a negative low word.
@@ -252,7 +265,8 @@ fn put_quotient_by_least(
     pieces: &mut Pieces,
     left: u32,
 ) -> Result<(), OutOfMemory>
-    ensures { OnOk result (pieces.new ≡ pieces.old ++ form.quotient_by_least (context_of frame.now) frame.now.number left) }
+    ensures { OnOk result (pieces.new ≡ pieces.old ++ form.quotient_by_least
+        (context_of frame.now) frame.now.number left) }
 {
     let dividend = fetch(frame, pieces, r12(), left)?;
     pieces.all(&[
@@ -264,7 +278,7 @@ fn put_quotient_by_least(
     ])
 }
 
-// How many words a quotient takes, and the two that a divisor below 0 asks for.
+// How many words a quotient takes, and the two that a divisor below 0 needs.
 fn quotient_length(frame: &Frame<'_>, left: u32) -> i32
     ensures length { result ≡ pos (length (form.quotient (context_of frame.now) frame.now.number left)) }
     ensures low { pos 0 ≤ℤ result }
@@ -282,7 +296,8 @@ fn least_length(frame: &Frame<'_>, left: u32) -> i32
 }
 
 fn negative_length(frame: &Frame<'_>, left: u32, error: u8, line: u16) -> i32
-    ensures length { result ≡ pos (length (form.quotient_by_negative (context_of frame.now) frame.now.number left error line)) }
+    ensures length { result ≡ pos (length (form.quotient_by_negative
+        (context_of frame.now) frame.now.number left error line)) }
     ensures low { pos 0 ≤ℤ result }
     ensures high { result ≤ℤ pos 25 }
 {
@@ -292,7 +307,10 @@ fn negative_length(frame: &Frame<'_>, left: u32, error: u8, line: u16) -> i32
 
 // The divisor below 0 is negated, and then the quotient.
 fn put_negated(frame: &Frame<'_>, pieces: &mut Pieces, left: u32) -> Result<(), OutOfMemory>
-    ensures { OnOk result (pieces.new ≡ pieces.old ++ (piece.Plain (word.Move 12 (Constant (pos 0))) ∷ piece.Plain (word.Operate op.Sub 15 12 (Content 15)) ∷ form.skip on.OverflowSet (length (form.quotient (context_of frame.now) frame.now.number left) + 4) ∷ form.quotient (context_of frame.now) frame.now.number left)) }
+    ensures { OnOk result (pieces.new ≡ pieces.old
+        ++ (piece.Plain (word.Move 12 (Constant (pos 0))) ∷ piece.Plain (word.Operate op.Sub 15 12 (Content 15))
+        ∷ form.skip on.OverflowSet (length (form.quotient (context_of frame.now) frame.now.number left) + 4)
+        ∷ form.quotient (context_of frame.now) frame.now.number left)) }
 {
     pieces.all(&[
         Piece::Plain(set(r12(), 0)),
@@ -310,7 +328,11 @@ fn put_negated_back(
     error: u8,
     line: u16,
 ) -> Result<(), OutOfMemory>
-    ensures { OnOk result (pieces.new ≡ pieces.old ++ (piece.Plain (word.Move 15 (Constant (pos 0))) ∷ piece.Plain (word.Operate op.Sub 12 15 (Content 12)) ∷ piece.Fails on.OverflowSet error line ∷ form.skip on.Always (length (form.quotient_by_least (context_of frame.now) frame.now.number left)) ∷ form.quotient_by_least (context_of frame.now) frame.now.number left)) }
+    ensures { OnOk result (pieces.new ≡ pieces.old
+        ++ (piece.Plain (word.Move 15 (Constant (pos 0))) ∷ piece.Plain (word.Operate op.Sub 12 15 (Content 12))
+        ∷ piece.Fails on.OverflowSet error line ∷ form.skip on.Always
+        (length (form.quotient_by_least (context_of frame.now) frame.now.number left)) ∷ form.quotient_by_least
+        (context_of frame.now) frame.now.number left)) }
 {
     pieces.all(&[
         Piece::Plain(set(r15(), 0)),
@@ -329,7 +351,8 @@ fn put_quotient_by_negative(
     error: u8,
     line: u16,
 ) -> Result<(), OutOfMemory>
-    ensures { OnOk result (pieces.new ≡ pieces.old ++ form.quotient_by_negative (context_of frame.now) frame.now.number left error line) }
+    ensures { OnOk result (pieces.new ≡ pieces.old ++ form.quotient_by_negative
+        (context_of frame.now) frame.now.number left error line) }
 {
     put_negated(frame, pieces, left)?;
     put_negated_back(frame, pieces, left, error, line)
@@ -344,7 +367,11 @@ fn put_division(
     operand: Operand,
 ) -> Result<(), OutOfMemory>
     requires { form.is_divisor operand ≡ true }
-    ensures { OnOk result (pieces.new ≡ pieces.old ++ (form.fetch (context_of frame.now) frame.now.number 12 (home (context_of frame.now) frame.now.number left) ++ piece.Plain (word.Operate op.Div to (form.fetched (context_of frame.now) frame.now.number 12 (home (context_of frame.now) frame.now.number left)) (form.right_operand (context_of frame.now) frame.now.number operand)) ∷ [])) }
+    ensures { OnOk result (pieces.new ≡ pieces.old
+        ++ (form.fetch (context_of frame.now) frame.now.number 12 (home (context_of frame.now) frame.now.number left)
+        ++ piece.Plain (word.Operate op.Div to (form.fetched (context_of frame.now) frame.now.number 12
+        (home (context_of frame.now) frame.now.number left))
+        (form.right_operand (context_of frame.now) frame.now.number operand)) ∷ [])) }
 {
     let dividend = fetch(frame, pieces, r12(), left)?;
     let divisor = right(frame, pieces, operand)?;
@@ -361,7 +388,8 @@ fn put_divide_by_any(
     line: u16,
 ) -> Result<(), OutOfMemory>
     requires { form.is_divisor operand ≡ false }
-    ensures { OnOk result (pieces.new ≡ pieces.old ++ form.divide_form (context_of frame.now) frame.now.number to left operand error line) }
+    ensures { OnOk result (pieces.new ≡ pieces.old ++ form.divide_form
+        (context_of frame.now) frame.now.number to left operand error line) }
 {
     put_divisor(frame, pieces, operand)?;
     pieces.all(&[
@@ -383,7 +411,8 @@ fn put_divide(
     error: u8,
     line: u16,
 ) -> Result<(), OutOfMemory>
-    ensures { OnOk result (pieces.new ≡ pieces.old ++ form.divide_form (context_of frame.now) frame.now.number to left operand error line) }
+    ensures { OnOk result (pieces.new ≡ pieces.old ++ form.divide_form
+        (context_of frame.now) frame.now.number to left operand error line) }
 {
     if !is_divisor(operand) {
         return put_divide_by_any(frame, pieces, to, left, operand, error, line);
@@ -403,7 +432,8 @@ fn put_modulo_by_any(
     line: u16,
 ) -> Result<(), OutOfMemory>
     requires { form.is_divisor operand ≡ false }
-    ensures { OnOk result (pieces.new ≡ pieces.old ++ form.modulo_form (context_of frame.now) frame.now.number to left operand line) }
+    ensures { OnOk result (pieces.new ≡ pieces.old ++ form.modulo_form
+        (context_of frame.now) frame.now.number to left operand line) }
 {
     let modulus = put_modulus(frame, pieces, operand)?;
     pieces.all(&[
@@ -429,7 +459,8 @@ fn put_modulo(
     operand: Operand,
     line: u16,
 ) -> Result<(), OutOfMemory>
-    ensures { OnOk result (pieces.new ≡ pieces.old ++ form.modulo_form (context_of frame.now) frame.now.number to left operand line) }
+    ensures { OnOk result (pieces.new ≡ pieces.old ++ form.modulo_form
+        (context_of frame.now) frame.now.number to left operand line) }
 {
     if !is_divisor(operand) {
         return put_modulo_by_any(frame, pieces, to, left, operand, line);
@@ -451,7 +482,8 @@ pub(crate) fn put_arithmetic(
     error: u8,
     line: u16,
 ) -> Result<(), OutOfMemory>
-    ensures { OnOk result (pieces.new ≡ pieces.old ++ form.arithmetic_form (context_of frame.now) frame.now.number operator to left operand error line) }
+    ensures { OnOk result (pieces.new ≡ pieces.old ++ form.arithmetic_form
+        (context_of frame.now) frame.now.number operator to left operand error line) }
 {
     match operator {
         Operator::Add => put_sum(

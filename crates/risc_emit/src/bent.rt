@@ -23,7 +23,7 @@ fn block_at(frame: &Frame<'_>, base: Base) -> Option<u64>
     }
 }
 
-// The register of a temporary is short of it, where a load from so many bytes behind can take both.
+// The register of a temporary is short of it, where a load `behind` bytes after it can include both.
 fn bend_in(frame: &Frame<'_>, to: u32, behind: u32, block: Option<u64>) -> Option<(Register, u64)>
     requires { IfSome block (λ offset. offset < 1099511627776) }
     ensures { result ≡ bend_in (home (context_of frame.now) frame.now.number to) behind block }
@@ -62,7 +62,7 @@ fn bend_by(
     }
 }
 
-// The same of the instruction at a place.
+// The same for the instruction at a place.
 fn bend_load(
     frame: &Frame<'_>,
     to: u32,

@@ -27,7 +27,10 @@ fn put_literal(
     to: u32,
     value: i32,
 ) -> Result<(), OutOfMemory>
-    ensures { OnOk result (pieces.new ≡ pieces.old ++ (form.number (form.target (context_of frame.now) frame.now.number (home (context_of frame.now) frame.now.number to)) value ++ form.save (context_of frame.now) frame.now.number (home (context_of frame.now) frame.now.number to))) }
+    ensures { OnOk result (pieces.new ≡ pieces.old
+        ++ (form.number (form.target (context_of frame.now) frame.now.number
+        (home (context_of frame.now) frame.now.number to)) value ++ form.save (context_of frame.now) frame.now.number
+        (home (context_of frame.now) frame.now.number to))) }
 {
     put_number(pieces, target(frame, to), value)?;
     save(frame, pieces, to)
@@ -72,7 +75,8 @@ fn put_branch(
     right: Operand,
     label: Label,
 ) -> Result<(), OutOfMemory>
-    ensures { OnOk result (pieces.new ≡ pieces.old ++ form.branch_form (context_of frame.now) frame.now.number told relation left right (label_of label)) }
+    ensures { OnOk result (pieces.new ≡ pieces.old ++ form.branch_form
+        (context_of frame.now) frame.now.number told relation left right (label_of label)) }
 {
     if let Some(condition) = branch_choice(frame, told, relation, left, right) {
         return pieces.push(Piece::Goes(condition, label));
@@ -81,8 +85,8 @@ fn put_branch(
     pieces.push(Piece::Goes(condition_of(relation), label))
 }
 
-/// The words of the instruction at a place, where N and Z may be those of a temporary's register, and a register may be short of an offset,
-/// there or at the next place.
+/// The words of the instruction at a place, where N and Z may be those of a temporary's register, and a register may be
+/// short of an offset, there or at the next place.
 pub(crate) fn put_instruction(
     frame: &Frame<'_>,
     pieces: &mut Pieces,
@@ -97,7 +101,8 @@ pub(crate) fn put_instruction(
     requires bent { bent ≡ bent_at (context_of frame.now) frame.now.number place }
     requires next { next ≡ bent_at (context_of frame.now) frame.now.number (suc place) }
     requires near { LoadsNear instruction.now bent }
-    ensures { OnOk result (pieces.new ≡ pieces.old ++ form.form (context_of frame.now) frame.now.number place instruction.now) }
+    ensures { OnOk result (pieces.new ≡ pieces.old ++ form.form
+        (context_of frame.now) frame.now.number place instruction.now) }
 {
     let r = frame.number();
     match instruction {

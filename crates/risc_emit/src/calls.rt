@@ -34,7 +34,7 @@ pub(crate) const NEXT_AT: i32 = 272;
 /// The operands that come in registers have numbers below this one.
 pub(crate) const CARRIED: u32 = 8;
 
-// So many of the operands of a call come in registers.
+// How many of the operands of a call come in registers.
 fn carried(count: usize) -> usize
     ensures is { result ≡ form.carried count }
     ensures few { result ≤ 8 }
@@ -47,7 +47,7 @@ fn carried(count: usize) -> usize
     }
 }
 
-// Whether the home of operand j of n is taken before its turn.
+// Whether the home of operand j of n is overwritten before its turn.
 fn is_taken(frame: &Frame<'_>, n: usize, j: usize, operand: u32) -> bool
     ensures { result ≡ form.is_taken n j (home (context_of frame.now) frame.now.number operand) }
 {
@@ -60,14 +60,14 @@ fn is_taken(frame: &Frame<'_>, n: usize, j: usize, operand: u32) -> bool
     }
 }
 
-// Whether it goes by way of the frame.
+// Whether it goes through the frame.
 fn is_stored(frame: &Frame<'_>, n: usize, j: usize, operand: u32) -> bool
     ensures { result ≡ form.is_stored n j (home (context_of frame.now) frame.now.number operand) }
 {
     j >= n || is_taken(frame, n, j, operand)
 }
 
-// There its place is behind the first two words.
+// Its place there is after the first two words.
 fn put_passed(
     frame: &Frame<'_>,
     pieces: &mut Pieces,
@@ -76,7 +76,8 @@ fn put_passed(
     operand: u32,
 ) -> Result<(), OutOfMemory>
     requires few { j < 65 }
-    ensures { OnOk result (pieces.new ≡ pieces.old ++ form.pass_one (context_of frame.now) frame.now.number n j (home (context_of frame.now) frame.now.number operand)) }
+    ensures { OnOk result (pieces.new ≡ pieces.old ++ form.pass_one (context_of frame.now) frame.now.number n j
+        (home (context_of frame.now) frame.now.number operand)) }
 {
     if !is_stored(frame, n, j, operand) {
         return Ok(());
@@ -85,7 +86,7 @@ fn put_passed(
     pieces.plain(stored(Width::Word, register, r14(), 8 + 4 * j as i32))
 }
 
-// The operands of which n are carried that go by way of the frame.
+// The operands, of which n are carried, that go through the frame.
 fn put_operands(
     frame: &Frame<'_>,
     pieces: &mut Pieces,
@@ -93,7 +94,8 @@ fn put_operands(
     operands: &[u32],
 ) -> Result<(), OutOfMemory>
     requires few { length operands.now ≤ 65 }
-    ensures { OnOk result (pieces.new ≡ pieces.old ++ form.pass (context_of frame.now) frame.now.number n 0 operands.now) }
+    ensures { OnOk result (pieces.new ≡ pieces.old ++ form.pass
+        (context_of frame.now) frame.now.number n 0 operands.now) }
 {
     for j in 0..operands.len() {
         put_passed(frame, pieces, n, j, operands[j])?;
@@ -110,7 +112,8 @@ fn put_carried(
     operand: u32,
 ) -> Result<(), OutOfMemory>
     requires few { j < 8 }
-    ensures { OnOk result (pieces.new ≡ pieces.old ++ form.carry_one (context_of frame.now) frame.now.number n j (home (context_of frame.now) frame.now.number operand)) }
+    ensures { OnOk result (pieces.new ≡ pieces.old ++ form.carry_one (context_of frame.now) frame.now.number n j
+        (home (context_of frame.now) frame.now.number operand)) }
 {
     let register = Register::new(j as u8);
     if is_taken(frame, n, j, operand) {
@@ -128,7 +131,8 @@ fn put_carry(
 ) -> Result<(), OutOfMemory>
     requires few { n ≤ 8 }
     requires within { n ≤ length operands.now }
-    ensures { OnOk result (pieces.new ≡ pieces.old ++ form.carry (context_of frame.now) frame.now.number n n operands.now) }
+    ensures { OnOk result (pieces.new ≡ pieces.old ++ form.carry
+        (context_of frame.now) frame.now.number n n operands.now) }
 {
     let mut j = n;
     while j > 0 {
@@ -147,7 +151,8 @@ pub(crate) fn put_call(
     line: u16,
 ) -> Result<(), OutOfMemory>
     requires few { length operands.now ≤ 65 }
-    ensures { OnOk result (pieces.new ≡ pieces.old ++ form.call_form (context_of frame.now) frame.now.number to routine operands.now line) }
+    ensures { OnOk result (pieces.new ≡ pieces.old ++ form.call_form
+        (context_of frame.now) frame.now.number to routine operands.now line) }
 {
     let n = carried(operands.len());
     put_operands(frame, pieces, n, operands)?;
@@ -169,7 +174,8 @@ pub(crate) fn put_call_value(
     line: u16,
 ) -> Result<(), OutOfMemory>
     requires few { length operands.now ≤ 65 }
-    ensures { OnOk result (pieces.new ≡ pieces.old ++ form.call_value_form (context_of frame.now) frame.now.number to callee operands.now line) }
+    ensures { OnOk result (pieces.new ≡ pieces.old ++ form.call_value_form
+        (context_of frame.now) frame.now.number to callee operands.now line) }
 {
     let n = carried(operands.len());
     put_operands(frame, pieces, n, operands)?;
@@ -233,7 +239,9 @@ pub(crate) fn put_end(frame: &Frame<'_>, pieces: &mut Pieces) -> Result<(), OutO
 
 // R15 takes the room between the heap's next address and the stack's limit, and R12 the bytes.
 fn put_room(pieces: &mut Pieces, bytes: u32) -> Result<(), OutOfMemory>
-    ensures { OnOk result (pieces.new ≡ pieces.old ++ (piece.Plain (word.Load Word 15 13 (pos 268)) ∷ piece.Plain (word.Load Word 12 13 (pos 272)) ∷ piece.Plain (word.Operate op.Sub 15 15 (Content 12)) ∷ form.number 12 (pos bytes))) }
+    ensures { OnOk result (pieces.new ≡ pieces.old
+        ++ (piece.Plain (word.Load Word 15 13 (pos 268)) ∷ piece.Plain (word.Load Word 12 13 (pos 272)) ∷ piece.Plain
+        (word.Operate op.Sub 15 15 (Content 12)) ∷ form.number 12 (pos bytes))) }
 {
     pieces.all(&[
         Piece::Plain(loaded(Width::Word, r15(), r13(), LIMIT_AT)),
@@ -251,7 +259,8 @@ pub(crate) fn put_new(
     bytes: u32,
     line: u16,
 ) -> Result<(), OutOfMemory>
-    ensures { OnOk result (pieces.new ≡ pieces.old ++ form.new_form (context_of frame.now) frame.now.number to bytes line) }
+    ensures { OnOk result (pieces.new ≡ pieces.old ++ form.new_form
+        (context_of frame.now) frame.now.number to bytes line) }
 {
     put_room(pieces, bytes)?;
     // What is left of the room sets the flags. The next address moves on by R12, which takes the address that it had.

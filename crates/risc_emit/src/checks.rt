@@ -16,14 +16,15 @@ use crate::words::{computed, constant, r12, r15};
 use risc_word::{Condition, Operand as Right, Operation, Register};
 use tac_code::code::{Base, OutOfMemory};
 
-// How far what a register holds lies above the lowest number of a range, modulo 2^32: gives the register.
+// How far what a register holds is above the lowest number of a range, modulo 2^32: gives the register.
 fn put_above(
     frame: &Frame<'_>,
     pieces: &mut Pieces,
     register: Register,
     low: i32,
 ) -> Result<Register, OutOfMemory>
-    ensures words { OnOk result (pieces.new ≡ pieces.old ++ form.above (context_of frame.now) frame.now.number register low) }
+    ensures words { OnOk result (pieces.new ≡ pieces.old ++ form.above
+        (context_of frame.now) frame.now.number register low) }
     ensures register { IfOk result (λ q. q ≡ form.above_register (context_of frame.now) frame.now.number register low) }
 {
     if low == 0 {
@@ -34,7 +35,7 @@ fn put_above(
     Ok(r12())
 }
 
-// The comparison has no sign: what lies below the lowest number of a range is large.
+// The comparison is unsigned: what is below the lowest number of a range is large.
 fn put_at_most(
     frame: &Frame<'_>,
     pieces: &mut Pieces,
@@ -43,7 +44,8 @@ fn put_at_most(
     error: u8,
     line: u16,
 ) -> Result<(), OutOfMemory>
-    ensures { OnOk result (pieces.new ≡ pieces.old ++ form.at_most (context_of frame.now) frame.now.number register most error line) }
+    ensures { OnOk result (pieces.new ≡ pieces.old ++ form.at_most
+        (context_of frame.now) frame.now.number register most error line) }
 {
     let _ = frame;
     if most < 65535 {
@@ -59,7 +61,7 @@ fn put_at_most(
     ])
 }
 
-// A number in its range, which may be empty: gives the register that holds how far it lies above the lowest one.
+// A number in its range, which may be empty: gives the register that holds how far it is above the lowest one.
 fn put_range(
     frame: &Frame<'_>,
     pieces: &mut Pieces,
@@ -69,7 +71,8 @@ fn put_range(
     error: u8,
     line: u16,
 ) -> Result<Register, OutOfMemory>
-    ensures words { OnOk result (pieces.new ≡ pieces.old ++ form.range_code (context_of frame.now) frame.now.number register low high error line) }
+    ensures words { OnOk result (pieces.new ≡ pieces.old ++ form.range_code
+        (context_of frame.now) frame.now.number register low high error line) }
     ensures register { IfOk result (λ q. q ≡ form.above_register (context_of frame.now) frame.now.number register low) }
 {
     if high < low {
@@ -90,7 +93,8 @@ pub(crate) fn put_check(
     error: u8,
     line: u16,
 ) -> Result<(), OutOfMemory>
-    ensures { OnOk result (pieces.new ≡ pieces.old ++ form.check_form (context_of frame.now) frame.now.number value low high error line) }
+    ensures { OnOk result (pieces.new ≡ pieces.old ++ form.check_form
+        (context_of frame.now) frame.now.number value low high error line) }
 {
     let register = fetch(frame, pieces, r12(), value)?;
     put_range(frame, pieces, register, low, high, error, line)?;
@@ -105,7 +109,8 @@ pub(crate) fn put_pointer_check(
     error: u8,
     line: u16,
 ) -> Result<(), OutOfMemory>
-    ensures { OnOk result (pieces.new ≡ pieces.old ++ form.pointer_form (context_of frame.now) frame.now.number told pointer error line) }
+    ensures { OnOk result (pieces.new ≡ pieces.old ++ form.pointer_form
+        (context_of frame.now) frame.now.number told pointer error line) }
 {
     if !is_told(frame, told, pointer) {
         bring(frame, pieces, r12(), pointer)?;
@@ -120,7 +125,8 @@ fn put_scaled(
     steps: Register,
     width: u32,
 ) -> Result<Register, OutOfMemory>
-    ensures words { OnOk result (pieces.new ≡ pieces.old ++ form.scaled (context_of frame.now) frame.now.number steps width) }
+    ensures words { OnOk result (pieces.new ≡ pieces.old ++ form.scaled
+        (context_of frame.now) frame.now.number steps width) }
     ensures register { IfOk result (λ q. q ≡ form.scaled_register (context_of frame.now) frame.now.number steps width) }
 {
     if width == 1 {
@@ -131,7 +137,7 @@ fn put_scaled(
     Ok(r12())
 }
 
-// The address so far behind a base as a register tells, or what is short of the offset of the base's block.
+// The address at the distance in a register from a base, or that address short of the offset of the base's block.
 fn put_component(
     frame: &Frame<'_>,
     pieces: &mut Pieces,
@@ -140,7 +146,8 @@ fn put_component(
     base: Base,
     distance: Register,
 ) -> Result<(), OutOfMemory>
-    ensures { OnOk result (pieces.new ≡ pieces.old ++ form.component (context_of frame.now) frame.now.number bent to base distance) }
+    ensures { OnOk result (pieces.new ≡ pieces.old ++ form.component
+        (context_of frame.now) frame.now.number bent to base distance) }
 {
     if let Some((register, _)) = bent {
         let near = base_register(frame, base);
@@ -157,7 +164,7 @@ fn put_component(
     finish(frame, pieces, &[Piece::Plain(sum)], to)
 }
 
-// The address so many steps behind a base as a register tells.
+// The address at the number of steps in a register from a base.
 fn put_steps(
     frame: &Frame<'_>,
     pieces: &mut Pieces,
@@ -167,7 +174,8 @@ fn put_steps(
     steps: Register,
     width: u32,
 ) -> Result<(), OutOfMemory>
-    ensures { OnOk result (pieces.new ≡ pieces.old ++ form.steps_form (context_of frame.now) frame.now.number bent to base steps width) }
+    ensures { OnOk result (pieces.new ≡ pieces.old ++ form.steps_form
+        (context_of frame.now) frame.now.number bent to base steps width) }
 {
     let distance = put_scaled(frame, pieces, steps, width)?;
     put_component(frame, pieces, bent, to, base, distance)
@@ -187,7 +195,8 @@ pub(crate) fn put_index(
     error: u8,
     line: u16,
 ) -> Result<(), OutOfMemory>
-    ensures { OnOk result (pieces.new ≡ pieces.old ++ form.index_form (context_of frame.now) frame.now.number bent to base index low high width error line) }
+    ensures { OnOk result (pieces.new ≡ pieces.old ++ form.index_form
+        (context_of frame.now) frame.now.number bent to base index low high width error line) }
 {
     let register = fetch(frame, pieces, r12(), index)?;
     let steps = put_range(frame, pieces, register, low, high, error, line)?;

@@ -1,12 +1,14 @@
-// The pieces of a whole code, with the words of its constants, and where each stands.
+// The pieces of a whole code, with the words of its constants, and where each is.
 
-ghost use Rattle.std.specs.Prelude.{◌≡◌, suc, ◌+◌, ◌*◌, ◌<◌, ◌≤◌, [], ◌∷◌, ◌++◌, length, take, slice_get, get_or, nat_lt, Some, OnOk, IfOk, IfErr};
+ghost use Rattle.std.specs.Prelude.{◌≡◌, suc, ◌+◌, ◌*◌, ◌<◌, ◌≤◌, [], ◌∷◌, ◌++◌, length, take, slice_get, get_or};
+ghost use Rattle.std.specs.Prelude.{nat_lt, Some, OnOk, IfOk, IfErr};
 ghost use Rattle.std.specs.Int.{w32, from_le_bytes};
 ghost use Rattle.tac_code.specs.Meaning.{routines};
 ghost use Rattle.risc_alloc.specs.Valid.{Valid};
 ghost use Rattle.risc_emit_forms.specs.Told.{told_at, bent_at};
 ghost use Rattle.risc_emit_forms.specs.Forms as form;
-ghost use Rattle.risc_emit_laws.specs.Drawn.{program_pieces, routine_pieces, entry_place, text_words, instruction_texts, body_texts, routines_texts};
+ghost use Rattle.risc_emit_laws.specs.Drawn.{program_pieces, routine_pieces, entry_place, text_words};
+ghost use Rattle.risc_emit_laws.specs.Drawn.{instruction_texts, body_texts, routines_texts};
 ghost use Rattle.risc_emit.specs.Frames.{context_of};
 ghost use Rattle.risc_emit.specs.Layout.{laid_out};
 ghost use Rattle.risc_emit.specs.Passes.{PassesFew, LoadsNear};
@@ -31,7 +33,8 @@ use tac_code::tac::Tac;
 /// The most words of an image's code, constants included.
 const LIMIT: usize = 1048576;
 
-/// What is written before it is known where words stand: the pieces, the words of all constants, and the marks of each routine.
+/// What is written before it is known where words go: the pieces, the words of all constants, and the marks of each
+/// routine.
 #[derive(Drop)]
 pub(crate) struct Draft {
     pub pieces: Pieces,
@@ -49,7 +52,8 @@ pub(crate) fn is_too_large(pieces: &Pieces, texts: &[u32]) -> bool
 // Word k, its lowest byte first.
 fn word_at(bytes: &[u8], k: usize) -> u32
     requires { 4 * k + 4 ≤ length bytes.now }
-    ensures { result ≡ from_le_bytes w32 (get_or bytes.now (4 * k) 0 ∷ get_or bytes.now (4 * k + 1) 0 ∷ get_or bytes.now (4 * k + 2) 0 ∷ get_or bytes.now (4 * k + 3) 0 ∷ []) }
+    ensures { result ≡ from_le_bytes w32 (get_or bytes.now (4 * k) 0 ∷ get_or bytes.now (4 * k + 1) 0 ∷ get_or bytes.now
+        (4 * k + 2) 0 ∷ get_or bytes.now (4 * k + 3) 0 ∷ []) }
 {
     let at = 4 * k;
     u32::from_le_bytes([bytes[at], bytes[at + 1], bytes[at + 2], bytes[at + 3]])
@@ -91,9 +95,11 @@ fn put_place(
     requires bent { bent ≡ bent_at (context_of frame.now) frame.now.number place }
     requires next { next ≡ bent_at (context_of frame.now) frame.now.number (suc place) }
     requires near { LoadsNear instruction.now bent }
-    ensures pieces { OnOk result (pieces.new ≡ pieces.old ++ form.form (context_of frame.now) frame.now.number place instruction.now) }
+    ensures pieces { OnOk result (pieces.new ≡ pieces.old ++ form.form
+        (context_of frame.now) frame.now.number place instruction.now) }
     ensures texts { OnOk result (texts.new.items ≡ texts.old.items ++ instruction_texts instruction.now) }
-    ensures mark { OnOk result (places.new.items ≡ places.old.items ++ mark_of (length pieces.old) (length texts.old.items) ∷ []) }
+    ensures mark { OnOk result (places.new.items ≡ places.old.items ++ mark_of (length pieces.old)
+        (length texts.old.items) ∷ []) }
 {
     places.push(Mark {
         site: pieces.len(),
@@ -103,8 +109,9 @@ fn put_place(
     put_text(texts, instruction)
 }
 
-// A routine's pieces, its constants' words, and the marks of its places and of the one behind the last. Constants are shared until here:
-// few instructions may stand for more words than memory holds, so none is written once there are too many.
+// A routine's pieces, its constants' words, and the marks of its places and of the one after the last. Constants are
+// shared until here: few instructions may stand for more words than memory holds, so none is written once there are too
+// many.
 fn put_routine(
     alloc: Global,
     frame: &Frame<'_>,
@@ -114,11 +121,14 @@ fn put_routine(
 ) -> Result<Marks, EmitRefusal>
     requires own { slice_get (routines frame.now.code) frame.now.number ≡ Some routine.now }
     requires entry { length pieces.now ≡ entry_place (context_of frame.now) frame.now.number }
-    requires first { length texts.now.items ≡ length (routines_texts (take frame.now.number (routines frame.now.code))) }
-    ensures pieces { OnOk result (pieces.new ≡ pieces.old ++ routine_pieces (context_of frame.now) frame.now.number routine.now) }
+    requires first { length texts.now.items ≡ length
+        (routines_texts (take frame.now.number (routines frame.now.code))) }
+    ensures pieces { OnOk result (pieces.new ≡ pieces.old ++ routine_pieces
+        (context_of frame.now) frame.now.number routine.now) }
     ensures texts { OnOk result (texts.new.items ≡ texts.old.items ++ body_texts routine.now.body) }
     ensures marks { IfOk result (λ marks. AreMarksOf (context_of frame.now) frame.now.number routine.now marks) }
-    ensures too_large { IfErr result (λ refusal. refusal ≡ CodeTooLarge → 1048576 < length (program_pieces (context_of frame.now)) + length (routines_texts (routines frame.now.code))) }
+    ensures too_large { IfErr result (λ refusal. refusal ≡ CodeTooLarge → 1048576 < length
+        (program_pieces (context_of frame.now)) + length (routines_texts (routines frame.now.code))) }
 {
     frame.keeps_invariant();
     let entry = pieces.len();
@@ -152,7 +162,8 @@ fn put_routine(
     Ok(Marks { entry, places })
 }
 
-/// All pieces of a code, with homes that are a valid placement. Where they are too many it may be refused before all are written.
+/// All pieces of a code, with homes that are a valid placement. If there are too many, it may be refused before all are
+/// written.
 pub(crate) fn draft_of(alloc: Global, tac: &Tac, homes: &[Home]) -> Result<Draft, EmitRefusal>
     requires valid { Valid tac.now homes.now }
     ensures pieces { IfOk result (λ draft. draft.pieces ≡ program_pieces (laid_out tac.now homes.now)) }

@@ -4,7 +4,8 @@ ghost use Rattle.std.specs.Prelude.{◌≡◌, ◌<◌, ◌≤◌, ◌+◌, ◌*
 ghost use Rattle.tac_code.specs.Meaning.{routines};
 ghost use Rattle.risc_alloc.specs.Valid.{Valid};
 ghost use Rattle.risc_emit_laws.specs.Emits.{Emits};
-ghost use Rattle.risc_emit_laws.specs.Drawn.{program_pieces, entry_place, routines_texts, frame_rows_of, object_rows_of};
+ghost use Rattle.risc_emit_laws.specs.Drawn.{program_pieces, entry_place, routines_texts, frame_rows_of};
+ghost use Rattle.risc_emit_laws.specs.Drawn.{object_rows_of};
 ghost use Rattle.risc_emit.specs.Layout.{frame_cost, object_cost_in, laid_out};
 ghost use Rattle.risc_emit.specs.Marked.{AreMarked};
 ghost use Rattle.risc_emit.specs.Placed.{entry_at, placed, AreNear, AreWordsOf};
@@ -131,7 +132,7 @@ fn object_rows(alloc: Global, tac: &Tac, homes: &[Home]) -> Result<Vec<ObjectRow
     Ok(rows)
 }
 
-// The words of the pieces, and behind them those of the constants.
+// The words of the pieces, and after them those of the constants.
 fn code_of(
     alloc: Global,
     marks: &[Marks],
@@ -175,8 +176,8 @@ fn parts_of(alloc: Global, tac: &Tac, homes: &[Home], draft: &Draft) -> Result<P
     })
 }
 
-/// The parts of an image that does what the code means, with these homes of its temporaries. The code is refused as too large just
-/// where its words and those of its constants are more than an image holds.
+/// The parts of an image that does what the code means, with these homes of its temporaries. The code is refused as too
+/// large exactly where its words and those of its constants are more than an image holds.
 pub fn emit(alloc: Global, tac: &Tac, placement: &Placement) -> Result<Parts, EmitRefusal>
     requires { Valid tac.now placement.now }
     ensures emits { IfOk result (λ parts. Emits tac.now placement.now parts) }

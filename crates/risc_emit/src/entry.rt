@@ -1,4 +1,4 @@
-// The words in front of a routine's first instruction, and those in front of the program.
+// The words before a routine's first instruction, and those before the program.
 
 ghost use Rattle.std.specs.Prelude.{◌≡◌, ◌<◌, ◌++◌, [], ◌∷◌, pos, negsuc, true, OnOk};
 ghost use Rattle.risc_word.specs.declared.instr.Operand.TheVariants.{Constant};
@@ -23,10 +23,10 @@ use crate::words::{
 use risc_word::{Condition, Operand as Right, Operation, Register, Width};
 use tac_code::code::{OutOfMemory, TacRoutine};
 
-/// The first frame that no stack holds.
+/// The first frame size that no stack holds.
 const TOO_LARGE: u64 = 16777153;
 
-/// More parameters than this no call passes.
+/// No call passes more parameters than this.
 const PARAMETERS: u32 = 65;
 
 // Whether a parameter comes in its home.
@@ -39,14 +39,14 @@ fn stands(frame: &Frame<'_>, j: u32) -> bool
     }
 }
 
-// So many of the parameters come in registers.
+// How many of the parameters come in registers.
 fn carried(count: u32) -> u32
     ensures { result ≡ form.carried count }
 {
     if count < CARRIED { count } else { CARRIED }
 }
 
-// Whether its home takes a parameter at once: where none of so many that are carried comes.
+// Whether its home takes a parameter directly: where none of the `carried` ones comes.
 fn is_clear(frame: &Frame<'_>, carried: u32, j: u32) -> bool
     ensures { result ≡ form.is_clear carried j (home (context_of frame.now) frame.now.number j) }
 {
@@ -65,7 +65,8 @@ fn is_direct(frame: &Frame<'_>, carried: u32, j: u32) -> bool
 // The home of a parameter takes it from its register.
 fn put_taken(frame: &Frame<'_>, pieces: &mut Pieces, j: u32) -> Result<(), OutOfMemory>
     requires { j < 8 }
-    ensures { OnOk result (pieces.new ≡ pieces.old ++ form.take (context_of frame.now) frame.now.number j (home (context_of frame.now) frame.now.number j)) }
+    ensures { OnOk result (pieces.new ≡ pieces.old ++ form.take (context_of frame.now) frame.now.number j
+        (home (context_of frame.now) frame.now.number j)) }
 {
     let from = Register::new(j as u8);
     match frame.seat(j) {
@@ -74,7 +75,8 @@ fn put_taken(frame: &Frame<'_>, pieces: &mut Pieces, j: u32) -> Result<(), OutOf
     }
 }
 
-// A parameter that comes in another register goes to its home, or to the operands of the caller, so many bytes behind the frame.
+// A parameter that comes in another register goes to its home, or to the caller's operands, `behind` bytes above the
+// frame.
 fn put_spill(
     frame: &Frame<'_>,
     pieces: &mut Pieces,
@@ -83,7 +85,8 @@ fn put_spill(
     j: u32,
 ) -> Result<(), OutOfMemory>
     requires { behind < 1099511627776 }
-    ensures { OnOk result (pieces.new ≡ pieces.old ++ form.spill_one (context_of frame.now) frame.now.number carried behind j (home (context_of frame.now) frame.now.number j)) }
+    ensures { OnOk result (pieces.new ≡ pieces.old ++ form.spill_one
+        (context_of frame.now) frame.now.number carried behind j (home (context_of frame.now) frame.now.number j)) }
 {
     if j < CARRIED && is_clear(frame, carried, j) {
         return put_taken(frame, pieces, j);
@@ -106,7 +109,8 @@ fn put_spills(
     count: u32,
 ) -> Result<(), OutOfMemory>
     requires { behind < 1099511627776 }
-    ensures { OnOk result (pieces.new ≡ pieces.old ++ form.spill (context_of frame.now) frame.now.number (form.carried count) behind 0 count) }
+    ensures { OnOk result (pieces.new ≡ pieces.old ++ form.spill (context_of frame.now) frame.now.number
+        (form.carried count) behind 0 count) }
 {
     for j in 0..count {
         put_spill(frame, pieces, carried(count), behind, j)?;
@@ -123,7 +127,8 @@ fn put_parameter(
     j: u32,
 ) -> Result<(), OutOfMemory>
     requires { behind < 1099511627776 }
-    ensures { OnOk result (pieces.new ≡ pieces.old ++ form.parameter (context_of frame.now) frame.now.number carried behind j (home (context_of frame.now) frame.now.number j)) }
+    ensures { OnOk result (pieces.new ≡ pieces.old ++ form.parameter
+        (context_of frame.now) frame.now.number carried behind j (home (context_of frame.now) frame.now.number j)) }
 {
     if is_direct(frame, carried, j) {
         return Ok(());
@@ -144,7 +149,8 @@ fn put_parameters(
     count: u32,
 ) -> Result<(), OutOfMemory>
     requires { behind < 1099511627776 }
-    ensures { OnOk result (pieces.new ≡ pieces.old ++ form.parameters (context_of frame.now) frame.now.number (form.carried count) behind 0 count) }
+    ensures { OnOk result (pieces.new ≡ pieces.old ++ form.parameters (context_of frame.now) frame.now.number
+        (form.carried count) behind 0 count) }
 {
     for j in 0..count {
         put_parameter(frame, pieces, carried(count), behind, j)?;
@@ -152,7 +158,7 @@ fn put_parameters(
     Ok(())
 }
 
-// All parameters come to their homes.
+// All parameters go to their homes.
 fn put_arrival(
     frame: &Frame<'_>,
     pieces: &mut Pieces,
@@ -185,7 +191,8 @@ fn put_enter(
     routine: &TacRoutine,
 ) -> Result<(), OutOfMemory>
     requires { form.is_entered (context_of frame.now) frame.now.number routine.now ≡ true }
-    ensures { OnOk result (pieces.new ≡ pieces.old ++ form.enter_form (context_of frame.now) frame.now.number routine.now) }
+    ensures { OnOk result (pieces.new ≡ pieces.old ++ form.enter_form
+        (context_of frame.now) frame.now.number routine.now) }
 {
     put_frame_below(frame, pieces, frame.cost())?;
     pieces.all(&[
@@ -199,9 +206,10 @@ fn put_enter(
     put_arrival(frame, pieces, frame.cost(), routine.parameters)
 }
 
-// A run-time routine stands within its caller's frame.
+// A run-time routine's frame is within its caller's.
 fn put_join(frame: &Frame<'_>, pieces: &mut Pieces, routine: &TacRoutine) -> Result<(), OutOfMemory>
-    ensures { OnOk result (pieces.new ≡ pieces.old ++ form.join_form (context_of frame.now) frame.now.number routine.now) }
+    ensures { OnOk result (pieces.new ≡ pieces.old ++ form.join_form
+        (context_of frame.now) frame.now.number routine.now) }
 {
     pieces.plain(stored(Width::Word, r15(), r14(), frame.link_at()))?;
     put_arrival(frame, pieces, 0, routine.parameters)
@@ -219,7 +227,8 @@ pub(crate) fn put_entry(
     pieces: &mut Pieces,
     routine: &TacRoutine,
 ) -> Result<(), OutOfMemory>
-    ensures { OnOk result (pieces.new ≡ pieces.old ++ form.entry_form (context_of frame.now) frame.now.number routine.now) }
+    ensures { OnOk result (pieces.new ≡ pieces.old ++ form.entry_form
+        (context_of frame.now) frame.now.number routine.now) }
 {
     if !frame.is_of_program() {
         return put_join(frame, pieces, routine);
@@ -232,7 +241,8 @@ pub(crate) fn put_entry(
 
 // The stub of all stops, with a branch over it.
 fn put_stub(pieces: &mut Pieces) -> Result<(), OutOfMemory>
-    ensures { OnOk result (pieces.new ≡ pieces.old ++ form.skip on.Always 2 ∷ piece.Plain (word.Move 12 (Constant (negsuc 63))) ∷ piece.Plain (word.Store Word 15 12 (pos 4)) ∷ []) }
+    ensures { OnOk result (pieces.new ≡ pieces.old ++ form.skip on.Always 2 ∷ piece.Plain
+        (word.Move 12 (Constant (negsuc 63))) ∷ piece.Plain (word.Store Word 15 12 (pos 4)) ∷ []) }
 {
     pieces.all(&[
         Piece::Plain(skip(Condition::Always, 2)),

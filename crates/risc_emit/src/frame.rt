@@ -8,8 +8,8 @@ use std::marker::Model;
 use tac_code::code::TacRoutine;
 use tac_code::tac::Tac;
 
-/// Offsets in the frame of a routine, in bytes: of its link, its slots, its frame block and its scratch block; of the frame block of the
-/// program block in its own frame; and what an activation is charged for.
+/// Offsets in the frame of a routine, in bytes: of its link, its slots, its frame block and its scratch block; of the
+/// frame block of the program block in its own frame; and what an activation is charged for.
 #[derive(Clone, Copy)]
 pub(crate) struct Offsets {
     pub link: u32,
@@ -51,7 +51,7 @@ ghost use Rattle.risc_alloc.specs.declared.homes.Home.TheVariants.{Reg};
 ghost use Rattle.risc_alloc.specs.Homes.{temporaries_before, home_in};
 ghost use Rattle.risc_alloc.specs.Valid.{Valid};
 
-// So many homes from one on.
+// `count` homes from one on.
 fn homes_from(homes: &[Home], first: usize, count: u32) -> &[Home]
     requires { first + count ≤ length homes.now }
     ensures { result.now ≡ take count (drop first homes.now) }
@@ -60,7 +60,7 @@ fn homes_from(homes: &[Home], first: usize, count: u32) -> &[Home]
     &homes[first..next]
 }
 
-// The home of a temporary among its routine's. What is no temporary is told to be in register 0.
+// The home of a temporary among its routine's. What is not a temporary counts as being in register 0.
 fn home_in(homes: &[Home], temporary: u32) -> Home
     ensures { result ≡ home_in homes.now temporary }
 {
@@ -195,7 +195,7 @@ impl Frame<'_> {
     }
 }
 
-/// No object is without bytes, so no two have one address.
+/// No object is without bytes, so no two have the same address.
 pub(crate) fn object_cost(bytes: u32) -> u32
     ensures { result ≡ object_cost bytes }
 {

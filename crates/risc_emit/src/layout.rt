@@ -8,10 +8,10 @@ ghost use Rattle.risc_emit.specs.Frames.{AreOffsets};
 use crate::frame::Offsets;
 use tac_code::tac::Tac;
 
-/// Behind the link, the caller's frame, 65 operands, and the stack's limit and the heap's next address.
+/// After the link, the caller's frame, 65 operands, and the stack's limit and the heap's next address.
 const SLOTS: u32 = 276;
 
-/// Within its caller's frame, behind 8 operands.
+/// Within its caller's frame, after 8 operands.
 const LEAF_LINK: u32 = 40;
 
 const LEAF_SLOTS: u32 = 44;
@@ -54,7 +54,7 @@ fn scratch_at(tac: &Tac, number: usize) -> u64
     frame_at(tac, number) + u64::from(tac.routine(number).frame)
 }
 
-/// The bytes of an activation of a routine. Those of the run-time library stand within their callers' frames.
+/// The bytes of an activation of a routine. Those of the run-time library are within their callers' frames.
 pub(crate) fn frame_cost(tac: &Tac, number: usize) -> u64
     requires { number < length (routines tac.now) }
     ensures bytes { result ≡ frame_cost tac.now number }

@@ -1,4 +1,4 @@
-// Where the words of instructions, routines and constants stand.
+// Where the words of instructions, routines and constants are.
 
 ghost use Rattle.std.specs.Prelude.{◌≡◌, suc, ◌+◌, ◌-◌, ◌≤◌, slice_get};
 ghost use Rattle.risc_emit_forms.specs.Pieces.{label_place};
@@ -14,7 +14,7 @@ pub(crate) struct Mark {
     pub text: usize,
 }
 
-/// The first word of a routine, and the marks of its places and of the one behind its last.
+/// The first word of a routine, and the marks of its places and of the one after its last.
 #[derive(Drop)]
 pub(crate) struct Marks {
     pub entry: usize,
@@ -39,7 +39,7 @@ fn text_in(places: &[Mark], place: usize) -> usize
     }
 }
 
-// The place so many on from the one behind a place.
+// The place `distance` on from the one after a place.
 fn site_ahead(places: &[Mark], place: usize, distance: u64) -> usize
     ensures { result ≡ site_of (slice_get places.now (suc place + distance)) }
 {
@@ -90,7 +90,7 @@ pub(crate) fn entry_at(marks: &[Marks], routine: usize) -> usize
     }
 }
 
-// The place so many back.
+// The place `distance` back.
 fn back(marks: &[Marks], routine: usize, place: usize, distance: u64) -> usize
     ensures { result ≡ site_at marks.now routine (place - distance) }
 {

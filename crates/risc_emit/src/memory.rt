@@ -57,7 +57,8 @@ fn put_reach(
     base: Base,
     bytes: u32,
 ) -> Result<(Register, i32), OutOfMemory>
-    ensures words { OnOk result (pieces.new ≡ pieces.old ++ form.reach (context_of frame.now) frame.now.number base bytes) }
+    ensures words { OnOk result (pieces.new ≡ pieces.old ++ form.reach
+        (context_of frame.now) frame.now.number base bytes) }
     ensures register { IfOk result (λ r. r.0 ≡ form.reach_register (context_of frame.now) frame.now.number base bytes) }
     ensures offset { IfOk result (λ r. r.1 ≡ pos (form.reach_offset (context_of frame.now) frame.now.number base bytes)) }
     ensures low { IfOk result (λ r. pos 0 ≤ℤ r.1) }
@@ -73,7 +74,7 @@ fn put_reach(
     Ok((r12(), 0))
 }
 
-/// A word from behind a base, or from behind a register that is short of an offset.
+/// A word at an offset from a base, or from a register that is short of an offset.
 pub(crate) fn put_word_form(
     frame: &Frame<'_>,
     pieces: &mut Pieces,
@@ -83,7 +84,8 @@ pub(crate) fn put_word_form(
     bytes: u32,
 ) -> Result<(), OutOfMemory>
     requires near { IsNear bent bytes }
-    ensures { OnOk result (pieces.new ≡ pieces.old ++ form.word_form (context_of frame.now) frame.now.number bent to base bytes) }
+    ensures { OnOk result (pieces.new ≡ pieces.old ++ form.word_form
+        (context_of frame.now) frame.now.number bent to base bytes) }
 {
     match bent {
         Some((register, offset)) => {
@@ -102,7 +104,8 @@ pub(crate) fn put_load_form(
     base: Base,
     bytes: u32,
 ) -> Result<(), OutOfMemory>
-    ensures { OnOk result (pieces.new ≡ pieces.old ++ form.load_form (context_of frame.now) frame.now.number width to base bytes) }
+    ensures { OnOk result (pieces.new ≡ pieces.old ++ form.load_form
+        (context_of frame.now) frame.now.number width to base bytes) }
 {
     let (register, offset) = put_reach(frame, pieces, base, bytes)?;
     let load = loaded(width, target(frame, to), register, offset);
@@ -117,14 +120,15 @@ pub(crate) fn put_store_form(
     bytes: u32,
     from: u32,
 ) -> Result<(), OutOfMemory>
-    ensures { OnOk result (pieces.new ≡ pieces.old ++ form.store_form (context_of frame.now) frame.now.number width base bytes from) }
+    ensures { OnOk result (pieces.new ≡ pieces.old ++ form.store_form
+        (context_of frame.now) frame.now.number width base bytes from) }
 {
     let (register, offset) = put_reach(frame, pieces, base, bytes)?;
     let value = fetch(frame, pieces, r15(), from)?;
     pieces.plain(stored(width, value, register, offset))
 }
 
-// A register takes the address so many bytes behind a base.
+// A register takes the address `bytes` bytes after a base.
 fn put_address(
     frame: &Frame<'_>,
     pieces: &mut Pieces,
@@ -132,7 +136,8 @@ fn put_address(
     base: Base,
     bytes: u32,
 ) -> Result<(), OutOfMemory>
-    ensures { OnOk result (pieces.new ≡ pieces.old ++ form.address (context_of frame.now) frame.now.number to base bytes) }
+    ensures { OnOk result (pieces.new ≡ pieces.old ++ form.address
+        (context_of frame.now) frame.now.number to base bytes) }
 {
     let register = put_base(frame, pieces, base)?;
     let offset = base_offset(frame, base, bytes);
@@ -150,13 +155,16 @@ pub(crate) fn put_offset(
     base: Base,
     bytes: u32,
 ) -> Result<(), OutOfMemory>
-    ensures { OnOk result (pieces.new ≡ pieces.old ++ (form.address (context_of frame.now) frame.now.number (form.target (context_of frame.now) frame.now.number (home (context_of frame.now) frame.now.number to)) base bytes ++ form.save (context_of frame.now) frame.now.number (home (context_of frame.now) frame.now.number to))) }
+    ensures { OnOk result (pieces.new ≡ pieces.old
+        ++ (form.address (context_of frame.now) frame.now.number
+        (form.target (context_of frame.now) frame.now.number (home (context_of frame.now) frame.now.number to)) base
+        bytes ++ form.save (context_of frame.now) frame.now.number (home (context_of frame.now) frame.now.number to))) }
 {
     put_address(frame, pieces, target(frame, to), base, bytes)?;
     save(frame, pieces, to)
 }
 
-// R15 takes the address so many bytes behind what a register holds.
+// R15 takes the address a number of bytes after what a register holds.
 fn put_sum(
     frame: &Frame<'_>,
     pieces: &mut Pieces,
@@ -173,13 +181,14 @@ fn put_sum(
     pieces.plain(computed(Operation::Add, r15(), register, Right::Content(r15())))
 }
 
-/// The address of a base, where it stands or in R15: gives the register.
+/// The address of a base, in place or in R15: gives the register.
 pub(crate) fn put_base_address(
     frame: &Frame<'_>,
     pieces: &mut Pieces,
     base: Base,
 ) -> Result<Register, OutOfMemory>
-    ensures words { OnOk result (pieces.new ≡ pieces.old ++ form.base_address (context_of frame.now) frame.now.number base) }
+    ensures words { OnOk result (pieces.new ≡ pieces.old ++ form.base_address
+        (context_of frame.now) frame.now.number base) }
     ensures register { IfOk result (λ q. q ≡ form.address_register (context_of frame.now) frame.now.number base) }
 {
     let (register, offset) = match base {
@@ -199,7 +208,8 @@ pub(crate) fn put_label(
     to: u32,
     label: Label,
 ) -> Result<(), OutOfMemory>
-    ensures { OnOk result (pieces.new ≡ pieces.old ++ form.label_form (context_of frame.now) frame.now.number to (label_of label)) }
+    ensures { OnOk result (pieces.new ≡ pieces.old ++ form.label_form (context_of frame.now) frame.now.number to
+        (label_of label)) }
 {
     let register = target(frame, to);
     let address = [Piece::High(register, label), Piece::Low(register, label)];

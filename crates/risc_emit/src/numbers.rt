@@ -59,7 +59,7 @@ pub(crate) fn put_number(pieces: &mut Pieces, to: Register, value: i32) -> Resul
     }
 }
 
-/// A register takes a number from 0 on.
+/// A register takes a nonnegative number.
 pub(crate) fn put_natural(pieces: &mut Pieces, to: Register, value: u64) -> Result<(), OutOfMemory>
     ensures { OnOk result (pieces.new ≡ pieces.old ++ form.number to (pos value)) }
 {
@@ -70,7 +70,7 @@ pub(crate) fn put_natural(pieces: &mut Pieces, to: Register, value: u64) -> Resu
     }
 }
 
-/// A register takes the word so many bytes behind the address in another one.
+/// A register takes the word a number of bytes after the address in another one.
 pub(crate) fn put_load(
     pieces: &mut Pieces,
     to: Register,

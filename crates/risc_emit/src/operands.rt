@@ -1,4 +1,4 @@
-// Operands and results: where temporaries stand, and the words that bring them into registers and back.
+// Operands and results: where temporaries are, and the words that bring them into registers and back.
 
 ghost use Rattle.std.specs.Prelude.{◌≡◌, ◌++◌, [], ◌∷◌, length, pos, ◌≤ℤ◌, OnOk, IfOk};
 ghost use Rattle.risc_word.specs.declared.instr.Instr.TheVariants as word;
@@ -17,15 +17,17 @@ use crate::words::{computed, constant, copied, r0, r12, r14, r15};
 use risc_word::{Operand as Right, Operation, Register};
 use tac_code::code::{Operand, OutOfMemory};
 
-/// A temporary stands in its register, or is loaded into one: gives the register in which it stands.
+/// A temporary is in its register, or is loaded into one: gives the register in which it is.
 pub(crate) fn fetch(
     frame: &Frame<'_>,
     pieces: &mut Pieces,
     to: Register,
     temporary: u32,
 ) -> Result<Register, OutOfMemory>
-    ensures words { OnOk result (pieces.new ≡ pieces.old ++ form.fetch (context_of frame.now) frame.now.number to (home (context_of frame.now) frame.now.number temporary)) }
-    ensures register { IfOk result (λ q. q ≡ form.fetched (context_of frame.now) frame.now.number to (home (context_of frame.now) frame.now.number temporary)) }
+    ensures words { OnOk result (pieces.new ≡ pieces.old ++ form.fetch (context_of frame.now) frame.now.number to
+        (home (context_of frame.now) frame.now.number temporary)) }
+    ensures register { IfOk result (λ q. q ≡ form.fetched (context_of frame.now) frame.now.number to
+        (home (context_of frame.now) frame.now.number temporary)) }
 {
     match frame.seat(temporary) {
         Seat::Register(register) => Ok(register),
@@ -38,7 +40,8 @@ pub(crate) fn fetch(
 
 /// The words that `fetch` takes.
 pub(crate) fn fetch_length(frame: &Frame<'_>, temporary: u32) -> i32
-    ensures length { result ≡ pos (length (form.fetch (context_of frame.now) frame.now.number 12 (home (context_of frame.now) frame.now.number temporary))) }
+    ensures length { result ≡ pos (length (form.fetch (context_of frame.now) frame.now.number 12
+        (home (context_of frame.now) frame.now.number temporary))) }
     ensures low { pos 0 ≤ℤ result }
     ensures high { result ≤ℤ pos 4 }
 {
@@ -54,7 +57,8 @@ fn bring_seat(
     to: Register,
     seat: Seat,
 ) -> Result<(), OutOfMemory>
-    ensures { OnOk result (pieces.new ≡ pieces.old ++ form.bring (context_of frame.now) frame.now.number to (home_of_seat seat)) }
+    ensures { OnOk result (pieces.new ≡ pieces.old ++ form.bring (context_of frame.now) frame.now.number to
+        (home_of_seat seat)) }
 {
     match seat {
         Seat::Register(register) => pieces.plain(copied(to, register)),
@@ -62,21 +66,23 @@ fn bring_seat(
     }
 }
 
-/// A register takes a temporary, wherever it stands.
+/// A register takes a temporary, wherever it is.
 pub(crate) fn bring(
     frame: &Frame<'_>,
     pieces: &mut Pieces,
     to: Register,
     temporary: u32,
 ) -> Result<(), OutOfMemory>
-    ensures { OnOk result (pieces.new ≡ pieces.old ++ form.bring (context_of frame.now) frame.now.number to (home (context_of frame.now) frame.now.number temporary)) }
+    ensures { OnOk result (pieces.new ≡ pieces.old ++ form.bring (context_of frame.now) frame.now.number to
+        (home (context_of frame.now) frame.now.number temporary)) }
 {
     bring_seat(frame, pieces, to, frame.seat(temporary))
 }
 
 /// The register in which a result is made.
 pub(crate) fn target(frame: &Frame<'_>, temporary: u32) -> Register
-    ensures { result ≡ form.target (context_of frame.now) frame.now.number (home (context_of frame.now) frame.now.number temporary) }
+    ensures { result ≡ form.target (context_of frame.now) frame.now.number
+        (home (context_of frame.now) frame.now.number temporary) }
 {
     match frame.seat(temporary) {
         Seat::Register(register) => register,
@@ -84,13 +90,14 @@ pub(crate) fn target(frame: &Frame<'_>, temporary: u32) -> Register
     }
 }
 
-/// What was made there comes into the temporary's slot.
+/// What was made there goes to the temporary's slot.
 pub(crate) fn save(
     frame: &Frame<'_>,
     pieces: &mut Pieces,
     temporary: u32,
 ) -> Result<(), OutOfMemory>
-    ensures { OnOk result (pieces.new ≡ pieces.old ++ form.save (context_of frame.now) frame.now.number (home (context_of frame.now) frame.now.number temporary)) }
+    ensures { OnOk result (pieces.new ≡ pieces.old ++ form.save (context_of frame.now) frame.now.number
+        (home (context_of frame.now) frame.now.number temporary)) }
 {
     match frame.seat(temporary) {
         Seat::Register(_) => Ok(()),
@@ -98,26 +105,29 @@ pub(crate) fn save(
     }
 }
 
-/// The last words of a result; what was made comes into the temporary's slot.
+/// The last words of a result; what was made goes to the temporary's slot.
 pub(crate) fn finish(
     frame: &Frame<'_>,
     pieces: &mut Pieces,
     words: &[Piece],
     temporary: u32,
 ) -> Result<(), OutOfMemory>
-    ensures { OnOk result (pieces.new ≡ pieces.old ++ (all_meant words.now ++ form.save (context_of frame.now) frame.now.number (home (context_of frame.now) frame.now.number temporary))) }
+    ensures { OnOk result (pieces.new ≡ pieces.old
+        ++ (all_meant words.now ++ form.save (context_of frame.now) frame.now.number
+        (home (context_of frame.now) frame.now.number temporary))) }
 {
     pieces.all(words)?;
     save(frame, pieces, temporary)
 }
 
-/// A result in R12 comes to its home.
+/// A result in R12 goes to its home.
 pub(crate) fn receive(
     frame: &Frame<'_>,
     pieces: &mut Pieces,
     temporary: u32,
 ) -> Result<(), OutOfMemory>
-    ensures { OnOk result (pieces.new ≡ pieces.old ++ form.receive (context_of frame.now) frame.now.number (home (context_of frame.now) frame.now.number temporary)) }
+    ensures { OnOk result (pieces.new ≡ pieces.old ++ form.receive (context_of frame.now) frame.now.number
+        (home (context_of frame.now) frame.now.number temporary)) }
 {
     match frame.seat(temporary) {
         Seat::Register(register) => pieces.plain(copied(register, r12())),
@@ -132,7 +142,8 @@ pub(crate) fn put_into(
     to: Register,
     temporary: u32,
 ) -> Result<(), OutOfMemory>
-    ensures { OnOk result (pieces.new ≡ pieces.old ++ form.into (context_of frame.now) frame.now.number to (home (context_of frame.now) frame.now.number temporary)) }
+    ensures { OnOk result (pieces.new ≡ pieces.old ++ form.into (context_of frame.now) frame.now.number to
+        (home (context_of frame.now) frame.now.number temporary)) }
 {
     match frame.seat(temporary) {
         Seat::Register(register) => {
@@ -145,13 +156,14 @@ pub(crate) fn put_into(
     }
 }
 
-/// The result of a routine comes from R0 to its home.
+/// The result of a routine goes from R0 to its home.
 pub(crate) fn accept(
     frame: &Frame<'_>,
     pieces: &mut Pieces,
     temporary: u32,
 ) -> Result<(), OutOfMemory>
-    ensures { OnOk result (pieces.new ≡ pieces.old ++ form.accept (context_of frame.now) frame.now.number (home (context_of frame.now) frame.now.number temporary)) }
+    ensures { OnOk result (pieces.new ≡ pieces.old ++ form.accept (context_of frame.now) frame.now.number
+        (home (context_of frame.now) frame.now.number temporary)) }
 {
     match frame.seat(temporary) {
         Seat::Register(register) => {
@@ -164,14 +176,16 @@ pub(crate) fn accept(
     }
 }
 
-/// A number as a right operand: beside the operation, or in R15.
+/// A number as a right operand: an immediate, or in R15.
 pub(crate) fn number_right(
     frame: &Frame<'_>,
     pieces: &mut Pieces,
     value: i32,
 ) -> Result<Right, OutOfMemory>
-    ensures words { OnOk result (pieces.new ≡ pieces.old ++ form.right (context_of frame.now) frame.now.number (operand.Number value)) }
-    ensures operand { IfOk result (λ o. o ≡ form.right_operand (context_of frame.now) frame.now.number (operand.Number value)) }
+    ensures words { OnOk result (pieces.new ≡ pieces.old ++ form.right (context_of frame.now) frame.now.number
+        (operand.Number value)) }
+    ensures operand { IfOk result (λ o. o ≡ form.right_operand (context_of frame.now) frame.now.number
+        (operand.Number value)) }
 {
     let _ = frame;
     if is_small(value) {
@@ -181,14 +195,16 @@ pub(crate) fn number_right(
     Ok(Right::Content(r15()))
 }
 
-/// The same of a number from 0 on.
+/// The same for a nonnegative number.
 pub(crate) fn natural_right(
     frame: &Frame<'_>,
     pieces: &mut Pieces,
     value: u32,
 ) -> Result<Right, OutOfMemory>
-    ensures words { OnOk result (pieces.new ≡ pieces.old ++ form.right (context_of frame.now) frame.now.number (operand.Number (pos value))) }
-    ensures operand { IfOk result (λ o. o ≡ form.right_operand (context_of frame.now) frame.now.number (operand.Number (pos value))) }
+    ensures words { OnOk result (pieces.new ≡ pieces.old ++ form.right (context_of frame.now) frame.now.number
+        (operand.Number (pos value))) }
+    ensures operand { IfOk result (λ o. o ≡ form.right_operand (context_of frame.now) frame.now.number
+        (operand.Number (pos value))) }
 {
     let _ = frame;
     if value < 65536 {
@@ -198,7 +214,7 @@ pub(crate) fn natural_right(
     Ok(Right::Content(r15()))
 }
 
-/// A right operand: a temporary's, a number beside the operation, or one in R15.
+/// A right operand: a temporary's, an immediate, or a number in R15.
 pub(crate) fn right(
     frame: &Frame<'_>,
     pieces: &mut Pieces,
@@ -227,7 +243,10 @@ pub(crate) fn put_operation(
     left: u32,
     operand: Operand,
 ) -> Result<(), OutOfMemory>
-    ensures { OnOk result (pieces.new ≡ pieces.old ++ form.both (context_of frame.now) frame.now.number left operand (piece.Plain (word.Operate operation to (form.fetched (context_of frame.now) frame.now.number 12 (home (context_of frame.now) frame.now.number left)) (form.right_operand (context_of frame.now) frame.now.number operand)) ∷ [])) }
+    ensures { OnOk result (pieces.new ≡ pieces.old ++ form.both (context_of frame.now) frame.now.number left operand
+        (piece.Plain (word.Operate operation to (form.fetched (context_of frame.now) frame.now.number 12
+        (home (context_of frame.now) frame.now.number left))
+        (form.right_operand (context_of frame.now) frame.now.number operand)) ∷ [])) }
 {
     let a = fetch(frame, pieces, r12(), left)?;
     let b = right(frame, pieces, operand)?;
@@ -241,7 +260,8 @@ pub(crate) fn put_copy(
     to: u32,
     from: u32,
 ) -> Result<(), OutOfMemory>
-    ensures { OnOk result (pieces.new ≡ pieces.old ++ form.copy (context_of frame.now) frame.now.number (home (context_of frame.now) frame.now.number to) (home (context_of frame.now) frame.now.number from)) }
+    ensures { OnOk result (pieces.new ≡ pieces.old ++ form.copy (context_of frame.now) frame.now.number
+        (home (context_of frame.now) frame.now.number to) (home (context_of frame.now) frame.now.number from)) }
 {
     match frame.seat(to) {
         Seat::Register(register) => bring(frame, pieces, register, from),
@@ -266,13 +286,14 @@ pub(crate) fn put_divisor(
     }
 }
 
-/// A modulus in a register: a temporary's where it stands, or in R15. Gives the register.
+/// A modulus in a register: a temporary's where it is, or in R15. Gives the register.
 pub(crate) fn put_modulus(
     frame: &Frame<'_>,
     pieces: &mut Pieces,
     operand: Operand,
 ) -> Result<Register, OutOfMemory>
-    ensures words { OnOk result (pieces.new ≡ pieces.old ++ form.modulus (context_of frame.now) frame.now.number operand) }
+    ensures words { OnOk result (pieces.new ≡ pieces.old ++ form.modulus
+        (context_of frame.now) frame.now.number operand) }
     ensures register { IfOk result (λ q. q ≡ form.modulus_register (context_of frame.now) frame.now.number operand) }
 {
     match operand {
@@ -284,7 +305,7 @@ pub(crate) fn put_modulus(
     }
 }
 
-/// Whether N and Z are those of a temporary's register, where they are told of one.
+/// Whether N and Z are known to be those of a temporary's register.
 pub(crate) fn is_told(frame: &Frame<'_>, told: Option<u32>, temporary: u32) -> bool
     ensures { result ≡ form.is_told (context_of frame.now) frame.now.number told temporary }
 {

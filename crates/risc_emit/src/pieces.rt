@@ -1,12 +1,12 @@
-// Words before it is known where they stand.
+// Words before it is known where they go.
 
 use risc_word::{Condition, Instr, Operand, Register, Target};
 use std::alloc::Global;
 use std::marker::Model;
 use tac_code::code::OutOfMemory;
 
-/// A first word: of the instruction so many places on from the one behind a place of a routine, or so many back from it, of a
-/// routine, or of the constant of a place.
+/// A first word: of the instruction a number of places on from the one after a place of a routine, or a number back
+/// from it, of a routine, or of the constant of a place.
 #[derive(Clone, Copy)]
 pub(crate) enum Label {
     Forward(usize, usize, u64),
@@ -78,13 +78,13 @@ impl Pieces {
     pub(crate) fn push(&mut self, piece: Piece) -> Result<(), OutOfMemory>
         ensures { OnOk result (self.new ≡ self.old ++ meant piece ∷ []) }
     {
-        // The proof of the push takes up the modules of a piece's parts where they are named.
+        // The proof of the push needs the modules of a piece's parts where they are named.
         let _: Option<(Instr, Operand, Target)> = None;
         self.list.push(piece)?;
         Ok(())
     }
 
-    /// Some words, one behind the other.
+    /// Some words, one after the other.
     #[tactic(auto, using(crate::proofs::Joined::meant_more))]
     pub(crate) fn all(&mut self, pieces: &[Piece]) -> Result<(), OutOfMemory>
         ensures { OnOk result (self.new ≡ self.old ++ all_meant pieces.now) }

@@ -19,7 +19,7 @@ use risc_word::{Condition, Displacement, Instr, Operation, Register, Target, enc
 use std::alloc::Global;
 use tac_code::code::OutOfMemory;
 
-/// Where the stub of all stops stands.
+/// Where the stub of all stops is.
 const STUB: usize = 1;
 
 // A branch from a place to another.
@@ -88,7 +88,7 @@ fn instr_at(marks: &[Marks], constants: usize, at: usize, piece: Piece) -> Instr
     }
 }
 
-// The address behind a word.
+// The address after a word.
 fn link_of(at: usize) -> u32
     requires { at < 1048576 }
     ensures { result ≡ 4 * (at + 1) }
@@ -96,7 +96,7 @@ fn link_of(at: usize) -> u32
     4 * (at as u32 + 1)
 }
 
-/// The words of the pieces, where the constants' words come behind them.
+/// The words of the pieces, with the constants' words after them.
 pub(crate) fn words_of(
     alloc: Global,
     marks: &[Marks],
@@ -104,7 +104,8 @@ pub(crate) fn words_of(
 ) -> Result<Vec<u32>, OutOfMemory>
     requires short { length pieces.now ≤ 1048576 }
     requires near { AreNear marks.now (length pieces.now) }
-    ensures { IfOk result (λ code. AreWordsTo (placed marks.now (length pieces.now)) pieces.now (length pieces.now) code.items) }
+    ensures { IfOk result (λ code. AreWordsTo (placed marks.now (length pieces.now)) pieces.now
+        (length pieces.now) code.items) }
 {
     let mut code = Vec::new(alloc);
     for at in 0..pieces.len() {

@@ -1,4 +1,5 @@
-// Where the flags are those of a temporary: behind an instruction whose last word sets them by its result, if no jump leads there.
+// Where the flags are those of a temporary: after an instruction whose last word sets them by its result, if no jump
+// leads there.
 
 ghost use Rattle.std.specs.Prelude.{◌≡◌, suc, ◌+◌, ◌-◌, true, if◌then◌else◌, Some, None, slice_set, IfOk};
 ghost use Rattle.risc_emit_forms.specs.Told.{sets_flags, flagged_by, jump_of, set_in, jumped, told};
@@ -15,14 +16,14 @@ fn sets_flags(operator: Operator) -> bool
     }
 }
 
-// The result of an operation, where the flags are its.
+// The result of an operation, where the flags are set by it.
 fn flagged_result(operator: Operator, to: u32) -> Option<u32>
     ensures { result ≡ (if sets_flags operator then Some to else None) }
 {
     if sets_flags(operator) { Some(to) } else { None }
 }
 
-// The temporary whose register N and Z are of behind an instruction.
+// The temporary whose register determines N and Z after an instruction.
 fn flagged_by(instruction: &Instruction) -> Option<u32>
     ensures { result ≡ flagged_by instruction.now }
 {
@@ -43,7 +44,7 @@ fn set(marks: &mut Vec<bool>, place: usize)
     }
 }
 
-// The place so many on from the one behind a place.
+// The place `distance` on from the one after a place.
 fn set_ahead(marks: &mut Vec<bool>, place: usize, distance: u64)
     ensures { marks.new.items ≡ slice_set marks.old.items (suc place + distance) true }
 {
@@ -89,7 +90,7 @@ pub(crate) fn jumped_places(alloc: Global, body: &[Instruction]) -> Result<Vec<b
     Ok(marks)
 }
 
-/// The temporary whose register N and Z are of at a place, if they are one's.
+/// The temporary whose register determines N and Z at a place, if there is one.
 pub(crate) fn told(body: &[Instruction], marks: &[bool], place: usize) -> Option<u32>
     requires { marks.now ≡ jumped body.now }
     ensures { result ≡ told body.now place }

@@ -10,7 +10,8 @@ use risc_word::{
     Condition, Displacement, Immediate, Instr, Offset, Operand, Operation, Register, Target, Width,
 };
 
-/// What the machine starts with: the first addresses of the heap and of the stack; and a free register. R0 is that of a result too.
+/// What the machine starts with: the first addresses of the heap and of the stack; and a free register. R0 is also that
+/// of a result.
 pub(crate) fn r0() -> Register
     ensures { result ≡ 0 }
 {

@@ -1,5 +1,7 @@
--- Pieces that stand in the words, numbers as words, what instructions read and write.
-use Rattle.std.proofs.Common.{◌≡◌, ℕ, suc, ◌+◌, ◌<◌, Bool, true, false, ◌||◌, nat_eq, nat_lt, List, [], ◌∷◌, ◌++◌, length, Some, None, ℤ, pos, negsuc, refl, sym, ap, ◌∙◌, subst, arith, IsTrue, length-append}
+-- Pieces that are in the words, numbers as words, what instructions read and write.
+use Rattle.std.proofs.Common.{◌≡◌, ℕ, suc, ◌+◌, ◌<◌, Bool, true, false, ◌||◌, nat_eq, nat_lt, List, [], ◌∷◌, ◌++◌}
+use Rattle.std.proofs.Common.{length, Some, None, ℤ, pos, negsuc, refl, sym, ap, ◌∙◌, subst, arith, IsTrue}
+use Rattle.std.proofs.Common.{length-append}
 use Rattle.std.proofs.lemmas.Int.{ints}
 use Rattle.tac_code.specs.declared.code.Instruction.{Instruction}
 use Rattle.tac_code.specs.Numbers.{is_integer}
@@ -12,18 +14,21 @@ use Rattle.risc_emit_forms.specs.Pieces.{Piece, Stands, Left}
 
 -- ---- pieces
 
-pub stands_front : (c : Context) (words : List ℕ) (at : ℕ) (ps qs : List Piece) → Stands c words at (ps ++ qs) → Stands c words at ps
+pub stands_front : (c : Context) (words : List ℕ) (at : ℕ) (ps qs : List Piece) → Stands c words at (ps ++ qs)
+    → Stands c words at ps
 stands_front c words at [] qs h = tt
 stands_front c words at (p ∷ ps) qs h = (h.0, h.1, stands_front c words (at + 1) ps qs h.2)
 
-pub stands_back : (c : Context) (words : List ℕ) (at : ℕ) (ps qs : List Piece) → Stands c words at (ps ++ qs) → Stands c words (at + length ps) qs
+pub stands_back : (c : Context) (words : List ℕ) (at : ℕ) (ps qs : List Piece) → Stands c words at (ps ++ qs)
+    → Stands c words (at + length ps) qs
 stands_back c words at [] qs h = let e : at ≡ at + 0 = omega arith in subst (λ a. Stands c words a qs) e h
 stands_back c words at (p ∷ ps) qs h =
     let e : at + 1 + length ps ≡ at + suc (length ps) = omega arith in
     subst (λ a. Stands c words a qs) e (stands_back c words (at + 1) ps qs h.2)
 
--- what is left behind a line of pieces, and behind one
-pub left_after : (c : Context) (words : List ℕ) (at at' next : ℕ) (ps qs : List Piece) → Left c words at (ps ++ qs) next → at' ≡ at + length ps → Left c words at' qs next
+-- what is left after a line of pieces, and after one
+pub left_after : (c : Context) (words : List ℕ) (at at' next : ℕ) (ps qs : List Piece) → Left c words at (ps ++ qs) next
+    → at' ≡ at + length ps → Left c words at' qs next
 left_after c words at at' next ps qs l e =
     let n = length-append ps qs in
     record {
@@ -31,13 +36,16 @@ left_after c words at at' next ps qs l e =
       ends = omega (arith, l.ends, e, n);
     }
 
-pub left_next : (c : Context) (words : List ℕ) (at next : ℕ) (p : Piece) (qs : List Piece) → Left c words at (p ∷ qs) next → Left c words (at + 1) qs next
+pub left_next : (c : Context) (words : List ℕ) (at next : ℕ) (p : Piece) (qs : List Piece) → Left c words at
+    (p ∷ qs) next → Left c words (at + 1) qs next
 left_next c words at next p qs l = record { stands = l.stands.2; ends = omega (arith, l.ends) }
 
-pub left_front : (c : Context) (words : List ℕ) (at next : ℕ) (ps qs : List Piece) → Left c words at (ps ++ qs) next → Left c words at ps (at + length ps)
+pub left_front : (c : Context) (words : List ℕ) (at next : ℕ) (ps qs : List Piece) → Left c words at (ps ++ qs) next
+    → Left c words at ps (at + length ps)
 left_front c words at next ps qs l = record { stands = stands_front c words at ps qs l.stands; ends = refl }
 
-pub left_at : (c : Context) (words : List ℕ) (at at' next : ℕ) (ps : List Piece) → Left c words at ps next → at' ≡ at → Left c words at' ps next
+pub left_at : (c : Context) (words : List ℕ) (at at' next : ℕ) (ps : List Piece) → Left c words at ps next → at' ≡ at
+    → Left c words at' ps next
 left_at c words at at' next ps l e = subst (λ a. Left c words a ps next) (sym e) l
 
 -- ---- reading and writing
@@ -74,11 +82,13 @@ module _ (c : Context) (r k : ℕ) (i : Instruction) (here : fetch c.code r k �
 -- ---- numbers
 
 pub integer_is : (z : ℤ) → IsTrue (is_integer z) → IsNumber z
-integer_is (pos n) h = let lt : n < 2147483648 = by_test n 2147483648 h in (omega (arith, ints, lt), omega (arith, ints, lt))
+integer_is (pos n) h = let lt : n < 2147483648 = by_test n 2147483648 h
+    in (omega (arith, ints, lt), omega (arith, ints, lt))
   where
     by_test : (a b : ℕ) → IsTrue (nat_lt a b) → a < b
     by_test a b h = grind arith
-integer_is (negsuc n) h = let lt : n < 2147483648 = by_test n 2147483648 h in (omega (arith, ints, lt), omega (arith, ints, lt))
+integer_is (negsuc n) h = let lt : n < 2147483648 = by_test n 2147483648 h
+    in (omega (arith, ints, lt), omega (arith, ints, lt))
   where
     by_test : (a b : ℕ) → IsTrue (nat_lt a b) → a < b
     by_test a b h = grind arith

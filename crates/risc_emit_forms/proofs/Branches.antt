@@ -1,7 +1,9 @@
 -- Branches and comparisons followed by their words.
 use Rattle.std.specs.Prelude.{int_lt}
 use Rattle.std.proofs.lemmas.Int.{ints}
-use Rattle.std.proofs.Common.{◌≡◌, ◌≢◌, ℕ, zero, suc, ◌+◌, ◌-◌, ◌<◌, ◌≤◌, Bool, true, false, cond, ◌&&◌, not, nat_eq, nat_le, List, [], ◌∷◌, ◌++◌, Option, Some, None, pos, negsuc, refl, sym, ap, ◌∙◌, subst, arith, length-append, append_assoc}
+use Rattle.std.proofs.Common.{◌≡◌, ◌≢◌, ℕ, zero, suc, ◌+◌, ◌-◌, ◌<◌, ◌≤◌, Bool, true, false, cond, ◌&&◌, not, nat_eq}
+use Rattle.std.proofs.Common.{nat_le, List, [], ◌∷◌, ◌++◌, Option, Some, None, pos, negsuc, refl, sym, ap, ◌∙◌, subst}
+use Rattle.std.proofs.Common.{arith, length-append, append_assoc}
 use Rattle.risc_word.specs.declared.instr.Operation.TheVariants as op
 use Rattle.risc_word.specs.declared.instr.Operand.TheVariants as instr_operand
 use Rattle.risc_word.specs.declared.instr.Condition.TheVariants as on
@@ -36,12 +38,15 @@ use Rattle.risc_emit_relation.proofs.Basics.{get_within, eq_of, update_same, upd
 use Rattle.risc_emit_forms.specs.Pieces.{AtPlace, Piece, Plain, Goes, Left}
 use Rattle.risc_emit_forms.specs.Forms as form
 use Rattle.risc_emit_forms.specs.Told.{told_at}
-use Rattle.risc_emit_forms.specs.Forms.{fetched, right, right_operand, both, target, save, condition, brief, is_null, is_register, skip, difference}
+use Rattle.risc_emit_forms.specs.Forms.{fetched, right, right_operand, both, target, save, condition, brief, is_null}
+use Rattle.risc_emit_forms.specs.Forms.{is_register, skip, difference}
 use Rattle.risc_emit_forms.specs.Follows.{machine_of, Built, Belongs, Comes}
-use Rattle.risc_emit_forms.proofs.Basics.{left_after, left_next, left_at, is_read, passes, writes_it, among_first, among_rest, integer_is}
+use Rattle.risc_emit_forms.proofs.Basics.{left_after, left_next, left_at, is_read, passes, writes_it, among_first}
+use Rattle.risc_emit_forms.proofs.Basics.{among_rest, integer_is}
 use Rattle.risc_emit_forms.proofs.Flags.{is_silent, silent}
 use Rattle.risc_emit_forms.proofs.Runs.{IsRight, step_to}
-use Rattle.risc_emit_forms.proofs.Comes.{framed, fetched_is, come_to, come_way, arrive_to, goes_run, goes_not, skip_run, skip_not, goes_end, gives_end}
+use Rattle.risc_emit_forms.proofs.Comes.{framed, fetched_is, come_to, come_way, arrive_to, goes_run, goes_not}
+use Rattle.risc_emit_forms.proofs.Comes.{skip_run, skip_not, goes_end, gives_end}
 use Rattle.risc_emit_forms.proofs.Operands.{code, stands_in, two_run}
 use Rattle.risc_emit_forms.proofs.Compares.{related_flags}
 
@@ -78,14 +83,18 @@ both_there relation (Some (Routine r)) None h e = absurd (no_right relation None
 both_there relation (Some x) (Some y) h e = record { first = x; second = y; is = refl; is_second = refl }
 
 module _ (c : Context) (words : List ℕ) (b : Built c words) (p : Places) (s : State) (f : ℕ) (m : machine.State) (v : View) (sh : Shows words c.size m v) (be : Belongs c words p s v f) where
-  pub right_sound : (temporaries : ℕ) (o : Operand) → IsOperand temporaries o → IsRight c words b.stood b.laid b.placed s.current.routine f (framed c words b p s (machine_of v) f be.related) o
+  pub right_sound : (temporaries : ℕ) (o : Operand) → IsOperand temporaries o
+      → IsRight c words b.stood b.laid b.placed s.current.routine f (framed c words b p s (machine_of v) f be.related) o
   right_sound n (operand.Temporary t) h = tt
   right_sound n (operand.Number z) h = integer_is z h
 
-  -- the register that N and Z are told of
-  pub told_stands : (a : ℕ) → form.is_told c s.current.routine (told_at c s.current.routine s.current.place) a ≡ true → (q : ℕ) × (home c s.current.routine a ≡ Reg q) × (v.equal ≡ nat_eq (v.registers q) 0) × (v.negative ≡ nat_le 2147483648 (v.registers q))
+  -- the register that N and Z are known to be of
+  pub told_stands : (a : ℕ) → form.is_told c s.current.routine (told_at c s.current.routine s.current.place) a ≡ true
+      → (q : ℕ) × (home c s.current.routine a ≡ Reg q) × (v.equal ≡ nat_eq (v.registers q) 0)
+      × (v.negative ≡ nat_le 2147483648 (v.registers q))
   told_stands a e =
-      let k = each (is_it a (told_at c s.current.routine s.current.place)) (is_register (home c s.current.routine a)) e in
+      let k = each (is_it a (told_at c s.current.routine s.current.place)) (is_register (home c s.current.routine a)) e
+      in
       let h = register_is (home c s.current.routine a) k.1 in
       let flags = be.flags.0 a h.0 (it_is (told_at c s.current.routine s.current.place) k.0) h.1 in
       (h.0, h.1, flags.0, flags.1)
@@ -102,11 +111,16 @@ module _ (c : Context) (words : List ℕ) (b : Built c words) (p : Places) (s : 
       register_is (Reg q) e = (q, refl)
       register_is (Slot j) e = absurd (cc e)
 
-  way_to : {v1 v2 : View} (g : Way words c.size m same_tape v1) → To words c.size g.to same_tape v2 → Way words c.size m same_tape v2
+  way_to : {v1 v2 : View} (g : Way words c.size m same_tape v1) → To words c.size g.to same_tape v2
+      → Way words c.size m same_tape v2
   way_to g t =
-      record { to = t.to; shows = t.shows; runs = λ k q. let x = t.runs k q in let y = g.runs x.0 q in (y.0, omega (arith, x.1, y.1), y.2 ∙ x.2) }
+      record {
+        to = t.to;
+        shows = t.shows;
+        runs = λ k q. let x = t.runs k q in let y = g.runs x.0 q in (y.0, omega (arith, x.1, y.1), y.2 ∙ x.2);
+      }
 
-  -- the difference of two operands, whose flags tell the relation
+  -- the difference of two operands, whose flags show the relation
   pub record Told (relation : Relation) (a : ℕ) (o : Operand) (holds : Bool) (ps : List Piece) (next : ℕ) : Type 0 where
     pub view : View
     pub way : Way words c.size m same_tape view
@@ -114,68 +128,96 @@ module _ (c : Context) (words : List ℕ) (b : Built c words) (p : Places) (s : 
     pub flag : holds_view view (condition relation) ≡ holds
     pub left : Left c words view.place ps next
 
-  pub told_run : (relation : Relation) (a : ℕ) (o : Operand) (holds : Bool) (ps : List Piece) (next temporaries : ℕ) → IsOperand temporaries o → reads c s.current.routine s.current.place a ≡ true → ((t : ℕ) → is_among t (in_operand o) ≡ true → reads c s.current.routine s.current.place t ≡ true) → related relation (s.current.temporaries a) (operand_value s.current.temporaries o) ≡ Some holds → Left c words v.place (both c s.current.routine a o (difference c s.current.routine a o ∷ ps)) next → Told relation a o holds ps next
+  pub told_run : (relation : Relation) (a : ℕ) (o : Operand) (holds : Bool) (ps : List Piece) (next temporaries : ℕ)
+      → IsOperand temporaries o → reads c s.current.routine s.current.place a ≡ true
+      → ((t : ℕ) → is_among t (in_operand o) ≡ true → reads c s.current.routine s.current.place t ≡ true)
+      → related relation (s.current.temporaries a) (operand_value s.current.temporaries o) ≡ Some holds
+      → Left c words v.place (both c s.current.routine a o (difference c s.current.routine a o ∷ ps)) next
+      → Told relation a o holds ps next
   told_run relation a o holds ps next temporaries so ra ro e l =
       let r = s.current.routine in
       let xs = both_there relation (s.current.temporaries a) (operand_value s.current.temporaries o) holds e in
       let x = xs.first in
       let y = xs.second in
-      let e' : related relation (Some x) (Some y) ≡ Some holds = ap (λ z. related relation (Some x) z) (sym xs.is_second) ∙ ap (λ z. related relation z (operand_value s.current.temporaries o)) (sym xs.is) ∙ e in
+      let e' : related relation (Some x) (Some y) ≡ Some holds = ap (λ z. related relation (Some x) z)
+      (sym xs.is_second) ∙ ap (λ z. related relation z (operand_value s.current.temporaries o)) (sym xs.is) ∙ e in
       let i = word.Operate op.Sub 12 (fetched c r 12 (home c r a)) (right_operand c r o) in
-      let g = two_run c words b p s f m v sh be a o x y (Plain i ∷ ps) next (right_sound temporaries o so) ra ro xs.is xs.is_second l in
+      let g = two_run c words b p s f m v sh be a o x y (Plain i ∷ ps) next
+      (right_sound temporaries o so) ra ro xs.is xs.is_second l in
       let v1 = g.view in
-      let l0 = subst (λ q. Left c words v.place q next) (sym (append_assoc (form.fetch c r 12 (home c r a)) (right c r o) (Plain i ∷ ps))) l in
+      let l0 = subst (λ q. Left c words v.place q next)
+      (sym (append_assoc (form.fetch c r 12 (home c r a)) (right c r o) (Plain i ∷ ps))) l in
       let len = length-append (form.fetch c r 12 (home c r a)) (right c r o) in
-      let l1 = left_after c words v.place v1.place next (form.fetch c r 12 (home c r a) ++ right c r o) (Plain i ∷ ps) l0 (omega (arith, g.place, len)) in
+      let l1 = left_after c words v.place v1.place next (form.fetch c r 12 (home c r a) ++ right c r o)
+      (Plain i ∷ ps) l0 (omega (arith, g.place, len)) in
       let t2 = step_to c words b.stood i g.way.to v1 g.way.shows l1.stands.0 tt in
       let v2 = after i v1 in
       record {
         view = v2;
         way = way_to g.way t2;
-        near = record { registers = λ q n12 n15. update_other v1.registers 12 _ q n12 ∙ g.near.registers q n12 n15; words = g.near.words };
-        flag = related_flags c b.laid p s v.words f be.related.held relation x y holds 12 (fetched c r 12 (home c r a)) (right_operand c r o) v1 g.good g.good_right g.left g.right e';
+        near = record {
+          registers = λ q n12 n15. update_other v1.registers 12 _ q n12 ∙ g.near.registers q n12 n15;
+          words = g.near.words;
+        };
+        flag = related_flags c b.laid p s v.words f be.related.held relation x y holds 12 (fetched c r 12 (home c r a))
+            (right_operand c r o) v1 g.good g.good_right g.left g.right e';
         left = left_next c words v1.place next (Plain i) ps l1;
       }
 
-  -- ---- by the flags of an instruction in front
+  -- ---- by the flags of an instruction before it
 
   no_less : (n : ℕ) → n < 4294967296 → difference_of n (word_of_int (pos 0)) ≡ n
   no_less n lt = omega (arith, lt)
 
-  -- N and Z of a value tell how it stands to 0
-  told_flags : (relation : Relation) (told : Condition) (x : Value) (holds : Bool) (q : ℕ) → brief relation ≡ Some told → IsValue c p x → v.registers q ≡ ctx.word c p x → v.registers q < 4294967296 → v.equal ≡ nat_eq (v.registers q) 0 → v.negative ≡ nat_le 2147483648 (v.registers q) → related relation (Some x) (Some (Number (pos 0))) ≡ Some holds → holds_view v told ≡ holds
+  -- N and Z of a value show how it compares with 0
+  told_flags : (relation : Relation) (told : Condition) (x : Value) (holds : Bool) (q : ℕ) → brief relation ≡ Some told
+      → IsValue c p x → v.registers q ≡ ctx.word c p x → v.registers q < 4294967296 → v.equal ≡ nat_eq (v.registers q) 0
+      → v.negative ≡ nat_le 2147483648 (v.registers q) → related relation (Some x) (Some (Number (pos 0))) ≡ Some holds
+      → holds_view v told ≡ holds
   told_flags relation told x holds q is good value low null minus e = go relation is e
     where
       none : IsNumber (pos 0)
       none = (omega (arith, ints), omega (arith, ints))
 
-      by_difference : (relation : Relation) → related relation (Some x) (Some (Number (pos 0))) ≡ Some holds → holds_view (after (word.Operate op.Sub 12 q (instr_operand.Constant (pos 0))) v) (condition relation) ≡ holds
+      by_difference : (relation : Relation) → related relation (Some x) (Some (Number (pos 0))) ≡ Some holds
+          → holds_view (after (word.Operate op.Sub 12 q (instr_operand.Constant (pos 0))) v) (condition relation)
+          ≡ holds
       by_difference relation e =
-          related_flags c b.laid p s v.words f be.related.held relation x (Number (pos 0)) holds 12 q (instr_operand.Constant (pos 0)) v good none value refl e
+          related_flags c b.laid p s v.words f be.related.held relation x (Number (pos 0)) holds 12 q
+          (instr_operand.Constant (pos 0)) v good none value refl e
 
       same : v.equal ≡ (after (word.Operate op.Sub 12 q (instr_operand.Constant (pos 0))) v).equal
       same = null ∙ ap (λ n. nat_eq n 0) (sym (no_less (v.registers q) low))
 
-      go : (relation : Relation) → brief relation ≡ Some told → related relation (Some x) (Some (Number (pos 0))) ≡ Some holds → holds_view v told ≡ holds
+      go : (relation : Relation) → brief relation ≡ Some told → related relation (Some x) (Some (Number (pos 0)))
+          ≡ Some holds → holds_view v told ≡ holds
       go Equal is e = let z : on.Equal ≡ told = cc is in ap (holds_view v) (sym z) ∙ same ∙ by_difference Equal e
-      go NotEqual is e = let z : on.NotEqual ≡ told = cc is in ap (holds_view v) (sym z) ∙ ap not same ∙ by_difference NotEqual e
+      go NotEqual is e = let z : on.NotEqual ≡ told = cc is in ap (holds_view v) (sym z) ∙ ap not same
+          ∙ by_difference NotEqual e
       go Less is e = let z : on.Minus ≡ told = cc is in ap (holds_view v) (sym z) ∙ below x good value e
         where
-          below : (x : Value) → IsValue c p x → v.registers q ≡ ctx.word c p x → related Less (Some x) (Some (Number (pos 0))) ≡ Some holds → v.negative ≡ holds
-          below (Number n) good value e = let h : int_lt n (pos 0) ≡ holds = cc e in minus ∙ ap (nat_le 2147483648) value ∙ minus_word n good ∙ h
+          below : (x : Value) → IsValue c p x → v.registers q ≡ ctx.word c p x → related Less (Some x)
+              (Some (Number (pos 0))) ≡ Some holds → v.negative ≡ holds
+          below (Number n) good value e = let h : int_lt n (pos 0) ≡ holds = cc e in minus
+              ∙ ap (nat_le 2147483648) value ∙ minus_word n good ∙ h
           below (Address block offset) good value e = absurd (cc e)
           below (Routine r) good value e = absurd (cc e)
       go GreaterEqual is e = let z : on.Plus ≡ told = cc is in ap (holds_view v) (sym z) ∙ above x good value e
         where
-          above : (x : Value) → IsValue c p x → v.registers q ≡ ctx.word c p x → related GreaterEqual (Some x) (Some (Number (pos 0))) ≡ Some holds → not v.negative ≡ holds
-          above (Number n) good value e = let h : not (int_lt n (pos 0)) ≡ holds = cc e in ap not (minus ∙ ap (nat_le 2147483648) value ∙ minus_word n good) ∙ h
+          above : (x : Value) → IsValue c p x → v.registers q ≡ ctx.word c p x → related GreaterEqual (Some x)
+              (Some (Number (pos 0))) ≡ Some holds → not v.negative ≡ holds
+          above (Number n) good value e = let h : not (int_lt n (pos 0)) ≡ holds = cc e in ap not
+              (minus ∙ ap (nat_le 2147483648) value ∙ minus_word n good) ∙ h
           above (Address block offset) good value e = absurd (cc e)
           above (Routine r) good value e = absurd (cc e)
       go LessEqual is e = absurd (cc is)
       go Greater is e = absurd (cc is)
 
-  -- where a branch is by those flags, they tell its relation
-  brief_flag : (relation : Relation) (a : ℕ) (o : Operand) (holds : Bool) (told : Condition) → cond (form.is_told c s.current.routine (told_at c s.current.routine s.current.place) a && is_null o) (brief relation) None ≡ Some told → reads c s.current.routine s.current.place a ≡ true → related relation (s.current.temporaries a) (operand_value s.current.temporaries o) ≡ Some holds → holds_view v told ≡ holds
+  -- where a branch is by those flags, they show its relation
+  brief_flag : (relation : Relation) (a : ℕ) (o : Operand) (holds : Bool) (told : Condition) → cond
+      (form.is_told c s.current.routine (told_at c s.current.routine s.current.place) a && is_null o)
+      (brief relation) None ≡ Some told → reads c s.current.routine s.current.place a ≡ true → related relation
+      (s.current.temporaries a) (operand_value s.current.temporaries o) ≡ Some holds → holds_view v told ≡ holds
   brief_flag relation a o holds told is ra e =
       let r = s.current.routine in
       let k = chosen (form.is_told c r (told_at c r s.current.place) a) (is_null o) (brief relation) is in
@@ -184,13 +226,15 @@ module _ (c : Context) (words : List ℕ) (b : Built c words) (p : Places) (s : 
       let xs = both_there relation (s.current.temporaries a) (operand_value s.current.temporaries o) holds e in
       let x = xs.first in
       let null = null_is o k.1 in
-      let e' : related relation (Some x) (Some (Number (pos 0))) ≡ Some holds = ap (related relation (Some x)) (sym null) ∙ ap (λ z. related relation z (operand_value s.current.temporaries o)) (sym xs.is) ∙ e in
+      let e' : related relation (Some x) (Some (Number (pos 0))) ≡ Some holds = ap (related relation (Some x))
+      (sym null) ∙ ap (λ z. related relation z (operand_value s.current.temporaries o)) (sym xs.is) ∙ e in
       let there = stands_in c words b p s f m v sh be a x ra xs.is in
       let value : v.registers q ≡ ctx.word c p x = ap (value_of c r f (machine_of v)) (sym stood.1) ∙ there.1 in
       let lt = b.placed.register r a q stood.1 in
       told_flags relation told x holds q k.2 there.0 value (sh.narrow q (omega (arith, lt))) stood.2 stood.3 e'
     where
-      chosen : (t u : Bool) (w : Option Condition) → cond (t && u) w None ≡ Some told → (t ≡ true) × (u ≡ true) × (w ≡ Some told)
+      chosen : (t u : Bool) (w : Option Condition) → cond (t && u) w None ≡ Some told → (t ≡ true) × (u ≡ true)
+          × (w ≡ Some told)
       chosen true true w is = (refl, refl, is)
       chosen true false w is = absurd (cc is)
       chosen false u w is = absurd (cc is)
@@ -202,57 +246,112 @@ module _ (c : Context) (words : List ℕ) (b : Built c words) (p : Places) (s : 
       null_is (operand.Number (negsuc n)) e = absurd (cc e)
 
   -- a branch goes to its target where the relation holds, and else on
-  branch_follows : (i : Instruction) (relation : Relation) (a : ℕ) (o : Operand) (k' temporaries : ℕ) (holds : Bool) → Passes c s.current.routine s.current.place k' → Passes c s.current.routine s.current.place (suc s.current.place) → c.site s.current.routine k' ≤ 1048576 → IsOperand temporaries o → reads c s.current.routine s.current.place a ≡ true → ((t : ℕ) → is_among t (in_operand o) ≡ true → reads c s.current.routine s.current.place t ≡ true) → related relation (s.current.temporaries a) (operand_value s.current.temporaries o) ≡ Some holds → Left c words v.place (form.branch_form c s.current.routine (told_at c s.current.routine s.current.place) relation a o (AtPlace s.current.routine k')) (c.site s.current.routine (suc s.current.place)) → Comes c words s (record s { current = record s.current { place = cond holds k' (suc s.current.place) } }) m
-  branch_follows i relation a o k' temporaries holds there next low so ra ro e l = by (cond (form.is_told c s.current.routine (told_at c s.current.routine s.current.place) a && is_null o) (brief relation) None) refl l
+  branch_follows : (i : Instruction) (relation : Relation) (a : ℕ) (o : Operand) (k' temporaries : ℕ) (holds : Bool)
+      → Passes c s.current.routine s.current.place k' → Passes c s.current.routine s.current.place (suc s.current.place)
+      → c.site s.current.routine k' ≤ 1048576 → IsOperand temporaries o → reads c s.current.routine s.current.place a
+      ≡ true → ((t : ℕ) → is_among t (in_operand o) ≡ true → reads c s.current.routine s.current.place t ≡ true)
+      → related relation (s.current.temporaries a) (operand_value s.current.temporaries o) ≡ Some holds
+      → Left c words v.place (form.branch_form c s.current.routine
+      (told_at c s.current.routine s.current.place) relation a o (AtPlace s.current.routine k'))
+      (c.site s.current.routine (suc s.current.place)) → Comes c words s
+      (record s { current = record s.current { place = cond holds k' (suc s.current.place) } }) m
+  branch_follows i relation a o k' temporaries holds there next low so ra ro e l = by
+      (cond (form.is_told c s.current.routine (told_at c s.current.routine s.current.place) a && is_null o)
+      (brief relation) None) refl l
     where
-      brief_goes : (told : Condition) (h : Bool) → holds_view v told ≡ h → Left c words v.place (Goes told (AtPlace s.current.routine k') ∷ []) (c.site s.current.routine (suc s.current.place)) → Comes c words s (record s { current = record s.current { place = cond h k' (suc s.current.place) } }) m
+      brief_goes : (told : Condition) (h : Bool) → holds_view v told ≡ h → Left c words v.place
+          (Goes told (AtPlace s.current.routine k') ∷ []) (c.site s.current.routine (suc s.current.place))
+          → Comes c words s (record s { current = record s.current { place = cond h k' (suc s.current.place) } }) m
       brief_goes told true flag l =
           let r = s.current.routine in
           let s' = record s { current = record s.current { place = k' } } in
           let t1 = goes_run c words b told (AtPlace r k') [] _ m v sh l flag low in
           let v1 = at_view (c.site r k') v in
-          come_to c words b s s' m same_tape v1 t1 refl (goes_end c words b p s (machine_of v) f k' t1.to v1 be.related be.input there t1.shows (record { registers = λ q n12 n15. refl; words = λ x. refl }) refl)
+          come_to c words b s s' m same_tape v1 t1 refl
+          (goes_end c words b p s (machine_of v) f k' t1.to v1 be.related be.input there t1.shows (record {
+            registers = λ q n12 n15. refl;
+            words = λ x. refl;
+          }) refl)
       brief_goes told false flag l =
           let r = s.current.routine in
           let s' = record s { current = record s.current { place = suc s.current.place } } in
           let t1 = goes_not c words b told (AtPlace r k') [] _ m v sh l flag in
           let v1 = at_view (v.place + 1) v in
-          come_to c words b s s' m same_tape v1 t1 refl (goes_end c words b p s (machine_of v) f (suc s.current.place) t1.to v1 be.related be.input next t1.shows (record { registers = λ q n12 n15. refl; words = λ x. refl }) (sym l.ends))
+          come_to c words b s s' m same_tape v1 t1 refl
+          (goes_end c words b p s (machine_of v) f (suc s.current.place) t1.to v1 be.related be.input next t1.shows
+          (record {
+            registers = λ q n12 n15. refl;
+            words = λ x. refl;
+          }) (sym l.ends))
 
-      go : (h : Bool) → Told relation a o h (Goes (condition relation) (AtPlace s.current.routine k') ∷ []) (c.site s.current.routine (suc s.current.place)) → Comes c words s (record s { current = record s.current { place = cond h k' (suc s.current.place) } }) m
+      go : (h : Bool) → Told relation a o h (Goes (condition relation) (AtPlace s.current.routine k') ∷ [])
+          (c.site s.current.routine (suc s.current.place)) → Comes c words s
+          (record s { current = record s.current { place = cond h k' (suc s.current.place) } }) m
       go true d =
           let r = s.current.routine in
           let s' = record s { current = record s.current { place = k' } } in
-          let t2 = goes_run c words b (condition relation) (AtPlace r k') [] _ d.way.to d.view d.way.shows d.left d.flag low in
+          let t2 = goes_run c words b (condition relation)
+          (AtPlace r k') [] _ d.way.to d.view d.way.shows d.left d.flag low in
           let v2 = at_view (c.site r k') d.view in
-          come_way c words b s s' m d.view d.way (come_to c words b s s' d.way.to same_tape v2 t2 refl (goes_end c words b p s (machine_of v) f k' t2.to v2 be.related be.input there t2.shows (record { registers = d.near.registers; words = d.near.words }) refl))
+          come_way c words b s s' m d.view d.way (come_to c words b s s' d.way.to same_tape v2 t2 refl
+          (goes_end c words b p s (machine_of v) f k' t2.to v2 be.related be.input there t2.shows (record {
+            registers = d.near.registers;
+            words = d.near.words;
+          }) refl))
       go false d =
           let r = s.current.routine in
           let s' = record s { current = record s.current { place = suc s.current.place } } in
-          let t2 = goes_not c words b (condition relation) (AtPlace r k') [] _ d.way.to d.view d.way.shows d.left d.flag in
+          let t2 = goes_not c words b (condition relation) (AtPlace r k') [] _ d.way.to d.view d.way.shows d.left d.flag
+          in
           let v2 = at_view (d.view.place + 1) d.view in
-          come_way c words b s s' m d.view d.way (come_to c words b s s' d.way.to same_tape v2 t2 refl (goes_end c words b p s (machine_of v) f (suc s.current.place) t2.to v2 be.related be.input next t2.shows (record { registers = d.near.registers; words = d.near.words }) (sym d.left.ends)))
+          come_way c words b s s' m d.view d.way (come_to c words b s s' d.way.to same_tape v2 t2 refl
+          (goes_end c words b p s (machine_of v) f (suc s.current.place) t2.to v2 be.related be.input next t2.shows
+          (record {
+            registers = d.near.registers;
+            words = d.near.words;
+          }) (sym d.left.ends)))
 
-      by : (q : Option Condition) → cond (form.is_told c s.current.routine (told_at c s.current.routine s.current.place) a && is_null o) (brief relation) None ≡ q → Left c words v.place (form.branch_by c s.current.routine q relation a o (AtPlace s.current.routine k')) (c.site s.current.routine (suc s.current.place)) → Comes c words s (record s { current = record s.current { place = cond holds k' (suc s.current.place) } }) m
+      by : (q : Option Condition) → cond (form.is_told c s.current.routine
+          (told_at c s.current.routine s.current.place) a && is_null o) (brief relation) None ≡ q → Left c words v.place
+          (form.branch_by c s.current.routine q relation a o (AtPlace s.current.routine k'))
+          (c.site s.current.routine (suc s.current.place)) → Comes c words s
+          (record s { current = record s.current { place = cond holds k' (suc s.current.place) } }) m
       by (Some told) is l = brief_goes told holds (brief_flag relation a o holds told is ra e) l
-      by None is l = go holds (told_run relation a o holds (Goes (condition relation) (AtPlace s.current.routine k') ∷ []) _ temporaries so ra ro e l)
+      by None is l = go holds (told_run relation a o holds
+          (Goes (condition relation) (AtPlace s.current.routine k') ∷ []) _ temporaries so ra ro e l)
 
-  pub forward_branch_follows : (relation : Relation) (a : ℕ) (o : Operand) (n : ℕ) (holds : Bool) → fetch c.code s.current.routine s.current.place ≡ Some (Branch relation a o n) → related relation (s.current.temporaries a) (operand_value s.current.temporaries o) ≡ Some holds → Comes c words s (record s { current = record s.current { place = cond holds (suc s.current.place + n) (suc s.current.place) } }) m
+  pub forward_branch_follows : (relation : Relation) (a : ℕ) (o : Operand) (n : ℕ) (holds : Bool)
+      → fetch c.code s.current.routine s.current.place ≡ Some (Branch relation a o n) → related relation
+      (s.current.temporaries a) (operand_value s.current.temporaries o) ≡ Some holds → Comes c words s
+      (record s { current = record s.current { place = cond holds (suc s.current.place + n) (suc s.current.place) } }) m
   forward_branch_follows relation a o n holds here e =
       let r = s.current.routine in
       let k = s.current.place in
       let i = Branch relation a o n in
       let so = fetched_is c words b r k i here in
-      branch_follows i relation a o (suc k + n) _ holds (passes c r k i here (suc k + n) refl (among_rest (suc k + n) (suc k) ((suc k + n) ∷ []) (among_first (suc k + n) []))) (passes c r k i here (suc k) refl (among_first (suc k) ((suc k + n) ∷ []))) (b.stood.within r (suc k + n) so.routine so.is so.sound.2) so.sound.1 (is_read c r k i here a (among_first a (in_operand o))) (λ t et. is_read c r k i here t (among_rest t a (in_operand o) et)) e (code c words b p s f m v sh be i here)
+      branch_follows i relation a o (suc k + n) _ holds
+      (passes c r k i here (suc k + n) refl (among_rest (suc k + n) (suc k) ((suc k + n) ∷ [])
+      (among_first (suc k + n) []))) (passes c r k i here (suc k) refl (among_first (suc k) ((suc k + n) ∷ [])))
+      (b.stood.within r (suc k + n) so.routine so.is so.sound.2) so.sound.1
+      (is_read c r k i here a (among_first a (in_operand o)))
+      (λ t et. is_read c r k i here t (among_rest t a (in_operand o) et)) e (code c words b p s f m v sh be i here)
 
-  pub back_branch_follows : (relation : Relation) (a : ℕ) (o : Operand) (n : ℕ) (holds : Bool) → fetch c.code s.current.routine s.current.place ≡ Some (BranchBack relation a o n) → related relation (s.current.temporaries a) (operand_value s.current.temporaries o) ≡ Some holds → Comes c words s (record s { current = record s.current { place = cond holds (s.current.place - n) (suc s.current.place) } }) m
+  pub back_branch_follows : (relation : Relation) (a : ℕ) (o : Operand) (n : ℕ) (holds : Bool)
+      → fetch c.code s.current.routine s.current.place ≡ Some (BranchBack relation a o n) → related relation
+      (s.current.temporaries a) (operand_value s.current.temporaries o) ≡ Some holds → Comes c words s
+      (record s { current = record s.current { place = cond holds (s.current.place - n) (suc s.current.place) } }) m
   back_branch_follows relation a o n holds here e =
       let r = s.current.routine in
       let k = s.current.place in
       let i = BranchBack relation a o n in
       let so = fetched_is c words b r k i here in
       let lt = get_within so.routine.body k i so.body in
-      branch_follows i relation a o (k - n) _ holds (passes c r k i here (k - n) refl (among_rest (k - n) (suc k) ((k - n) ∷ []) (among_first (k - n) []))) (passes c r k i here (suc k) refl (among_first (suc k) ((k - n) ∷ []))) (b.stood.within r (k - n) so.routine so.is (omega (arith, lt))) so.sound.1 (is_read c r k i here a (among_first a (in_operand o))) (λ t et. is_read c r k i here t (among_rest t a (in_operand o) et)) e (code c words b p s f m v sh be i here)
+      branch_follows i relation a o (k - n) _ holds
+      (passes c r k i here (k - n) refl (among_rest (k - n) (suc k) ((k - n) ∷ []) (among_first (k - n) [])))
+      (passes c r k i here (suc k) refl (among_first (suc k) ((k - n) ∷ [])))
+      (b.stood.within r (k - n) so.routine so.is (omega (arith, lt))) so.sound.1
+      (is_read c r k i here a (among_first a (in_operand o)))
+      (λ t et. is_read c r k i here t (among_rest t a (in_operand o) et)) e (code c words b p s f m v sh be i here)
 
   -- ---- the relation as a value
 
@@ -262,17 +361,27 @@ module _ (c : Context) (words : List ℕ) (b : Built c words) (p : Places) (s : 
 
   abbrev rest : Relation → ℕ → List Piece
   rest relation t =
-      skip (condition relation) 2 ∷ Plain (word.Move (target c s.current.routine (home c s.current.routine t)) (instr_operand.Constant (pos 0))) ∷ skip on.Always 1 ∷ Plain (word.Move (target c s.current.routine (home c s.current.routine t)) (instr_operand.Constant (pos 1))) ∷ save c s.current.routine (home c s.current.routine t)
+      skip (condition relation) 2 ∷ Plain (word.Move (target c s.current.routine (home c s.current.routine t))
+      (instr_operand.Constant (pos 0))) ∷ skip on.Always 1 ∷ Plain
+      (word.Move (target c s.current.routine (home c s.current.routine t)) (instr_operand.Constant (pos 1)))
+      ∷ save c s.current.routine (home c s.current.routine t)
 
-  truth_follows : (relation : Relation) (t a : ℕ) (o : Operand) (holds : Bool) → fetch c.code s.current.routine s.current.place ≡ Some (Compare relation t a o) → related relation (s.current.temporaries a) (operand_value s.current.temporaries o) ≡ Some holds → Left c words v.place (form.truth_form c s.current.routine relation t a o) (c.site s.current.routine (suc s.current.place)) → Comes c words s (record s { current = giving t (Number (truth holds)) s.current }) m
+  truth_follows : (relation : Relation) (t a : ℕ) (o : Operand) (holds : Bool)
+      → fetch c.code s.current.routine s.current.place ≡ Some (Compare relation t a o) → related relation
+      (s.current.temporaries a) (operand_value s.current.temporaries o) ≡ Some holds → Left c words v.place
+      (form.truth_form c s.current.routine relation t a o) (c.site s.current.routine (suc s.current.place))
+      → Comes c words s (record s { current = giving t (Number (truth holds)) s.current }) m
   truth_follows relation t a o holds here e l =
       let r = s.current.routine in
       let k = s.current.place in
       let i = Compare relation t a o in
       let so = fetched_is c words b r k i here in
-      go holds (told_run relation a o holds (rest relation t) _ _ so.sound.2 (is_read c r k i here a (among_first a (in_operand o))) (λ t et. is_read c r k i here t (among_rest t a (in_operand o) et)) e l)
+      go holds (told_run relation a o holds (rest relation t) _ _ so.sound.2
+      (is_read c r k i here a (among_first a (in_operand o)))
+      (λ t et. is_read c r k i here t (among_rest t a (in_operand o) et)) e l)
     where
-      go : (h : Bool) → Told relation a o h (rest relation t) (c.site s.current.routine (suc s.current.place)) → Comes c words s (record s { current = giving t (Number (truth h)) s.current }) m
+      go : (h : Bool) → Told relation a o h (rest relation t) (c.site s.current.routine (suc s.current.place))
+          → Comes c words s (record s { current = giving t (Number (truth h)) s.current }) m
       go true w =
           let r = s.current.routine in
           let hd = target c r (home c r t) in
@@ -280,13 +389,22 @@ module _ (c : Context) (words : List ℕ) (b : Built c words) (p : Places) (s : 
           let v1 = w.view in
           let t2 = skip_run c words b (condition relation) 2 _ _ w.way.to v1 w.way.shows w.left w.flag (omega arith) in
           let v2 = at_view (v1.place + 1 + 2) v1 in
-          let l4 = left_next c words (v1.place + 1 + 1) _ _ _ (left_next c words (v1.place + 1) _ _ _ (left_next c words v1.place _ _ _ w.left)) in
+          let l4 = left_next c words (v1.place + 1 + 1) _ _ _
+          (left_next c words (v1.place + 1) _ _ _ (left_next c words v1.place _ _ _ w.left)) in
           let l4' = left_at c words _ v2.place _ _ l4 (omega arith) in
           let i3 = word.Move hd (instr_operand.Constant (pos 1)) in
           let t3 = step_to c words b.stood i3 t2.to v2 t2.shows l4'.stands.0 tt in
           let v3 = after i3 v2 in
           let l5 = left_next c words v2.place _ _ _ l4' in
-          come_way c words b s s' m v1 w.way (come_to c words b s s' w.way.to same_tape v2 t2 refl (arrive_to c words b s' t2.to v3 t3 (gives_end c words b p s (machine_of v) f t (Number (pos 1)) t3.to v3 be.related be.input (writes_it c r s.current.place (Compare relation t a o) here t refl refl) (silent c r s.current.place (Compare relation t a o) here refl) (number_is true) t3.shows (record { here = update_same v2.registers hd _; registers = λ q n12 n15 nd. update_other v2.registers hd _ q nd ∙ w.near.registers q n12 n15; words = w.near.words }) l5)))
+          come_way c words b s s' m v1 w.way (come_to c words b s s' w.way.to same_tape v2 t2 refl
+          (arrive_to c words b s' t2.to v3 t3 (gives_end c words b p s (machine_of v) f t
+          (Number (pos 1)) t3.to v3 be.related be.input
+          (writes_it c r s.current.place (Compare relation t a o) here t refl refl)
+          (silent c r s.current.place (Compare relation t a o) here refl) (number_is true) t3.shows (record {
+            here = update_same v2.registers hd _;
+            registers = λ q n12 n15 nd. update_other v2.registers hd _ q nd ∙ w.near.registers q n12 n15;
+            words = w.near.words;
+          }) l5)))
       go false w =
           let r = s.current.routine in
           let hd = target c r (home c r t) in
@@ -302,28 +420,42 @@ module _ (c : Context) (words : List ℕ) (b : Built c words) (p : Places) (s : 
           let t4 = skip_run c words b on.Always 1 _ _ t3.to v3 t3.shows l3 refl (omega arith) in
           let v4 = at_view (v3.place + 1 + 1) v3 in
           let l5 = left_next c words (v3.place + 1) _ _ _ (left_next c words v3.place _ _ _ l3) in
-          come_way c words b s s' m v1 w.way (come_to c words b s s' w.way.to same_tape v2 t2 refl (arrive_to c words b s' t2.to v3 t3 (arrive_to c words b s' t3.to v4 t4 (gives_end c words b p s (machine_of v) f t (Number (pos 0)) t4.to v4 be.related be.input (writes_it c r s.current.place (Compare relation t a o) here t refl refl) (silent c r s.current.place (Compare relation t a o) here refl) (number_is false) t4.shows (record { here = update_same v2.registers hd _; registers = λ q n12 n15 nd. update_other v2.registers hd _ q nd ∙ w.near.registers q n12 n15; words = w.near.words }) l5))))
+          come_way c words b s s' m v1 w.way (come_to c words b s s' w.way.to same_tape v2 t2 refl
+          (arrive_to c words b s' t2.to v3 t3 (arrive_to c words b s' t3.to v4 t4
+          (gives_end c words b p s (machine_of v) f t (Number (pos 0)) t4.to v4 be.related be.input
+          (writes_it c r s.current.place (Compare relation t a o) here t refl refl)
+          (silent c r s.current.place (Compare relation t a o) here refl) (number_is false) t4.shows (record {
+            here = update_same v2.registers hd _;
+            registers = λ q n12 n15 nd. update_other v2.registers hd _ q nd ∙ w.near.registers q n12 n15;
+            words = w.near.words;
+          }) l5))))
 
   -- ---- two values that differ
 
-  -- the register of a result holds a difference, whose flag tells whether it is 0
+  -- the register of a result holds a difference, whose flag shows whether it is 0
   record Unlike (t : ℕ) (holds : Bool) : Type 0 where
     view : View
     way : Way words c.size m same_tape view
-    registers : (q : ℕ) → q ≢ 12 → q ≢ 15 → q ≢ target c s.current.routine (home c s.current.routine t) → view.registers q ≡ v.registers q
+    registers : (q : ℕ) → q ≢ 12 → q ≢ 15 → q ≢ target c s.current.routine (home c s.current.routine t)
+        → view.registers q ≡ v.registers q
     memory : (x : ℕ) → view.words x ≡ v.words x
     zero : view.equal ≡ nat_eq (view.registers (target c s.current.routine (home c s.current.routine t))) 0
     flag : not view.equal ≡ holds
     left : Left c words view.place (form.unlike c s.current.routine t) (c.site s.current.routine (suc s.current.place))
 
-  -- it stands there already
-  own_run : (t a : ℕ) (o : Operand) (holds : Bool) → form.is_own c s.current.routine (told_at c s.current.routine s.current.place) t a o ≡ true → reads c s.current.routine s.current.place a ≡ true → related NotEqual (s.current.temporaries a) (operand_value s.current.temporaries o) ≡ Some holds → Left c words v.place (form.unlike c s.current.routine t) (c.site s.current.routine (suc s.current.place)) → Unlike t holds
+  -- it is already there
+  own_run : (t a : ℕ) (o : Operand) (holds : Bool) → form.is_own c s.current.routine
+      (told_at c s.current.routine s.current.place) t a o ≡ true → reads c s.current.routine s.current.place a ≡ true
+      → related NotEqual (s.current.temporaries a) (operand_value s.current.temporaries o) ≡ Some holds
+      → Left c words v.place (form.unlike c s.current.routine t) (c.site s.current.routine (suc s.current.place))
+      → Unlike t holds
   own_run t a o holds own ra e l =
       let r = s.current.routine in
       let told = told_at c r s.current.place in
       let k = parts (form.is_told c r told a) (nat_eq t a) (is_null o) own in
       let stood = told_stands a k.0 in
-      let d : target c r (home c r t) ≡ stood.0 = ap (λ u. target c r (home c r u)) (eq_of t a k.1) ∙ ap (target c r) stood.1 in
+      let d : target c r (home c r t) ≡ stood.0 = ap (λ u. target c r (home c r u)) (eq_of t a k.1)
+      ∙ ap (target c r) stood.1 in
       record {
         view = v;
         way = way_here words c.size m v sh;
@@ -346,7 +478,13 @@ module _ (c : Context) (words : List ℕ) (b : Built c words) (p : Places) (s : 
       chosen false z ex ez = absurd (cc ex)
 
   -- or is made there
-  made_run : (t a : ℕ) (o : Operand) (holds : Bool) (temporaries : ℕ) → IsOperand temporaries o → reads c s.current.routine s.current.place a ≡ true → ((t : ℕ) → is_among t (in_operand o) ≡ true → reads c s.current.routine s.current.place t ≡ true) → related NotEqual (s.current.temporaries a) (operand_value s.current.temporaries o) ≡ Some holds → Left c words v.place (both c s.current.routine a o (form.operate c s.current.routine op.Sub (home c s.current.routine t) a o ∷ form.unlike c s.current.routine t)) (c.site s.current.routine (suc s.current.place)) → Unlike t holds
+  made_run : (t a : ℕ) (o : Operand) (holds : Bool) (temporaries : ℕ) → IsOperand temporaries o
+      → reads c s.current.routine s.current.place a ≡ true
+      → ((t : ℕ) → is_among t (in_operand o) ≡ true → reads c s.current.routine s.current.place t ≡ true)
+      → related NotEqual (s.current.temporaries a) (operand_value s.current.temporaries o) ≡ Some holds
+      → Left c words v.place (both c s.current.routine a o
+      (form.operate c s.current.routine op.Sub (home c s.current.routine t) a o ∷ form.unlike c s.current.routine t))
+      (c.site s.current.routine (suc s.current.place)) → Unlike t holds
   made_run t a o holds temporaries so ra ro e l =
       let r = s.current.routine in
       let d = target c r (home c r t) in
@@ -354,14 +492,18 @@ module _ (c : Context) (words : List ℕ) (b : Built c words) (p : Places) (s : 
       let xs = both_there NotEqual (s.current.temporaries a) (operand_value s.current.temporaries o) holds e in
       let x = xs.first in
       let y = xs.second in
-      let e' : related NotEqual (Some x) (Some y) ≡ Some holds = ap (λ z. related NotEqual (Some x) z) (sym xs.is_second) ∙ ap (λ z. related NotEqual z (operand_value s.current.temporaries o)) (sym xs.is) ∙ e in
+      let e' : related NotEqual (Some x) (Some y) ≡ Some holds = ap (λ z. related NotEqual (Some x) z)
+      (sym xs.is_second) ∙ ap (λ z. related NotEqual z (operand_value s.current.temporaries o)) (sym xs.is) ∙ e in
       let i = word.Operate op.Sub d (fetched c r 12 (home c r a)) (right_operand c r o) in
       let ps = form.unlike c r t in
-      let g = two_run c words b p s f m v sh be a o x y (Plain i ∷ ps) next (right_sound temporaries o so) ra ro xs.is xs.is_second l in
+      let g = two_run c words b p s f m v sh be a o x y (Plain i ∷ ps) next
+      (right_sound temporaries o so) ra ro xs.is xs.is_second l in
       let v1 = g.view in
-      let l0 = subst (λ q. Left c words v.place q next) (sym (append_assoc (form.fetch c r 12 (home c r a)) (right c r o) (Plain i ∷ ps))) l in
+      let l0 = subst (λ q. Left c words v.place q next)
+      (sym (append_assoc (form.fetch c r 12 (home c r a)) (right c r o) (Plain i ∷ ps))) l in
       let len = length-append (form.fetch c r 12 (home c r a)) (right c r o) in
-      let l1 = left_after c words v.place v1.place next (form.fetch c r 12 (home c r a) ++ right c r o) (Plain i ∷ ps) l0 (omega (arith, g.place, len)) in
+      let l1 = left_after c words v.place v1.place next (form.fetch c r 12 (home c r a) ++ right c r o)
+      (Plain i ∷ ps) l0 (omega (arith, g.place, len)) in
       let t2 = step_to c words b.stood i g.way.to v1 g.way.shows l1.stands.0 tt in
       record {
         view = after i v1;
@@ -369,11 +511,14 @@ module _ (c : Context) (words : List ℕ) (b : Built c words) (p : Places) (s : 
         registers = λ q n12 n15 nd. update_other v1.registers d _ q nd ∙ g.near.registers q n12 n15;
         memory = g.near.words;
         zero = ap (λ n. nat_eq n 0) (sym (update_same v1.registers d _));
-        flag = related_flags c b.laid p s v.words f be.related.held NotEqual x y holds d (fetched c r 12 (home c r a)) (right_operand c r o) v1 g.good g.good_right g.left g.right e';
+        flag = related_flags c b.laid p s v.words f be.related.held NotEqual x y holds d (fetched c r 12 (home c r a))
+            (right_operand c r o) v1 g.good g.good_right g.left g.right e';
         left = left_next c words v1.place next (Plain i) ps l1;
       }
 
-  unlike_by : (t : ℕ) (h : Bool) (i : Instruction) → fetch c.code s.current.routine s.current.place ≡ Some i → Writes c s.current.routine s.current.place t → is_silent i ≡ true → Unlike t h → Comes c words s (record s { current = giving t (Number (truth h)) s.current }) m
+  unlike_by : (t : ℕ) (h : Bool) (i : Instruction) → fetch c.code s.current.routine s.current.place ≡ Some i
+      → Writes c s.current.routine s.current.place t → is_silent i ≡ true → Unlike t h → Comes c words s
+      (record s { current = giving t (Number (truth h)) s.current }) m
   unlike_by t true i here writes none w =
       let r = s.current.routine in
       let d = target c r (home c r t) in
@@ -386,7 +531,14 @@ module _ (c : Context) (words : List ℕ) (b : Built c words) (p : Places) (s : 
       let t3 = step_to c words b.stood i3 t2.to v2 t2.shows l2.stands.0 tt in
       let v3 = after i3 v2 in
       let l3 = left_next c words v2.place _ _ _ l2 in
-      come_way c words b s s' m v1 w.way (come_to c words b s s' w.way.to same_tape v2 t2 refl (arrive_to c words b s' t2.to v3 t3 (gives_end c words b p s (machine_of v) f t (Number (pos 1)) t3.to v3 be.related be.input writes (silent c r s.current.place i here none) (number_is true) t3.shows (record { here = update_same v2.registers d _; registers = λ q n12 n15 nd. update_other v2.registers d _ q nd ∙ w.registers q n12 n15 nd; words = w.memory }) l3)))
+      come_way c words b s s' m v1 w.way (come_to c words b s s' w.way.to same_tape v2 t2 refl
+      (arrive_to c words b s' t2.to v3 t3 (gives_end c words b p s (machine_of v) f t
+      (Number (pos 1)) t3.to v3 be.related be.input writes (silent c r s.current.place i here none)
+      (number_is true) t3.shows (record {
+        here = update_same v2.registers d _;
+        registers = λ q n12 n15 nd. update_other v2.registers d _ q nd ∙ w.registers q n12 n15 nd;
+        words = w.memory;
+      }) l3)))
     where
       unequal : (z : Bool) → not z ≡ true → z ≡ false
       unequal true e = absurd (cc e)
@@ -400,30 +552,47 @@ module _ (c : Context) (words : List ℕ) (b : Built c words) (p : Places) (s : 
       let t2 = skip_run c words b on.Equal 1 _ _ w.way.to v1 w.way.shows w.left same (omega arith) in
       let v2 = at_view (v1.place + 1 + 1) v1 in
       let l2 = left_next c words (v1.place + 1) _ _ _ (left_next c words v1.place _ _ _ w.left) in
-      come_way c words b s s' m v1 w.way (come_to c words b s s' w.way.to same_tape v2 t2 refl (gives_end c words b p s (machine_of v) f t (Number (pos 0)) t2.to v2 be.related be.input writes (silent c r s.current.place i here none) (number_is false) t2.shows (record { here = eq_of (v1.registers d) 0 (sym w.zero ∙ same); registers = w.registers; words = w.memory }) l2))
+      come_way c words b s s' m v1 w.way (come_to c words b s s' w.way.to same_tape v2 t2 refl
+      (gives_end c words b p s (machine_of v) f t (Number (pos 0)) t2.to v2 be.related be.input writes
+      (silent c r s.current.place i here none) (number_is false) t2.shows (record {
+        here = eq_of (v1.registers d) 0 (sym w.zero ∙ same);
+        registers = w.registers;
+        words = w.memory;
+      }) l2))
     where
       equal : (z : Bool) → not z ≡ false → z ≡ true
       equal true e = refl
       equal false e = absurd (cc e)
 
-  unlike_follows : (t a : ℕ) (o : Operand) (holds : Bool) → fetch c.code s.current.routine s.current.place ≡ Some (Compare NotEqual t a o) → related NotEqual (s.current.temporaries a) (operand_value s.current.temporaries o) ≡ Some holds → Comes c words s (record s { current = giving t (Number (truth holds)) s.current }) m
+  unlike_follows : (t a : ℕ) (o : Operand) (holds : Bool) → fetch c.code s.current.routine s.current.place ≡ Some
+      (Compare NotEqual t a o) → related NotEqual (s.current.temporaries a) (operand_value s.current.temporaries o)
+      ≡ Some holds → Comes c words s (record s { current = giving t (Number (truth holds)) s.current }) m
   unlike_follows t a o holds here e =
       let r = s.current.routine in
       let k = s.current.place in
       let i = Compare NotEqual t a o in
-      unlike_by t holds i here (writes_it c r k i here t refl refl) refl (go (form.is_own c r (told_at c r k) t a o) refl (code c words b p s f m v sh be i here))
+      unlike_by t holds i here (writes_it c r k i here t refl refl) refl
+      (go (form.is_own c r (told_at c r k) t a o) refl (code c words b p s f m v sh be i here))
     where
-      go : (own : Bool) → form.is_own c s.current.routine (told_at c s.current.routine s.current.place) t a o ≡ own → Left c words v.place (cond own (form.unlike c s.current.routine t) (both c s.current.routine a o (form.operate c s.current.routine op.Sub (home c s.current.routine t) a o ∷ form.unlike c s.current.routine t))) (c.site s.current.routine (suc s.current.place)) → Unlike t holds
+      go : (own : Bool) → form.is_own c s.current.routine (told_at c s.current.routine s.current.place) t a o ≡ own
+          → Left c words v.place (cond own (form.unlike c s.current.routine t)
+          (both c s.current.routine a o (form.operate c s.current.routine op.Sub (home c s.current.routine t) a o
+          ∷ form.unlike c s.current.routine t))) (c.site s.current.routine (suc s.current.place)) → Unlike t holds
       go true own l =
-          own_run t a o holds own (is_read c s.current.routine s.current.place (Compare NotEqual t a o) here a (among_first a (in_operand o))) e l
+          own_run t a o holds own (is_read c s.current.routine s.current.place (Compare NotEqual t a o) here a
+          (among_first a (in_operand o))) e l
       go false own l =
           let r = s.current.routine in
           let k = s.current.place in
           let i = Compare NotEqual t a o in
           let so = fetched_is c words b r k i here in
-          made_run t a o holds _ so.sound.2 (is_read c r k i here a (among_first a (in_operand o))) (λ t et. is_read c r k i here t (among_rest t a (in_operand o) et)) e l
+          made_run t a o holds _ so.sound.2 (is_read c r k i here a (among_first a (in_operand o)))
+          (λ t et. is_read c r k i here t (among_rest t a (in_operand o) et)) e l
 
-  pub compare_follows : (relation : Relation) (t a : ℕ) (o : Operand) (holds : Bool) → fetch c.code s.current.routine s.current.place ≡ Some (Compare relation t a o) → related relation (s.current.temporaries a) (operand_value s.current.temporaries o) ≡ Some holds → Comes c words s (record s { current = giving t (Number (truth holds)) s.current }) m
+  pub compare_follows : (relation : Relation) (t a : ℕ) (o : Operand) (holds : Bool)
+      → fetch c.code s.current.routine s.current.place ≡ Some (Compare relation t a o) → related relation
+      (s.current.temporaries a) (operand_value s.current.temporaries o) ≡ Some holds → Comes c words s
+      (record s { current = giving t (Number (truth holds)) s.current }) m
   compare_follows NotEqual t a o holds here e = unlike_follows t a o holds here e
   compare_follows Equal t a o holds here e =
       truth_follows Equal t a o holds here e (code c words b p s f m v sh be (Compare Equal t a o) here)

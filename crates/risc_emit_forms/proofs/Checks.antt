@@ -1,5 +1,7 @@
 -- Ranges and pointers checked by their words.
-use Rattle.std.proofs.Common.{◌≡◌, ◌≢◌, ℕ, zero, suc, ◌+◌, ◌<◌, ◌≤◌, inr, Bool, true, false, cond, not, ◌&&◌, nat_eq, nat_lt, List, [], ◌∷◌, ◌++◌, length, take, Option, Some, None, ℤ, pos, negsuc, ◌-ℤ◌, refl, sym, ap, ◌∙◌, subst, arith, append_assoc}
+use Rattle.std.proofs.Common.{◌≡◌, ◌≢◌, ℕ, zero, suc, ◌+◌, ◌<◌, ◌≤◌, inr, Bool, true, false, cond, not, ◌&&◌, nat_eq}
+use Rattle.std.proofs.Common.{nat_lt, List, [], ◌∷◌, ◌++◌, length, take, Option, Some, None, ℤ, pos, negsuc, ◌-ℤ◌}
+use Rattle.std.proofs.Common.{refl, sym, ap, ◌∙◌, subst, arith, append_assoc}
 use Rattle.std.specs.Prelude.{int_lt, ◌≤ℤ◌, ◌<ℤ◌}
 use Rattle.std.proofs.lemmas.Int.{ints}
 use Rattle.std.proofs.lemmas.Bool.{ltb-true}
@@ -29,11 +31,13 @@ use Rattle.risc_emit_forms.specs.Pieces as piece
 use Rattle.risc_emit_forms.specs.Pieces.{Piece, Plain, Left}
 use Rattle.risc_emit_forms.specs.Told.{told_at}
 use Rattle.risc_emit_forms.specs.Forms as form
-use Rattle.risc_emit_forms.specs.Forms.{exact, fetched, right, right_operand, bring, above, above_register, at_most, range_code}
+use Rattle.risc_emit_forms.specs.Forms.{exact, fetched, right, right_operand, bring, above, above_register, at_most}
+use Rattle.risc_emit_forms.specs.Forms.{range_code}
 use Rattle.risc_emit_forms.specs.Follows.{machine_of, Built, Belongs, Stops, Follows}
 use Rattle.risc_emit_forms.proofs.Basics.{left_after, left_next, is_read, passes, among_first, integer_is}
 use Rattle.risc_emit_forms.proofs.Runs.{step_to, exact_run, fetched_not, right_run}
-use Rattle.risc_emit_forms.proofs.Comes.{failing, framed, left_whole, fetched_is, come_to, stop_to, stop_way, fails_not, fails_walked, walk_near, goes_end}
+use Rattle.risc_emit_forms.proofs.Comes.{failing, framed, left_whole, fetched_is, come_to, stop_to, stop_way}
+use Rattle.risc_emit_forms.proofs.Comes.{fails_not, fails_walked, walk_near, goes_end}
 use Rattle.risc_emit_forms.proofs.Operands.{code, stands_in, one_run, brought_run}
 use Rattle.risc_emit_forms.proofs.Branches.{told_stands}
 use Rattle.risc_emit_forms.proofs.Compares.{not_not, pointer_word, points, object_high}
@@ -45,7 +49,7 @@ is_less x y h = grind arith
 is_not_less : (x y : ℕ) → y ≤ x → nat_lt x y ≡ false
 is_not_less x y h = grind arith
 
--- how far a number lies above another one
+-- how far a number is above another one
 natural_is : (z : ℤ) → pos 0 ≤ℤ z → pos (natural z) ≡ z
 natural_is (pos n) h = refl
 natural_is (negsuc n) h = omega (arith, ints, h)
@@ -59,11 +63,14 @@ not_below low x e = grind (arith, ints)
 below : (low x : ℤ) → int_lt x low ≡ true → x <ℤ low
 below low x e = grind (arith, ints)
 
--- above the highest number are more steps than the range has, and below the lowest one too, without a sign
-span_test : (low high x : ℤ) → IsNumber low → IsNumber high → IsNumber x → int_lt high low ≡ false → nat_lt (steps_above low high) (difference_of (word_of x) (word_of low)) ≡ not (is_in_range low high x)
-span_test low high x hl hh hx e = go (steps_above low high) (steps_are low high (not_below low high e)) (int_lt x low) (int_lt high x) refl refl
+-- above the highest number are more steps than the range has, and below the lowest one too, unsigned
+span_test : (low high x : ℤ) → IsNumber low → IsNumber high → IsNumber x → int_lt high low ≡ false → nat_lt
+    (steps_above low high) (difference_of (word_of x) (word_of low)) ≡ not (is_in_range low high x)
+span_test low high x hl hh hx e = go (steps_above low high) (steps_are low high (not_below low high e)) (int_lt x low)
+    (int_lt high x) refl refl
   where
-    go : (n : ℕ) → pos n ≡ high -ℤ low → (a b : Bool) → int_lt x low ≡ a → int_lt high x ≡ b → nat_lt n (difference_of (word_of x) (word_of low)) ≡ not (not a && not b)
+    go : (n : ℕ) → pos n ≡ high -ℤ low → (a b : Bool) → int_lt x low ≡ a → int_lt high x ≡ b → nat_lt n
+        (difference_of (word_of x) (word_of low)) ≡ not (not a && not b)
     go n is true b ea eb = let h = below low x ea in is_less n _ (omega (arith, ints, is, h, hl, hh, hx))
     go n is false true ea eb =
         let g = not_below low x ea in
@@ -102,11 +109,14 @@ module _ (c : Context) (words : List ℕ) (b : Built c words) (p : Places) (s : 
   e14_of : (v : View) → Near m0 (machine_of v) → v.registers 14 ≡ f
   e14_of v near = near.registers 14 (omega arith) (omega arith) ∙ related.stack
 
-  walks : (v w : View) → Near m0 (machine_of v) → w.registers 14 ≡ v.registers 14 → ((y : ℕ) → w.words y ≡ v.words y) → walk c.line c.size 16 w.words (w.registers 14) ≡ take 16 (open_calls (length c.code.program) s.current s.callers)
+  walks : (v w : View) → Near m0 (machine_of v) → w.registers 14 ≡ v.registers 14 → ((y : ℕ) → w.words y ≡ v.words y)
+      → walk c.line c.size 16 w.words (w.registers 14) ≡ take 16
+      (open_calls (length c.code.program) s.current s.callers)
   walks v w near same mem =
-      walk_near c words b p s m0 f w related (same ∙ near.registers 14 (omega arith) (omega arith)) (λ y. mem y ∙ near.words y)
+      walk_near c words b p s m0 f w related (same ∙ near.registers 14 (omega arith) (omega arith))
+      (λ y. mem y ∙ near.words y)
 
-  -- ---- how far a number lies above the lowest one
+  -- ---- how far a number is above the lowest one
 
   record Above (a : ℕ) (low x : ℤ) (ps : List Piece) (next : ℕ) (m : machine.State) (v : View) : Type 0 where
     view : View
@@ -120,10 +130,15 @@ module _ (c : Context) (words : List ℕ) (b : Built c words) (p : Places) (s : 
   zero_steps (pos (suc n)) x e hx = absurd (cc e)
   zero_steps (negsuc n) x e hx = absurd (cc e)
 
-  above_run : (a : ℕ) (low x : ℤ) (ps : List Piece) (next : ℕ) (m : machine.State) (v : View) → Shows words c.size m v → a ≢ 15 → v.registers 14 ≡ f → IsNumber low → IsNumber x → v.registers a ≡ word_of x → Left c words v.place (above c s.current.routine a low ++ ps) next → Above a low x ps next m v
+  above_run : (a : ℕ) (low x : ℤ) (ps : List Piece) (next : ℕ) (m : machine.State) (v : View) → Shows words c.size m v
+      → a ≢ 15 → v.registers 14 ≡ f → IsNumber low → IsNumber x → v.registers a ≡ word_of x → Left c words v.place
+      (above c s.current.routine a low ++ ps) next → Above a low x ps next m v
   above_run a low x ps next m v sh n15 e14 hl hx ex l = go (is_zero low) refl l
     where
-      go : (none : Bool) → is_zero low ≡ none → Left c words v.place (cond none [] (right c s.current.routine (operand.Number low) ++ (Plain (word.Operate op.Sub 12 a (right_operand c s.current.routine (operand.Number low))) ∷ [])) ++ ps) next → Above a low x ps next m v
+      go : (none : Bool) → is_zero low ≡ none → Left c words v.place
+          (cond none [] (right c s.current.routine (operand.Number low)
+          ++ (Plain (word.Operate op.Sub 12 a (right_operand c s.current.routine (operand.Number low))) ∷ [])) ++ ps)
+          next → Above a low x ps next m v
       go true e l =
           record {
             view = v;
@@ -146,39 +161,67 @@ module _ (c : Context) (words : List ℕ) (b : Built c words) (p : Places) (s : 
           record {
             view = v2;
             way = way_of words c.size m same_tape v2 (way_to words c.size m same_tape same_tape v1 v2 g.way t2);
-            value = ap (λ t. v2.registers (cond t a 12)) e ∙ update_same v1.registers 12 _ ∙ ap (λ y. difference_of y (operand_view v1 (right_operand c r o))) (g.moved.registers a n15 ∙ ex) ∙ ap (difference_of (word_of x)) g.value;
-            near = record { registers = λ q n12 n15'. update_other v1.registers 12 _ q n12 ∙ g.moved.registers q n15'; words = g.moved.words };
+            value = ap (λ t. v2.registers (cond t a 12)) e ∙ update_same v1.registers 12 _
+                ∙ ap (λ y. difference_of y (operand_view v1 (right_operand c r o))) (g.moved.registers a n15 ∙ ex)
+                ∙ ap (difference_of (word_of x)) g.value;
+            near = record {
+              registers = λ q n12 n15'. update_other v1.registers 12 _ q n12 ∙ g.moved.registers q n15';
+              words = g.moved.words;
+            };
             left = left_next c words v1.place next (Plain i) ps l1;
           }
 
-  -- ---- a comparison without a sign
+  -- ---- an unsigned comparison
 
-  -- the run goes on behind it, or it stops
+  -- the run goes on after it, or it stops
   record Compared (error line : ℕ) (ps : List Piece) (next : ℕ) (inside : Bool) (m : machine.State) (v : View) : Type 0 where
-    goes : inside ≡ true → (w : View) × (t : To words c.size m same_tape w) × ((q : ℕ) → q ≢ 15 → w.registers q ≡ v.registers q) × ((y : ℕ) → w.words y ≡ v.words y) × Left c words w.place ps next
+    goes : inside ≡ true → (w : View) × (t : To words c.size m same_tape w)
+        × ((q : ℕ) → q ≢ 15 → w.registers q ≡ v.registers q) × ((y : ℕ) → w.words y ≡ v.words y)
+        × Left c words w.place ps next
     stops : inside ≡ false → Stops c words s m (failing c s error line)
 
-  -- behind a subtraction into R15
-  borrowed : (condition : _) (error line : ℕ) (ps : List Piece) (next : ℕ) (inside : Bool) (m : machine.State) (v w : View) (t : To words c.size m same_tape w) → Near m0 (machine_of v) → ((q : ℕ) → q ≢ 15 → w.registers q ≡ v.registers q) → ((y : ℕ) → w.words y ≡ v.words y) → Left c words w.place (piece.Fails condition error line ∷ ps) next → holds_view w condition ≡ not inside → Compared error line ps next inside m v
+  -- after a subtraction into R15
+  borrowed : (condition : _) (error line : ℕ) (ps : List Piece) (next : ℕ) (inside : Bool) (m : machine.State)
+      (v w : View) (t : To words c.size m same_tape w) → Near m0 (machine_of v)
+      → ((q : ℕ) → q ≢ 15 → w.registers q ≡ v.registers q) → ((y : ℕ) → w.words y ≡ v.words y) → Left c words w.place
+      (piece.Fails condition error line ∷ ps) next → holds_view w condition ≡ not inside
+      → Compared error line ps next inside m v
   borrowed condition error line ps next inside m v w t near regs mem l holds =
       record {
         goes = λ e.
             let t2 = fails_not c words b condition error line ps next t.to w t.shows l (holds ∙ ap not e) in
-            let w2 = at_view (w.place + 1) w in
-            (w2, to_join words c.size m same_tape same_tape w w2 t t2, regs, mem, left_next c words w.place next _ ps l);
-        stops = λ e. stop_to c words b s m (failing c s error line) w t (fails_walked c words b s condition error line ps next t.to w (walks v w near (regs 14 (omega arith)) mem) t.shows l (holds ∙ ap not e));
+            let w2 = at_view (w.place + 1) w in (
+              w2,
+              to_join words c.size m same_tape same_tape w w2 t t2,
+              regs,
+              mem,
+              left_next c words w.place next _ ps
+                  l,
+            );
+        stops = λ e. stop_to c words b s m (failing c s error line) w t
+            (fails_walked c words b s condition error line ps next t.to w
+            (walks v w near (regs 14 (omega arith)) mem) t.shows l (holds ∙ ap not e));
       }
 
-  at_most_run : (q n d error line : ℕ) (ps : List Piece) (next : ℕ) (m : machine.State) (v : View) → Shows words c.size m v → q ≢ 15 → v.registers q ≡ d → n < 4294967296 → Near m0 (machine_of v) → Left c words v.place (at_most c s.current.routine q n error line ++ ps) next → Compared error line ps next (not (nat_lt n d)) m v
+  at_most_run : (q n d error line : ℕ) (ps : List Piece) (next : ℕ) (m : machine.State) (v : View)
+      → Shows words c.size m v → q ≢ 15 → v.registers q ≡ d → n < 4294967296 → Near m0 (machine_of v)
+      → Left c words v.place (at_most c s.current.routine q n error line ++ ps) next → Compared error line ps next
+      (not (nat_lt n d)) m v
   at_most_run q n d error line ps next m v sh n15 eq ln near l = go (nat_lt n 65535) refl l
     where
-      go : (few : Bool) → nat_lt n 65535 ≡ few → Left c words v.place (cond few (Plain (word.Operate op.Sub 15 q (instr_operand.Constant (pos (suc n)))) ∷ piece.Fails on.CarryClear error line ∷ []) (exact 15 n ++ (Plain (word.Operate op.Sub 15 15 (instr_operand.Content q)) ∷ piece.Fails on.CarrySet error line ∷ [])) ++ ps) next → Compared error line ps next (not (nat_lt n d)) m v
+      go : (few : Bool) → nat_lt n 65535 ≡ few → Left c words v.place
+          (cond few (Plain (word.Operate op.Sub 15 q (instr_operand.Constant (pos (suc n))))
+          ∷ piece.Fails on.CarryClear error line ∷ [])
+          (exact 15 n ++ (Plain (word.Operate op.Sub 15 15 (instr_operand.Content q))
+          ∷ piece.Fails on.CarrySet error line ∷ [])) ++ ps) next → Compared error line ps next (not (nat_lt n d)) m v
       go true e l =
           let i = word.Operate op.Sub 15 q (instr_operand.Constant (pos (suc n))) in
           let t1 = step_to c words b.stood i m v sh l.stands.0 tt in
           let v1 = after i v in
           let l1 = left_next c words v.place next (Plain i) _ l in
-          borrowed on.CarryClear error line ps next _ m v v1 t1 near (λ x ne. update_other v.registers 15 _ x ne) (λ y. refl) l1 (ap (λ x. not (nat_lt x (word_of_int (pos (suc n)) + 0))) eq ∙ ap (λ x. not (nat_lt d x)) (immediate n (ltb-true n 65535 e)) ∙ ap not (not_less n d))
+          borrowed on.CarryClear error line ps next _ m v v1 t1 near (λ x ne. update_other v.registers 15 _ x ne)
+          (λ y. refl) l1 (ap (λ x. not (nat_lt x (word_of_int (pos (suc n)) + 0))) eq ∙ ap (λ x. not (nat_lt d x))
+          (immediate n (ltb-true n 65535 e)) ∙ ap not (not_less n d))
         where
           immediate : (n : ℕ) → n < 65535 → word_of_int (pos (suc n)) + 0 ≡ suc n
           immediate n lt = omega (arith, ints, lt)
@@ -188,23 +231,30 @@ module _ (c : Context) (words : List ℕ) (b : Built c words) (p : Places) (s : 
       go false e l =
           let i = word.Operate op.Sub 15 15 (instr_operand.Content q) in
           let rest = piece.Fails on.CarrySet error line ∷ ps in
-          let l0 = subst (λ x. Left c words v.place x next) (append_assoc (exact 15 n) (Plain i ∷ piece.Fails on.CarrySet error line ∷ []) ps) l in
+          let l0 = subst (λ x. Left c words v.place x next)
+          (append_assoc (exact 15 n) (Plain i ∷ piece.Fails on.CarrySet error line ∷ []) ps) l in
           let g = exact_run c words b.stood 15 n (Plain i ∷ rest) next m v sh ln l0 in
           let v1 = g.view in
           let l1 = left_after c words v.place v1.place next (exact 15 n) (Plain i ∷ rest) l0 g.place in
           let t2 = step_to c words b.stood i g.to.to v1 g.to.shows l1.stands.0 tt in
           let v2 = after i v1 in
           let t = to_join words c.size m same_tape same_tape v1 v2 g.to t2 in
-          borrowed on.CarrySet error line ps next _ m v v2 t near (λ x ne. update_other v1.registers 15 _ x ne ∙ g.moved.registers x ne) g.moved.words (left_next c words v1.place next (Plain i) rest l1) (ap (λ x. nat_lt x (v1.registers q + 0)) g.value ∙ ap (nat_lt n) (plus_zero _ _ (g.moved.registers q n15 ∙ eq)) ∙ sym (not_not (nat_lt n d)))
+          borrowed on.CarrySet error line ps next _ m v v2 t near
+          (λ x ne. update_other v1.registers 15 _ x ne ∙ g.moved.registers x ne) g.moved.words
+          (left_next c words v1.place next (Plain i) rest l1)
+          (ap (λ x. nat_lt x (v1.registers q + 0)) g.value ∙ ap (nat_lt n)
+          (plus_zero _ _ (g.moved.registers q n15 ∙ eq)) ∙ sym (not_not (nat_lt n d)))
         where
           plus_zero : (x y : ℕ) → x ≡ y → x + 0 ≡ y
           plus_zero x y e = omega (arith, e)
 
   -- ---- a range
 
-  -- a range that was checked: the run goes on behind the check, or it stops
+  -- a range that was checked: the run goes on after the check, or it stops
   pub record Checked (a : ℕ) (low x : ℤ) (error line : ℕ) (ps : List Piece) (next : ℕ) (inside : Bool) (m : machine.State) (v : View) : Type 0 where
-    pub goes : inside ≡ true → (w : View) × (t : To words c.size m same_tape w) × Near (machine_of v) (machine_of w) × (w.registers (above_register c s.current.routine a low) ≡ difference_of (word_of x) (word_of low)) × Left c words w.place ps next
+    pub goes : inside ≡ true → (w : View) × (t : To words c.size m same_tape w) × Near (machine_of v) (machine_of w)
+        × (w.registers (above_register c s.current.routine a low) ≡ difference_of (word_of x) (word_of low))
+        × Left c words w.place ps next
     pub stops : inside ≡ false → Stops c words s m (failing c s error line)
 
   pub above_not : (a : ℕ) (low : ℤ) → a ≢ 15 → above_register c s.current.routine a low ≢ 15
@@ -214,14 +264,23 @@ module _ (c : Context) (words : List ℕ) (b : Built c words) (p : Places) (s : 
       go true = ne
       go false = omega arith
 
-  pub range_run : (a : ℕ) (low high x : ℤ) (error line : ℕ) (ps : List Piece) (next : ℕ) (m : machine.State) (v : View) → Shows words c.size m v → a ≢ 15 → Near m0 (machine_of v) → IsNumber low → IsNumber high → IsNumber x → v.registers a ≡ word_of x → Left c words v.place (range_code c s.current.routine a low high error line ++ ps) next → Checked a low x error line ps next (is_in_range low high x) m v
+  pub range_run : (a : ℕ) (low high x : ℤ) (error line : ℕ) (ps : List Piece) (next : ℕ) (m : machine.State) (v : View)
+      → Shows words c.size m v → a ≢ 15 → Near m0 (machine_of v) → IsNumber low → IsNumber high → IsNumber x
+      → v.registers a ≡ word_of x → Left c words v.place
+      (range_code c s.current.routine a low high error line ++ ps) next → Checked a low x error line ps next
+      (is_in_range low high x) m v
   range_run a low high x error line ps next m v sh n15 near hl hh hx ex l = go (int_lt high low) refl l
     where
-      go : (empty : Bool) → int_lt high low ≡ empty → Left c words v.place (cond empty (piece.Fails on.Always error line ∷ []) (above c s.current.routine a low ++ at_most c s.current.routine (above_register c s.current.routine a low) (steps_above low high) error line) ++ ps) next → Checked a low x error line ps next (is_in_range low high x) m v
+      go : (empty : Bool) → int_lt high low ≡ empty → Left c words v.place
+          (cond empty (piece.Fails on.Always error line ∷ [])
+          (above c s.current.routine a low ++ at_most c s.current.routine (above_register c s.current.routine a low)
+          (steps_above low high) error line) ++ ps) next → Checked a low x error line ps next
+          (is_in_range low high x) m v
       go true e l =
           record {
             goes = λ ins. absurd (differ (sym ins ∙ none_within low high x e));
-            stops = λ ins. fails_walked c words b s on.Always error line ps next m v (walks v v near refl (λ y. refl)) sh l refl;
+            stops = λ ins. fails_walked c words b s on.Always error line ps next m v
+                (walks v v near refl (λ y. refl)) sh l refl;
           }
         where
           differ : true ≡ false → ⊥
@@ -234,14 +293,27 @@ module _ (c : Context) (words : List ℕ) (b : Built c words) (p : Places) (s : 
           let l0 = subst (λ y. Left c words v.place y next) (append_assoc (above c r a low) test ps) l in
           let g = above_run a low x (test ++ ps) next m v sh n15 (e14_of v near) hl hx ex l0 in
           let v1 = g.view in
-          let near1 : Near m0 (machine_of v1) = record { registers = λ y n12 n15'. g.near.registers y n12 n15' ∙ near.registers y n12 n15'; words = λ y. g.near.words y ∙ near.words y } in
+          let near1 : Near m0 (machine_of v1) = record {
+            registers = λ y n12 n15'. g.near.registers y n12 n15' ∙ near.registers y n12 n15';
+            words = λ y. g.near.words y ∙ near.words y;
+          } in
           let is = steps_are low high (not_below low high e) in
-          let k = at_most_run q n (difference_of (word_of x) (word_of low)) error line ps next g.way.to v1 g.way.shows (above_not a low n15) g.value (narrow n is) near1 g.left in
-          let test_is : not (nat_lt n (difference_of (word_of x) (word_of low))) ≡ is_in_range low high x = ap not (span_test low high x hl hh hx e) ∙ not_not (is_in_range low high x) in
+          let k = at_most_run q n (difference_of (word_of x) (word_of low)) error line ps next g.way.to v1 g.way.shows
+          (above_not a low n15) g.value (narrow n is) near1 g.left in
+          let test_is : not (nat_lt n (difference_of (word_of x) (word_of low))) ≡ is_in_range low high x = ap not
+          (span_test low high x hl hh hx e) ∙ not_not (is_in_range low high x) in
           record {
             goes = λ ins.
-                let h = k.goes (test_is ∙ ins) in
-                (h.0, way_to words c.size m same_tape same_tape v1 h.0 g.way h.1, record { registers = λ y n12 n15'. h.2 y n15' ∙ g.near.registers y n12 n15'; words = λ y. h.3 y ∙ g.near.words y }, h.2 q (above_not a low n15) ∙ g.value, h.4);
+                let h = k.goes (test_is ∙ ins) in (
+                  h.0,
+                  way_to words c.size m same_tape same_tape v1 h.0 g.way h.1,
+                  record {
+                    registers = λ y n12 n15'. h.2 y n15' ∙ g.near.registers y n12 n15';
+                    words = λ y. h.3 y ∙ g.near.words y;
+                  },
+                  h.2 q (above_not a low n15) ∙ g.value,
+                  h.4,
+                );
             stops = λ ins. stop_way c words b s m (failing c s error line) v1 g.way (k.stops (test_is ∙ ins));
           }
         where
@@ -250,16 +322,29 @@ module _ (c : Context) (words : List ℕ) (b : Built c words) (p : Places) (s : 
 
 module _ (c : Context) (words : List ℕ) (b : Built c words) (p : Places) (s : State) (f : ℕ) (m : machine.State) (v : View) (sh : Shows words c.size m v) (be : Belongs c words p s v f) where
   -- the run goes on where a check was passed
-  goes_behind : (a : ℕ) (low x : ℤ) (error line : ℕ) (inside : Bool) (v1 : View) (n : machine.State) → Near (machine_of v) (machine_of v1) → Passes c s.current.routine s.current.place (suc s.current.place) → Checked c words b p s f (machine_of v) be.related a low x error line [] (c.site s.current.routine (suc s.current.place)) inside n v1 → (t : Bool) → inside ≡ t → Follows c words (checks c.code t error line s) s n
+  goes_behind : (a : ℕ) (low x : ℤ) (error line : ℕ) (inside : Bool) (v1 : View) (n : machine.State) → Near
+      (machine_of v) (machine_of v1) → Passes c s.current.routine s.current.place (suc s.current.place)
+      → Checked c words b p s f (machine_of v) be.related a low x error line []
+      (c.site s.current.routine (suc s.current.place)) inside n v1 → (t : Bool) → inside ≡ t → Follows c words
+      (checks c.code t error line s) s n
   goes_behind a low x error line inside v1 n near ps k true e =
       let g = k.goes e in
-      come_to c words b s (record s { current = onward s.current }) n same_tape g.0 g.1 refl (goes_end c words b p s (machine_of v) f (suc s.current.place) g.1.to g.0 be.related be.input ps g.1.shows (record { registers = λ q n12 n15. g.2.registers q n12 n15 ∙ near.registers q n12 n15; words = λ x. g.2.words x ∙ near.words x }) (at_end g.0.place g.4))
+      come_to c words b s (record s { current = onward s.current }) n same_tape g.0 g.1 refl
+      (goes_end c words b p s (machine_of v) f (suc s.current.place) g.1.to g.0 be.related be.input ps g.1.shows
+      (record {
+        registers = λ q n12 n15. g.2.registers q n12 n15 ∙ near.registers q n12 n15;
+        words = λ x. g.2.words x ∙ near.words x;
+      }) (at_end g.0.place g.4))
     where
-      at_end : (w : ℕ) → Left c words w [] (c.site s.current.routine (suc s.current.place)) → w ≡ c.site s.current.routine (suc s.current.place)
+      at_end : (w : ℕ) → Left c words w [] (c.site s.current.routine (suc s.current.place)) → w
+          ≡ c.site s.current.routine (suc s.current.place)
       at_end w l = let e = l.ends in omega (arith, e)
   goes_behind a low x error line inside v1 n near ps k false e = inr (k.stops e)
 
-  pub check_range_follows : (a : ℕ) (low high : ℤ) (error line : ℕ) (x : ℤ) → fetch c.code s.current.routine s.current.place ≡ Some (CheckRange a low high error line) → s.current.temporaries a ≡ Some (Number x) → Follows c words (checks c.code (is_in_range low high x) error line s) s m
+  pub check_range_follows : (a : ℕ) (low high : ℤ) (error line : ℕ) (x : ℤ)
+      → fetch c.code s.current.routine s.current.place ≡ Some (CheckRange a low high error line)
+      → s.current.temporaries a ≡ Some (Number x) → Follows c words
+      (checks c.code (is_in_range low high x) error line s) s m
   check_range_follows a low high error line x here ea =
       let r = s.current.routine in
       let k = s.current.place in
@@ -269,53 +354,85 @@ module _ (c : Context) (words : List ℕ) (b : Built c words) (p : Places) (s : 
       let d = fetched c r 12 (home c r a) in
       let rc = range_code c r d low high error line in
       let l = code c words b p s f m v sh be i here in
-      let g = one_run c words b p s f m v sh be 12 a (Number x) rc _ (omega arith) (is_read c r k i here a (among_first a [])) ea l in
+      let g = one_run c words b p s f m v sh be 12 a (Number x) rc _ (omega arith)
+      (is_read c r k i here a (among_first a [])) ea l in
       let v1 = g.view in
       let l1 = left_after c words v.place v1.place _ fa rc l g.place in
-      let near : Near (machine_of v) (machine_of v1) = record { registers = λ q n12 n15. g.moved.registers q n12; words = g.moved.words } in
-      let n15 = fetched_not c words b.stood b.laid b.placed r f (framed c words b p s (machine_of v) f be.related) 12 a 15 (omega arith) (omega arith) in
-      let z = range_run c words b p s f (machine_of v) be.related d low high x error line [] _ g.way.to v1 g.way.shows n15 near (integer_is low so.sound.1) (integer_is high so.sound.2) g.good g.value (left_whole c words v1.place _ rc l1) in
-      follows_way c words b s m v1 g.way (checks c.code (is_in_range low high x) error line s) (goes_behind d low x error line (is_in_range low high x) v1 g.way.to near (passes c r k i here (suc k) refl (among_first (suc k) [])) z (is_in_range low high x) refl)
+      let near : Near (machine_of v) (machine_of v1) = record {
+        registers = λ q n12 n15. g.moved.registers q n12;
+        words = g.moved.words;
+      } in
+      let n15 = fetched_not c words b.stood b.laid b.placed r f
+      (framed c words b p s (machine_of v) f be.related) 12 a 15 (omega arith) (omega arith) in
+      let z = range_run c words b p s f (machine_of v) be.related d low high x error line [] _ g.way.to v1 g.way.shows
+      n15 near (integer_is low so.sound.1) (integer_is high so.sound.2) g.good g.value
+      (left_whole c words v1.place _ rc l1) in
+      follows_way c words b s m v1 g.way (checks c.code (is_in_range low high x) error line s)
+      (goes_behind d low x error line (is_in_range low high x) v1 g.way.to near
+      (passes c r k i here (suc k) refl (among_first (suc k) [])) z (is_in_range low high x) refl)
 
-  pub check_pointer_follows : (a error line : ℕ) (x : Value) (q : Option ℕ) → fetch c.code s.current.routine s.current.place ≡ Some (CheckPointer a error line) → s.current.temporaries a ≡ Some x → pointer_of (Some x) ≡ Some q → Follows c words (checks c.code (not (is_nil q)) error line s) s m
+  pub check_pointer_follows : (a error line : ℕ) (x : Value) (q : Option ℕ)
+      → fetch c.code s.current.routine s.current.place ≡ Some (CheckPointer a error line) → s.current.temporaries a
+      ≡ Some x → pointer_of (Some x) ≡ Some q → Follows c words (checks c.code (not (is_nil q)) error line s) s m
   check_pointer_follows a error line x q here ea eq =
       let r = s.current.routine in
       let k = s.current.place in
       let i = CheckPointer a error line in
       by (form.is_told c r (told_at c r k) a) refl (code c words b p s f m v sh be i here)
     where
-      nil_word : (q : Option ℕ) → ((n : ℕ) → q ≡ Some n → n < p.objects) → nat_eq (pointer_word c b.laid p s v.words f be.related.held q) 0 ≡ is_nil q
+      nil_word : (q : Option ℕ) → ((n : ℕ) → q ≡ Some n → n < p.objects) → nat_eq
+          (pointer_word c b.laid p s v.words f be.related.held q) 0 ≡ is_nil q
       nil_word None named = refl
-      nil_word (Some n) named = no _ _ (let h = object_high c b.laid p s v.words f be.related.held n (named n refl) in omega (arith, h))
+      nil_word (Some n) named = no _ _ (let h = object_high c b.laid p s v.words f be.related.held n (named n refl)
+          in omega (arith, h))
         where
           no : (x y : ℕ) → x ≢ y → nat_eq x y ≡ false
           no x y ne = grind arith
 
-      go : (v1 : View) (n : machine.State) → Shows words c.size n v1 → Near (machine_of v) (machine_of v1) → Left c words v1.place (piece.Fails on.Equal error line ∷ []) (c.site s.current.routine (suc s.current.place)) → v1.equal ≡ is_nil q → (t : Bool) → is_nil q ≡ t → Follows c words (checks c.code (not t) error line s) s n
+      go : (v1 : View) (n : machine.State) → Shows words c.size n v1 → Near (machine_of v) (machine_of v1)
+          → Left c words v1.place (piece.Fails on.Equal error line ∷ [])
+          (c.site s.current.routine (suc s.current.place)) → v1.equal ≡ is_nil q → (t : Bool) → is_nil q ≡ t
+          → Follows c words (checks c.code (not t) error line s) s n
       go v1 n sh1 near l1 nil true e =
-          inr (fails_walked c words b s on.Equal error line [] _ n v1 (walk_near c words b p s (machine_of v) f v1 be.related (near.registers 14 (omega arith) (omega arith)) near.words) sh1 l1 (nil ∙ e))
+          inr (fails_walked c words b s on.Equal error line [] _ n v1
+          (walk_near c words b p s (machine_of v) f v1 be.related
+          (near.registers 14 (omega arith) (omega arith)) near.words) sh1 l1 (nil ∙ e))
       go v1 n sh1 near l1 nil false e =
           let t2 = fails_not c words b on.Equal error line [] _ n v1 sh1 l1 (nil ∙ e) in
           let v2 = at_view (v1.place + 1) v1 in
           let ends = l1.ends in
-          come_to c words b s (record s { current = onward s.current }) n same_tape v2 t2 refl (goes_end c words b p s (machine_of v) f (suc s.current.place) t2.to v2 be.related be.input (passes c s.current.routine s.current.place (CheckPointer a error line) here (suc s.current.place) refl (among_first (suc s.current.place) [])) t2.shows near (sym ends))
+          come_to c words b s (record s { current = onward s.current }) n same_tape v2 t2 refl
+          (goes_end c words b p s (machine_of v) f (suc s.current.place) t2.to v2 be.related be.input
+          (passes c s.current.routine s.current.place (CheckPointer a error line) here (suc s.current.place) refl
+          (among_first (suc s.current.place) [])) t2.shows near (sym ends))
 
-      by : (told : Bool) → form.is_told c s.current.routine (told_at c s.current.routine s.current.place) a ≡ told → Left c words v.place (cond told (piece.Fails on.Equal error line ∷ []) (bring c s.current.routine 12 (home c s.current.routine a) ++ piece.Fails on.Equal error line ∷ [])) (c.site s.current.routine (suc s.current.place)) → Follows c words (checks c.code (not (is_nil q)) error line s) s m
+      by : (told : Bool) → form.is_told c s.current.routine (told_at c s.current.routine s.current.place) a ≡ told
+          → Left c words v.place (cond told (piece.Fails on.Equal error line ∷ [])
+          (bring c s.current.routine 12 (home c s.current.routine a) ++ piece.Fails on.Equal error line ∷ []))
+          (c.site s.current.routine (suc s.current.place)) → Follows c words
+          (checks c.code (not (is_nil q)) error line s) s m
       by true told l =
           let r = s.current.routine in
-          let there = stands_in c words b p s f m v sh be a x (is_read c r s.current.place (CheckPointer a error line) here a (among_first a [])) ea in
+          let there = stands_in c words b p s f m v sh be a x
+          (is_read c r s.current.place (CheckPointer a error line) here a (among_first a [])) ea in
           let stood = told_stands c words b p s f m v sh be a told in
-          let value : v.registers stood.0 ≡ ctx.word c p x = ap (value_of c r f (machine_of v)) (sym stood.1) ∙ there.1 in
+          let value : v.registers stood.0 ≡ ctx.word c p x = ap (value_of c r f (machine_of v)) (sym stood.1) ∙ there.1
+          in
           let pt = points c b.laid p s v.words f be.related.held x q there.0 eq in
           let nil : v.equal ≡ is_nil q = stood.2 ∙ ap (λ y. nat_eq y 0) (value ∙ pt.is) ∙ nil_word q pt.named in
           go v m sh (record { registers = λ y n12 n15. refl; words = λ y. refl }) l nil (is_nil q) refl
       by false told l =
           let r = s.current.routine in
           let rest = piece.Fails on.Equal error line ∷ [] in
-          let g = brought_run c words b p s f m v sh be 12 a x rest _ (omega arith) (is_read c r s.current.place (CheckPointer a error line) here a (among_first a [])) ea l in
+          let g = brought_run c words b p s f m v sh be 12 a x rest _ (omega arith)
+          (is_read c r s.current.place (CheckPointer a error line) here a (among_first a [])) ea l in
           let v1 = g.view in
           let l1 = left_after c words v.place v1.place _ (bring c r 12 (home c r a)) rest l g.place in
-          let near : Near (machine_of v) (machine_of v1) = record { registers = λ y n12 n15. g.moved.registers y n12; words = g.moved.words } in
+          let near : Near (machine_of v) (machine_of v1) = record {
+            registers = λ y n12 n15. g.moved.registers y n12;
+            words = g.moved.words;
+          } in
           let pt = points c b.laid p s v.words f be.related.held x q g.good eq in
           let nil : v1.equal ≡ is_nil q = g.zero ∙ ap (λ y. nat_eq y 0) pt.is ∙ nil_word q pt.named in
-          follows_to c words b s m v1 g.to (checks c.code (not (is_nil q)) error line s) (go v1 g.to.to g.to.shows near l1 nil (is_nil q) refl)
+          follows_to c words b s m v1 g.to (checks c.code (not (is_nil q)) error line s)
+          (go v1 g.to.to g.to.shows near l1 nil (is_nil q) refl)

@@ -1,5 +1,7 @@
--- How an instruction's words are followed: parts joined, and the ends in which they come to the next state or to a stop.
-use Rattle.std.proofs.Common.{◌≡◌, ◌≢◌, ℕ, zero, suc, ◌+◌, ◌*◌, ◌%◌, ◌<◌, ◌≤◌, ◌⊎◌, inl, inr, true, false, cond, nat_eq, nat_le, List, [], ◌∷◌, ◌++◌, length, take, Option, Some, None, slice_get, pos, negsuc, refl, sym, ap, ◌∙◌, subst, arith}
+-- How an instruction's words are followed: parts joined, and the ends in which they reach the next state or a stop.
+use Rattle.std.proofs.Common.{◌≡◌, ◌≢◌, ℕ, zero, suc, ◌+◌, ◌*◌, ◌%◌, ◌<◌, ◌≤◌, ◌⊎◌, inl, inr, true, false, cond}
+use Rattle.std.proofs.Common.{nat_eq, nat_le, List, [], ◌∷◌, ◌++◌, length, take, Option, Some, None, slice_get, pos}
+use Rattle.std.proofs.Common.{negsuc, refl, sym, ap, ◌∙◌, subst, arith}
 use Rattle.std.proofs.lemmas.Int.{ints}
 use Rattle.behavior.specs.Endings.{Ending, Stack, Heap, Error, ending_by}
 use Rattle.behavior.specs.Transcripts.{AreBytes}
@@ -10,7 +12,8 @@ use Rattle.risc_word.specs.declared.instr.Instr.TheVariants as word
 use Rattle.risc_machine.specs.Step as machine
 use Rattle.risc_machine.specs.Step.{word_of_int}
 use Rattle.risc_machine.specs.Exec as run
-use Rattle.risc_machine_laws.specs.View.{View, Fits, IsAt, HasAt, Shows, after, at_view, link_view, target_view, holds_view}
+use Rattle.risc_machine_laws.specs.View.{View, Fits, IsAt, HasAt, Shows, after, at_view, link_view, target_view}
+use Rattle.risc_machine_laws.specs.View.{holds_view}
 use Rattle.risc_machine_laws.specs.Runs.{To, Way, same_tape}
 use Rattle.risc_machine_laws.specs.Numbers.{distance}
 use Rattle.risc_machine_laws.proofs.Runs.{plain_to, branch_taken, branch_passed, stop_at}
@@ -32,7 +35,8 @@ use Rattle.risc_emit_relation.proofs.Walk.{walk_is, walk_same}
 use Rattle.risc_emit_forms.specs.Pieces.{Label, label_place, Piece, Goes, Fails, Left}
 use Rattle.risc_emit_forms.specs.Forms.{target, save, receive, skip}
 use Rattle.risc_emit_forms.specs.Told.{flagged_by, bent_at}
-use Rattle.risc_emit_forms.specs.Follows.{machine_of, stub, Built, tape_of, Flags, Straight, unbent, Meets, Belongs, Comes, Stops, trapped, told}
+use Rattle.risc_emit_forms.specs.Follows.{machine_of, stub, Built, tape_of, Flags, Straight, unbent, Meets, Belongs}
+use Rattle.risc_emit_forms.specs.Follows.{Comes, Stops, trapped, told}
 use Rattle.risc_emit_forms.proofs.Flags.{told_behind, flagged_straight, passed_silent}
 use Rattle.risc_emit_forms.proofs.Runs.{Aside, Framed, in_register, save_run, receive_run}
 
@@ -43,12 +47,15 @@ taken_twice zero xs = refl
 taken_twice (suc n) [] = refl
 taken_twice (suc n) (x ∷ xs) = ap (λ l. x ∷ l) (taken_twice n xs)
 
--- an ending tells no more than the first calls
-pub told_first : (number line : ℕ) (calls : List ℕ) → ending_by number line calls ≡ ending_by number line (take 16 calls)
+-- an ending reports no more than the first calls
+pub told_first : (number line : ℕ) (calls : List ℕ) → ending_by number line calls ≡ ending_by number line
+    (take 16 calls)
 told_first number line calls =
-    ap (λ l. cond (nat_eq number 12) (Stack line) (cond (nat_eq number 13) (Heap line) (Error number line l))) (sym (taken_twice 16 calls))
+    ap (λ l. cond (nat_eq number 12) (Stack line) (cond (nat_eq number 13) (Heap line) (Error number line l)))
+    (sym (taken_twice 16 calls))
 
-link_told : (c : Context) (v : View) (w n : ℕ) → w ≡ suc n → told c w v ≡ trapped (c.trap w) (walk c.line c.size 16 v.words (v.registers 14))
+link_told : (c : Context) (v : View) (w n : ℕ) → w ≡ suc n → told c w v ≡ trapped (c.trap w)
+    (walk c.line c.size 16 v.words (v.registers 14))
 link_told c v w n e =
     subst (λ w. told c w v ≡ trapped (c.trap w) (walk c.line c.size 16 v.words (v.registers 14))) (sym e) refl
 
@@ -60,17 +67,19 @@ pub append_nil : (ps : List Piece) → ps ++ [] ≡ ps
 append_nil [] = refl
 append_nil (p ∷ ps) = ap (λ l. p ∷ l) (append_nil ps)
 
-pub left_whole : (c : Context) (words : List ℕ) (at next : ℕ) (ps : List Piece) → Left c words at ps next → Left c words at (ps ++ []) next
+pub left_whole : (c : Context) (words : List ℕ) (at next : ℕ) (ps : List Piece) → Left c words at ps next
+    → Left c words at (ps ++ []) next
 left_whole c words at next ps l = subst (λ q. Left c words at q next) (sym (append_nil ps)) l
 
 -- ---- what is sound
 
-pub get_append : (xs ys : List TacRoutine) (n : ℕ) (x : TacRoutine) → slice_get (xs ++ ys) n ≡ Some x → (slice_get xs n ≡ Some x) ⊎ ((m : ℕ) × (slice_get ys m ≡ Some x))
+pub get_append : (xs ys : List TacRoutine) (n : ℕ) (x : TacRoutine) → slice_get (xs ++ ys) n ≡ Some x
+    → (slice_get xs n ≡ Some x) ⊎ ((m : ℕ) × (slice_get ys m ≡ Some x))
 get_append [] ys n x e = inr (n, e)
 get_append (y ∷ xs) ys zero x e = inl e
 get_append (y ∷ xs) ys (suc n) x e = get_append xs ys n x e
 
--- from m, in any number of steps, the machine comes to a state that meets s
+-- from m, in any number of steps, the machine reaches a state that meets s
 pub record Arrives (c : Context) (words : List ℕ) (s : State) (m : machine.State) : Type 0 where
   pub to : machine.State
   pub places : Places
@@ -84,10 +93,12 @@ module _ (c : Context) (words : List ℕ) (b : Built c words) where
   fits : Fits words c.size
   fits = b.stood.fits
 
-  pub sound_routine : (r : ℕ) (routine : TacRoutine) → slice_get (routines c.code) r ≡ Some routine → IsSoundRoutine (limits_of c.code routine) routine
+  pub sound_routine : (r : ℕ) (routine : TacRoutine) → slice_get (routines c.code) r ≡ Some routine → IsSoundRoutine
+      (limits_of c.code routine) routine
   sound_routine r routine e = go (get_append c.code.program c.code.run_time r routine e)
     where
-      go : (slice_get c.code.program r ≡ Some routine) ⊎ ((m : ℕ) × (slice_get c.code.run_time m ≡ Some routine)) → IsSoundRoutine (limits_of c.code routine) routine
+      go : (slice_get c.code.program r ≡ Some routine) ⊎ ((m : ℕ) × (slice_get c.code.run_time m ≡ Some routine))
+          → IsSoundRoutine (limits_of c.code routine) routine
       go (inl e) = b.sound.program r routine e
       go (inr e) = b.sound.run_time e.0 routine e.1
 
@@ -107,7 +118,8 @@ module _ (c : Context) (words : List ℕ) (b : Built c words) where
 
   -- ---- parts joined
 
-  pub come_to : (s t : State) (m : machine.State) (g : run.Tape → run.Tape) (v : View) (a : To words c.size m g v) → g (tape_of s.tape) ≡ tape_of t.tape → Arrives c words t a.to → Comes c words s t m
+  pub come_to : (s t : State) (m : machine.State) (g : run.Tape → run.Tape) (v : View) (a : To words c.size m g v) → g
+      (tape_of s.tape) ≡ tape_of t.tape → Arrives c words t a.to → Comes c words s t m
   come_to s t m g v a e r =
       record {
         to = r.to;
@@ -116,10 +128,12 @@ module _ (c : Context) (words : List ℕ) (b : Built c words) where
         frame = r.frame;
         shows = r.shows;
         meets = r.meets;
-        runs = λ k. let x = r.runs k in let y = a.runs x.0 (tape_of s.tape) in (y.0, omega (arith, x.1, y.1), y.2 ∙ ap (run.exec x.0 a.to) e ∙ x.2);
+        runs = λ k. let x = r.runs k in let y = a.runs x.0 (tape_of s.tape)
+            in (y.0, omega (arith, x.1, y.1), y.2 ∙ ap (run.exec x.0 a.to) e ∙ x.2);
       }
 
-  pub come_way : (s t : State) (m : machine.State) (v : View) (a : Way words c.size m same_tape v) → Comes c words s t a.to → Comes c words s t m
+  pub come_way : (s t : State) (m : machine.State) (v : View) (a : Way words c.size m same_tape v)
+      → Comes c words s t a.to → Comes c words s t m
   come_way s t m v a r =
       record {
         to = r.to;
@@ -128,10 +142,12 @@ module _ (c : Context) (words : List ℕ) (b : Built c words) where
         frame = r.frame;
         shows = r.shows;
         meets = r.meets;
-        runs = λ k. let x = r.runs k in let y = a.runs x.0 (tape_of s.tape) in (y.0, omega (arith, x.1, y.1), y.2 ∙ x.2);
+        runs = λ k. let x = r.runs k in let y = a.runs x.0 (tape_of s.tape)
+            in (y.0, omega (arith, x.1, y.1), y.2 ∙ x.2);
       }
 
-  pub come_step : (s t : State) (m : machine.State) (v : View) (a : To words c.size m same_tape v) → Comes c words s t a.to → Comes c words s t m
+  pub come_step : (s t : State) (m : machine.State) (v : View) (a : To words c.size m same_tape v)
+      → Comes c words s t a.to → Comes c words s t m
   come_step s t m v a r =
       record {
         to = r.to;
@@ -140,10 +156,12 @@ module _ (c : Context) (words : List ℕ) (b : Built c words) where
         frame = r.frame;
         shows = r.shows;
         meets = r.meets;
-        runs = λ k. let x = r.runs k in let y = a.runs x.0 (tape_of s.tape) in (y.0, omega (arith, x.1, y.1), y.2 ∙ x.2);
+        runs = λ k. let x = r.runs k in let y = a.runs x.0 (tape_of s.tape)
+            in (y.0, omega (arith, x.1, y.1), y.2 ∙ x.2);
       }
 
-  pub arrive_way : (t : State) (m : machine.State) (v : View) (a : Way words c.size m same_tape v) → Arrives c words t a.to → Arrives c words t m
+  pub arrive_way : (t : State) (m : machine.State) (v : View) (a : Way words c.size m same_tape v)
+      → Arrives c words t a.to → Arrives c words t m
   arrive_way t m v a r =
       record {
         to = r.to;
@@ -152,10 +170,12 @@ module _ (c : Context) (words : List ℕ) (b : Built c words) where
         frame = r.frame;
         shows = r.shows;
         meets = r.meets;
-        runs = λ k. let x = r.runs k in let y = a.runs x.0 (tape_of t.tape) in (y.0, omega (arith, x.1, y.1), y.2 ∙ x.2);
+        runs = λ k. let x = r.runs k in let y = a.runs x.0 (tape_of t.tape)
+            in (y.0, omega (arith, x.1, y.1), y.2 ∙ x.2);
       }
 
-  pub arrive_to : (t : State) (m : machine.State) (v : View) (a : To words c.size m same_tape v) → Arrives c words t a.to → Arrives c words t m
+  pub arrive_to : (t : State) (m : machine.State) (v : View) (a : To words c.size m same_tape v)
+      → Arrives c words t a.to → Arrives c words t m
   arrive_to t m v a r =
       record {
         to = r.to;
@@ -164,15 +184,23 @@ module _ (c : Context) (words : List ℕ) (b : Built c words) where
         frame = r.frame;
         shows = r.shows;
         meets = r.meets;
-        runs = λ k. let x = r.runs k in let y = a.runs x.0 (tape_of t.tape) in (y.0, omega (arith, x.1, y.1), y.2 ∙ x.2);
+        runs = λ k. let x = r.runs k in let y = a.runs x.0 (tape_of t.tape)
+            in (y.0, omega (arith, x.1, y.1), y.2 ∙ x.2);
       }
 
-  pub arrive_here : (p : Places) (t : State) (m : machine.State) (v : View) (f : ℕ) → Shows words c.size m v → Belongs c words p t v f → Arrives c words t m
+  pub arrive_here : (p : Places) (t : State) (m : machine.State) (v : View) (f : ℕ) → Shows words c.size m v
+      → Belongs c words p t v f → Arrives c words t m
   arrive_here p t m v f sh be =
-      let meets : Meets c words p t v f = record { related = subst (λ o. Related c p t (unbent o (machine_of v)) f) (sym be.flags.1) be.related; place = be.place; input = be.input; flags = be.flags.0 } in
+      let meets : Meets c words p t v f = record {
+        related = subst (λ o. Related c p t (unbent o (machine_of v)) f) (sym be.flags.1) be.related;
+        place = be.place;
+        input = be.input;
+        flags = be.flags.0;
+      } in
       record { to = m; places = p; view = v; frame = f; shows = sh; meets = meets; runs = λ k. (k, omega arith, refl) }
 
-  pub stop_way : (s : State) (m : machine.State) (e : Ending) (v : View) (a : Way words c.size m same_tape v) → Stops c words s a.to e → Stops c words s m e
+  pub stop_way : (s : State) (m : machine.State) (e : Ending) (v : View) (a : Way words c.size m same_tape v)
+      → Stops c words s a.to e → Stops c words s m e
   stop_way s m e v a r =
       record {
         word = r.word;
@@ -183,7 +211,8 @@ module _ (c : Context) (words : List ℕ) (b : Built c words) where
         by = λ k. let x = r.by k in let y = a.runs x.0 (tape_of s.tape) in (y.0, omega (arith, x.1, y.1), y.2 ∙ x.2);
       }
 
-  pub stop_to : (s : State) (m : machine.State) (e : Ending) (v : View) (a : To words c.size m same_tape v) → Stops c words s a.to e → Stops c words s m e
+  pub stop_to : (s : State) (m : machine.State) (e : Ending) (v : View) (a : To words c.size m same_tape v)
+      → Stops c words s a.to e → Stops c words s m e
   stop_to s m e v a r =
       record {
         word = r.word;
@@ -196,24 +225,39 @@ module _ (c : Context) (words : List ℕ) (b : Built c words) where
 
   -- ---- frames
 
-  -- slots of the innermost frame lie in memory, past the code
+  -- slots of the innermost frame are in memory, past the code
   pub framed : (p : Places) (s : State) (m : Machine) (f : ℕ) → Related c p s m f → Framed c words s.current.routine f
   framed p s m f h =
-      let top = open_room c b.laid p m.words f (owner_of s.current) s.callers s.memory.frames s.memory.scratch h.held.frames in
+      let top = open_room c b.laid p m.words f
+      (owner_of s.current) s.callers s.memory.frames s.memory.scratch h.held.frames in
       let ar = b.laid.aligned s.current.routine in
       record {
         readable = λ t k e.
             let q = b.laid.slots s.current.routine t k e in
             record {
               aligned = omega (arith, h.held.aligned, ar.1);
-              high = omega (arith, q, top, b.laid.frame_before s.current.routine, b.laid.scratch_before s.current.routine);
+              high = omega (
+                arith,
+                q,
+                top,
+                b.laid.frame_before s.current.routine,
+                b.laid.scratch_before
+                    s.current.routine,
+              );
             };
         writable = λ t k e.
             let q = b.laid.slots s.current.routine t k e in
             record {
               aligned = omega (arith, h.held.aligned, ar.1);
               low = omega (arith, b.stood.code, b.laid.order.1, h.held.low);
-              high = omega (arith, q, top, b.laid.frame_before s.current.routine, b.laid.scratch_before s.current.routine);
+              high = omega (
+                arith,
+                q,
+                top,
+                b.laid.frame_before s.current.routine,
+                b.laid.scratch_before
+                    s.current.routine,
+              );
             };
       }
 
@@ -222,18 +266,27 @@ module _ (c : Context) (words : List ℕ) (b : Built c words) where
   pub place_low : (at : ℕ) (i : _) → IsAt words at i → at < 1048576
   place_low at i h = let lt = get_within words at _ h.word in omega (arith, lt, b.stood.short)
 
-  pub goes_run : (condition : Condition) (label : Label) (ps : List Piece) (next : ℕ) (m : machine.State) (v : View) → Shows words c.size m v → Left c words v.place (Goes condition label ∷ ps) next → holds_view v condition ≡ true → label_place c label ≤ 1048576 → To words c.size m same_tape (at_view (label_place c label) v)
+  pub goes_run : (condition : Condition) (label : Label) (ps : List Piece) (next : ℕ) (m : machine.State) (v : View)
+      → Shows words c.size m v → Left c words v.place (Goes condition label ∷ ps) next → holds_view v condition ≡ true
+      → label_place c label ≤ 1048576 → To words c.size m same_tape (at_view (label_place c label) v)
   goes_run condition label ps next m v sh l e low =
-      let t = branch_taken words c.size fits condition false (Relative (distance v.place (label_place c label))) m v sh l.stands.0 e in
+      let t = branch_taken words c.size fits condition false
+      (Relative (distance v.place (label_place c label))) m v sh l.stands.0 e in
       let lt = place_low v.place _ l.stands.0 in
-      subst (λ x. To words c.size m same_tape (at_view x v)) (target_reached v.place (label_place c label) (omega (arith, lt)) (omega (arith, low))) t
+      subst (λ x. To words c.size m same_tape (at_view x v))
+      (target_reached v.place (label_place c label) (omega (arith, lt)) (omega (arith, low))) t
 
-  pub goes_not : (condition : Condition) (label : Label) (ps : List Piece) (next : ℕ) (m : machine.State) (v : View) → Shows words c.size m v → Left c words v.place (Goes condition label ∷ ps) next → holds_view v condition ≡ false → To words c.size m same_tape (at_view (v.place + 1) v)
+  pub goes_not : (condition : Condition) (label : Label) (ps : List Piece) (next : ℕ) (m : machine.State) (v : View)
+      → Shows words c.size m v → Left c words v.place (Goes condition label ∷ ps) next → holds_view v condition ≡ false
+      → To words c.size m same_tape (at_view (v.place + 1) v)
   goes_not condition label ps next m v sh l e =
-      branch_passed words c.size fits condition false (Relative (distance v.place (label_place c label))) m v sh l.stands.0 e
+      branch_passed words c.size fits condition false
+      (Relative (distance v.place (label_place c label))) m v sh l.stands.0 e
 
   -- n words are passed
-  pub skip_run : (condition : Condition) (n : ℕ) (ps : List Piece) (next : ℕ) (m : machine.State) (v : View) → Shows words c.size m v → Left c words v.place (skip condition n ∷ ps) next → holds_view v condition ≡ true → n < 1048576 → To words c.size m same_tape (at_view (v.place + 1 + n) v)
+  pub skip_run : (condition : Condition) (n : ℕ) (ps : List Piece) (next : ℕ) (m : machine.State) (v : View)
+      → Shows words c.size m v → Left c words v.place (skip condition n ∷ ps) next → holds_view v condition ≡ true
+      → n < 1048576 → To words c.size m same_tape (at_view (v.place + 1 + n) v)
   skip_run condition n ps next m v sh l e small =
       let t = branch_taken words c.size fits condition false (Relative (pos n)) m v sh l.stands.0 e in
       let lt = place_low v.place _ l.stands.0 in
@@ -242,18 +295,26 @@ module _ (c : Context) (words : List ℕ) (b : Built c words) where
       reached : (at : ℕ) → at < 1048576 → (at + 1 + word_of_int (pos n)) % 4194304 ≡ at + 1 + n
       reached at lt = omega (arith, ints, small)
 
-  pub skip_not : (condition : Condition) (n : ℕ) (ps : List Piece) (next : ℕ) (m : machine.State) (v : View) → Shows words c.size m v → Left c words v.place (skip condition n ∷ ps) next → holds_view v condition ≡ false → To words c.size m same_tape (at_view (v.place + 1) v)
+  pub skip_not : (condition : Condition) (n : ℕ) (ps : List Piece) (next : ℕ) (m : machine.State) (v : View)
+      → Shows words c.size m v → Left c words v.place (skip condition n ∷ ps) next → holds_view v condition ≡ false
+      → To words c.size m same_tape (at_view (v.place + 1) v)
   skip_not condition n ps next m v sh l e =
       branch_passed words c.size fits condition false (Relative (pos n)) m v sh l.stands.0 e
 
   -- ---- stops
 
-  pub fails_not : (condition : Condition) (number line : ℕ) (ps : List Piece) (next : ℕ) (m : machine.State) (v : View) → Shows words c.size m v → Left c words v.place (Fails condition number line ∷ ps) next → holds_view v condition ≡ false → To words c.size m same_tape (at_view (v.place + 1) v)
+  pub fails_not : (condition : Condition) (number line : ℕ) (ps : List Piece) (next : ℕ) (m : machine.State) (v : View)
+      → Shows words c.size m v → Left c words v.place (Fails condition number line ∷ ps) next → holds_view v condition
+      ≡ false → To words c.size m same_tape (at_view (v.place + 1) v)
   fails_not condition number line ps next m v sh l e =
       branch_passed words c.size fits condition true (Relative (distance v.place 1)) m v sh l.stands.0 e
 
-  -- where the walk gives the open calls, an error is told with them
-  pub fails_walked : (s : State) (condition : Condition) (number line : ℕ) (ps : List Piece) (next : ℕ) (m : machine.State) (v : View) → walk c.line c.size 16 v.words (v.registers 14) ≡ take 16 (open_calls (length c.code.program) s.current s.callers) → Shows words c.size m v → Left c words v.place (Fails condition number line ∷ ps) next → holds_view v condition ≡ true → Stops c words s m (failing c s number line)
+  -- where the walk gives the open calls, an error is reported with them
+  pub fails_walked : (s : State) (condition : Condition) (number line : ℕ) (ps : List Piece) (next : ℕ)
+      (m : machine.State) (v : View) → walk c.line c.size 16 v.words (v.registers 14) ≡ take 16
+      (open_calls (length c.code.program) s.current s.callers) → Shows words c.size m v → Left c words v.place
+      (Fails condition number line ∷ ps) next → holds_view v condition ≡ true → Stops c words s m
+      (failing c s number line)
   fails_walked s condition number line ps next m v walked sh l e =
       let goal = Relative (distance v.place 1) in
       let t1 = branch_taken words c.size fits condition true goal m v sh l.stands.0 e in
@@ -272,68 +333,150 @@ module _ (c : Context) (words : List ℕ) (b : Built c words) where
         at = st.at;
         view = at_view (v2.place + 1) v2;
         shows = st.shows;
-        is = told_first number line _ ∙ ap (ending_by number line) (sym walked) ∙ ap (λ o. trapped o (walk c.line c.size 16 v.words (v.registers 14))) (sym row) ∙ sym (link_told c (at_view (v2.place + 1) v2) link (4 * v.place + 3) (omega arith));
-        by = λ k. let x = st.by k (tape_of s.tape) in let y = t2.runs x.0 (tape_of s.tape) in let z = t1.runs y.0 (tape_of s.tape) in (z.0, omega (arith, x.1, y.1, z.1), z.2 ∙ y.2 ∙ x.2);
+        is = told_first number line _ ∙ ap (ending_by number line) (sym walked)
+            ∙ ap (λ o. trapped o (walk c.line c.size 16 v.words (v.registers 14))) (sym row) ∙ sym
+            (link_told c (at_view (v2.place + 1) v2) link (4 * v.place + 3) (omega arith));
+        by = λ k. let x = st.by k (tape_of s.tape) in let y = t2.runs x.0 (tape_of s.tape) in let z = t1.runs y.0
+            (tape_of s.tape) in (z.0, omega (arith, x.1, y.1, z.1), z.2 ∙ y.2 ∙ x.2);
       }
 
-  pub walk_near : (p : Places) (s : State) (m0 : Machine) (f : ℕ) (v : View) → Related c p s m0 f → v.registers 14 ≡ m0.registers 14 → ((a : ℕ) → v.words a ≡ m0.words a) → walk c.line c.size 16 v.words (v.registers 14) ≡ take 16 (open_calls (length c.code.program) s.current s.callers)
+  pub walk_near : (p : Places) (s : State) (m0 : Machine) (f : ℕ) (v : View) → Related c p s m0 f → v.registers 14
+      ≡ m0.registers 14 → ((a : ℕ) → v.words a ≡ m0.words a) → walk c.line c.size 16 v.words (v.registers 14) ≡ take 16
+      (open_calls (length c.code.program) s.current s.callers)
   walk_near p s m0 f v h e14 same =
-      ap (walk c.line c.size 16 v.words) e14 ∙ walk_same c.line c.size 16 v.words m0.words (m0.registers 14) (λ a al top. same a) ∙ walk_is c b.laid p b.stood.unlinked 16 s m0 f h
+      ap (walk c.line c.size 16 v.words) e14 ∙ walk_same c.line c.size 16 v.words m0.words (m0.registers 14)
+      (λ a al top. same a) ∙ walk_is c b.laid p b.stood.unlinked 16 s m0 f h
 
   -- ---- ends
 
   -- the instruction writes no temporary
-  pub goes_end : (p : Places) (s : State) (m0 : Machine) (f k : ℕ) (m : machine.State) (v : View) → Related c p s m0 f → AreBytes s.tape.input → Passes c s.current.routine s.current.place k → Shows words c.size m v → Near m0 (machine_of v) → v.place ≡ c.site s.current.routine k → Arrives c words (record s { current = record s.current { place = k } }) m
+  pub goes_end : (p : Places) (s : State) (m0 : Machine) (f k : ℕ) (m : machine.State) (v : View) → Related c p s m0 f
+      → AreBytes s.tape.input → Passes c s.current.routine s.current.place k → Shows words c.size m v → Near m0
+      (machine_of v) → v.place ≡ c.site s.current.routine k → Arrives c words
+      (record s { current = record s.current { place = k } }) m
   goes_end p s m0 f k m v h bytes g sh n e =
-      arrive_here p (record s { current = record s.current { place = k } }) m v f sh (record { related = related_goes c b.laid b.placed p s m0 (machine_of v) f k h g n; place = e; input = bytes; flags = passed_silent c s.current.routine s.current.place k g v })
+      arrive_here p (record s { current = record s.current { place = k } }) m v f sh (record {
+        related = related_goes c b.laid b.placed p s m0 (machine_of v) f k h g n;
+        place = e;
+        input = bytes;
+        flags = passed_silent c s.current.routine s.current.place k g v;
+      })
 
   -- it writes one, whose register holds its word
-  gives_by : (p : Places) (s : State) (m0 : Machine) (f t : ℕ) (x : Value) (m : machine.State) (v : View) → Related c p s m0 f → AreBytes s.tape.input → Writes c s.current.routine s.current.place t → ((w : View) → ((q : ℕ) → home c s.current.routine t ≡ Reg q → (w.equal ≡ v.equal) × (w.negative ≡ v.negative) × (w.registers q ≡ word c p x)) → Straight c s.current.routine (suc s.current.place) w) → IsValue c p x → Shows words c.size m v → Aside (target c s.current.routine (home c s.current.routine t)) (word c p x) m0 v → Left c words v.place (save c s.current.routine (home c s.current.routine t)) (c.site s.current.routine (suc s.current.place)) → Arrives c words (record s { current = giving t x s.current }) m
+  gives_by : (p : Places) (s : State) (m0 : Machine) (f t : ℕ) (x : Value) (m : machine.State) (v : View)
+      → Related c p s m0 f → AreBytes s.tape.input → Writes c s.current.routine s.current.place t
+      → ((w : View) → ((q : ℕ) → home c s.current.routine t ≡ Reg q → (w.equal ≡ v.equal) × (w.negative ≡ v.negative)
+      × (w.registers q ≡ word c p x)) → Straight c s.current.routine (suc s.current.place) w) → IsValue c p x
+      → Shows words c.size m v → Aside (target c s.current.routine (home c s.current.routine t)) (word c p x) m0 v
+      → Left c words v.place (save c s.current.routine (home c s.current.routine t))
+      (c.site s.current.routine (suc s.current.place)) → Arrives c words (record s { current = giving t x s.current }) m
   gives_by p s m0 f t x m v h bytes g flags good sh a l =
       let r = s.current.routine in
-      let z = save_run c words b.stood b.laid b.placed r f (framed p s m0 f h) t (word c p x) [] _ m0 m v sh h.stack a (left_whole c words v.place _ (save c r (home c r t)) l) in
-      let flagged = flags z.view (λ q is. let still = z.still q is in (still.0, still.1, ap (value_of c r f (machine_of z.view)) (sym is) ∙ z.settled.here)) in
-      arrive_way (record s { current = giving t x s.current }) m z.view z.way (arrive_here p (record s { current = giving t x s.current }) z.way.to z.view f z.way.shows (record { related = related_gives c b.laid b.placed p s m0 (machine_of z.view) f t x h g good z.settled; place = z.place ∙ sym l.ends; input = bytes; flags = flagged }))
+      let z = save_run c words b.stood b.laid b.placed r f (framed p s m0 f h) t (word c p x) [] _ m0 m v sh h.stack a
+      (left_whole c words v.place _ (save c r (home c r t)) l) in
+      let flagged = flags z.view (λ q is. let still = z.still q is
+      in (still.0, still.1, ap (value_of c r f (machine_of z.view)) (sym is) ∙ z.settled.here)) in
+      arrive_way (record s { current = giving t x s.current }) m z.view z.way
+      (arrive_here p (record s { current = giving t x s.current }) z.way.to z.view f z.way.shows (record {
+        related = related_gives c b.laid b.placed p s m0 (machine_of z.view) f t x h g good z.settled;
+        place = z.place ∙ sym l.ends;
+        input = bytes;
+        flags = flagged;
+      }))
 
-  -- and the flags are told of no temporary
-  pub gives_end : (p : Places) (s : State) (m0 : Machine) (f t : ℕ) (x : Value) (m : machine.State) (v : View) → Related c p s m0 f → AreBytes s.tape.input → Writes c s.current.routine s.current.place t → ((w : View) → Straight c s.current.routine (suc s.current.place) w) → IsValue c p x → Shows words c.size m v → Aside (target c s.current.routine (home c s.current.routine t)) (word c p x) m0 v → Left c words v.place (save c s.current.routine (home c s.current.routine t)) (c.site s.current.routine (suc s.current.place)) → Arrives c words (record s { current = giving t x s.current }) m
+  -- and the flags belong to no temporary
+  pub gives_end : (p : Places) (s : State) (m0 : Machine) (f t : ℕ) (x : Value) (m : machine.State) (v : View)
+      → Related c p s m0 f → AreBytes s.tape.input → Writes c s.current.routine s.current.place t
+      → ((w : View) → Straight c s.current.routine (suc s.current.place) w) → IsValue c p x → Shows words c.size m v
+      → Aside (target c s.current.routine (home c s.current.routine t)) (word c p x) m0 v → Left c words v.place
+      (save c s.current.routine (home c s.current.routine t)) (c.site s.current.routine (suc s.current.place))
+      → Arrives c words (record s { current = giving t x s.current }) m
   gives_end p s m0 f t x m v h bytes g silent good sh a l =
       gives_by p s m0 f t x m v h bytes g (λ w stood. silent w) good sh a l
 
   -- or N and Z are those of its word
-  pub tells_end : (p : Places) (s : State) (m0 : Machine) (f t : ℕ) (x : Value) (i : Instruction) (m : machine.State) (v : View) → Related c p s m0 f → AreBytes s.tape.input → Writes c s.current.routine s.current.place t → fetch c.code s.current.routine s.current.place ≡ Some i → flagged_by i ≡ Some t → (v.equal ≡ nat_eq (word c p x) 0) × (v.negative ≡ nat_le 2147483648 (word c p x)) → IsValue c p x → Shows words c.size m v → Aside (target c s.current.routine (home c s.current.routine t)) (word c p x) m0 v → Left c words v.place (save c s.current.routine (home c s.current.routine t)) (c.site s.current.routine (suc s.current.place)) → Arrives c words (record s { current = giving t x s.current }) m
-  tells_end p s m0 f t x i m v h bytes g here is flags good sh a l = gives_by p s m0 f t x m v h bytes g flagged good sh a l
+  pub tells_end : (p : Places) (s : State) (m0 : Machine) (f t : ℕ) (x : Value) (i : Instruction) (m : machine.State)
+      (v : View) → Related c p s m0 f → AreBytes s.tape.input → Writes c s.current.routine s.current.place t
+      → fetch c.code s.current.routine s.current.place ≡ Some i → flagged_by i ≡ Some t
+      → (v.equal ≡ nat_eq (word c p x) 0) × (v.negative ≡ nat_le 2147483648 (word c p x)) → IsValue c p x
+      → Shows words c.size m v → Aside (target c s.current.routine (home c s.current.routine t)) (word c p x) m0 v
+      → Left c words v.place (save c s.current.routine (home c s.current.routine t))
+      (c.site s.current.routine (suc s.current.place)) → Arrives c words (record s { current = giving t x s.current }) m
+  tells_end p s m0 f t x i m v h bytes g here is flags good sh a l = gives_by p s m0 f t x m v h bytes g flagged good sh
+      a l
     where
-      flagged : (w : View) → ((q : ℕ) → home c s.current.routine t ≡ Reg q → (w.equal ≡ v.equal) × (w.negative ≡ v.negative) × (w.registers q ≡ word c p x)) → Straight c s.current.routine (suc s.current.place) w
+      flagged : (w : View) → ((q : ℕ) → home c s.current.routine t ≡ Reg q → (w.equal ≡ v.equal)
+          × (w.negative ≡ v.negative) × (w.registers q ≡ word c p x)) → Straight c s.current.routine
+          (suc s.current.place) w
       flagged w stood = (flags_of w stood, flagged_straight c s.current.routine s.current.place i t here is)
         where
-          flags_of : (w : View) → ((q : ℕ) → home c s.current.routine t ≡ Reg q → (w.equal ≡ v.equal) × (w.negative ≡ v.negative) × (w.registers q ≡ word c p x)) → Flags c s.current.routine (suc s.current.place) w
+          flags_of : (w : View) → ((q : ℕ) → home c s.current.routine t ≡ Reg q → (w.equal ≡ v.equal)
+              × (w.negative ≡ v.negative) × (w.registers q ≡ word c p x)) → Flags c s.current.routine
+              (suc s.current.place) w
           flags_of w stood u q e h =
               let same : t ≡ u = cc (sym is ∙ told_behind c s.current.routine s.current.place i u here e) in
               let k = stood q (ap (home c s.current.routine) same ∙ h) in
               (k.0 ∙ flags.0 ∙ ap (λ n. nat_eq n 0) (sym k.2), k.1 ∙ flags.1 ∙ ap (nat_le 2147483648) (sym k.2))
 
   -- the same from R12
-  pub receives_end : (p : Places) (s : State) (m0 : Machine) (f t : ℕ) (x : Value) (m : machine.State) (v : View) → Related c p s m0 f → AreBytes s.tape.input → Writes c s.current.routine s.current.place t → ((w : View) → Straight c s.current.routine (suc s.current.place) w) → IsValue c p x → Shows words c.size m v → Aside 12 (word c p x) m0 v → Left c words v.place (receive c s.current.routine (home c s.current.routine t)) (c.site s.current.routine (suc s.current.place)) → Arrives c words (record s { current = giving t x s.current }) m
+  pub receives_end : (p : Places) (s : State) (m0 : Machine) (f t : ℕ) (x : Value) (m : machine.State) (v : View)
+      → Related c p s m0 f → AreBytes s.tape.input → Writes c s.current.routine s.current.place t
+      → ((w : View) → Straight c s.current.routine (suc s.current.place) w) → IsValue c p x → Shows words c.size m v
+      → Aside 12 (word c p x) m0 v → Left c words v.place (receive c s.current.routine (home c s.current.routine t))
+      (c.site s.current.routine (suc s.current.place)) → Arrives c words (record s { current = giving t x s.current }) m
   receives_end p s m0 f t x m v h bytes g silent good sh a l =
       let r = s.current.routine in
-      let z = receive_run c words b.stood b.laid b.placed r f (framed p s m0 f h) t (word c p x) [] _ m0 m v sh h.stack a (left_whole c words v.place _ (receive c r (home c r t)) l) in
-      arrive_to (record s { current = giving t x s.current }) m z.view z.to (arrive_here p (record s { current = giving t x s.current }) z.to.to z.view f z.to.shows (record { related = related_gives c b.laid b.placed p s m0 (machine_of z.view) f t x h g good z.settled; place = z.place ∙ sym l.ends; input = bytes; flags = silent z.view }))
+      let z = receive_run c words b.stood b.laid b.placed r f (framed p s m0 f h) t
+      (word c p x) [] _ m0 m v sh h.stack a (left_whole c words v.place _ (receive c r (home c r t)) l) in
+      arrive_to (record s { current = giving t x s.current }) m z.view z.to
+      (arrive_here p (record s { current = giving t x s.current }) z.to.to z.view f z.to.shows (record {
+        related = related_gives c b.laid b.placed p s m0 (machine_of z.view) f t x h g good z.settled;
+        place = z.place ∙ sym l.ends;
+        input = bytes;
+        flags = silent z.view;
+      }))
 
-  -- its home took the word already
-  pub settles_end : (p : Places) (s : State) (m0 : Machine) (f t : ℕ) (x : Value) (m : machine.State) (v : View) → Related c p s m0 f → AreBytes s.tape.input → Writes c s.current.routine s.current.place t → ((w : View) → Straight c s.current.routine (suc s.current.place) w) → IsValue c p x → Shows words c.size m v → Settled c s.current.routine f (home c s.current.routine t) (word c p x) m0 (machine_of v) → v.place ≡ c.site s.current.routine (suc s.current.place) → Arrives c words (record s { current = giving t x s.current }) m
+  -- its home already took the word
+  pub settles_end : (p : Places) (s : State) (m0 : Machine) (f t : ℕ) (x : Value) (m : machine.State) (v : View)
+      → Related c p s m0 f → AreBytes s.tape.input → Writes c s.current.routine s.current.place t
+      → ((w : View) → Straight c s.current.routine (suc s.current.place) w) → IsValue c p x → Shows words c.size m v
+      → Settled c s.current.routine f (home c s.current.routine t) (word c p x) m0 (machine_of v) → v.place
+      ≡ c.site s.current.routine (suc s.current.place) → Arrives c words (record s { current = giving t x s.current }) m
   settles_end p s m0 f t x m v h bytes g silent good sh d e =
-      arrive_here p (record s { current = giving t x s.current }) m v f sh (record { related = related_gives c b.laid b.placed p s m0 (machine_of v) f t x h g good d; place = e; input = bytes; flags = silent v })
+      arrive_here p (record s { current = giving t x s.current }) m v f sh (record {
+        related = related_gives c b.laid b.placed p s m0 (machine_of v) f t x h g good d;
+        place = e;
+        input = bytes;
+        flags = silent v;
+      })
 
   -- the register of its home took its word, less what it is short of
-  pub bends_end : (p : Places) (s : State) (m0 : Machine) (f t : ℕ) (x : Value) (bent : ℕ × ℕ) (m : machine.State) (v : View) → Related c p s m0 f → AreBytes s.tape.input → Writes c s.current.routine s.current.place t → Flags c s.current.routine (suc s.current.place) v → bent_at c s.current.routine (suc s.current.place) ≡ Some bent → home c s.current.routine t ≡ Reg bent.0 → IsValue c p x → Shows words c.size m v → v.registers bent.0 + bent.1 ≡ word c p x → ((q : ℕ) → q ≢ 12 → q ≢ 15 → q ≢ bent.0 → v.registers q ≡ m0.registers q) → ((a : ℕ) → v.words a ≡ m0.words a) → v.place ≡ c.site s.current.routine (suc s.current.place) → Arrives c words (record s { current = giving t x s.current }) m
+  pub bends_end : (p : Places) (s : State) (m0 : Machine) (f t : ℕ) (x : Value) (bent : ℕ × ℕ) (m : machine.State)
+      (v : View) → Related c p s m0 f → AreBytes s.tape.input → Writes c s.current.routine s.current.place t
+      → Flags c s.current.routine (suc s.current.place) v → bent_at c s.current.routine (suc s.current.place)
+      ≡ Some bent → home c s.current.routine t ≡ Reg bent.0 → IsValue c p x → Shows words c.size m v
+      → v.registers bent.0 + bent.1 ≡ word c p x
+      → ((q : ℕ) → q ≢ 12 → q ≢ 15 → q ≢ bent.0 → v.registers q ≡ m0.registers q) → ((a : ℕ) → v.words a ≡ m0.words a)
+      → v.place ≡ c.site s.current.routine (suc s.current.place) → Arrives c words
+      (record s { current = giving t x s.current }) m
   bends_end p s m0 f t x bent m v h bytes g flags is home_is good sh here regs same e =
       let r = s.current.routine in
       let v' = record v { registers = update bent.0 (v.registers bent.0 + bent.1) v.registers } in
       let lt = b.placed.register r t bent.0 home_is in
-      let a : Aside bent.0 (word c p x) m0 v' = record { here = update_same v.registers bent.0 _ ∙ here; registers = λ q n12 n15 nq. update_other v.registers bent.0 _ q nq ∙ regs q n12 n15 nq; words = same } in
-      let settled = in_register c words b.stood b.laid b.placed r f (framed p s m0 f h) bent.0 (word c p x) m0 v' lt a in
+      let a : Aside bent.0 (word c p x) m0 v' = record {
+        here = update_same v.registers bent.0 _ ∙ here;
+        registers = λ q n12 n15 nq. update_other v.registers bent.0 _ q nq ∙ regs q n12 n15 nq;
+        words = same;
+      } in
+      let settled = in_register c words b.stood b.laid b.placed r f (framed p s m0 f h) bent.0 (word c p x) m0 v' lt a
+      in
       let s' = record s { current = giving t x s.current } in
-      let rel = related_gives c b.laid b.placed p s m0 (machine_of v') f t x h g good (subst (λ y. Settled c r f y (word c p x) m0 (machine_of v')) (sym home_is) settled) in
-      let meets : Meets c words p s' v f = record { related = subst (λ o. Related c p s' (unbent o (machine_of v)) f) (sym is) rel; place = e; input = bytes; flags = flags } in
+      let rel = related_gives c b.laid b.placed p s m0 (machine_of v') f t x h g good
+      (subst (λ y. Settled c r f y (word c p x) m0 (machine_of v')) (sym home_is) settled) in
+      let meets : Meets c words p s' v f = record {
+        related = subst (λ o. Related c p s' (unbent o (machine_of v)) f) (sym is) rel;
+        place = e;
+        input = bytes;
+        flags = flags;
+      } in
       record { to = m; places = p; view = v; frame = f; shows = sh; meets = meets; runs = λ k. (k, omega arith, refl) }

@@ -1,5 +1,7 @@
 -- Comparisons, as values and as branches.
-use Rattle.std.proofs.Common.{◌≡◌, ◌≢◌, ℕ, zero, suc, ◌+◌, ◌<◌, ◌≤◌, ◌⊎◌, inl, inr, Bool, true, false, cond, not, ◌||◌, nat_eq, nat_lt, nat_le, List, [], ◌∷◌, length, Option, Some, None, slice_get, ℤ, pos, negsuc, ◌-ℤ◌, refl, sym, ap, ◌∙◌, subst, arith}
+use Rattle.std.proofs.Common.{◌≡◌, ◌≢◌, ℕ, zero, suc, ◌+◌, ◌<◌, ◌≤◌, ◌⊎◌, inl, inr, Bool, true, false, cond, not, ◌||◌}
+use Rattle.std.proofs.Common.{nat_eq, nat_lt, nat_le, List, [], ◌∷◌, length, Option, Some, None, slice_get, ℤ, pos}
+use Rattle.std.proofs.Common.{negsuc, ◌-ℤ◌, refl, sym, ap, ◌∙◌, subst, arith}
 use Rattle.std.specs.Prelude.{int_lt}
 use Rattle.std.proofs.lemmas.Int.{ints}
 use Rattle.std.proofs.lemmas.Bool.{cases_eq}
@@ -26,7 +28,8 @@ use Rattle.risc_emit_forms.specs.Forms.{condition}
 
 -- ---- numbers
 
-equal_words : (x y : ℤ) → IsNumber x → IsNumber y → nat_eq (difference_of (word_of_int x) (word_of_int y)) 0 ≡ same_number x y
+equal_words : (x y : ℤ) → IsNumber x → IsNumber y → nat_eq (difference_of (word_of_int x) (word_of_int y)) 0
+    ≡ same_number x y
 equal_words (pos a) (pos b) hx hy = go (cases_eq a b)
   where
     yes : (n m : ℕ) → n ≡ m → nat_eq n m ≡ true
@@ -63,17 +66,24 @@ pub record Differs (x y : ℤ) (v : View) : Type 0 where
   pub equal : v.equal ≡ same_number x y
   pub less : differ v.negative v.overflow ≡ int_lt x y
 
-pub differs : (d a : ℕ) (o : instr.Operand) (x y : ℤ) (v : View) → IsNumber x → IsNumber y → v.registers a ≡ word_of_int x → operand_view v o ≡ word_of_int y → Differs x y (after (word.Operate op.Sub d a o) v)
+pub differs : (d a : ℕ) (o : instr.Operand) (x y : ℤ) (v : View) → IsNumber x → IsNumber y → v.registers a
+    ≡ word_of_int x → operand_view v o ≡ word_of_int y → Differs x y (after (word.Operate op.Sub d a o) v)
 differs d a o x y v hx hy ex ey =
-    let e : Differs x y (subtracted_view d (word_of_int x) (word_of_int y) 0 v) = record { equal = equal_words x y hx hy; less = ap (differ (nat_le 2147483648 (difference_of (word_of_int x) (word_of_int y)))) same ∙ compare_flags x y hx hy } in
-    subst (λ m. Differs x y (subtracted_view d m (operand_view v o) 0 v)) (sym ex) (subst (λ n. Differs x y (subtracted_view d (word_of_int x) n 0 v)) (sym ey) e)
+    let e : Differs x y (subtracted_view d (word_of_int x) (word_of_int y) 0 v) = record {
+      equal = equal_words x y hx hy;
+      less = ap (differ (nat_le 2147483648 (difference_of (word_of_int x) (word_of_int y)))) same
+          ∙ compare_flags x y hx hy;
+    } in
+    subst (λ m. Differs x y (subtracted_view d m (operand_view v o) 0 v)) (sym ex)
+    (subst (λ n. Differs x y (subtracted_view d (word_of_int x) n 0 v)) (sym ey) e)
   where
     minus_zero : (z : ℤ) → z -ℤ pos 0 ≡ z
     minus_zero z = omega (arith, ints)
 
     same : overflows (signed (word_of_int x) -ℤ signed (word_of_int y) -ℤ pos 0) ≡ overflows (x -ℤ y)
     same =
-        ap (λ z. overflows (z -ℤ signed (word_of_int y) -ℤ pos 0)) (signed_word x hx) ∙ ap (λ z. overflows (x -ℤ z -ℤ pos 0)) (signed_word y hy) ∙ ap overflows (minus_zero (x -ℤ y))
+        ap (λ z. overflows (z -ℤ signed (word_of_int y) -ℤ pos 0)) (signed_word x hx)
+        ∙ ap (λ z. overflows (x -ℤ z -ℤ pos 0)) (signed_word y hy) ∙ ap overflows (minus_zero (x -ℤ y))
 
 -- less or equal is not more
 at_most : (x y : ℤ) → int_lt x y || same_number x y ≡ not (int_lt y x)
@@ -92,7 +102,8 @@ pub not_not : (t : Bool) → not (not t) ≡ t
 not_not true = refl
 not_not false = refl
 
-pub compared_flags : (relation : Relation) (x y : ℤ) (v : View) → Differs x y v → holds_view v (condition relation) ≡ compared relation x y
+pub compared_flags : (relation : Relation) (x y : ℤ) (v : View) → Differs x y v → holds_view v (condition relation)
+    ≡ compared relation x y
 compared_flags Equal x y v e = e.equal
 compared_flags NotEqual x y v e = ap not e.equal
 compared_flags Less x y v e = e.less
@@ -156,7 +167,10 @@ module _ (c : Context) (laid : IsLaid c) (p : Places) (s : State) (w : ℕ → �
           let n : Some k ≡ q = cc e in
           let z = eq_of o 0 is in
           let at : p.object k + o ≡ p.object k = omega (arith, z) in
-          record { is = at ∙ ap pointer_word n; named = λ j ej. let same : k ≡ j = cc (n ∙ ej) in subst (λ x. x < p.objects) same good.0 }
+          record {
+            is = at ∙ ap pointer_word n;
+            named = λ j ej. let same : k ≡ j = cc (n ∙ ej) in subst (λ x. x < p.objects) same good.0;
+          }
       go false is e = absurd (cc e)
   points (Address (blocks.Frame k) o) q good e = absurd (cc e)
   points (Address (blocks.Scratch k) o) q good e = absurd (cc e)
@@ -172,7 +186,8 @@ module _ (c : Context) (laid : IsLaid c) (p : Places) (s : State) (w : ℕ → �
   sides : (a d : ℕ) → a ≢ d → (a < d) ⊎ (d < a)
   sides a d ne = grind arith
 
-  pub pointer_words : (x y : Option ℕ) → ((n : ℕ) → x ≡ Some n → n < p.objects) → ((n : ℕ) → y ≡ Some n → n < p.objects) → nat_eq (pointer_word x) (pointer_word y) ≡ same_pointer x y
+  pub pointer_words : (x y : Option ℕ) → ((n : ℕ) → x ≡ Some n → n < p.objects) → ((n : ℕ) → y ≡ Some n → n < p.objects)
+      → nat_eq (pointer_word x) (pointer_word y) ≡ same_pointer x y
   pointer_words None None hx hy = refl
   pointer_words None (Some n) hx hy = same_no _ _ (let h = object_high n (hy n refl) in omega (arith, h))
   pointer_words (Some m) None hx hy = same_no _ _ (let h = object_high m (hx m refl) in omega (arith, h))
@@ -198,18 +213,27 @@ module _ (c : Context) (laid : IsLaid c) (p : Places) (s : State) (w : ℕ → �
       go (inr ne) = same_no _ _ (omega (arith, ne, la, ld)) ∙ sym (same_no a d ne)
 
   -- Z after the difference of two pointers
-  pointer_flag : (x y : Value) (q r : Option ℕ) → Points x q → Points y r → nat_eq (difference_of (ctx.word c p x) (ctx.word c p y)) 0 ≡ same_pointer q r
+  pointer_flag : (x y : Value) (q r : Option ℕ) → Points x q → Points y r → nat_eq
+      (difference_of (ctx.word c p x) (ctx.word c p y)) 0 ≡ same_pointer q r
   pointer_flag x y q r hx hy =
-      ap (λ a. nat_eq (difference_of a (ctx.word c p y)) 0) hx.is ∙ ap (λ d. nat_eq (difference_of (pointer_word q) d) 0) hy.is ∙ zero_difference (pointer_word q) (pointer_word r) (pointer_low q) (pointer_low r) ∙ pointer_words q r hx.named hy.named
+      ap (λ a. nat_eq (difference_of a (ctx.word c p y)) 0) hx.is
+      ∙ ap (λ d. nat_eq (difference_of (pointer_word q) d) 0) hy.is ∙ zero_difference (pointer_word q)
+      (pointer_word r) (pointer_low q) (pointer_low r) ∙ pointer_words q r hx.named hy.named
 
   -- Z after the difference of two words
-  flag : (x y : Value) (d a : ℕ) (o : instr.Operand) (v : View) → v.registers a ≡ ctx.word c p x → operand_view v o ≡ ctx.word c p y → (after (word.Operate op.Sub d a o) v).equal ≡ nat_eq (difference_of (ctx.word c p x) (ctx.word c p y)) 0
+  flag : (x y : Value) (d a : ℕ) (o : instr.Operand) (v : View) → v.registers a ≡ ctx.word c p x → operand_view v o
+      ≡ ctx.word c p y → (after (word.Operate op.Sub d a o) v).equal ≡ nat_eq
+      (difference_of (ctx.word c p x) (ctx.word c p y)) 0
   flag x y d a o v ex ey =
-      ap (λ m. nat_eq (difference_of m (operand_view v o)) 0) ex ∙ ap (λ n. nat_eq (difference_of (ctx.word c p x) n) 0) ey
+      ap (λ m. nat_eq (difference_of m (operand_view v o)) 0) ex
+      ∙ ap (λ n. nat_eq (difference_of (ctx.word c p x) n) 0) ey
 
   -- ---- two values as a relation says
 
-  by_pointers : (relation : Relation) (x y : Value) (holds : Bool) (d a : ℕ) (o : instr.Operand) (v : View) → IsValue c p x → IsValue c p y → v.registers a ≡ ctx.word c p x → operand_view v o ≡ ctx.word c p y → (q r : Option (Option ℕ)) → pointer_of (Some x) ≡ q → pointer_of (Some y) ≡ r → pointers_related relation q r ≡ Some holds → holds_view (after (word.Operate op.Sub d a o) v) (condition relation) ≡ holds
+  by_pointers : (relation : Relation) (x y : Value) (holds : Bool) (d a : ℕ) (o : instr.Operand) (v : View)
+      → IsValue c p x → IsValue c p y → v.registers a ≡ ctx.word c p x → operand_view v o ≡ ctx.word c p y
+      → (q r : Option (Option ℕ)) → pointer_of (Some x) ≡ q → pointer_of (Some y) ≡ r → pointers_related relation q r
+      ≡ Some holds → holds_view (after (word.Operate op.Sub d a o) v) (condition relation) ≡ holds
   by_pointers Equal x y holds d a o v gx gy ex ey (Some q) (Some r) eq er e =
       let z : same_pointer q r ≡ holds = cc e in
       flag x y d a o v ex ey ∙ pointer_flag x y q r (points x q gx eq) (points y r gy er) ∙ z
@@ -225,14 +249,21 @@ module _ (c : Context) (laid : IsLaid c) (p : Places) (s : State) (w : ℕ → �
   by_pointers Greater x y holds d a o v gx gy ex ey q r eq er e = absurd (cc e)
   by_pointers GreaterEqual x y holds d a o v gx gy ex ey q r eq er e = absurd (cc e)
 
-  pub related_flags : (relation : Relation) (x y : Value) (holds : Bool) (d a : ℕ) (o : instr.Operand) (v : View) → IsValue c p x → IsValue c p y → v.registers a ≡ ctx.word c p x → operand_view v o ≡ ctx.word c p y → related relation (Some x) (Some y) ≡ Some holds → holds_view (after (word.Operate op.Sub d a o) v) (condition relation) ≡ holds
+  pub related_flags : (relation : Relation) (x y : Value) (holds : Bool) (d a : ℕ) (o : instr.Operand) (v : View)
+      → IsValue c p x → IsValue c p y → v.registers a ≡ ctx.word c p x → operand_view v o ≡ ctx.word c p y
+      → related relation (Some x) (Some y) ≡ Some holds → holds_view (after (word.Operate op.Sub d a o) v)
+      (condition relation) ≡ holds
   related_flags relation (Number x) (Number y) holds d a o v gx gy ex ey e =
-      compared_flags relation x y (after (word.Operate op.Sub d a o) v) (differs d a o x y v gx gy ex ey) ∙ (let z : compared relation x y ≡ holds = cc e in z)
+      compared_flags relation x y (after (word.Operate op.Sub d a o) v) (differs d a o x y v gx gy ex ey)
+      ∙ (let z : compared relation x y ≡ holds = cc e in z)
   related_flags relation (Number x) (Address b n) holds d a o v gx gy ex ey e =
-      by_pointers relation (Number x) (Address b n) holds d a o v gx gy ex ey (pointer_of (Some (Number x))) (pointer_of (Some (Address b n))) refl refl e
+      by_pointers relation (Number x) (Address b n) holds d a o v gx gy ex ey (pointer_of (Some (Number x)))
+      (pointer_of (Some (Address b n))) refl refl e
   related_flags relation (Number x) (Routine r) holds d a o v gx gy ex ey e =
-      by_pointers relation (Number x) (Routine r) holds d a o v gx gy ex ey (pointer_of (Some (Number x))) None refl refl e
+      by_pointers relation (Number x) (Routine r) holds d a o v gx gy ex ey
+      (pointer_of (Some (Number x))) None refl refl e
   related_flags relation (Address b n) y holds d a o v gx gy ex ey e =
-      by_pointers relation (Address b n) y holds d a o v gx gy ex ey (pointer_of (Some (Address b n))) (pointer_of (Some y)) refl refl e
+      by_pointers relation (Address b n) y holds d a o v gx gy ex ey (pointer_of (Some (Address b n)))
+      (pointer_of (Some y)) refl refl e
   related_flags relation (Routine r) y holds d a o v gx gy ex ey e =
       by_pointers relation (Routine r) y holds d a o v gx gy ex ey None (pointer_of (Some y)) refl refl e

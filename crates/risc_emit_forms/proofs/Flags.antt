@@ -1,10 +1,16 @@
--- At which places flags are told of a temporary, and at which of none.
-use Rattle.std.proofs.Common.{◌≡◌, ◌≢◌, ℕ, zero, suc, ◌+◌, ◌<◌, ◌⊎◌, inl, inr, Bool, true, false, cond, not, ◌&&◌, ◌||◌, ℤ, nat_eq, nat_lt, nat_le, List, [], ◌∷◌, length, Option, Some, None, slice_get, slice_set, get_or, replicate, refl, sym, ap, ◌∙◌, subst, arith}
+-- At which places flags belong to a temporary, and at which to none.
+use Rattle.std.proofs.Common.{◌≡◌, ◌≢◌, ℕ, zero, suc, ◌+◌, ◌<◌, ◌⊎◌, inl, inr, Bool, true, false, cond, not, ◌&&◌}
+use Rattle.std.proofs.Common.{◌||◌, ℤ, nat_eq, nat_lt, nat_le, List, [], ◌∷◌, length, Option, Some, None, slice_get}
+use Rattle.std.proofs.Common.{slice_set, get_or, replicate, refl, sym, ap, ◌∙◌, subst, arith}
 use Rattle.std.proofs.lemmas.Bool.{cases_eq}
 use Rattle.risc_machine_laws.specs.View.{View}
 use Rattle.tac_code.specs.declared.code.Operator.TheVariants.{Add, Subtract, Multiply, Divide, Modulo}
 use Rattle.tac_code.specs.declared.code.Instruction.{Instruction}
-use Rattle.tac_code.specs.declared.code.Instruction.TheVariants.{Literal, Copy, Arithmetic, Bits, Compare, CheckRange, CheckPointer, Text, Offset, Index, RoutineValue, Load, Store, LoadByte, StoreByte, Jump, JumpBack, Branch, BranchBack, Call, CallValue, Return, Trap, Take, Put, New, End}
+use Rattle.tac_code.specs.declared.code.Instruction.TheVariants.{Literal, Copy, Arithmetic, Bits, Compare, CheckRange}
+use Rattle.tac_code.specs.declared.code.Instruction.TheVariants.{CheckPointer, Text, Offset, Index, RoutineValue, Load}
+use Rattle.tac_code.specs.declared.code.Instruction.TheVariants.{Store, LoadByte, StoreByte, Jump, JumpBack, Branch}
+use Rattle.tac_code.specs.declared.code.Instruction.TheVariants.{BranchBack, Call, CallValue, Return, Trap, Take, Put}
+use Rattle.tac_code.specs.declared.code.Instruction.TheVariants.{New, End}
 use Rattle.tac_code.specs.declared.code.TacRoutine.{TacRoutine}
 use Rattle.tac_code.specs.Meaning.{routines, body_at, fetch}
 use Rattle.risc_alloc.specs.Flow.{is_among, is_it, next_of, written_by, result_of, gives_to, comes_back}
@@ -15,7 +21,8 @@ use Rattle.risc_alloc.specs.declared.homes.Home.TheVariants.{Slot, Reg}
 use Rattle.tac_code.specs.declared.code.Base.{Base}
 use Rattle.tac_code.specs.declared.code.Base.TheVariants as base
 use Rattle.risc_emit_relation.proofs.Basics.{eq_of, eqb_same}
-use Rattle.risc_emit_forms.specs.Told.{sets_flags, flagged_by, flagged_in, jump_of, set_in, marked, jumped, told_in, told_at, block_at, bend_in, bend_load, bend, bent_in, bent_at}
+use Rattle.risc_emit_forms.specs.Told.{sets_flags, flagged_by, flagged_in, jump_of, set_in, marked, jumped, told_in}
+use Rattle.risc_emit_forms.specs.Told.{told_at, block_at, bend_in, bend_load, bend, bent_in, bent_at}
 use Rattle.risc_emit_forms.specs.Follows.{Flags, Straight}
 
 -- ---- instructions
@@ -68,7 +75,7 @@ jumps_there (Take t) k k' e ne = absurd (ne (only k' (suc k) e))
 jumps_there (Put a) k k' e ne = absurd (ne (only k' (suc k) e))
 jumps_there (New t type line) k k' e ne = absurd (ne (only k' (suc k) e))
 
--- an instruction that flags are told of writes the temporary, and is no call
+-- an instruction after which the flags belong to a temporary writes it, and is no call
 record Plainly (i : Instruction) (t : ℕ) : Type 0 where
   written : written_by i ≡ Some t
   result : result_of i ≡ None
@@ -106,7 +113,7 @@ plainly (Put a) t e = absurd (cc e)
 plainly (New u type line) t e = absurd (cc e)
 plainly End t e = absurd (cc e)
 
--- behind most instructions flags are told of no temporary, and no register is short of an offset
+-- after most instructions flags belong to no temporary, and no register is short of an offset
 abbrev pub is_silent : Instruction → Bool
 is_silent (Arithmetic operator t a b error line) = not (sets_flags operator)
 is_silent (Bits operator t a b) = false
@@ -148,7 +155,7 @@ silent_none (New t type line) e = refl
 silent_none End e = refl
 silent_none (Index t a i low high width error line) e = absurd (cc e)
 
--- an instruction behind which one may be
+-- an instruction after which one may be
 record Bends (i : Instruction) : Type 0 where
   to : ℕ
   written : written_by i ≡ Some to
@@ -156,8 +163,15 @@ record Bends (i : Instruction) : Type 0 where
   none : flagged_by i ≡ None
   loud : is_silent i ≡ false
 
-bends : (c : Context) (r : ℕ) (i : Instruction) (next : Option Instruction) (x : ℕ × ℕ) → bend c r (Some i) next ≡ Some x → Bends i
-bends c r (Index t a i low high width error line) next x e = record { to = t; written = refl; result = refl; none = refl; loud = refl }
+bends : (c : Context) (r : ℕ) (i : Instruction) (next : Option Instruction) (x : ℕ × ℕ) → bend c r (Some i) next
+    ≡ Some x → Bends i
+bends c r (Index t a i low high width error line) next x e = record {
+  to = t;
+  written = refl;
+  result = refl;
+  none = refl;
+  loud = refl;
+}
 bends c r (Literal t z) next x e = absurd (cc e)
 bends c r (Copy t a) next x e = absurd (cc e)
 bends c r (Arithmetic operator t a b error line) next x e = absurd (cc e)
@@ -207,12 +221,14 @@ in_keeps : (o : Option ℕ) (bs : List Bool) (k : ℕ) → IsMarked bs k → IsM
 in_keeps None bs k h = h
 in_keeps (Some t) bs k h = set_keeps bs t k h
 
-marked_keeps : (is : List Instruction) (place : ℕ) (bs : List Bool) (k : ℕ) → IsMarked bs k → IsMarked (marked is place bs) k
+marked_keeps : (is : List Instruction) (place : ℕ) (bs : List Bool) (k : ℕ) → IsMarked bs k → IsMarked
+    (marked is place bs) k
 marked_keeps [] place bs k h = h
 marked_keeps (i ∷ is) place bs k h =
     marked_keeps is (suc place) (set_in (jump_of i place) bs) k (in_keeps (jump_of i place) bs k h)
 
-marked_there : (is : List Instruction) (place : ℕ) (bs : List Bool) (k : ℕ) (i : Instruction) (t : ℕ) → slice_get is k ≡ Some i → jump_of i (place + k) ≡ Some t → IsMarked (marked is place bs) t
+marked_there : (is : List Instruction) (place : ℕ) (bs : List Bool) (k : ℕ) (i : Instruction) (t : ℕ) → slice_get is k
+    ≡ Some i → jump_of i (place + k) ≡ Some t → IsMarked (marked is place bs) t
 marked_there [] place bs k i t is j = absurd (cc is)
 marked_there (x ∷ xs) place bs zero i t is j =
     let same : x ≡ i = cc is in
@@ -223,9 +239,10 @@ marked_there (x ∷ xs) place bs (suc k) i t is j =
     let at : place + suc k ≡ suc place + k = omega arith in
     marked_there xs (suc place) _ k i t is (ap (jump_of i) (sym at) ∙ j)
 
--- ---- what is told
+-- ---- what is known
 
-told_next : (o : Option TacRoutine) (k : ℕ) (i : Instruction) (t : ℕ) → body_at o k ≡ Some i → told_in o (suc k) ≡ Some t → flagged_by i ≡ Some t
+told_next : (o : Option TacRoutine) (k : ℕ) (i : Instruction) (t : ℕ) → body_at o k ≡ Some i → told_in o (suc k)
+    ≡ Some t → flagged_by i ≡ Some t
 told_next None k i t here e = absurd (cc e)
 told_next (Some routine) k i t here e = go (get_or (jumped routine.body) (suc k) true) e
   where
@@ -233,11 +250,14 @@ told_next (Some routine) k i t here e = go (get_or (jumped routine.body) (suc k)
     go true e = absurd (cc e)
     go false e = ap flagged_in (sym here) ∙ e
 
--- nothing is told where a jump leads
-told_no_jump : (o : Option TacRoutine) (k k' : ℕ) (i : Instruction) (t : ℕ) → body_at o k ≡ Some i → jump_of i k ≡ Some k' → told_in o k' ≡ Some t → ⊥
+-- nothing is known where a jump leads
+told_no_jump : (o : Option TacRoutine) (k k' : ℕ) (i : Instruction) (t : ℕ) → body_at o k ≡ Some i → jump_of i k
+    ≡ Some k' → told_in o k' ≡ Some t → ⊥
 told_no_jump None k k' i t here j e = cc e
 told_no_jump (Some routine) k zero i t here j e = cc e
-told_no_jump (Some routine) k (suc k') i t here j e = go (get_or (jumped routine.body) (suc k') true) (marked_there routine.body 0 (replicate (length routine.body) false) k i (suc k') here (ap (jump_of i) (from_none k) ∙ j)) e
+told_no_jump (Some routine) k (suc k') i t here j e = go (get_or (jumped routine.body) (suc k') true)
+    (marked_there routine.body 0 (replicate (length routine.body) false) k i (suc k') here
+    (ap (jump_of i) (from_none k) ∙ j)) e
   where
     from_none : (k : ℕ) → 0 + k ≡ k
     from_none k = omega arith
@@ -250,45 +270,57 @@ none_of : {X : Type 0} (o : Option X) → ((x : X) → o ≡ Some x → ⊥) →
 none_of None h = refl
 none_of (Some x) h = absurd (h x refl)
 
--- no register is short of an offset but behind an index, and none where a jump leads
-bent_next : (c : Context) (r : ℕ) (o : Option TacRoutine) (k : ℕ) (i : Instruction) (x : ℕ × ℕ) → body_at o k ≡ Some i → bent_in c r o (suc k) ≡ Some x → Bends i
+-- no register is short of an offset but after an index, and none where a jump leads
+bent_next : (c : Context) (r : ℕ) (o : Option TacRoutine) (k : ℕ) (i : Instruction) (x : ℕ × ℕ) → body_at o k ≡ Some i
+    → bent_in c r o (suc k) ≡ Some x → Bends i
 bent_next c r None k i x here e = absurd (cc e)
 bent_next c r (Some routine) k i x here e = go (get_or (jumped routine.body) (suc k) true) e
   where
-    go : (b : Bool) → cond b None (bend c r (slice_get routine.body k) (slice_get routine.body (suc k))) ≡ Some x → Bends i
+    go : (b : Bool) → cond b None (bend c r (slice_get routine.body k) (slice_get routine.body (suc k))) ≡ Some x
+        → Bends i
     go true e = absurd (cc e)
-    go false e = bends c r i (slice_get routine.body (suc k)) x (ap (λ o. bend c r o (slice_get routine.body (suc k))) (sym here) ∙ e)
+    go false e = bends c r i (slice_get routine.body (suc k)) x
+        (ap (λ o. bend c r o (slice_get routine.body (suc k))) (sym here) ∙ e)
 
-bent_no_jump : (c : Context) (r : ℕ) (o : Option TacRoutine) (k k' : ℕ) (i : Instruction) (x : ℕ × ℕ) → body_at o k ≡ Some i → jump_of i k ≡ Some k' → bent_in c r o k' ≡ Some x → ⊥
+bent_no_jump : (c : Context) (r : ℕ) (o : Option TacRoutine) (k k' : ℕ) (i : Instruction) (x : ℕ × ℕ) → body_at o k
+    ≡ Some i → jump_of i k ≡ Some k' → bent_in c r o k' ≡ Some x → ⊥
 bent_no_jump c r None k k' i x here j e = cc e
 bent_no_jump c r (Some routine) k zero i x here j e = cc e
-bent_no_jump c r (Some routine) k (suc k') i x here j e = go (get_or (jumped routine.body) (suc k') true) (marked_there routine.body 0 (replicate (length routine.body) false) k i (suc k') here (ap (jump_of i) (from_none k) ∙ j)) e
+bent_no_jump c r (Some routine) k (suc k') i x here j e = go (get_or (jumped routine.body) (suc k') true)
+    (marked_there routine.body 0 (replicate (length routine.body) false) k i (suc k') here
+    (ap (jump_of i) (from_none k) ∙ j)) e
   where
     from_none : (k : ℕ) → 0 + k ≡ k
     from_none k = omega arith
 
-    go : (b : Bool) → b ≡ true → cond b None (bend c r (slice_get routine.body k') (slice_get routine.body (suc k'))) ≡ Some x → ⊥
+    go : (b : Bool) → b ≡ true → cond b None (bend c r (slice_get routine.body k') (slice_get routine.body (suc k')))
+        ≡ Some x → ⊥
     go true is e = cc e
     go false is e = cc is
 
 module _ (c : Context) (r k : ℕ) where
-  -- the flags at the place behind an instruction are told of its own temporary alone
-  pub told_behind : (i : Instruction) (t : ℕ) → fetch c.code r k ≡ Some i → told_at c r (suc k) ≡ Some t → flagged_by i ≡ Some t
+  -- the flags at the place after an instruction belong only to its own temporary
+  pub told_behind : (i : Instruction) (t : ℕ) → fetch c.code r k ≡ Some i → told_at c r (suc k) ≡ Some t → flagged_by i
+      ≡ Some t
   told_behind i t here e = told_next (slice_get (routines c.code) r) k i t here e
 
   bent_behind : (i : Instruction) (x : ℕ × ℕ) → fetch c.code r k ≡ Some i → bent_at c r (suc k) ≡ Some x → Bends i
   bent_behind i x here e = bent_next c r (slice_get (routines c.code) r) k i x here e
 
-  -- of none behind most
+  -- to none after most
   pub unflagged : (i : Instruction) → fetch c.code r k ≡ Some i → flagged_by i ≡ None → (v : View) → Flags c r (suc k) v
   unflagged i here none v t q e h = absurd (cc (sym none ∙ told_behind i t here e))
 
   pub silent : (i : Instruction) → fetch c.code r k ≡ Some i → is_silent i ≡ true → (v : View) → Straight c r (suc k) v
-  silent i here quiet v =
-      (unflagged i here (silent_none i quiet) v, none_of (bent_at c r (suc k)) (λ x e. cc (sym quiet ∙ (bent_behind i x here e).loud)))
+  silent i here quiet v = (
+    unflagged i here (silent_none i quiet) v,
+    none_of (bent_at c r (suc k))
+        (λ x e. cc (sym quiet ∙ (bent_behind i x here e).loud)),
+  )
 
-  -- nor is a register short of an offset where they are told of one
-  pub flagged_straight : (i : Instruction) (t : ℕ) → fetch c.code r k ≡ Some i → flagged_by i ≡ Some t → bent_at c r (suc k) ≡ None
+  -- nor is a register short of an offset where they belong to one
+  pub flagged_straight : (i : Instruction) (t : ℕ) → fetch c.code r k ≡ Some i → flagged_by i ≡ Some t → bent_at c r
+      (suc k) ≡ None
   flagged_straight i t here f = none_of (bent_at c r (suc k)) (λ x e. cc (sym (bent_behind i x here e).none ∙ f))
 
   -- nor where an instruction leads that writes none
@@ -301,17 +333,22 @@ module _ (c : Context) (r k : ℕ) where
       leads_there : (i : Instruction) → fetch c.code r k ≡ Some i → is_among k' (next_of i k) ≡ true
       leads_there i is = sym (ap (λ o. flow.leads o k k') is) ∙ g.there
 
-      flags : (t q : ℕ) → told_at c r k' ≡ Some t → home c r t ≡ Reg q → (v.equal ≡ nat_eq (v.registers q) 0) × (v.negative ≡ nat_le 2147483648 (v.registers q))
+      flags : (t q : ℕ) → told_at c r k' ≡ Some t → home c r t ≡ Reg q → (v.equal ≡ nat_eq (v.registers q) 0)
+          × (v.negative ≡ nat_le 2147483648 (v.registers q))
       flags t q e h = go (fetch c.code r k) refl
         where
-          go : (o : Option Instruction) → fetch c.code r k ≡ o → (v.equal ≡ nat_eq (v.registers q) 0) × (v.negative ≡ nat_le 2147483648 (v.registers q))
+          go : (o : Option Instruction) → fetch c.code r k ≡ o → (v.equal ≡ nat_eq (v.registers q) 0)
+              × (v.negative ≡ nat_le 2147483648 (v.registers q))
           go None is = absurd (cc (sym (ap (λ o. flow.leads o k k') is) ∙ g.there))
           go (Some i) is = sides (cases_eq k' (suc k))
             where
-              sides : (k' ≡ suc k) ⊎ (k' ≢ suc k) → (v.equal ≡ nat_eq (v.registers q) 0) × (v.negative ≡ nat_le 2147483648 (v.registers q))
-              sides (inl same) = absurd (writes_none i t is (plainly i t (told_behind i t is (ap (told_at c r) (sym same) ∙ e))).written)
+              sides : (k' ≡ suc k) ⊎ (k' ≢ suc k) → (v.equal ≡ nat_eq (v.registers q) 0)
+                  × (v.negative ≡ nat_le 2147483648 (v.registers q))
+              sides (inl same) = absurd (writes_none i t is
+                  (plainly i t (told_behind i t is (ap (told_at c r) (sym same) ∙ e))).written)
               sides (inr ne) =
-                  absurd (told_no_jump (slice_get (routines c.code) r) k k' i t is (jumps_there i k k' (leads_there i is) ne) e)
+                  absurd (told_no_jump (slice_get (routines c.code) r) k k' i t is
+                  (jumps_there i k k' (leads_there i is) ne) e)
 
       bent : (x : ℕ × ℕ) → bent_at c r k' ≡ Some x → ⊥
       bent x e = go (fetch c.code r k) refl
@@ -321,8 +358,10 @@ module _ (c : Context) (r k : ℕ) where
           go (Some i) is = sides (cases_eq k' (suc k))
             where
               sides : (k' ≡ suc k) ⊎ (k' ≢ suc k) → ⊥
-              sides (inl same) = let w = bent_behind i x is (ap (bent_at c r) (sym same) ∙ e) in writes_none i w.to is w.written
-              sides (inr ne) = bent_no_jump c r (slice_get (routines c.code) r) k k' i x is (jumps_there i k k' (leads_there i is) ne) e
+              sides (inl same) = let w = bent_behind i x is (ap (bent_at c r) (sym same) ∙ e)
+                  in writes_none i w.to is w.written
+              sides (inr ne) = bent_no_jump c r (slice_get (routines c.code) r) k k' i x is
+                  (jumps_there i k k' (leads_there i is) ne) e
 
 -- nor where a call comes back to
 pub called_silent : (c : Context) (r k u : ℕ) → called c r k u ≡ true → (v : View) → Straight c r k v
@@ -332,10 +371,12 @@ called_silent c r (suc k) u g v = (flags, none_of (bent_at c r (suc k)) bent)
     no_result : (i : Instruction) → fetch c.code r k ≡ Some i → result_of i ≡ None → ⊥
     no_result i is none = cc (sym (ap (λ o. gives_to o u) is ∙ ap (is_it u) none) ∙ g)
 
-    flags : (t q : ℕ) → told_at c r (suc k) ≡ Some t → home c r t ≡ Reg q → (v.equal ≡ nat_eq (v.registers q) 0) × (v.negative ≡ nat_le 2147483648 (v.registers q))
+    flags : (t q : ℕ) → told_at c r (suc k) ≡ Some t → home c r t ≡ Reg q → (v.equal ≡ nat_eq (v.registers q) 0)
+        × (v.negative ≡ nat_le 2147483648 (v.registers q))
     flags t q e h = go (fetch c.code r k) refl
       where
-        go : (o : Option Instruction) → fetch c.code r k ≡ o → (v.equal ≡ nat_eq (v.registers q) 0) × (v.negative ≡ nat_le 2147483648 (v.registers q))
+        go : (o : Option Instruction) → fetch c.code r k ≡ o → (v.equal ≡ nat_eq (v.registers q) 0)
+            × (v.negative ≡ nat_le 2147483648 (v.registers q))
         go None is = absurd (cc (sym (ap (λ o. gives_to o u) is) ∙ g))
         go (Some i) is = absurd (no_result i is (plainly i t (told_behind c r k i t is e)).result)
 
@@ -346,9 +387,13 @@ called_silent c r (suc k) u g v = (flags, none_of (bent_at c r (suc k)) bent)
         go None is = cc (sym (ap (λ o. gives_to o u) is) ∙ g)
         go (Some i) is = no_result i is (bent_behind c r k i x is e).result
 
--- nor at the begin of a routine
+-- nor at the beginning of a routine
 pub entered_silent : (c : Context) (r : ℕ) (v : View) → Straight c r 0 v
-entered_silent c r v = (λ t q e h. absurd (none t (slice_get (routines c.code) r) e), straight (slice_get (routines c.code) r))
+entered_silent c r v = (
+  λ t q e h. absurd (none t (slice_get (routines c.code) r) e),
+  straight
+      (slice_get (routines c.code) r),
+)
   where
     none : (t : ℕ) (o : Option TacRoutine) → told_in o 0 ≡ Some t → ⊥
     none t None e = cc e
@@ -360,7 +405,7 @@ entered_silent c r v = (λ t q e h. absurd (none t (slice_get (routines c.code) 
 
 -- ---- what a register is short of
 
--- behind an index it is the offset of its base's block
+-- after an index it is the offset of its base's block
 pub record BentIndex (c : Context) (r t : ℕ) (a : Base) (x : ℕ × ℕ) : Type 0 where
   pub home : home c r t ≡ Reg x.0
   pub offset : block_at c r a ≡ Some x.1
@@ -380,7 +425,8 @@ record Bent (c : Context) (r t : ℕ) (a : Base) (next : Option Instruction) (x 
   offset : block_at c r a ≡ Some x.1
   near : x.1 + behind < 524288
 
-bent_home : (h : Home) (n : ℕ) (o : Option ℕ) (x : ℕ × ℕ) → bend_in h n o ≡ Some x → (h ≡ Reg x.0) × (o ≡ Some x.1) × (x.1 + n < 524288)
+bent_home : (h : Home) (n : ℕ) (o : Option ℕ) (x : ℕ × ℕ) → bend_in h n o ≡ Some x → (h ≡ Reg x.0) × (o ≡ Some x.1)
+    × (x.1 + n < 524288)
 bent_home (Slot j) n o x e = absurd (cc e)
 bent_home (Reg q) n None x e = absurd (cc e)
 bent_home (Reg q) n (Some m) x e = go (nat_lt (m + n) 524288) refl e
@@ -388,21 +434,30 @@ bent_home (Reg q) n (Some m) x e = go (nat_lt (m + n) 524288) refl e
     less : (x y : ℕ) → nat_lt x y ≡ true → x < y
     less x y e = grind arith
 
-    go : (t : Bool) → nat_lt (m + n) 524288 ≡ t → cond t (Some (q, m)) None ≡ Some x → (Reg q ≡ Reg x.0) × (Some m ≡ Some x.1) × (x.1 + n < 524288)
+    go : (t : Bool) → nat_lt (m + n) 524288 ≡ t → cond t (Some (q, m)) None ≡ Some x → (Reg q ≡ Reg x.0)
+        × (Some m ≡ Some x.1) × (x.1 + n < 524288)
     go true lt e =
         let same : (q, m) ≡ x = cc e in
         (ap (λ y. Reg y.0) same, ap (λ y. Some y.1) same, subst (λ y. y.1 + n < 524288) same (less (m + n) 524288 lt))
     go false lt e = absurd (cc e)
 
-bent_load : (c : Context) (r t : ℕ) (a : Base) (next : Option Instruction) (x : ℕ × ℕ) → bend_load c r t a next ≡ Some x → Bent c r t a next x
+bent_load : (c : Context) (r t : ℕ) (a : Base) (next : Option Instruction) (x : ℕ × ℕ) → bend_load c r t a next ≡ Some x
+    → Bent c r t a next x
 bent_load c r t a (Some (Load u (base.Temporary w) n)) x e = go (nat_eq u t) (nat_eq w t) refl refl e
   where
-    go : (y z : Bool) → nat_eq u t ≡ y → nat_eq w t ≡ z → cond (y && z) (bend_in (home c r t) n (block_at c r a)) None ≡ Some x → Bent c r t a (Some (Load u (base.Temporary w) n)) x
+    go : (y z : Bool) → nat_eq u t ≡ y → nat_eq w t ≡ z → cond (y && z) (bend_in (home c r t) n (block_at c r a)) None
+        ≡ Some x → Bent c r t a (Some (Load u (base.Temporary w) n)) x
     go true true ey ez e =
         let k = bent_home (home c r t) n (block_at c r a) x e in
         let ut = eq_of u t ey in
         let wt = eq_of w t ez in
-        record { behind = n; load = ap (λ z. Some (Load z (base.Temporary w) n)) ut ∙ ap (λ z. Some (Load t (base.Temporary z) n)) wt; home = k.0; offset = k.1; near = k.2 }
+        record {
+          behind = n;
+          load = ap (λ z. Some (Load z (base.Temporary w) n)) ut ∙ ap (λ z. Some (Load t (base.Temporary z) n)) wt;
+          home = k.0;
+          offset = k.1;
+          near = k.2;
+        }
     go true false ey ez e = absurd (cc e)
     go false z ey ez e = absurd (cc e)
 bent_load c r t a (Some (Load u base.Frame n)) x e = absurd (cc e)
@@ -436,18 +491,23 @@ bent_load c r t a (Some (New t' type' line')) x e = absurd (cc e)
 bent_load c r t a (Some End) x e = absurd (cc e)
 bent_load c r t a (Some (Index t' a' i' low' high' width' error' line')) x e = absurd (cc e)
 
-bent_both : (c : Context) (r : ℕ) (o : Option TacRoutine) (k : ℕ) (x : ℕ × ℕ) → bent_in c r o (suc k) ≡ Some x → bend c r (body_at o k) (body_at o (suc k)) ≡ Some x
+bent_both : (c : Context) (r : ℕ) (o : Option TacRoutine) (k : ℕ) (x : ℕ × ℕ) → bent_in c r o (suc k) ≡ Some x
+    → bend c r (body_at o k) (body_at o (suc k)) ≡ Some x
 bent_both c r None k x e = absurd (cc e)
 bent_both c r (Some routine) k x e = go (get_or (jumped routine.body) (suc k) true) e
   where
-    go : (b : Bool) → cond b None (bend c r (slice_get routine.body k) (slice_get routine.body (suc k))) ≡ Some x → bend c r (slice_get routine.body k) (slice_get routine.body (suc k)) ≡ Some x
+    go : (b : Bool) → cond b None (bend c r (slice_get routine.body k) (slice_get routine.body (suc k))) ≡ Some x
+        → bend c r (slice_get routine.body k) (slice_get routine.body (suc k)) ≡ Some x
     go true e = absurd (cc e)
     go false e = e
 
-pub bent_index_is : (c : Context) (r k t : ℕ) (a : Base) (i : ℕ) (low high : ℤ) (width error line : ℕ) (x : ℕ × ℕ) → fetch c.code r k ≡ Some (Index t a i low high width error line) → bent_at c r (suc k) ≡ Some x → BentIndex c r t a x
+pub bent_index_is : (c : Context) (r k t : ℕ) (a : Base) (i : ℕ) (low high : ℤ) (width error line : ℕ) (x : ℕ × ℕ)
+    → fetch c.code r k ≡ Some (Index t a i low high width error line) → bent_at c r (suc k) ≡ Some x
+    → BentIndex c r t a x
 bent_index_is c r k t a i low high width error line x here e =
     let both = bent_both c r (slice_get (routines c.code) r) k x e in
-    let is = bent_load c r t a (fetch c.code r (suc k)) x (ap (λ o. bend c r o (fetch c.code r (suc k))) (sym here) ∙ both) in
+    let is = bent_load c r t a (fetch c.code r (suc k)) x
+    (ap (λ o. bend c r o (fetch c.code r (suc k))) (sym here) ∙ both) in
     record { home = is.home; offset = is.offset }
 
 pub bent_load_is : (c : Context) (r k : ℕ) (x : ℕ × ℕ) → bent_at c r k ≡ Some x → BentLoad c r k x
@@ -458,7 +518,8 @@ bent_load_is c r zero x e = absurd (none (slice_get (routines c.code) r) e)
     none (Some routine) e = cc e
 bent_load_is c r (suc k) x e = go (fetch c.code r k) refl (bent_both c r (slice_get (routines c.code) r) k x e)
   where
-    go : (o : Option Instruction) → fetch c.code r k ≡ o → bend c r o (fetch c.code r (suc k)) ≡ Some x → BentLoad c r (suc k) x
+    go : (o : Option Instruction) → fetch c.code r k ≡ o → bend c r o (fetch c.code r (suc k)) ≡ Some x → BentLoad c r
+        (suc k) x
     go None is e = absurd (cc e)
     go (Some (Index t a i low high width error line)) is e =
         let b = bent_load c r t a (fetch c.code r (suc k)) x e in

@@ -1,5 +1,7 @@
 -- Components of arrays: the index checked, and the address of the component.
-use Rattle.std.proofs.Common.{◌≡◌, ◌≢◌, ℕ, zero, suc, ◌+◌, ◌*◌, ◌/◌, ◌%◌, ◌^◌, ◌<◌, inl, inr, Bool, true, false, cond, not, ◌&&◌, nat_eq, nat_lt, List, [], ◌∷◌, ◌++◌, length, Some, ℤ, pos, ◌*ℤ◌, refl, sym, ap, ◌∙◌, subst, arith, append_assoc, Option, None}
+use Rattle.std.proofs.Common.{◌≡◌, ◌≢◌, ℕ, zero, suc, ◌+◌, ◌*◌, ◌/◌, ◌%◌, ◌^◌, ◌<◌, inl, inr, Bool, true, false, cond}
+use Rattle.std.proofs.Common.{not, ◌&&◌, nat_eq, nat_lt, List, [], ◌∷◌, ◌++◌, length, Some, ℤ, pos, ◌*ℤ◌, refl, sym}
+use Rattle.std.proofs.Common.{ap, ◌∙◌, subst, arith, append_assoc, Option, None}
 use Rattle.std.specs.Prelude.{int_lt, ◌≤ℤ◌}
 use Rattle.std.proofs.lemmas.Int.{ints}
 use Rattle.std.proofs.lemmas.Bool.{ltb-true}
@@ -32,10 +34,13 @@ use Rattle.risc_emit_relation.proofs.Basics.{update_same, update_other}
 use Rattle.risc_emit_relation.proofs.Steps.{home_read, value_near}
 use Rattle.risc_emit_forms.specs.Pieces.{Piece, Plain, Left}
 use Rattle.risc_emit_forms.specs.Forms as form
-use Rattle.risc_emit_forms.specs.Forms.{constant, exact, fetched, target, save, base_register, right, right_operand, above_register, range_code, scaled, scaled_register, base_address, address_register, steps_form}
+use Rattle.risc_emit_forms.specs.Forms.{constant, exact, fetched, target, save, base_register, right, right_operand}
+use Rattle.risc_emit_forms.specs.Forms.{above_register, range_code, scaled, scaled_register, base_address}
+use Rattle.risc_emit_forms.specs.Forms.{address_register, steps_form}
 use Rattle.risc_emit_forms.specs.Told.{block_at, bent_at}
 use Rattle.risc_emit_forms.specs.Follows.{machine_of, Built, Belongs, Comes, Follows}
-use Rattle.risc_emit_forms.proofs.Basics.{left_after, left_next, is_read, writes_it, among_first, among_rest, integer_is}
+use Rattle.risc_emit_forms.proofs.Basics.{left_after, left_next, is_read, writes_it, among_first, among_rest}
+use Rattle.risc_emit_forms.proofs.Basics.{integer_is}
 use Rattle.risc_emit_forms.proofs.Flags.{unflagged, bent_index_is}
 use Rattle.risc_emit_forms.proofs.Runs.{Moved, step_to, constant_run, exact_run, fetch_run, fetched_not}
 use Rattle.risc_emit_forms.proofs.Comes.{framed, fetched_is, come_to, come_way, come_step, gives_end, bends_end}
@@ -58,11 +63,13 @@ zero_is = (omega (arith, ints), omega (arith, ints))
 
 product_zero_left : (w : ℕ) → w < 4294967296 → product_of 0 w ≡ 0
 product_zero_left w lt =
-    ap (product_of 0) (sym (read_back w lt)) ∙ product_word (pos 0) (number_of w) zero_is (number_in w) (subst IsNumber (sym (zero_left (number_of w))) zero_is) ∙ ap word_of_int (zero_left (number_of w))
+    ap (product_of 0) (sym (read_back w lt)) ∙ product_word (pos 0) (number_of w) zero_is (number_in w)
+    (subst IsNumber (sym (zero_left (number_of w))) zero_is) ∙ ap word_of_int (zero_left (number_of w))
 
 product_zero_right : (w : ℕ) → w < 4294967296 → product_of w 0 ≡ 0
 product_zero_right w lt =
-    ap (λ x. product_of x 0) (sym (read_back w lt)) ∙ product_word (number_of w) (pos 0) (number_in w) zero_is (subst IsNumber (sym (zero_right (number_of w))) zero_is) ∙ ap word_of_int (zero_right (number_of w))
+    ap (λ x. product_of x 0) (sym (read_back w lt)) ∙ product_word (number_of w) (pos 0) (number_in w) zero_is
+    (subst IsNumber (sym (zero_right (number_of w))) zero_is) ∙ ap word_of_int (zero_right (number_of w))
 
 word_is : (n : ℕ) → n < 4294967296 → word_of_int (pos n) ≡ n
 word_is n lt = omega (arith, ints, lt)
@@ -77,7 +84,8 @@ small_right : (a k : ℕ) → suc a * k < 2147483648 → k < 2147483648
 small_right a k h = let e : suc a * k ≡ a * k + k = grind arith in omega (arith, e, h)
 
 -- what MUL makes of a count of steps and a width, where the product is an offset
-pub product_steps : (a n : ℕ) → a < 4294967296 → word_of_int (pos n) < 4294967296 → a * n < 2147483648 → product_of a (word_of_int (pos n)) ≡ a * n
+pub product_steps : (a n : ℕ) → a < 4294967296 → word_of_int (pos n) < 4294967296 → a * n < 2147483648 → product_of a
+    (word_of_int (pos n)) ≡ a * n
 product_steps zero n la ln h = product_zero_left (word_of_int (pos n)) ln ∙ sym (none n)
   where
     none : (x : ℕ) → 0 * x ≡ 0
@@ -89,10 +97,13 @@ product_steps (suc a) zero la ln h = product_zero_right (suc a) la ∙ sym (none
 product_steps (suc a) (suc n) la ln h =
     let ha = small_left (suc a) n h in
     let hn = small_right a (suc n) h in
-    ap (λ x. product_of x (word_of_int (pos (suc n)))) (sym (word_is (suc a) la)) ∙ product_word (pos (suc a)) (pos (suc n)) (pos_is (suc a) ha) (pos_is (suc n) hn) (pos_is (suc a * suc n) h) ∙ word_is (suc a * suc n) (omega (arith, h))
+    ap (λ x. product_of x (word_of_int (pos (suc n)))) (sym (word_is (suc a) la)) ∙ product_word (pos (suc a))
+    (pos (suc n)) (pos_is (suc a) ha) (pos_is (suc n) hn) (pos_is (suc a * suc n) h) ∙ word_is (suc a * suc n)
+    (omega (arith, h))
 
--- how far an index lies above the lowest one
-steps_word : (low x : ℤ) → IsNumber low → IsNumber x → low ≤ℤ x → difference_of (word_of_int x) (word_of_int low) ≡ steps_above low x
+-- how far an index is above the lowest one
+steps_word : (low x : ℤ) → IsNumber low → IsNumber x → low ≤ℤ x → difference_of (word_of_int x) (word_of_int low)
+    ≡ steps_above low x
 steps_word low x hl hx le = let e = steps_are low x le in omega (arith, ints, e, hl, hx)
 
 module _ (c : Context) (words : List ℕ) (b : Built c words) (p : Places) (s : State) (f : ℕ) (m : machine.State) (v : View) (sh : Shows words c.size m v) (be : Belongs c words p s v f) where
@@ -106,10 +117,14 @@ module _ (c : Context) (words : List ℕ) (b : Built c words) (p : Places) (s : 
     moved : Moved 15 w view
     place : view.place ≡ w.place + len
 
-  width_run : (n : ℕ) (ps : List Piece) (next : ℕ) (m1 : machine.State) (w : View) → Shows words c.size m1 w → Left c words w.place (right c s.current.routine (operand.Number (pos n)) ++ ps) next → Width n (length (right c s.current.routine (operand.Number (pos n)))) m1 w
+  width_run : (n : ℕ) (ps : List Piece) (next : ℕ) (m1 : machine.State) (w : View) → Shows words c.size m1 w
+      → Left c words w.place (right c s.current.routine (operand.Number (pos n)) ++ ps) next → Width n
+      (length (right c s.current.routine (operand.Number (pos n)))) m1 w
   width_run n ps next m1 w sh1 l = go (nat_lt n 65536) refl l
     where
-      go : (small : Bool) → nat_lt n 65536 ≡ small → Left c words w.place (cond small [] (exact 15 (word_of_int (pos n))) ++ ps) next → Width n (length (cond (nat_lt n 65536) [] (exact 15 (word_of_int (pos n))))) m1 w
+      go : (small : Bool) → nat_lt n 65536 ≡ small → Left c words w.place
+          (cond small [] (exact 15 (word_of_int (pos n))) ++ ps) next → Width n
+          (length (cond (nat_lt n 65536) [] (exact 15 (word_of_int (pos n))))) m1 w
       go true e l =
           let lt = ltb-true n 65536 e in
           record {
@@ -143,10 +158,15 @@ module _ (c : Context) (words : List ℕ) (b : Built c words) (p : Places) (s : 
     near : Near (machine_of w) (machine_of view)
     left : Left c words view.place ps next
 
-  scaled_run : (q n width : ℕ) (ps : List Piece) (next : ℕ) (m1 : machine.State) (w : View) → Shows words c.size m1 w → q ≢ 15 → w.registers q ≡ n → n < 4294967296 → n * width < 2147483648 → Left c words w.place (scaled c s.current.routine q width ++ ps) next → Scaled q n width ps next m1 w
+  scaled_run : (q n width : ℕ) (ps : List Piece) (next : ℕ) (m1 : machine.State) (w : View) → Shows words c.size m1 w
+      → q ≢ 15 → w.registers q ≡ n → n < 4294967296 → n * width < 2147483648 → Left c words w.place
+      (scaled c s.current.routine q width ++ ps) next → Scaled q n width ps next m1 w
   scaled_run q n width ps next m1 w sh1 n15 eq ln lt l = go (nat_eq width 1) refl l
     where
-      go : (one : Bool) → nat_eq width 1 ≡ one → Left c words w.place (cond one [] (right c s.current.routine (operand.Number (pos width)) ++ (Plain (word.Operate op.Mul 12 q (right_operand c s.current.routine (operand.Number (pos width)))) ∷ [])) ++ ps) next → Scaled q n width ps next m1 w
+      go : (one : Bool) → nat_eq width 1 ≡ one → Left c words w.place
+          (cond one [] (right c s.current.routine (operand.Number (pos width))
+          ++ (Plain (word.Operate op.Mul 12 q (right_operand c s.current.routine (operand.Number (pos width)))) ∷ []))
+          ++ ps) next → Scaled q n width ps next m1 w
       go true e l =
           record {
             view = w;
@@ -174,8 +194,13 @@ module _ (c : Context) (words : List ℕ) (b : Built c words) (p : Places) (s : 
           record {
             view = v2;
             way = way_of words c.size m1 same_tape v2 (way_to words c.size m1 same_tape same_tape v1 v2 g.way t2);
-            value = ap (λ t. v2.registers (cond t q 12)) e ∙ update_same v1.registers 12 _ ∙ ap (λ y. product_of y (operand_view v1 (right_operand c r o))) (g.moved.registers q n15 ∙ eq) ∙ ap (product_of n) g.value ∙ product_steps n width ln g.low lt;
-            near = record { registers = λ x n12 n15'. update_other v1.registers 12 _ x n12 ∙ g.moved.registers x n15'; words = g.moved.words };
+            value = ap (λ t. v2.registers (cond t q 12)) e ∙ update_same v1.registers 12 _
+                ∙ ap (λ y. product_of y (operand_view v1 (right_operand c r o))) (g.moved.registers q n15 ∙ eq)
+                ∙ ap (product_of n) g.value ∙ product_steps n width ln g.low lt;
+            near = record {
+              registers = λ x n12 n15'. update_other v1.registers 12 _ x n12 ∙ g.moved.registers x n15';
+              words = g.moved.words;
+            };
             left = left_next c words v1.place next (Plain i) ps l1;
           }
 
@@ -203,14 +228,18 @@ module _ (c : Context) (words : List ℕ) (b : Built c words) (p : Places) (s : 
     moved : Moved 15 w view
     left : Left c words view.place ps next
 
-  -- an offset behind R14 or R13
-  sum_run : (q n : ℕ) (ps : List Piece) (next : ℕ) (m1 : machine.State) (w : View) → Shows words c.size m1 w → q ≢ 15 → w.registers q + n < 4294967296 → Left c words w.place (form.sum c s.current.routine q n ++ ps) next → Summed q n ps next m1 w
+  -- an offset from R14 or R13
+  sum_run : (q n : ℕ) (ps : List Piece) (next : ℕ) (m1 : machine.State) (w : View) → Shows words c.size m1 w → q ≢ 15
+      → w.registers q + n < 4294967296 → Left c words w.place (form.sum c s.current.routine q n ++ ps) next
+      → Summed q n ps next m1 w
   sum_run q n ps next m1 w sh1 n15 lt l = go (nat_lt n 65536) refl l
     where
       added : (x y : ℕ) → x ≡ w.registers q → y ≡ n → (x + y + 0) % 2 ^ 32 ≡ w.registers q + n
       added x y e e' = omega (arith, e, e', lt)
 
-      go : (small : Bool) → nat_lt n 65536 ≡ small → Left c words w.place (cond small (Plain (word.Operate op.Add 15 q (Constant (pos n))) ∷ []) (constant 15 n ++ (Plain (word.Operate op.Add 15 q (Content 15)) ∷ [])) ++ ps) next → Summed q n ps next m1 w
+      go : (small : Bool) → nat_lt n 65536 ≡ small → Left c words w.place
+          (cond small (Plain (word.Operate op.Add 15 q (Constant (pos n))) ∷ [])
+          (constant 15 n ++ (Plain (word.Operate op.Add 15 q (Content 15)) ∷ [])) ++ ps) next → Summed q n ps next m1 w
       go true e l =
           let i = word.Operate op.Add 15 q (Constant (pos n)) in
           let t1 = step_to c words b.stood i m1 w sh1 l.stands.0 tt in
@@ -237,68 +266,111 @@ module _ (c : Context) (words : List ℕ) (b : Built c words) (p : Places) (s : 
             view = v2;
             way = way_of words c.size m1 same_tape v2 (to_join words c.size m1 same_tape same_tape v1 v2 g.to t2);
             value = added (v1.registers q) (v1.registers 15) (g.moved.registers q n15) g.value;
-            moved = record { registers = λ x ne. update_other v1.registers 15 _ x ne ∙ g.moved.registers x ne; words = g.moved.words; high = g.moved.high };
+            moved = record {
+              registers = λ x ne. update_other v1.registers 15 _ x ne ∙ g.moved.registers x ne;
+              words = g.moved.words;
+              high = g.moved.high;
+            };
             left = left_next c words v1.place next (Plain i) ps l1;
           }
 
-  -- the address of a block behind a frame's register
-  frame_run : (q at : ℕ) (block : Block) (offset n : ℕ) (ps : List Piece) (next : ℕ) (m1 : machine.State) (w : View) → Shows words c.size m1 w → q ≢ 15 → w.registers q ≡ at → at + n ≡ place c p block + offset → place c p block + offset < 4294967296 → Left c words w.place (form.sum c s.current.routine q n ++ ps) next → (g : Summed q n ps next m1 w) × (g.view.registers 15 ≡ place c p block + offset)
+  -- the address of a block, from a frame's register
+  frame_run : (q at : ℕ) (block : Block) (offset n : ℕ) (ps : List Piece) (next : ℕ) (m1 : machine.State) (w : View)
+      → Shows words c.size m1 w → q ≢ 15 → w.registers q ≡ at → at + n ≡ place c p block + offset → place c p block
+      + offset < 4294967296 → Left c words w.place (form.sum c s.current.routine q n ++ ps) next
+      → (g : Summed q n ps next m1 w) × (g.view.registers 15 ≡ place c p block + offset)
   frame_run q at block offset n ps next m1 w sh1 n15 eq sum low l =
       let e : w.registers q + n ≡ place c p block + offset = ap (λ x. x + n) eq ∙ sum in
       let g = sum_run q n ps next m1 w sh1 n15 (omega (arith, e, low)) l in
       (g, g.value ∙ e)
 
-  address_run : (a : Base) (block : Block) (offset : ℕ) (ps : List Piece) (next : ℕ) (m1 : machine.State) (w : View) → Shows words c.size m1 w → Near (machine_of v) (machine_of w) → ReadsBase c words b p s f m v sh be a → base_value s.current a ≡ Some (Address block offset) → Left c words w.place (base_address c s.current.routine a ++ ps) next → Addressed a block offset ps next m1 w
+  address_run : (a : Base) (block : Block) (offset : ℕ) (ps : List Piece) (next : ℕ) (m1 : machine.State) (w : View)
+      → Shows words c.size m1 w → Near (machine_of v) (machine_of w) → ReadsBase c words b p s f m v sh be a
+      → base_value s.current a ≡ Some (Address block offset) → Left c words w.place
+      (base_address c s.current.routine a ++ ps) next → Addressed a block offset ps next m1 w
   address_run base.Frame block offset ps next m1 w sh1 near rb e l =
-      let own = innermost c p v.words f (owner_of s.current) s.callers s.memory.frames s.memory.scratch be.related.held.frames in
+      let own = innermost c p v.words f (owner_of s.current) s.callers s.memory.frames s.memory.scratch
+      be.related.held.frames in
       let same : Address (blocks.Frame s.current.number) 0 ≡ Address block offset = cc e in
       let hl = be.related.held.places.frame s.current.number in
       let word_same : p.frame s.current.number + 0 ≡ place c p block + offset = ap (ctx.word c p) same in
       let e14 : w.registers 14 ≡ f = near.registers 14 (omega arith) (omega arith) ∙ be.related.stack in
-      let g = frame_run 14 f block offset (c.frame_at s.current.routine) ps next m1 w sh1 (omega arith) e14 (omega (arith, word_same, own.frame)) (omega (arith, word_same, hl)) l in
-      record { view = g.0.view; way = g.0.way; good = subst (IsValue c p) same (own.named, omega arith); value = g.1; moved = g.0.moved; left = g.0.left }
+      let g = frame_run 14 f block offset (c.frame_at s.current.routine) ps next m1 w sh1 (omega arith) e14
+      (omega (arith, word_same, own.frame)) (omega (arith, word_same, hl)) l in
+      record {
+        view = g.0.view;
+        way = g.0.way;
+        good = subst (IsValue c p) same (own.named, omega arith);
+        value = g.1;
+        moved = g.0.moved;
+        left = g.0.left;
+      }
   address_run base.Scratch block offset ps next m1 w sh1 near rb e l =
-      let own = innermost c p v.words f (owner_of s.current) s.callers s.memory.frames s.memory.scratch be.related.held.frames in
+      let own = innermost c p v.words f (owner_of s.current) s.callers s.memory.frames s.memory.scratch
+      be.related.held.frames in
       let same : Address (blocks.Scratch s.current.number) 0 ≡ Address block offset = cc e in
       let hl = be.related.held.places.scratch s.current.number in
       let word_same : p.scratch s.current.number + 0 ≡ place c p block + offset = ap (ctx.word c p) same in
       let e14 : w.registers 14 ≡ f = near.registers 14 (omega arith) (omega arith) ∙ be.related.stack in
-      let g = frame_run 14 f block offset (c.scratch_at s.current.routine) ps next m1 w sh1 (omega arith) e14 (omega (arith, word_same, own.scratch)) (omega (arith, word_same, hl)) l in
-      record { view = g.0.view; way = g.0.way; good = subst (IsValue c p) same (own.named, omega arith); value = g.1; moved = g.0.moved; left = g.0.left }
+      let g = frame_run 14 f block offset (c.scratch_at s.current.routine) ps next m1 w sh1 (omega arith) e14
+      (omega (arith, word_same, own.scratch)) (omega (arith, word_same, hl)) l in
+      record {
+        view = g.0.view;
+        way = g.0.way;
+        good = subst (IsValue c p) same (own.named, omega arith);
+        value = g.1;
+        moved = g.0.moved;
+        left = g.0.left;
+      }
   address_run base.Program block offset ps next m1 w sh1 near rb e l =
       let same : Address (blocks.Frame 0) 0 ≡ Address block offset = cc e in
       let hl = be.related.held.places.frame 0 in
       let word_same : p.frame 0 + 0 ≡ place c p block + offset = ap (ctx.word c p) same in
       let pg = be.related.held.program in
       let e13 : w.registers 13 ≡ c.bottom = near.registers 13 (omega arith) (omega arith) ∙ be.related.globals in
-      let g = frame_run 13 c.bottom block offset (c.frame_at 0) ps next m1 w sh1 (omega arith) e13 (omega (arith, word_same, pg)) (omega (arith, word_same, hl)) l in
-      record { view = g.0.view; way = g.0.way; good = subst (IsValue c p) same (be.related.held.some, omega arith); value = g.1; moved = g.0.moved; left = g.0.left }
+      let g = frame_run 13 c.bottom block offset (c.frame_at 0) ps next m1 w sh1 (omega arith) e13
+      (omega (arith, word_same, pg)) (omega (arith, word_same, hl)) l in
+      record {
+        view = g.0.view;
+        way = g.0.way;
+        good = subst (IsValue c p) same (be.related.held.some, omega arith);
+        value = g.1;
+        moved = g.0.moved;
+        left = g.0.left;
+      }
   address_run (base.Temporary t) block offset ps next m1 w sh1 near rb e l =
       let r = s.current.routine in
       let fr = framed c words b p s (machine_of v) f be.related in
       let e14 : w.registers 14 ≡ f = near.registers 14 (omega arith) (omega arith) ∙ be.related.stack in
       let g = fetch_run c words b.stood b.laid b.placed r f fr 15 t ps next m1 w sh1 (omega arith) e14 l in
-      let k = home_read c b.laid b.placed p s (machine_of v) f t (Address block offset) be.related (rb t (among_first t [])) e in
+      let k = home_read c b.laid b.placed p s (machine_of v) f t (Address block offset) be.related
+      (rb t (among_first t [])) e in
       record {
         view = g.view;
         way = g.way;
         good = k.0;
-        value = g.value ∙ value_near c b.laid b.placed p r f (machine_of v) (machine_of w) (home c r t) (λ q is. b.placed.register r t q is) near ∙ k.1;
+        value = g.value ∙ value_near c b.laid b.placed p r f (machine_of v) (machine_of w) (home c r t)
+            (λ q is. b.placed.register r t q is) near ∙ k.1;
         moved = g.moved;
         left = left_after c words w.place g.view.place next (form.fetch c r 15 (home c r t)) ps l g.place;
       }
 
   -- what a frame's register is short of is the offset of a base's block
-  short_base : (a : Base) (block : Block) (offset n : ℕ) (w : View) → Near (machine_of v) (machine_of w) → block_at c s.current.routine a ≡ Some n → base_value s.current a ≡ Some (Address block offset) → (w.registers (base_register c s.current.routine a) + n ≡ place c p block + offset) × IsValue c p (Address block offset)
+  short_base : (a : Base) (block : Block) (offset n : ℕ) (w : View) → Near (machine_of v) (machine_of w)
+      → block_at c s.current.routine a ≡ Some n → base_value s.current a ≡ Some (Address block offset)
+      → (w.registers (base_register c s.current.routine a) + n ≡ place c p block + offset) × IsValue c p
+      (Address block offset)
   short_base base.Frame block offset n w near at e =
-      let own = innermost c p v.words f (owner_of s.current) s.callers s.memory.frames s.memory.scratch be.related.held.frames in
+      let own = innermost c p v.words f (owner_of s.current) s.callers s.memory.frames s.memory.scratch
+      be.related.held.frames in
       let same : Address (blocks.Frame s.current.number) 0 ≡ Address block offset = cc e in
       let word_same : p.frame s.current.number + 0 ≡ place c p block + offset = ap (ctx.word c p) same in
       let e14 : w.registers 14 ≡ f = near.registers 14 (omega arith) (omega arith) ∙ be.related.stack in
       let is : c.frame_at s.current.routine ≡ n = cc at in
       (omega (arith, word_same, own.frame, e14, is), subst (IsValue c p) same (own.named, omega arith))
   short_base base.Scratch block offset n w near at e =
-      let own = innermost c p v.words f (owner_of s.current) s.callers s.memory.frames s.memory.scratch be.related.held.frames in
+      let own = innermost c p v.words f (owner_of s.current) s.callers s.memory.frames s.memory.scratch
+      be.related.held.frames in
       let same : Address (blocks.Scratch s.current.number) 0 ≡ Address block offset = cc e in
       let word_same : p.scratch s.current.number + 0 ≡ place c p block + offset = ap (ctx.word c p) same in
       let e14 : w.registers 14 ≡ f = near.registers 14 (omega arith) (omega arith) ∙ be.related.stack in
@@ -315,7 +387,11 @@ module _ (c : Context) (words : List ℕ) (b : Built c words) (p : Places) (s : 
 
   -- ---- the instruction
 
-  pub index_follows : (t : ℕ) (a : Base) (i : ℕ) (low high : ℤ) (width error line : ℕ) (block : Block) (offset : ℕ) (x : ℤ) → fetch c.code s.current.routine s.current.place ≡ Some (Index t a i low high width error line) → base_value s.current a ≡ Some (Address block offset) → s.current.temporaries i ≡ Some (Number x) → Follows c words (gives_component c.code (is_in_range low high x) t block (offset + steps_above low x * width) error line s) s m
+  pub index_follows : (t : ℕ) (a : Base) (i : ℕ) (low high : ℤ) (width error line : ℕ) (block : Block) (offset : ℕ)
+      (x : ℤ) → fetch c.code s.current.routine s.current.place ≡ Some (Index t a i low high width error line)
+      → base_value s.current a ≡ Some (Address block offset) → s.current.temporaries i ≡ Some (Number x)
+      → Follows c words (gives_component c.code (is_in_range low high x) t block
+      (offset + steps_above low x * width) error line s) s m
   index_follows t a i low high width error line block offset x here ea ei =
       let r = s.current.routine in
       let k = s.current.place in
@@ -325,26 +401,48 @@ module _ (c : Context) (words : List ℕ) (b : Built c words) (p : Places) (s : 
       let d = fetched c r 12 (home c r i) in
       let rc = range_code c r d low high error line in
       let rest = steps_form c r (bent_at c r (suc k)) t a (above_register c r d low) width in
-      let l = subst (λ y. Left c words v.place y (c.site r (suc k))) (append_assoc fi rc rest) (code c words b p s f m v sh be ins here) in
-      let g = one_run c words b p s f m v sh be 12 i (Number x) (rc ++ rest) _ (omega arith) (is_read c r k ins here i (among_first i (in_base a))) ei l in
+      let l = subst (λ y. Left c words v.place y (c.site r (suc k))) (append_assoc fi rc rest)
+      (code c words b p s f m v sh be ins here) in
+      let g = one_run c words b p s f m v sh be 12 i (Number x) (rc ++ rest) _ (omega arith)
+      (is_read c r k ins here i (among_first i (in_base a))) ei l in
       let v1 = g.view in
       let l1 = left_after c words v.place v1.place _ fi (rc ++ rest) l g.place in
-      let near : Near (machine_of v) (machine_of v1) = record { registers = λ q n12 n15. g.moved.registers q n12; words = g.moved.words } in
-      let n15 = fetched_not c words b.stood b.laid b.placed r f (framed c words b p s (machine_of v) f be.related) 12 i 15 (omega arith) (omega arith) in
+      let near : Near (machine_of v) (machine_of v1) = record {
+        registers = λ q n12 n15. g.moved.registers q n12;
+        words = g.moved.words;
+      } in
+      let n15 = fetched_not c words b.stood b.laid b.placed r f
+      (framed c words b p s (machine_of v) f be.related) 12 i 15 (omega arith) (omega arith) in
       let hl = integer_is low so.sound.3 in
       let hh = integer_is high so.sound.4 in
-      let z = range_run c words b p s f (machine_of v) be.related d low high x error line rest _ g.way.to v1 g.way.shows n15 near hl hh g.good g.value l1 in
-      follows_way c words b s m v1 g.way (gives_component c.code (is_in_range low high x) t block (offset + steps_above low x * width) error line s) (go v1 g.way.to near (above_not c words b p s f (machine_of v) be.related d low n15) hl g.good z (is_in_range low high x) refl)
+      let z = range_run c words b p s f (machine_of v) be.related d low high x error line rest _ g.way.to v1 g.way.shows
+      n15 near hl hh g.good g.value l1 in
+      follows_way c words b s m v1 g.way (gives_component c.code (is_in_range low high x) t block
+      (offset + steps_above low x * width) error line s)
+      (go v1 g.way.to near (above_not c words b p s f (machine_of v) be.related d low n15) hl g.good z
+      (is_in_range low high x) refl)
     where
       in_range : (y : Bool) (z : Bool) → not y && z ≡ true → y ≡ false
       in_range true z e = absurd (cc e)
       in_range false z e = refl
 
-      go : (v1 : View) (n : machine.State) → Near (machine_of v) (machine_of v1) → above_register c s.current.routine (fetched c s.current.routine 12 (home c s.current.routine i)) low ≢ 15 → IsNumber low → IsNumber x → Checked c words b p s f (machine_of v) be.related (fetched c s.current.routine 12 (home c s.current.routine i)) low x error line (steps_form c s.current.routine (bent_at c s.current.routine (suc s.current.place)) t a (above_register c s.current.routine (fetched c s.current.routine 12 (home c s.current.routine i)) low) width) (c.site s.current.routine (suc s.current.place)) (is_in_range low high x) n v1 → (inside : Bool) → is_in_range low high x ≡ inside → Follows c words (gives_component c.code inside t block (offset + steps_above low x * width) error line s) s n
+      go : (v1 : View) (n : machine.State) → Near (machine_of v) (machine_of v1) → above_register c s.current.routine
+          (fetched c s.current.routine 12 (home c s.current.routine i)) low ≢ 15 → IsNumber low → IsNumber x
+          → Checked c words b p s f (machine_of v) be.related
+          (fetched c s.current.routine 12 (home c s.current.routine i)) low x error line
+          (steps_form c s.current.routine (bent_at c s.current.routine (suc s.current.place)) t a
+          (above_register c s.current.routine (fetched c s.current.routine 12 (home c s.current.routine i)) low) width)
+          (c.site s.current.routine (suc s.current.place)) (is_in_range low high x) n v1 → (inside : Bool)
+          → is_in_range low high x ≡ inside → Follows c words
+          (gives_component c.code inside t block (offset + steps_above low x * width) error line s) s n
       go v1 n near n15 hl hx k false e = inr (k.stops e)
       go v1 n near n15 hl hx k true e = fits (nat_lt (offset + steps_above low x * width) 2147483648) refl
         where
-          fits : (small : Bool) → nat_lt (offset + steps_above low x * width) 2147483648 ≡ small → Follows c words (cond small (Goes (record s { current = giving t (Address block (offset + steps_above low x * width)) s.current })) (Over Stuck)) s n
+          fits : (small : Bool) → nat_lt (offset + steps_above low x * width) 2147483648 ≡ small → Follows c words
+              (cond small (Goes (record s {
+                current = giving t
+                    (Address block (offset + steps_above low x * width)) s.current;
+              })) (Over Stuck)) s n
           fits false es = inl refl
           fits true es =
               let r = s.current.routine in
@@ -352,18 +450,37 @@ module _ (c : Context) (words : List ℕ) (b : Built c words) (p : Places) (s : 
               let z = k.goes e in
               let v2 = z.0 in
               let t2 = z.1 in
-              let is = z.3 ∙ steps_word low x hl hx (not_below low x (in_range (int_lt x low) (not (int_lt high x)) e)) in
-              let narrow = subst (λ j. j < 4294967296) (steps_word low x hl hx (not_below low x (in_range (int_lt x low) (not (int_lt high x)) e))) (narrow_difference (word_of x) (word_of low)) in
-              come_step c words b s (record s { current = giving t (Address block (offset + steps_above low x * width)) s.current }) n v2 t2 (ends (bent_at c r (suc s.current.place)) refl v2 t2.to t2.shows (record { registers = λ j n12 n15'. z.2.registers j n12 n15' ∙ near.registers j n12 n15'; words = λ j. z.2.words j ∙ near.words j }) is narrow lt z.4)
+              let is = z.3 ∙ steps_word low x hl hx (not_below low x (in_range (int_lt x low) (not (int_lt high x)) e))
+              in
+              let narrow = subst (λ j. j < 4294967296)
+              (steps_word low x hl hx (not_below low x (in_range (int_lt x low) (not (int_lt high x)) e)))
+              (narrow_difference (word_of x) (word_of low)) in
+              come_step c words b s (record s {
+                current = giving t
+                    (Address block (offset + steps_above low x * width)) s.current;
+              }) n v2 t2
+              (ends (bent_at c r (suc s.current.place)) refl v2 t2.to t2.shows (record {
+                registers = λ j n12 n15'. z.2.registers j n12 n15' ∙ near.registers j n12 n15';
+                words = λ j. z.2.words j ∙ near.words j;
+              }) is narrow lt z.4)
             where
-              sum : (y z n : ℕ) → y ≡ place c p block + offset → z ≡ n → offset + n < 2147483648 → (y + z + 0) % 2 ^ 32 ≡ place c p block + (offset + n)
+              sum : (y z n : ℕ) → y ≡ place c p block + offset → z ≡ n → offset + n < 2147483648 → (y + z + 0) % 2 ^ 32
+                  ≡ place c p block + (offset + n)
               sum y z n e e' lt = let h = named_low c words b p s f m v sh be block in omega (arith, e, e', lt, h)
 
               -- a register and the offset that it is short of
-              short : (g o z n : ℕ) → g + o ≡ place c p block + offset → z ≡ n → offset + n < 2147483648 → (g + z + 0) % 2 ^ 32 + o ≡ place c p block + (offset + n)
+              short : (g o z n : ℕ) → g + o ≡ place c p block + offset → z ≡ n → offset + n < 2147483648
+                  → (g + z + 0) % 2 ^ 32 + o ≡ place c p block + (offset + n)
               short g o z n e e' lt = let h = named_low c words b p s f m v sh be block in omega (arith, e, e', lt, h)
 
-              ends : (bent : Option (ℕ × ℕ)) → bent_at c s.current.routine (suc s.current.place) ≡ bent → (v2 : View) (n2 : machine.State) → Shows words c.size n2 v2 → Near (machine_of v) (machine_of v2) → v2.registers (above_register c s.current.routine (fetched c s.current.routine 12 (home c s.current.routine i)) low) ≡ steps_above low x → steps_above low x < 4294967296 → offset + steps_above low x * width < 2147483648 → Left c words v2.place (steps_form c s.current.routine bent t a (above_register c s.current.routine (fetched c s.current.routine 12 (home c s.current.routine i)) low) width) (c.site s.current.routine (suc s.current.place)) → Comes c words s (record s { current = giving t (Address block (offset + steps_above low x * width)) s.current }) n2
+              ends : (bent : Option (ℕ × ℕ)) → bent_at c s.current.routine (suc s.current.place) ≡ bent → (v2 : View)
+                  (n2 : machine.State) → Shows words c.size n2 v2 → Near (machine_of v) (machine_of v2) → v2.registers
+                  (above_register c s.current.routine (fetched c s.current.routine 12 (home c s.current.routine i)) low)
+                  ≡ steps_above low x → steps_above low x < 4294967296 → offset + steps_above low x * width < 2147483648
+                  → Left c words v2.place (steps_form c s.current.routine bent t a
+                  (above_register c s.current.routine (fetched c s.current.routine 12 (home c s.current.routine i)) low)
+                  width) (c.site s.current.routine (suc s.current.place)) → Comes c words s
+                  (record s { current = giving t (Address block (offset + steps_above low x * width)) s.current }) n2
               ends None straight v2 n2 sh2 near2 is narrow lt l2 =
                   let r = s.current.routine in
                   let h = home c r t in
@@ -373,33 +490,71 @@ module _ (c : Context) (words : List ℕ) (b : Built c words) (p : Places) (s : 
                   let ra = address_register c r a in
                   let i5 = word.Operate op.Add dd ra (Content y) in
                   let last = Plain i5 ∷ save c r h in
-                  let g3 = scaled_run q (steps_above low x) width (base_address c r a ++ last) _ n2 v2 sh2 n15 is narrow (omega (arith, lt)) l2 in
+                  let g3 = scaled_run q (steps_above low x) width (base_address c r a ++ last) _ n2 v2 sh2 n15 is narrow
+                  (omega (arith, lt)) l2 in
                   let v3 = g3.view in
-                  let near3 : Near (machine_of v) (machine_of v3) = record { registers = λ j n12 n15'. g3.near.registers j n12 n15' ∙ near2.registers j n12 n15'; words = λ j. g3.near.words j ∙ near2.words j } in
+                  let near3 : Near (machine_of v) (machine_of v3) = record {
+                    registers = λ j n12 n15'. g3.near.registers j n12 n15' ∙ near2.registers j n12 n15';
+                    words = λ j. g3.near.words j ∙ near2.words j;
+                  } in
                   let ins = Index t a i low high width error line in
-                  let g4 = address_run a block offset last _ g3.way.to v3 g3.way.shows near3 (λ u eu. is_read c r s.current.place ins here u (among_rest u i (in_base a) eu)) ea g3.left in
+                  let g4 = address_run a block offset last _ g3.way.to v3 g3.way.shows near3
+                  (λ u eu. is_read c r s.current.place ins here u (among_rest u i (in_base a) eu)) ea g3.left in
                   let v4 = g4.view in
                   let t5 = step_to c words b.stood i5 g4.way.to v4 g4.way.shows g4.left.stands.0 tt in
                   let v5 = after i5 v4 in
-                  let s4 : v4.registers y ≡ steps_above low x * width = g4.moved.registers y (scaled_not q width n15) ∙ g3.value in
-                  let whole : v5.registers dd ≡ place c p block + (offset + steps_above low x * width) = update_same v4.registers dd _ ∙ sum (v4.registers ra) (v4.registers y) (steps_above low x * width) g4.value s4 lt in
-                  let s' = record s { current = giving t (Address block (offset + steps_above low x * width)) s.current } in
-                  let done = come_to c words b s s' g4.way.to same_tape v5 t5 refl (gives_end c words b p s (machine_of v) f t (Address block (offset + steps_above low x * width)) t5.to v5 be.related be.input (writes_it c r s.current.place ins here t refl refl) (λ w. (unflagged c r s.current.place ins here refl w, straight)) (g4.good.0, lt) t5.shows (record { here = whole; registers = λ j n12 n15' nd. update_other v4.registers dd _ j nd ∙ g4.moved.registers j n15' ∙ near3.registers j n12 n15'; words = λ j. g4.moved.words j ∙ near3.words j }) (left_next c words v4.place _ (Plain i5) (save c r h) g4.left)) in
+                  let s4 : v4.registers y ≡ steps_above low x * width = g4.moved.registers y (scaled_not q width n15)
+                  ∙ g3.value in
+                  let whole : v5.registers dd ≡ place c p block
+                  + (offset + steps_above low x * width) = update_same v4.registers dd _ ∙ sum (v4.registers ra)
+                  (v4.registers y) (steps_above low x * width) g4.value s4 lt in
+                  let s' = record s {
+                    current = giving t
+                        (Address block (offset + steps_above low x * width)) s.current;
+                  } in
+                  let done = come_to c words b s s' g4.way.to same_tape v5 t5 refl
+                  (gives_end c words b p s (machine_of v) f t
+                  (Address block (offset + steps_above low x * width)) t5.to v5 be.related be.input
+                  (writes_it c r s.current.place ins here t refl refl)
+                  (λ w. (unflagged c r s.current.place ins here refl w, straight)) (g4.good.0, lt) t5.shows
+                  (record {
+                    here = whole;
+                    registers = λ j n12 n15' nd. update_other v4.registers dd _ j nd ∙ g4.moved.registers j n15'
+                        ∙ near3.registers j n12 n15';
+                    words = λ j. g4.moved.words j ∙ near3.words j;
+                  }) (left_next c words v4.place _ (Plain i5) (save c r h) g4.left)) in
                   come_way c words b s s' n2 v3 g3.way (come_way c words b s s' g3.way.to v4 g4.way done)
               ends (Some bent) bends v2 n2 sh2 near2 is narrow lt l2 =
                   let r = s.current.routine in
                   let q = above_register c r (fetched c r 12 (home c r i)) low in
                   let y = scaled_register c r q width in
                   let i5 = word.Operate op.Add bent.0 (base_register c r a) (Content y) in
-                  let g3 = scaled_run q (steps_above low x) width (Plain i5 ∷ []) _ n2 v2 sh2 n15 is narrow (omega (arith, lt)) l2 in
+                  let g3 = scaled_run q (steps_above low x) width (Plain i5 ∷ []) _ n2 v2 sh2 n15 is narrow
+                  (omega (arith, lt)) l2 in
                   let v3 = g3.view in
-                  let near3 : Near (machine_of v) (machine_of v3) = record { registers = λ j n12 n15'. g3.near.registers j n12 n15' ∙ near2.registers j n12 n15'; words = λ j. g3.near.words j ∙ near2.words j } in
+                  let near3 : Near (machine_of v) (machine_of v3) = record {
+                    registers = λ j n12 n15'. g3.near.registers j n12 n15' ∙ near2.registers j n12 n15';
+                    words = λ j. g3.near.words j ∙ near2.words j;
+                  } in
                   let ins = Index t a i low high width error line in
                   let k = bent_index_is c r s.current.place t a i low high width error line bent here bends in
                   let base = short_base a block offset bent.1 v3 near3 k.offset ea in
                   let t5 = step_to c words b.stood i5 g3.way.to v3 g3.way.shows g3.left.stands.0 tt in
                   let v5 = after i5 v3 in
-                  let whole : v5.registers bent.0 + bent.1 ≡ place c p block + (offset + steps_above low x * width) = ap (λ z. z + bent.1) (update_same v3.registers bent.0 _) ∙ short (v3.registers (base_register c r a)) bent.1 (v3.registers y) (steps_above low x * width) base.0 g3.value lt in
+                  let whole : v5.registers bent.0 + bent.1 ≡ place c p block
+                  + (offset + steps_above low x * width) = ap (λ z. z + bent.1) (update_same v3.registers bent.0 _)
+                  ∙ short (v3.registers (base_register c r a)) bent.1 (v3.registers y)
+                  (steps_above low x * width) base.0 g3.value lt in
                   let l5 = left_next c words v3.place _ (Plain i5) [] g3.left in
-                  let s' = record s { current = giving t (Address block (offset + steps_above low x * width)) s.current } in
-                  come_way c words b s s' n2 v3 g3.way (come_to c words b s s' g3.way.to same_tape v5 t5 refl (bends_end c words b p s (machine_of v) f t (Address block (offset + steps_above low x * width)) bent t5.to v5 be.related be.input (writes_it c r s.current.place ins here t refl refl) (unflagged c r s.current.place ins here refl v5) bends k.home (base.1.0, lt) t5.shows whole (λ j n12 n15' nd. update_other v3.registers bent.0 _ j nd ∙ near3.registers j n12 n15') (λ j. near3.words j) (omega (arith, l5.ends))))
+                  let s' = record s {
+                    current = giving t
+                        (Address block (offset + steps_above low x * width)) s.current;
+                  } in
+                  come_way c words b s s' n2 v3 g3.way
+                  (come_to c words b s s' g3.way.to same_tape v5 t5 refl
+                  (bends_end c words b p s (machine_of v) f t
+                  (Address block (offset + steps_above low x * width)) bent t5.to v5 be.related be.input
+                  (writes_it c r s.current.place ins here t refl refl)
+                  (unflagged c r s.current.place ins here refl v5) bends k.home (base.1.0, lt) t5.shows whole
+                  (λ j n12 n15' nd. update_other v3.registers bent.0 _ j nd ∙ near3.registers j n12 n15')
+                  (λ j. near3.words j) (omega (arith, l5.ends))))

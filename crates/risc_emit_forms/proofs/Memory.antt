@@ -1,5 +1,7 @@
 -- Words and bytes loaded and stored by address, and addresses.
-use Rattle.std.proofs.Common.{◌≡◌, ◌≢◌, ℕ, zero, suc, ◌+◌, ◌-◌, ◌*◌, ◌/◌, ◌%◌, ◌^◌, ◌<◌, Bool, true, false, cond, nat_eq, nat_lt, nat_le, List, [], ◌∷◌, ◌++◌, length, Option, Some, None, slice_get, ℤ, pos, refl, sym, ap, ◌∙◌, subst, arith, length-append, append_assoc}
+use Rattle.std.proofs.Common.{◌≡◌, ◌≢◌, ℕ, zero, suc, ◌+◌, ◌-◌, ◌*◌, ◌/◌, ◌%◌, ◌^◌, ◌<◌, Bool, true, false, cond}
+use Rattle.std.proofs.Common.{nat_eq, nat_lt, nat_le, List, [], ◌∷◌, ◌++◌, length, Option, Some, None, slice_get, ℤ}
+use Rattle.std.proofs.Common.{pos, refl, sym, ap, ◌∙◌, subst, arith, length-append, append_assoc}
 use Rattle.std.proofs.lemmas.Int.{ints, of_z-to_z}
 use Rattle.std.specs.Int.{w32}
 use Rattle.risc_word.specs.declared.instr.Operation.TheVariants as op
@@ -34,11 +36,14 @@ use Rattle.risc_emit_relation.proofs.Kept.{load_found, load_byte_found, store_ke
 use Rattle.risc_emit_relation.proofs.Steps.{home_read, value_near, related_stores}
 use Rattle.risc_emit_forms.specs.Pieces.{Piece, Plain, Left}
 use Rattle.risc_emit_forms.specs.Forms as form
-use Rattle.risc_emit_forms.specs.Forms.{is_near, constant, fetched, target, save, word_form, base_code, base_register, base_offset, reach, reach_register, reach_offset, load_form, store_form, address}
+use Rattle.risc_emit_forms.specs.Forms.{is_near, constant, fetched, target, save, word_form, base_code, base_register}
+use Rattle.risc_emit_forms.specs.Forms.{base_offset, reach, reach_register, reach_offset, load_form, store_form}
+use Rattle.risc_emit_forms.specs.Forms.{address}
 use Rattle.risc_alloc.specs.declared.homes.Home.TheVariants.{Reg}
 use Rattle.risc_emit_forms.specs.Told.{bent_at}
 use Rattle.risc_emit_forms.specs.Follows.{machine_of, unbent, Stood, Built, Meets, Belongs, Comes}
-use Rattle.risc_emit_forms.proofs.Basics.{left_after, left_at, left_next, is_read, passes, writes_it, among_first, among_rest}
+use Rattle.risc_emit_forms.proofs.Basics.{left_after, left_at, left_next, is_read, passes, writes_it, among_first}
+use Rattle.risc_emit_forms.proofs.Basics.{among_rest}
 use Rattle.risc_emit_forms.proofs.Flags.{silent}
 use Rattle.risc_emit_forms.proofs.Runs.{Aside, step_to, constant_run, fetch_run, fetched_not}
 use Rattle.risc_emit_forms.proofs.Comes.{framed, come_to, come_way, arrive_to, arrive_here, gives_end, tells_end}
@@ -50,7 +55,8 @@ number_in : (n : ℕ) → IsNumber (number_of n)
 number_in n = (omega (arith, ints), omega (arith, ints))
 
 -- the words of a constant are numbers
-constant_number : (bytes : List ℕ) (i : ℕ) (x : Value) → slice_get (constant_words bytes) i ≡ Some (Some x) → (z : ℤ) × (x ≡ Number z) × IsNumber z
+constant_number : (bytes : List ℕ) (i : ℕ) (x : Value) → slice_get (constant_words bytes) i ≡ Some (Some x) → (z : ℤ)
+    × (x ≡ Number z) × IsNumber z
 constant_number [] i x e = absurd (cc e)
 constant_number (a ∷ []) i x e = absurd (cc e)
 constant_number (a ∷ a1 ∷ []) i x e = absurd (cc e)
@@ -61,7 +67,8 @@ constant_number (a ∷ a1 ∷ a2 ∷ a3 ∷ rest) zero x e =
     (number_of n, sym same, number_in n)
 constant_number (a ∷ a1 ∷ a2 ∷ a3 ∷ rest) (suc i) x e = constant_number rest i x e
 
-constants_stand : (c : Context) (words : List ℕ) (stood : Stood c words) (p : Places) (m : machine.State) (v : View) → Shows words c.size m v → ConstantsStand c p v.words
+constants_stand : (c : Context) (words : List ℕ) (stood : Stood c words) (p : Places) (m : machine.State) (v : View)
+    → Shows words c.size m v → ConstantsStand c p v.words
 constants_stand c words stood p m v sh r k ws e =
     let t = stood.texts r k ws e in
     record {
@@ -69,14 +76,18 @@ constants_stand c words stood p m v sh r k ws e =
       high = omega (arith, t.0, stood.fits.room);
       holds = λ i x is.
           let n = by_bytes (text_at c.code r k) e i x is in
-          let at = t.1 i n.0 (is ∙ ap (λ y. Some (Some y)) n.1) in
-          (subst (IsValue c p) (sym n.1) n.2, ap v.words (four i) ∙ word_in_code words c.size stood.fits m v (c.constant r k + i) (word_of n.0) sh at ∙ ap (related.word c p) (sym n.1));
+          let at = t.1 i n.0 (is ∙ ap (λ y. Some (Some y)) n.1) in (
+            subst (IsValue c p) (sym n.1) n.2,
+            ap v.words (four i) ∙ word_in_code words c.size stood.fits m v
+                (c.constant r k + i) (word_of n.0) sh at ∙ ap (related.word c p) (sym n.1),
+          );
     }
   where
     four : (i : ℕ) → 4 * c.constant r k + 4 * i ≡ 4 * (c.constant r k + i)
     four i = omega arith
 
-    by_bytes : (o : Option (List ℕ)) → constant_at o ≡ Some ws → (i : ℕ) (x : Value) → slice_get ws i ≡ Some (Some x) → (z : ℤ) × (x ≡ Number z) × IsNumber z
+    by_bytes : (o : Option (List ℕ)) → constant_at o ≡ Some ws → (i : ℕ) (x : Value) → slice_get ws i ≡ Some (Some x)
+        → (z : ℤ) × (x ≡ Number z) × IsNumber z
     by_bytes None e i x is = absurd (cc e)
     by_bytes (Some bytes) e i x is =
         let same : constant_words bytes ≡ ws = cc e in
@@ -92,7 +103,8 @@ pub record Innermost (c : Context) (p : Places) (w : ℕ → ℕ) (f : ℕ) (y :
   pub scratch : p.scratch y.number ≡ f + c.scratch_at y.routine
   pub named : y.number < p.activations
 
-pub innermost : (c : Context) (p : Places) (w : ℕ → ℕ) (f : ℕ) (y : Owner) (xs : List Activation) (bs ds : List Living) → Open c p w f y xs bs ds → Innermost c p w f y
+pub innermost : (c : Context) (p : Places) (w : ℕ → ℕ) (f : ℕ) (y : Owner) (xs : List Activation) (bs ds : List Living)
+    → Open c p w f y xs bs ds → Innermost c p w f y
 innermost c p w f y xs [] ds h = absurd h
 innermost c p w f y xs (b ∷ bs) [] h = absurd h
 innermost c p w f y [] (b ∷ bs) (d ∷ ds) h =
@@ -110,7 +122,8 @@ module _ (c : Context) (words : List ℕ) (b : Built c words) (p : Places) (s : 
     pub view : View
     pub way : Way words c.size m same_tape view
     pub good : IsValue c p (Address block offset)
-    pub at : view.registers (base_register c s.current.routine a) + base_offset c s.current.routine a n ≡ place c p block + offset + n
+    pub at : view.registers (base_register c s.current.routine a) + base_offset c s.current.routine a n
+        ≡ place c p block + offset + n
     pub apart : base_register c s.current.routine a ≢ 15
     pub near : Near (machine_of v) (machine_of view)
     pub place : view.place ≡ v.place + len
@@ -118,12 +131,16 @@ module _ (c : Context) (words : List ℕ) (b : Built c words) (p : Places) (s : 
   still : Near (machine_of v) (machine_of v)
   still = record { registers = λ q n12 n15. refl; words = λ a. refl }
 
-  pub base_run : (a : Base) (n : ℕ) (block : Block) (offset : ℕ) (ps : List Piece) (next : ℕ) → ReadsBase a → base_value s.current a ≡ Some (Address block offset) → Left c words v.place (base_code c s.current.routine a ++ ps) next → Based a n (length (base_code c s.current.routine a)) block offset
+  pub base_run : (a : Base) (n : ℕ) (block : Block) (offset : ℕ) (ps : List Piece) (next : ℕ) → ReadsBase a
+      → base_value s.current a ≡ Some (Address block offset) → Left c words v.place
+      (base_code c s.current.routine a ++ ps) next → Based a n (length (base_code c s.current.routine a)) block offset
   base_run base.Frame n block offset ps next r e l =
-      let own = innermost c p v.words f (owner_of s.current) s.callers s.memory.frames s.memory.scratch be.related.held.frames in
+      let own = innermost c p v.words f (owner_of s.current) s.callers s.memory.frames s.memory.scratch
+      be.related.held.frames in
       let same : Address (blocks.Frame s.current.number) 0 ≡ Address block offset = cc e in
       let st = be.related.stack in
-      let at : v.registers 14 + (c.frame_at s.current.routine + n) ≡ p.frame s.current.number + 0 + n = omega (arith, st, own.frame) in
+      let at : v.registers 14 + (c.frame_at s.current.routine + n) ≡ p.frame s.current.number + 0 + n = omega
+      (arith, st, own.frame) in
       record {
         view = v;
         way = way_here words c.size m v sh;
@@ -134,10 +151,12 @@ module _ (c : Context) (words : List ℕ) (b : Built c words) (p : Places) (s : 
         place = omega arith;
       }
   base_run base.Scratch n block offset ps next r e l =
-      let own = innermost c p v.words f (owner_of s.current) s.callers s.memory.frames s.memory.scratch be.related.held.frames in
+      let own = innermost c p v.words f (owner_of s.current) s.callers s.memory.frames s.memory.scratch
+      be.related.held.frames in
       let same : Address (blocks.Scratch s.current.number) 0 ≡ Address block offset = cc e in
       let st = be.related.stack in
-      let at : v.registers 14 + (c.scratch_at s.current.routine + n) ≡ p.scratch s.current.number + 0 + n = omega (arith, st, own.scratch) in
+      let at : v.registers 14 + (c.scratch_at s.current.routine + n) ≡ p.scratch s.current.number + 0 + n = omega
+      (arith, st, own.scratch) in
       record {
         view = v;
         way = way_here words c.size m v sh;
@@ -161,13 +180,15 @@ module _ (c : Context) (words : List ℕ) (b : Built c words) (p : Places) (s : 
         place = omega arith;
       }
   base_run (base.Temporary t) n block offset ps next r e l =
-      let g = one_run c words b p s f m v sh be 12 t (Address block offset) ps next (omega arith) (r t (among_first t [])) e l in
+      let g = one_run c words b p s f m v sh be 12 t (Address block offset) ps next (omega arith)
+      (r t (among_first t [])) e l in
       record {
         view = g.view;
         way = g.way;
         good = g.good;
         at = ap (λ x. x + n) g.value;
-        apart = fetched_not c words b.stood b.laid b.placed s.current.routine f (framed c words b p s (machine_of v) f be.related) 12 t 15 (omega arith) (omega arith);
+        apart = fetched_not c words b.stood b.laid b.placed s.current.routine f
+            (framed c words b p s (machine_of v) f be.related) 12 t 15 (omega arith) (omega arith);
         near = record { registers = λ q n12 n15. g.moved.registers q n12; words = g.moved.words };
         place = g.place;
       }
@@ -177,28 +198,40 @@ module _ (c : Context) (words : List ℕ) (b : Built c words) (p : Places) (s : 
     pub view : View
     pub way : Way words c.size m same_tape view
     pub good : IsValue c p (Address block offset)
-    pub at : view.registers (reach_register c s.current.routine a n) + reach_offset c s.current.routine a n ≡ place c p block + (offset + n)
+    pub at : view.registers (reach_register c s.current.routine a n) + reach_offset c s.current.routine a n
+        ≡ place c p block + (offset + n)
     pub apart : reach_register c s.current.routine a n ≢ 15
     pub near : Near (machine_of v) (machine_of view)
     pub place : view.place ≡ v.place + len
 
-  pub reach_run : (a : Base) (n : ℕ) (block : Block) (offset : ℕ) (ps : List Piece) (next : ℕ) → ReadsBase a → base_value s.current a ≡ Some (Address block offset) → place c p block + (offset + n) < 4294967296 → Left c words v.place (reach c s.current.routine a n ++ ps) next → Reaches a n (length (reach c s.current.routine a n)) block offset
+  pub reach_run : (a : Base) (n : ℕ) (block : Block) (offset : ℕ) (ps : List Piece) (next : ℕ) → ReadsBase a
+      → base_value s.current a ≡ Some (Address block offset) → place c p block + (offset + n) < 4294967296
+      → Left c words v.place (reach c s.current.routine a n ++ ps) next → Reaches a n
+      (length (reach c s.current.routine a n)) block offset
   reach_run a n block offset ps next r e low l = go (is_near (base_offset c s.current.routine a n)) refl l
     where
       off : ℕ
       off = base_offset c s.current.routine a n
 
-      go : (close : Bool) → is_near (base_offset c s.current.routine a n) ≡ close → Left c words v.place (cond close (base_code c s.current.routine a) (base_code c s.current.routine a ++ (constant 15 (base_offset c s.current.routine a n) ++ Plain (word.Operate op.Add 12 (base_register c s.current.routine a) (instr.Content 15)) ∷ [])) ++ ps) next → Reaches a n (length (reach c s.current.routine a n)) block offset
+      go : (close : Bool) → is_near (base_offset c s.current.routine a n) ≡ close → Left c words v.place
+          (cond close (base_code c s.current.routine a)
+          (base_code c s.current.routine a ++ (constant 15 (base_offset c s.current.routine a n) ++ Plain
+          (word.Operate op.Add 12 (base_register c s.current.routine a) (instr.Content 15)) ∷ [])) ++ ps) next
+          → Reaches a n (length (reach c s.current.routine a n)) block offset
       go true is l =
           let g = base_run a n block offset ps next r e l in
           record {
             view = g.view;
             way = g.way;
             good = g.good;
-            at = ap (λ t. g.view.registers (cond t (base_register c s.current.routine a) 12) + cond t (base_offset c s.current.routine a n) 0) is ∙ g.at ∙ sums (place c p block);
+            at = ap (λ t. g.view.registers (cond t (base_register c s.current.routine a) 12) + cond t
+                (base_offset c s.current.routine a n) 0) is ∙ g.at ∙ sums (place c p block);
             apart = λ z. g.apart (sym (ap (λ t. cond t (base_register c s.current.routine a) 12) is) ∙ z);
             near = g.near;
-            place = g.place ∙ ap (λ t. v.place + length (cond t (base_code c s.current.routine a) (base_code c s.current.routine a ++ (constant 15 (base_offset c s.current.routine a n) ++ Plain (word.Operate op.Add 12 (base_register c s.current.routine a) (instr.Content 15)) ∷ [])))) (sym is);
+            place = g.place ∙ ap (λ t. v.place + length
+                (cond t (base_code c s.current.routine a)
+                (base_code c s.current.routine a ++ (constant 15 (base_offset c s.current.routine a n) ++ Plain
+                (word.Operate op.Add 12 (base_register c s.current.routine a) (instr.Content 15)) ∷ [])))) (sym is);
           }
         where
           sums : (x : ℕ) → x + offset + n ≡ x + (offset + n)
@@ -208,28 +241,37 @@ module _ (c : Context) (words : List ℕ) (b : Built c words) (p : Places) (s : 
           let o = base_offset c rr a n in
           let q = base_register c rr a in
           let i = word.Operate op.Add 12 q (instr.Content 15) in
-          let l0 = subst (λ x. Left c words v.place x next) (append_assoc (base_code c rr a) (constant 15 o ++ Plain i ∷ []) ps) l in
+          let l0 = subst (λ x. Left c words v.place x next)
+          (append_assoc (base_code c rr a) (constant 15 o ++ Plain i ∷ []) ps) l in
           let g = base_run a n block offset (constant 15 o ++ (Plain i ∷ ps)) next r e l0 in
           let v1 = g.view in
-          let l1 = left_after c words v.place v1.place next (base_code c rr a) (constant 15 o ++ (Plain i ∷ ps)) l0 g.place in
-          let k = constant_run c words b.stood 15 o (Plain i ∷ ps) next g.way.to v1 g.way.shows (omega (arith, g.at, low)) l1 in
+          let l1 = left_after c words v.place v1.place next (base_code c rr a)
+          (constant 15 o ++ (Plain i ∷ ps)) l0 g.place in
+          let k = constant_run c words b.stood 15 o (Plain i ∷ ps) next g.way.to v1 g.way.shows
+          (omega (arith, g.at, low)) l1 in
           let v2 = k.view in
           let l2 = left_after c words v1.place v2.place next (constant 15 o) (Plain i ∷ ps) l1 k.place in
           let t3 = step_to c words b.stood i k.to.to v2 k.to.shows l2.stands.0 tt in
           let v3 = after i v2 in
           let eq : v2.registers q ≡ v1.registers q = k.moved.registers q g.apart in
-          let is12 : v3.registers 12 ≡ place c p block + (offset + n) = sum (v2.registers q) (v2.registers 15) (v1.registers q) o eq k.value g.at in
+          let is12 : v3.registers 12 ≡ place c p block + (offset + n) = sum (v2.registers q) (v2.registers 15)
+          (v1.registers q) o eq k.value g.at in
           record {
             view = v3;
-            way = way_then words c.size m same_tape same_tape v1 v3 g.way (way_of words c.size g.way.to same_tape v3 (to_join words c.size g.way.to same_tape same_tape v2 v3 k.to t3));
+            way = way_then words c.size m same_tape same_tape v1 v3 g.way
+                (way_of words c.size g.way.to same_tape v3
+                (to_join words c.size g.way.to same_tape same_tape v2 v3 k.to t3));
             good = g.good;
             at = ap (λ t. v3.registers (cond t q 12) + cond t o 0) is ∙ plus_zero (v3.registers 12) ∙ is12;
             apart = twelve _ (ap (λ t. cond t q 12) is);
             near = record {
-              registers = λ x n12 n15. update_other v2.registers 12 _ x n12 ∙ k.moved.registers x n15 ∙ g.near.registers x n12 n15;
+              registers = λ x n12 n15. update_other v2.registers 12 _ x n12 ∙ k.moved.registers x n15
+                  ∙ g.near.registers x n12 n15;
               words = λ x. k.moved.words x ∙ g.near.words x;
             };
-            place = let z = ap (λ t. length (cond t (base_code c rr a) (base_code c rr a ++ (constant 15 o ++ Plain i ∷ [])))) is in let len = length-append (base_code c rr a) (constant 15 o ++ Plain i ∷ []) in omega (arith, g.place, k.place, z, len);
+            place = let z = ap (λ t. length (cond t (base_code c rr a)
+                (base_code c rr a ++ (constant 15 o ++ Plain i ∷ [])))) is in let len = length-append (base_code c rr a)
+                (constant 15 o ++ Plain i ∷ []) in omega (arith, g.place, k.place, z, len);
           }
         where
           plus_zero : (x : ℕ) → x + 0 ≡ x
@@ -238,42 +280,66 @@ module _ (c : Context) (words : List ℕ) (b : Built c words) (p : Places) (s : 
           twelve : (x : ℕ) → x ≡ 12 → x ≢ 15
           twelve x e z = omega (arith, e, z)
 
-          sum : (x y x' y' : ℕ) → x ≡ x' → y ≡ y' → x' + y' ≡ place c p block + offset + n → (x + y + 0) % 2 ^ 32 ≡ place c p block + (offset + n)
+          sum : (x y x' y' : ℕ) → x ≡ x' → y ≡ y' → x' + y' ≡ place c p block + offset + n → (x + y + 0) % 2 ^ 32
+              ≡ place c p block + (offset + n)
           sum x y x' y' e e' e'' = omega (arith, e, e', e'', low)
 
   -- ---- words
 
-  pub load_follows : (t : ℕ) (a : Base) (n : ℕ) (block : Block) (offset : ℕ) (x : Value) → fetch c.code s.current.routine s.current.place ≡ Some (Load t a n) → base_value s.current a ≡ Some (Address block offset) → load (text_at c.code) s.memory block (offset + n) ≡ Some x → Comes c words s (record s { current = giving t x s.current }) m
+  pub load_follows : (t : ℕ) (a : Base) (n : ℕ) (block : Block) (offset : ℕ) (x : Value)
+      → fetch c.code s.current.routine s.current.place ≡ Some (Load t a n) → base_value s.current a ≡ Some
+      (Address block offset) → load (text_at c.code) s.memory block (offset + n) ≡ Some x → Comes c words s
+      (record s { current = giving t x s.current }) m
   load_follows t a n block offset x here ea el =
       let r = s.current.routine in
       let k = s.current.place in
       let h = home c r t in
-      let l = subst (λ y. Left c words v.place (word_form c r y t a n) (c.site r (suc k))) be.flags.1 (code c words b p s f m v sh be (Load t a n) here) in
+      let l = subst (λ y. Left c words v.place (word_form c r y t a n) (c.site r (suc k))) be.flags.1
+      (code c words b p s f m v sh be (Load t a n) here) in
       let q = reach_register c r a n in
       let o = reach_offset c r a n in
       let i = word.Load Word (target c r h) q (pos o) in
-      let found = load_found c b.laid p s v.words f block (offset + n) x be.related.held (constants_stand c words b.stood p m v sh) el in
-      let g = reach_run a n block offset (Plain i ∷ save c r h) _ (λ u e. is_read c r k (Load t a n) here u e) ea (omega (arith, found.high, b.laid.order.3)) l in
+      let found = load_found c b.laid p s v.words f block (offset + n) x be.related.held
+      (constants_stand c words b.stood p m v sh) el in
+      let g = reach_run a n block offset (Plain i ∷ save c r h) _ (λ u e. is_read c r k (Load t a n) here u e) ea
+      (omega (arith, found.high, b.laid.order.3)) l in
       let v1 = g.view in
       let l1 = left_after c words v.place v1.place _ (reach c r a n) (Plain i ∷ save c r h) l g.place in
-      let ok : IsReadable c.size (v1.registers q + o) = subst (IsReadable c.size) (sym g.at) (record { aligned = found.aligned; high = found.high }) in
+      let ok : IsReadable c.size (v1.registers q + o) = subst (IsReadable c.size) (sym g.at) (record {
+        aligned = found.aligned;
+        high = found.high;
+      }) in
       let t2 = step_to c words b.stood i g.way.to v1 g.way.shows l1.stands.0 (tt, ok) in
       let v2 = after i v1 in
       let loaded : v1.words (v1.registers q + o) ≡ related.word c p x = g.near.words _ ∙ ap v.words g.at ∙ found.is in
       let is : v2.registers (target c r h) ≡ related.word c p x = update_same v1.registers (target c r h) _ ∙ loaded in
       let s' = record s { current = giving t x s.current } in
-      come_way c words b s s' m v1 g.way (come_to c words b s s' g.way.to same_tape v2 t2 refl (tells_end c words b p s (machine_of v) f t x (Load t a n) t2.to v2 be.related be.input (writes_it c r k (Load t a n) here t refl refl) here refl (ap (λ z. nat_eq z 0) loaded, ap (nat_le 2147483648) loaded) found.good t2.shows (record { here = is; registers = λ x n12 n15 nd. update_other v1.registers (target c r h) _ x nd ∙ g.near.registers x n12 n15; words = g.near.words }) (left_next c words v1.place _ _ (save c r h) l1)))
+      come_way c words b s s' m v1 g.way (come_to c words b s s' g.way.to same_tape v2 t2 refl
+      (tells_end c words b p s (machine_of v) f t x (Load t a n) t2.to v2 be.related be.input
+      (writes_it c r k (Load t a n) here t refl refl) here refl
+      (ap (λ z. nat_eq z 0) loaded, ap (nat_le 2147483648) loaded) found.good t2.shows (record {
+        here = is;
+        registers = λ x n12 n15 nd. update_other v1.registers (target c r h) _ x nd ∙ g.near.registers x n12 n15;
+        words = g.near.words;
+      }) (left_next c words v1.place _ _ (save c r h) l1)))
 
   -- a store's words, up to the store
   pub record Ready (a : Base) (n u len : ℕ) (block : Block) (offset : ℕ) (x : Value) : Type 0 where
     pub view : View
     pub way : Way words c.size m same_tape view
-    pub at : view.registers (reach_register c s.current.routine a n) + reach_offset c s.current.routine a n ≡ place c p block + (offset + n)
+    pub at : view.registers (reach_register c s.current.routine a n) + reach_offset c s.current.routine a n
+        ≡ place c p block + (offset + n)
     pub value : view.registers (fetched c s.current.routine 15 (home c s.current.routine u)) ≡ related.word c p x
     pub near : Near (machine_of v) (machine_of view)
     pub place : view.place ≡ v.place + len
 
-  pub ready_run : (a : Base) (n u : ℕ) (block : Block) (offset : ℕ) (x : Value) (ps : List Piece) (next : ℕ) → ReadsBase a → reads c s.current.routine s.current.place u ≡ true → base_value s.current a ≡ Some (Address block offset) → s.current.temporaries u ≡ Some x → place c p block + (offset + n) < 4294967296 → Left c words v.place (reach c s.current.routine a n ++ (form.fetch c s.current.routine 15 (home c s.current.routine u) ++ ps)) next → Ready a n u (length (reach c s.current.routine a n) + length (form.fetch c s.current.routine 15 (home c s.current.routine u))) block offset x
+  pub ready_run : (a : Base) (n u : ℕ) (block : Block) (offset : ℕ) (x : Value) (ps : List Piece) (next : ℕ)
+      → ReadsBase a → reads c s.current.routine s.current.place u ≡ true → base_value s.current a ≡ Some
+      (Address block offset) → s.current.temporaries u ≡ Some x → place c p block + (offset + n) < 4294967296
+      → Left c words v.place (reach c s.current.routine a n
+      ++ (form.fetch c s.current.routine 15 (home c s.current.routine u) ++ ps)) next → Ready a n u
+      (length (reach c s.current.routine a n) + length (form.fetch c s.current.routine 15 (home c s.current.routine u)))
+      block offset x
   ready_run a n u block offset x ps next ra ru ea eu low l =
       let r = s.current.routine in
       let fr = framed c words b p s (machine_of v) f be.related in
@@ -282,9 +348,11 @@ module _ (c : Context) (words : List ℕ) (b : Built c words) (p : Places) (s : 
       let v1 = g.view in
       let l1 = left_after c words v.place v1.place next (reach c r a n) (fs ++ ps) l g.place in
       let e14 : v1.registers 14 ≡ f = g.near.registers 14 (omega arith) (omega arith) ∙ be.related.stack in
-      let z = fetch_run c words b.stood b.laid b.placed r f fr 15 u ps next g.way.to v1 g.way.shows (omega arith) e14 l1 in
+      let z = fetch_run c words b.stood b.laid b.placed r f fr 15 u ps next g.way.to v1 g.way.shows (omega arith) e14 l1
+      in
       let v2 = z.view in
-      let same = value_near c b.laid b.placed p r f (machine_of v) (machine_of v1) (home c r u) (λ q e. b.placed.register r u q e) g.near in
+      let same = value_near c b.laid b.placed p r f (machine_of v) (machine_of v1) (home c r u)
+      (λ q e. b.placed.register r u q e) g.near in
       let is = (stands_in c words b p s f m v sh be u x ru eu).1 in
       record {
         view = v2;
@@ -300,9 +368,13 @@ module _ (c : Context) (words : List ℕ) (b : Built c words) (p : Places) (s : 
 
   update_eq : (g h : ℕ → ℕ) (a a' n n' j : ℕ) → a ≡ a' → n ≡ n' → g j ≡ h j → update a n g j ≡ update a' n' h j
   update_eq g h a a' n n' j e e' e'' =
-      ap (λ z. cond (nat_eq j z) n (g j)) e ∙ ap (λ z. cond (nat_eq j a') z (g j)) e' ∙ ap (λ z. cond (nat_eq j a') n' z) e''
+      ap (λ z. cond (nat_eq j z) n (g j)) e ∙ ap (λ z. cond (nat_eq j a') z (g j)) e'
+      ∙ ap (λ z. cond (nat_eq j a') n' z) e''
 
-  pub store_follows : (a : Base) (n u : ℕ) (block : Block) (offset : ℕ) (x : Value) (memory : Memory) → fetch c.code s.current.routine s.current.place ≡ Some (Store a n u) → base_value s.current a ≡ Some (Address block offset) → s.current.temporaries u ≡ Some x → store s.memory block (offset + n) x ≡ Some memory → Comes c words s (record s { current = onward s.current; memory = memory }) m
+  pub store_follows : (a : Base) (n u : ℕ) (block : Block) (offset : ℕ) (x : Value) (memory : Memory)
+      → fetch c.code s.current.routine s.current.place ≡ Some (Store a n u) → base_value s.current a ≡ Some
+      (Address block offset) → s.current.temporaries u ≡ Some x → store s.memory block (offset + n) x ≡ Some memory
+      → Comes c words s (record s { current = onward s.current; memory = memory }) m
   store_follows a n u block offset x memory here ea eu es =
       let r = s.current.routine in
       let k = s.current.place in
@@ -314,23 +386,47 @@ module _ (c : Context) (words : List ℕ) (b : Built c words) (p : Places) (s : 
       let ru = is_read c r k (Store a n u) here u (among_first u (in_base a)) in
       let good = (stands_in c words b p s f m v sh be u x ru eu).0 in
       let kept = store_kept c b.laid p s memory v.words f block (offset + n) x be.related.held good es in
-      let g = ready_run a n u block offset x (Plain i ∷ []) _ (λ t e. is_read c r k (Store a n u) here t (among_rest t u (in_base a) e)) ru ea eu (omega (arith, kept.high, b.laid.order.3)) l in
+      let g = ready_run a n u block offset x (Plain i ∷ []) _
+      (λ t e. is_read c r k (Store a n u) here t (among_rest t u (in_base a) e)) ru ea eu
+      (omega (arith, kept.high, b.laid.order.3)) l in
       let v1 = g.view in
-      let l1 = left_after c words v.place v1.place _ (reach c r a n ++ form.fetch c r 15 (home c r u)) (Plain i ∷ []) (subst (λ y. Left c words v.place y (c.site r (suc k))) (sym (append_assoc (reach c r a n) (form.fetch c r 15 (home c r u)) (Plain i ∷ []))) l) (let len = length-append (reach c r a n) (form.fetch c r 15 (home c r u)) in omega (arith, g.place, len)) in
-      let ok : IsWritable words c.size (v1.registers q + o) = subst (IsWritable words c.size) (sym g.at) (record { aligned = kept.aligned; low = omega (arith, b.stood.code, kept.low); high = kept.high }) in
+      let l1 = left_after c words v.place v1.place _ (reach c r a n ++ form.fetch c r 15 (home c r u)) (Plain i ∷ [])
+      (subst (λ y. Left c words v.place y (c.site r (suc k)))
+      (sym (append_assoc (reach c r a n) (form.fetch c r 15 (home c r u)) (Plain i ∷ []))) l)
+      (let len = length-append (reach c r a n) (form.fetch c r 15 (home c r u)) in omega (arith, g.place, len)) in
+      let ok : IsWritable words c.size (v1.registers q + o) = subst (IsWritable words c.size) (sym g.at) (record {
+        aligned = kept.aligned;
+        low = omega (arith, b.stood.code, kept.low);
+        high = kept.high;
+      }) in
       let t2 = step_to c words b.stood i g.way.to v1 g.way.shows l1.stands.0 (tt, ok) in
       let v2 = after i v1 in
       let s' = record s { current = onward s.current; memory = memory } in
-      let rel = related_stores c b.laid b.placed p s (machine_of v) (machine_of v2) f (place c p block + (offset + n)) memory (IsStored (offset + n) x) be.related (passes c r k (Store a n u) here (suc k) refl (among_first (suc k) [])) kept (λ y n12 n15. g.near.registers y n12 n15) (λ j. update_eq v1.words v.words _ _ _ _ j g.at (g.value ∙ ap (related.word c p) (sym kept.why.1)) (g.near.words j)) in
-      come_way c words b s s' m v1 g.way (come_to c words b s s' g.way.to same_tape v2 t2 refl (arrive_here c words b p s' t2.to v2 f t2.shows (record { related = rel; place = sym l1.ends; input = be.input; flags = silent c r k (Store a n u) here refl v2 })))
+      let rel = related_stores c b.laid b.placed p s (machine_of v) (machine_of v2) f
+      (place c p block + (offset + n)) memory (IsStored (offset + n) x) be.related
+      (passes c r k (Store a n u) here (suc k) refl (among_first (suc k) [])) kept
+      (λ y n12 n15. g.near.registers y n12 n15)
+      (λ j. update_eq v1.words v.words _ _ _ _ j g.at (g.value ∙ ap (related.word c p) (sym kept.why.1))
+      (g.near.words j)) in
+      come_way c words b s s' m v1 g.way (come_to c words b s s' g.way.to same_tape v2 t2 refl
+      (arrive_here c words b p s' t2.to v2 f t2.shows (record {
+        related = rel;
+        place = sym l1.ends;
+        input = be.input;
+        flags = silent c r k (Store a n u) here refl v2;
+      })))
 
   -- ---- bytes
 
   -- the word of a byte, and the byte in it
-  byte_place : (at o : ℕ) → (at + 4 * (o / 4)) % 4 ≡ 0 → (word_place (at + o) ≡ at + 4 * (o / 4)) × ((at + o) % 4 ≡ o % 4)
+  byte_place : (at o : ℕ) → (at + 4 * (o / 4)) % 4 ≡ 0 → (word_place (at + o) ≡ at + 4 * (o / 4))
+      × ((at + o) % 4 ≡ o % 4)
   byte_place at o e = (omega (arith, e), omega (arith, e))
 
-  pub load_byte_follows : (t : ℕ) (a : Base) (n : ℕ) (block : Block) (offset byte : ℕ) → fetch c.code s.current.routine s.current.place ≡ Some (LoadByte t a n) → base_value s.current a ≡ Some (Address block offset) → load_byte (text_at c.code) s.memory block (offset + n) ≡ Some byte → Comes c words s (record s { current = giving t (Number (pos byte)) s.current }) m
+  pub load_byte_follows : (t : ℕ) (a : Base) (n : ℕ) (block : Block) (offset byte : ℕ)
+      → fetch c.code s.current.routine s.current.place ≡ Some (LoadByte t a n) → base_value s.current a ≡ Some
+      (Address block offset) → load_byte (text_at c.code) s.memory block (offset + n) ≡ Some byte → Comes c words s
+      (record s { current = giving t (Number (pos byte)) s.current }) m
   load_byte_follows t a n block offset byte here ea el =
       let r = s.current.routine in
       let k = s.current.place in
@@ -340,21 +436,35 @@ module _ (c : Context) (words : List ℕ) (b : Built c words) (p : Places) (s : 
       let o = reach_offset c r a n in
       let at = place c p block in
       let i = word.Load Byte (target c r h) q (pos o) in
-      let found = load_byte_found c b.laid p s v.words f block (offset + n) byte be.related.held (constants_stand c words b.stood p m v sh) el in
-      let g = reach_run a n block offset (Plain i ∷ save c r h) _ (λ u e. is_read c r k (LoadByte t a n) here u e) ea (omega (arith, found.word.high, b.laid.order.3)) l in
+      let found = load_byte_found c b.laid p s v.words f block (offset + n) byte be.related.held
+      (constants_stand c words b.stood p m v sh) el in
+      let g = reach_run a n block offset (Plain i ∷ save c r h) _ (λ u e. is_read c r k (LoadByte t a n) here u e) ea
+      (omega (arith, found.word.high, b.laid.order.3)) l in
       let v1 = g.view in
       let l1 = left_after c words v.place v1.place _ (reach c r a n) (Plain i ∷ save c r h) l g.place in
       let wp = byte_place at (offset + n) found.word.aligned in
       let wp' : word_place (v1.registers q + o) ≡ at + 4 * ((offset + n) / 4) = ap word_place g.at ∙ wp.0 in
-      let ok : IsReadable c.size (word_place (v1.registers q + o)) = subst (IsReadable c.size) (sym wp') (record { aligned = found.word.aligned; high = found.word.high }) in
+      let ok : IsReadable c.size (word_place (v1.registers q + o)) = subst (IsReadable c.size) (sym wp') (record {
+        aligned = found.word.aligned;
+        high = found.word.high;
+      }) in
       let t2 = step_to c words b.stood i g.way.to v1 g.way.shows l1.stands.0 (tt, ok) in
       let v2 = after i v1 in
-      let in_word : v1.words (word_place (v1.registers q + o)) ≡ word_of found.number = g.near.words _ ∙ ap v.words wp' ∙ found.word.is in
-      let by : view.byte_at v1 (v1.registers q + o) ≡ byte = ap (λ w. view.byte_in w ((v1.registers q + o) % 4)) in_word ∙ ap (view.byte_in (word_of found.number)) (ap (λ x. x % 4) g.at ∙ wp.1) ∙ sym found.is in
+      let in_word : v1.words (word_place (v1.registers q + o)) ≡ word_of found.number = g.near.words _ ∙ ap v.words wp'
+      ∙ found.word.is in
+      let by : view.byte_at v1 (v1.registers q + o) ≡ byte = ap (λ w. view.byte_in w ((v1.registers q + o) % 4)) in_word
+      ∙ ap (view.byte_in (word_of found.number)) (ap (λ x. x % 4) g.at ∙ wp.1) ∙ sym found.is in
       let low = byte_low byte (word_of found.number / 256 ^ ((offset + n) % 4)) found.is in
       let loaded : view.byte_at v1 (v1.registers q + o) ≡ word_of (pos byte) = by ∙ sym (word_is byte low) in
       let s' = record s { current = giving t (Number (pos byte)) s.current } in
-      come_way c words b s s' m v1 g.way (come_to c words b s s' g.way.to same_tape v2 t2 refl (tells_end c words b p s (machine_of v) f t (Number (pos byte)) (LoadByte t a n) t2.to v2 be.related be.input (writes_it c r k (LoadByte t a n) here t refl refl) here refl (ap (λ z. nat_eq z 0) loaded, ap (nat_le 2147483648) loaded) (number_is byte low) t2.shows (record { here = update_same v1.registers (target c r h) _ ∙ loaded; registers = λ x n12 n15 nd. update_other v1.registers (target c r h) _ x nd ∙ g.near.registers x n12 n15; words = g.near.words }) (left_next c words v1.place _ _ (save c r h) l1)))
+      come_way c words b s s' m v1 g.way (come_to c words b s s' g.way.to same_tape v2 t2 refl
+      (tells_end c words b p s (machine_of v) f t (Number (pos byte)) (LoadByte t a n) t2.to v2 be.related be.input
+      (writes_it c r k (LoadByte t a n) here t refl refl) here refl
+      (ap (λ z. nat_eq z 0) loaded, ap (nat_le 2147483648) loaded) (number_is byte low) t2.shows (record {
+        here = update_same v1.registers (target c r h) _ ∙ loaded;
+        registers = λ x n12 n15 nd. update_other v1.registers (target c r h) _ x nd ∙ g.near.registers x n12 n15;
+        words = g.near.words;
+      }) (left_next c words v1.place _ _ (save c r h) l1)))
     where
       byte_low : (x y : ℕ) → x ≡ y % 256 → x < 256
       byte_low x y e = omega (arith, e)
@@ -366,17 +476,24 @@ module _ (c : Context) (words : List ℕ) (b : Built c words) (p : Places) (s : 
       word_is x lt = omega (arith, ints)
 
   -- the word with another byte is the word of the number with that byte
-  same_bytes : (w k x : ℕ) → w < 4294967296 → x < 256 → k < 4 → (view.with_byte w k x ≡ w - w / 256 ^ k % 256 * 256 ^ k + x * 256 ^ k) × (w - w / 256 ^ k % 256 * 256 ^ k + x * 256 ^ k < 4294967296)
+  same_bytes : (w k x : ℕ) → w < 4294967296 → x < 256 → k < 4
+      → (view.with_byte w k x ≡ w - w / 256 ^ k % 256 * 256 ^ k + x * 256 ^ k)
+      × (w - w / 256 ^ k % 256 * 256 ^ k + x * 256 ^ k < 4294967296)
   same_bytes w zero x lw lx lk = (omega arith, omega arith)
   same_bytes w (suc zero) x lw lx lk = (omega arith, omega arith)
   same_bytes w (suc (suc zero)) x lw lx lk = (omega arith, omega arith)
   same_bytes w (suc (suc (suc zero))) x lw lx lk = (omega arith, omega arith)
   same_bytes w (suc (suc (suc (suc k)))) x lw lx lk = absurd (omega (arith, lk))
 
-  byte_put : (w k x : ℕ) → w < 4294967296 → x < 256 → k < 4 → view.with_byte w k x ≡ word_of (number_of (w - w / 256 ^ k % 256 * 256 ^ k + x * 256 ^ k))
+  byte_put : (w k x : ℕ) → w < 4294967296 → x < 256 → k < 4 → view.with_byte w k x ≡ word_of
+      (number_of (w - w / 256 ^ k % 256 * 256 ^ k + x * 256 ^ k))
   byte_put w k x lw lx lk = let e = same_bytes w k x lw lx lk in e.0 ∙ sym (read_back _ e.1)
 
-  pub store_byte_follows : (a : Base) (n u : ℕ) (block : Block) (offset byte : ℕ) (memory : Memory) → fetch c.code s.current.routine s.current.place ≡ Some (StoreByte a n u) → base_value s.current a ≡ Some (Address block offset) → s.current.temporaries u ≡ Some (Number (pos byte)) → byte < 256 → store_byte s.memory block (offset + n) byte ≡ Some memory → Comes c words s (record s { current = onward s.current; memory = memory }) m
+  pub store_byte_follows : (a : Base) (n u : ℕ) (block : Block) (offset byte : ℕ) (memory : Memory)
+      → fetch c.code s.current.routine s.current.place ≡ Some (StoreByte a n u) → base_value s.current a ≡ Some
+      (Address block offset) → s.current.temporaries u ≡ Some (Number (pos byte)) → byte < 256
+      → store_byte s.memory block (offset + n) byte ≡ Some memory → Comes c words s
+      (record s { current = onward s.current; memory = memory }) m
   store_byte_follows a n u block offset byte memory here ea eu lt es =
       let r = s.current.routine in
       let k = s.current.place in
@@ -388,12 +505,22 @@ module _ (c : Context) (words : List ℕ) (b : Built c words) (p : Places) (s : 
       let i = word.Store Byte d q (pos o) in
       let ru = is_read c r k (StoreByte a n u) here u (among_first u (in_base a)) in
       let kept = store_byte_kept c b.laid p s memory v.words f block (offset + n) byte be.related.held es in
-      let g = ready_run a n u block offset (Number (pos byte)) (Plain i ∷ []) _ (λ t e. is_read c r k (StoreByte a n u) here t (among_rest t u (in_base a) e)) ru ea eu (omega (arith, kept.high, b.laid.order.3)) l in
+      let g = ready_run a n u block offset (Number (pos byte)) (Plain i ∷ []) _
+      (λ t e. is_read c r k (StoreByte a n u) here t (among_rest t u (in_base a) e)) ru ea eu
+      (omega (arith, kept.high, b.laid.order.3)) l in
       let v1 = g.view in
-      let l1 = left_after c words v.place v1.place _ (reach c r a n ++ form.fetch c r 15 (home c r u)) (Plain i ∷ []) (subst (λ y. Left c words v.place y (c.site r (suc k))) (sym (append_assoc (reach c r a n) (form.fetch c r 15 (home c r u)) (Plain i ∷ []))) l) (let len = length-append (reach c r a n) (form.fetch c r 15 (home c r u)) in omega (arith, g.place, len)) in
+      let l1 = left_after c words v.place v1.place _ (reach c r a n ++ form.fetch c r 15 (home c r u)) (Plain i ∷ [])
+      (subst (λ y. Left c words v.place y (c.site r (suc k)))
+      (sym (append_assoc (reach c r a n) (form.fetch c r 15 (home c r u)) (Plain i ∷ []))) l)
+      (let len = length-append (reach c r a n) (form.fetch c r 15 (home c r u)) in omega (arith, g.place, len)) in
       let wp = byte_place at (offset + n) kept.aligned in
       let wp' : word_place (v1.registers q + o) ≡ at + 4 * ((offset + n) / 4) = ap word_place g.at ∙ wp.0 in
-      let ok : IsWritable words c.size (word_place (v1.registers q + o)) = subst (IsWritable words c.size) (sym wp') (record { aligned = kept.aligned; low = omega (arith, b.stood.code, kept.low); high = kept.high }) in
+      let ok : IsWritable words c.size (word_place (v1.registers q + o)) = subst (IsWritable words c.size) (sym wp')
+      (record {
+        aligned = kept.aligned;
+        low = omega (arith, b.stood.code, kept.low);
+        high = kept.high;
+      }) in
       let t2 = step_to c words b.stood i g.way.to v1 g.way.shows l1.stands.0 (tt, ok) in
       let v2 = after i v1 in
       let s' = record s { current = onward s.current; memory = memory } in
@@ -401,9 +528,24 @@ module _ (c : Context) (words : List ℕ) (b : Built c words) (p : Places) (s : 
       let old = kept.stood (Number z) kept.why.1 in
       let in_word : v1.words (word_place (v1.registers q + o)) ≡ word_of z = g.near.words _ ∙ ap v.words wp' ∙ old.1 in
       let by : v1.registers d % 256 ≡ byte = ap (λ x. x % 256) g.value ∙ low_byte byte lt in
-      let new : view.with_byte (v1.words (word_place (v1.registers q + o))) ((v1.registers q + o) % 4) (v1.registers d % 256) ≡ related.word c p kept.value = ap (λ w. view.with_byte w ((v1.registers q + o) % 4) (v1.registers d % 256)) in_word ∙ ap (λ j. view.with_byte (word_of z) j (v1.registers d % 256)) (ap (λ x. x % 4) g.at ∙ wp.1) ∙ ap (view.with_byte (word_of z) ((offset + n) % 4)) by ∙ byte_put (word_of z) ((offset + n) % 4) byte (word_narrow z old.0) lt (omega arith) ∙ ap (related.word c p) (sym kept.why.2) in
-      let rel = related_stores c b.laid b.placed p s (machine_of v) (machine_of v2) f (at + 4 * ((offset + n) / 4)) memory (IsByteStored ((offset + n) % 4) byte) be.related (passes c r k (StoreByte a n u) here (suc k) refl (among_first (suc k) [])) kept (λ y n12 n15. g.near.registers y n12 n15) (λ j. update_eq v1.words v.words _ _ _ _ j wp' new (g.near.words j)) in
-      come_way c words b s s' m v1 g.way (come_to c words b s s' g.way.to same_tape v2 t2 refl (arrive_here c words b p s' t2.to v2 f t2.shows (record { related = rel; place = sym l1.ends; input = be.input; flags = silent c r k (StoreByte a n u) here refl v2 })))
+      let new : view.with_byte (v1.words (word_place (v1.registers q + o))) ((v1.registers q + o) % 4)
+      (v1.registers d % 256) ≡ related.word c p kept.value =
+      ap (λ w. view.with_byte w ((v1.registers q + o) % 4) (v1.registers d % 256)) in_word
+      ∙ ap (λ j. view.with_byte (word_of z) j (v1.registers d % 256)) (ap (λ x. x % 4) g.at ∙ wp.1)
+      ∙ ap (view.with_byte (word_of z) ((offset + n) % 4)) by ∙ byte_put (word_of z) ((offset + n) % 4) byte
+      (word_narrow z old.0) lt (omega arith) ∙ ap (related.word c p) (sym kept.why.2) in
+      let rel = related_stores c b.laid b.placed p s (machine_of v) (machine_of v2) f
+      (at + 4 * ((offset + n) / 4)) memory (IsByteStored ((offset + n) % 4) byte) be.related
+      (passes c r k (StoreByte a n u) here (suc k) refl (among_first (suc k) [])) kept
+      (λ y n12 n15. g.near.registers y n12 n15) (λ j. update_eq v1.words v.words _ _ _ _ j wp' new (g.near.words j))
+      in
+      come_way c words b s s' m v1 g.way (come_to c words b s s' g.way.to same_tape v2 t2 refl
+      (arrive_here c words b p s' t2.to v2 f t2.shows (record {
+        related = rel;
+        place = sym l1.ends;
+        input = be.input;
+        flags = silent c r k (StoreByte a n u) here refl v2;
+      })))
     where
       low_byte : (x : ℕ) → x < 256 → word_of (pos x) % 256 ≡ x
       low_byte x lt = omega (arith, ints)
@@ -414,12 +556,25 @@ module _ (c : Context) (words : List ℕ) (b : Built c words) (p : Places) (s : 
   named_low (blocks.Frame a) = be.related.held.places.frame a
   named_low (blocks.Scratch a) = be.related.held.places.scratch a
   named_low (blocks.Object n) = be.related.held.places.object n
-  named_low (blocks.Constant r k) = let e = b.laid.constants r k in omega (arith, e, b.laid.order.1, b.laid.order.2, b.laid.order.3)
+  named_low (blocks.Constant r k) = let e = b.laid.constants r k in omega
+      (arith, e, b.laid.order.1, b.laid.order.2, b.laid.order.3)
 
-  pub offset_follows : (t : ℕ) (a : Base) (n extent : ℕ) (block : Block) (offset : ℕ) → fetch c.code s.current.routine s.current.place ≡ Some (Offset t a n extent) → base_value s.current a ≡ Some (Address block offset) → offset + n < 2147483648 → Comes c words s (record s { current = giving t (Address block (offset + n)) s.current }) m
-  offset_follows t a n extent block offset here ea lt = go (nat_lt (base_offset c s.current.routine a n) 65536) (code c words b p s f m v sh be (Offset t a n extent) here)
+  pub offset_follows : (t : ℕ) (a : Base) (n extent : ℕ) (block : Block) (offset : ℕ)
+      → fetch c.code s.current.routine s.current.place ≡ Some (Offset t a n extent) → base_value s.current a ≡ Some
+      (Address block offset) → offset + n < 2147483648 → Comes c words s
+      (record s { current = giving t (Address block (offset + n)) s.current }) m
+  offset_follows t a n extent block offset here ea lt = go (nat_lt (base_offset c s.current.routine a n) 65536)
+      (code c words b p s f m v sh be (Offset t a n extent) here)
     where
-      go : (small : Bool) → Left c words v.place ((base_code c s.current.routine a ++ cond small (Plain (word.Operate op.Add (target c s.current.routine (home c s.current.routine t)) (base_register c s.current.routine a) (instr.Constant (pos (base_offset c s.current.routine a n)))) ∷ []) (constant 15 (base_offset c s.current.routine a n) ++ Plain (word.Operate op.Add (target c s.current.routine (home c s.current.routine t)) (base_register c s.current.routine a) (instr.Content 15)) ∷ [])) ++ save c s.current.routine (home c s.current.routine t)) (c.site s.current.routine (suc s.current.place)) → Comes c words s (record s { current = giving t (Address block (offset + n)) s.current }) m
+      go : (small : Bool) → Left c words v.place
+          ((base_code c s.current.routine a ++ cond small
+          (Plain (word.Operate op.Add (target c s.current.routine (home c s.current.routine t))
+          (base_register c s.current.routine a) (instr.Constant (pos (base_offset c s.current.routine a n)))) ∷ [])
+          (constant 15 (base_offset c s.current.routine a n) ++ Plain
+          (word.Operate op.Add (target c s.current.routine (home c s.current.routine t))
+          (base_register c s.current.routine a) (instr.Content 15)) ∷ [])) ++ save c s.current.routine
+          (home c s.current.routine t)) (c.site s.current.routine (suc s.current.place)) → Comes c words s
+          (record s { current = giving t (Address block (offset + n)) s.current }) m
       go true l =
           let r = s.current.routine in
           let k = s.current.place in
@@ -427,18 +582,29 @@ module _ (c : Context) (words : List ℕ) (b : Built c words) (p : Places) (s : 
           let q = base_register c r a in
           let o = base_offset c r a n in
           let i = word.Operate op.Add (target c r h) q (instr.Constant (pos o)) in
-          let l0 = subst (λ x. Left c words v.place x (c.site r (suc k))) (append_assoc (base_code c r a) (Plain i ∷ []) (save c r h)) l in
-          let g = base_run a n block offset (Plain i ∷ save c r h) _ (λ u e. is_read c r k (Offset t a n extent) here u e) ea l0 in
+          let l0 = subst (λ x. Left c words v.place x (c.site r (suc k)))
+          (append_assoc (base_code c r a) (Plain i ∷ []) (save c r h)) l in
+          let g = base_run a n block offset (Plain i ∷ save c r h) _
+          (λ u e. is_read c r k (Offset t a n extent) here u e) ea l0 in
           let v1 = g.view in
           let l1 = left_after c words v.place v1.place _ (base_code c r a) (Plain i ∷ save c r h) l0 g.place in
           let t2 = step_to c words b.stood i g.way.to v1 g.way.shows l1.stands.0 tt in
           let v2 = after i v1 in
           let low = named_low block in
-          let is : v2.registers (target c r h) ≡ place c p block + (offset + n) = update_same v1.registers (target c r h) _ ∙ sum (v1.registers q) o g.at low in
+          let is : v2.registers (target c r h) ≡ place c p block + (offset + n) = update_same v1.registers
+          (target c r h) _ ∙ sum (v1.registers q) o g.at low in
           let s' = record s { current = giving t (Address block (offset + n)) s.current } in
-          come_way c words b s s' m v1 g.way (come_to c words b s s' g.way.to same_tape v2 t2 refl (gives_end c words b p s (machine_of v) f t (Address block (offset + n)) t2.to v2 be.related be.input (writes_it c r k (Offset t a n extent) here t refl refl) (silent c r k (Offset t a n extent) here refl) (g.good.0, lt) t2.shows (record { here = is; registers = λ x n12 n15 nd. update_other v1.registers (target c r h) _ x nd ∙ g.near.registers x n12 n15; words = g.near.words }) (left_next c words v1.place _ _ (save c r h) l1)))
+          come_way c words b s s' m v1 g.way (come_to c words b s s' g.way.to same_tape v2 t2 refl
+          (gives_end c words b p s (machine_of v) f t (Address block (offset + n)) t2.to v2 be.related be.input
+          (writes_it c r k (Offset t a n extent) here t refl refl) (silent c r k (Offset t a n extent) here refl)
+          (g.good.0, lt) t2.shows (record {
+            here = is;
+            registers = λ x n12 n15 nd. update_other v1.registers (target c r h) _ x nd ∙ g.near.registers x n12 n15;
+            words = g.near.words;
+          }) (left_next c words v1.place _ _ (save c r h) l1)))
         where
-          sum : (x o : ℕ) → x + o ≡ place c p block + offset + n → place c p block < 16777216 → (x + word_of_int (pos o) + 0) % 2 ^ 32 ≡ place c p block + (offset + n)
+          sum : (x o : ℕ) → x + o ≡ place c p block + offset + n → place c p block < 16777216
+              → (x + word_of_int (pos o) + 0) % 2 ^ 32 ≡ place c p block + (offset + n)
           sum x o e low = omega (arith, ints, lt)
       go false l =
           let r = s.current.routine in
@@ -447,29 +613,49 @@ module _ (c : Context) (words : List ℕ) (b : Built c words) (p : Places) (s : 
           let q = base_register c r a in
           let o = base_offset c r a n in
           let i = word.Operate op.Add (target c r h) q (instr.Content 15) in
-          let l00 = subst (λ x. Left c words v.place x (c.site r (suc k))) (append_assoc (base_code c r a) (constant 15 o ++ Plain i ∷ []) (save c r h)) l in
-          let l0 = subst (λ x. Left c words v.place (base_code c r a ++ x) (c.site r (suc k))) (append_assoc (constant 15 o) (Plain i ∷ []) (save c r h)) l00 in
-          let g = base_run a n block offset (constant 15 o ++ (Plain i ∷ save c r h)) _ (λ u e. is_read c r k (Offset t a n extent) here u e) ea l0 in
+          let l00 = subst (λ x. Left c words v.place x (c.site r (suc k)))
+          (append_assoc (base_code c r a) (constant 15 o ++ Plain i ∷ []) (save c r h)) l in
+          let l0 = subst (λ x. Left c words v.place (base_code c r a ++ x) (c.site r (suc k)))
+          (append_assoc (constant 15 o) (Plain i ∷ []) (save c r h)) l00 in
+          let g = base_run a n block offset (constant 15 o ++ (Plain i ∷ save c r h)) _
+          (λ u e. is_read c r k (Offset t a n extent) here u e) ea l0 in
           let v1 = g.view in
           let low = named_low block in
-          let l1 = left_after c words v.place v1.place _ (base_code c r a) (constant 15 o ++ (Plain i ∷ save c r h)) l0 g.place in
-          let z = constant_run c words b.stood 15 o (Plain i ∷ save c r h) _ g.way.to v1 g.way.shows (omega (arith, g.at, low, lt)) l1 in
+          let l1 = left_after c words v.place v1.place _ (base_code c r a)
+          (constant 15 o ++ (Plain i ∷ save c r h)) l0 g.place in
+          let z = constant_run c words b.stood 15 o (Plain i ∷ save c r h) _ g.way.to v1 g.way.shows
+          (omega (arith, g.at, low, lt)) l1 in
           let v2 = z.view in
           let l2 = left_after c words v1.place v2.place _ (constant 15 o) (Plain i ∷ save c r h) l1 z.place in
           let t3 = step_to c words b.stood i z.to.to v2 z.to.shows l2.stands.0 tt in
           let v3 = after i v2 in
           let eq : v2.registers q ≡ v1.registers q = z.moved.registers q g.apart in
-          let is : v3.registers (target c r h) ≡ place c p block + (offset + n) = update_same v2.registers (target c r h) _ ∙ sum (v2.registers q) (v2.registers 15) (v1.registers q) o eq z.value g.at low in
+          let is : v3.registers (target c r h) ≡ place c p block + (offset + n) = update_same v2.registers
+          (target c r h) _ ∙ sum (v2.registers q) (v2.registers 15) (v1.registers q) o eq z.value g.at low in
           let s' = record s { current = giving t (Address block (offset + n)) s.current } in
-          come_way c words b s s' m v1 g.way (come_to c words b s s' g.way.to same_tape v2 z.to refl (arrive_to c words b s' z.to.to v3 t3 (gives_end c words b p s (machine_of v) f t (Address block (offset + n)) t3.to v3 be.related be.input (writes_it c r k (Offset t a n extent) here t refl refl) (silent c r k (Offset t a n extent) here refl) (g.good.0, lt) t3.shows (record { here = is; registers = λ x n12 n15 nd. update_other v2.registers (target c r h) _ x nd ∙ z.moved.registers x n15 ∙ g.near.registers x n12 n15; words = λ x. z.moved.words x ∙ g.near.words x }) (left_next c words v2.place _ _ (save c r h) l2))))
+          come_way c words b s s' m v1 g.way (come_to c words b s s' g.way.to same_tape v2 z.to refl
+          (arrive_to c words b s' z.to.to v3 t3 (gives_end c words b p s (machine_of v) f t
+          (Address block (offset + n)) t3.to v3 be.related be.input
+          (writes_it c r k (Offset t a n extent) here t refl refl) (silent c r k (Offset t a n extent) here refl)
+          (g.good.0, lt) t3.shows (record {
+            here = is;
+            registers = λ x n12 n15 nd. update_other v2.registers (target c r h) _ x nd ∙ z.moved.registers x n15
+                ∙ g.near.registers x n12 n15;
+            words = λ x. z.moved.words x ∙ g.near.words x;
+          }) (left_next c words v2.place _ _ (save c r h) l2))))
         where
-          sum : (x y x' y' : ℕ) → x ≡ x' → y ≡ y' → x' + y' ≡ place c p block + offset + n → place c p block < 16777216 → (x + y + 0) % 2 ^ 32 ≡ place c p block + (offset + n)
+          sum : (x y x' y' : ℕ) → x ≡ x' → y ≡ y' → x' + y' ≡ place c p block + offset + n → place c p block < 16777216
+              → (x + y + 0) % 2 ^ 32 ≡ place c p block + (offset + n)
           sum x y x' y' e e' e'' low = omega (arith, lt, e, e', e'')
 
 -- ---- a load by a register that is short of an offset
 
 module _ (c : Context) (words : List ℕ) (b : Built c words) (p : Places) (s : State) (f : ℕ) (m : machine.State) (v : View) (sh : Shows words c.size m v) (me : Meets c words p s v f) where
-  pub bent_load_follows : (bent : ℕ × ℕ) (t n : ℕ) (block : Block) (offset : ℕ) (x : Value) → bent_at c s.current.routine s.current.place ≡ Some bent → home c s.current.routine t ≡ Reg bent.0 → fetch c.code s.current.routine s.current.place ≡ Some (Load t (base.Temporary t) n) → s.current.temporaries t ≡ Some (Address block offset) → load (text_at c.code) s.memory block (offset + n) ≡ Some x → Comes c words s (record s { current = giving t x s.current }) m
+  pub bent_load_follows : (bent : ℕ × ℕ) (t n : ℕ) (block : Block) (offset : ℕ) (x : Value)
+      → bent_at c s.current.routine s.current.place ≡ Some bent → home c s.current.routine t ≡ Reg bent.0
+      → fetch c.code s.current.routine s.current.place ≡ Some (Load t (base.Temporary t) n) → s.current.temporaries t
+      ≡ Some (Address block offset) → load (text_at c.code) s.memory block (offset + n) ≡ Some x → Comes c words s
+      (record s { current = giving t x s.current }) m
   bent_load_follows bent t n block offset x is home_is here et el =
       let r = s.current.routine in
       let k = s.current.place in
@@ -477,17 +663,33 @@ module _ (c : Context) (words : List ℕ) (b : Built c words) (p : Places) (s : 
       let m0 = unbent (Some bent) (machine_of v) in
       let rel : Related c p s m0 f = subst (λ o. Related c p s (unbent o (machine_of v)) f) is me.related in
       let i = word.Load Word bent.0 bent.0 (pos (bent.1 + n)) in
-      let l = subst (λ y. Left c words v.place (word_form c r y t (base.Temporary t) n) (c.site r (suc k))) is (left_at c words (c.site r k) v.place _ (form.form c r k ins) (b.stood.body r k ins here) me.place) in
-      let found = load_found c b.laid p s v.words f block (offset + n) x rel.held (constants_stand c words b.stood p m v sh) el in
-      let there = home_read c b.laid b.placed p s m0 f t (Address block offset) rel (is_read c r k ins here t (among_first t [])) et in
-      let whole : v.registers bent.0 + bent.1 ≡ place c p block + offset = sym (update_same v.registers bent.0 _) ∙ ap (value_of c r f m0) (sym home_is) ∙ there.1 in
+      let l = subst (λ y. Left c words v.place (word_form c r y t (base.Temporary t) n) (c.site r (suc k))) is
+      (left_at c words (c.site r k) v.place _ (form.form c r k ins) (b.stood.body r k ins here) me.place) in
+      let found = load_found c b.laid p s v.words f block (offset + n) x rel.held
+      (constants_stand c words b.stood p m v sh) el in
+      let there = home_read c b.laid b.placed p s m0 f t (Address block offset) rel
+      (is_read c r k ins here t (among_first t [])) et in
+      let whole : v.registers bent.0 + bent.1 ≡ place c p block + offset = sym (update_same v.registers bent.0 _)
+      ∙ ap (value_of c r f m0) (sym home_is) ∙ there.1 in
       let at : v.registers bent.0 + (bent.1 + n) ≡ place c p block + (offset + n) = omega (arith, whole) in
-      let ok : IsReadable c.size (v.registers bent.0 + (bent.1 + n)) = subst (IsReadable c.size) (sym at) (record { aligned = found.aligned; high = found.high }) in
+      let ok : IsReadable c.size (v.registers bent.0 + (bent.1 + n)) = subst (IsReadable c.size) (sym at) (record {
+        aligned = found.aligned;
+        high = found.high;
+      }) in
       let t2 = step_to c words b.stood i m v sh l.stands.0 (tt, ok) in
       let v2 = after i v in
       let loaded : v.words (v.registers bent.0 + (bent.1 + n)) ≡ related.word c p x = ap v.words at ∙ found.is in
       let target_is : target c r (home c r t) ≡ bent.0 = ap (target c r) home_is in
-      let aside : Aside bent.0 (related.word c p x) m0 v2 = record { here = update_same v.registers bent.0 _ ∙ loaded; registers = λ q n12 n15 nd. update_other v.registers bent.0 _ q nd ∙ sym (update_other v.registers bent.0 _ q nd); words = λ a. refl } in
+      let aside : Aside bent.0 (related.word c p x) m0 v2 = record {
+        here = update_same v.registers bent.0 _ ∙ loaded;
+        registers = λ q n12 n15 nd. update_other v.registers bent.0 _ q nd ∙ sym
+            (update_other v.registers bent.0 _ q nd);
+        words = λ a. refl;
+      } in
       let s' = record s { current = giving t x s.current } in
       let l2 : Left c words v2.place [] (c.site r (suc k)) = left_next c words v.place _ (Plain i) [] l in
-      come_to c words b s s' m same_tape v2 t2 refl (tells_end c words b p s m0 f t x ins t2.to v2 rel me.input (writes_it c r k ins here t refl refl) here refl (ap (λ z. nat_eq z 0) loaded, ap (nat_le 2147483648) loaded) found.good t2.shows (subst (λ d. Aside d (related.word c p x) m0 v2) (sym target_is) aside) (subst (λ y. Left c words v2.place (save c r y) (c.site r (suc k))) (sym home_is) l2))
+      come_to c words b s s' m same_tape v2 t2 refl
+      (tells_end c words b p s m0 f t x ins t2.to v2 rel me.input (writes_it c r k ins here t refl refl) here refl
+      (ap (λ z. nat_eq z 0) loaded, ap (nat_le 2147483648) loaded) found.good t2.shows
+      (subst (λ d. Aside d (related.word c p x) m0 v2) (sym target_is) aside)
+      (subst (λ y. Left c words v2.place (save c r y) (c.site r (suc k))) (sym home_is) l2))

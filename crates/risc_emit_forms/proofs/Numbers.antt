@@ -1,5 +1,7 @@
 -- Sums, differences, products and bits followed by their words.
-use Rattle.std.proofs.Common.{◌≡◌, ◌≢◌, ℕ, zero, suc, ◌+◌, ◌-◌, ◌/◌, ◌%◌, ◌^◌, ◌<◌, ◌≤◌, inr, Bool, true, false, cond, not, ◌||◌, nat_eq, nat_lt, nat_le, List, [], ◌∷◌, ◌++◌, length, take, Some, ℤ, pos, negsuc, ◌+ℤ◌, ◌-ℤ◌, ◌*ℤ◌, refl, sym, ap, ◌∙◌, subst, arith, length-append, append_assoc}
+use Rattle.std.proofs.Common.{◌≡◌, ◌≢◌, ℕ, zero, suc, ◌+◌, ◌-◌, ◌/◌, ◌%◌, ◌^◌, ◌<◌, ◌≤◌, inr, Bool, true, false, cond}
+use Rattle.std.proofs.Common.{not, ◌||◌, nat_eq, nat_lt, nat_le, List, [], ◌∷◌, ◌++◌, length, take, Some, ℤ, pos}
+use Rattle.std.proofs.Common.{negsuc, ◌+ℤ◌, ◌-ℤ◌, ◌*ℤ◌, refl, sym, ap, ◌∙◌, subst, arith, length-append, append_assoc}
 use Rattle.std.specs.Int.{w32, int_shr}
 use Rattle.std.proofs.lemmas.Int.{ints, of_z-to_z}
 use Rattle.risc_word.specs.declared.instr.Operation.TheVariants as op
@@ -13,7 +15,8 @@ use Rattle.risc_machine_laws.specs.View.{View, Shows, operand_view, after, at_vi
 use Rattle.risc_machine_laws.specs.View as shown
 use Rattle.risc_machine_laws.specs.Runs.{Way, same_tape}
 use Rattle.risc_machine_laws.specs.Numbers.{sum_of, difference_of, product_of, sign_of}
-use Rattle.risc_machine_laws.proofs.Numbers.{signed_word, is_number, sum_word, difference_word, product_word, product_test}
+use Rattle.risc_machine_laws.proofs.Numbers.{signed_word, is_number, sum_word, difference_word, product_word}
+use Rattle.risc_machine_laws.proofs.Numbers.{product_test}
 use Rattle.risc_machine_laws.proofs.Runs.{to_join}
 use Rattle.tac_code.specs.declared.code.Operator.TheVariants.{Add, Subtract, Multiply}
 use Rattle.tac_code.specs.declared.code.BitOperator.{BitOperator}
@@ -41,7 +44,8 @@ use Rattle.risc_emit_forms.specs.Follows.{machine_of, Built, Belongs, Comes, Fol
 use Rattle.risc_emit_forms.proofs.Basics.{left_after, left_next, left_at, is_read, writes_it, among_first, among_rest}
 use Rattle.risc_emit_forms.proofs.Flags.{silent}
 use Rattle.risc_emit_forms.proofs.Runs.{Aside, step_to, save_run, target_not}
-use Rattle.risc_emit_forms.proofs.Comes.{framed, fetched_is, come_to, come_way, arrive_here, fails_not, fails_walked, walk_near, skip_run, skip_not, gives_end, tells_end}
+use Rattle.risc_emit_forms.proofs.Comes.{framed, fetched_is, come_to, come_way, arrive_here, fails_not, fails_walked}
+use Rattle.risc_emit_forms.proofs.Comes.{walk_near, skip_run, skip_not, gives_end, tells_end}
 use Rattle.risc_emit_forms.proofs.Operands.{code, two_run}
 use Rattle.risc_emit_forms.proofs.Branches.{right_sound}
 use Rattle.risc_emit_forms.proofs.Calls.{follows_way, follows_to}
@@ -55,7 +59,8 @@ sign_above low h k =
     not_less : (x y : ℕ) → y ≤ x → nat_lt x y ≡ false
     not_less x y h = grind arith
 
-    over : (low : ℕ) → 2147483648 ≤ low → low < 4294967296 → 4294967296 - suc ((4294967296 - suc low) / 2147483648) ≡ 4294967295
+    over : (low : ℕ) → 2147483648 ≤ low → low < 4294967296 → 4294967296 - suc ((4294967296 - suc low) / 2147483648)
+        ≡ 4294967295
     over low h k = omega arith
 
 sign_below : (low : ℕ) → low < 2147483648 → sign_of low ≡ 0
@@ -76,13 +81,16 @@ same_test (suc x) zero f g = absurd (cc (g refl))
 same_test (suc x) (suc y) f g = suc_test x ∙ sym (suc_test y)
 
 -- one more than H is 0 where H is that sign of a negative word, and H is 0 where it is that of another
-all_ones : (low h : ℕ) → 2147483648 ≤ low → low < 4294967296 → h < 4294967296 → nat_eq ((h + 1 + 0) % 2 ^ 32) 0 ≡ nat_eq (difference_of (sign_of low) h) 0
+all_ones : (low h : ℕ) → 2147483648 ≤ low → low < 4294967296 → h < 4294967296 → nat_eq ((h + 1 + 0) % 2 ^ 32) 0 ≡ nat_eq
+    (difference_of (sign_of low) h) 0
 all_ones low h ge lt k =
-    same_test _ (difference_of 4294967295 h) (λ e. omega (arith, e, k)) (λ e. omega (arith, e, k)) ∙ ap (λ q. nat_eq (difference_of q h) 0) (sym (sign_above low ge lt))
+    same_test _ (difference_of 4294967295 h) (λ e. omega (arith, e, k)) (λ e. omega (arith, e, k))
+    ∙ ap (λ q. nat_eq (difference_of q h) 0) (sym (sign_above low ge lt))
 
 no_ones : (low h : ℕ) → low < 2147483648 → h < 4294967296 → nat_eq h 0 ≡ nat_eq (difference_of (sign_of low) h) 0
 no_ones low h lt k =
-    same_test h (difference_of 0 h) (λ e. omega (arith, e, k)) (λ e. omega (arith, e, k)) ∙ ap (λ q. nat_eq (difference_of q h) 0) (sym (sign_below low lt))
+    same_test h (difference_of 0 h) (λ e. omega (arith, e, k)) (λ e. omega (arith, e, k))
+    ∙ ap (λ q. nat_eq (difference_of q h) 0) (sym (sign_below low lt))
 
 large : (n : ℕ) → nat_le 2147483648 n ≡ true → 2147483648 ≤ n
 large n e = grind arith
@@ -96,7 +104,7 @@ read_back n lt = of_z-to_z w32 n lt
 pub number_in : (n : ℕ) → IsNumber (number_of n)
 number_in n = (omega (arith, ints), omega (arith, ints))
 
--- what overflows is no integer
+-- what overflows is not an integer
 pub overflow_is : (z : ℤ) → overflows z ≡ not (is_integer z)
 overflow_is (pos n) = go n
   where
@@ -126,13 +134,20 @@ module _ (c : Context) (words : List ℕ) (b : Built c words) (p : Places) (s : 
     pub near : Near (machine_of v) (machine_of view)
     pub left : Left c words view.place ps next
 
-  pub operands_run : (i : Instruction) (a : ℕ) (o : Operand) (x y : ℤ) (ps : List Piece) (next temporaries : ℕ) → fetch c.code s.current.routine s.current.place ≡ Some i → read_by i ≡ a ∷ in_operand o → IsOperand temporaries o → s.current.temporaries a ≡ Some (Number x) → operand_value s.current.temporaries o ≡ Some (Number y) → Left c words v.place (both c s.current.routine a o ps) next → Fetched a o x y ps next
+  pub operands_run : (i : Instruction) (a : ℕ) (o : Operand) (x y : ℤ) (ps : List Piece) (next temporaries : ℕ)
+      → fetch c.code s.current.routine s.current.place ≡ Some i → read_by i ≡ a ∷ in_operand o → IsOperand temporaries o
+      → s.current.temporaries a ≡ Some (Number x) → operand_value s.current.temporaries o ≡ Some (Number y)
+      → Left c words v.place (both c s.current.routine a o ps) next → Fetched a o x y ps next
   operands_run i a o x y ps next temporaries here rd so ea eo l =
       let r = s.current.routine in
       let k = s.current.place in
-      let reading : (t : ℕ) → is_among t (a ∷ in_operand o) ≡ true → reads c r k t ≡ true = λ t e. is_read c r k i here t (ap (is_among t) rd ∙ e) in
-      let g = two_run c words b p s f m v sh be a o (Number x) (Number y) ps next (right_sound c words b p s f m v sh be temporaries o so) (reading a (among_first a (in_operand o))) (λ t e. reading t (among_rest t a (in_operand o) e)) ea eo l in
-      let l0 = subst (λ q. Left c words v.place q next) (sym (append_assoc (form.fetch c r 12 (home c r a)) (right c r o) ps)) l in
+      let reading : (t : ℕ) → is_among t (a ∷ in_operand o) ≡ true → reads c r k t
+      ≡ true = λ t e. is_read c r k i here t (ap (is_among t) rd ∙ e) in
+      let g = two_run c words b p s f m v sh be a o (Number x) (Number y) ps next
+      (right_sound c words b p s f m v sh be temporaries o so) (reading a (among_first a (in_operand o)))
+      (λ t e. reading t (among_rest t a (in_operand o) e)) ea eo l in
+      let l0 = subst (λ q. Left c words v.place q next)
+      (sym (append_assoc (form.fetch c r 12 (home c r a)) (right c r o) ps)) l in
       let len = length-append (form.fetch c r 12 (home c r a)) (right c r o) in
       record {
         view = g.view;
@@ -142,28 +157,53 @@ module _ (c : Context) (words : List ℕ) (b : Built c words) (p : Places) (s : 
         first = g.left;
         second = g.right;
         near = g.near;
-        left = left_after c words v.place g.view.place next (form.fetch c r 12 (home c r a) ++ right c r o) ps l0 (omega (arith, g.place, len));
+        left = left_after c words v.place g.view.place next (form.fetch c r 12 (home c r a) ++ right c r o) ps l0
+            (omega (arith, g.place, len));
       }
 
   -- ---- sums and differences
 
   -- a result in its register, or the overflow flag
-  checked_follows : (i : Instruction) (t error line : ℕ) (z : ℤ) (n : machine.State) (w : View) → Shows words c.size n w → Writes c s.current.routine s.current.place t → fetch c.code s.current.routine s.current.place ≡ Some i → flagged_by i ≡ Some t → (w.equal ≡ nat_eq (w.registers (target c s.current.routine (home c s.current.routine t))) 0) × (w.negative ≡ nat_le 2147483648 (w.registers (target c s.current.routine (home c s.current.routine t)))) → (IsNumber z → w.registers (target c s.current.routine (home c s.current.routine t)) ≡ word_of z) → w.overflow ≡ overflows z → ((q : ℕ) → q ≢ 12 → q ≢ 15 → q ≢ target c s.current.routine (home c s.current.routine t) → w.registers q ≡ v.registers q) → ((x : ℕ) → w.words x ≡ v.words x) → Left c words w.place (piece.Fails on.OverflowSet error line ∷ save c s.current.routine (home c s.current.routine t)) (c.site s.current.routine (suc s.current.place)) → Follows c words (gives_computed c.code t (within error z) line s) s n
+  checked_follows : (i : Instruction) (t error line : ℕ) (z : ℤ) (n : machine.State) (w : View) → Shows words c.size n w
+      → Writes c s.current.routine s.current.place t → fetch c.code s.current.routine s.current.place ≡ Some i
+      → flagged_by i ≡ Some t → (w.equal ≡ nat_eq
+      (w.registers (target c s.current.routine (home c s.current.routine t))) 0)
+      × (w.negative ≡ nat_le 2147483648 (w.registers (target c s.current.routine (home c s.current.routine t))))
+      → (IsNumber z → w.registers (target c s.current.routine (home c s.current.routine t)) ≡ word_of z) → w.overflow
+      ≡ overflows z → ((q : ℕ) → q ≢ 12 → q ≢ 15 → q ≢ target c s.current.routine (home c s.current.routine t)
+      → w.registers q ≡ v.registers q) → ((x : ℕ) → w.words x ≡ v.words x) → Left c words w.place
+      (piece.Fails on.OverflowSet error line ∷ save c s.current.routine (home c s.current.routine t))
+      (c.site s.current.routine (suc s.current.place)) → Follows c words
+      (gives_computed c.code t (within error z) line s) s n
   checked_follows i t error line z n w sh' wr here told flags value over regs mem l = go (is_integer z) refl
     where
-      go : (fit : Bool) → is_integer z ≡ fit → Follows c words (gives_computed c.code t (cond fit (Gives z) (Fails error)) line s) s n
+      go : (fit : Bool) → is_integer z ≡ fit → Follows c words
+          (gives_computed c.code t (cond fit (Gives z) (Fails error)) line s) s n
       go true e =
           let r = s.current.routine in
           let t1 = fails_not c words b on.OverflowSet error line _ _ n w sh' l (over ∙ overflow_is z ∙ ap not e) in
           let w1 = at_view (w.place + 1) w in
           let is = number_of_integer z e in
-          come_to c words b s (record s { current = giving t (Number z) s.current }) n same_tape w1 t1 refl (tells_end c words b p s (machine_of v) f t (Number z) i t1.to w1 be.related be.input wr here told (flags.0 ∙ ap (λ q. nat_eq q 0) (value is), flags.1 ∙ ap (nat_le 2147483648) (value is)) is t1.shows (record { here = value is; registers = regs; words = mem }) (left_next c words w.place _ _ (save c r (home c r t)) l))
+          come_to c words b s (record s { current = giving t (Number z) s.current }) n same_tape w1 t1 refl
+          (tells_end c words b p s (machine_of v) f t (Number z) i t1.to w1 be.related be.input wr here told
+          (flags.0 ∙ ap (λ q. nat_eq q 0) (value is), flags.1 ∙ ap (nat_le 2147483648) (value is)) is t1.shows
+          (record {
+            here = value is;
+            registers = regs;
+            words = mem;
+          }) (left_next c words w.place _ _ (save c r (home c r t)) l))
       go false e =
           let r = s.current.routine in
-          let n14 = target_not c words b.stood b.laid b.placed r f (framed c words b p s (machine_of v) f be.related) t 14 (omega arith) in
-          inr (fails_walked c words b s on.OverflowSet error line _ _ n w (walk_near c words b p s (machine_of v) f w be.related (regs 14 (omega arith) (omega arith) (λ x. n14 (sym x))) mem) sh' l (over ∙ overflow_is z ∙ ap not e))
+          let n14 = target_not c words b.stood b.laid b.placed r f
+          (framed c words b p s (machine_of v) f be.related) t 14 (omega arith) in
+          inr (fails_walked c words b s on.OverflowSet error line _ _ n w
+          (walk_near c words b p s (machine_of v) f w be.related
+          (regs 14 (omega arith) (omega arith) (λ x. n14 (sym x))) mem) sh' l (over ∙ overflow_is z ∙ ap not e))
 
-  pub add_follows : (t a : ℕ) (o : Operand) (error line : ℕ) (x y : ℤ) → fetch c.code s.current.routine s.current.place ≡ Some (Arithmetic Add t a o error line) → s.current.temporaries a ≡ Some (Number x) → operand_value s.current.temporaries o ≡ Some (Number y) → Follows c words (gives_computed c.code t (within error (x +ℤ y)) line s) s m
+  pub add_follows : (t a : ℕ) (o : Operand) (error line : ℕ) (x y : ℤ) → fetch c.code s.current.routine s.current.place
+      ≡ Some (Arithmetic Add t a o error line) → s.current.temporaries a ≡ Some (Number x)
+      → operand_value s.current.temporaries o ≡ Some (Number y) → Follows c words
+      (gives_computed c.code t (within error (x +ℤ y)) line s) s m
   add_follows t a o error line x y here ea eo =
       let r = s.current.routine in
       let k = s.current.place in
@@ -172,19 +212,36 @@ module _ (c : Context) (words : List ℕ) (b : Built c words) (p : Places) (s : 
       let d = target c r (home c r t) in
       let j = word.Operate op.Add d (fetched c r 12 (home c r a)) (right_operand c r o) in
       let rest = piece.Fails on.OverflowSet error line ∷ save c r (home c r t) in
-      let g = operands_run i a o x y (Plain j ∷ rest) _ _ here refl so.sound.2 ea eo (code c words b p s f m v sh be i here) in
+      let g = operands_run i a o x y (Plain j ∷ rest) _ _ here refl so.sound.2 ea eo
+      (code c words b p s f m v sh be i here) in
       let v1 = g.view in
       let t2 = step_to c words b.stood j g.way.to v1 g.way.shows g.left.stands.0 tt in
       let v2 = after j v1 in
       let step = gives_computed c.code t (within error (x +ℤ y)) line s in
-      let sum : v2.registers d ≡ sum_of (word_of x) (word_of y) = update_same v1.registers d _ ∙ ap (λ q. (q + operand_view v1 (right_operand c r o) + 0) % 2 ^ 32) g.first ∙ ap (λ q. (word_of x + q + 0) % 2 ^ 32) g.second in
-      let over : v2.overflow ≡ overflows (x +ℤ y) = ap (λ q. overflows (signed q +ℤ signed (operand_view v1 (right_operand c r o)) +ℤ pos 0)) g.first ∙ ap (λ q. overflows (signed (word_of x) +ℤ signed q +ℤ pos 0)) g.second ∙ ap (λ q. overflows (q +ℤ signed (word_of y) +ℤ pos 0)) (signed_word x g.good) ∙ ap (λ q. overflows (x +ℤ q +ℤ pos 0)) (signed_word y g.good_right) ∙ ap overflows (plus_zero (x +ℤ y)) in
-      follows_way c words b s m v1 g.way step (follows_to c words b s g.way.to v2 t2 step (checked_follows i t error line (x +ℤ y) t2.to v2 t2.shows (writes_it c r k i here t refl refl) here refl (ap (λ q. nat_eq q 0) (sym (update_same v1.registers d _)), ap (nat_le 2147483648) (sym (update_same v1.registers d _))) (λ is. sum ∙ sum_word x y g.good g.good_right is) over (λ q n12 n15 nd. update_other v1.registers d _ q nd ∙ g.near.registers q n12 n15) g.near.words (left_next c words v1.place _ _ rest g.left)))
+      let sum : v2.registers d ≡ sum_of (word_of x) (word_of y) = update_same v1.registers d _
+      ∙ ap (λ q. (q + operand_view v1 (right_operand c r o) + 0) % 2 ^ 32) g.first
+      ∙ ap (λ q. (word_of x + q + 0) % 2 ^ 32) g.second in
+      let over : v2.overflow ≡ overflows (x +ℤ y) =
+      ap (λ q. overflows (signed q +ℤ signed (operand_view v1 (right_operand c r o)) +ℤ pos 0)) g.first
+      ∙ ap (λ q. overflows (signed (word_of x) +ℤ signed q +ℤ pos 0)) g.second
+      ∙ ap (λ q. overflows (q +ℤ signed (word_of y) +ℤ pos 0)) (signed_word x g.good)
+      ∙ ap (λ q. overflows (x +ℤ q +ℤ pos 0)) (signed_word y g.good_right) ∙ ap overflows (plus_zero (x +ℤ y)) in
+      follows_way c words b s m v1 g.way step (follows_to c words b s g.way.to v2 t2 step
+      (checked_follows i t error line (x +ℤ y) t2.to v2 t2.shows (writes_it c r k i here t refl refl) here refl (
+        ap (λ q. nat_eq q 0) (sym (update_same v1.registers d _)),
+        ap (nat_le 2147483648)
+            (sym (update_same v1.registers d _)),
+      ) (λ is. sum ∙ sum_word x y g.good g.good_right is) over
+      (λ q n12 n15 nd. update_other v1.registers d _ q nd ∙ g.near.registers q n12 n15) g.near.words
+      (left_next c words v1.place _ _ rest g.left)))
     where
       plus_zero : (z : ℤ) → z +ℤ pos 0 ≡ z
       plus_zero z = omega (arith, ints)
 
-  pub subtract_follows : (t a : ℕ) (o : Operand) (error line : ℕ) (x y : ℤ) → fetch c.code s.current.routine s.current.place ≡ Some (Arithmetic Subtract t a o error line) → s.current.temporaries a ≡ Some (Number x) → operand_value s.current.temporaries o ≡ Some (Number y) → Follows c words (gives_computed c.code t (within error (x -ℤ y)) line s) s m
+  pub subtract_follows : (t a : ℕ) (o : Operand) (error line : ℕ) (x y : ℤ)
+      → fetch c.code s.current.routine s.current.place ≡ Some (Arithmetic Subtract t a o error line)
+      → s.current.temporaries a ≡ Some (Number x) → operand_value s.current.temporaries o ≡ Some (Number y)
+      → Follows c words (gives_computed c.code t (within error (x -ℤ y)) line s) s m
   subtract_follows t a o error line x y here ea eo =
       let r = s.current.routine in
       let k = s.current.place in
@@ -193,21 +250,36 @@ module _ (c : Context) (words : List ℕ) (b : Built c words) (p : Places) (s : 
       let d = target c r (home c r t) in
       let j = word.Operate op.Sub d (fetched c r 12 (home c r a)) (right_operand c r o) in
       let rest = piece.Fails on.OverflowSet error line ∷ save c r (home c r t) in
-      let g = operands_run i a o x y (Plain j ∷ rest) _ _ here refl so.sound.2 ea eo (code c words b p s f m v sh be i here) in
+      let g = operands_run i a o x y (Plain j ∷ rest) _ _ here refl so.sound.2 ea eo
+      (code c words b p s f m v sh be i here) in
       let v1 = g.view in
       let t2 = step_to c words b.stood j g.way.to v1 g.way.shows g.left.stands.0 tt in
       let v2 = after j v1 in
       let step = gives_computed c.code t (within error (x -ℤ y)) line s in
-      let sum : v2.registers d ≡ difference_of (word_of x) (word_of y) = update_same v1.registers d _ ∙ ap (λ q. (q + 2 ^ 33 - operand_view v1 (right_operand c r o) - 0) % 2 ^ 32) g.first ∙ ap (λ q. (word_of x + 2 ^ 33 - q - 0) % 2 ^ 32) g.second in
-      let over : v2.overflow ≡ overflows (x -ℤ y) = ap (λ q. overflows (signed q -ℤ signed (operand_view v1 (right_operand c r o)) -ℤ pos 0)) g.first ∙ ap (λ q. overflows (signed (word_of x) -ℤ signed q -ℤ pos 0)) g.second ∙ ap (λ q. overflows (q -ℤ signed (word_of y) -ℤ pos 0)) (signed_word x g.good) ∙ ap (λ q. overflows (x -ℤ q -ℤ pos 0)) (signed_word y g.good_right) ∙ ap overflows (minus_zero (x -ℤ y)) in
-      follows_way c words b s m v1 g.way step (follows_to c words b s g.way.to v2 t2 step (checked_follows i t error line (x -ℤ y) t2.to v2 t2.shows (writes_it c r k i here t refl refl) here refl (ap (λ q. nat_eq q 0) (sym (update_same v1.registers d _)), ap (nat_le 2147483648) (sym (update_same v1.registers d _))) (λ is. sum ∙ difference_word x y g.good g.good_right is) over (λ q n12 n15 nd. update_other v1.registers d _ q nd ∙ g.near.registers q n12 n15) g.near.words (left_next c words v1.place _ _ rest g.left)))
+      let sum : v2.registers d ≡ difference_of (word_of x) (word_of y) = update_same v1.registers d _
+      ∙ ap (λ q. (q + 2 ^ 33 - operand_view v1 (right_operand c r o) - 0) % 2 ^ 32) g.first
+      ∙ ap (λ q. (word_of x + 2 ^ 33 - q - 0) % 2 ^ 32) g.second in
+      let over : v2.overflow ≡ overflows (x -ℤ y) =
+      ap (λ q. overflows (signed q -ℤ signed (operand_view v1 (right_operand c r o)) -ℤ pos 0)) g.first
+      ∙ ap (λ q. overflows (signed (word_of x) -ℤ signed q -ℤ pos 0)) g.second
+      ∙ ap (λ q. overflows (q -ℤ signed (word_of y) -ℤ pos 0)) (signed_word x g.good)
+      ∙ ap (λ q. overflows (x -ℤ q -ℤ pos 0)) (signed_word y g.good_right) ∙ ap overflows (minus_zero (x -ℤ y)) in
+      follows_way c words b s m v1 g.way step (follows_to c words b s g.way.to v2 t2 step
+      (checked_follows i t error line (x -ℤ y) t2.to v2 t2.shows (writes_it c r k i here t refl refl) here refl (
+        ap (λ q. nat_eq q 0) (sym (update_same v1.registers d _)),
+        ap (nat_le 2147483648)
+            (sym (update_same v1.registers d _)),
+      ) (λ is. sum ∙ difference_word x y g.good g.good_right is) over
+      (λ q n12 n15 nd. update_other v1.registers d _ q nd ∙ g.near.registers q n12 n15) g.near.words
+      (left_next c words v1.place _ _ rest g.left)))
     where
       minus_zero : (z : ℤ) → z -ℤ pos 0 ≡ z
       minus_zero z = omega (arith, ints)
 
   -- ---- bits
 
-  plain : (operator : BitOperator) (d a : ℕ) (o : instr.Operand) (w : View) → shown.Plain words c.size (word.Operate (bit_operation operator) d a o) w
+  plain : (operator : BitOperator) (d a : ℕ) (o : instr.Operand) (w : View) → shown.Plain words c.size
+      (word.Operate (bit_operation operator) d a o) w
   plain And d a o w = tt
   plain Or d a o w = tt
   plain AndNot d a o w = tt
@@ -218,14 +290,66 @@ module _ (c : Context) (words : List ℕ) (b : Built c words) (p : Places) (s : 
   no_carry x y = omega arith
 
   -- what an operation on bits makes of its register
-  result : (operator : BitOperator) (d a : ℕ) (o : instr.Operand) (w : View) → ((after (word.Operate (bit_operation operator) d a o) w).registers d ≡ combined operator (w.registers a) (operand_view w o)) × ((q : ℕ) → q ≢ d → (after (word.Operate (bit_operation operator) d a o) w).registers q ≡ w.registers q) × ((x : ℕ) → (after (word.Operate (bit_operation operator) d a o) w).words x ≡ w.words x) × ((after (word.Operate (bit_operation operator) d a o) w).place ≡ w.place + 1) × ((after (word.Operate (bit_operation operator) d a o) w).equal ≡ nat_eq ((after (word.Operate (bit_operation operator) d a o) w).registers d) 0) × ((after (word.Operate (bit_operation operator) d a o) w).negative ≡ nat_le 2147483648 ((after (word.Operate (bit_operation operator) d a o) w).registers d))
-  result And d a o w = (update_same w.registers d _, λ q ne. update_other w.registers d _ q ne, λ x. refl, refl, ap (λ x. nat_eq x 0) (sym (update_same w.registers d _)), ap (nat_le 2147483648) (sym (update_same w.registers d _)))
-  result Or d a o w = (update_same w.registers d _, λ q ne. update_other w.registers d _ q ne, λ x. refl, refl, ap (λ x. nat_eq x 0) (sym (update_same w.registers d _)), ap (nat_le 2147483648) (sym (update_same w.registers d _)))
-  result AndNot d a o w = (update_same w.registers d _, λ q ne. update_other w.registers d _ q ne, λ x. refl, refl, ap (λ x. nat_eq x 0) (sym (update_same w.registers d _)), ap (nat_le 2147483648) (sym (update_same w.registers d _)))
-  result ShiftLeft d a o w = (update_same w.registers d _, λ q ne. update_other w.registers d _ q ne, λ x. refl, refl, ap (λ x. nat_eq x 0) (sym (update_same w.registers d _)), ap (nat_le 2147483648) (sym (update_same w.registers d _)))
-  result Plus d a o w = (update_same w.registers d _ ∙ no_carry (w.registers a) (operand_view w o), λ q ne. update_other w.registers d _ q ne, λ x. refl, refl, ap (λ x. nat_eq x 0) (sym (update_same w.registers d _)), ap (nat_le 2147483648) (sym (update_same w.registers d _)))
+  result : (operator : BitOperator) (d a : ℕ) (o : instr.Operand) (w : View)
+      → ((after (word.Operate (bit_operation operator) d a o) w).registers d ≡ combined operator (w.registers a)
+      (operand_view w o)) × ((q : ℕ) → q ≢ d → (after (word.Operate (bit_operation operator) d a o) w).registers q
+      ≡ w.registers q) × ((x : ℕ) → (after (word.Operate (bit_operation operator) d a o) w).words x ≡ w.words x)
+      × ((after (word.Operate (bit_operation operator) d a o) w).place ≡ w.place + 1)
+      × ((after (word.Operate (bit_operation operator) d a o) w).equal ≡ nat_eq
+      ((after (word.Operate (bit_operation operator) d a o) w).registers d) 0)
+      × ((after (word.Operate (bit_operation operator) d a o) w).negative ≡ nat_le 2147483648
+      ((after (word.Operate (bit_operation operator) d a o) w).registers d))
+  result And d a o w = (
+    update_same w.registers d _,
+    λ q ne. update_other w.registers d _ q ne,
+    λ x. refl,
+    refl,
+    ap (λ x. nat_eq x 0) (sym (update_same w.registers d _)),
+    ap (nat_le 2147483648)
+        (sym (update_same w.registers d _)),
+  )
+  result Or d a o w = (
+    update_same w.registers d _,
+    λ q ne. update_other w.registers d _ q ne,
+    λ x. refl,
+    refl,
+    ap (λ x. nat_eq x 0) (sym (update_same w.registers d _)),
+    ap (nat_le 2147483648)
+        (sym (update_same w.registers d _)),
+  )
+  result AndNot d a o w = (
+    update_same w.registers d _,
+    λ q ne. update_other w.registers d _ q ne,
+    λ x. refl,
+    refl,
+    ap (λ x. nat_eq x 0) (sym (update_same w.registers d _)),
+    ap (nat_le 2147483648)
+        (sym (update_same w.registers d _)),
+  )
+  result ShiftLeft d a o w = (
+    update_same w.registers d _,
+    λ q ne. update_other w.registers d _ q ne,
+    λ x. refl,
+    refl,
+    ap (λ x. nat_eq x 0) (sym (update_same w.registers d _)),
+    ap (nat_le 2147483648)
+        (sym (update_same w.registers d _)),
+  )
+  result Plus d a o w = (
+    update_same w.registers d _ ∙ no_carry (w.registers a)
+        (operand_view w o),
+    λ q ne. update_other w.registers d _ q ne,
+    λ x. refl,
+    refl,
+    ap (λ x. nat_eq x 0)
+        (sym (update_same w.registers d _)),
+    ap (nat_le 2147483648) (sym (update_same w.registers d _)),
+  )
 
-  pub bits_follows : (operator : BitOperator) (t a : ℕ) (o : Operand) (x y : ℤ) → fetch c.code s.current.routine s.current.place ≡ Some (Bits operator t a o) → s.current.temporaries a ≡ Some (Number x) → operand_value s.current.temporaries o ≡ Some (Number y) → Comes c words s (record s { current = giving t (Number (bits operator x y)) s.current }) m
+  pub bits_follows : (operator : BitOperator) (t a : ℕ) (o : Operand) (x y : ℤ)
+      → fetch c.code s.current.routine s.current.place ≡ Some (Bits operator t a o) → s.current.temporaries a ≡ Some
+      (Number x) → operand_value s.current.temporaries o ≡ Some (Number y) → Comes c words s
+      (record s { current = giving t (Number (bits operator x y)) s.current }) m
   bits_follows operator t a o x y here ea eo =
       let r = s.current.routine in
       let k = s.current.place in
@@ -234,37 +358,74 @@ module _ (c : Context) (words : List ℕ) (b : Built c words) (p : Places) (s : 
       let d = target c r (home c r t) in
       let q = fetched c r 12 (home c r a) in
       let j = word.Operate (bit_operation operator) d q (right_operand c r o) in
-      let g = operands_run i a o x y (Plain j ∷ save c r (home c r t)) _ _ here refl so.sound.2 ea eo (code c words b p s f m v sh be i here) in
+      let g = operands_run i a o x y (Plain j ∷ save c r (home c r t)) _ _ here refl so.sound.2 ea eo
+      (code c words b p s f m v sh be i here) in
       let v1 = g.view in
-      let t2 = step_to c words b.stood j g.way.to v1 g.way.shows g.left.stands.0 (plain operator d q (right_operand c r o) v1) in
+      let t2 = step_to c words b.stood j g.way.to v1 g.way.shows g.left.stands.0
+      (plain operator d q (right_operand c r o) v1) in
       let v2 = after j v1 in
       let made = result operator d q (right_operand c r o) v1 in
-      let is : v2.registers d ≡ combined operator (word_of x) (word_of y) = made.0 ∙ ap (λ z. combined operator z (operand_view v1 (right_operand c r o))) g.first ∙ ap (combined operator (word_of x)) g.second in
-      let n : combined operator (word_of x) (word_of y) < 4294967296 = subst (λ z. z < 4294967296) is (t2.shows.narrow d ((g.left.stands.0).ranges).0) in
+      let is : v2.registers d ≡ combined operator (word_of x) (word_of y) = made.0
+      ∙ ap (λ z. combined operator z (operand_view v1 (right_operand c r o))) g.first
+      ∙ ap (combined operator (word_of x)) g.second in
+      let n : combined operator (word_of x) (word_of y) < 4294967296 = subst (λ z. z < 4294967296) is
+      (t2.shows.narrow d ((g.left.stands.0).ranges).0) in
       let whole = is ∙ sym (read_back _ n) in
       let s' = record s { current = giving t (Number (bits operator x y)) s.current } in
-      come_way c words b s s' m v1 g.way (come_to c words b s s' g.way.to same_tape v2 t2 refl (tells_end c words b p s (machine_of v) f t (Number (bits operator x y)) i t2.to v2 be.related be.input (writes_it c r k i here t refl refl) here refl (made.4 ∙ ap (λ z. nat_eq z 0) whole, made.5 ∙ ap (nat_le 2147483648) whole) (number_in _) t2.shows (record { here = whole; registers = λ z n12 n15 nd. made.1 z nd ∙ g.near.registers z n12 n15; words = λ z. made.2 z ∙ g.near.words z }) (left_at c words _ v2.place _ (save c r (home c r t)) (left_next c words v1.place _ _ (save c r (home c r t)) g.left) made.3)))
+      come_way c words b s s' m v1 g.way (come_to c words b s s' g.way.to same_tape v2 t2 refl
+      (tells_end c words b p s (machine_of v) f t (Number (bits operator x y)) i t2.to v2 be.related be.input
+      (writes_it c r k i here t refl refl) here refl
+      (made.4 ∙ ap (λ z. nat_eq z 0) whole, made.5 ∙ ap (nat_le 2147483648) whole) (number_in _) t2.shows (record {
+        here = whole;
+        registers = λ z n12 n15 nd. made.1 z nd ∙ g.near.registers z n12 n15;
+        words = λ z. made.2 z ∙ g.near.words z;
+      }) (left_at c words _ v2.place _ (save c r (home c r t))
+      (left_next c words v1.place _ _ (save c r (home c r t)) g.left) made.3)))
 
   -- ---- products
 
   -- a product in its register, and whether it is too long
-  product_ends : (t a : ℕ) (o : Operand) (error line : ℕ) (z : ℤ) (n : machine.State) (w : View) → fetch c.code s.current.routine s.current.place ≡ Some (Arithmetic Multiply t a o error line) → Shows words c.size n w → (IsNumber z → w.registers (target c s.current.routine (home c s.current.routine t)) ≡ word_of z) → w.equal ≡ not (overflows z) → ((q : ℕ) → q ≢ 12 → q ≢ 15 → q ≢ target c s.current.routine (home c s.current.routine t) → w.registers q ≡ v.registers q) → ((x : ℕ) → w.words x ≡ v.words x) → Left c words w.place (piece.Fails on.NotEqual error line ∷ save c s.current.routine (home c s.current.routine t)) (c.site s.current.routine (suc s.current.place)) → Follows c words (gives_computed c.code t (within error z) line s) s n
+  product_ends : (t a : ℕ) (o : Operand) (error line : ℕ) (z : ℤ) (n : machine.State) (w : View)
+      → fetch c.code s.current.routine s.current.place ≡ Some (Arithmetic Multiply t a o error line)
+      → Shows words c.size n w → (IsNumber z → w.registers (target c s.current.routine (home c s.current.routine t))
+      ≡ word_of z) → w.equal ≡ not (overflows z)
+      → ((q : ℕ) → q ≢ 12 → q ≢ 15 → q ≢ target c s.current.routine (home c s.current.routine t) → w.registers q
+      ≡ v.registers q) → ((x : ℕ) → w.words x ≡ v.words x) → Left c words w.place
+      (piece.Fails on.NotEqual error line ∷ save c s.current.routine (home c s.current.routine t))
+      (c.site s.current.routine (suc s.current.place)) → Follows c words
+      (gives_computed c.code t (within error z) line s) s n
   product_ends t a o error line z n w here sh' value equal regs mem l = go (is_integer z) refl
     where
-      go : (fit : Bool) → is_integer z ≡ fit → Follows c words (gives_computed c.code t (cond fit (Gives z) (Fails error)) line s) s n
+      go : (fit : Bool) → is_integer z ≡ fit → Follows c words
+          (gives_computed c.code t (cond fit (Gives z) (Fails error)) line s) s n
       go true e =
           let r = s.current.routine in
           let i = Arithmetic Multiply t a o error line in
-          let t1 = fails_not c words b on.NotEqual error line _ _ n w sh' l (ap not (equal ∙ ap not (overflow_is z ∙ ap not e))) in
+          let t1 = fails_not c words b on.NotEqual error line _ _ n w sh' l
+          (ap not (equal ∙ ap not (overflow_is z ∙ ap not e))) in
           let w1 = at_view (w.place + 1) w in
           let is = number_of_integer z e in
-          come_to c words b s (record s { current = giving t (Number z) s.current }) n same_tape w1 t1 refl (gives_end c words b p s (machine_of v) f t (Number z) t1.to w1 be.related be.input (writes_it c r s.current.place i here t refl refl) (silent c r s.current.place i here refl) is t1.shows (record { here = value is; registers = regs; words = mem }) (left_next c words w.place _ _ (save c r (home c r t)) l))
+          come_to c words b s (record s { current = giving t (Number z) s.current }) n same_tape w1 t1 refl
+          (gives_end c words b p s (machine_of v) f t (Number z) t1.to w1 be.related be.input
+          (writes_it c r s.current.place i here t refl refl) (silent c r s.current.place i here refl) is t1.shows
+          (record {
+            here = value is;
+            registers = regs;
+            words = mem;
+          }) (left_next c words w.place _ _ (save c r (home c r t)) l))
       go false e =
           let r = s.current.routine in
-          let n14 = target_not c words b.stood b.laid b.placed r f (framed c words b p s (machine_of v) f be.related) t 14 (omega arith) in
-          inr (fails_walked c words b s on.NotEqual error line _ _ n w (walk_near c words b p s (machine_of v) f w be.related (regs 14 (omega arith) (omega arith) (λ x. n14 (sym x))) mem) sh' l (ap not (equal ∙ ap not (overflow_is z ∙ ap not e))))
+          let n14 = target_not c words b.stood b.laid b.placed r f
+          (framed c words b p s (machine_of v) f be.related) t 14 (omega arith) in
+          inr (fails_walked c words b s on.NotEqual error line _ _ n w
+          (walk_near c words b p s (machine_of v) f w be.related
+          (regs 14 (omega arith) (omega arith) (λ x. n14 (sym x))) mem) sh' l
+          (ap not (equal ∙ ap not (overflow_is z ∙ ap not e))))
 
-  pub multiply_follows : (t a : ℕ) (o : Operand) (error line : ℕ) (x y : ℤ) → fetch c.code s.current.routine s.current.place ≡ Some (Arithmetic Multiply t a o error line) → s.current.temporaries a ≡ Some (Number x) → operand_value s.current.temporaries o ≡ Some (Number y) → Follows c words (gives_computed c.code t (within error (x *ℤ y)) line s) s m
+  pub multiply_follows : (t a : ℕ) (o : Operand) (error line : ℕ) (x y : ℤ)
+      → fetch c.code s.current.routine s.current.place ≡ Some (Arithmetic Multiply t a o error line)
+      → s.current.temporaries a ≡ Some (Number x) → operand_value s.current.temporaries o ≡ Some (Number y)
+      → Follows c words (gives_computed c.code t (within error (x *ℤ y)) line s) s m
   multiply_follows t a o error line x y here ea eo =
       let r = s.current.routine in
       let k = s.current.place in
@@ -274,21 +435,36 @@ module _ (c : Context) (words : List ℕ) (b : Built c words) (p : Places) (s : 
       let d = target c r h in
       let j = word.Operate op.Mul d (fetched c r 12 (home c r a)) (right_operand c r o) in
       let rest = form.beyond ++ piece.Fails on.NotEqual error line ∷ save c r h in
-      let g = operands_run i a o x y (Plain j ∷ rest) _ _ here refl so.sound.2 ea eo (code c words b p s f m v sh be i here) in
+      let g = operands_run i a o x y (Plain j ∷ rest) _ _ here refl so.sound.2 ea eo
+      (code c words b p s f m v sh be i here) in
       let v1 = g.view in
       let t2 = step_to c words b.stood j g.way.to v1 g.way.shows g.left.stands.0 tt in
       let v2 = after j v1 in
       let n = product_of (word_of x) (word_of y) in
-      let whole : product (v1.registers (fetched c r 12 (home c r a))) (operand_view v1 (right_operand c r o)) ≡ product (word_of x) (word_of y) = ap (λ q. product q (operand_view v1 (right_operand c r o))) g.first ∙ ap (product (word_of x)) g.second in
+      let whole : product (v1.registers (fetched c r 12 (home c r a))) (operand_view v1 (right_operand c r o)) ≡ product
+      (word_of x) (word_of y) = ap (λ q. product q (operand_view v1 (right_operand c r o))) g.first
+      ∙ ap (product (word_of x)) g.second in
       let is : v2.registers d ≡ n = update_same v1.registers d _ ∙ ap (λ q. q % 2 ^ 32) whole in
       let high : v2.high ≡ product (word_of x) (word_of y) / 2 ^ 32 = ap (λ q. q / 2 ^ 32) whole in
       let negative : v2.negative ≡ nat_le 2147483648 n = ap (λ q. nat_le 2147483648 (q % 2 ^ 32)) whole in
-      follows_way c words b s m v1 g.way (gives_computed c.code t (within error (x *ℤ y)) line s) (follows_to c words b s g.way.to v2 t2 (gives_computed c.code t (within error (x *ℤ y)) line s) (tested g.good g.good_right t2.to v2 t2.shows is high (modulo (product (word_of x) (word_of y))) (λ q n12 n15 nd. update_other v1.registers d _ q nd ∙ g.near.registers q n12 n15) g.near.words (left_next c words v1.place _ _ rest g.left) v2.negative refl negative))
+      follows_way c words b s m v1 g.way (gives_computed c.code t (within error (x *ℤ y)) line s)
+      (follows_to c words b s g.way.to v2 t2 (gives_computed c.code t (within error (x *ℤ y)) line s)
+      (tested g.good g.good_right t2.to v2 t2.shows is high (modulo (product (word_of x) (word_of y)))
+      (λ q n12 n15 nd. update_other v1.registers d _ q nd ∙ g.near.registers q n12 n15) g.near.words
+      (left_next c words v1.place _ _ rest g.left) v2.negative refl negative))
     where
       modulo : (q : ℕ) → q % 2 ^ 32 < 4294967296
       modulo q = omega arith
 
-      tested : IsNumber x → IsNumber y → (n2 : machine.State) (v2 : View) → Shows words c.size n2 v2 → v2.registers (target c s.current.routine (home c s.current.routine t)) ≡ product_of (word_of x) (word_of y) → v2.high ≡ product (word_of x) (word_of y) / 2 ^ 32 → product_of (word_of x) (word_of y) < 4294967296 → ((q : ℕ) → q ≢ 12 → q ≢ 15 → q ≢ target c s.current.routine (home c s.current.routine t) → v2.registers q ≡ v.registers q) → ((q : ℕ) → v2.words q ≡ v.words q) → Left c words v2.place (form.beyond ++ piece.Fails on.NotEqual error line ∷ save c s.current.routine (home c s.current.routine t)) (c.site s.current.routine (suc s.current.place)) → (minus : Bool) → v2.negative ≡ minus → v2.negative ≡ nat_le 2147483648 (product_of (word_of x) (word_of y)) → Follows c words (gives_computed c.code t (within error (x *ℤ y)) line s) s n2
+      tested : IsNumber x → IsNumber y → (n2 : machine.State) (v2 : View) → Shows words c.size n2 v2 → v2.registers
+          (target c s.current.routine (home c s.current.routine t)) ≡ product_of (word_of x) (word_of y) → v2.high
+          ≡ product (word_of x) (word_of y) / 2 ^ 32 → product_of (word_of x) (word_of y) < 4294967296
+          → ((q : ℕ) → q ≢ 12 → q ≢ 15 → q ≢ target c s.current.routine (home c s.current.routine t) → v2.registers q
+          ≡ v.registers q) → ((q : ℕ) → v2.words q ≡ v.words q) → Left c words v2.place
+          (form.beyond ++ piece.Fails on.NotEqual error line ∷ save c s.current.routine (home c s.current.routine t))
+          (c.site s.current.routine (suc s.current.place)) → (minus : Bool) → v2.negative ≡ minus → v2.negative
+          ≡ nat_le 2147483648 (product_of (word_of x) (word_of y)) → Follows c words
+          (gives_computed c.code t (within error (x *ℤ y)) line s) s n2
       tested g_good g_right n2 v2 sh2 is high low regs mem l2 true minus told =
           let r = s.current.routine in
           let d = target c r (home c r t) in
@@ -311,8 +487,17 @@ module _ (c : Context) (words : List ℕ) (b : Built c words) (p : Places) (s : 
           let v6 = at_view (v5.place + 1 + 1) v5 in
           let l6 = left_next c words (v5.place + 1) _ _ _ (left_next c words v5.place _ _ _ l5) in
           let up : v4.registers 15 ≡ product (word_of x) (word_of y) / 2 ^ 32 = update_same v3.registers 15 _ ∙ high in
-          let equal : v6.equal ≡ not (overflows (x *ℤ y)) = ap (λ q. nat_eq ((q + 1 + 0) % 2 ^ 32) 0) up ∙ all_ones n (product (word_of x) (word_of y) / 2 ^ 32) (large n (sym told ∙ minus)) low (subst (λ q. q < 4294967296) high sh2.high_narrow) ∙ product_test x y g_good g_right in
-          follows_to c words b s n2 v3 t3 step (follows_to c words b s t3.to v4 t4 step (follows_to c words b s t4.to v5 t5 step (follows_to c words b s t5.to v6 t6 step (product_ends t a o error line (x *ℤ y) t6.to v6 here t6.shows (λ z. update_other v4.registers 15 _ d n15 ∙ update_other v3.registers 15 _ d n15 ∙ is ∙ product_word x y g_good g_right z) equal (λ q n12 ne nd. update_other v4.registers 15 _ q ne ∙ update_other v3.registers 15 _ q ne ∙ regs q n12 ne nd) mem l6))))
+          let equal : v6.equal ≡ not (overflows (x *ℤ y)) = ap (λ q. nat_eq ((q + 1 + 0) % 2 ^ 32) 0) up ∙ all_ones n
+          (product (word_of x) (word_of y) / 2 ^ 32) (large n (sym told ∙ minus)) low
+          (subst (λ q. q < 4294967296) high sh2.high_narrow) ∙ product_test x y g_good g_right in
+          follows_to c words b s n2 v3 t3 step (follows_to c words b s t3.to v4 t4 step
+          (follows_to c words b s t4.to v5 t5 step
+          (follows_to c words b s t5.to v6 t6 step
+          (product_ends t a o error line (x *ℤ y) t6.to v6 here t6.shows
+          (λ z. update_other v4.registers 15 _ d n15 ∙ update_other v3.registers 15 _ d n15 ∙ is
+          ∙ product_word x y g_good g_right z) equal
+          (λ q n12 ne nd. update_other v4.registers 15 _ q ne ∙ update_other v3.registers 15 _ q ne
+          ∙ regs q n12 ne nd) mem l6))))
       tested g_good g_right n2 v2 sh2 is high low regs mem l2 false minus told =
           let r = s.current.routine in
           let d = target c r (home c r t) in
@@ -323,9 +508,17 @@ module _ (c : Context) (words : List ℕ) (b : Built c words) (p : Places) (s : 
           let j3 = word.MoveHigh 15 in
           let t3 = skip_run c words b on.Plus 3 _ _ n2 v2 sh2 l2 (ap not minus) (omega arith) in
           let v3 = at_view (v2.place + 1 + 3) v2 in
-          let l3 = left_at c words _ v3.place _ _ (left_next c words (v2.place + 1 + 1 + 1) _ _ _ (left_next c words (v2.place + 1 + 1) _ _ _ (left_next c words (v2.place + 1) _ _ _ (left_next c words v2.place _ _ _ l2)))) (omega arith) in
+          let l3 = left_at c words _ v3.place _ _
+          (left_next c words (v2.place + 1 + 1 + 1) _ _ _
+          (left_next c words (v2.place + 1 + 1) _ _ _
+          (left_next c words (v2.place + 1) _ _ _ (left_next c words v2.place _ _ _ l2)))) (omega arith) in
           let t4 = step_to c words b.stood j3 t3.to v3 t3.shows l3.stands.0 tt in
           let v4 = after j3 v3 in
           let l4 = left_next c words v3.place _ _ _ l3 in
-          let equal : v4.equal ≡ not (overflows (x *ℤ y)) = ap (λ q. nat_eq q 0) high ∙ no_ones n (product (word_of x) (word_of y) / 2 ^ 32) (small n (sym told ∙ minus)) (subst (λ q. q < 4294967296) high sh2.high_narrow) ∙ product_test x y g_good g_right in
-          follows_to c words b s n2 v3 t3 step (follows_to c words b s t3.to v4 t4 step (product_ends t a o error line (x *ℤ y) t4.to v4 here t4.shows (λ z. update_other v3.registers 15 _ d n15 ∙ is ∙ product_word x y g_good g_right z) equal (λ q n12 ne nd. update_other v3.registers 15 _ q ne ∙ regs q n12 ne nd) mem l4))
+          let equal : v4.equal ≡ not (overflows (x *ℤ y)) = ap (λ q. nat_eq q 0) high ∙ no_ones n
+          (product (word_of x) (word_of y) / 2 ^ 32) (small n (sym told ∙ minus))
+          (subst (λ q. q < 4294967296) high sh2.high_narrow) ∙ product_test x y g_good g_right in
+          follows_to c words b s n2 v3 t3 step (follows_to c words b s t3.to v4 t4 step
+          (product_ends t a o error line (x *ℤ y) t4.to v4 here t4.shows
+          (λ z. update_other v3.registers 15 _ d n15 ∙ is ∙ product_word x y g_good g_right z) equal
+          (λ q n12 ne nd. update_other v3.registers 15 _ q ne ∙ regs q n12 ne nd) mem l4))

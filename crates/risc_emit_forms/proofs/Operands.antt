@@ -1,5 +1,6 @@
 -- Operands that an instruction reads: fetched, as the words of their values.
-use Rattle.std.proofs.Common.{◌≡◌, ◌≢◌, ℕ, suc, ◌+◌, true, nat_eq, nat_le, List, [], ◌++◌, length, Some, refl, ap, ◌∙◌, subst, arith}
+use Rattle.std.proofs.Common.{◌≡◌, ◌≢◌, ℕ, suc, ◌+◌, true, nat_eq, nat_le, List, [], ◌++◌, length, Some, refl, ap, ◌∙◌}
+use Rattle.std.proofs.Common.{subst, arith}
 use Rattle.risc_machine.specs.Step as machine
 use Rattle.risc_machine.specs.Step.{word_of_int}
 use Rattle.risc_machine_laws.specs.View.{View, Shows, operand_view}
@@ -21,17 +22,23 @@ use Rattle.risc_emit_forms.specs.Forms as form
 use Rattle.risc_emit_forms.specs.Forms.{fetched, right, right_operand, both}
 use Rattle.risc_emit_forms.specs.Follows.{machine_of, Built, Belongs}
 use Rattle.risc_emit_forms.proofs.Basics.{left_after, left_at, among_first}
-use Rattle.risc_emit_forms.proofs.Runs.{Moved, right_word, fetch_run, fetched_not, value_moved, bring_run, IsRight, right_run}
+use Rattle.risc_emit_forms.proofs.Runs.{Moved, right_word, fetch_run, fetched_not, value_moved, bring_run, IsRight}
+use Rattle.risc_emit_forms.proofs.Runs.{right_run}
 use Rattle.risc_emit_forms.proofs.Comes.{framed}
 
 module _ (c : Context) (words : List ℕ) (b : Built c words) (p : Places) (s : State) (f : ℕ) (m : machine.State) (v : View) (sh : Shows words c.size m v) (be : Belongs c words p s v f) where
   -- the pieces of the instruction at the place
-  pub code : (i : Instruction) → fetch c.code s.current.routine s.current.place ≡ Some i → Left c words v.place (form.form c s.current.routine s.current.place i) (c.site s.current.routine (suc s.current.place))
+  pub code : (i : Instruction) → fetch c.code s.current.routine s.current.place ≡ Some i → Left c words v.place
+      (form.form c s.current.routine s.current.place i) (c.site s.current.routine (suc s.current.place))
   code i here =
-      left_at c words (c.site s.current.routine s.current.place) v.place _ (form.form c s.current.routine s.current.place i) (b.stood.body s.current.routine s.current.place i here) be.place
+      left_at c words (c.site s.current.routine s.current.place) v.place _
+      (form.form c s.current.routine s.current.place i)
+      (b.stood.body s.current.routine s.current.place i here) be.place
 
-  -- what is read stands in its home, as a word
-  pub stands_in : (u : ℕ) (x : Value) → reads c s.current.routine s.current.place u ≡ true → s.current.temporaries u ≡ Some x → IsValue c p x × (value_of c s.current.routine f (machine_of v) (home c s.current.routine u) ≡ word c p x)
+  -- what is read is in its home, as a word
+  pub stands_in : (u : ℕ) (x : Value) → reads c s.current.routine s.current.place u ≡ true → s.current.temporaries u
+      ≡ Some x → IsValue c p x × (value_of c s.current.routine f (machine_of v) (home c s.current.routine u)
+      ≡ word c p x)
   stands_in u x r e = home_read c b.laid b.placed p s (machine_of v) f u x be.related r e
 
   -- ---- one operand
@@ -44,9 +51,13 @@ module _ (c : Context) (words : List ℕ) (b : Built c words) (p : Places) (s : 
     pub moved : Moved d v view
     pub place : view.place ≡ v.place + len
 
-  pub one_run : (d u : ℕ) (x : Value) (ps : List Piece) (next : ℕ) → d ≢ 14 → reads c s.current.routine s.current.place u ≡ true → s.current.temporaries u ≡ Some x → Left c words v.place (form.fetch c s.current.routine d (home c s.current.routine u) ++ ps) next → One d u (length (form.fetch c s.current.routine d (home c s.current.routine u))) x
+  pub one_run : (d u : ℕ) (x : Value) (ps : List Piece) (next : ℕ) → d ≢ 14
+      → reads c s.current.routine s.current.place u ≡ true → s.current.temporaries u ≡ Some x → Left c words v.place
+      (form.fetch c s.current.routine d (home c s.current.routine u) ++ ps) next → One d u
+      (length (form.fetch c s.current.routine d (home c s.current.routine u))) x
   one_run d u x ps next ne r e l =
-      let g = fetch_run c words b.stood b.laid b.placed s.current.routine f (framed c words b p s (machine_of v) f be.related) d u ps next m v sh ne be.related.stack l in
+      let g = fetch_run c words b.stood b.laid b.placed s.current.routine f
+      (framed c words b p s (machine_of v) f be.related) d u ps next m v sh ne be.related.stack l in
       let k = stands_in u x r e in
       record { view = g.view; way = g.way; good = k.0; value = g.value ∙ k.1; moved = g.moved; place = g.place }
 
@@ -60,15 +71,32 @@ module _ (c : Context) (words : List ℕ) (b : Built c words) (p : Places) (s : 
     pub minus : view.negative ≡ nat_le 2147483648 (word c p x)
     pub place : view.place ≡ v.place + len
 
-  pub brought_run : (d u : ℕ) (x : Value) (ps : List Piece) (next : ℕ) → d ≢ 14 → reads c s.current.routine s.current.place u ≡ true → s.current.temporaries u ≡ Some x → Left c words v.place (form.bring c s.current.routine d (home c s.current.routine u) ++ ps) next → Brought d (length (form.bring c s.current.routine d (home c s.current.routine u))) x
+  pub brought_run : (d u : ℕ) (x : Value) (ps : List Piece) (next : ℕ) → d ≢ 14
+      → reads c s.current.routine s.current.place u ≡ true → s.current.temporaries u ≡ Some x → Left c words v.place
+      (form.bring c s.current.routine d (home c s.current.routine u) ++ ps) next → Brought d
+      (length (form.bring c s.current.routine d (home c s.current.routine u))) x
   brought_run d u x ps next ne r e l =
-      let g = bring_run c words b.stood b.laid b.placed s.current.routine f (framed c words b p s (machine_of v) f be.related) d u ps next m v sh ne be.related.stack l in
+      let g = bring_run c words b.stood b.laid b.placed s.current.routine f
+      (framed c words b p s (machine_of v) f be.related) d u ps next m v sh ne be.related.stack l in
       let k = stands_in u x r e in
-      record { view = g.view; to = g.to; good = k.0; value = g.value ∙ k.1; moved = g.moved; zero = g.zero ∙ ap (λ y. nat_eq y 0) k.1; minus = g.minus ∙ ap (nat_le 2147483648) k.1; place = g.place }
+      record {
+        view = g.view;
+        to = g.to;
+        good = k.0;
+        value = g.value ∙ k.1;
+        moved = g.moved;
+        zero = g.zero ∙ ap (λ y. nat_eq y 0) k.1;
+        minus = g.minus ∙ ap (nat_le 2147483648) k.1;
+        place = g.place;
+      }
 
   -- ---- a left and a right operand
 
-  right_is : (o : Operand) (y : Value) → IsRight c words b.stood b.laid b.placed s.current.routine f (framed c words b p s (machine_of v) f be.related) o → ((u : ℕ) → is_among u (in_operand o) ≡ true → reads c s.current.routine s.current.place u ≡ true) → operand_value s.current.temporaries o ≡ Some y → IsValue c p y × (right_word c s.current.routine f (machine_of v) o ≡ word c p y)
+  right_is : (o : Operand) (y : Value) → IsRight c words b.stood b.laid b.placed s.current.routine f
+      (framed c words b p s (machine_of v) f be.related) o
+      → ((u : ℕ) → is_among u (in_operand o) ≡ true → reads c s.current.routine s.current.place u ≡ true)
+      → operand_value s.current.temporaries o ≡ Some y → IsValue c p y
+      × (right_word c s.current.routine f (machine_of v) o ≡ word c p y)
   right_is (operand.Temporary t) y is r e = stands_in t y (r t (among_first t [])) e
   right_is (operand.Number z) y is r e =
       let same : Number z ≡ y = cc e in
@@ -84,13 +112,21 @@ module _ (c : Context) (words : List ℕ) (b : Built c words) (p : Places) (s : 
     pub near : Near (machine_of v) (machine_of view)
     pub place : view.place ≡ v.place + len
 
-  pub two_run : (u : ℕ) (o : Operand) (x y : Value) (ps : List Piece) (next : ℕ) → IsRight c words b.stood b.laid b.placed s.current.routine f (framed c words b p s (machine_of v) f be.related) o → reads c s.current.routine s.current.place u ≡ true → ((t : ℕ) → is_among t (in_operand o) ≡ true → reads c s.current.routine s.current.place t ≡ true) → s.current.temporaries u ≡ Some x → operand_value s.current.temporaries o ≡ Some y → Left c words v.place (both c s.current.routine u o ps) next → Two u o (length (form.fetch c s.current.routine 12 (home c s.current.routine u)) + length (right c s.current.routine o)) x y
+  pub two_run : (u : ℕ) (o : Operand) (x y : Value) (ps : List Piece) (next : ℕ)
+      → IsRight c words b.stood b.laid b.placed s.current.routine f (framed c words b p s (machine_of v) f be.related) o
+      → reads c s.current.routine s.current.place u ≡ true
+      → ((t : ℕ) → is_among t (in_operand o) ≡ true → reads c s.current.routine s.current.place t ≡ true)
+      → s.current.temporaries u ≡ Some x → operand_value s.current.temporaries o ≡ Some y → Left c words v.place
+      (both c s.current.routine u o ps) next → Two u o
+      (length (form.fetch c s.current.routine 12 (home c s.current.routine u)) + length (right c s.current.routine o)) x
+      y
   two_run u o x y ps next is ru ro eu eo l =
       let r = s.current.routine in
       let fr = framed c words b p s (machine_of v) f be.related in
       let g = one_run 12 u x (right c r o ++ ps) next (omega arith) ru eu l in
       let v1 = g.view in
-      let l1 = left_after c words v.place v1.place next (form.fetch c r 12 (home c r u)) (right c r o ++ ps) l g.place in
+      let l1 = left_after c words v.place v1.place next (form.fetch c r 12 (home c r u)) (right c r o ++ ps) l g.place
+      in
       let e14 : v1.registers 14 ≡ f = g.moved.registers 14 (omega arith) ∙ be.related.stack in
       let h = right_run c words b.stood b.laid b.placed r f fr o ps next g.way.to v1 g.way.shows e14 is l1 in
       let q = right_is o y is ro eo in
@@ -99,7 +135,8 @@ module _ (c : Context) (words : List ℕ) (b : Built c words) (p : Places) (s : 
         way = way_then words c.size m same_tape same_tape v1 h.view g.way h.way;
         good = g.good;
         good_right = q.0;
-        left = h.moved.registers _ (fetched_not c words b.stood b.laid b.placed r f fr 12 u 15 (omega arith) (omega arith)) ∙ g.value;
+        left = h.moved.registers _ (fetched_not c words b.stood b.laid b.placed r f fr 12 u 15 (omega arith)
+            (omega arith)) ∙ g.value;
         right = h.value ∙ moved_right o v1 g.moved ∙ q.1;
         near = record {
           registers = λ q n12 n15. h.moved.registers q n15 ∙ g.moved.registers q n12;
@@ -108,6 +145,8 @@ module _ (c : Context) (words : List ℕ) (b : Built c words) (p : Places) (s : 
         place = omega (arith, h.place, g.place);
       }
     where
-      moved_right : (o : Operand) (v1 : View) → Moved 12 v v1 → right_word c s.current.routine f (machine_of v1) o ≡ right_word c s.current.routine f (machine_of v) o
-      moved_right (operand.Temporary t) v1 n = value_moved c words b.stood b.laid b.placed s.current.routine f (framed c words b p s (machine_of v) f be.related) 12 t v v1 (omega arith) n
+      moved_right : (o : Operand) (v1 : View) → Moved 12 v v1 → right_word c s.current.routine f (machine_of v1) o
+          ≡ right_word c s.current.routine f (machine_of v) o
+      moved_right (operand.Temporary t) v1 n = value_moved c words b.stood b.laid b.placed s.current.routine f
+          (framed c words b p s (machine_of v) f be.related) 12 t v v1 (omega arith) n
       moved_right (operand.Number z) v1 n = refl

@@ -1,5 +1,6 @@
 -- Quotients rounded toward zero, followed by their words.
-use Rattle.std.proofs.Common.{◌≡◌, ◌≢◌, ℕ, zero, suc, ◌+◌, ◌-◌, ◌/◌, ◌%◌, ◌^◌, ◌<◌, ◌≤◌, false, cond, not, nat_eq, nat_lt, nat_le, List, ◌++◌, ℤ, pos, negsuc, ◌+ℤ◌, refl, sym, ap, ◌∙◌, subst, arith}
+use Rattle.std.proofs.Common.{◌≡◌, ◌≢◌, ℕ, zero, suc, ◌+◌, ◌-◌, ◌/◌, ◌%◌, ◌^◌, ◌<◌, ◌≤◌, false, cond, not, nat_eq}
+use Rattle.std.proofs.Common.{nat_lt, nat_le, List, ◌++◌, ℤ, pos, negsuc, ◌+ℤ◌, refl, sym, ap, ◌∙◌, subst, arith}
 use Rattle.std.specs.Prelude.{int_div, ◌<ℤ◌}
 use Rattle.std.specs.Int.{int_div_euclid, int_rem_euclid}
 use Rattle.std.proofs.lemmas.Int.{ints}
@@ -32,7 +33,8 @@ pub floor_is : (x y : ℤ) → pos 0 <ℤ y → IsNumber x → IsNumber (int_div
 floor_is x (pos zero) h is = absurd (omega (arith, ints, h))
 floor_is x (negsuc n) h is = absurd (omega (arith, ints, h))
 floor_is (pos m) (pos (suc n)) h is = let l = less_part m n in (omega (arith, ints, l, is), omega (arith, ints, l, is))
-floor_is (negsuc m) (pos (suc n)) h is = let l = less_part m n in (omega (arith, ints, l, is), omega (arith, ints, l, is))
+floor_is (negsuc m) (pos (suc n)) h is = let l = less_part m n
+    in (omega (arith, ints, l, is), omega (arith, ints, l, is))
 
 not_zero : (r : ℕ) → nat_eq (suc r) 0 ≡ false
 not_zero r = grind arith
@@ -50,7 +52,8 @@ toward_is (negsuc k) (suc r) is = subst IsNumber (sym (toward_suc k r)) (up_is k
 
 pub quotient_is : (x y : ℤ) → pos 0 <ℤ y → IsNumber x → (r : ℕ) → int_rem_euclid x y ≡ pos r → IsNumber (int_div x y)
 quotient_is x y h is r e =
-    subst IsNumber (sym (quotient_corrected x y h ∙ ap (toward_zero (int_div_euclid x y)) e)) (toward_is (int_div_euclid x y) r (floor_is x y h is))
+    subst IsNumber (sym (quotient_corrected x y h ∙ ap (toward_zero (int_div_euclid x y)) e))
+    (toward_is (int_div_euclid x y) r (floor_is x y h is))
 
 -- a remainder is not below 0
 pub remainder_pos : (x y : ℤ) → pos 0 <ℤ y → (r : ℕ) × (int_rem_euclid x y ≡ pos r)
@@ -72,11 +75,17 @@ module _ (c : Context) (words : List ℕ) (b : Built c words) where
     pub memory : (x : ℕ) → view.words x ≡ w.words x
     pub left : Left c words view.place ps next
 
-  pub rounded_run : (d : ℕ) → d ≢ 15 → (q : ℤ) (r : ℕ) (ps : List Piece) (next : ℕ) (n : machine.State) (w : View) → Shows words c.size n w → IsNumber q → r < 4294967296 → w.registers d ≡ word_of_int q → w.negative ≡ nat_le 2147483648 (word_of_int q) → w.high ≡ r → Left c words w.place (rounded d ++ ps) next → Rounds d (toward_zero q (pos r)) ps next n w
+  pub rounded_run : (d : ℕ) → d ≢ 15 → (q : ℤ) (r : ℕ) (ps : List Piece) (next : ℕ) (n : machine.State) (w : View)
+      → Shows words c.size n w → IsNumber q → r < 4294967296 → w.registers d ≡ word_of_int q → w.negative
+      ≡ nat_le 2147483648 (word_of_int q) → w.high ≡ r → Left c words w.place (rounded d ++ ps) next → Rounds d
+      (toward_zero q (pos r)) ps next n w
   rounded_run d not15 (pos k) r ps next n w sh is lr ed neg high l =
-      let t1 = skip_run c words b on.Plus 3 _ next n w sh l (ap not (neg ∙ minus_word (pos k) is ∙ not_below k)) (omega arith) in
+      let t1 = skip_run c words b on.Plus 3 _ next n w sh l (ap not (neg ∙ minus_word (pos k) is ∙ not_below k))
+      (omega arith) in
       let w1 = at_view (w.place + 1 + 3) w in
-      let l4 = left_next c words (w.place + 1 + 1 + 1) next _ ps (left_next c words (w.place + 1 + 1) next _ _ (left_next c words (w.place + 1) next _ _ (left_next c words w.place next _ _ l))) in
+      let l4 = left_next c words (w.place + 1 + 1 + 1) next _ ps
+      (left_next c words (w.place + 1 + 1) next _ _
+      (left_next c words (w.place + 1) next _ _ (left_next c words w.place next _ _ l))) in
       record {
         view = w1;
         to = t1;
@@ -98,7 +107,8 @@ module _ (c : Context) (words : List ℕ) (b : Built c words) where
       let l4 = left_next c words (w2.place + 1) next _ ps (left_next c words w2.place next _ _ l2) in
       record {
         view = w3;
-        to = to_join words c.size n same_tape same_tape w1 w3 t1 (to_join words c.size t1.to same_tape same_tape w2 w3 t2 t3);
+        to = to_join words c.size n same_tape same_tape w1 w3 t1
+            (to_join words c.size t1.to same_tape same_tape w2 w3 t2 t3);
         value = update_other w.registers 15 _ d not15 ∙ ed;
         registers = λ q nd n15. update_other w.registers 15 _ q n15;
         memory = λ x. refl;
@@ -120,12 +130,16 @@ module _ (c : Context) (words : List ℕ) (b : Built c words) where
       let w4 = after i4 w3 in
       record {
         view = w4;
-        to = to_join words c.size n same_tape same_tape w1 w4 t1 (to_join words c.size t1.to same_tape same_tape w2 w4 t2 (to_join words c.size t2.to same_tape same_tape w3 w4 t3 t4));
-        value = update_same w3.registers d _ ∙ ap (λ x. (x + word_of_int (pos 1) + 0) % 2 ^ 32) (update_other w.registers 15 _ d not15 ∙ ed) ∙ one_more k is ∙ ap word_of_int (sym (toward_suc k r));
+        to = to_join words c.size n same_tape same_tape w1 w4 t1
+            (to_join words c.size t1.to same_tape same_tape w2 w4 t2
+            (to_join words c.size t2.to same_tape same_tape w3 w4 t3 t4));
+        value = update_same w3.registers d _ ∙ ap (λ x. (x + word_of_int (pos 1) + 0) % 2 ^ 32)
+            (update_other w.registers 15 _ d not15 ∙ ed) ∙ one_more k is ∙ ap word_of_int (sym (toward_suc k r));
         registers = λ q nd n15. update_other w3.registers d _ q nd ∙ update_other w.registers 15 _ q n15;
         memory = λ x. refl;
         left = left_next c words w3.place next _ ps l3;
       }
     where
-      one_more : (k : ℕ) → IsNumber (negsuc k) → (word_of_int (negsuc k) + word_of_int (pos 1) + 0) % 2 ^ 32 ≡ word_of_int (negsuc k +ℤ pos 1)
+      one_more : (k : ℕ) → IsNumber (negsuc k) → (word_of_int (negsuc k) + word_of_int (pos 1) + 0) % 2 ^ 32
+          ≡ word_of_int (negsuc k +ℤ pos 1)
       one_more k is = omega (arith, ints, is)

@@ -1,5 +1,6 @@
 -- An instruction of three-address code followed by its words.
-use Rattle.std.specs.Prelude.{◌≡◌, ℕ, zero, suc, ◌+◌, ◌*◌, ◌%◌, ◌<◌, ◌≤◌, ◌⊎◌, true, false, nat_eq, nat_le, List, [], ◌∷◌, length, slice_get, Option, Some, None, ℤ, pos, negsuc}
+use Rattle.std.specs.Prelude.{◌≡◌, ℕ, zero, suc, ◌+◌, ◌*◌, ◌%◌, ◌<◌, ◌≤◌, ◌⊎◌, true, false, nat_eq, nat_le, List, []}
+use Rattle.std.specs.Prelude.{◌∷◌, length, slice_get, Option, Some, None, ℤ, pos, negsuc}
 use Rattle.behavior.specs.Endings.{Ending, Normal, Fault, UnknownTrap, Stuck, ending_by}
 use Rattle.behavior.specs.Transcripts.{AreBytes}
 use Rattle.risc_word.specs.declared.instr.Operand.TheVariants.{Constant}
@@ -32,28 +33,37 @@ machine_of v = record { registers = v.registers; words = v.words }
 abbrev pub stub : List Instr
 stub = Move 12 (Constant (negsuc 63)) ∷ Store Word 15 12 (pos 4) ∷ []
 
--- the words of a placed program stand where the context says
+-- the words of a placed program are where the context says
 pub record Stood (c : Context) (words : List ℕ) : Type 0 where
   pub fits : Fits words c.size
   pub code : 4 * length words ≤ c.heap_at
   pub short : length words ≤ 1048576
   pub stub : HasAt words 1 stub
-  -- each instruction, with its successor behind it
-  pub body : (r k : ℕ) (i : Instruction) → fetch c.code r k ≡ Some i → Left c words (c.site r k) (form c r k i) (c.site r (suc k))
-  pub entry : (r : ℕ) (routine : TacRoutine) → slice_get (routines c.code) r ≡ Some routine → Left c words (c.entry r) (entry_form c r routine) (c.site r 0)
-  -- first words lie within the words
-  pub within : (r k : ℕ) (routine : TacRoutine) → slice_get (routines c.code) r ≡ Some routine → k < length routine.body → c.site r k ≤ 1048576
+  -- each instruction, with its successor after it
+  pub body : (r k : ℕ) (i : Instruction) → fetch c.code r k ≡ Some i → Left c words (c.site r k) (form c r k i)
+      (c.site r (suc k))
+  pub entry : (r : ℕ) (routine : TacRoutine) → slice_get (routines c.code) r ≡ Some routine → Left c words (c.entry r)
+      (entry_form c r routine) (c.site r 0)
+  -- first words are within the words
+  pub within : (r k : ℕ) (routine : TacRoutine) → slice_get (routines c.code) r ≡ Some routine → k < length routine.body
+      → c.site r k ≤ 1048576
   pub within_entry : (r : ℕ) → r < length (routines c.code) → c.entry r ≤ 1048576
-  -- behind each call the result is accepted
-  pub resumes : (r k t : ℕ) → called c r k t ≡ true → Left c words (c.resume r k t) (accept c r (home c r t)) (c.site r k)
-  -- a run-time routine's parameters stand in front of its link
-  pub parameters : (r : ℕ) (routine : TacRoutine) → is_program c r ≡ false → slice_get (routines c.code) r ≡ Some routine → 8 + 4 * routine.parameters ≤ c.link_at r
+  -- after each call the result is accepted
+  pub resumes : (r k t : ℕ) → called c r k t ≡ true → Left c words (c.resume r k t) (accept c r (home c r t))
+      (c.site r k)
+  -- a run-time routine's parameters come before its link
+  pub parameters : (r : ℕ) (routine : TacRoutine) → is_program c r ≡ false → slice_get (routines c.code) r
+      ≡ Some routine → 8 + 4 * routine.parameters ≤ c.link_at r
   -- the words of the constants
-  pub texts : (r k : ℕ) (ws : Words) → constant_at (text_at c.code r k) ≡ Some ws → (c.constant r k + length ws ≤ length words) × ((i : ℕ) → (x : ℤ) → slice_get ws i ≡ Some (Some (Number x)) → slice_get words (c.constant r k + i) ≡ Some (word_of x))
-  -- the program block is linked to by no call
+  pub texts : (r k : ℕ) (ws : Words) → constant_at (text_at c.code r k) ≡ Some ws
+      → (c.constant r k + length ws ≤ length words)
+      × ((i : ℕ) → (x : ℤ) → slice_get ws i ≡ Some (Some (Number x)) → slice_get words (c.constant r k + i) ≡ Some
+      (word_of x))
+  -- the program block's link, 0, is that of no call
   pub unlinked : c.line 0 ≡ None
-  -- objects are charged for as they are allotted
-  pub sizes : (t bytes : ℕ) → slice_get c.code.objects t ≡ Some bytes → (bytes % 4 ≡ 0) × (c.sizes t % 4 ≡ 0) × (bytes ≤ c.sizes t) × (4 ≤ c.sizes t) × (c.sizes t < 4294967296)
+  -- objects are charged for as they are allocated
+  pub sizes : (t bytes : ℕ) → slice_get c.code.objects t ≡ Some bytes → (bytes % 4 ≡ 0) × (c.sizes t % 4 ≡ 0)
+      × (bytes ≤ c.sizes t) × (4 ≤ c.sizes t) × (c.sizes t < 4294967296)
 
 -- all that is known of a program from its code to its words
 pub record Built (c : Context) (words : List ℕ) : Type 0 where
@@ -67,17 +77,17 @@ pub record Built (c : Context) (words : List ℕ) : Type 0 where
 abbrev pub tape_of : Tape → run.Tape
 tape_of tape = record { input = tape.input; ended = tape.ended; transcript = tape.transcript }
 
--- N and Z are those of the register of the temporary that they are said to be of at a place
+-- N and Z are those of the register of the temporary that they belong to at a place
 abbrev pub Flags : Context → ℕ → ℕ → View → Type 0
 Flags c r k v =
     (t q : ℕ) → told_at c r k ≡ Some t → home c r t ≡ Reg q
     → (v.equal ≡ nat_eq (v.registers q) 0) × (v.negative ≡ nat_le 2147483648 (v.registers q))
 
--- no register is short of an offset besides
+-- and no register is short of an offset
 abbrev pub Straight : Context → ℕ → ℕ → View → Type 0
 Straight c r k v = Flags c r k v × (bent_at c r k ≡ None)
 
--- the machine with the whole of what a register is short of
+-- the machine with the missing offset added to the register that is short of it
 abbrev pub unbent : Option (ℕ × ℕ) → Machine → Machine
 unbent None m = m
 unbent (Some bent) m =
@@ -97,7 +107,7 @@ pub record Belongs (c : Context) (words : List ℕ) (p : Places) (s : State) (v 
   pub input : AreBytes s.tape.input
   pub flags : Straight c s.current.routine s.current.place v
 
--- from m, with the tape of s, the machine comes in one step or more to a state that belongs to t
+-- from m, with the tape of s, the machine reaches in one step or more a state that belongs to t
 pub record Comes (c : Context) (words : List ℕ) (s t : State) (m : machine.State) : Type 0 where
   pub to : machine.State
   pub places : Places
@@ -125,7 +135,7 @@ pub record Stops (c : Context) (words : List ℕ) (s : State) (m : machine.State
   pub is : e ≡ told c word view
   pub by : (k : ℕ) → (j : ℕ) × (k < j) × (run.exec j m (tape_of s.tape) ≡ (s.tape.transcript, run.Stopped word at))
 
--- What the machine does for a step: nothing is asked where the code is stuck.
+-- What the machine does for a step: nothing is required where the code is stuck.
 abbrev pub Follows : Context → List ℕ → Step → State → machine.State → Type 0
 Follows c words (Goes t) s m = Comes c words s t m
 Follows c words (Over e) s m = (e ≡ Stuck) ⊎ Stops c words s m e

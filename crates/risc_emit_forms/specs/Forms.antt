@@ -1,6 +1,8 @@
--- The words of each instruction of three-address code. R14 is the frame of the innermost activation and R13 that of the program block;
--- R12 and R15 are scratch registers, and operands in other registers are used where they stand.
-use Rattle.std.specs.Prelude.{ℕ, zero, suc, ◌+◌, ◌-◌, ◌*◌, ◌/◌, ◌%◌, Bool, true, false, ◌&&◌, ◌||◌, not, nat_eq, nat_lt, int_lt, if◌then◌else◌, List, [], ◌∷◌, ◌++◌, length, slice_index, Option, Some, None, ℤ, pos, negsuc}
+-- The words of each instruction of three-address code. R14 is the frame of the innermost activation and R13 that of the
+-- program block; R12 and R15 are scratch registers, and operands in other registers are used where they are.
+use Rattle.std.specs.Prelude.{ℕ, zero, suc, ◌+◌, ◌-◌, ◌*◌, ◌/◌, ◌%◌, Bool, true, false, ◌&&◌, ◌||◌, not, nat_eq}
+use Rattle.std.specs.Prelude.{nat_lt, int_lt, if◌then◌else◌, List, [], ◌∷◌, ◌++◌, length, slice_index, Option, Some}
+use Rattle.std.specs.Prelude.{None, ℤ, pos, negsuc}
 use Rattle.risc_word.specs.declared.instr.Operation.{Operation}
 use Rattle.risc_word.specs.declared.instr.Operation.TheVariants as op
 use Rattle.risc_word.specs.declared.instr.Operand as machine
@@ -22,7 +24,11 @@ use Rattle.tac_code.specs.declared.code.Operand.TheVariants as operand
 use Rattle.tac_code.specs.declared.code.Base.{Base}
 use Rattle.tac_code.specs.declared.code.Base.TheVariants as base
 use Rattle.tac_code.specs.declared.code.Instruction.{Instruction}
-use Rattle.tac_code.specs.declared.code.Instruction.TheVariants.{Literal, Copy, Arithmetic, Bits, Compare, CheckRange, CheckPointer, Text, Offset, Index, RoutineValue, Load, Store, LoadByte, StoreByte, Jump, JumpBack, Branch, BranchBack, Call, CallValue, Return, Trap, Take, Put, New, End}
+use Rattle.tac_code.specs.declared.code.Instruction.TheVariants.{Literal, Copy, Arithmetic, Bits, Compare, CheckRange}
+use Rattle.tac_code.specs.declared.code.Instruction.TheVariants.{CheckPointer, Text, Offset, Index, RoutineValue, Load}
+use Rattle.tac_code.specs.declared.code.Instruction.TheVariants.{Store, LoadByte, StoreByte, Jump, JumpBack, Branch}
+use Rattle.tac_code.specs.declared.code.Instruction.TheVariants.{BranchBack, Call, CallValue, Return, Trap, Take, Put}
+use Rattle.tac_code.specs.declared.code.Instruction.TheVariants.{New, End}
 use Rattle.tac_code.specs.declared.code.TacRoutine.{TacRoutine}
 use Rattle.tac_code.specs.Numbers.{is_zero, word_of, steps_above}
 use Rattle.risc_alloc.specs.Flow.{is_it}
@@ -30,7 +36,8 @@ use Rattle.risc_alloc.specs.declared.homes.Home.{Home}
 use Rattle.risc_alloc.specs.declared.homes.Home.TheVariants.{Slot, Reg}
 use Rattle.risc_emit_relation.specs.Context.{Context, home, is_program, slot_at}
 use Rattle.risc_emit_forms.specs.Told.{told_at, bent_at}
-use Rattle.risc_emit_forms.specs.Pieces.{Label, AtPlace, AtEntry, AtText, Piece, Plain, Goes, Fails, Enters, Joins, EntersAt, High, Low}
+use Rattle.risc_emit_forms.specs.Pieces.{Label, AtPlace, AtEntry, AtText, Piece, Plain, Goes, Fails, Enters, Joins}
+use Rattle.risc_emit_forms.specs.Pieces.{EntersAt, High, Low}
 
 -- ---- constants
 
@@ -58,7 +65,7 @@ number d z = if is_small z then Plain (word.Move d (Constant z)) ∷ [] else con
 
 -- ---- words of a frame
 
--- register d takes the word n bytes behind the address in register b, another one
+-- register d takes the word n bytes after the address in register b, another one
 abbrev pub load : ℕ → ℕ → ℕ → List Piece
 load d b n =
     if is_near n then Plain (word.Load Word d b (pos n)) ∷ []
@@ -70,7 +77,7 @@ store a b n =
     if is_near n then Plain (word.Store Word a b (pos n)) ∷ []
     else constant 15 n ++ (Plain (word.Operate op.Add 15 15 (Content b)) ∷ Plain (word.Store Word a 15 (pos 0)) ∷ [])
 
--- ---- what hangs on no place
+-- ---- what depends on no place
 
 abbrev pub bit_operation : BitOperator → Operation
 bit_operation And = op.And
@@ -100,12 +107,14 @@ is_divisor (operand.Number (negsuc n)) = false
 -- the floored quotient in register d rounded toward zero, in four words
 abbrev pub rounded : ℕ → List Piece
 rounded d =
-    skip on.Plus 3 ∷ Plain (word.MoveHigh 15) ∷ skip on.Equal 1 ∷ Plain (word.Operate op.Add d d (Constant (pos 1))) ∷ []
+    skip on.Plus 3 ∷ Plain (word.MoveHigh 15) ∷ skip on.Equal 1 ∷ Plain (word.Operate op.Add d d (Constant (pos 1)))
+    ∷ []
 
--- R15 takes 0 where a product has 32 bits: H is 0, or all ones above a negative low word, whose sign N tells
+-- R15 takes 0 where a product has 32 bits: H is 0, or all ones above a negative low word, whose sign N shows
 abbrev pub beyond : List Piece
 beyond =
-    skip on.Plus 3 ∷ Plain (word.MoveHigh 15) ∷ Plain (word.Operate op.Add 15 15 (Constant (pos 1))) ∷ skip on.Always 1 ∷ Plain (word.MoveHigh 15) ∷ []
+    skip on.Plus 3 ∷ Plain (word.MoveHigh 15) ∷ Plain (word.Operate op.Add 15 15 (Constant (pos 1))) ∷ skip on.Always 1
+    ∷ Plain (word.MoveHigh 15) ∷ []
 
 -- whether a right operand is the number 0
 abbrev pub is_null : Operand → Bool
@@ -128,16 +137,16 @@ is_register (Slot k) = false
 
 -- ---- operands
 
--- so many of the operands of a call come in registers, operand j in register j; the others stand in the caller's frame
+-- how many of the operands of a call come in registers, operand j in register j; the others are in the caller's frame
 abbrev pub carried : ℕ → ℕ
 carried count = if nat_lt count 8 then count else 8
 
--- The last of n operands goes to its register first. A home is taken then before the turn of operand j.
+-- The last of n operands goes to its register first. A home may therefore be overwritten before the turn of operand j.
 abbrev pub is_taken : ℕ → ℕ → Home → Bool
 is_taken n j (Reg q) = nat_lt j q && nat_lt q n
 is_taken n j (Slot k) = false
 
--- it goes by way of the frame, as what comes in no register does
+-- it goes through the frame, as what comes in no register does
 abbrev pub is_stored : ℕ → ℕ → Home → Bool
 is_stored n j h = not (nat_lt j n) || is_taken n j h
 
@@ -146,12 +155,12 @@ abbrev pub stands : ℕ → Home → Bool
 stands j (Reg q) = nat_eq q j && nat_lt j 8
 stands j (Slot k) = false
 
--- its home takes parameter j at once, where none of the n that are carried comes: a slot, or a register behind theirs
+-- its home takes parameter j directly, where none of the n that are carried comes: a slot, or a register after theirs
 abbrev pub is_clear : ℕ → ℕ → Home → Bool
 is_clear n j (Reg q) = nat_lt j 8 && not (nat_lt q n)
 is_clear n j (Slot k) = nat_lt j 8
 
--- it goes by way of no memory of the caller
+-- it goes through no memory of the caller
 abbrev pub is_direct : ℕ → ℕ → Home → Bool
 is_direct n j h = stands j h || is_clear n j h
 
@@ -160,7 +169,7 @@ abbrev pub device : ℕ → Piece
 device d = Plain (word.Move d (Constant (negsuc 63)))
 
 module _ (c : Context) (r : ℕ) where
-  -- an operand stands in its register, or is loaded into register d
+  -- an operand is in its register, or is loaded into register d
   abbrev pub fetch : ℕ → Home → List Piece
   fetch d (Reg q) = []
   fetch d (Slot k) = load d 14 (slot_at c r k)
@@ -169,7 +178,7 @@ module _ (c : Context) (r : ℕ) where
   fetched d (Reg q) = q
   fetched d (Slot k) = d
 
-  -- register d takes an operand, wherever it stands
+  -- register d takes an operand, wherever it is
   abbrev pub bring : ℕ → Home → List Piece
   bring d (Reg q) = Plain (word.Move d (Content q)) ∷ []
   bring d (Slot k) = load d 14 (slot_at c r k)
@@ -183,7 +192,7 @@ module _ (c : Context) (r : ℕ) where
   save (Reg q) = []
   save (Slot k) = store 12 14 (slot_at c r k)
 
-  -- a result in R12 comes to its home
+  -- a result in R12 goes to its home
   abbrev pub receive : Home → List Piece
   receive (Reg q) = Plain (word.Move q (Content 12)) ∷ []
   receive (Slot k) = store 12 14 (slot_at c r k)
@@ -193,7 +202,7 @@ module _ (c : Context) (r : ℕ) where
   into d (Reg q) = if nat_eq q d then [] else Plain (word.Move d (Content q)) ∷ []
   into d (Slot k) = load d 14 (slot_at c r k)
 
-  -- the result of a routine comes from R0 to its home
+  -- the result of a routine goes from R0 to its home
   abbrev pub accept : Home → List Piece
   accept (Reg q) = if nat_eq q 0 then [] else Plain (word.Move q (Content 0)) ∷ []
   accept (Slot k) = store 0 14 (slot_at c r k)
@@ -232,7 +241,8 @@ module _ (c : Context) (r : ℕ) where
   abbrev pub reach : Base → ℕ → List Piece
   reach a n =
       if is_near (base_offset a n) then base_code a
-      else base_code a ++ (constant 15 (base_offset a n) ++ Plain (word.Operate op.Add 12 (base_register a) (Content 15)) ∷ [])
+      else base_code a ++ (constant 15 (base_offset a n) ++ Plain
+      (word.Operate op.Add 12 (base_register a) (Content 15)) ∷ [])
 
   abbrev pub reach_register : Base → ℕ → ℕ
   reach_register a n = if is_near (base_offset a n) then base_register a else 12
@@ -242,21 +252,25 @@ module _ (c : Context) (r : ℕ) where
 
   abbrev pub load_form : Width → ℕ → Base → ℕ → List Piece
   load_form width t a n =
-      reach a n ++ (Plain (word.Load width (target (home c r t)) (reach_register a n) (pos (reach_offset a n))) ∷ save (home c r t))
+      reach a n ++ (Plain (word.Load width (target (home c r t)) (reach_register a n) (pos (reach_offset a n))) ∷ save
+      (home c r t))
 
-  -- a word from behind a base, or from behind a register that is short of an offset
+  -- a word at an offset from a base, or from a register that is short of an offset
   abbrev pub word_form : Option (ℕ × ℕ) → ℕ → Base → ℕ → List Piece
   word_form None t a n = load_form Word t a n
   word_form (Some bent) t a n = Plain (word.Load Word bent.0 bent.0 (pos (bent.1 + n))) ∷ []
 
   abbrev pub store_form : Width → Base → ℕ → ℕ → List Piece
   store_form width a n b =
-      reach a n ++ (fetch 15 (home c r b) ++ Plain (word.Store width (fetched 15 (home c r b)) (reach_register a n) (pos (reach_offset a n))) ∷ [])
+      reach a n ++ (fetch 15 (home c r b) ++ Plain
+      (word.Store width (fetched 15 (home c r b)) (reach_register a n) (pos (reach_offset a n))) ∷ [])
 
-  -- register d takes the address n bytes behind a base
+  -- register d takes the address n bytes after a base
   abbrev pub address : ℕ → Base → ℕ → List Piece
   address d a n =
-      base_code a ++ (if nat_lt (base_offset a n) 65536 then Plain (word.Operate op.Add d (base_register a) (Constant (pos (base_offset a n)))) ∷ [] else constant 15 (base_offset a n) ++ Plain (word.Operate op.Add d (base_register a) (Content 15)) ∷ [])
+      base_code a ++ (if nat_lt (base_offset a n) 65536 then Plain
+      (word.Operate op.Add d (base_register a) (Constant (pos (base_offset a n)))) ∷ [] else constant 15
+      (base_offset a n) ++ Plain (word.Operate op.Add d (base_register a) (Content 15)) ∷ [])
 
   -- ---- instructions
 
@@ -275,11 +289,11 @@ module _ (c : Context) (r : ℕ) where
   abbrev pub difference : ℕ → Operand → Piece
   difference a b = Plain (word.Operate op.Sub 12 (fetched 12 (home c r a)) (right_operand b))
 
-  -- whether N and Z are those of a temporary's register, where they are told of one
+  -- whether N and Z are known to be those of a temporary's register
   abbrev pub is_told : Option ℕ → ℕ → Bool
   is_told told a = is_it a told && is_register (home c r a)
 
-  -- whether a temporary's register holds its own difference from 0 already, with N and Z
+  -- whether a temporary's register already holds its difference from 0, with N and Z
   abbrev pub is_own : Option ℕ → ℕ → ℕ → Operand → Bool
   is_own told t a b = is_told told a && (nat_eq t a && is_null b)
 
@@ -296,7 +310,9 @@ module _ (c : Context) (r : ℕ) where
   -- whether a relation holds
   abbrev pub truth_form : Relation → ℕ → ℕ → Operand → List Piece
   truth_form relation t a b =
-      both a b (difference a b ∷ skip (condition relation) 2 ∷ Plain (word.Move (target (home c r t)) (Constant (pos 0))) ∷ skip on.Always 1 ∷ Plain (word.Move (target (home c r t)) (Constant (pos 1))) ∷ save (home c r t))
+      both a b (difference a b ∷ skip (condition relation) 2 ∷ Plain
+      (word.Move (target (home c r t)) (Constant (pos 0))) ∷ skip on.Always 1 ∷ Plain
+      (word.Move (target (home c r t)) (Constant (pos 1))) ∷ save (home c r t))
 
   abbrev pub compare_form : Option ℕ → Relation → ℕ → ℕ → Operand → List Piece
   compare_form told Equal t a b = truth_form Equal t a b
@@ -325,19 +341,27 @@ module _ (c : Context) (r : ℕ) where
   -- by the least integer: 1 or 0
   abbrev pub quotient_by_least : ℕ → List Piece
   quotient_by_least a =
-      fetch 12 (home c r a) ++ (Plain (word.Operate op.Sub 12 (fetched 12 (home c r a)) (Content 15)) ∷ skip on.Equal 2 ∷ Plain (word.Move 12 (Constant (pos 0))) ∷ skip on.Always 1 ∷ Plain (word.Move 12 (Constant (pos 1))) ∷ [])
+      fetch 12 (home c r a) ++ (Plain (word.Operate op.Sub 12 (fetched 12 (home c r a)) (Content 15)) ∷ skip on.Equal 2
+      ∷ Plain (word.Move 12 (Constant (pos 0))) ∷ skip on.Always 1 ∷ Plain (word.Move 12 (Constant (pos 1))) ∷ [])
 
   -- by a divisor below 0, which is negated, and then the quotient
   abbrev pub quotient_by_negative : ℕ → ℕ → ℕ → List Piece
   quotient_by_negative a error line =
-      Plain (word.Move 12 (Constant (pos 0))) ∷ Plain (word.Operate op.Sub 15 12 (Content 15)) ∷ skip on.OverflowSet (length (quotient a) + 4) ∷ (quotient a ++ (Plain (word.Move 15 (Constant (pos 0))) ∷ Plain (word.Operate op.Sub 12 15 (Content 12)) ∷ Fails on.OverflowSet error line ∷ skip on.Always (length (quotient_by_least a)) ∷ quotient_by_least a))
+      Plain (word.Move 12 (Constant (pos 0))) ∷ Plain (word.Operate op.Sub 15 12 (Content 15)) ∷ skip on.OverflowSet
+      (length (quotient a) + 4) ∷ (quotient a
+      ++ (Plain (word.Move 15 (Constant (pos 0))) ∷ Plain (word.Operate op.Sub 12 15 (Content 12))
+      ∷ Fails on.OverflowSet error line ∷ skip on.Always (length (quotient_by_least a)) ∷ quotient_by_least a))
 
   abbrev pub divide_form : ℕ → ℕ → Operand → ℕ → ℕ → List Piece
   divide_form t a b error line =
-      if is_divisor b then fetch 12 (home c r a) ++ (Plain (word.Operate op.Div (target (home c r t)) (fetched 12 (home c r a)) (right_operand b)) ∷ (rounded (target (home c r t)) ++ save (home c r t)))
-      else divisor b ++ (Fails on.Equal 2 line ∷ skip on.Minus (length (quotient a) + 1) ∷ (quotient a ++ (skip on.Always (length (quotient_by_negative a error line)) ∷ (quotient_by_negative a error line ++ receive (home c r t)))))
+      if is_divisor b then fetch 12 (home c r a)
+      ++ (Plain (word.Operate op.Div (target (home c r t)) (fetched 12 (home c r a)) (right_operand b))
+      ∷ (rounded (target (home c r t)) ++ save (home c r t)))
+      else divisor b ++ (Fails on.Equal 2 line ∷ skip on.Minus (length (quotient a) + 1)
+      ∷ (quotient a ++ (skip on.Always (length (quotient_by_negative a error line))
+      ∷ (quotient_by_negative a error line ++ receive (home c r t)))))
 
-  -- a modulus in a register: a temporary's where it stands, or in R15
+  -- a modulus in a register: a temporary's where it is, or in R15
   abbrev pub modulus : Operand → List Piece
   modulus (operand.Temporary t) = fetch 15 (home c r t)
   modulus (operand.Number z) = number 15 z
@@ -349,8 +373,12 @@ module _ (c : Context) (r : ℕ) where
   -- what H holds after a division is Pascal's mod
   abbrev pub modulo_form : ℕ → ℕ → Operand → ℕ → List Piece
   modulo_form t a b line =
-      if is_divisor b then fetch 12 (home c r a) ++ (Plain (word.Operate op.Div 12 (fetched 12 (home c r a)) (right_operand b)) ∷ Plain (word.MoveHigh (target (home c r t))) ∷ save (home c r t))
-      else modulus b ++ (Plain (word.Operate op.Sub 12 (modulus_register b) (Constant (pos 1))) ∷ Fails on.Less 3 line ∷ (fetch 12 (home c r a) ++ (Plain (word.Operate op.Div 12 (fetched 12 (home c r a)) (Content (modulus_register b))) ∷ Plain (word.MoveHigh (target (home c r t))) ∷ save (home c r t))))
+      if is_divisor b then fetch 12 (home c r a)
+      ++ (Plain (word.Operate op.Div 12 (fetched 12 (home c r a)) (right_operand b)) ∷ Plain
+      (word.MoveHigh (target (home c r t))) ∷ save (home c r t))
+      else modulus b ++ (Plain (word.Operate op.Sub 12 (modulus_register b) (Constant (pos 1))) ∷ Fails on.Less 3 line
+      ∷ (fetch 12 (home c r a) ++ (Plain (word.Operate op.Div 12 (fetched 12 (home c r a))
+      (Content (modulus_register b))) ∷ Plain (word.MoveHigh (target (home c r t))) ∷ save (home c r t))))
 
   abbrev pub arithmetic_form : Operator → ℕ → ℕ → Operand → ℕ → ℕ → List Piece
   arithmetic_form Add t a b error line =
@@ -363,7 +391,8 @@ module _ (c : Context) (r : ℕ) where
 
   -- ---- ranges
 
-  -- how far what register a holds lies above the lowest number of a range, modulo 2^32: in R12, or where it stands if the lowest is 0
+  -- how far what register a holds is above the lowest number of a range, modulo 2^32: in R12, or in place if the lowest
+  -- is 0
   abbrev pub above : ℕ → ℤ → List Piece
   above a low =
       if is_zero low then []
@@ -372,13 +401,14 @@ module _ (c : Context) (r : ℕ) where
   abbrev pub above_register : ℕ → ℤ → ℕ
   above_register a low = if is_zero low then a else 12
 
-  -- whether register q holds at most n, without a sign: what lies below the lowest number of a range is large. R15 is scratch
+  -- whether register q holds at most n, unsigned: what is below the lowest number of a range is large. R15 is scratch
   abbrev pub at_most : ℕ → ℕ → ℕ → ℕ → List Piece
   at_most q n error line =
-      if nat_lt n 65535 then Plain (word.Operate op.Sub 15 q (Constant (pos (suc n)))) ∷ Fails on.CarryClear error line ∷ []
+      if nat_lt n 65535 then Plain (word.Operate op.Sub 15 q (Constant (pos (suc n)))) ∷ Fails on.CarryClear error line
+      ∷ []
       else exact 15 n ++ (Plain (word.Operate op.Sub 15 15 (Content q)) ∷ Fails on.CarrySet error line ∷ [])
 
-  -- whether what register a holds lies in a range, which may be empty
+  -- whether what register a holds is in a range, which may be empty
   abbrev pub range_code : ℕ → ℤ → ℤ → ℕ → ℕ → List Piece
   range_code a low high error line =
       if int_lt high low then Fails on.Always error line ∷ []
@@ -388,22 +418,23 @@ module _ (c : Context) (r : ℕ) where
   check_form a low high error line =
       fetch 12 (home c r a) ++ range_code (fetched 12 (home c r a)) low high error line
 
-  -- what register q holds times a width, in R12, or where it stands if the width is 1
+  -- what register q holds times a width, in R12, or in place if the width is 1
   abbrev pub scaled : ℕ → ℕ → List Piece
   scaled q width =
       if nat_eq width 1 then []
-      else right (operand.Number (pos width)) ++ (Plain (word.Operate op.Mul 12 q (right_operand (operand.Number (pos width)))) ∷ [])
+      else right (operand.Number (pos width)) ++ (Plain
+      (word.Operate op.Mul 12 q (right_operand (operand.Number (pos width)))) ∷ [])
 
   abbrev pub scaled_register : ℕ → ℕ → ℕ
   scaled_register q width = if nat_eq width 1 then q else 12
 
-  -- the address n bytes behind what register q holds, in R15
+  -- the address n bytes after what register q holds, in R15
   abbrev pub sum : ℕ → ℕ → List Piece
   sum q n =
       if nat_lt n 65536 then Plain (word.Operate op.Add 15 q (Constant (pos n))) ∷ []
       else constant 15 n ++ (Plain (word.Operate op.Add 15 q (Content 15)) ∷ [])
 
-  -- the address of a base: in R15, or in the register where it stands
+  -- the address of a base: in R15, or in the register where it is
   abbrev pub base_address : Base → List Piece
   base_address base.Frame = sum 14 (c.frame_at r)
   base_address base.Scratch = sum 14 (c.scratch_at r)
@@ -416,10 +447,11 @@ module _ (c : Context) (r : ℕ) where
   address_register base.Program = 15
   address_register (base.Temporary t) = fetched 15 (home c r t)
 
-  -- the address that lies what register q holds behind a base, or what is short of the offset of the base's block
+  -- the address at the distance in register q from a base, or that address short of the offset of the base's block
   abbrev pub component : Option (ℕ × ℕ) → ℕ → Base → ℕ → List Piece
   component None t a q =
-      base_address a ++ (Plain (word.Operate op.Add (target (home c r t)) (address_register a) (Content q)) ∷ save (home c r t))
+      base_address a ++ (Plain (word.Operate op.Add (target (home c r t)) (address_register a) (Content q)) ∷ save
+      (home c r t))
   component (Some bent) t a q = Plain (word.Operate op.Add bent.0 (base_register a) (Content q)) ∷ []
 
   abbrev pub steps_form : Option (ℕ × ℕ) → ℕ → Base → ℕ → ℕ → List Piece
@@ -431,12 +463,12 @@ module _ (c : Context) (r : ℕ) where
 
   -- ---- devices, calls, objects
 
-  -- operand j, of which n are carried, goes to bytes 8 + 4 * j of the frame if it goes by way of the frame
+  -- operand j, of which n are carried, goes to bytes 8 + 4 * j of the frame if it goes through the frame
   abbrev pub pass_one : ℕ → ℕ → Home → List Piece
   pass_one n j h =
       if is_stored n j h then fetch 12 h ++ (Plain (word.Store Word (fetched 12 h) 14 (pos (8 + 4 * j))) ∷ []) else []
 
-  -- so do those from number j on
+  -- and those from number j on
   abbrev pub pass : ℕ → ℕ → List ℕ → List Piece
   pass n j [] = []
   pass n j (u ∷ us) = pass_one n j (home c r u) ++ pass n (suc j) us
@@ -467,7 +499,9 @@ module _ (c : Context) (r : ℕ) where
 
   abbrev pub return_form : ℕ → List Piece
   return_form a =
-      into 0 (home c r a) ++ (if is_program c r then Plain (word.Load Word 15 14 (pos 0)) ∷ Plain (word.Load Word 14 14 (pos 4)) ∷ Plain (word.Branch on.Always false (Absolute 15)) ∷ [] else Plain (word.Load Word 15 14 (pos (c.link_at r))) ∷ Plain (word.Branch on.Always false (Absolute 15)) ∷ [])
+      into 0 (home c r a) ++ (if is_program c r then Plain (word.Load Word 15 14 (pos 0)) ∷ Plain
+      (word.Load Word 14 14 (pos 4)) ∷ Plain (word.Branch on.Always false (Absolute 15)) ∷ [] else Plain
+      (word.Load Word 15 14 (pos (c.link_at r))) ∷ Plain (word.Branch on.Always false (Absolute 15)) ∷ [])
 
   abbrev pub label_form : ℕ → Label → List Piece
   label_form t label = High (target (home c r t)) label ∷ Low (target (home c r t)) label ∷ save (home c r t)
@@ -487,7 +521,11 @@ module _ (c : Context) (r : ℕ) where
   -- the heap's next address, where there is room up to the stack's limit
   abbrev pub new_form : ℕ → ℕ → ℕ → List Piece
   new_form t bytes line =
-      Plain (word.Load Word 15 13 (pos 268)) ∷ Plain (word.Load Word 12 13 (pos 272)) ∷ Plain (word.Operate op.Sub 15 15 (Content 12)) ∷ (number 12 (pos bytes) ++ (Plain (word.Operate op.Sub 15 15 (Content 12)) ∷ Fails on.CarrySet 13 line ∷ Plain (word.Load Word 15 13 (pos 272)) ∷ Plain (word.Operate op.Add 12 12 (Content 15)) ∷ Plain (word.Store Word 12 13 (pos 272)) ∷ Plain (word.Move 12 (Content 15)) ∷ receive (home c r t)))
+      Plain (word.Load Word 15 13 (pos 268)) ∷ Plain (word.Load Word 12 13 (pos 272)) ∷ Plain
+      (word.Operate op.Sub 15 15 (Content 12))
+      ∷ (number 12 (pos bytes) ++ (Plain (word.Operate op.Sub 15 15 (Content 12)) ∷ Fails on.CarrySet 13 line
+      ∷ Plain (word.Load Word 15 13 (pos 272)) ∷ Plain (word.Operate op.Add 12 12 (Content 15)) ∷ Plain
+      (word.Store Word 12 13 (pos 272)) ∷ Plain (word.Move 12 (Content 15)) ∷ receive (home c r t)))
 
   -- ---- comparisons
 
@@ -543,7 +581,8 @@ module _ (c : Context) (r : ℕ) where
   take j (Reg q) = Plain (word.Move q (Content j)) ∷ []
   take j (Slot k) = store j 14 (slot_at c r k)
 
-  -- parameter j, of which m are carried, goes from its register to its home, or to the operands of the caller, n bytes behind the frame
+  -- parameter j, of which m are carried, goes from its register to its home, or to the operands of the caller, whose
+  -- frame is n bytes on
   abbrev pub spill_one : ℕ → ℕ → ℕ → Home → List Piece
   spill_one m n j h =
       if is_clear m j h then take j h
@@ -574,16 +613,20 @@ module _ (c : Context) (r : ℕ) where
 
   abbrev pub enter_form : TacRoutine → List Piece
   enter_form routine =
-      frame_below (c.costs r) ++ (Plain (word.Load Word 11 13 (pos 268)) ∷ Plain (word.Operate op.Sub 11 12 (Content 11)) ∷ Fails on.Less 12 routine.line ∷ Plain (word.Store Word 15 12 (pos 0)) ∷ Plain (word.Store Word 14 12 (pos 4)) ∷ Plain (word.Move 14 (Content 12)) ∷ arrive (c.costs r) routine.parameters)
+      frame_below (c.costs r) ++ (Plain (word.Load Word 11 13 (pos 268)) ∷ Plain
+      (word.Operate op.Sub 11 12 (Content 11)) ∷ Fails on.Less 12 routine.line ∷ Plain
+      (word.Store Word 15 12 (pos 0)) ∷ Plain (word.Store Word 14 12 (pos 4)) ∷ Plain (word.Move 14 (Content 12))
+      ∷ arrive (c.costs r) routine.parameters)
 
   abbrev pub join_form : TacRoutine → List Piece
   join_form routine =
       Plain (word.Store Word 15 14 (pos (c.link_at r))) ∷ arrive 0 routine.parameters
 
-  -- a frame that no stack holds, and parameters that no call passes
+  -- whether some stack can hold its frame, and a call pass its parameters
   abbrev pub is_entered : TacRoutine → Bool
   is_entered routine = nat_lt (c.costs r) 16777153 && nat_lt routine.parameters 66
 
   abbrev pub entry_form : TacRoutine → List Piece
   entry_form routine =
-      if is_program c r then (if is_entered routine then enter_form routine else Fails on.Always 12 routine.line ∷ []) else join_form routine
+      if is_program c r then (if is_entered routine then enter_form routine else Fails on.Always 12 routine.line ∷ [])
+      else join_form routine

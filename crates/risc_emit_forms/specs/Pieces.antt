@@ -1,4 +1,5 @@
--- Pieces: the words of instructions before it is known where they stand. Their count never depends on places, so places are sums of counts.
+-- Pieces: the words of instructions before it is known where they go. Their count never depends on places, so places
+-- are sums of counts.
 use Rattle.std.specs.Prelude.{◌≡◌, ℕ, ◌+◌, ◌*◌, ◌/◌, ◌%◌, true, false, List, [], ◌∷◌, length, Some, pos}
 use Rattle.risc_word.specs.declared.instr.Operation.TheVariants.{Add}
 use Rattle.risc_word.specs.declared.instr.Operand.TheVariants.{Constant}
@@ -23,7 +24,7 @@ pub data Piece : Type 0 where
   Plain : Instr → Piece
   -- a branch to a label where a condition holds
   Goes : Condition → Label → Piece
-  -- where a condition holds, a branch to the stub, whose link has a row of the trap table: the number of an error and its line
+  -- where a condition holds, a branch to the stub, whose link has a row of the trap table: an error's number and line
   Fails : Condition → (number line : ℕ) → Piece
   -- a call of a routine of the program, whose link has a row of the call table: the line
   Enters : (routine line : ℕ) → Piece
@@ -41,7 +42,7 @@ label_place c (AtPlace r k) = c.site r k
 label_place c (AtEntry r) = c.entry r
 label_place c (AtText r k) = c.constant r k
 
--- the instruction that a piece is at a place; the stub stands at place 1
+-- the instruction that a piece is at a place; the stub is at place 1
 abbrev pub instr_at : Context → ℕ → Piece → Instr
 instr_at c at (Plain i) = i
 instr_at c at (Goes condition label) = Branch condition false (Relative (distance at (label_place c label)))
@@ -59,7 +60,7 @@ HasRow c at (Enters r line) = c.line (4 * (at + 1)) ≡ Some line
 HasRow c at (EntersAt q line) = c.line (4 * (at + 1)) ≡ Some line
 HasRow c at _ = Unit {0}
 
--- the pieces stand in the words one after the other, from a place on
+-- the pieces are in the words one after the other, from a place on
 abbrev pub Stands : Context → List ℕ → ℕ → List Piece → Type 0
 Stands c words at [] = Unit {0}
 Stands c words at (p ∷ ps) = IsAt words at (instr_at c at p) × HasRow c at p × Stands c words (at + 1) ps

@@ -1,10 +1,12 @@
--- Where the flags are those of a temporary: behind an instruction whose last word sets them by its result, if no jump leads there. And where
--- a register is short of an offset: between an index and the load by it.
-use Rattle.std.specs.Prelude.{ℕ, zero, suc, ◌+◌, ◌-◌, Bool, true, false, ◌&&◌, nat_eq, nat_lt, if◌then◌else◌, List, [], ◌∷◌, length, slice_get, slice_set, get_or, replicate, Option, Some, None}
+-- Where the flags are those of a temporary: after an instruction whose last word sets them by its result, if no jump
+-- leads there. And where a register is short of an offset: between an index and the load by it.
+use Rattle.std.specs.Prelude.{ℕ, zero, suc, ◌+◌, ◌-◌, Bool, true, false, ◌&&◌, nat_eq, nat_lt, if◌then◌else◌, List, []}
+use Rattle.std.specs.Prelude.{◌∷◌, length, slice_get, slice_set, get_or, replicate, Option, Some, None}
 use Rattle.tac_code.specs.declared.code.Operator.{Operator}
 use Rattle.tac_code.specs.declared.code.Operator.TheVariants.{Add, Subtract, Multiply, Divide, Modulo}
 use Rattle.tac_code.specs.declared.code.Instruction.{Instruction}
-use Rattle.tac_code.specs.declared.code.Instruction.TheVariants.{Arithmetic, Bits, Index, Load, LoadByte, Jump, JumpBack, Branch, BranchBack}
+use Rattle.tac_code.specs.declared.code.Instruction.TheVariants.{Arithmetic, Bits, Index, Load, LoadByte, Jump}
+use Rattle.tac_code.specs.declared.code.Instruction.TheVariants.{JumpBack, Branch, BranchBack}
 use Rattle.tac_code.specs.declared.code.TacRoutine.{TacRoutine}
 use Rattle.tac_code.specs.Meaning.{routines}
 use Rattle.tac_code.specs.declared.code.Base.{Base}
@@ -21,7 +23,7 @@ sets_flags Multiply = false
 sets_flags Divide = false
 sets_flags Modulo = true
 
--- the temporary whose register N and Z are of behind an instruction
+-- the temporary whose register determines N and Z after an instruction
 abbrev pub flagged_by : Instruction → Option ℕ
 flagged_by (Arithmetic operator t a b error line) = if sets_flags operator then Some t else None
 flagged_by (Bits operator t a b) = Some t
@@ -47,7 +49,7 @@ abbrev pub set_in : Option ℕ → List Bool → List Bool
 set_in None bs = bs
 set_in (Some k) bs = slice_set bs k true
 
--- so are those of all places that instructions jump to, of which the first stands at a place
+-- and those of all places that instructions jump to, the first of which is at a place
 abbrev pub marked : List Instruction → ℕ → List Bool → List Bool
 marked [] place bs = bs
 marked (i ∷ is) place bs = marked is (suc place) (set_in (jump_of i place) bs)
@@ -56,9 +58,9 @@ marked (i ∷ is) place bs = marked is (suc place) (set_in (jump_of i place) bs)
 abbrev pub jumped : List Instruction → List Bool
 jumped body = marked body 0 (replicate (length body) false)
 
--- ---- what is told
+-- ---- what is known of the flags
 
--- the temporary whose register the flags are of at a place
+-- the temporary whose register determines the flags at a place
 abbrev pub told : List Instruction → ℕ → Option ℕ
 told body zero = None
 told body (suc k) = if get_or (jumped body) (suc k) true then None else flagged_in (slice_get body k)
@@ -79,7 +81,7 @@ block_at c r base.Scratch = Some (c.scratch_at r)
 block_at c r base.Program = Some (c.frame_at 0)
 block_at c r (base.Temporary t) = None
 
--- register q is short of m, where a load from n behind its address can take both
+-- register q is short of m, where a load n bytes after its address can include both
 abbrev pub bend_near : ℕ → ℕ → ℕ → Option (ℕ × ℕ)
 bend_near q n m = if nat_lt (m + n) 524288 then Some (q, m) else None
 
@@ -94,7 +96,8 @@ bend_in (Slot k) n o = None
 module _ (c : Context) (r : ℕ) where
   -- the address of an index into t, which the next instruction loads from into t
   abbrev pub bend_load : ℕ → Base → Option Instruction → Option (ℕ × ℕ)
-  bend_load t a (Some (Load u (base.Temporary w) n)) = if nat_eq u t && nat_eq w t then bend_in (home c r t) n (block_at c r a) else None
+  bend_load t a (Some (Load u (base.Temporary w) n)) = if nat_eq u t && nat_eq w t then bend_in (home c r t) n
+      (block_at c r a) else None
   bend_load t a _ = None
 
   abbrev pub bend : Option Instruction → Option Instruction → Option (ℕ × ℕ)
@@ -103,7 +106,8 @@ module _ (c : Context) (r : ℕ) where
 
   abbrev pub bent : List Instruction → ℕ → Option (ℕ × ℕ)
   bent body zero = None
-  bent body (suc k) = if get_or (jumped body) (suc k) true then None else bend (slice_get body k) (slice_get body (suc k))
+  bent body (suc k) = if get_or (jumped body) (suc k) true then None else bend (slice_get body k)
+      (slice_get body (suc k))
 
   abbrev pub bent_in : Option TacRoutine → ℕ → Option (ℕ × ℕ)
   bent_in None k = None

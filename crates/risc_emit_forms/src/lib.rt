@@ -1,7 +1,7 @@
 //! Definitions and laws: the words of each instruction of three-address code, and that they do what it means.
 //!
 //! The functions do nothing when they run; each stands for its contract. specs/Forms says which words an instruction
-//! has, and specs/Follows what is asked of a code that they stand in.
+//! has, and specs/Follows what is required of code that contains them.
 #![tactic(auto)]
 
 ghost use Rattle.risc_emit_forms.specs.Laws.{StepsFollow, ProgramsAreBuilt};
@@ -11,7 +11,7 @@ pub fn steps_follow()
     ensures { StepsFollow }
 {}
 
-/// What is asked of a code and its words can be met.
+/// What is required of a code and its words can be met.
 #[tactic(auto, using(crate::proofs::Example::programs_are_built))]
 pub fn programs_are_built()
     ensures { ProgramsAreBuilt }

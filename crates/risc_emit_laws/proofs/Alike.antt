@@ -1,5 +1,7 @@
--- The pieces of an instruction hang on the code, the homes and the layout alone: not on where words stand, on tables or on memory.
-use Rattle.std.proofs.Common.{◌≡◌, ℕ, ℤ, zero, suc, List, [], ◌∷◌, length, slice_index, Option, Some, None, refl, sym, ap, ◌∙◌}
+-- The pieces of an instruction depend only on the code, the homes and the layout: not on where words are, on tables or
+-- on memory.
+use Rattle.std.proofs.Common.{◌≡◌, ℕ, ℤ, zero, suc, List, [], ◌∷◌, length, slice_index, Option, Some, None, refl, sym}
+use Rattle.std.proofs.Common.{ap, ◌∙◌}
 use Rattle.risc_word.specs.declared.instr.Width.{Width}
 use Rattle.risc_word.specs.declared.instr.Condition.{Condition}
 use Rattle.tac_code.specs.declared.code.Operator.{Operator}
@@ -11,7 +13,11 @@ use Rattle.tac_code.specs.declared.code.Operand.TheVariants as operand
 use Rattle.tac_code.specs.declared.code.Base.{Base}
 use Rattle.tac_code.specs.declared.code.Base.TheVariants as base
 use Rattle.tac_code.specs.declared.code.Instruction.{Instruction}
-use Rattle.tac_code.specs.declared.code.Instruction.TheVariants.{Literal, Copy, Arithmetic, Bits, Compare, CheckRange, CheckPointer, Text, Offset, Index, RoutineValue, Load, Store, LoadByte, StoreByte, Jump, JumpBack, Branch, BranchBack, Call, CallValue, Return, Trap, Take, Put, New, End}
+use Rattle.tac_code.specs.declared.code.Instruction.TheVariants.{Literal, Copy, Arithmetic, Bits, Compare, CheckRange}
+use Rattle.tac_code.specs.declared.code.Instruction.TheVariants.{CheckPointer, Text, Offset, Index, RoutineValue, Load}
+use Rattle.tac_code.specs.declared.code.Instruction.TheVariants.{Store, LoadByte, StoreByte, Jump, JumpBack, Branch}
+use Rattle.tac_code.specs.declared.code.Instruction.TheVariants.{BranchBack, Call, CallValue, Return, Trap, Take, Put}
+use Rattle.tac_code.specs.declared.code.Instruction.TheVariants.{New, End}
 use Rattle.tac_code.specs.declared.code.TacRoutine.{TacRoutine}
 use Rattle.risc_alloc.specs.declared.homes.Home.{Home}
 use Rattle.risc_alloc.specs.declared.homes.Home.TheVariants.{Slot, Reg}
@@ -25,12 +31,52 @@ use Rattle.risc_emit_laws.specs.Drawn.{Alike}
 -- a context without the rest
 abbrev pub bare : Context → Context
 bare c =
-    record { code = c.code; costs = c.costs; sizes = c.sizes; homes = c.homes; site = λ r k. 0; entry = λ r. 0; constant = λ r k. 0; resume = λ r k t. 0; line = λ l. None; trap = λ l. None; link_at = c.link_at; slots_at = c.slots_at; frame_at = c.frame_at; scratch_at = c.scratch_at; used = λ r. 0; heap_at = 0; base = 0; size = 0; bottom = 0 }
+    record {
+      code = c.code;
+      costs = c.costs;
+      sizes = c.sizes;
+      homes = c.homes;
+      site = λ r k. 0;
+      entry = λ r. 0;
+      constant = λ r k. 0;
+      resume = λ r k t. 0;
+      line = λ l. None;
+      trap = λ l. None;
+      link_at = c.link_at;
+      slots_at = c.slots_at;
+      frame_at = c.frame_at;
+      scratch_at = c.scratch_at;
+      used = λ r. 0;
+      heap_at = 0;
+      base = 0;
+      size = 0;
+      bottom = 0;
+    }
 
 -- alike contexts are one, but for the rest
 bare_same : (c c' : Context) → Alike c c' → bare c' ≡ bare c
 bare_same c c' a =
-    λ i. record { code = a.code i; costs = λ r. a.costs r i; sizes = λ t. a.sizes t i; homes = a.homes i; site = λ r k. 0; entry = λ r. 0; constant = λ r k. 0; resume = λ r k t. 0; line = λ l. None; trap = λ l. None; link_at = λ r. a.link_at r i; slots_at = λ r. a.slots_at r i; frame_at = λ r. a.frame_at r i; scratch_at = λ r. a.scratch_at r i; used = λ r. 0; heap_at = 0; base = 0; size = 0; bottom = 0 }
+    λ i. record {
+      code = a.code i;
+      costs = λ r. a.costs r i;
+      sizes = λ t. a.sizes t i;
+      homes = a.homes i;
+      site = λ r k. 0;
+      entry = λ r. 0;
+      constant = λ r k. 0;
+      resume = λ r k t. 0;
+      line = λ l. None;
+      trap = λ l. None;
+      link_at = λ r. a.link_at r i;
+      slots_at = λ r. a.slots_at r i;
+      frame_at = λ r. a.frame_at r i;
+      scratch_at = λ r. a.scratch_at r i;
+      used = λ r. 0;
+      heap_at = 0;
+      base = 0;
+      size = 0;
+      bottom = 0;
+    }
 
 module _ (c : Context) (r : ℕ) where
   abbrev b : Context
@@ -122,23 +168,29 @@ module _ (c : Context) (r : ℕ) where
   modulus_register_bare (operand.Temporary t) = fetched_bare 15 (home c r t)
   modulus_register_bare (operand.Number z) = refl
 
-  load_bare : (width : Width) (t : ℕ) (a : Base) (n : ℕ) → form.load_form b r width t a n ≡ form.load_form c r width t a n
+  load_bare : (width : Width) (t : ℕ) (a : Base) (n : ℕ) → form.load_form b r width t a n
+      ≡ form.load_form c r width t a n
   load_bare width t a n =
-      rw (base_code_bare a) (rw (base_register_bare a) (rw (base_offset_bare a n) (rw (target_bare (home c r t)) (rw (save_bare (home c r t)) refl))))
+      rw (base_code_bare a) (rw (base_register_bare a)
+      (rw (base_offset_bare a n) (rw (target_bare (home c r t)) (rw (save_bare (home c r t)) refl))))
 
   word_bare : (o : Option (ℕ × ℕ)) (t : ℕ) (a : Base) (n : ℕ) → form.word_form b r o t a n ≡ form.word_form c r o t a n
   word_bare None t a n = load_bare _ t a n
   word_bare (Some bent) t a n = refl
 
-  index_bare : (o : Option (ℕ × ℕ)) (t : ℕ) (a : Base) (i : ℕ) (low high : ℤ) (width error line : ℕ) → form.index_form b r o t a i low high width error line ≡ form.index_form c r o t a i low high width error line
+  index_bare : (o : Option (ℕ × ℕ)) (t : ℕ) (a : Base) (i : ℕ) (low high : ℤ) (width error line : ℕ)
+      → form.index_form b r o t a i low high width error line ≡ form.index_form c r o t a i low high width error line
   index_bare None t a i low high width error line =
-      rw (fetch_bare 12 (home c r i)) (rw (fetched_bare 12 (home c r i)) (rw (base_address_bare a) (rw (address_register_bare a) (rw (target_bare (home c r t)) (rw (save_bare (home c r t)) refl)))))
+      rw (fetch_bare 12 (home c r i)) (rw (fetched_bare 12 (home c r i))
+      (rw (base_address_bare a) (rw (address_register_bare a)
+      (rw (target_bare (home c r t)) (rw (save_bare (home c r t)) refl)))))
   index_bare (Some bent) t a i low high width error line =
       rw (fetch_bare 12 (home c r i)) (rw (fetched_bare 12 (home c r i)) (rw (base_register_bare a) refl))
 
   store_bare : (width : Width) (a : Base) (n u : ℕ) → form.store_form b r width a n u ≡ form.store_form c r width a n u
   store_bare width a n u =
-      rw (base_code_bare a) (rw (base_register_bare a) (rw (base_offset_bare a n) (rw (fetch_bare 15 (home c r u)) (rw (fetched_bare 15 (home c r u)) refl))))
+      rw (base_code_bare a) (rw (base_register_bare a)
+      (rw (base_offset_bare a n) (rw (fetch_bare 15 (home c r u)) (rw (fetched_bare 15 (home c r u)) refl))))
 
   address_bare : (d : ℕ) (a : Base) (n : ℕ) → form.address b r d a n ≡ form.address c r d a n
   address_bare d a n =
@@ -159,34 +211,55 @@ module _ (c : Context) (r : ℕ) where
 
   offer_by_bare : (a : ℕ) (us : List ℕ) → form.offer_by b r a us ≡ form.offer_by c r a us
   offer_by_bare a us =
-      rw (pass_bare (carried (length us)) 0 us) (rw (bring_bare 12 (home c r a)) (rw (carry_bare (carried (length us)) (carried (length us)) us) refl))
+      rw (pass_bare (carried (length us)) 0 us)
+      (rw (bring_bare 12 (home c r a)) (rw (carry_bare (carried (length us)) (carried (length us)) us) refl))
 
-  arithmetic_bare : (operator : Operator) (t a : ℕ) (o : Operand) (error line : ℕ) → form.arithmetic_form b r operator t a o error line ≡ form.arithmetic_form c r operator t a o error line
+  arithmetic_bare : (operator : Operator) (t a : ℕ) (o : Operand) (error line : ℕ)
+      → form.arithmetic_form b r operator t a o error line ≡ form.arithmetic_form c r operator t a o error line
   arithmetic_bare Add t a o error line =
-      rw (fetch_bare 12 (home c r a)) (rw (fetched_bare 12 (home c r a)) (rw (right_bare o) (rw (right_operand_bare o) (rw (target_bare (home c r t)) (rw (save_bare (home c r t)) refl)))))
+      rw (fetch_bare 12 (home c r a)) (rw (fetched_bare 12 (home c r a))
+      (rw (right_bare o) (rw (right_operand_bare o)
+      (rw (target_bare (home c r t)) (rw (save_bare (home c r t)) refl)))))
   arithmetic_bare Subtract t a o error line =
-      rw (fetch_bare 12 (home c r a)) (rw (fetched_bare 12 (home c r a)) (rw (right_bare o) (rw (right_operand_bare o) (rw (target_bare (home c r t)) (rw (save_bare (home c r t)) refl)))))
+      rw (fetch_bare 12 (home c r a)) (rw (fetched_bare 12 (home c r a))
+      (rw (right_bare o) (rw (right_operand_bare o)
+      (rw (target_bare (home c r t)) (rw (save_bare (home c r t)) refl)))))
   arithmetic_bare Multiply t a o error line =
-      rw (fetch_bare 12 (home c r a)) (rw (fetched_bare 12 (home c r a)) (rw (right_bare o) (rw (right_operand_bare o) (rw (target_bare (home c r t)) (rw (save_bare (home c r t)) refl)))))
+      rw (fetch_bare 12 (home c r a)) (rw (fetched_bare 12 (home c r a))
+      (rw (right_bare o) (rw (right_operand_bare o)
+      (rw (target_bare (home c r t)) (rw (save_bare (home c r t)) refl)))))
   arithmetic_bare Divide t a o error line =
-      rw (fetch_bare 12 (home c r a)) (rw (fetched_bare 12 (home c r a)) (rw (divisor_bare o) (rw (right_operand_bare o) (rw (target_bare (home c r t)) (rw (save_bare (home c r t)) (rw (receive_bare (home c r t)) refl))))))
+      rw (fetch_bare 12 (home c r a)) (rw (fetched_bare 12 (home c r a))
+      (rw (divisor_bare o) (rw (right_operand_bare o)
+      (rw (target_bare (home c r t)) (rw (save_bare (home c r t)) (rw (receive_bare (home c r t)) refl))))))
   arithmetic_bare Modulo t a o error line =
-      rw (fetch_bare 12 (home c r a)) (rw (fetched_bare 12 (home c r a)) (rw (modulus_bare o) (rw (modulus_register_bare o) (rw (right_operand_bare o) (rw (target_bare (home c r t)) (rw (save_bare (home c r t)) refl))))))
+      rw (fetch_bare 12 (home c r a)) (rw (fetched_bare 12 (home c r a))
+      (rw (modulus_bare o) (rw (modulus_register_bare o)
+      (rw (right_operand_bare o) (rw (target_bare (home c r t)) (rw (save_bare (home c r t)) refl))))))
 
-  branch_bare : (q : Option Condition) (relation : Relation) (a : ℕ) (o : Operand) (label : _) → form.branch_by b r q relation a o label ≡ form.branch_by c r q relation a o label
+  branch_bare : (q : Option Condition) (relation : Relation) (a : ℕ) (o : Operand) (label : _)
+      → form.branch_by b r q relation a o label ≡ form.branch_by c r q relation a o label
   branch_bare (Some told) relation a o label = refl
   branch_bare None relation a o label =
-      rw (fetch_bare 12 (home c r a)) (rw (fetched_bare 12 (home c r a)) (rw (right_bare o) (rw (right_operand_bare o) refl)))
+      rw (fetch_bare 12 (home c r a)) (rw (fetched_bare 12 (home c r a))
+      (rw (right_bare o) (rw (right_operand_bare o) refl)))
 
-  truth_bare : (relation : Relation) (t a : ℕ) (o : Operand) → form.truth_form b r relation t a o ≡ form.truth_form c r relation t a o
+  truth_bare : (relation : Relation) (t a : ℕ) (o : Operand) → form.truth_form b r relation t a o
+      ≡ form.truth_form c r relation t a o
   truth_bare relation t a o =
-      rw (fetch_bare 12 (home c r a)) (rw (fetched_bare 12 (home c r a)) (rw (right_bare o) (rw (right_operand_bare o) (rw (target_bare (home c r t)) (rw (save_bare (home c r t)) refl)))))
+      rw (fetch_bare 12 (home c r a)) (rw (fetched_bare 12 (home c r a))
+      (rw (right_bare o) (rw (right_operand_bare o)
+      (rw (target_bare (home c r t)) (rw (save_bare (home c r t)) refl)))))
 
-  unlike_bare : (told : Option ℕ) (t a : ℕ) (o : Operand) → form.unlike_form b r told t a o ≡ form.unlike_form c r told t a o
+  unlike_bare : (told : Option ℕ) (t a : ℕ) (o : Operand) → form.unlike_form b r told t a o
+      ≡ form.unlike_form c r told t a o
   unlike_bare told t a o =
-      rw (fetch_bare 12 (home c r a)) (rw (fetched_bare 12 (home c r a)) (rw (right_bare o) (rw (right_operand_bare o) (rw (target_bare (home c r t)) (rw (save_bare (home c r t)) refl)))))
+      rw (fetch_bare 12 (home c r a)) (rw (fetched_bare 12 (home c r a))
+      (rw (right_bare o) (rw (right_operand_bare o)
+      (rw (target_bare (home c r t)) (rw (save_bare (home c r t)) refl)))))
 
-  compare_bare : (told : Option ℕ) (relation : Relation) (t a : ℕ) (o : Operand) → form.compare_form b r told relation t a o ≡ form.compare_form c r told relation t a o
+  compare_bare : (told : Option ℕ) (relation : Relation) (t a : ℕ) (o : Operand)
+      → form.compare_form b r told relation t a o ≡ form.compare_form c r told relation t a o
   compare_bare told NotEqual t a o = unlike_bare told t a o
   compare_bare told Equal t a o = truth_bare Equal t a o
   compare_bare told Less t a o = truth_bare Less t a o
@@ -202,14 +275,17 @@ module _ (c : Context) (r : ℕ) where
   form_bare k (Copy t a) = copy_bare (home c r t) (home c r a)
   form_bare k (Arithmetic operator t a o error line) = arithmetic_bare operator t a o error line
   form_bare k (Bits operator t a o) =
-      rw (fetch_bare 12 (home c r a)) (rw (fetched_bare 12 (home c r a)) (rw (right_bare o) (rw (right_operand_bare o) (rw (target_bare (home c r t)) (rw (save_bare (home c r t)) refl)))))
+      rw (fetch_bare 12 (home c r a)) (rw (fetched_bare 12 (home c r a))
+      (rw (right_bare o) (rw (right_operand_bare o)
+      (rw (target_bare (home c r t)) (rw (save_bare (home c r t)) refl)))))
   form_bare k (Compare relation t a o) = compare_bare (told_at c r k) relation t a o
   form_bare k (CheckRange a low high error line) =
       rw (fetch_bare 12 (home c r a)) (rw (fetched_bare 12 (home c r a)) refl)
   form_bare k (CheckPointer a error line) = rw (bring_bare 12 (home c r a)) refl
   form_bare k (Text t bytes) = label_bare t _
   form_bare k (Offset t a n extent) =
-      rw (target_bare (home c r t)) (rw (save_bare (home c r t)) (rw (address_bare (form.target c r (home c r t)) a n) refl))
+      rw (target_bare (home c r t)) (rw (save_bare (home c r t))
+      (rw (address_bare (form.target c r (home c r t)) a n) refl))
   form_bare k (Index t a i low high width error line) = index_bare (bent_at c r (suc k)) t a i low high width error line
   form_bare k (RoutineValue t q) = label_bare t _
   form_bare k (Load t a n) = word_bare (bent_at c r k) t a n
@@ -219,7 +295,8 @@ module _ (c : Context) (r : ℕ) where
   form_bare k (Jump n) = refl
   form_bare k (JumpBack n) = refl
   form_bare k (Branch relation a o n) = branch_bare (form.branch_choice c r (told_at c r k) relation a o) relation a o _
-  form_bare k (BranchBack relation a o n) = branch_bare (form.branch_choice c r (told_at c r k) relation a o) relation a o _
+  form_bare k (BranchBack relation a o n) = branch_bare
+      (form.branch_choice c r (told_at c r k) relation a o) relation a o _
   form_bare k (Call t q us line) = rw (offer_bare us) (rw (accept_bare (home c r t)) refl)
   form_bare k (CallValue t a us line) = rw (offer_by_bare a us) (rw (accept_bare (home c r t)) refl)
   form_bare k (Return a) = rw (into_bare 0 (home c r a)) refl
@@ -259,7 +336,8 @@ start_bare c block = refl
 module _ (c c' : Context) (alike : Alike c c') where
   pub accepts_alike : (r t : ℕ) → form.accept c' r (home c' r t) ≡ form.accept c r (home c r t)
   accepts_alike r t =
-      sym (accept_bare c' r (home c' r t)) ∙ ap (λ x. form.accept x r (home x r t)) (bare_same c c' alike) ∙ accept_bare c r (home c r t)
+      sym (accept_bare c' r (home c' r t)) ∙ ap (λ x. form.accept x r (home x r t)) (bare_same c c' alike)
+      ∙ accept_bare c r (home c r t)
 
   pub forms_alike : (r k : ℕ) (i : Instruction) → form.form c' r k i ≡ form.form c r k i
   forms_alike r k i =
@@ -267,7 +345,8 @@ module _ (c c' : Context) (alike : Alike c c') where
 
   pub entries_alike : (r : ℕ) (routine : TacRoutine) → form.entry_form c' r routine ≡ form.entry_form c r routine
   entries_alike r routine =
-      sym (entry_bare c' r routine) ∙ ap (λ x. form.entry_form x r routine) (bare_same c c' alike) ∙ entry_bare c r routine
+      sym (entry_bare c' r routine) ∙ ap (λ x. form.entry_form x r routine) (bare_same c c' alike)
+      ∙ entry_bare c r routine
 
   pub starts_alike : (block : TacRoutine) → start_form c' block ≡ start_form c block
   starts_alike block =

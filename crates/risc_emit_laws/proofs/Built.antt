@@ -1,5 +1,6 @@
--- What an image that was made of a code makes of it in a memory: all that steps ask.
-use Rattle.std.proofs.Common.{◌≡◌, ℕ, zero, suc, ◌+◌, ◌<◌, ◌≤◌, ◌⊎◌, inl, inr, true, false, nat_eq, nat_lt, List, [], ◌∷◌, ◌++◌, length, Option, Some, None, slice_get, refl, sym, subst, arith}
+-- What an image that was made from a code makes of it in a memory: all that steps require.
+use Rattle.std.proofs.Common.{◌≡◌, ℕ, zero, suc, ◌+◌, ◌<◌, ◌≤◌, ◌⊎◌, inl, inr, true, false, nat_eq, nat_lt, List, []}
+use Rattle.std.proofs.Common.{◌∷◌, ◌++◌, length, Option, Some, None, slice_get, refl, sym, subst, arith}
 use Rattle.std.specs.Prelude.{option_map, All}
 use Rattle.tac_code.specs.declared.code.Instruction.{Instruction}
 use Rattle.tac_code.specs.declared.code.Instruction.TheVariants.{Call, CallValue}
@@ -47,14 +48,17 @@ no_call end (row ∷ rows) h =
 pub first_routine : (code : Code) → IsSound code → (block : TacRoutine) × (slice_get (routines code) 0 ≡ Some block)
 first_routine code sound = go code.program sound.begins
   where
-    go : (xs : List TacRoutine) → 0 < length xs → (block : TacRoutine) × (slice_get (xs ++ code.run_time) 0 ≡ Some block)
+    go : (xs : List TacRoutine) → 0 < length xs → (block : TacRoutine)
+        × (slice_get (xs ++ code.run_time) 0 ≡ Some block)
     go [] lt = absurd (omega (arith, lt))
     go (x ∷ xs) lt = (x, refl)
 
-pub sound_routine : (code : Code) → IsSound code → (r : ℕ) (routine : TacRoutine) → slice_get (routines code) r ≡ Some routine → IsSoundRoutine (limits_of code routine) routine
+pub sound_routine : (code : Code) → IsSound code → (r : ℕ) (routine : TacRoutine) → slice_get (routines code) r
+    ≡ Some routine → IsSoundRoutine (limits_of code routine) routine
 sound_routine code sound r routine e = go (get_append code.program code.run_time r routine e)
   where
-    go : (slice_get code.program r ≡ Some routine) ⊎ ((m : ℕ) × (slice_get code.run_time m ≡ Some routine)) → IsSoundRoutine (limits_of code routine) routine
+    go : (slice_get code.program r ≡ Some routine) ⊎ ((m : ℕ) × (slice_get code.run_time m ≡ Some routine))
+        → IsSoundRoutine (limits_of code routine) routine
     go (inl e) = sound.program r routine e
     go (inr e) = sound.run_time e.0 routine e.1
 
@@ -78,31 +82,37 @@ module _ (code : Code) (homes : List Home) (image : Image) (sound : IsSound code
       let st = stand.start first.0 first.1 in
       (st.2.0, (st.2.2.0, tt))
 
-  accepted : (r : ℕ) (h : Home) → length (accept (before_resumes code homes plan image heap stack) r h) ≡ length (accept c r h)
+  accepted : (r : ℕ) (h : Home) → length (accept (before_resumes code homes plan image heap stack) r h) ≡ length
+      (accept c r h)
   accepted r (Reg q) = refl
   accepted r (Slot k) = refl
 
-  -- behind the words of a call, which end in the words that accept its result
-  resumed : (r j t : ℕ) (ps : List Piece) (p : Piece) → Left c words (c.site r j) (ps ++ (p ∷ accept c r (home c r t))) (c.site r (suc j)) → Left c words (c.resume r (suc j) t) (accept c r (home c r t)) (c.site r (suc j))
+  -- after the words of a call, which end in the words that accept its result
+  resumed : (r j t : ℕ) (ps : List Piece) (p : Piece) → Left c words (c.site r j) (ps ++ (p ∷ accept c r (home c r t)))
+      (c.site r (suc j)) → Left c words (c.resume r (suc j) t) (accept c r (home c r t)) (c.site r (suc j))
   resumed r j t ps p l =
       let l1 = left_after c words (c.site r j) (c.site r j + length ps) _ ps (p ∷ accept c r (home c r t)) l refl in
       let l2 = left_next c words (c.site r j + length ps) _ p (accept c r (home c r t)) l1 in
       let n = accepted r (home c r t) in
-      left_at c words (c.site r j + length ps + 1) (c.resume r (suc j) t) _ (accept c r (home c r t)) l2 (omega (arith, n, l2.ends))
+      left_at c words (c.site r j + length ps + 1) (c.resume r (suc j) t) _ (accept c r (home c r t)) l2
+      (omega (arith, n, l2.ends))
 
   resumes : (r k t : ℕ) → called c r k t ≡ true → Left c words (c.resume r k t) (accept c r (home c r t)) (c.site r k)
   resumes r zero t e = absurd (cc e)
   resumes r (suc j) t e = go (fetch code r j) refl e
     where
-      moved : (t u : ℕ) → u ≡ t → Left c words (c.resume r (suc j) u) (accept c r (home c r u)) (c.site r (suc j)) → Left c words (c.resume r (suc j) t) (accept c r (home c r t)) (c.site r (suc j))
+      moved : (t u : ℕ) → u ≡ t → Left c words (c.resume r (suc j) u) (accept c r (home c r u)) (c.site r (suc j))
+          → Left c words (c.resume r (suc j) t) (accept c r (home c r t)) (c.site r (suc j))
       moved t u e l = subst (λ x. Left c words (c.resume r (suc j) x) (accept c r (home c r x)) (c.site r (suc j))) e l
 
-      go : (o : Option Instruction) → fetch code r j ≡ o → gives_to o t ≡ true → Left c words (c.resume r (suc j) t) (accept c r (home c r t)) (c.site r (suc j))
+      go : (o : Option Instruction) → fetch code r j ≡ o → gives_to o t ≡ true → Left c words (c.resume r (suc j) t)
+          (accept c r (home c r t)) (c.site r (suc j))
       go None here e = absurd (cc e)
       go (Some (Call u q us line)) here e =
           moved t u (sym (same_number t u e)) (resumed r j u (offer c r us) _ (stand.body r j (Call u q us line) here))
       go (Some (CallValue u a us line)) here e =
-          moved t u (sym (same_number t u e)) (resumed r j u (offer_by c r a us) _ (stand.body r j (CallValue u a us line) here))
+          moved t u (sym (same_number t u e)) (resumed r j u (offer_by c r a us) _
+          (stand.body r j (CallValue u a us line) here))
       go (Some _) here e = absurd (cc e)
 
   laid_is : frame_cost image 0 ≤ c.size → IsLaid c
@@ -121,8 +131,10 @@ module _ (code : Code) (homes : List Home) (image : Image) (sound : IsSound code
         leaf = laid.leaf;
         first = is_program_first _ sound.begins;
         bottom = omega (arith, room);
-        order = let top = budget.fits in let some = formed.tables.some_code in (omega (arith, some), omega arith, omega arith, omega (arith, top));
-        even = let g = formed.tables.global_aligned in let h = budget.heap_even in let s = budget.stack_even in (omega (arith, g), omega (arith, g, h), omega (arith, g, h, s));
+        order = let top = budget.fits in let some = formed.tables.some_code
+            in (omega (arith, some), omega arith, omega arith, omega (arith, top));
+        even = let g = formed.tables.global_aligned in let h = budget.heap_even in let s = budget.stack_even
+            in (omega (arith, g), omega (arith, g, h), omega (arith, g, h, s));
         constants = laid.constants;
       }
 

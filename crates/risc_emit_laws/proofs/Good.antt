@@ -1,5 +1,6 @@
--- The numbers and lines in the pieces of sound code lie in their ranges.
-use Rattle.std.proofs.Common.{ℕ, zero, suc, ◌+◌, ◌*◌, Bool, true, false, cond, ◌&&◌, not, nat_eq, nat_lt, List, [], ◌∷◌, ◌++◌, length, slice_index, Option, Some, None, ℤ, pos, arith}
+-- The numbers and lines in the pieces of sound code are in their ranges.
+use Rattle.std.proofs.Common.{ℕ, zero, suc, ◌+◌, ◌*◌, Bool, true, false, cond, ◌&&◌, not, nat_eq, nat_lt, List, []}
+use Rattle.std.proofs.Common.{◌∷◌, ◌++◌, length, slice_index, Option, Some, None, ℤ, pos, arith}
 use Rattle.std.specs.Prelude.{int_lt}
 use Rattle.risc_word.specs.declared.instr.Width.{Width}
 use Rattle.risc_word.specs.declared.instr.Condition.{Condition}
@@ -12,7 +13,11 @@ use Rattle.tac_code.specs.declared.code.Operand.TheVariants as operand
 use Rattle.tac_code.specs.declared.code.Base.{Base}
 use Rattle.tac_code.specs.declared.code.Base.TheVariants as base
 use Rattle.tac_code.specs.declared.code.Instruction.{Instruction}
-use Rattle.tac_code.specs.declared.code.Instruction.TheVariants.{Literal, Copy, Arithmetic, Bits, Compare, CheckRange, CheckPointer, Text, Offset, Index, RoutineValue, Load, Store, LoadByte, StoreByte, Jump, JumpBack, Branch, BranchBack, Call, CallValue, Return, Trap, Take, Put, New, End}
+use Rattle.tac_code.specs.declared.code.Instruction.TheVariants.{Literal, Copy, Arithmetic, Bits, Compare, CheckRange}
+use Rattle.tac_code.specs.declared.code.Instruction.TheVariants.{CheckPointer, Text, Offset, Index, RoutineValue, Load}
+use Rattle.tac_code.specs.declared.code.Instruction.TheVariants.{Store, LoadByte, StoreByte, Jump, JumpBack, Branch}
+use Rattle.tac_code.specs.declared.code.Instruction.TheVariants.{BranchBack, Call, CallValue, Return, Trap, Take, Put}
+use Rattle.tac_code.specs.declared.code.Instruction.TheVariants.{New, End}
 use Rattle.tac_code.specs.declared.code.TacRoutine.{TacRoutine}
 use Rattle.tac_code.specs.declared.check.Limits.{Limits}
 use Rattle.tac_code.specs.Numbers.{is_zero, steps_above}
@@ -26,7 +31,7 @@ use Rattle.risc_emit_forms.specs.Forms as form
 use Rattle.risc_emit_forms.specs.Forms.{is_near, is_small, is_divisor, carried, is_taken, is_stored, stands}
 use Rattle.risc_emit_laws.specs.Emits.{start_form}
 
--- what a piece's row asks
+-- what a piece's row requires
 abbrev pub IsGood : Piece → Type 0
 IsGood (Fails condition number line) = IsErrorNumber number × IsLine line
 IsGood (Enters r line) = IsLine line
@@ -107,22 +112,26 @@ module _ (c : Context) (r : ℕ) where
 
   reach_good : (a : Base) (n : ℕ) → AreGood (form.reach c r a n)
   reach_good a n =
-      by_test (is_near (form.base_offset c r a n)) _ _ (base_code_good a) (good_append (form.base_code c r a) _ (base_code_good a) (tt, (tt, (tt, tt))))
+      by_test (is_near (form.base_offset c r a n)) _ _ (base_code_good a)
+      (good_append (form.base_code c r a) _ (base_code_good a) (tt, (tt, (tt, tt))))
 
   load_form_good : (width : Width) (t : ℕ) (a : Base) (n : ℕ) → AreGood (form.load_form c r width t a n)
   load_form_good width t a n = good_append (form.reach c r a n) _ (reach_good a n) (tt, save_good (home c r t))
 
   store_form_good : (width : Width) (a : Base) (n u : ℕ) → AreGood (form.store_form c r width a n u)
   store_form_good width a n u =
-      good_append (form.reach c r a n) _ (reach_good a n) (good_append (form.fetch c r 15 (home c r u)) _ (fetch_good 15 (home c r u)) (tt, tt))
+      good_append (form.reach c r a n) _ (reach_good a n)
+      (good_append (form.fetch c r 15 (home c r u)) _ (fetch_good 15 (home c r u)) (tt, tt))
 
   address_good : (d : ℕ) (a : Base) (n : ℕ) → AreGood (form.address c r d a n)
   address_good d a n =
-      good_append (form.base_code c r a) _ (base_code_good a) (by_test (nat_lt (form.base_offset c r a n) 65536) _ _ (tt, tt) (tt, (tt, (tt, tt))))
+      good_append (form.base_code c r a) _ (base_code_good a)
+      (by_test (nat_lt (form.base_offset c r a n) 65536) _ _ (tt, tt) (tt, (tt, (tt, tt))))
 
   both_good : (a : ℕ) (o : Operand) (ps : List Piece) → AreGood ps → AreGood (form.both c r a o ps)
   both_good a o ps h =
-      good_append (form.fetch c r 12 (home c r a)) _ (fetch_good 12 (home c r a)) (good_append (form.right c r o) ps (right_good o) h)
+      good_append (form.fetch c r 12 (home c r a)) _ (fetch_good 12 (home c r a))
+      (good_append (form.right c r o) ps (right_good o) h)
 
   divisor_good : (o : Operand) → AreGood (form.divisor c r o)
   divisor_good (operand.Temporary t) = bring_good 15 (home c r t)
@@ -133,7 +142,8 @@ module _ (c : Context) (r : ℕ) where
   modulus_good (operand.Number z) = number_good 15 z
 
   quotient_good : (a : ℕ) → AreGood (form.quotient c r a)
-  quotient_good a = good_append (form.fetch c r 12 (home c r a)) _ (fetch_good 12 (home c r a)) (tt, (tt, (tt, (tt, (tt, tt)))))
+  quotient_good a = good_append (form.fetch c r 12 (home c r a)) _ (fetch_good 12 (home c r a))
+      (tt, (tt, (tt, (tt, (tt, tt)))))
 
   sum_good : (q n : ℕ) → AreGood (form.sum c r q n)
   sum_good q n = by_test (nat_lt n 65536) _ _ (tt, tt) (tt, (tt, (tt, tt)))
@@ -148,19 +158,42 @@ module _ (c : Context) (r : ℕ) where
   least_good a =
       good_append (form.fetch c r 12 (home c r a)) _ (fetch_good 12 (home c r a)) (tt, (tt, (tt, (tt, (tt, tt)))))
 
-  negative_good : (a error line : ℕ) → IsErrorNumber error → IsLine line → AreGood (form.quotient_by_negative c r a error line)
+  negative_good : (a error line : ℕ) → IsErrorNumber error → IsLine line → AreGood
+      (form.quotient_by_negative c r a error line)
   negative_good a error line e l =
       (tt, (tt, (tt, good_append (form.quotient c r a) _ (quotient_good a) (tt, (tt, ((e, l), (tt, least_good a)))))))
 
-  divide_good : (t a : ℕ) (o : Operand) (error line : ℕ) → IsErrorNumber error → IsLine line → AreGood (form.divide_form c r t a o error line)
+  divide_good : (t a : ℕ) (o : Operand) (error line : ℕ) → IsErrorNumber error → IsLine line → AreGood
+      (form.divide_form c r t a o error line)
   divide_good t a o error line e l =
-      by_test (is_divisor o) _ _ (good_append (form.fetch c r 12 (home c r a)) _ (fetch_good 12 (home c r a)) (tt, (tt, (tt, (tt, (tt, save_good (home c r t))))))) (good_append (form.divisor c r o) _ (divisor_good o) ((error_two, l), (tt, good_append (form.quotient c r a) _ (quotient_good a) (tt, good_append (form.quotient_by_negative c r a error line) _ (negative_good a error line e l) (receive_good (home c r t))))))
+      by_test (is_divisor o) _ _ (good_append (form.fetch c r 12 (home c r a)) _ (fetch_good 12 (home c r a))
+      (tt, (tt, (tt, (tt, (tt, save_good (home c r t)))))))
+      (good_append (form.divisor c r o) _ (divisor_good o) (
+        (error_two, l),
+        (
+          tt,
+          good_append (form.quotient c r a) _ (quotient_good a) (
+            tt,
+            good_append (form.quotient_by_negative c r a error line) _ (negative_good a error line e l)
+                (receive_good (home c r t)),
+          ),
+        ),
+      ))
 
   modulo_good : (t a : ℕ) (o : Operand) (line : ℕ) → IsLine line → AreGood (form.modulo_form c r t a o line)
   modulo_good t a o line l =
-      by_test (is_divisor o) _ _ (good_append (form.fetch c r 12 (home c r a)) _ (fetch_good 12 (home c r a)) (tt, (tt, save_good (home c r t)))) (good_append (form.modulus c r o) _ (modulus_good o) (tt, ((error_three, l), good_append (form.fetch c r 12 (home c r a)) _ (fetch_good 12 (home c r a)) (tt, (tt, save_good (home c r t))))))
+      by_test (is_divisor o) _ _ (good_append (form.fetch c r 12 (home c r a)) _ (fetch_good 12 (home c r a))
+      (tt, (tt, save_good (home c r t)))) (good_append (form.modulus c r o) _ (modulus_good o) (
+        tt,
+        (
+          (error_three, l),
+          good_append (form.fetch c r 12 (home c r a)) _ (fetch_good 12 (home c r a))
+              (tt, (tt, save_good (home c r t))),
+        ),
+      ))
 
-  arithmetic_good : (operator : Operator) (t a : ℕ) (o : Operand) (error line : ℕ) → IsErrorNumber error → IsLine line → AreGood (form.arithmetic_form c r operator t a o error line)
+  arithmetic_good : (operator : Operator) (t a : ℕ) (o : Operand) (error line : ℕ) → IsErrorNumber error → IsLine line
+      → AreGood (form.arithmetic_form c r operator t a o error line)
   arithmetic_good Add t a o error line e l = both_good a o _ (tt, ((e, l), save_good (home c r t)))
   arithmetic_good Subtract t a o error line e l = both_good a o _ (tt, ((e, l), save_good (home c r t)))
   arithmetic_good Multiply t a o error line e l =
@@ -170,19 +203,25 @@ module _ (c : Context) (r : ℕ) where
 
   above_good : (a : ℕ) (low : ℤ) → AreGood (form.above c r a low)
   above_good a low =
-      by_test (is_zero low) _ _ tt (good_append (form.right c r (operand.Number low)) _ (right_good (operand.Number low)) (tt, tt))
+      by_test (is_zero low) _ _ tt (good_append (form.right c r (operand.Number low)) _
+      (right_good (operand.Number low)) (tt, tt))
 
   at_most_good : (q n error line : ℕ) → IsErrorNumber error → IsLine line → AreGood (form.at_most c r q n error line)
   at_most_good q n error line e l = by_test (nat_lt n 65535) _ _ (tt, ((e, l), tt)) (tt, (tt, (tt, ((e, l), tt))))
 
-  check_good : (i : ℕ) (low high : ℤ) (error line : ℕ) → IsErrorNumber error → IsLine line → AreGood (form.check_form c r i low high error line)
+  check_good : (i : ℕ) (low high : ℤ) (error line : ℕ) → IsErrorNumber error → IsLine line → AreGood
+      (form.check_form c r i low high error line)
   check_good i low high error line e l =
       let at = form.fetched c r 12 (home c r i) in
-      good_append (form.fetch c r 12 (home c r i)) _ (fetch_good 12 (home c r i)) (by_test (int_lt high low) _ _ ((e, l), tt) (good_append (form.above c r at low) _ (above_good at low) (at_most_good (form.above_register c r at low) (steps_above low high) error line e l)))
+      good_append (form.fetch c r 12 (home c r i)) _ (fetch_good 12 (home c r i))
+      (by_test (int_lt high low) _ _ ((e, l), tt)
+      (good_append (form.above c r at low) _ (above_good at low)
+      (at_most_good (form.above_register c r at low) (steps_above low high) error line e l)))
 
   scaled_good : (q width : ℕ) → AreGood (form.scaled c r q width)
   scaled_good q width =
-      by_test (nat_eq width 1) _ _ tt (good_append (form.right c r (operand.Number (pos width))) _ (right_good (operand.Number (pos width))) (tt, tt))
+      by_test (nat_eq width 1) _ _ tt (good_append (form.right c r (operand.Number (pos width))) _
+      (right_good (operand.Number (pos width))) (tt, tt))
 
   component_good : (bent : Option (ℕ × ℕ)) (t : ℕ) (a : Base) (q : ℕ) → AreGood (form.component c r bent t a q)
   component_good None t a q = good_append (form.base_address c r a) _ (base_address_good a) (tt, save_good (home c r t))
@@ -190,7 +229,8 @@ module _ (c : Context) (r : ℕ) where
 
   steps_good : (bent : Option (ℕ × ℕ)) (t : ℕ) (a : Base) (q width : ℕ) → AreGood (form.steps_form c r bent t a q width)
   steps_good bent t a q width =
-      good_append (form.scaled c r q width) _ (scaled_good q width) (component_good bent t a (form.scaled_register c r q width))
+      good_append (form.scaled c r q width) _ (scaled_good q width)
+      (component_good bent t a (form.scaled_register c r q width))
 
   word_good : (bent : Option (ℕ × ℕ)) (t : ℕ) (a : Base) (n : ℕ) → AreGood (form.word_form c r bent t a n)
   word_good None t a n = load_form_good _ t a n
@@ -202,7 +242,8 @@ module _ (c : Context) (r : ℕ) where
 
   pass_good : (n j : ℕ) (us : List ℕ) → AreGood (form.pass c r n j us)
   pass_good n j [] = tt
-  pass_good n j (u ∷ us) = good_append (form.pass_one c r n j (home c r u)) _ (pass_one_good n j (home c r u)) (pass_good n (suc j) us)
+  pass_good n j (u ∷ us) = good_append (form.pass_one c r n j (home c r u)) _ (pass_one_good n j (home c r u))
+      (pass_good n (suc j) us)
 
   carry_one_good : (n j : ℕ) (h : Home) → AreGood (form.carry_one c r n j h)
   carry_one_good n j h = by_test (is_taken n j h) _ _ (tt, tt) (into_good j h)
@@ -210,7 +251,8 @@ module _ (c : Context) (r : ℕ) where
   carry_good : (n j : ℕ) (us : List ℕ) → AreGood (form.carry c r n j us)
   carry_good n zero us = tt
   carry_good n (suc j) us =
-      good_append (form.carry_one c r n j (home c r (slice_index us j))) _ (carry_one_good n j (home c r (slice_index us j))) (carry_good n j us)
+      good_append (form.carry_one c r n j (home c r (slice_index us j))) _
+      (carry_one_good n j (home c r (slice_index us j))) (carry_good n j us)
 
   offer_good : (us : List ℕ) → AreGood (form.offer c r us)
   offer_good us =
@@ -220,7 +262,8 @@ module _ (c : Context) (r : ℕ) where
   offer_by_good : (a : ℕ) (us : List ℕ) → AreGood (form.offer_by c r a us)
   offer_by_good a us =
       let n = carried (length us) in
-      good_append (form.pass c r n 0 us) _ (pass_good n 0 us) (good_append (form.bring c r 12 (home c r a)) _ (bring_good 12 (home c r a)) (carry_good n n us))
+      good_append (form.pass c r n 0 us) _ (pass_good n 0 us)
+      (good_append (form.bring c r 12 (home c r a)) _ (bring_good 12 (home c r a)) (carry_good n n us))
 
   call_piece : (b : Bool) (q line : ℕ) → IsLine line → IsGood (cond b (Enters q line) (Joins q))
   call_piece true q line l = l
@@ -228,9 +271,11 @@ module _ (c : Context) (r : ℕ) where
 
   return_good : (a : ℕ) → AreGood (form.return_form c r a)
   return_good a =
-      good_append (form.into c r 0 (home c r a)) _ (into_good 0 (home c r a)) (by_test (is_program c r) _ _ (tt, (tt, (tt, tt))) (tt, (tt, tt)))
+      good_append (form.into c r 0 (home c r a)) _ (into_good 0 (home c r a))
+      (by_test (is_program c r) _ _ (tt, (tt, (tt, tt))) (tt, (tt, tt)))
 
-  branch_good : (q : Option Condition) (relation : Relation) (a : ℕ) (o : Operand) (label : Label) → AreGood (form.branch_by c r q relation a o label)
+  branch_good : (q : Option Condition) (relation : Relation) (a : ℕ) (o : Operand) (label : Label) → AreGood
+      (form.branch_by c r q relation a o label)
   branch_good None relation a o label = both_good a o _ (tt, (tt, tt))
   branch_good (Some told) relation a o label = (tt, tt)
 
@@ -239,9 +284,11 @@ module _ (c : Context) (r : ℕ) where
 
   unlike_good : (told : Option ℕ) (t a : ℕ) (o : Operand) → AreGood (form.unlike_form c r told t a o)
   unlike_good told t a o =
-      by_test (form.is_own c r told t a o) _ _ (tt, (tt, save_good (home c r t))) (both_good a o _ (tt, (tt, (tt, save_good (home c r t)))))
+      by_test (form.is_own c r told t a o) _ _ (tt, (tt, save_good (home c r t)))
+      (both_good a o _ (tt, (tt, (tt, save_good (home c r t)))))
 
-  compare_good : (told : Option ℕ) (relation : Relation) (t a : ℕ) (o : Operand) → AreGood (form.compare_form c r told relation t a o)
+  compare_good : (told : Option ℕ) (relation : Relation) (t a : ℕ) (o : Operand) → AreGood
+      (form.compare_form c r told relation t a o)
   compare_good told NotEqual t a o = unlike_good told t a o
   compare_good told Equal t a o = truth_good Equal t a o
   compare_good told Less t a o = truth_good Less t a o
@@ -260,12 +307,14 @@ module _ (c : Context) (r : ℕ) where
   form_good limits k (CheckRange a low high error line) h =
       check_good a low high error line h.3 h.4
   form_good limits k (CheckPointer a error line) h =
-      by_test (form.is_told c r (told_at c r k) a) _ _ ((h.1, h.2), tt) (good_append (form.bring c r 12 (home c r a)) _ (bring_good 12 (home c r a)) ((h.1, h.2), tt))
+      by_test (form.is_told c r (told_at c r k) a) _ _ ((h.1, h.2), tt)
+      (good_append (form.bring c r 12 (home c r a)) _ (bring_good 12 (home c r a)) ((h.1, h.2), tt))
   form_good limits k (Text t bytes) h = (tt, (tt, save_good (home c r t)))
   form_good limits k (Offset t a n extent) h =
       good_append (form.address c r (form.target c r (home c r t)) a n) _ (address_good _ a n) (save_good (home c r t))
   form_good limits k (Index t a i low high width error line) h =
-      good_append (form.check_form c r i low high error line) _ (check_good i low high error line h.5 h.6) (steps_good (bent_at c r (suc k)) t a (form.above_register c r (form.fetched c r 12 (home c r i)) low) width)
+      good_append (form.check_form c r i low high error line) _ (check_good i low high error line h.5 h.6)
+      (steps_good (bent_at c r (suc k)) t a (form.above_register c r (form.fetched c r 12 (home c r i)) low) width)
   form_good limits k (RoutineValue t q) h = (tt, (tt, save_good (home c r t)))
   form_good limits k (Load t a n) h = word_good (bent_at c r k) t a n
   form_good limits k (Store a n u) h = store_form_good _ a n u
@@ -273,18 +322,31 @@ module _ (c : Context) (r : ℕ) where
   form_good limits k (StoreByte a n u) h = store_form_good _ a n u
   form_good limits k (Jump n) h = (tt, tt)
   form_good limits k (JumpBack n) h = (tt, tt)
-  form_good limits k (Branch relation a o n) h = branch_good (form.branch_choice c r (told_at c r k) relation a o) relation a o _
-  form_good limits k (BranchBack relation a o n) h = branch_good (form.branch_choice c r (told_at c r k) relation a o) relation a o _
+  form_good limits k (Branch relation a o n) h = branch_good
+      (form.branch_choice c r (told_at c r k) relation a o) relation a o _
+  form_good limits k (BranchBack relation a o n) h = branch_good
+      (form.branch_choice c r (told_at c r k) relation a o) relation a o _
   form_good limits k (Call t q us line) h =
-      good_append (form.offer c r us) _ (offer_good us) (call_piece (is_program c q) q line h.3, accept_good (home c r t))
+      good_append (form.offer c r us) _ (offer_good us)
+      (call_piece (is_program c q) q line h.3, accept_good (home c r t))
   form_good limits k (CallValue t a us line) h =
       good_append (form.offer_by c r a us) _ (offer_by_good a us) (h.3, accept_good (home c r t))
   form_good limits k (Return a) h = return_good a
   form_good limits k (Trap error line) h = ((h.0, h.1), tt)
   form_good limits k (Take t) h = (tt, (tt, save_good (home c r t)))
-  form_good limits k (Put a) h = good_append (form.fetch c r 12 (home c r a)) _ (fetch_good 12 (home c r a)) (tt, (tt, tt))
-  form_good limits k (New t type line) h =
-      (tt, (tt, (tt, good_append (form.number 12 (pos (c.sizes type))) _ (number_good 12 (pos (c.sizes type))) (tt, ((error_heap, h.2), (tt, (tt, (tt, (tt, receive_good (home c r t))))))))))
+  form_good limits k (Put a) h = good_append (form.fetch c r 12 (home c r a)) _ (fetch_good 12 (home c r a))
+      (tt, (tt, tt))
+  form_good limits k (New t type line) h = (
+    tt,
+    (
+      tt,
+      (
+        tt,
+        good_append (form.number 12 (pos (c.sizes type))) _ (number_good 12 (pos (c.sizes type)))
+            (tt, ((error_heap, h.2), (tt, (tt, (tt, (tt, receive_good (home c r t))))))),
+      ),
+    ),
+  )
   form_good limits k End h = (tt, (tt, (tt, tt)))
 
   take_good : (j : ℕ) (h : Home) → AreGood (form.take c r j h)
@@ -293,36 +355,53 @@ module _ (c : Context) (r : ℕ) where
 
   spill_one_good : (m n j : ℕ) (h : Home) → AreGood (form.spill_one c r m n j h)
   spill_one_good m n j h =
-      by_test (form.is_clear m j h) _ _ (take_good j h) (by_test (nat_lt j 8 && not (stands j h)) _ _ (store_good j 14 (n + 8 + 4 * j)) tt)
+      by_test (form.is_clear m j h) _ _ (take_good j h)
+      (by_test (nat_lt j 8 && not (stands j h)) _ _ (store_good j 14 (n + 8 + 4 * j)) tt)
 
   spill_good : (m n j count : ℕ) → AreGood (form.spill c r m n j count)
   spill_good m n j zero = tt
-  spill_good m n j (suc count) = good_append (form.spill_one c r m n j (home c r j)) _ (spill_one_good m n j (home c r j)) (spill_good m n (suc j) count)
+  spill_good m n j (suc count) = good_append (form.spill_one c r m n j (home c r j)) _
+      (spill_one_good m n j (home c r j)) (spill_good m n (suc j) count)
 
   parameter_good : (m n j : ℕ) (h : Home) → AreGood (form.parameter c r m n j h)
   parameter_good m n j h =
-      by_test (form.is_direct m j h) _ _ tt (good_append (form.load (form.target c r h) 14 (n + 8 + 4 * j)) _ (load_good _ 14 _) (save_good h))
+      by_test (form.is_direct m j h) _ _ tt (good_append (form.load (form.target c r h) 14 (n + 8 + 4 * j)) _
+      (load_good _ 14 _) (save_good h))
 
   parameters_good : (m n j count : ℕ) → AreGood (form.parameters c r m n j count)
   parameters_good m n j zero = tt
   parameters_good m n j (suc count) =
-      good_append (form.parameter c r m n j (home c r j)) _ (parameter_good m n j (home c r j)) (parameters_good m n (suc j) count)
+      good_append (form.parameter c r m n j (home c r j)) _ (parameter_good m n j (home c r j))
+      (parameters_good m n (suc j) count)
 
   arrived_good : (n count : ℕ) → AreGood (form.arrive c r n count)
   arrived_good n count =
-      good_append (form.spill c r (form.carried count) n 0 count) _ (spill_good (form.carried count) n 0 count) (parameters_good (form.carried count) n 0 count)
+      good_append (form.spill c r (form.carried count) n 0 count) _ (spill_good (form.carried count) n 0 count)
+      (parameters_good (form.carried count) n 0 count)
 
   below_good : (n : ℕ) → AreGood (form.frame_below c r n)
   below_good n = by_test (nat_lt n 65536) _ _ (tt, tt) (tt, (tt, (tt, tt)))
 
   enter_good : (routine : TacRoutine) → IsLine routine.line → AreGood (form.enter_form c r routine)
   enter_good routine l =
-      good_append (form.frame_below c r (c.costs r)) _ (below_good (c.costs r)) (tt, (tt, ((error_stack, l), (tt, (tt, (tt, arrived_good (c.costs r) routine.parameters))))))
+      good_append (form.frame_below c r (c.costs r)) _ (below_good (c.costs r))
+      (tt, (tt, ((error_stack, l), (tt, (tt, (tt, arrived_good (c.costs r) routine.parameters))))))
 
   pub entry_good : (routine : TacRoutine) → IsLine routine.line → AreGood (form.entry_form c r routine)
   entry_good routine l =
-      by_test (is_program c r) _ _ (by_test (form.is_entered c r routine) _ _ (enter_good routine l) ((error_stack, l), tt)) (tt, arrived_good 0 routine.parameters)
+      by_test (is_program c r) _ _ (by_test (form.is_entered c r routine) _ _ (enter_good routine l)
+      ((error_stack, l), tt)) (tt, arrived_good 0 routine.parameters)
 
 pub start_good : (c : Context) (block : TacRoutine) → IsLine block.line → AreGood (start_form c block)
-start_good c block l =
-    (tt, (tt, (tt, by_test (nat_lt (c.costs 0) 16777153) _ _ (good_append (form.frame_below c 0 (c.costs 0)) _ (below_good c 0 (c.costs 0)) (tt, ((error_stack, l), (tt, (tt, (tt, (tt, tt))))))) ((error_stack, l), tt))))
+start_good c block l = (
+  tt,
+  (
+    tt,
+    (
+      tt,
+      by_test (nat_lt (c.costs 0) 16777153) _ _
+          (good_append (form.frame_below c 0 (c.costs 0)) _ (below_good c 0 (c.costs 0))
+          (tt, ((error_stack, l), (tt, (tt, (tt, (tt, tt))))))) ((error_stack, l), tt),
+    ),
+  ),
+)

@@ -1,5 +1,6 @@
--- The words of the constants stand where the plan tells.
-use Rattle.std.proofs.Common.{◌≡◌, ℕ, zero, suc, ◌+◌, ◌≤◌, List, [], ◌∷◌, ◌++◌, length, length-append, map, take, Option, Some, None, slice_get, ℤ, refl, ap, ◌∙◌, subst, arith}
+-- The words of the constants are where the plan says.
+use Rattle.std.proofs.Common.{◌≡◌, ℕ, zero, suc, ◌+◌, ◌≤◌, List, [], ◌∷◌, ◌++◌, length, length-append, map, take}
+use Rattle.std.proofs.Common.{Option, Some, None, slice_get, ℤ, refl, ap, ◌∙◌, subst, arith}
 use Rattle.std.proofs.lemmas.List.{length-map}
 use Rattle.tac_code.specs.declared.code.Instruction.{Instruction}
 use Rattle.tac_code.specs.declared.code.Instruction.TheVariants.{Text}
@@ -24,26 +25,31 @@ get_front [] ys i w e = absurd (cc e)
 get_front (x ∷ xs) ys zero w e = e
 get_front (x ∷ xs) ys (suc i) w e = get_front xs ys i w e
 
-get_word : (xs : Words) (i : ℕ) (v : Option Value) → slice_get xs i ≡ Some v → slice_get (map value_word xs) i ≡ Some (value_word v)
+get_word : (xs : Words) (i : ℕ) (v : Option Value) → slice_get xs i ≡ Some v → slice_get (map value_word xs) i ≡ Some
+    (value_word v)
 get_word [] i v e = absurd (cc e)
 get_word (x ∷ xs) zero v e = let same : x ≡ v = cc e in ap (λ y. Some (value_word y)) same
 get_word (x ∷ xs) (suc i) v e = get_word xs i v e
 
--- what is behind a part of a list
+-- what is after a part of a list
 behind : (xs ys : List ℕ) (n i w : ℕ) → n ≡ length xs + i → slice_get ys i ≡ Some w → slice_get (xs ++ ys) n ≡ Some w
 behind xs ys n i w e at = ap (slice_get (xs ++ ys)) e ∙ get_back xs ys i ∙ at
 
-body_get : (is : List Instruction) (k : ℕ) (i : Instruction) → slice_get is k ≡ Some i → (j w : ℕ) → slice_get (instruction_texts i) j ≡ Some w → slice_get (body_texts is) (length (body_texts (take k is)) + j) ≡ Some w
+body_get : (is : List Instruction) (k : ℕ) (i : Instruction) → slice_get is k ≡ Some i → (j w : ℕ) → slice_get
+    (instruction_texts i) j ≡ Some w → slice_get (body_texts is) (length (body_texts (take k is)) + j) ≡ Some w
 body_get [] k i e j w at = absurd (cc e)
 body_get (x ∷ is) zero i e j w at =
     let same : x ≡ i = cc e in
     let n : 0 + j ≡ j = omega arith in
-    ap (slice_get (body_texts (x ∷ is))) n ∙ get_front (instruction_texts x) (body_texts is) j w (ap (λ y. slice_get (instruction_texts y) j) same ∙ at)
+    ap (slice_get (body_texts (x ∷ is))) n ∙ get_front (instruction_texts x) (body_texts is) j w
+    (ap (λ y. slice_get (instruction_texts y) j) same ∙ at)
 body_get (x ∷ is) (suc k) i e j w at =
     let n = length-append (instruction_texts x) (body_texts (take k is)) in
-    behind (instruction_texts x) (body_texts is) _ (length (body_texts (take k is)) + j) w (omega (arith, n)) (body_get is k i e j w at)
+    behind (instruction_texts x) (body_texts is) _ (length (body_texts (take k is)) + j) w (omega (arith, n))
+    (body_get is k i e j w at)
 
-body_room : (is : List Instruction) (k : ℕ) (i : Instruction) → slice_get is k ≡ Some i → length (body_texts (take k is)) + length (instruction_texts i) ≤ length (body_texts is)
+body_room : (is : List Instruction) (k : ℕ) (i : Instruction) → slice_get is k ≡ Some i → length
+    (body_texts (take k is)) + length (instruction_texts i) ≤ length (body_texts is)
 body_room [] k i e = absurd (cc e)
 body_room (x ∷ is) zero i e =
     let same : x ≡ i = cc e in
@@ -56,17 +62,22 @@ body_room (x ∷ is) (suc k) i e =
     let m = length-append (instruction_texts x) (body_texts (take k is)) in
     omega (arith, rest, n, m)
 
-routines_get : (xs : List TacRoutine) (r : ℕ) (routine : TacRoutine) → slice_get xs r ≡ Some routine → (j w : ℕ) → slice_get (body_texts routine.body) j ≡ Some w → slice_get (routines_texts xs) (length (routines_texts (take r xs)) + j) ≡ Some w
+routines_get : (xs : List TacRoutine) (r : ℕ) (routine : TacRoutine) → slice_get xs r ≡ Some routine → (j w : ℕ)
+    → slice_get (body_texts routine.body) j ≡ Some w → slice_get (routines_texts xs)
+    (length (routines_texts (take r xs)) + j) ≡ Some w
 routines_get [] r routine e j w at = absurd (cc e)
 routines_get (x ∷ xs) zero routine e j w at =
     let same : x ≡ routine = cc e in
     let n : 0 + j ≡ j = omega arith in
-    ap (slice_get (routines_texts (x ∷ xs))) n ∙ get_front (body_texts x.body) (routines_texts xs) j w (ap (λ y. slice_get (body_texts y.body) j) same ∙ at)
+    ap (slice_get (routines_texts (x ∷ xs))) n ∙ get_front (body_texts x.body) (routines_texts xs) j w
+    (ap (λ y. slice_get (body_texts y.body) j) same ∙ at)
 routines_get (x ∷ xs) (suc r) routine e j w at =
     let n = length-append (body_texts x.body) (routines_texts (take r xs)) in
-    behind (body_texts x.body) (routines_texts xs) _ (length (routines_texts (take r xs)) + j) w (omega (arith, n)) (routines_get xs r routine e j w at)
+    behind (body_texts x.body) (routines_texts xs) _ (length (routines_texts (take r xs)) + j) w (omega (arith, n))
+    (routines_get xs r routine e j w at)
 
-routines_room : (xs : List TacRoutine) (r : ℕ) (routine : TacRoutine) → slice_get xs r ≡ Some routine → length (routines_texts (take r xs)) + length (body_texts routine.body) ≤ length (routines_texts xs)
+routines_room : (xs : List TacRoutine) (r : ℕ) (routine : TacRoutine) → slice_get xs r ≡ Some routine → length
+    (routines_texts (take r xs)) + length (body_texts routine.body) ≤ length (routines_texts xs)
 routines_room [] r routine e = absurd (cc e)
 routines_room (x ∷ xs) zero routine e =
     let same : x ≡ routine = cc e in
@@ -82,9 +93,12 @@ routines_room (x ∷ xs) (suc r) routine e =
 module _ (code : Code) (image : Image) (constant : ℕ → ℕ → ℕ) (first : List ℕ) (texted : IsTexted code image constant first) where
   abbrev Placed : ℕ → ℕ → Words → Type 0
   Placed r k ws =
-      (constant r k + length ws ≤ length image.code) × ((i : ℕ) → (x : ℤ) → slice_get ws i ≡ Some (Some (Number x)) → slice_get image.code (constant r k + i) ≡ Some (word_of x))
+      (constant r k + length ws ≤ length image.code)
+      × ((i : ℕ) → (x : ℤ) → slice_get ws i ≡ Some (Some (Number x)) → slice_get image.code (constant r k + i)
+      ≡ Some (word_of x))
 
-  text_placed : (r k : ℕ) (routine : TacRoutine) (t : ℕ) (bytes : List ℕ) → slice_get (routines code) r ≡ Some routine → slice_get routine.body k ≡ Some (Text t bytes) → Placed r k (constant_words bytes)
+  text_placed : (r k : ℕ) (routine : TacRoutine) (t : ℕ) (bytes : List ℕ) → slice_get (routines code) r ≡ Some routine
+      → slice_get routine.body k ≡ Some (Text t bytes) → Placed r k (constant_words bytes)
   text_placed r k routine t bytes is here =
       let lt = get_within routine.body k (Text t bytes) here in
       let at = texted.places r k routine is lt in
@@ -96,20 +110,25 @@ module _ (code : Code) (image : Image) (constant : ℕ → ℕ → ℕ) (first :
         omega (arith, at, whole, n, a, b, m),
         λ i x e. let w = get_word (constant_words bytes) i (Some (Number x)) e in
             let inside = body_get routine.body k (Text t bytes) here i (word_of x) w in
-            let outside = routines_get (routines code) r routine is (length (body_texts (take k routine.body)) + i) (word_of x) inside in
-            ap (λ ws. slice_get ws (constant r k + i)) texted.words ∙ behind first (routines_texts (routines code)) (constant r k + i) (length (routines_texts (take r (routines code))) + (length (body_texts (take k routine.body)) + i)) (word_of x) (omega (arith, at)) outside,
+            let outside = routines_get (routines code) r routine is (length (body_texts (take k routine.body)) + i)
+            (word_of x) inside in
+            ap (λ ws. slice_get ws (constant r k + i)) texted.words ∙ behind first (routines_texts (routines code))
+            (constant r k + i) (length (routines_texts (take r (routines code)))
+            + (length (body_texts (take k routine.body)) + i)) (word_of x) (omega (arith, at)) outside,
       )
 
   pub texts_placed : (r k : ℕ) (ws : Words) → constant_at (text_at code r k) ≡ Some ws → Placed r k ws
   texts_placed r k ws e = by_routine (slice_get (routines code) r) refl e
     where
-      by_instruction : (routine : TacRoutine) → slice_get (routines code) r ≡ Some routine → (o : Option Instruction) → slice_get routine.body k ≡ o → constant_at (text_of o) ≡ Some ws → Placed r k ws
+      by_instruction : (routine : TacRoutine) → slice_get (routines code) r ≡ Some routine → (o : Option Instruction)
+          → slice_get routine.body k ≡ o → constant_at (text_of o) ≡ Some ws → Placed r k ws
       by_instruction routine is None here e = absurd (cc e)
       by_instruction routine is (Some (Text t bytes)) here e =
           let same : constant_words bytes ≡ ws = cc e in
           subst (Placed r k) same (text_placed r k routine t bytes is here)
       by_instruction routine is (Some _) here e = absurd (cc e)
 
-      by_routine : (o : Option TacRoutine) → slice_get (routines code) r ≡ o → constant_at (text_of (body_at o k)) ≡ Some ws → Placed r k ws
+      by_routine : (o : Option TacRoutine) → slice_get (routines code) r ≡ o → constant_at (text_of (body_at o k))
+          ≡ Some ws → Placed r k ws
       by_routine None is e = absurd (cc e)
       by_routine (Some routine) is e = by_instruction routine is (slice_get routine.body k) refl e

@@ -1,6 +1,7 @@
--- A program's words in their order: the start, then each routine's entry and instructions, then the constants. Its places are sums of
--- counts, and the rows of its tables are read off the pieces.
-use Rattle.std.specs.Prelude.{◌≡◌, ℕ, suc, ◌+◌, ◌*◌, ◌%◌, ◌<◌, ◌≤◌, false, List, [], ◌∷◌, ◌++◌, length, map, take, slice_get, Option, Some, ℤ}
+-- A program's words in their order: the start, then each routine's entry and instructions, then the constants. Its
+-- places are sums of counts, and the rows of its tables are read off the pieces.
+use Rattle.std.specs.Prelude.{◌≡◌, ℕ, suc, ◌+◌, ◌*◌, ◌%◌, ◌<◌, ◌≤◌, false, List, [], ◌∷◌, ◌++◌, length, map, take}
+use Rattle.std.specs.Prelude.{slice_get, Option, Some, ℤ}
 use Rattle.tac_code.specs.declared.code.Instruction.{Instruction}
 use Rattle.tac_code.specs.declared.code.Instruction.TheVariants.{Text}
 use Rattle.tac_code.specs.declared.code.Value.{Value}
@@ -22,7 +23,7 @@ use Rattle.risc_emit_forms.specs.Forms.{form, entry_form}
 use Rattle.risc_emit_laws.specs.Plan.{object_cost, Plan, context}
 use Rattle.risc_emit_laws.specs.Emits.{start_form, IsLaidOut}
 
--- what pieces hang on: the code, the homes and the layout, not where words stand
+-- what pieces depend on: the code, the homes and the layout, not where words are
 pub record Alike (c c' : Context) : Type 0 where
   pub code : c'.code ≡ c.code
   pub homes : c'.homes ≡ c.homes
@@ -85,7 +86,7 @@ abbrev pub call_rows_of : ℕ → List Piece → List CallRow
 call_rows_of at [] = []
 call_rows_of at (p ∷ ps) = call_row_of at p ++ call_rows_of (at + 1) ps
 
--- ---- the words of the constants, behind the pieces
+-- ---- the words of the constants, after the pieces
 
 abbrev pub value_word : Option Value → ℕ
 value_word (Some (Number x)) = word_of x
@@ -111,10 +112,11 @@ abbrev pub text_place : Code → ℕ → TacRoutine → ℕ → ℕ
 text_place code r routine k =
     length (routines_texts (take r (routines code))) + length (body_texts (take k routine.body))
 
--- the words of an image's code are so many and then those of the constants, and the plan tells where these are
+-- the words of an image's code are `first` and then those of the constants, and the plan says where these are
 pub record IsTexted (code : Code) (image : Image) (constant : ℕ → ℕ → ℕ) (first : List ℕ) : Type 0 where
   pub words : image.code ≡ first ++ routines_texts (routines code)
-  pub places : (r k : ℕ) (routine : TacRoutine) → slice_get (routines code) r ≡ Some routine → k < length routine.body → constant r k ≡ length first + text_place code r routine k
+  pub places : (r k : ℕ) (routine : TacRoutine) → slice_get (routines code) r ≡ Some routine → k < length routine.body
+      → constant r k ≡ length first + text_place code r routine k
 
 -- a row for each routine of the program, from a number on, and for each type of objects
 module _ (c : Context) where
@@ -138,7 +140,7 @@ module _ (c : Context) where
     pub costs : (r : ℕ) → c.costs r % 4 ≡ 0
     pub sizes : (t : ℕ) → c.sizes t % 4 ≡ 0
 
--- ---- an image that is drawn so
+-- ---- an image that is built so
 
 module _ (code : Code) (homes : List Home) (image : Image) (plan : Plan) (c : Context) where
   -- c has the layout, but no places
@@ -146,14 +148,22 @@ module _ (code : Code) (homes : List Home) (image : Image) (plan : Plan) (c : Co
     pub of_code : c.code ≡ code
     pub alike : (heap stack : ℕ) → Alike c (context code homes plan image heap stack)
     pub laid : (heap stack : ℕ) → IsLaidOut (context code homes plan image heap stack)
-    -- the plan's places are those of the pieces; of a routine also the one behind its last instruction
-    pub entries : (r : ℕ) (routine : TacRoutine) → slice_get (routines code) r ≡ Some routine → plan.entry r ≡ entry_place c r
-    pub sites : (r k : ℕ) (routine : TacRoutine) → slice_get (routines code) r ≡ Some routine → k ≤ length routine.body → plan.site r k ≡ site_place c r routine k
+    -- the plan's places are those of the pieces; for a routine also the one after its last instruction
+    pub entries : (r : ℕ) (routine : TacRoutine) → slice_get (routines code) r ≡ Some routine → plan.entry r
+        ≡ entry_place c r
+    pub sites : (r k : ℕ) (routine : TacRoutine) → slice_get (routines code) r ≡ Some routine → k ≤ length routine.body
+        → plan.site r k ≡ site_place c r routine k
     -- as in Stand
-    pub parameters : (r : ℕ) (routine : TacRoutine) → is_program c r ≡ false → slice_get (routines code) r ≡ Some routine → 8 + 4 * routine.parameters ≤ plan.link_at r
-    pub texts : (r k : ℕ) (ws : Words) → constant_at (text_at code r k) ≡ Some ws → (plan.constant r k + length ws ≤ length image.code) × ((i : ℕ) → (x : ℤ) → slice_get ws i ≡ Some (Some (Number x)) → slice_get image.code (plan.constant r k + i) ≡ Some (word_of x))
-    pub sizes : (t bytes : ℕ) → slice_get code.objects t ≡ Some bytes → (object_cost image t % 4 ≡ 0) × (bytes ≤ object_cost image t) × (4 ≤ object_cost image t) × (object_cost image t < 4294967296)
+    pub parameters : (r : ℕ) (routine : TacRoutine) → is_program c r ≡ false → slice_get (routines code) r
+        ≡ Some routine → 8 + 4 * routine.parameters ≤ plan.link_at r
+    pub texts : (r k : ℕ) (ws : Words) → constant_at (text_at code r k) ≡ Some ws
+        → (plan.constant r k + length ws ≤ length image.code)
+        × ((i : ℕ) → (x : ℤ) → slice_get ws i ≡ Some (Some (Number x)) → slice_get image.code (plan.constant r k + i)
+        ≡ Some (word_of x))
+    pub sizes : (t bytes : ℕ) → slice_get code.objects t ≡ Some bytes → (object_cost image t % 4 ≡ 0)
+        × (bytes ≤ object_cost image t) × (4 ≤ object_cost image t) × (object_cost image t < 4294967296)
     pub few : length (program_pieces c) ≤ 1048576
-    pub words : (heap stack at : ℕ) (p : Piece) → slice_get (program_pieces c) at ≡ Some p → IsAt image.code at (instr_at (context code homes plan image heap stack) at p)
+    pub words : (heap stack at : ℕ) (p : Piece) → slice_get (program_pieces c) at ≡ Some p → IsAt image.code at
+        (instr_at (context code homes plan image heap stack) at p)
     pub traps : image.traps ≡ trap_rows_of 0 (program_pieces c)
     pub calls : image.calls ≡ Some (call_rows_of 0 (program_pieces c))

@@ -1,5 +1,5 @@
--- What a loaded image shows, with the lines of the calls that are open at an error: they are walked from the state in which the machine
--- stopped, by the image's table of calls.
+-- What a loaded image shows, with the lines of the calls that are open at an error: they are found by a walk from the
+-- state in which the machine stopped, by the image's table of calls.
 use Rattle.std.specs.Prelude.{ℕ, zero, suc, List, length, Option, option_map, slice_index}
 use Rattle.behavior.specs.Endings.{Ending, More, Normal, Fault}
 use Rattle.behavior.specs.Transcripts.{Shown}

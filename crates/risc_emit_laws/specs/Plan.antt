@@ -1,4 +1,4 @@
--- A program placed in an image: where its parts stand, and what the image's tables make of it in a memory.
+-- A program placed in an image: where its parts are, and what the image's tables make of it in a memory.
 use Rattle.std.specs.Prelude.{ℕ, ◌+◌, ◌-◌, ◌*◌, List, length, Option, option_map, get_or}
 use Rattle.tac_code.specs.Meaning.{Code}
 use Rattle.risc_alloc.specs.declared.homes.Home.{Home}
@@ -21,9 +21,9 @@ object_cost image t = get_or (object_bytes image) t 0
 abbrev pub trap_of : Image → ℕ → Option (ℕ × ℕ)
 trap_of image link = option_map (λ row. (row.error, row.line)) (trap_at link image.traps)
 
--- The word at which an instruction's words begin (routine and place), a routine's entry, a constant (routine and place of its
--- instruction); and for each routine the offsets in its frame: of the link, of the first slot, of the frame block and of the scratch
--- block, and the end of what is used.
+-- The word at which an instruction's words begin (routine and place), a routine's entry, a constant (routine and place
+-- of its instruction); and for each routine the offsets in its frame: of the link, of the first slot, of the frame
+-- block and of the scratch block, and the end of what is used.
 pub record Plan : Type 0 where
   pub site : ℕ → ℕ → ℕ
   pub entry : ℕ → ℕ
@@ -34,8 +34,8 @@ pub record Plan : Type 0 where
   pub scratch_at : ℕ → ℕ
   pub used : ℕ → ℕ
 
--- The code, with its temporaries' homes, as it stands in the image, with so many bytes of heap and stack. A call's last words accept its
--- result, so it comes back to where these begin.
+-- The code, with its temporaries' homes, as it is in the image, with `heap` bytes of heap and `stack` of stack. A
+-- call's last words accept its result, so it comes back to where these begin.
 abbrev pub before_resumes : Code → List Home → Plan → Image → (heap stack : ℕ) → Context
 before_resumes code homes plan image heap stack =
     let heap_at = 4 * length image.code + image.global in

@@ -1,6 +1,7 @@
 -- Lists with an element changed, functions with one value changed, tests.
 use Rattle.risc_emit_relation.specs.Changes.{update}
-use Rattle.std.proofs.Common.{◌≡◌, ◌≢◌, ℕ, zero, suc, ◌<◌, ◌⊎◌, inl, inr, Bool, true, false, nat_eq, List, [], ◌∷◌, length, Some, slice_get, slice_set, refl, sym, ap, subst, arith}
+use Rattle.std.proofs.Common.{◌≡◌, ◌≢◌, ℕ, zero, suc, ◌<◌, ◌⊎◌, inl, inr, Bool, true, false, nat_eq, List, [], ◌∷◌}
+use Rattle.std.proofs.Common.{length, Some, slice_get, slice_set, refl, sym, ap, subst, arith}
 
 pub eqb_same : (a : ℕ) → nat_eq a a ≡ true
 eqb_same a = grind arith
@@ -25,7 +26,8 @@ get_set_same [] i v h = absurd (omega arith)
 get_set_same (x ∷ xs) zero v h = refl
 get_set_same (x ∷ xs) (suc i) v h = get_set_same xs i v (omega arith)
 
-pub get_set_other : {X : Type 0} (xs : List X) (i j : ℕ) (v : X) → j ≢ i → slice_get (slice_set xs i v) j ≡ slice_get xs j
+pub get_set_other : {X : Type 0} (xs : List X) (i j : ℕ) (v : X) → j ≢ i → slice_get (slice_set xs i v) j
+    ≡ slice_get xs j
 get_set_other [] i j v h = refl
 get_set_other (x ∷ xs) zero zero v h = absurd (h refl)
 get_set_other (x ∷ xs) zero (suc j) v h = refl

@@ -1,5 +1,7 @@
--- A placed program of two routines, one of them of the run-time library, worked out by hand: what the relation asks can be met.
-use Rattle.std.proofs.Common.{◌≡◌, ◌≢◌, ℕ, zero, suc, ◌+◌, ◌*◌, ◌%◌, ◌<◌, ◌≤◌, Bool, true, false, ◌||◌, nat_eq, nat_lt, if◌then◌else◌, List, [], ◌∷◌, Some, None, slice_get, pos, refl, ap, ◌∙◌, arith}
+-- A placed program of two routines, one from the run-time library, computed by hand: what the relation requires can be
+-- met.
+use Rattle.std.proofs.Common.{◌≡◌, ◌≢◌, ℕ, zero, suc, ◌+◌, ◌*◌, ◌%◌, ◌<◌, ◌≤◌, Bool, true, false, ◌||◌, nat_eq, nat_lt}
+use Rattle.std.proofs.Common.{if◌then◌else◌, List, [], ◌∷◌, Some, None, slice_get, pos, refl, ap, ◌∙◌, arith}
 use Rattle.tac_code.specs.declared.code.Instruction.TheVariants.{Literal, Call, Arithmetic, Store, Load, Return, End}
 use Rattle.tac_code.specs.declared.code.Operator.TheVariants.{Add}
 use Rattle.tac_code.specs.declared.code.Operand.TheVariants as operand
@@ -12,7 +14,8 @@ use Rattle.risc_alloc.specs.declared.homes.Home.TheVariants.{Slot, Reg}
 use Rattle.risc_alloc.specs.Flow.{is_among}
 use Rattle.risc_alloc.specs.Homes.{temporaries_in}
 use Rattle.risc_alloc.specs.Alive.{Used, Passed}
-use Rattle.risc_emit_relation.specs.Context.{Context, home, reads, writes, called, IsAlive, IsPlaced, is_program, slot_at, IsLaid}
+use Rattle.risc_emit_relation.specs.Context.{Context, home, reads, writes, called, IsAlive, IsPlaced, is_program}
+use Rattle.risc_emit_relation.specs.Context.{slot_at, IsLaid}
 use Rattle.risc_emit_relation.specs.Related.{Machine, Related, started_places}
 use Rattle.risc_emit_relation.specs.Laws.{RelationIsMet}
 use Rattle.risc_emit_relation.proofs.Start.{related_starts}
@@ -20,11 +23,26 @@ use Rattle.risc_emit_relation.proofs.Start.{related_starts}
 -- the first temporary is alive across the call
 abbrev pub block : TacRoutine
 block =
-    record { parameters = 0; temporaries = 2; frame = 8; scratch = 4; line = 3; body = Literal 0 (pos 5) ∷ Call 1 1 (0 ∷ []) 4 ∷ Arithmetic Add 1 1 (operand.Temporary 0) 1 4 ∷ Store base.Frame 0 1 ∷ End ∷ [] }
+    record {
+      parameters = 0;
+      temporaries = 2;
+      frame = 8;
+      scratch = 4;
+      line = 3;
+      body = Literal 0 (pos 5) ∷ Call 1 1 (0 ∷ []) 4 ∷ Arithmetic Add 1 1 (operand.Temporary 0) 1 4
+          ∷ Store base.Frame 0 1 ∷ End ∷ [];
+    }
 
 abbrev pub leaf : TacRoutine
 leaf =
-    record { parameters = 1; temporaries = 2; frame = 4; scratch = 0; line = 1; body = Store base.Frame 0 0 ∷ Load 1 base.Frame 0 ∷ Return 1 ∷ [] }
+    record {
+      parameters = 1;
+      temporaries = 2;
+      frame = 4;
+      scratch = 0;
+      line = 1;
+      body = Store base.Frame 0 0 ∷ Load 1 base.Frame 0 ∷ Return 1 ∷ [];
+    }
 
 abbrev pub code : Code
 code = record { program = block ∷ []; run_time = leaf ∷ []; objects = [] }
@@ -39,7 +57,27 @@ either a b (suc r) = b
 
 abbrev pub example : Context
 example =
-    record { code = code; costs = either 292 0; sizes = λ t. 4; homes = homes; site = λ r k. 10 + 20 * r + 3 * k; entry = λ r. 10 + 20 * r; constant = λ r k. 0; resume = λ r k t. 9 + 20 * r + 3 * k; line = λ l. None; trap = λ l. None; link_at = either 0 40; slots_at = either 276 44; frame_at = either 280 48; scratch_at = either 288 52; used = either 292 52; heap_at = 400; base = 1400; size = 3400; bottom = 3108 }
+    record {
+      code = code;
+      costs = either 292 0;
+      sizes = λ t. 4;
+      homes = homes;
+      site = λ r k. 10 + 20 * r + 3 * k;
+      entry = λ r. 10 + 20 * r;
+      constant = λ r k. 0;
+      resume = λ r k t. 9 + 20 * r + 3 * k;
+      line = λ l. None;
+      trap = λ l. None;
+      link_at = either 0 40;
+      slots_at = either 276 44;
+      frame_at = either 280 48;
+      scratch_at = either 288 52;
+      used = either 292 52;
+      heap_at = 400;
+      base = 1400;
+      size = 3400;
+      bottom = 3108;
+    }
 
 slots_in : (r t k : ℕ) → home example r t ≡ Slot k → slot_at example r k + 4 ≤ either 280 48 r
 slots_in zero zero k e = let z : 0 ≡ k = cc e in omega (arith, z)
@@ -50,7 +88,9 @@ slots_in (suc zero) (suc zero) k e = let z : 0 ≡ k = cc e in omega (arith, z)
 slots_in (suc zero) (suc (suc t)) k e = absurd (cc e)
 slots_in (suc (suc r)) t k e = absurd (cc e)
 
-frames_in : (r : ℕ) (routine : TacRoutine) → slice_get (routines code) r ≡ Some routine → (routine.frame % 4 ≡ 0) × (either 280 48 r + routine.frame ≤ either 288 52 r) × (routine.scratch % 4 ≡ 0) × (either 288 52 r + routine.scratch ≤ either 292 52 r)
+frames_in : (r : ℕ) (routine : TacRoutine) → slice_get (routines code) r ≡ Some routine → (routine.frame % 4 ≡ 0)
+    × (either 280 48 r + routine.frame ≤ either 288 52 r) × (routine.scratch % 4 ≡ 0)
+    × (either 288 52 r + routine.scratch ≤ either 292 52 r)
 frames_in zero routine e =
     let z : block ≡ routine = cc e in
     let f : 8 ≡ routine.frame = ap (λ x. x.frame) z in
@@ -93,7 +133,8 @@ example_laid =
     linked zero = omega arith
     linked (suc r) = omega arith
 
-    fours : (r : ℕ) → (either 0 40 r % 4 ≡ 0) × (either 276 44 r % 4 ≡ 0) × (either 280 48 r % 4 ≡ 0) × (either 288 52 r % 4 ≡ 0)
+    fours : (r : ℕ) → (either 0 40 r % 4 ≡ 0) × (either 276 44 r % 4 ≡ 0) × (either 280 48 r % 4 ≡ 0)
+        × (either 288 52 r % 4 ≡ 0)
     fours zero = (refl, refl, refl, refl)
     fours (suc r) = (refl, refl, refl, refl)
 
@@ -101,7 +142,8 @@ example_laid =
     wholes zero = refl
     wholes (suc r) = refl
 
-    programs : (r : ℕ) → is_program example r ≡ true → (either 0 40 r ≡ 0) × (276 ≤ either 276 44 r) × (either 292 52 r ≤ either 292 0 r)
+    programs : (r : ℕ) → is_program example r ≡ true → (either 0 40 r ≡ 0) × (276 ≤ either 276 44 r)
+        × (either 292 52 r ≤ either 292 0 r)
     programs zero e = (refl, omega arith, omega arith)
     programs (suc r) e = absurd (no r e)
       where
@@ -211,7 +253,8 @@ example_valid =
     slots_few (suc zero) (suc (suc t)) j e = absurd (cc e)
     slots_few (suc (suc r)) t j e = absurd (cc e)
 
-    parameters_few : (r t : ℕ) (routine : TacRoutine) → slice_get (routines code) r ≡ Some routine → t < routine.parameters → t < 2
+    parameters_few : (r t : ℕ) (routine : TacRoutine) → slice_get (routines code) r ≡ Some routine
+        → t < routine.parameters → t < 2
     parameters_few zero t routine e lt =
         let z : block ≡ routine = cc e in
         let n : 0 ≡ routine.parameters = ap (λ x. x.parameters) z in
@@ -236,7 +279,8 @@ example_valid =
     the_call (suc zero) (suc (suc (suc (suc k)))) t e = absurd (cc e)
     the_call (suc (suc r)) (suc k) t e = absurd (cc e)
 
-    across : (r k t u : ℕ) → called example r k t ≡ true → IsAlive example r k u → u ≢ t → (j : ℕ) × (home example r u ≡ Slot j)
+    across : (r k t u : ℕ) → called example r k t ≡ true → IsAlive example r k u → u ≢ t → (j : ℕ)
+        × (home example r u ≡ Slot j)
     across r k t u e live ne =
         let z = the_call r k t e in
         let a = small_alive r k u live in
@@ -245,15 +289,36 @@ example_valid =
 
 -- ---- the start
 
--- the registers and words behind the entry of the program block
+-- the registers and words after the entry of the program block
 abbrev started : Machine
 started =
-    record { registers = λ q. 3108; words = λ a. if nat_eq a 3108 then 0 else if nat_eq a 3112 then 3400 else if nat_eq a 3376 then 1400 else 400 }
+    record {
+      registers = λ q. 3108;
+      words = λ a. if nat_eq a 3108 then 0 else if nat_eq a 3112 then 3400 else if nat_eq a 3376 then 1400 else 400;
+    }
 
-pub example_starts : (G : ℕ → ℕ) (S H : ℕ) (input : List ℕ) → Related example (started_places example) (entered code (either 292 0) G S H block 0 [] 0 0 [] (before input)) started 3108
+pub example_starts : (G : ℕ → ℕ) (S H : ℕ) (input : List ℕ) → Related example (started_places example)
+    (entered code (either 292 0) G S H block 0 [] 0 0 [] (before input)) started 3108
 example_starts G S H input =
-    related_starts example example_laid G S H input started block refl (omega arith) (record { link = refl; back = refl; limit = refl; next = refl; stack = refl; globals = refl })
+    related_starts example example_laid G S H input started block refl (omega arith) (record {
+      link = refl;
+      back = refl;
+      limit = refl;
+      next = refl;
+      stack = refl;
+      globals = refl;
+    })
 
 pub relation_is_met : RelationIsMet
-relation_is_met =
-    (example, example_laid, example_valid, refl, started, λ input. (entered code (either 292 0) (λ t. 4) 2000 1000 block 0 [] 0 0 [] (before input), example_starts (λ t. 4) 2000 1000 input))
+relation_is_met = (
+  example,
+  example_laid,
+  example_valid,
+  refl,
+  started,
+  λ input. (
+    entered code (either 292 0) (λ t. 4) 2000 1000 block 0 [] 0 0 [] (before input),
+    example_starts
+        (λ t. 4) 2000 1000 input,
+  ),
+)

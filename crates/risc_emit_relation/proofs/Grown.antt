@@ -61,18 +61,25 @@ module _ (c : Context) (p q : Places) (g : Grown p q) where
         call = h.call;
         resume = h.resume;
         line = h.line;
-        saved = λ u k v live ne e is. let s = h.saved u k v live ne e is in (value_grown v s.0, s.1 ∙ sym (word_grown v s.0));
+        saved = λ u k v live ne e is. let s = h.saved u k v live ne e is
+            in (value_grown v s.0, s.1 ∙ sym (word_grown v s.0));
       }
 
-  pub open_grown : (w : ℕ → ℕ) (f : ℕ) (y : Owner) (xs : List Activation) (bs ds : List Living) → Open c p w f y xs bs ds → Open c q w f y xs bs ds
+  pub open_grown : (w : ℕ → ℕ) (f : ℕ) (y : Owner) (xs : List Activation) (bs ds : List Living)
+      → Open c p w f y xs bs ds → Open c q w f y xs bs ds
   open_grown w f y xs [] ds h = absurd h
   open_grown w f y xs (b ∷ bs) [] h = absurd h
   open_grown w f y [] (b ∷ bs) (d ∷ ds) h = (own_grown w f y b d h.0, h.1, h.2, h.3)
-  open_grown w f y (x ∷ xs) (b ∷ bs) (d ∷ ds) h =
-      (own_grown w f y b d h.0, waits_grown w _ x y _ h.1, open_grown w (f + cost c y.routine) (owner_of x) xs bs ds h.2)
+  open_grown w f y (x ∷ xs) (b ∷ bs) (d ∷ ds) h = (
+    own_grown w f y b d h.0,
+    waits_grown w _ x y _ h.1,
+    open_grown w (f + cost c y.routine)
+        (owner_of x) xs bs ds h.2,
+  )
 
   -- of the objects as many as before: a new one is added by `objects_made`
-  pub stands_grown : (w : ℕ → ℕ) (n : ℕ) (ws : Words) (next next' : ℕ) → n < p.objects → next ≤ next' → Stands c p w n ws next → Stands c q w n ws next'
+  pub stands_grown : (w : ℕ → ℕ) (n : ℕ) (ws : Words) (next next' : ℕ) → n < p.objects → next ≤ next'
+      → Stands c p w n ws next → Stands c q w n ws next'
   stands_grown w n ws next next' lt le s =
       let e = g.object n lt in
       record {
@@ -83,7 +90,8 @@ module _ (c : Context) (p q : Places) (g : Grown p q) where
         holds = subst (λ a. Holds c q w a ws) (sym e) (holds_grown w _ ws s.holds);
       }
 
-  pub objects_grown : (w : ℕ → ℕ) (objects : List Words) (next : ℕ) → q.objects ≡ p.objects → Objects c p w objects next → Objects c q w objects next
+  pub objects_grown : (w : ℕ → ℕ) (objects : List Words) (next : ℕ) → q.objects ≡ p.objects → Objects c p w objects next
+      → Objects c q w objects next
   objects_grown w objects next same h =
       record {
         count = h.count ∙ sym same;

@@ -1,5 +1,6 @@
 -- The laws that the search does not find by itself.
-use Rattle.risc_emit_relation.specs.Laws.{LoadsFind, OperandsStand, RelatedEnters, RelatedGives, RelatedGoes, RelatedLeaves, RelatedMakes, StackIsExact, RelatedStores}
+use Rattle.risc_emit_relation.specs.Laws.{LoadsFind, OperandsStand, RelatedEnters, RelatedGives, RelatedGoes}
+use Rattle.risc_emit_relation.specs.Laws.{RelatedLeaves, RelatedMakes, StackIsExact, RelatedStores}
 use Rattle.risc_emit_relation.proofs.Kept as kept_lemmas
 use Rattle.risc_emit_relation.proofs.Steps as steps_lemmas
 use Rattle.risc_emit_relation.proofs.Calls as calls_lemmas
@@ -32,5 +33,9 @@ pub stack_is_exact : StackIsExact
 stack_is_exact = walk_lemmas.stack_exact
 
 pub related_stores : RelatedStores
-related_stores =
-    (λ offset v c laid valid p s m m' f at memory. steps_lemmas.related_stores c laid valid p s m m' f at memory (IsStored offset v), λ k byte c laid valid p s m m' f at memory. steps_lemmas.related_stores c laid valid p s m m' f at memory (IsByteStored k byte))
+related_stores = (
+  λ offset v c laid valid p s m m' f at memory. steps_lemmas.related_stores c laid valid p s m m' f at memory
+      (IsStored offset v),
+  λ k byte c laid valid p s m m' f at memory. steps_lemmas.related_stores c laid valid p s m
+      m' f at memory (IsByteStored k byte),
+)

@@ -21,7 +21,19 @@ module _ (c : Context) (laid : IsLaid c) where
         rise = λ m n ws vs lt e e'. absurd (cc e);
       }
 
-  first_own : (w : ℕ → ℕ) (routine : TacRoutine) → slice_get (routines c.code) 0 ≡ Some routine → w (c.bottom + 4) ≡ c.bottom + cost c 0 → Own c (started_places c) w c.bottom (record { routine = 0; number = 0; result = 0; line = 0 }) (record { number = 0; words = unwritten routine.frame }) (record { number = 0; words = unwritten routine.scratch })
+  first_own : (w : ℕ → ℕ) (routine : TacRoutine) → slice_get (routines c.code) 0 ≡ Some routine → w (c.bottom + 4)
+      ≡ c.bottom + cost c 0 → Own c (started_places c) w c.bottom (record {
+        routine = 0;
+        number = 0;
+        result = 0;
+        line = 0;
+      }) (record {
+        number = 0;
+        words = unwritten routine.frame;
+      }) (record {
+        number = 0;
+        words = unwritten routine.scratch;
+      })
   first_own w routine is back =
       let lf = laid.frame 0 routine is in
       let ls = laid.scratch 0 routine is in
@@ -40,7 +52,9 @@ module _ (c : Context) (laid : IsLaid c) where
         back = λ e. back;
       }
 
-  pub related_starts : (G : ℕ → ℕ) (S H : ℕ) (input : List ℕ) (m : Machine) (routine : TacRoutine) → slice_get (routines c.code) 0 ≡ Some routine → c.base ≤ c.bottom → Starting c m → Related c (started_places c) (entered c.code c.costs G S H routine 0 [] 0 0 [] (before input)) m c.bottom
+  pub related_starts : (G : ℕ → ℕ) (S H : ℕ) (input : List ℕ) (m : Machine) (routine : TacRoutine) → slice_get
+      (routines c.code) 0 ≡ Some routine → c.base ≤ c.bottom → Starting c m → Related c (started_places c)
+      (entered c.code c.costs G S H routine 0 [] 0 0 [] (before input)) m c.bottom
   related_starts G S H input m routine is room h =
       let k = cost_program c 0 laid.first in
       let q = program_room c laid (started_places c) 0 laid.first in
@@ -52,7 +66,17 @@ module _ (c : Context) (laid : IsLaid c) where
         held = record {
           aligned = omega (arith, laid.bottom, whole, laid.even.2);
           low = room;
-          frames = (first_own m.words routine is (h.back ∙ sym top), record { routine = refl; number = refl; top = top; unlinked = h.link }, refl, refl);
+          frames = (
+            first_own m.words routine is (h.back ∙ sym top),
+            record {
+              routine = refl;
+              number = refl;
+              top = top;
+              unlinked = h.link;
+            },
+            refl,
+            refl,
+          );
           objects = no_object m.words _;
           limit = h.limit;
           next = h.next ∙ plus_zero c.heap_at;

@@ -1,5 +1,6 @@
--- What words of the machine change of the relation: what a step writes, a store, a call and a return, a new object.
-use Rattle.std.specs.Prelude.{◌≡◌, ◌≢◌, ℕ, suc, ◌+◌, ◌*◌, ◌%◌, ◌<◌, ◌≤◌, ◌⊎◌, true, false, nat_eq, if◌then◌else◌, List, [], ◌∷◌, ◌++◌, length, slice_get, Option, Some, ℤ}
+-- How words of the machine change the relation: what a step writes, a store, a call and a return, a new object.
+use Rattle.std.specs.Prelude.{◌≡◌, ◌≢◌, ℕ, suc, ◌+◌, ◌*◌, ◌%◌, ◌<◌, ◌≤◌, ◌⊎◌, true, false, nat_eq, if◌then◌else◌, List}
+use Rattle.std.specs.Prelude.{[], ◌∷◌, ◌++◌, length, slice_get, Option, Some, ℤ}
 use Rattle.tac_code.specs.declared.code.Value.{Value}
 use Rattle.tac_code.specs.declared.code.Value.TheVariants.{Number}
 use Rattle.tac_code.specs.declared.code.TacRoutine.{TacRoutine}
@@ -8,7 +9,8 @@ use Rattle.tac_code.specs.Memory.{Words, Memory, constant_at}
 use Rattle.tac_code.specs.Meaning.{routines, put, Activation, State, unwritten, without_first, text_at}
 use Rattle.risc_alloc.specs.declared.homes.Home.{Home}
 use Rattle.risc_alloc.specs.declared.homes.Home.TheVariants.{Slot, Reg}
-use Rattle.risc_emit_relation.specs.Context.{Context, home, writes, leads, called, IsAlive, is_program, cost, slot_at, Places, word, IsValue}
+use Rattle.risc_emit_relation.specs.Context.{Context, home, writes, leads, called, IsAlive, is_program, cost, slot_at}
+use Rattle.risc_emit_relation.specs.Context.{Places, word, IsValue}
 use Rattle.risc_emit_relation.specs.Related.{Holds, Held, Machine, value_of}
 
 -- a function with one value changed
@@ -32,7 +34,7 @@ pub record Settled (c : Context) (r f : ℕ) (h : Home) (n : ℕ) (m m' : Machin
 
 -- ---- loads and stores by address
 
--- a block's words stand from an address on, within memory
+-- a block's words are in memory from an address on
 pub record Found (c : Context) (p : Places) (w : ℕ → ℕ) (at : ℕ) (ws : Words) : Type 0 where
   pub aligned : at % 4 ≡ 0
   pub high : at + 4 * length ws ≤ c.size
@@ -43,7 +45,7 @@ abbrev pub ConstantsStand : Context → Places → (ℕ → ℕ) → Type 0
 ConstantsStand c p w =
     (r k : ℕ) (ws : Words) → constant_at (text_at c.code r k) ≡ Some ws → Found c p w (4 * c.constant r k) ws
 
--- the word at an address, and what it is of
+-- the word at an address, and its value
 pub record Loaded (c : Context) (p : Places) (w : ℕ → ℕ) (at : ℕ) (v : Value) : Type 0 where
   pub aligned : at % 4 ≡ 0
   pub high : at + 4 ≤ c.size
@@ -56,11 +58,12 @@ pub record ByteLoaded (c : Context) (p : Places) (w : ℕ → ℕ) (at k byte : 
   pub word : Loaded c p w at (Number number)
   pub is : byte ≡ byte_of number k
 
--- what is known of the word that stood at an address
+-- what is known of the word that was at an address
 abbrev pub StoodAt : Context → Places → (ℕ → ℕ) → ℕ → Option Value → Type 0
 StoodAt c p w at o = (v : Value) → o ≡ Some v → IsValue c p v × (w at ≡ word c p v)
 
--- The relation after a change in memory, and the word that changes it in the machine. Q tells how the new value comes from the old one.
+-- The relation after a change in memory, and the word that changes it in the machine. Q relates the new value to the
+-- old one.
 pub record Kept (c : Context) (p : Places) (s : State) (m' : Memory) (w : ℕ → ℕ) (f at : ℕ) (Q : Option Value → Value → Type 0) : Type 0 where
   pub value : Value
   pub before : Option Value
@@ -69,7 +72,7 @@ pub record Kept (c : Context) (p : Places) (s : State) (m' : Memory) (w : ℕ �
   pub aligned : at % 4 ≡ 0
   pub low : c.heap_at ≤ at
   pub high : at + 4 ≤ c.size
-  -- not among the slots of the innermost activation, nor in front of them in its frame
+  -- not among the slots of the innermost activation, nor before them in its frame
   pub beside : (at + 4 ≤ f) ⊎ (f + c.frame_at s.current.routine ≤ at)
   pub held : Held c p (record s { memory = m' }) (update at (word c p value) w) f
 
@@ -86,7 +89,13 @@ IsByteStored k byte o x = (z : ℤ) × (o ≡ Some (Number z)) × (x ≡ Number 
 -- the names of a new activation's blocks
 abbrev pub entered_places : Context → Places → ℕ → ℕ → ℕ → Places
 entered_places c p n g q =
-    record { frame = update n (g + c.frame_at q) p.frame; scratch = update n (g + c.scratch_at q) p.scratch; object = p.object; activations = suc n; objects = p.objects }
+    record {
+      frame = update n (g + c.frame_at q) p.frame;
+      scratch = update n (g + c.scratch_at q) p.scratch;
+      object = p.object;
+      activations = suc n;
+      objects = p.objects;
+    }
 
 -- What the words of a call and of the callee's entry do: the caller's frame at f, the callee's at g, the link l.
 pub record Entering (c : Context) (p : Places) (s : State) (m m' : Machine) (f g q t line l : ℕ) (routine : TacRoutine) (values : List Value) : Type 0 where
@@ -101,19 +110,21 @@ pub record Entering (c : Context) (p : Places) (s : State) (m m' : Machine) (f g
   pub row : is_program c q ≡ true → c.line l ≡ Some line
   pub link : m'.words (g + c.link_at q) ≡ l
   pub back : is_program c q ≡ true → m'.words (g + 4) ≡ f
-  -- operands, and the frame of a run-time routine, lie at 8 to 268 of the caller's frame
+  -- operands, and the frame of a run-time routine, are at 8 to 268 of the caller's frame
   pub same : (a : ℕ) → f ≤ a → (a < f + 8) ⊎ (f + 268 ≤ a) → m'.words a ≡ m.words a
   pub heap : (a : ℕ) → a + 4 ≤ c.base → m'.words a ≡ m.words a
   pub stack : m'.registers 14 ≡ g
   pub globals : m'.registers 13 ≡ m.registers 13
-  pub homes : (j : ℕ) (v : Value) → IsAlive c q 0 j → slice_get values j ≡ Some v → IsValue c p v × (value_of c q g m' (home c q j) ≡ word c p v)
+  pub homes : (j : ℕ) (v : Value) → IsAlive c q 0 j → slice_get values j ≡ Some v → IsValue c p v
+      × (value_of c q g m' (home c q j) ≡ word c p v)
 
 -- What the words of a return and of the caller's receiving do: x is the caller, its frame at f' above.
 pub record Leaving (c : Context) (p : Places) (s : State) (x : Activation) (m m' : Machine) (f' : ℕ) (v : Value) : Type 0 where
   pub good : IsValue c p v
   pub here : value_of c x.routine f' m' (home c x.routine s.current.result) ≡ word c p v
   -- slots other than the result's
-  pub slots : (j : ℕ) → Slot j ≢ home c x.routine s.current.result → m'.words (f' + slot_at c x.routine j) ≡ m.words (f' + slot_at c x.routine j)
+  pub slots : (j : ℕ) → Slot j ≢ home c x.routine s.current.result → m'.words (f' + slot_at c x.routine j) ≡ m.words
+      (f' + slot_at c x.routine j)
   pub words : (a : ℕ) → (a < f' + c.slots_at x.routine) ⊎ (f' + c.frame_at x.routine ≤ a) → m'.words a ≡ m.words a
   pub stack : m'.registers 14 ≡ f'
   pub globals : m'.registers 13 ≡ m.registers 13
@@ -121,14 +132,25 @@ pub record Leaving (c : Context) (p : Places) (s : State) (x : Activation) (m m'
 -- back in the caller, with the result
 abbrev pub left : Value → Activation → List Activation → State → State
 left v x xs s =
-    record s { current = record x { temporaries = put x.temporaries s.current.result v }; callers = xs; memory = record s.memory { frames = without_first s.memory.frames; scratch = without_first s.memory.scratch } }
+    record s {
+      current = record x { temporaries = put x.temporaries s.current.result v };
+      callers = xs;
+      memory = record
+          s.memory { frames = without_first s.memory.frames; scratch = without_first s.memory.scratch };
+    }
 
 -- ---- objects
 
 -- the name of a new object
 abbrev pub made_places : Places → ℕ → ℕ → Places
 made_places p n at =
-    record { frame = p.frame; scratch = p.scratch; object = update n at p.object; activations = p.activations; objects = suc n }
+    record {
+      frame = p.frame;
+      scratch = p.scratch;
+      object = update n at p.object;
+      activations = p.activations;
+      objects = suc n;
+    }
 
 -- the machine with the heap's next address moved on
 abbrev pub advanced : Context → Machine → ℕ → Machine

@@ -1,6 +1,7 @@
--- What the relation between code and machine asks of a placed program: where instructions, routines, constants and temporaries stand,
--- and how frames are laid out. The names of blocks have addresses in a map that grows with the run.
-use Rattle.std.specs.Prelude.{◌≡◌, ◌≢◌, ℕ, suc, ◌+◌, ◌*◌, ◌%◌, ◌<◌, ◌≤◌, Bool, true, false, nat_lt, List, length, slice_get, Option, Some, ℤ, negsuc, pos, ◌≤ℤ◌}
+-- What the relation between code and machine requires of a placed program: where instructions, routines, constants and
+-- temporaries are, and how frames are laid out. The names of blocks have addresses in a map that grows with the run.
+use Rattle.std.specs.Prelude.{◌≡◌, ◌≢◌, ℕ, suc, ◌+◌, ◌*◌, ◌%◌, ◌<◌, ◌≤◌, Bool, true, false, nat_lt, List, length}
+use Rattle.std.specs.Prelude.{slice_get, Option, Some, ℤ, negsuc, pos, ◌≤ℤ◌}
 use Rattle.tac_code.specs.declared.code.Block.{Block}
 use Rattle.tac_code.specs.declared.code.Block.TheVariants.{Frame, Scratch, Object, Constant}
 use Rattle.tac_code.specs.declared.code.Value.{Value}
@@ -27,13 +28,14 @@ pub record Context : Type 0 where
   pub site : ℕ → ℕ → ℕ
   pub entry : ℕ → ℕ
   pub constant : ℕ → ℕ → ℕ
-  -- routine, place, temporary: the word at which a call, the instruction before the place, comes back with a result for the temporary
+  -- routine, place, temporary: the word at which a call, the instruction before the place, comes back with a result for
+  -- the temporary
   pub resume : ℕ → ℕ → ℕ → ℕ
   -- the line of the call that comes back to a link
   pub line : ℕ → Option ℕ
   -- the number of an error and its line, by the link of the stop
   pub trap : ℕ → Option (ℕ × ℕ)
-  -- offsets in the frame of a routine: the link, the first slot, the frame block, the scratch block, the end of what is used
+  -- offsets in a routine's frame: the link, the first slot, the frame block, the scratch block, the end of what is used
   pub link_at : ℕ → ℕ
   pub slots_at : ℕ → ℕ
   pub frame_at : ℕ → ℕ
@@ -85,11 +87,11 @@ pub record Writes (c : Context) (r k t : ℕ) : Type 0 where
 
 -- ---- frames
 
--- a routine of the program; the others belong to the run-time library and stand within their caller's frame
+-- a routine of the program; the others belong to the run-time library, and their frames are within their caller's
 abbrev pub is_program : Context → ℕ → Bool
 is_program c r = nat_lt r (length c.code.program)
 
--- how far the caller's frame lies above
+-- the distance up to the caller's frame
 abbrev pub cost : Context → ℕ → ℕ
 cost c r = frame_cost c.code c.costs r
 
@@ -98,7 +100,7 @@ slot_at c r k = c.slots_at r + 4 * k
 
 -- ---- addresses
 
--- The address of each block, by its number, and how many numbers of activations and of objects were given out.
+-- The address of each block, by its number, and how many numbers of activations and of objects were assigned.
 pub record Places : Type 0 where
   pub frame : ℕ → ℕ
   pub scratch : ℕ → ℕ
@@ -122,7 +124,7 @@ word c p (Routine r) = 4 * c.entry r
 abbrev pub IsNumber : ℤ → Type 0
 IsNumber z = (negsuc 2147483647 ≤ℤ z) × (z ≤ℤ pos 2147483647)
 
--- a name that was given out
+-- a name that was assigned
 abbrev pub IsNamed : Places → Block → Type 0
 IsNamed p (Frame a) = a < p.activations
 IsNamed p (Scratch a) = a < p.activations
@@ -134,7 +136,7 @@ IsValue c p (Number z) = IsNumber z
 IsValue c p (Address block offset) = IsNamed p block × (offset < 2147483648)
 IsValue c p (Routine r) = r < length (routines c.code)
 
--- q gives out more names and keeps the addresses of those of p
+-- q assigns more names and keeps the addresses of those of p
 pub record Grown (p q : Places) : Type 0 where
   pub activations : p.activations ≤ q.activations
   pub objects : p.objects ≤ q.objects
@@ -142,7 +144,7 @@ pub record Grown (p q : Places) : Type 0 where
   pub scratch : (a : ℕ) → a < p.activations → q.scratch a ≡ p.scratch a
   pub object : (n : ℕ) → n < p.objects → q.object n ≡ p.object n
 
--- all addresses lie below the device page
+-- all addresses are below the device page
 pub record AreLow (p : Places) : Type 0 where
   pub frame : (a : ℕ) → p.frame a < 16777216
   pub scratch : (a : ℕ) → p.scratch a < 16777216
@@ -150,17 +152,21 @@ pub record AreLow (p : Places) : Type 0 where
 
 -- ---- the layout
 
--- Offsets rise from the link to the end of what is used. A program's routine keeps bytes 8 to 276 free for operands, the frame of a
--- run-time routine that it calls, and in the program block's frame the stack's limit (268) and the next address of the heap (272).
+-- Offsets rise from the link to the end of what is used. A program's routine keeps bytes 8 to 276 free for operands,
+-- the frame of a run-time routine that it calls, and in the program block's frame the stack's limit (268) and the next
+-- address of the heap (272).
 pub record IsLaid (c : Context) : Type 0 where
   pub link : (r : ℕ) → c.link_at r + 4 ≤ c.slots_at r
   pub slots : (r t k : ℕ) → home c r t ≡ Slot k → slot_at c r k + 4 ≤ c.frame_at r
   pub slots_before : (r : ℕ) → c.slots_at r ≤ c.frame_at r
-  pub frame : (r : ℕ) (routine : TacRoutine) → slice_get (routines c.code) r ≡ Some routine → (routine.frame % 4 ≡ 0) × (c.frame_at r + routine.frame ≤ c.scratch_at r)
-  pub scratch : (r : ℕ) (routine : TacRoutine) → slice_get (routines c.code) r ≡ Some routine → (routine.scratch % 4 ≡ 0) × (c.scratch_at r + routine.scratch ≤ c.used r)
+  pub frame : (r : ℕ) (routine : TacRoutine) → slice_get (routines c.code) r ≡ Some routine → (routine.frame % 4 ≡ 0)
+      × (c.frame_at r + routine.frame ≤ c.scratch_at r)
+  pub scratch : (r : ℕ) (routine : TacRoutine) → slice_get (routines c.code) r ≡ Some routine
+      → (routine.scratch % 4 ≡ 0) × (c.scratch_at r + routine.scratch ≤ c.used r)
   pub frame_before : (r : ℕ) → c.frame_at r ≤ c.scratch_at r
   pub scratch_before : (r : ℕ) → c.scratch_at r ≤ c.used r
-  pub aligned : (r : ℕ) → (c.link_at r % 4 ≡ 0) × (c.slots_at r % 4 ≡ 0) × (c.frame_at r % 4 ≡ 0) × (c.scratch_at r % 4 ≡ 0)
+  pub aligned : (r : ℕ) → (c.link_at r % 4 ≡ 0) × (c.slots_at r % 4 ≡ 0) × (c.frame_at r % 4 ≡ 0)
+      × (c.scratch_at r % 4 ≡ 0)
   pub whole : (r : ℕ) → c.costs r % 4 ≡ 0
   pub program : (r : ℕ) → is_program c r ≡ true → (c.link_at r ≡ 0) × (276 ≤ c.slots_at r) × (c.used r ≤ c.costs r)
   pub leaf : (r : ℕ) → is_program c r ≡ false → (8 ≤ c.link_at r) × (c.used r ≤ 268)

@@ -1,4 +1,5 @@
--- The states of the code and of the machine that belong together. Of the machine this speaks of registers and words, as functions.
+-- The states of the code and of the machine that belong together. Of the machine this uses registers and words, as
+-- functions.
 use Rattle.std.specs.Prelude.{◌≡◌, ◌≢◌, ℕ, ◌+◌, ◌*◌, ◌%◌, ◌<◌, ◌≤◌, true, List, [], ◌∷◌, length, slice_get, Some}
 use Rattle.tac_code.specs.declared.code.Value.{Value}
 use Rattle.tac_code.specs.declared.code.TacRoutine.{TacRoutine}
@@ -6,15 +7,17 @@ use Rattle.tac_code.specs.Memory.{Words, Living}
 use Rattle.tac_code.specs.Meaning.{routines, Temporaries, Activation, State}
 use Rattle.risc_alloc.specs.declared.homes.Home.{Home}
 use Rattle.risc_alloc.specs.declared.homes.Home.TheVariants.{Slot, Reg}
-use Rattle.risc_emit_relation.specs.Context.{Context, home, called, IsAlive, is_program, cost, slot_at, Places, word, IsValue, AreLow}
+use Rattle.risc_emit_relation.specs.Context.{Context, home, called, IsAlive, is_program, cost, slot_at, Places, word}
+use Rattle.risc_emit_relation.specs.Context.{IsValue, AreLow}
 
--- a block's written words stand in memory, from an address on
+-- a block's written words are in memory, from an address on
 abbrev pub Holds : Context → Places → (ℕ → ℕ) → ℕ → Words → Type 0
 Holds c p w at ws = (i : ℕ) (x : Value) → slice_get ws i ≡ Some (Some x) → IsValue c p x × (w (at + 4 * i) ≡ word c p x)
 
 -- ---- frames
 
--- What the frames above ask of an activation. Its temporaries and its place are left out, so a step within the activation changes nothing here.
+-- What the frames above require of an activation. Its temporaries and its place are left out, so a step within the
+-- activation changes nothing here.
 pub record Owner : Type 0 where
   pub routine : ℕ
   pub number : ℕ
@@ -46,9 +49,10 @@ pub record Waits (c : Context) (p : Places) (w : ℕ → ℕ) (f : ℕ) (x : Act
   pub call : called c x.routine x.place y.result ≡ true
   pub resume : link ≡ 4 * c.resume x.routine x.place y.result
   pub line : is_program c y.routine ≡ true → c.line link ≡ Some y.line
-  pub saved : (u k : ℕ) (v : Value) → IsAlive c x.routine x.place u → u ≢ y.result → x.temporaries u ≡ Some v → home c x.routine u ≡ Slot k → IsValue c p v × (w (f + slot_at c x.routine k) ≡ word c p v)
+  pub saved : (u k : ℕ) (v : Value) → IsAlive c x.routine x.place u → u ≢ y.result → x.temporaries u ≡ Some v
+      → home c x.routine u ≡ Slot k → IsValue c p v × (w (f + slot_at c x.routine k) ≡ word c p v)
 
--- the program block's frame ends memory, and was linked to by nobody
+-- the program block's frame ends memory, and has no caller to return to
 pub record Outermost (c : Context) (f : ℕ) (y : Owner) (link : ℕ) : Type 0 where
   pub routine : y.routine ≡ 0
   pub number : y.number ≡ 0
@@ -62,7 +66,8 @@ Open c p w f y xs (b ∷ bs) [] = ⊥
 Open c p w f y [] (b ∷ bs) (d ∷ ds) =
     Own c p w f y b d × Outermost c f y (w (f + c.link_at y.routine)) × (bs ≡ []) × (ds ≡ [])
 Open c p w f y (x ∷ xs) (b ∷ bs) (d ∷ ds) =
-    Own c p w f y b d × Waits c p w (f + cost c y.routine) x y (w (f + c.link_at y.routine)) × Open c p w (f + cost c y.routine) (owner_of x) xs bs ds
+    Own c p w f y b d × Waits c p w (f + cost c y.routine) x y (w (f + c.link_at y.routine)) × Open c p w
+    (f + cost c y.routine) (owner_of x) xs bs ds
 
 -- ---- objects
 
@@ -73,11 +78,12 @@ pub record Stands (c : Context) (p : Places) (w : ℕ → ℕ) (n : ℕ) (ws : W
   pub high : p.object n + 4 * length ws ≤ next
   pub holds : Holds c p w (p.object n) ws
 
--- the objects, one behind the other, up to the next address of the heap
+-- the objects, one after the other, up to the next address of the heap
 pub record Objects (c : Context) (p : Places) (w : ℕ → ℕ) (objects : List Words) (next : ℕ) : Type 0 where
   pub count : length objects ≡ p.objects
   pub each : (n : ℕ) (ws : Words) → slice_get objects n ≡ Some ws → Stands c p w n ws next
-  pub rise : (m n : ℕ) (ws vs : Words) → m < n → slice_get objects m ≡ Some ws → slice_get objects n ≡ Some vs → (p.object m + 4 ≤ p.object n) × (p.object m + 4 * length ws ≤ p.object n)
+  pub rise : (m n : ℕ) (ws vs : Words) → m < n → slice_get objects m ≡ Some ws → slice_get objects n ≡ Some vs
+      → (p.object m + 4 ≤ p.object n) × (p.object m + 4 * length ws ≤ p.object n)
 
 -- ---- the whole
 
@@ -106,7 +112,7 @@ abbrev pub value_of : Context → ℕ → ℕ → Machine → Home → ℕ
 value_of c r f m (Slot k) = m.words (f + slot_at c r k)
 value_of c r f m (Reg q) = m.registers q
 
--- what is alive at a place stands in its home
+-- what is alive at a place is in its home
 abbrev pub Homes : Context → Places → ℕ → ℕ → ℕ → Temporaries → Machine → Type 0
 Homes c p r k f ts m =
     (u : ℕ) (x : Value) → IsAlive c r k u → ts u ≡ Some x → IsValue c p x × (value_of c r f m (home c r u) ≡ word c p x)
@@ -123,9 +129,16 @@ pub record Related (c : Context) (p : Places) (s : State) (m : Machine) (f : ℕ
 -- the blocks of the program block, which has no objects yet
 abbrev pub started_places : Context → Places
 started_places c =
-    record { frame = λ a. c.bottom + c.frame_at 0; scratch = λ a. c.bottom + c.scratch_at 0; object = λ n. c.heap_at; activations = 1; objects = 0 }
+    record {
+      frame = λ a. c.bottom + c.frame_at 0;
+      scratch = λ a. c.bottom + c.scratch_at 0;
+      object = λ n. c.heap_at;
+      activations = 1;
+      objects = 0;
+    }
 
--- What the first words and the entry of the program block make: its frame, linked to by nobody, the stack's limit and an empty heap.
+-- What the first words and the entry of the program block set up: its frame, with no caller to return to, the stack's
+-- limit and an empty heap.
 pub record Starting (c : Context) (m : Machine) : Type 0 where
   pub link : m.words (c.bottom + c.link_at 0) ≡ 0
   pub back : m.words (c.bottom + 4) ≡ c.size

@@ -1,24 +1,27 @@
 //! Laws: the relation between states of three-address code and of the machine, and that each kind of step keeps it.
 //!
-//! They serve those who follow an instruction by its words. The functions do nothing when they run; each stands for
-//! its contract.
+//! For those who follow an instruction by its words. The functions do nothing when they run; each stands for its
+//! contract.
 #![tactic(auto)]
 
-ghost use Rattle.risc_emit_relation.specs.Laws.{RelatedStarts, RelationIsMet, OperandsStand, RelatedGoes, RelatedGives, LoadsFind, BytesFound, StoresKeep, ByteStoresKeep, RelatedStores, RelatedEnters, RelatedLeaves, RelatedMakes, WalkIsOpenCalls, StackIsExact, HeapIsExact};
+ghost use Rattle.risc_emit_relation.specs.Laws.{RelatedStarts, RelationIsMet, OperandsStand, RelatedGoes, RelatedGives};
+ghost use Rattle.risc_emit_relation.specs.Laws.{LoadsFind, BytesFound, StoresKeep, ByteStoresKeep, RelatedStores};
+ghost use Rattle.risc_emit_relation.specs.Laws.{RelatedEnters, RelatedLeaves, RelatedMakes, WalkIsOpenCalls};
+ghost use Rattle.risc_emit_relation.specs.Laws.{StackIsExact, HeapIsExact};
 
-/// Behind the entry of the program block the states belong together.
+/// After the entry of the program block the states belong together.
 #[tactic(auto, using(crate::proofs::Start::related_starts))]
 pub fn related_starts()
     ensures { RelatedStarts }
 {}
 
-/// What the relation asks can be met.
+/// What the relation requires can be met.
 #[tactic(auto, using(crate::proofs::Example::relation_is_met))]
 pub fn relation_is_met()
     ensures { RelationIsMet }
 {}
 
-/// What an instruction reads stands in its home.
+/// What an instruction reads is in its home.
 pub fn operands_stand()
     ensures { OperandsStand }
 {}
@@ -82,7 +85,7 @@ pub fn walk_is_open_calls()
     ensures { WalkIsOpenCalls }
 {}
 
-/// The test of a routine's entry is that of the stack's budget.
+/// The test at a routine's entry is that of the stack's budget.
 pub fn stack_is_exact()
     ensures { StackIsExact }
 {}

@@ -1,5 +1,6 @@
 -- Lines as numbers and a count: one more keeps them so.
-use Rattle.std.proofs.Common.{◌≡◌, ℕ, suc, ◌+◌, ◌-◌, ◌<◌, List, [], ◌∷◌, ◌++◌, length, take, arith, sym, ap, ◌∙◌, append_assoc, length-append}
+use Rattle.std.proofs.Common.{◌≡◌, ℕ, suc, ◌+◌, ◌-◌, ◌<◌, List, [], ◌∷◌, ◌++◌, length, take, arith, sym, ap, ◌∙◌}
+use Rattle.std.proofs.Common.{append_assoc, length-append}
 use Rattle.std.specs.Prelude.{replicate, slice_set}
 use Rattle.std.proofs.Math.Seq.{set-append_seam}
 use Rattle.std.proofs.lemmas.List.{take_at}
@@ -28,22 +29,28 @@ module _ (a : Inside) (x : ℕ) (filled : IsFilled a) (low : a.count < 16) where
   put : slice_set a.lines a.count x ≡ told ++ x ∷ rest
   put =
       let room : 16 - length told ≡ suc (15 - a.count) = omega (arith, count, low) in
-      let whole : a.lines ≡ told ++ 0 ∷ rest = sym (ap (λ (i : Inside). i.lines) filled.back) ∙ ap (λ k. told ++ replicate k 0) room in
-      ap (λ ys. slice_set ys a.count x) whole ∙ ap (λ k. slice_set (told ++ 0 ∷ rest) k x) (sym count) ∙ set-append_seam told 0 rest x
+      let whole : a.lines ≡ told ++ 0 ∷ rest = sym (ap (λ (i : Inside). i.lines) filled.back)
+      ∙ ap (λ k. told ++ replicate k 0) room in
+      ap (λ ys. slice_set ys a.count x) whole ∙ ap (λ k. slice_set (told ++ 0 ∷ rest) k x) (sym count)
+      ∙ set-append_seam told 0 rest x
 
   longer : length (told ++ x ∷ []) ≡ a.count + 1
   longer = length-append told (x ∷ []) ∙ ap (λ n. n + 1) count
 
-  -- the line is the last that is told
+  -- the line is the last that is reported
   pub pushed : take (a.count + 1) (slice_set a.lines a.count x) ≡ told ++ x ∷ []
   pushed =
-      ap (take (a.count + 1)) (put ∙ sym (append_assoc told (x ∷ []) rest)) ∙ take_at (told ++ x ∷ []) rest (a.count + 1) longer
+      ap (take (a.count + 1)) (put ∙ sym (append_assoc told (x ∷ []) rest)) ∙ take_at (told ++ x ∷ []) rest
+      (a.count + 1) longer
 
   pub push_fills : IsFilled (record { lines = slice_set a.lines a.count x; count = a.count + 1 })
   push_fills =
       let room : 16 - length (told ++ x ∷ []) ≡ 15 - a.count = omega (arith, longer, low) in
-      let lines : (told ++ x ∷ []) ++ replicate (16 - length (told ++ x ∷ [])) 0 ≡ slice_set a.lines a.count x = ap (λ k. (told ++ x ∷ []) ++ replicate k 0) room ∙ append_assoc told (x ∷ []) rest ∙ sym put in
+      let lines : (told ++ x ∷ []) ++ replicate (16 - length (told ++ x ∷ [])) 0
+      ≡ slice_set a.lines a.count x = ap (λ k. (told ++ x ∷ []) ++ replicate k 0) room ∙ append_assoc told
+      (x ∷ []) rest ∙ sym put in
       record {
         few = omega (arith, low);
-        back = ap with_lines pushed ∙ same_inside ((told ++ x ∷ []) ++ replicate (16 - length (told ++ x ∷ [])) 0) (slice_set a.lines a.count x) (length (told ++ x ∷ [])) (a.count + 1) lines longer;
+        back = ap with_lines pushed ∙ same_inside ((told ++ x ∷ []) ++ replicate (16 - length (told ++ x ∷ [])) 0)
+            (slice_set a.lines a.count x) (length (told ++ x ∷ [])) (a.count + 1) lines longer;
       }

@@ -1,4 +1,4 @@
--- Lines as 16 numbers and a count of those that are told; the others are 0.
+-- Lines as 16 numbers and a count of those that are reported; the others are 0.
 use Rattle.std.specs.Prelude.{◌≡◌, ℕ, ◌-◌, ◌≤◌, List, ◌++◌, length, take, replicate}
 use Rattle.risc_emit_trail.specs.declared.lines.Trail.TheInside.{Inside}
 

@@ -1,4 +1,4 @@
--- What is told of the calls that are open in a machine.
+-- What is reported of the calls that are open in a machine.
 use Rattle.std.specs.Prelude.{ℕ, List, Option, option_map}
 use Rattle.risc_machine.specs.Step.{State}
 use Rattle.risc_image.specs.Image.{Image}

@@ -5,7 +5,7 @@ ghost use Rattle.std.specs.Prelude.{◌≡◌, ◌<◌, ◌≤◌, ◌++◌, [],
 use std::fmt;
 use std::marker::Model;
 
-/// The most lines that are told.
+/// The most lines that are reported.
 pub const MOST: usize = 16;
 
 /// The lines of calls, innermost first: 16 at most. A clause sees them as a list.

@@ -13,7 +13,7 @@ use risc_machine::Machine;
 // The register that holds where the innermost frame begins.
 const FRAME: u8 = 14;
 
-// Whether a memory of so many bytes holds the first two words of a frame: its link, and where the caller's frame begins.
+// Whether a memory of `size` bytes holds the first two words of a frame: its link, and where the caller's frame begins.
 fn is_frame(size: u32, frame: u32) -> bool
     ensures { result ≡ is_frame size frame }
 {
@@ -43,7 +43,8 @@ fn line_of(image: &ImageView<'_>, link: u32) -> Option<u32>
 
 // The line of the call to which a frame belongs, where memory holds the frame.
 fn line_at(machine: &Machine, image: &ImageView<'_>, frame: u32) -> Option<u32>
-    ensures line { result ≡ (if is_frame (length machine.now.memory) frame then line_of image.now (word_at machine.now.memory frame) else None) }
+    ensures line { result ≡ (if is_frame (length machine.now.memory) frame then line_of image.now
+        (word_at machine.now.memory frame) else None) }
     ensures held { IfSome result (λ _. frame + 8 ≤ length machine.now.memory) }
     ensures near { IfSome result (λ _. frame + 8 < 16777216) }
 {
@@ -55,10 +56,11 @@ fn line_at(machine: &Machine, image: &ImageView<'_>, frame: u32) -> Option<u32>
     }
 }
 
-// The lines of so many open calls at most, from the innermost frame on.
+// The lines of at most `most` open calls, from the innermost frame on.
 fn walked(machine: &Machine, image: &ImageView<'_>, most: usize) -> Trail
     requires { most ≤ MOST }
-    ensures { result ≡ walk (line_of image.now) (length machine.now.memory) most (word_at machine.now.memory) (reg machine.now 14) }
+    ensures { result ≡ walk (line_of image.now) (length machine.now.memory) most (word_at machine.now.memory)
+        (reg machine.now 14) }
 {
     let mut trail = Trail::new();
     let mut frame = machine.reg(FRAME);
@@ -75,10 +77,10 @@ fn walked(machine: &Machine, image: &ImageView<'_>, most: usize) -> Trail
 /// The lines of the calls that are open in a machine that stopped, innermost first, 16 at most; `None` where the image
 /// is of the first version, which has no table of calls.
 ///
-/// The walk begins at the frame that R14 points to. A frame's first word is the link of its call, whose line the table
-/// has, and its second the address of the caller's frame. It ends at a link that is not in the table, and at an address
-/// that is no multiple of 4 or whose eight bytes do not all lie within memory. It takes no memory, and is safe on any
-/// machine and any image.
+/// The walk begins at the frame that R14 points to. A frame's first word is the link of its call, whose line is in the
+/// table, and its second the address of the caller's frame. It ends at a link that is not in the table, and at an
+/// address that is not a multiple of 4 or whose eight bytes are not all within memory. It allocates no memory, and is
+/// safe on any machine and any image.
 pub fn trail(machine: &Machine, image: &ImageView<'_>) -> Option<Trail>
     ensures { result ≡ trail_of image.now machine.now }
 {

@@ -1,13 +1,16 @@
 -- An image passes the checks before the tables.
-use Rattle.std.proofs.Common.{◌≡◌, ℕ, ◌+◌, ◌*◌, ◌≤◌, true, false, List, [], ◌++◌, length, get_or, drop, Option, Some, None, refl, ap, ◌∙◌, arith}
+use Rattle.std.proofs.Common.{◌≡◌, ℕ, ◌+◌, ◌*◌, ◌≤◌, true, false, List, [], ◌++◌, length, get_or, drop, Option, Some}
+use Rattle.std.proofs.Common.{None, refl, ap, ◌∙◌, arith}
 use Rattle.std.specs.Prelude.{nat_lt, unwrap_or, is_some}
 use Rattle.std.specs.List.{flat_map}
 use Rattle.std.proofs.lemmas.Bool.{le-ltb}
 use Rattle.std.proofs.lemmas.List.{length-append}
 use Rattle.risc_image.specs.declared.rows.CallRow.{CallRow}
 use Rattle.risc_image.specs.Image.{Image, limit, call_rows}
-use Rattle.risc_image.specs.Format.{magic_of, count_of, header, word_bytes, frame_words, object_words, trap_words, call_words, image_words, IsImage}
-use Rattle.risc_image.specs.Refusal.{begins_as_image, is_second, header_length, header_word, call_count, longest, asked_length, first_fault}
+use Rattle.risc_image.specs.Format.{magic_of, count_of, header, word_bytes, frame_words, object_words, trap_words}
+use Rattle.risc_image.specs.Format.{call_words, image_words, IsImage}
+use Rattle.risc_image.specs.Refusal.{begins_as_image, is_second, header_length, header_word, call_count, longest}
+use Rattle.risc_image.specs.Refusal.{asked_length, first_fault}
 use Rattle.risc_image.specs.Header.{Passes}
 use Rattle.risc_image.specs.Table.{words}
 use Rattle.risc_image.proofs.Spelled.{word_bytes_length, words-word_bytes}
@@ -52,18 +55,27 @@ measures bytes image is = record {
   word = λ k. ap (λ (x : List ℕ). get_or (words (drop 4 x)) k 0) is.spelled
       ∙ ap (λ (x : List ℕ). get_or (words x) k 0) (behind image.calls (word_bytes (image_words image)))
       ∙ ap (λ (x : List ℕ). get_or x k 0) (words-word_bytes (image_words image) is.numbers);
-  length = ap (λ (x : List ℕ). length x) is.spelled ∙ length-append (magic_of image.calls) (word_bytes (image_words image)) ∙ omega (arith, magic_length image.calls, word_bytes_length (image_words image));
+  length = ap (λ (x : List ℕ). length x) is.spelled ∙ length-append (magic_of image.calls)
+      (word_bytes (image_words image)) ∙ omega (arith, magic_length image.calls, word_bytes_length (image_words image));
 }
 
 -- how many words an image has
-words_of_image : (image : Image) → length (image_words image) ≡ 5 + length (count_of image.calls) + length image.code + 2 * length image.frames + 2 * length image.objects + 3 * length image.traps + 2 * length (call_rows image)
+words_of_image : (image : Image) → length (image_words image) ≡ 5 + length (count_of image.calls) + length image.code
+    + 2 * length image.frames + 2 * length image.objects + 3 * length image.traps + 2 * length (call_rows image)
 words_of_image image =
     omega (
       arith,
-      length-append (header image) (image.code ++ (flat_map frame_words image.frames ++ (flat_map object_words image.objects ++ (flat_map trap_words image.traps ++ flat_map call_words (call_rows image))))),
-      length-append image.code (flat_map frame_words image.frames ++ (flat_map object_words image.objects ++ (flat_map trap_words image.traps ++ flat_map call_words (call_rows image)))),
-      length-append (flat_map frame_words image.frames) (flat_map object_words image.objects ++ (flat_map trap_words image.traps ++ flat_map call_words (call_rows image))),
-      length-append (flat_map object_words image.objects) (flat_map trap_words image.traps ++ flat_map call_words (call_rows image)),
+      length-append (header image) (image.code
+          ++ (flat_map frame_words image.frames ++ (flat_map object_words image.objects
+          ++ (flat_map trap_words image.traps ++ flat_map call_words (call_rows image))))),
+      length-append image.code (flat_map frame_words image.frames
+          ++ (flat_map object_words image.objects
+          ++ (flat_map trap_words image.traps ++ flat_map call_words (call_rows image)))),
+      length-append (flat_map frame_words image.frames)
+          (flat_map object_words image.objects ++ (flat_map trap_words image.traps ++ flat_map call_words
+          (call_rows image))),
+      length-append (flat_map object_words image.objects)
+          (flat_map trap_words image.traps ++ flat_map call_words (call_rows image)),
       length-append (flat_map trap_words image.traps) (flat_map call_words (call_rows image)),
       length-frame_words image.frames,
       length-object_words image.objects,
@@ -77,7 +89,8 @@ record Versioned (bytes : List ℕ) (image : Image) : Type 0 where
   calls : call_count bytes ≡ length (call_rows image)
   longest : longest bytes ≡ 33554456 + 8388612 * length (count_of image.calls)
 
-versioned : (bytes : List ℕ) (image : Image) (calls : Option (List CallRow)) → image.calls ≡ calls → Measures bytes image → Versioned bytes image
+versioned : (bytes : List ℕ) (image : Image) (calls : Option (List CallRow)) → image.calls ≡ calls
+    → Measures bytes image → Versioned bytes image
 versioned bytes image None e m =
     let second : is_second bytes ≡ false = m.version ∙ ap (λ (x : Option (List CallRow)). is_some x) e in
     record { header = rw (second, e) refl; calls = rw (second, e) refl; longest = rw (second, e) refl }
@@ -87,7 +100,8 @@ versioned bytes image (Some rows) e m =
     record { header = rw (second, e) refl; calls = rw (second, e) fifth; longest = rw (second, e) refl }
 
 -- only the second version has calls
-few_calls : (calls : Option (List CallRow)) → length (unwrap_or calls []) ≤ limit → length (unwrap_or calls []) ≤ limit * length (count_of calls)
+few_calls : (calls : Option (List CallRow)) → length (unwrap_or calls []) ≤ limit → length
+    (unwrap_or calls []) ≤ limit * length (count_of calls)
 few_calls None few = omega arith
 few_calls (Some rows) few = omega arith
 
@@ -106,7 +120,8 @@ image_passes bytes image is =
     let limits = is.well_formed.limits in
     let few = few_calls image.calls limits.calls in
     let size : length bytes ≡ 4 + 4 * length (image_words image) = m.length in
-    let file : nat_lt (longest bytes) (length bytes) ≡ false = le-ltb _ _ (omega (arith, v.longest, w, size, few, limits.code, limits.frames, limits.objects, limits.traps)) in
+    let file : nat_lt (longest bytes) (length bytes) ≡ false = le-ltb _ _
+    (omega (arith, v.longest, w, size, few, limits.code, limits.frames, limits.objects, limits.traps)) in
     record {
       begins = m.begins;
       long = omega (arith, v.header, w, size);

@@ -1,5 +1,6 @@
 -- Rows in words: what is read was spelled so, and what was spelled is read again.
-use Rattle.std.proofs.Common.{◌≡◌, ℕ, zero, suc, ◌+◌, ◌*◌, ◌/◌, ◌%◌, ◌≤◌, List, [], ◌∷◌, length, get_or, Some, refl, ap, arith}
+use Rattle.std.proofs.Common.{◌≡◌, ℕ, zero, suc, ◌+◌, ◌*◌, ◌/◌, ◌%◌, ◌≤◌, List, [], ◌∷◌, length, get_or, Some, refl}
+use Rattle.std.proofs.Common.{ap, arith}
 use Rattle.std.specs.Prelude.{slice_get}
 use Rattle.std.specs.List.{flat_map}
 use Rattle.risc_image.specs.declared.rows.FrameRow.{FrameRow}
@@ -18,10 +19,17 @@ get_or-past_three a b c rest k j e = let e' : j ≡ suc (suc (suc k)) = omega ar
 
 -- ---- frames
 
-pub frame_row_at : (ws : List ℕ) (k : ℕ) → 2 * k + 2 ≤ length ws → slice_get (frame_rows ws) k ≡ Some (record { entry = get_or ws (2 * k) 0; bytes = get_or ws (2 * k + 1) 0 })
+pub frame_row_at : (ws : List ℕ) (k : ℕ) → 2 * k + 2 ≤ length ws → slice_get (frame_rows ws) k ≡ Some (record {
+  entry = get_or ws (2 * k) 0;
+  bytes = get_or ws (2 * k + 1) 0;
+})
 frame_row_at (a ∷ b ∷ rest) zero fits = refl
 frame_row_at (a ∷ b ∷ rest) (suc k) fits =
-    rw (get_or-past_two a b rest (2 * k) (2 * suc k) (omega arith), get_or-past_two a b rest (2 * k + 1) (2 * suc k + 1) (omega arith)) (frame_row_at rest k (omega arith))
+    rw (
+      get_or-past_two a b rest (2 * k) (2 * suc k) (omega arith),
+      get_or-past_two a b rest (2 * k + 1) (2 * suc k + 1)
+          (omega arith),
+    ) (frame_row_at rest k (omega arith))
 frame_row_at (a ∷ []) k fits = absurd (omega arith)
 frame_row_at [] k fits = absurd (omega arith)
 
@@ -41,10 +49,17 @@ frame_rows-read [] whole = refl
 
 -- ---- objects
 
-pub object_row_at : (ws : List ℕ) (k : ℕ) → 2 * k + 2 ≤ length ws → slice_get (object_rows ws) k ≡ Some (record { pointer_type = get_or ws (2 * k) 0; bytes = get_or ws (2 * k + 1) 0 })
+pub object_row_at : (ws : List ℕ) (k : ℕ) → 2 * k + 2 ≤ length ws → slice_get (object_rows ws) k ≡ Some (record {
+  pointer_type = get_or ws (2 * k) 0;
+  bytes = get_or ws (2 * k + 1) 0;
+})
 object_row_at (a ∷ b ∷ rest) zero fits = refl
 object_row_at (a ∷ b ∷ rest) (suc k) fits =
-    rw (get_or-past_two a b rest (2 * k) (2 * suc k) (omega arith), get_or-past_two a b rest (2 * k + 1) (2 * suc k + 1) (omega arith)) (object_row_at rest k (omega arith))
+    rw (
+      get_or-past_two a b rest (2 * k) (2 * suc k) (omega arith),
+      get_or-past_two a b rest (2 * k + 1) (2 * suc k + 1)
+          (omega arith),
+    ) (object_row_at rest k (omega arith))
 object_row_at (a ∷ []) k fits = absurd (omega arith)
 object_row_at [] k fits = absurd (omega arith)
 
@@ -64,10 +79,20 @@ object_rows-read [] whole = refl
 
 -- ---- traps
 
-pub trap_row_at : (ws : List ℕ) (k : ℕ) → 3 * k + 3 ≤ length ws → slice_get (trap_rows ws) k ≡ Some (record { link = get_or ws (3 * k) 0; error = get_or ws (3 * k + 1) 0; line = get_or ws (3 * k + 2) 0 })
+pub trap_row_at : (ws : List ℕ) (k : ℕ) → 3 * k + 3 ≤ length ws → slice_get (trap_rows ws) k ≡ Some (record {
+  link = get_or ws (3 * k) 0;
+  error = get_or ws (3 * k + 1) 0;
+  line = get_or ws (3 * k + 2) 0;
+})
 trap_row_at (a ∷ b ∷ c ∷ rest) zero fits = refl
 trap_row_at (a ∷ b ∷ c ∷ rest) (suc k) fits =
-    rw (get_or-past_three a b c rest (3 * k) (3 * suc k) (omega arith), get_or-past_three a b c rest (3 * k + 1) (3 * suc k + 1) (omega arith), get_or-past_three a b c rest (3 * k + 2) (3 * suc k + 2) (omega arith)) (trap_row_at rest k (omega arith))
+    rw (
+      get_or-past_three a b c rest (3 * k) (3 * suc k) (omega arith),
+      get_or-past_three a b c rest (3 * k + 1)
+          (3 * suc k + 1) (omega arith),
+      get_or-past_three a b c rest (3 * k + 2) (3 * suc k + 2) (omega arith),
+    )
+    (trap_row_at rest k (omega arith))
 trap_row_at (a ∷ b ∷ []) k fits = absurd (omega arith)
 trap_row_at (a ∷ []) k fits = absurd (omega arith)
 trap_row_at [] k fits = absurd (omega arith)
@@ -90,10 +115,17 @@ trap_rows-read [] whole = refl
 
 -- ---- calls
 
-pub call_row_at : (ws : List ℕ) (k : ℕ) → 2 * k + 2 ≤ length ws → slice_get (call_rows_of ws) k ≡ Some (record { link = get_or ws (2 * k) 0; line = get_or ws (2 * k + 1) 0 })
+pub call_row_at : (ws : List ℕ) (k : ℕ) → 2 * k + 2 ≤ length ws → slice_get (call_rows_of ws) k ≡ Some (record {
+  link = get_or ws (2 * k) 0;
+  line = get_or ws (2 * k + 1) 0;
+})
 call_row_at (a ∷ b ∷ rest) zero fits = refl
 call_row_at (a ∷ b ∷ rest) (suc k) fits =
-    rw (get_or-past_two a b rest (2 * k) (2 * suc k) (omega arith), get_or-past_two a b rest (2 * k + 1) (2 * suc k + 1) (omega arith)) (call_row_at rest k (omega arith))
+    rw (
+      get_or-past_two a b rest (2 * k) (2 * suc k) (omega arith),
+      get_or-past_two a b rest (2 * k + 1) (2 * suc k + 1)
+          (omega arith),
+    ) (call_row_at rest k (omega arith))
 call_row_at (a ∷ []) k fits = absurd (omega arith)
 call_row_at [] k fits = absurd (omega arith)
 

@@ -1,11 +1,11 @@
--- The bytes of an image, cut behind the header and each table, and the image that they hold.
+-- The bytes of an image, cut after the header and each table, and the image that they hold.
 use Rattle.std.specs.Prelude.{◌≡◌, ℕ, ◌*◌, ◌%◌, ◌<◌, Bool, true, false, List, ◌++◌, length, Option, Some, None}
 use Rattle.risc_image.specs.declared.rows.CallRow.{CallRow}
 use Rattle.risc_image.specs.Image.{Image, AreFrames, AreObjects, AreTraps, AreCalls}
 use Rattle.risc_image.specs.Refusal.{is_second, header_length, header_word, call_count}
 use Rattle.risc_image.specs.Table.{words, frame_rows, object_rows, trap_rows, call_rows_of}
 
--- the bytes, cut behind the header and each table
+-- the bytes, cut after the header and each table
 pub record IsCut (bytes front_part code_part frame_part object_part trap_part call_part : List ℕ) : Type 0 where
   pub joined : bytes ≡ front_part ++ (code_part ++ (frame_part ++ (object_part ++ (trap_part ++ call_part))))
   pub front : length front_part ≡ header_length bytes
@@ -15,7 +15,7 @@ pub record IsCut (bytes front_part code_part frame_part object_part trap_part ca
   pub traps : length trap_part ≡ 12 * header_word bytes 4
   pub calls : length call_part ≡ 8 * call_count bytes
 
--- The code and the tables are as the format asks.
+-- The code and the tables are as the format requires.
 pub record AreTables (global : ℕ) (code_part frame_part object_part trap_part call_part : List ℕ) : Type 0 where
   pub some_code : 0 < length code_part
   pub global_aligned : global % 4 ≡ 0

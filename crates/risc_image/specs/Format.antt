@@ -27,7 +27,8 @@ count_of (Some rows) = length rows ∷ []
 -- the global bytes, and the counts of code, frames, objects, traps and, in the second version, calls
 abbrev pub header : Image → List ℕ
 header image =
-    image.global ∷ length image.code ∷ length image.frames ∷ length image.objects ∷ length image.traps ∷ count_of image.calls
+    image.global ∷ length image.code ∷ length image.frames ∷ length image.objects ∷ length image.traps
+    ∷ count_of image.calls
 
 -- the words of a row
 abbrev pub frame_words : FrameRow → List ℕ
@@ -42,7 +43,7 @@ trap_words row = row.link ∷ row.error ∷ row.line ∷ []
 abbrev pub call_words : CallRow → List ℕ
 call_words row = row.link ∷ row.line ∷ []
 
--- all words behind the magic
+-- all words after the magic
 abbrev pub image_words : Image → List ℕ
 image_words image =
     header image ++ (image.code ++ (flat_map frame_words image.frames ++ (flat_map object_words image.objects

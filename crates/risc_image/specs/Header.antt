@@ -1,7 +1,8 @@
 -- The header that bytes begin with, and the checks before the tables.
 use Rattle.std.specs.Prelude.{◌≡◌, ℕ, ◌≤◌, true, false, List, length}
 use Rattle.risc_image.specs.declared.header.Header.{Header}
-use Rattle.risc_image.specs.Refusal.{header_word, asked_calls, begins_as_image, header_length, is_too_large, asked_length}
+use Rattle.risc_image.specs.Refusal.{header_word, asked_calls, begins_as_image, header_length, is_too_large}
+use Rattle.risc_image.specs.Refusal.{asked_length}
 
 pub record IsHeader (bytes : List ℕ) (header : Header) : Type 0 where
   pub global : header.global ≡ header_word bytes 0

@@ -1,5 +1,6 @@
--- What an image holds, and what is asked of it (this project's image format, both versions).
-use Rattle.std.specs.Prelude.{◌≡◌, ℕ, ◌*◌, ◌%◌, ◌<◌, ◌≤◌, List, [], length, map, All, Option, Vec, option_map, unwrap_or}
+-- What an image holds, and what is required of it (this project's image format, both versions).
+use Rattle.std.specs.Prelude.{◌≡◌, ℕ, ◌*◌, ◌%◌, ◌<◌, ◌≤◌, List, [], length, map, All, Option, Vec, option_map}
+use Rattle.std.specs.Prelude.{unwrap_or}
 use Rattle.std.specs.List.Sorted.{IsStrictlyIncreasing}
 use Rattle.risc_image.specs.declared.rows.FrameRow.{FrameRow}
 use Rattle.risc_image.specs.declared.rows.ObjectRow.{ObjectRow}
@@ -15,7 +16,7 @@ pub record Image : Type 0 where
   pub traps : List TrapRow
   pub calls : Option (List CallRow)
 
--- the list of a vector that may be there
+-- the list of an optional vector
 abbrev pub call_list : {A : Type 0} → Option (Vec CallRow A) → Option (List CallRow)
 call_list calls = option_map (λ v. v.items) calls
 
@@ -69,7 +70,7 @@ pub record IsWithinLimits (image : Image) : Type 0 where
   pub traps : length image.traps ≤ limit
   pub calls : length (call_rows image) ≤ limit
 
--- A table: each row is good, and the rows rise by their first number.
+-- A table: each row is good, and the rows ascend by their first number.
 pub record AreFrames (end : ℕ) (rows : List FrameRow) : Type 0 where
   pub each : All (IsFrame end) rows
   pub rising : IsStrictlyIncreasing (map (λ row. row.entry) rows)

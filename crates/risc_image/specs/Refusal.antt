@@ -1,5 +1,6 @@
 -- Which check refuses bytes, in the order of the checks (this project's image format, both versions).
-use Rattle.std.specs.Prelude.{◌≡◌, ℕ, ◌+◌, ◌*◌, Bool, not, ◌||◌, ◌==◌, nat_eq, nat_lt, if◌then◌else◌, List, take, drop, length, slice_index, Option, Some, None, MatchOption, unwrap_or}
+use Rattle.std.specs.Prelude.{◌≡◌, ℕ, ◌+◌, ◌*◌, Bool, not, ◌||◌, ◌==◌, nat_eq, nat_lt, if◌then◌else◌, List, take, drop}
+use Rattle.std.specs.Prelude.{length, slice_index, Option, Some, None, MatchOption, unwrap_or}
 use Rattle.std.specs.List.{starts_with}
 use Rattle.risc_image.specs.declared.refusal.ImageRefusal.{ImageRefusal}
 use Rattle.risc_image.specs.declared.refusal.ImageRefusal.TheVariants.{Magic, Truncated, Trailing, TooLarge, BadTable}
@@ -14,7 +15,7 @@ number_of Trailing = 62
 number_of TooLarge = 63
 number_of BadTable = 64
 
--- those of the first four bytes that are there are the magic's
+-- those of the first four bytes that are there match the magic
 abbrev pub begins_as_image : List ℕ → Bool
 begins_as_image bytes = starts_with nat_eq first_magic (take 4 bytes) || starts_with nat_eq second_magic (take 4 bytes)
 
@@ -48,10 +49,11 @@ is_too_large bytes =
     || nat_lt limit (header_word bytes 2) || nat_lt limit (header_word bytes 3) || nat_lt limit (header_word bytes 4)
     || nat_lt limit (call_count bytes)
 
--- the bytes that the counts ask for
+-- the bytes that the counts require
 abbrev pub asked_length : List ℕ → ℕ
 asked_length bytes =
-    header_length bytes + 4 * header_word bytes 1 + 8 * header_word bytes 2 + 8 * header_word bytes 3 + 12 * header_word bytes 4
+    header_length bytes + 4 * header_word bytes 1 + 8 * header_word bytes 2 + 8 * header_word bytes 3
+    + 12 * header_word bytes 4
     + 8 * call_count bytes
 
 -- the first check of the magic, the header, the limits and the length that fails
@@ -63,7 +65,9 @@ first_fault bytes =
     if nat_lt (length bytes) (asked_length bytes) then Some Truncated else (
     if nat_lt (asked_length bytes) (length bytes) then Some Trailing else None))))
 
--- The bytes are refused so: by the first of those checks that fails, and else, where they are no image, by their tables.
+-- The bytes are refused by the first of those checks that fails, or otherwise, where they are no image, by their
+-- tables.
 abbrev pub IsRefused : List ℕ → ImageRefusal → Type 0
 IsRefused bytes refusal =
-    MatchOption (first_fault bytes) ((refusal ≡ BadTable) × ((image : Image) → IsImage bytes image → ⊥)) (λ first. refusal ≡ first)
+    MatchOption (first_fault bytes) ((refusal ≡ BadTable) × ((image : Image) → IsImage bytes image → ⊥))
+    (λ first. refusal ≡ first)

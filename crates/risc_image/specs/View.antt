@@ -15,7 +15,7 @@ image_of a = record {
   calls = option_map (λ table. call_rows_of (words table)) (option_copied a.calls);
 }
 
--- The code is whole words, a table is whole rows, and the image is as the format asks.
+-- The code is whole words, a table is whole rows, and the image is as the format requires.
 pub record IsSound (a : Inside) : Type 0 where
   pub code : word_bytes (words a.code.now) ≡ a.code.now
   pub frames : length a.frames.now % 8 ≡ 0

@@ -1,4 +1,4 @@
-//! The bytes of an image, cut behind the header and each table.
+//! The bytes of an image, cut after the header and each table.
 
 ghost use Rattle.std.specs.Prelude.{take};
 ghost use Rattle.risc_image.specs.Refusal.{header_length};
@@ -21,7 +21,8 @@ pub struct Pieces<'a> {
 pub fn pieces_of<'a>(bytes: &'a [u8], header: Header) -> Pieces<'a>
     requires passes { Passes bytes.now }
     requires header { IsHeader bytes.now header }
-    ensures { IsCut bytes.now (take (header_length bytes.now) bytes.now) result.code.now result.frames.now result.objects.now result.traps.now result.calls.now }
+    ensures { IsCut bytes.now (take (header_length bytes.now) bytes.now) result.code.now result.frames.now
+        result.objects.now result.traps.now result.calls.now }
 {
     let (_, rest) = bytes.split_at(header_length(bytes));
     let (code, rest) = rest.split_at(4 * header.code as usize);

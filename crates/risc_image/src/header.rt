@@ -1,7 +1,8 @@
-//! The magic and the header of an image, and the length that its counts ask for.
+//! The magic and the header of an image, and the length that its counts require.
 
 ghost use Rattle.std.specs.Prelude.{◌≡◌, ◌<◌, ◌≤◌, ◌+◌, ◌*◌, Bool, Some, None, length, OnOk, IfOk, IfErr, slice_index};
-ghost use Rattle.risc_image.specs.Refusal.{begins_as_image, is_second, header_length, header_word, asked_calls, asked_length, is_too_large, first_fault};
+ghost use Rattle.risc_image.specs.Refusal.{begins_as_image, is_second, header_length, header_word, asked_calls};
+ghost use Rattle.risc_image.specs.Refusal.{asked_length, is_too_large, first_fault};
 ghost use Rattle.risc_image.specs.Header.{IsHeader, Passes};
 
 use crate::refusal::ImageRefusal;
@@ -30,7 +31,7 @@ pub struct Header {
     pub calls: Option<u32>,
 }
 
-// Whether those of the first four bytes that are there are a magic's.
+// Whether those of the first four bytes that are there match a magic.
 fn begins_as_image(bytes: &[u8]) -> bool
     ensures { result ≡ begins_as_image bytes.now }
 {
@@ -97,7 +98,7 @@ fn is_too_large(bytes: &[u8], header: Header) -> bool
         || header.calls.unwrap_or(0) > LIMIT
 }
 
-// The bytes that the counts ask for.
+// The bytes that the counts require.
 fn asked_length(bytes: &[u8], header: Header) -> usize
     requires { IsHeader bytes.now header }
     ensures { result ≡ asked_length bytes.now }

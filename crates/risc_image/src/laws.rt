@@ -11,6 +11,7 @@ ghost use Rattle.risc_image.specs.declared.refusal.ImageRefusal.{ImageRefusal};
 pub fn format_is_exact()
     ensures once { (bytes : List ℕ) (a b : Image) → IsImage bytes a → IsImage bytes b → a ≡ b }
     ensures one_spelling { (bytes other : List ℕ) (a : Image) → IsImage bytes a → IsImage other a → bytes ≡ other }
-    ensures apart { (bytes : List ℕ) (a : Image) (refusal : ImageRefusal) → IsImage bytes a → ¬ IsRefused bytes refusal }
+    ensures apart { (bytes : List ℕ) (a : Image) (refusal : ImageRefusal) → IsImage bytes a
+        → ¬ IsRefused bytes refusal }
     ensures refused_once { (bytes : List ℕ) (a b : ImageRefusal) → IsRefused bytes a → IsRefused bytes b → a ≡ b }
 {}

@@ -11,16 +11,16 @@ pub enum ImageRefusal {
     /// One of the first four bytes that are there differs from the magic.
     #[error("Magic")]
     Magic,
-    /// Bytes are missing, of the header or of what its counts ask for.
+    /// Bytes are missing, of the header or of what its counts require.
     #[error("Truncated")]
     Truncated,
-    /// Bytes follow what the counts ask for.
+    /// Bytes follow what the counts require.
     #[error("Trailing")]
     Trailing,
     /// The file, the globals or a count is above its limit.
     #[error("TooLarge")]
     TooLarge,
-    /// A number of the header or a row of a table is not what the format asks.
+    /// A number of the header or a row of a table is not as the format requires.
     #[error("BadTable")]
     BadTable,
 }

@@ -1,6 +1,6 @@
 //! The rows of an image's tables.
 
-/// A row of the frame table. Row r is of routine r.
+/// A row of the frame table. Row r is for routine r.
 #[derive(Clone, Copy, Debug)]
 pub struct FrameRow {
     /// The address of the routine's first instruction.
@@ -9,7 +9,7 @@ pub struct FrameRow {
     pub bytes: u32,
 }
 
-/// A row of the object table. Row t is of pointer type t.
+/// A row of the object table. Row t is for pointer type t.
 #[derive(Clone, Copy, Debug)]
 pub struct ObjectRow {
     /// The number of the pointer type.

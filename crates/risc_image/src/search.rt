@@ -8,13 +8,14 @@ ghost use Rattle.risc_image.specs.Search.{KeysRise};
 use crate::rows::{CallRow, TrapRow};
 use crate::words::{call_count, read_call, read_trap, trap_count, word_at};
 
-/// The row whose first word is this key, among so many rows of so many words that rise by their first word.
+/// The row whose first word is this key, among `count` rows of `width` words with ascending first words.
 pub fn row_of(table: &[u8], width: usize, count: usize, key: u32) -> Option<usize>
     requires wide { 0 < width }
     requires narrow { width < 4 }
     requires fits { 4 * (width * count) ≤ length table.now }
     requires rising { KeysRise width count (words table.now) }
-    ensures { MatchOption result ((k : ℕ) → k < count → slice_index (words table.now) (width * k) ≢ key) (λ k. (k < count) × (slice_index (words table.now) (width * k) ≡ key)) }
+    ensures { MatchOption result ((k : ℕ) → k < count → slice_index (words table.now) (width * k) ≢ key)
+        (λ k. (k < count) × (slice_index (words table.now) (width * k) ≡ key)) }
 {
     let mut low = 0;
     let mut high = count;
@@ -33,7 +34,7 @@ pub fn row_of(table: &[u8], width: usize, count: usize, key: u32) -> Option<usiz
     None
 }
 
-/// The row of a link in a trap table whose links rise.
+/// The row of a link in a trap table whose links ascend.
 pub fn find_trap(table: &[u8], link: u32) -> Option<TrapRow>
     requires { IsStrictlyIncreasing (map (λ row. row.link) (trap_rows (words table.now))) }
     ensures { result ≡ trap_at link (trap_rows (words table.now)) }
@@ -44,7 +45,7 @@ pub fn find_trap(table: &[u8], link: u32) -> Option<TrapRow>
     }
 }
 
-/// The row of a link in a call table whose links rise.
+/// The row of a link in a call table whose links ascend.
 pub fn find_call(table: &[u8], link: u32) -> Option<CallRow>
     requires { IsStrictlyIncreasing (map (λ row. row.link) (call_rows_of (words table.now))) }
     ensures { result ≡ call_at link (call_rows_of (words table.now)) }

@@ -1,7 +1,8 @@
 //! The tests of an image's tables.
 
 ghost use Rattle.std.specs.Prelude.{◌≡◌, ℕ, ◌+◌, ◌*◌, ◌%◌, ◌<◌, ◌≤◌, ◌↔◌, IsTrue, length};
-ghost use Rattle.risc_image.specs.Image.{IsFrame, IsObject, IsLink, IsLine, IsTrap, IsCall, AreFrames, AreObjects, AreTraps, AreCalls};
+ghost use Rattle.risc_image.specs.Image.{IsFrame, IsObject, IsLink, IsLine, IsTrap, IsCall, AreFrames, AreObjects};
+ghost use Rattle.risc_image.specs.Image.{AreTraps, AreCalls};
 ghost use Rattle.risc_image.specs.Cut.{AreTables};
 ghost use Rattle.risc_image.specs.Table.{words, frame_rows, object_rows, trap_rows, call_rows_of};
 
@@ -48,7 +49,7 @@ fn is_call(row: CallRow, end: usize) -> bool
     is_link(row.link, end) && is_line(row.line)
 }
 
-/// Whether the rows are a frame table of a code that ends at this address.
+/// Whether the rows are a frame table for code that ends at this address.
 pub fn are_frames(table: &[u8], end: usize) -> bool
     ensures { IsTrue result ↔ AreFrames end (frame_rows (words table.now)) }
 {
@@ -80,7 +81,7 @@ pub fn are_objects(table: &[u8]) -> bool
     true
 }
 
-/// Whether the rows are a trap table of a code that ends at this address.
+/// Whether the rows are a trap table for code that ends at this address.
 pub fn are_traps(table: &[u8], end: usize) -> bool
     ensures { IsTrue result ↔ AreTraps end (trap_rows (words table.now)) }
 {
@@ -96,7 +97,7 @@ pub fn are_traps(table: &[u8], end: usize) -> bool
     true
 }
 
-/// Whether the rows are a call table of a code that ends at this address.
+/// Whether the rows are a call table for code that ends at this address.
 pub fn are_calls(table: &[u8], end: usize) -> bool
     ensures { IsTrue result ↔ AreCalls end (call_rows_of (words table.now)) }
 {
@@ -112,9 +113,10 @@ pub fn are_calls(table: &[u8], end: usize) -> bool
     true
 }
 
-/// Whether the globals, the code and the tables are as the format asks.
+/// Whether the globals, the code and the tables are as the format requires.
 pub fn are_tables(global: u32, parts: Pieces) -> bool
-    ensures { IsTrue result ↔ AreTables global parts.entry.code.now parts.entry.frames.now parts.entry.objects.now parts.entry.traps.now parts.entry.calls.now }
+    ensures { IsTrue result ↔ AreTables global parts.entry.code.now parts.entry.frames.now parts.entry.objects.now
+        parts.entry.traps.now parts.entry.calls.now }
 {
     let end = parts.code.len();
     end > 0

@@ -1,6 +1,7 @@
 //! An image within the bytes of its file.
 
-ghost use Rattle.std.specs.Prelude.{◌≡◌, ℕ, ◌*◌, List, Option, Some, None, length, slice_get, option_map, option_copied, if◌then◌else◌, IfOk, IfErr, IsOkAnd};
+ghost use Rattle.std.specs.Prelude.{◌≡◌, ℕ, ◌*◌, List, Option, Some, None, length, slice_get, option_map};
+ghost use Rattle.std.specs.Prelude.{option_copied, if◌then◌else◌, IfOk, IfErr, IsOkAnd};
 ghost use Rattle.risc_image.specs.Format.{IsImage, word_bytes};
 ghost use Rattle.risc_image.specs.Refusal.{IsRefused, is_second};
 ghost use Rattle.risc_image.specs.Image.{Image, call_rows};
@@ -49,7 +50,7 @@ fn call_part<'a>(bytes: &[u8], calls: &'a [u8]) -> Option<&'a [u8]>
 }
 
 impl<'a> ImageView<'a> {
-    /// The image that the bytes are, or the first check that they fail. Takes no memory, and time linear in the bytes.
+    /// The image that the bytes are, or the first check that they fail. Allocates no memory; linear in the bytes.
     pub fn read(bytes: &'a [u8]) -> Result<ImageView<'a>, ImageRefusal>
         ensures ok { IfOk result (λ view. IsImage bytes.now view) }
         ensures err { IfErr result (λ refusal. IsRefused bytes.now refusal) }
@@ -77,7 +78,7 @@ impl<'a> ImageView<'a> {
         self.global
     }
 
-    /// The bytes of the code, four for each word, the lowest first.
+    /// The bytes of the code, four for each word, lowest first.
     #[tactic(auto, using(crate::proofs::Spelled::word_bytes_length))]
     pub fn code(&self) -> &'a [u8]
         ensures bytes { result.now ≡ word_bytes self.now.code }
@@ -86,7 +87,7 @@ impl<'a> ImageView<'a> {
         self.code
     }
 
-    /// Word k of the code, if it has so many.
+    /// Word k of the code, if there is one.
     pub fn word(&self, k: usize) -> Option<u32>
         ensures { result ≡ slice_get self.now.code k }
     {
@@ -169,8 +170,8 @@ impl<'a> ImageView<'a> {
         find_trap(self.traps, link)
     }
 
-    /// Where the call that returns to this link stands: the row of the link in the call table, found by bisection.
-    /// `None` in the first version.
+    /// Where the call is that returns to this link: the row of the link in the call table, found by bisection. `None`
+    /// in the first version.
     pub fn call_of(&self, link: u32) -> Option<CallRow>
         ensures { result ≡ call_at link (call_rows self.now) }
     {

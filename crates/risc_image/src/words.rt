@@ -15,7 +15,7 @@ pub fn word_at(bytes: &[u8], k: usize) -> u32
     u32::from_le_bytes([bytes[at], bytes[at + 1], bytes[at + 2], bytes[at + 3]])
 }
 
-/// How many words bytes have.
+/// How many words the bytes have.
 #[tactic(auto, using(crate::proofs::Spelled::words_length))]
 pub fn word_count(bytes: &[u8]) -> usize
     ensures words { result ≡ length (words bytes.now) }
@@ -24,7 +24,7 @@ pub fn word_count(bytes: &[u8]) -> usize
     bytes.len() / 4
 }
 
-/// Word k, if there are so many.
+/// Word k, if there is one.
 #[tactic(auto, using(std::proofs::lemmas::Option::slice_get_past, std::proofs::lemmas::Option::slice_get_read, crate::proofs::Spelled::words_length))]
 pub fn get_word(bytes: &[u8], k: usize) -> Option<u32>
     ensures { result ≡ slice_get (words bytes.now) k }
@@ -94,7 +94,7 @@ pub fn frame_count(table: &[u8]) -> usize
     table.len() / 8
 }
 
-/// Row k of a frame table, if it has so many.
+/// Row k of a frame table, if there is one.
 #[tactic(auto, using(std::proofs::lemmas::Option::slice_get_past))]
 pub fn get_frame(table: &[u8], k: usize) -> Option<FrameRow>
     ensures { result ≡ slice_get (frame_rows (words table.now)) k }
@@ -115,7 +115,7 @@ pub fn object_count(table: &[u8]) -> usize
     table.len() / 8
 }
 
-/// Row k of an object table, if it has so many.
+/// Row k of an object table, if there is one.
 #[tactic(auto, using(std::proofs::lemmas::Option::slice_get_past))]
 pub fn get_object(table: &[u8], k: usize) -> Option<ObjectRow>
     ensures { result ≡ slice_get (object_rows (words table.now)) k }
@@ -136,7 +136,7 @@ pub fn trap_count(table: &[u8]) -> usize
     table.len() / 12
 }
 
-/// Row k of a trap table, if it has so many.
+/// Row k of a trap table, if there is one.
 #[tactic(auto, using(std::proofs::lemmas::Option::slice_get_past))]
 pub fn get_trap(table: &[u8], k: usize) -> Option<TrapRow>
     ensures { result ≡ slice_get (trap_rows (words table.now)) k }
@@ -157,7 +157,7 @@ pub fn call_count(table: &[u8]) -> usize
     table.len() / 8
 }
 
-/// Row k of a call table, if it has so many.
+/// Row k of a call table, if there is one.
 #[tactic(auto, using(std::proofs::lemmas::Option::slice_get_past))]
 pub fn get_call(table: &[u8], k: usize) -> Option<CallRow>
     ensures { result ≡ slice_get (call_rows_of (words table.now)) k }

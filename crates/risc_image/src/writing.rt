@@ -4,14 +4,15 @@ ghost use Rattle.std.specs.Prelude.{◌≡◌, ℕ, ◌<◌, ◌≤◌, ◌^◌,
 ghost use Rattle.std.specs.Int.{w32, to_le_bytes};
 ghost use Rattle.std.specs.List.{flat_map};
 ghost use Rattle.risc_image.specs.Image.{call_rows};
-ghost use Rattle.risc_image.specs.Format.{IsImage, AreWords, word_bytes, magic_of, header, frame_words, object_words, trap_words, call_words};
+ghost use Rattle.risc_image.specs.Format.{IsImage, AreWords, word_bytes, magic_of, header, frame_words, object_words};
+ghost use Rattle.risc_image.specs.Format.{trap_words, call_words};
 
 use crate::header::{FIRST_MAGIC, SECOND_MAGIC};
 use crate::parts::Parts;
 use crate::rows::{CallRow, FrameRow, ObjectRow, TrapRow};
 use std::alloc::{AllocError, Global};
 
-/// Memory ran out.
+/// Out of memory.
 pub type OutOfMemory = AllocError;
 
 fn put_word(out: &mut Vec<u8>, word: u32) -> Result<(), AllocError>
@@ -31,7 +32,8 @@ fn put_words(out: &mut Vec<u8>, words: &[u32]) -> Result<(), AllocError>
 }
 
 fn put_frames(out: &mut Vec<u8>, rows: &[FrameRow]) -> Result<(), AllocError>
-    ensures bytes { OnOk result (out.new.items ≡ out.old.items ++ flat_map (λ row. word_bytes (frame_words row)) rows.now) }
+    ensures bytes { OnOk result (out.new.items ≡ out.old.items ++ flat_map
+        (λ row. word_bytes (frame_words row)) rows.now) }
     ensures numbers { OnOk result (All (λ row. AreWords (frame_words row)) rows.now) }
 {
     for row in rows {
@@ -41,7 +43,8 @@ fn put_frames(out: &mut Vec<u8>, rows: &[FrameRow]) -> Result<(), AllocError>
 }
 
 fn put_objects(out: &mut Vec<u8>, rows: &[ObjectRow]) -> Result<(), AllocError>
-    ensures bytes { OnOk result (out.new.items ≡ out.old.items ++ flat_map (λ row. word_bytes (object_words row)) rows.now) }
+    ensures bytes { OnOk result (out.new.items ≡ out.old.items ++ flat_map
+        (λ row. word_bytes (object_words row)) rows.now) }
     ensures numbers { OnOk result (All (λ row. AreWords (object_words row)) rows.now) }
 {
     for row in rows {
@@ -51,7 +54,8 @@ fn put_objects(out: &mut Vec<u8>, rows: &[ObjectRow]) -> Result<(), AllocError>
 }
 
 fn put_traps(out: &mut Vec<u8>, rows: &[TrapRow]) -> Result<(), AllocError>
-    ensures bytes { OnOk result (out.new.items ≡ out.old.items ++ flat_map (λ row. word_bytes (trap_words row)) rows.now) }
+    ensures bytes { OnOk result (out.new.items ≡ out.old.items ++ flat_map
+        (λ row. word_bytes (trap_words row)) rows.now) }
     ensures numbers { OnOk result (All (λ row. AreWords (trap_words row)) rows.now) }
 {
     for row in rows {
@@ -61,7 +65,8 @@ fn put_traps(out: &mut Vec<u8>, rows: &[TrapRow]) -> Result<(), AllocError>
 }
 
 fn put_calls(out: &mut Vec<u8>, rows: &[CallRow]) -> Result<(), AllocError>
-    ensures bytes { OnOk result (out.new.items ≡ out.old.items ++ flat_map (λ row. word_bytes (call_words row)) rows.now) }
+    ensures bytes { OnOk result (out.new.items ≡ out.old.items ++ flat_map
+        (λ row. word_bytes (call_words row)) rows.now) }
     ensures numbers { OnOk result (All (λ row. AreWords (call_words row)) rows.now) }
 {
     for row in rows {

@@ -1,5 +1,6 @@
 -- The listing of an image, as bytes: a line for each word of its code (this project's own form).
-use Rattle.std.specs.Prelude.{ℕ, ◌+◌, ◌-◌, List, [], ◌∷◌, ◌++◌, length, replicate, Option, Some, None, true, codes, decimal}
+use Rattle.std.specs.Prelude.{ℕ, ◌+◌, ◌-◌, List, [], ◌∷◌, ◌++◌, length, replicate, Option, Some, None, true, codes}
+use Rattle.std.specs.Prelude.{decimal}
 use Rattle.std.specs.Fmt.{digits}
 use Rattle.risc_word.specs.Words.{instr_at}
 use Rattle.risc_word.specs.Printed.{printed}
@@ -29,9 +30,10 @@ line_text (Some row) = codes " ; line " ++ decimal row.line
 abbrev pub numbers_text : ℕ → ℕ → List ℕ
 numbers_text address word = hexadecimal 6 address ++ codes " " ++ hexadecimal 8 word ++ codes " "
 
--- A word at an address. A trap's link is the address behind its word.
+-- A word at an address. A trap's link is the address after its word.
 abbrev pub listing_line : List TrapRow → ℕ → ℕ → List ℕ
-listing_line traps address word = numbers_text address word ++ instruction_text word ++ line_text (trap_at (address + 4) traps) ++ codes "\n"
+listing_line traps address word = numbers_text address word ++ instruction_text word ++ line_text
+    (trap_at (address + 4) traps) ++ codes "\n"
 
 -- the lines of these words, the first of which has this address
 abbrev pub listing_from : List TrapRow → ℕ → List ℕ → List ℕ

@@ -11,7 +11,7 @@ use risc_image::{ImageView, TrapRow};
 use risc_word::{decode, print};
 use std::alloc::{AllocError, Global};
 
-/// What a call answers where the host refuses memory.
+/// Returned where the host refuses memory.
 pub type OutOfMemory = AllocError;
 
 // Adds an address and its word.
@@ -22,7 +22,7 @@ fn add_numbers(alloc: Global, text: &mut String, address: u32, word: u32) -> Res
     text.push_str(numbers.as_str())
 }
 
-// Adds the instruction that a word is, or that it is a mere word.
+// Adds the instruction of a word, or that it is a mere word.
 fn add_instruction(alloc: Global, text: &mut String, word: u32) -> Result<(), OutOfMemory>
     ensures { OnOk result (string_bytes text.new ≡ string_bytes text.old ++ instruction_text word) }
 {
@@ -65,8 +65,8 @@ fn add_word(
 }
 
 /// The listing of an image: for each word of its code a line with its address in six hexadecimal digits, the word in
-/// eight, the printed instruction, or `word` where it is none, and ` ; line 7` where a trap behind it belongs to that line.
-/// The image is well formed, as each is that was read.
+/// eight, the printed instruction, or `word` where it is none, and ` ; line 7` where a trap after it belongs to that
+/// line. The image must be well formed, as each image is that was read.
 pub fn list(alloc: Global, view: &ImageView<'_>) -> Result<String, OutOfMemory>
     requires { IsWellFormed view.now }
     ensures { IfOk result (λ text. string_bytes text ≡ listing view.now) }

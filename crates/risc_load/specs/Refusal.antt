@@ -1,5 +1,6 @@
 -- Which budgets are refused (this project's loader).
-use Rattle.std.specs.Prelude.{◌≡◌, ℕ, ◌+◌, ◌*◌, ◌%◌, not, ◌==◌, nat_lt, ◌||◌, if◌then◌else◌, length, Option, Some, None, MatchOption}
+use Rattle.std.specs.Prelude.{◌≡◌, ℕ, ◌+◌, ◌*◌, ◌%◌, not, ◌==◌, nat_lt, ◌||◌, if◌then◌else◌, length, Option, Some}
+use Rattle.std.specs.Prelude.{None, MatchOption}
 use Rattle.risc_image.specs.Image.{Image}
 use Rattle.risc_load.specs.declared.budget.Budget.{Budget}
 use Rattle.risc_load.specs.declared.budget.LoadRefusal.{LoadRefusal}
@@ -24,6 +25,7 @@ budget_fault image budget =
     if not (budget.stack % 4 == 0) || not (budget.heap % 4 == 0) then Some BudgetUneven else (
     if nat_lt memory_limit (bytes_needed image budget) then Some BudgetTooLarge else None)
 
--- A load is refused for the budget's fault, and else for want of memory alone.
+-- A load is refused for the budget's fault, and otherwise only when out of memory.
 abbrev pub IsRefused : Image → Budget → LoadRefusal → Type 0
-IsRefused image budget refusal = MatchOption (budget_fault image budget) (refusal ≡ OutOfMemory) (λ fault. refusal ≡ fault)
+IsRefused image budget refusal = MatchOption (budget_fault image budget) (refusal ≡ OutOfMemory)
+    (λ fault. refusal ≡ fault)

@@ -1,4 +1,4 @@
--- What a loaded image shows: the costs of its tables, the rows of its traps, and what it shows after each count of steps.
+-- What a loaded image shows: its tables' costs, its traps' rows, and what it shows after each count of steps.
 use Rattle.std.specs.Prelude.{◌≡◌, ℕ, ◌+◌, ◌*◌, ◌%◌, ◌≤◌, List, length, map}
 use Rattle.behavior.specs.Transcripts.{Shown}
 use Rattle.risc_machine.specs.Exec.{image_run}
@@ -22,9 +22,10 @@ trap_rows image = map trap_row image.traps
 
 -- what the loaded image shows under a budget of heap and stack bytes, after each count of steps
 abbrev pub image_shows : Image → ℕ → ℕ → List ℕ → ℕ → Shown
-image_shows image heap stack input steps = image_run (word_bytes image.code) image.global (trap_rows image) heap stack input steps
+image_shows image heap stack input steps = image_run (word_bytes image.code) image.global
+    (trap_rows image) heap stack input steps
 
--- A budget with which the image is loaded: the processor's memory holds code, globals, heap and stack.
+-- A budget with which the image can be loaded: the processor's memory has room for code, globals, heap and stack.
 pub record IsBudget (image : Image) (heap stack : ℕ) : Type 0 where
   pub heap_even : heap % 4 ≡ 0
   pub stack_even : stack % 4 ≡ 0

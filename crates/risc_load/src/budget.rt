@@ -15,13 +15,13 @@ pub struct Budget {
 /// Why an image is not loaded.
 #[derive(Clone, Copy, Debug, Error)]
 pub enum LoadRefusal {
-    /// Memory ran out.
+    /// Out of memory.
     #[error("OutOfMemory")]
     OutOfMemory,
     /// Code, globals, heap and stack are above 16,777,152 bytes.
     #[error("BudgetTooLarge")]
     BudgetTooLarge,
-    /// Stack or heap is not a multiple of 4. Told before `BudgetTooLarge`.
+    /// Stack or heap is not a multiple of 4. Reported before `BudgetTooLarge`.
     #[error("BudgetUneven")]
     BudgetUneven,
 }

@@ -11,7 +11,7 @@ pub record Fuse : Type 0 where
   pub failing_put : ℕ
   pub faults : ℕ
 
--- it tells its bytes
+-- it reports its bytes
 abbrev pub fused_world : Fuse → World
 fused_world f = record { input = Some f.input; output = Some f.output; faults = f.faults }
 

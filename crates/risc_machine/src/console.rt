@@ -3,25 +3,28 @@
 ghost use Rattle.std.specs.Prelude.{MatchResult};
 ghost use Rattle.risc_machine.specs.Console.{World, Took, Wrote, Failed};
 
-/// A device did not give or take its byte.
+/// A device failed to give or take its byte.
 #[derive(Clone, Copy, Debug)]
 pub struct DeviceFault;
 
-/// A console: bytes come one at a time, and bytes go one at a time.
+/// A console: bytes come one at a time, and go one at a time.
 ///
-/// Its meaning is a world: a count of faults and, where the console tells its bytes, the input left and the output so far.
+/// Its meaning is a world: a count of faults and, where the console reports its bytes, the input left and the output so
+/// far.
 pub trait Console {
     ghost world: { Self → World };
 
-    /// Removes and gives the first byte left, or gives none where none is left.
+    /// Removes and returns the first byte left, or returns none where none is left.
     ///
     /// A fault moves no byte, and the count of faults rises by one (at 18446744073709551615 it stays).
     fn take(&mut self) -> Result<Option<u8>, DeviceFault>
-        ensures { MatchResult result (λ byte. Took byte (world self.old) (world self.new)) (λ _. Failed (world self.old) (world self.new)) };
+        ensures { MatchResult result (λ byte. Took byte (world self.old) (world self.new))
+            (λ _. Failed (world self.old) (world self.new)) };
 
     /// Appends a byte to the output.
     ///
     /// A fault moves no byte, and the count of faults rises by one (at 18446744073709551615 it stays).
     fn put(&mut self, byte: u8) -> Result<(), DeviceFault>
-        ensures { MatchResult result (λ _. Wrote byte (world self.old) (world self.new)) (λ _. Failed (world self.old) (world self.new)) };
+        ensures { MatchResult result (λ _. Wrote byte (world self.old) (world self.new))
+            (λ _. Failed (world self.old) (world self.new)) };
 }

@@ -2,14 +2,15 @@
 
 ghost use Rattle.std.specs.Prelude.{◌≡◌, ◌∷◌, [], ◌↔◌, drop, slice_get, IfOk, OnOk, OnErr, IsErr, MatchResult, IsTrue};
 ghost use Rattle.risc_machine.specs.Console.{Took, Wrote, Failed, one_more};
-ghost use Rattle.risc_machine.specs.Fused.{Fuse, fused_world, FailsTake, FailsPut, after_take, after_failed_take, after_put, after_failed_put};
+ghost use Rattle.risc_machine.specs.Fused.{Fuse, fused_world, FailsTake, FailsPut, after_take, after_failed_take};
+ghost use Rattle.risc_machine.specs.Fused.{after_put, after_failed_put};
 
 use crate::OutOfMemory;
 use crate::console::{Console, DeviceFault};
 use std::alloc::Global;
 use std::marker::Model;
 
-/// A console over lists that tells its bytes, and fails at one call of `take` and one of `put`.
+/// A console over lists that reports its bytes, and fails at one call of `take` and one of `put`.
 #[derive(Drop)]
 pub struct Fused {
     input: Vec<u8>,
@@ -33,7 +34,8 @@ impl Model for Fused {
 }
 
 impl Fused {
-    /// The console with this input, that fails at the call of `take` and at the call of `put` with these numbers (from 1; 0 for none), each once, and at any `put` past its room.
+    /// The console with this input that fails at the call of `take` and at the call of `put` with these numbers (from
+    /// 1; 0 for none), each once, and at any `put` past its room.
     ///
     /// Its room is reserved here; every other call is Ok.
     pub fn new(
@@ -43,7 +45,14 @@ impl Fused {
         take: u64,
         put: u64,
     ) -> Result<Fused, OutOfMemory>
-        ensures { IfOk result (λ f. f ≡ record { input = input.now; output = []; room = room; failing_take = take; failing_put = put; faults = 0 }) }
+        ensures { IfOk result (λ f. f ≡ record {
+          input = input.now;
+          output = [];
+          room = room;
+          failing_take = take;
+          failing_put = put;
+          faults = 0;
+        }) }
     {
         Ok(Fused {
             input: input.to_vec(alloc)?,
@@ -56,7 +65,7 @@ impl Fused {
         })
     }
 
-    /// What was put.
+    /// The bytes that were put.
     pub fn output(&self) -> &[u8]
         ensures { result.now ≡ self.now.output }
     {
@@ -88,7 +97,8 @@ impl Console for Fused {
     ghost world = { fused_world };
 
     fn take(&mut self) -> Result<Option<u8>, DeviceFault>
-        ensures world { MatchResult result (λ byte. Took byte (fused_world self.old) (fused_world self.new)) (λ _. Failed (fused_world self.old) (fused_world self.new)) }
+        ensures world { MatchResult result (λ byte. Took byte (fused_world self.old) (fused_world self.new))
+            (λ _. Failed (fused_world self.old) (fused_world self.new)) }
         ensures fails { IsErr result ↔ FailsTake self.old }
         ensures ok { IfOk result (λ byte. byte ≡ slice_get self.old.input 0) }
         ensures after_ok { OnOk result (self.new ≡ after_take self.old) }
@@ -103,7 +113,8 @@ impl Console for Fused {
     }
 
     fn put(&mut self, byte: u8) -> Result<(), DeviceFault>
-        ensures world { MatchResult result (λ _. Wrote byte (fused_world self.old) (fused_world self.new)) (λ _. Failed (fused_world self.old) (fused_world self.new)) }
+        ensures world { MatchResult result (λ _. Wrote byte (fused_world self.old) (fused_world self.new))
+            (λ _. Failed (fused_world self.old) (fused_world self.new)) }
         ensures fails { IsErr result ↔ FailsPut self.old }
         ensures after_ok { OnOk result (self.new ≡ after_put byte self.old) }
         ensures after_err { OnErr result (self.new ≡ after_failed_put self.old) }

@@ -8,7 +8,8 @@ pub fn exec_grows()
     ensures { ExecGrows }
 {}
 
-/// Every run over a console that tells its bytes follows the run over plain lists, from any tape with the console's input.
+/// Every run over a console that reports its bytes follows the run over plain lists, from any tape with the console's
+/// input.
 #[tactic(auto, using(crate::proofs::Following::runs_follow_exec))]
 pub fn runs_follow_exec()
     ensures { RunsFollowExec }

@@ -17,5 +17,5 @@ pub use machine::{Flags, Machine, run};
 pub use stop::{Fault, Stop};
 pub use streams::Streams;
 
-/// Memory was asked for and refused.
+/// The allocator refused memory.
 pub type OutOfMemory = std::alloc::AllocError;

@@ -5,9 +5,10 @@
 pub enum Fault {
     /// The word at PC is no instruction.
     BadWord,
-    /// A word's address that is no multiple of 4, an address past memory, or one of the device page that does not serve this access.
+    /// A word's address that is not a multiple of 4, an address past memory, or one of the device page that does not
+    /// serve this access.
     BadAddress,
-    /// A division by 0 or a number below it.
+    /// A division by 0 or by a negative number.
     BadDivisor,
     /// PC is past memory.
     BadJump,
@@ -20,12 +21,12 @@ pub enum Stop {
     Normal,
     /// The program stored this word, which is not 0, at FFFFC4H.
     Trap(u32),
-    /// The steps that were asked for are made, and the machine has not stopped.
+    /// The steps that were asked for were made, and the machine has not stopped.
     Steps,
     /// The console did not give the byte that was asked for.
     InputFault,
     /// The console did not take the byte that was put.
     OutputFault,
-    /// An instruction could not be done.
+    /// An instruction could not be executed.
     Fault(Fault),
 }

@@ -1,4 +1,5 @@
--- A program of eight words, worked out by hand: it takes a byte, puts it, puts `A` from a constant in the code, and stops.
+-- A program of eight words, with its results computed by hand: it takes a byte, puts it, puts `A` from a constant in
+-- the code, and stops.
 -- It is run by computation, as a test of the definitions; a smaller one is run by the laws, as they are used.
 use Rattle.std.proofs.Common.{◌≡◌, ℕ, ◌+◌, ◌≤◌, true, false, List, [], ◌∷◌, pos, negsuc, refl, arith, lit<}
 use Rattle.risc_word.specs.declared.instr.Operand.TheVariants.{Constant}
@@ -23,10 +24,15 @@ start = start_state (code_bytes words) 4 8 12
 abbrev tape : List ℕ → Tape
 tape input = record { input = input; ended = false; transcript = [] }
 
--- the state behind the last store
+-- the state after the last store
 abbrev stopped : State
 stopped =
-    record start { registers = 0 ∷ 44 ∷ 0 ∷ 0 ∷ 0 ∷ 0 ∷ 4294967232 ∷ 0 ∷ 0 ∷ 0 ∷ 0 ∷ 0 ∷ 0 ∷ 32 ∷ 56 ∷ 0 ∷ []; equal = true; pc = 7 }
+    record start {
+      registers = 0 ∷ 44 ∷ 0 ∷ 0 ∷ 0 ∷ 0 ∷ 4294967232 ∷ 0 ∷ 0 ∷ 0 ∷ 0 ∷ 0 ∷ 0 ∷ 32 ∷ 56 ∷ 0
+          ∷ [];
+      equal = true;
+      pc = 7;
+    }
 
 -- a byte is taken (256), put, and `A` is put; the run stops with 0 in its seventh step
 written : exec 7 start (tape (66 ∷ 67 ∷ [])) ≡ (256 ∷ 66 ∷ 65 ∷ [], Stopped 0 stopped)
@@ -46,13 +52,18 @@ letter = 0x5600FFC0 ∷ 0x40000041 ∷ 0xA0600008 ∷ 0x40000000 ∷ 0xA0600004 
 are_words : AreWords letter
 are_words = words_listed letter (lit< tt, (lit< tt, (lit< tt, (lit< tt, (lit< tt, tt)))))
 
--- the view of its end: the last two instructions leave the device page's base in R6, 0 in R0 and the place behind the code
+-- the view of its end: the last two instructions leave the device page's base in R6, 0 in R0 and the place after the
+-- code
 abbrev end_view : ℕ → ℕ → ℕ → View
 end_view global heap stack =
-    at_view 5 (after (Move 0 (Constant (pos 0))) (at_view 3 (line (Move 6 (Constant (negsuc 63)) ∷ Move 0 (Constant (pos 65)) ∷ []) (start_view letter global heap stack))))
+    at_view 5 (after (Move 0 (Constant (pos 0)))
+    (at_view 3 (line (Move 6 (Constant (negsuc 63)) ∷ Move 0 (Constant (pos 65)) ∷ [])
+    (start_view letter global heap stack))))
 
 -- by the laws: under every budget, and whatever was written before, it puts `A` and stops with 0
-writes_letter : (global heap stack : ℕ) → start_size letter global heap stack ≤ 16777152 → Ends letter (start_size letter global heap stack) (start_state (code_bytes letter) global heap stack) (told 65) 0 (end_view global heap stack)
+writes_letter : (global heap stack : ℕ) → start_size letter global heap stack ≤ 16777152 → Ends letter
+    (start_size letter global heap stack) (start_state (code_bytes letter) global heap stack) (told 65) 0
+    (end_view global heap stack)
 writes_letter global heap stack top =
     let size = start_size letter global heap stack in
     let m = start_state (code_bytes letter) global heap stack in
@@ -61,12 +72,28 @@ writes_letter global heap stack top =
     let device = Move 6 (Constant (negsuc 63)) in
     let loads = Move 0 (Constant (pos 65)) in
     let zeros = Move 0 (Constant (pos 0)) in
-    let at0 : IsAt letter 0 device = record { word = refl; ranges = (omega arith, (omega (arith, ints), omega (arith, ints))) } in
-    let at1 : IsAt letter 1 loads = record { word = refl; ranges = (omega arith, (omega (arith, ints), omega (arith, ints))) } in
-    let at2 : IsAt letter 2 (Store Word 0 6 (pos 8)) = record { word = refl; ranges = (omega arith, omega arith, (omega (arith, ints), omega (arith, ints))) } in
-    let at3 : IsAt letter 3 zeros = record { word = refl; ranges = (omega arith, (omega (arith, ints), omega (arith, ints))) } in
-    let at4 : IsAt letter 4 (Store Word 0 6 (pos 4)) = record { word = refl; ranges = (omega arith, omega arith, (omega (arith, ints), omega (arith, ints))) } in
-    let x = line_to letter size fits device (loads ∷ []) m v0 (shows_start letter global heap stack top are_words) (tt, (tt, tt)) (at0, (at1, tt)) in
+    let at0 : IsAt letter 0 device = record {
+      word = refl;
+      ranges = (omega arith, (omega (arith, ints), omega (arith, ints)));
+    } in
+    let at1 : IsAt letter 1 loads = record {
+      word = refl;
+      ranges = (omega arith, (omega (arith, ints), omega (arith, ints)));
+    } in
+    let at2 : IsAt letter 2 (Store Word 0 6 (pos 8)) = record {
+      word = refl;
+      ranges = (omega arith, omega arith, (omega (arith, ints), omega (arith, ints)));
+    } in
+    let at3 : IsAt letter 3 zeros = record {
+      word = refl;
+      ranges = (omega arith, (omega (arith, ints), omega (arith, ints)));
+    } in
+    let at4 : IsAt letter 4 (Store Word 0 6 (pos 4)) = record {
+      word = refl;
+      ranges = (omega arith, omega arith, (omega (arith, ints), omega (arith, ints)));
+    } in
+    let x = line_to letter size fits device (loads ∷ []) m v0 (shows_start letter global heap stack top are_words)
+    (tt, (tt, tt)) (at0, (at1, tt)) in
     let v2 = line (device ∷ loads ∷ []) v0 in
     let y = put_to letter size fits 0 6 x.to v2 x.shows at2 refl in
     let v3 = at_view (v2.place + 1) v2 in

@@ -1,5 +1,7 @@
 -- Signed numbers as words.
-use Rattle.std.proofs.Common.{◌≡◌, ◌≢◌, ℕ, zero, suc, ◌+◌, ◌-◌, ◌*◌, ◌/◌, ◌%◌, ◌^◌, ◌<◌, ◌≤◌, ◌⊎◌, inl, inr, ⊎_elim, Bool, true, false, cond, not, ◌||◌, ltb, ℤ, pos, negsuc, ◌+ℤ◌, ◌-ℤ◌, ◌*ℤ◌, refl, sym, ap, ◌∙◌, subst, arith, lit<}
+use Rattle.std.proofs.Common.{◌≡◌, ◌≢◌, ℕ, zero, suc, ◌+◌, ◌-◌, ◌*◌, ◌/◌, ◌%◌, ◌^◌, ◌<◌, ◌≤◌, ◌⊎◌, inl, inr, ⊎_elim}
+use Rattle.std.proofs.Common.{Bool, true, false, cond, not, ◌||◌, ltb, ℤ, pos, negsuc, ◌+ℤ◌, ◌-ℤ◌, ◌*ℤ◌, refl, sym, ap}
+use Rattle.std.proofs.Common.{◌∙◌, subst, arith, lit<}
 use Rattle.std.specs.Prelude.{nat_eq, nat_le, int_lt, int_div, neg_ℤ, unsigned_abs, ◌≤ℤ◌, ◌<ℤ◌}
 use Rattle.std.specs.Int.{int_shr, cast_unsigned, w64, int_div_euclid, int_rem_euclid}
 use Rattle.std.proofs.lemmas.Bool.{cases_eq, cases_lt, false≢true}
@@ -7,7 +9,8 @@ use Rattle.std.proofs.lemmas.Int.{ints, by_lt_z, unsigned_abs-mul}
 use Rattle.std.proofs.lemmas.Nat.{mul-le, div-mul-add}
 use Rattle.std.proofs.Math.Nat.{mod-add-div'}
 use Rattle.risc_machine.specs.Step.{word_of_int, signed, overflows, product, differ}
-use Rattle.risc_machine_laws.specs.Numbers.{IsNumber, distance, sum_of, difference_of, product_of, sign_of, toward_zero, NumberLaws}
+use Rattle.risc_machine_laws.specs.Numbers.{IsNumber, distance, sum_of, difference_of, product_of, sign_of}
+use Rattle.risc_machine_laws.specs.Numbers.{toward_zero, NumberLaws}
 use Rattle.risc_machine_laws.proofs.View.{eqb_same, eqb_other}
 
 pub signed_word : (n : ℤ) → IsNumber n → signed (word_of_int n) ≡ n
@@ -47,14 +50,17 @@ is_number n h =
     let p = or_false (int_lt n (negsuc 2147483647)) (int_lt (pos 2147483647) n) h in
     (not_less n (negsuc 2147483647) p.0, not_less (pos 2147483647) n p.1)
 
-pub sum_word : (m n : ℤ) → IsNumber m → IsNumber n → IsNumber (m +ℤ n) → sum_of (word_of_int m) (word_of_int n) ≡ word_of_int (m +ℤ n)
+pub sum_word : (m n : ℤ) → IsNumber m → IsNumber n → IsNumber (m +ℤ n) → sum_of (word_of_int m) (word_of_int n)
+    ≡ word_of_int (m +ℤ n)
 sum_word m n h k s = omega (arith, ints, h, k, s)
 
-pub difference_word : (m n : ℤ) → IsNumber m → IsNumber n → IsNumber (m -ℤ n) → difference_of (word_of_int m) (word_of_int n) ≡ word_of_int (m -ℤ n)
+pub difference_word : (m n : ℤ) → IsNumber m → IsNumber n → IsNumber (m -ℤ n) → difference_of (word_of_int m)
+    (word_of_int n) ≡ word_of_int (m -ℤ n)
 difference_word m n h k s = omega (arith, ints, h, k, s)
 
--- a branch comes to its place
-pub target_reached : (from to : ℕ) → from < 4194303 → to < 4194304 → (from + 1 + word_of_int (distance from to)) % 4194304 ≡ to
+-- a branch reaches its place
+pub target_reached : (from to : ℕ) → from < 4194303 → to < 4194304
+    → (from + 1 + word_of_int (distance from to)) % 4194304 ≡ to
 target_reached from to h k = omega (arith, ints)
 
 pub constant_word : (w : ℕ) → w < 4294967296 → (w / 65536 * 65536 + w % 65536 + 0) % 2 ^ 32 ≡ w
@@ -64,10 +70,13 @@ constant_word w h = omega arith
 low_word : (z : ℤ) → IsNumber z → cast_unsigned w64 z % 2 ^ 32 ≡ word_of_int z
 low_word z h = omega (arith, ints, h)
 
-product_bits : (m n : ℤ) → IsNumber m → IsNumber n → product (word_of_int m) (word_of_int n) ≡ cast_unsigned w64 (m *ℤ n)
-product_bits m n h k = ap (λ x. cast_unsigned w64 (x *ℤ signed (word_of_int n))) (signed_word m h) ∙ ap (λ y. cast_unsigned w64 (m *ℤ y)) (signed_word n k)
+product_bits : (m n : ℤ) → IsNumber m → IsNumber n → product (word_of_int m) (word_of_int n) ≡ cast_unsigned w64
+    (m *ℤ n)
+product_bits m n h k = ap (λ x. cast_unsigned w64 (x *ℤ signed (word_of_int n))) (signed_word m h)
+    ∙ ap (λ y. cast_unsigned w64 (m *ℤ y)) (signed_word n k)
 
-pub product_word : (m n : ℤ) → IsNumber m → IsNumber n → IsNumber (m *ℤ n) → product_of (word_of_int m) (word_of_int n) ≡ word_of_int (m *ℤ n)
+pub product_word : (m n : ℤ) → IsNumber m → IsNumber n → IsNumber (m *ℤ n) → product_of (word_of_int m) (word_of_int n)
+    ≡ word_of_int (m *ℤ n)
 product_word m n h k s = ap (λ b. b % 2 ^ 32) (product_bits m n h k) ∙ low_word (m *ℤ n) s
 
 sign_low : (low : ℕ) → low < 2147483648 → sign_of low ≡ 0
@@ -83,14 +92,17 @@ sign_high low h k =
     let e : signed low ≡ negsuc (4294967296 - suc low) = rw (is_not_less low 2147483648 h) in
     ap (λ z. word_of_int (int_shr z 31)) e ∙ over low h k
   where
-    over : (low : ℕ) → 2147483648 ≤ low → low < 4294967296 → 4294967296 - suc ((4294967296 - suc low) / 2147483648) ≡ 4294967295
+    over : (low : ℕ) → 2147483648 ≤ low → low < 4294967296 → 4294967296 - suc ((4294967296 - suc low) / 2147483648)
+        ≡ 4294967295
     over low h k = omega arith
 
 difference_test : (s h : ℕ) → s < 4294967296 → h < 4294967296 → nat_eq (difference_of s h) 0 ≡ nat_eq s h
 difference_test s h a b =
     ⊎_elim
-    (λ (e : s ≡ h). let z : (s + 2 ^ 33 - h - 0) % 2 ^ 32 ≡ 0 = omega arith in ap (λ x. nat_eq x 0) z ∙ sym (ap (λ x. nat_eq x h) e ∙ eqb_same h))
-    (λ (ne : s ≢ h). let z : (s + 2 ^ 33 - h - 0) % 2 ^ 32 ≢ 0 = omega arith in eqb_other ((s + 2 ^ 33 - h - 0) % 2 ^ 32) 0 z ∙ sym (eqb_other s h ne))
+    (λ (e : s ≡ h). let z : (s + 2 ^ 33 - h - 0) % 2 ^ 32 ≡ 0 = omega arith in ap (λ x. nat_eq x 0) z ∙ sym
+    (ap (λ x. nat_eq x h) e ∙ eqb_same h))
+    (λ (ne : s ≢ h). let z : (s + 2 ^ 33 - h - 0) % 2 ^ 32 ≢ 0 = omega arith in eqb_other
+    ((s + 2 ^ 33 - h - 0) % 2 ^ 32) 0 z ∙ sym (eqb_other s h ne))
     (cases_eq s h)
 
 equal_false : (s h : ℕ) (b : Bool) → s ≢ h → b ≡ true → nat_eq s h ≡ not b
@@ -104,30 +116,41 @@ or_right true = refl
 or_right false = refl
 
 -- the sign of the low word against the high word
-high_test : (z : ℤ) → unsigned_abs z ≤ 4611686018427387904 → nat_eq (sign_of (cast_unsigned w64 z % 2 ^ 32)) (cast_unsigned w64 z / 2 ^ 32) ≡ not (overflows z)
+high_test : (z : ℤ) → unsigned_abs z ≤ 4611686018427387904 → nat_eq (sign_of (cast_unsigned w64 z % 2 ^ 32))
+    (cast_unsigned w64 z / 2 ^ 32) ≡ not (overflows z)
 high_test (pos n) h =
     ⊎_elim
     (λ (lt : n % 4294967296 < 2147483648).
     let s = sign_low (n % 4294967296) lt in
     ⊎_elim
-    (λ (small : n < 2147483648). equal_true _ (n / 4294967296) (overflows (pos n)) (let e : 0 ≡ n / 4294967296 = omega arith in s ∙ e) (is_not_less 2147483647 n (omega arith)))
-    (λ (large : 2147483648 ≤ n). equal_false _ (n / 4294967296) (overflows (pos n)) (λ e. let x : 0 ≡ n / 4294967296 = sym s ∙ e in absurd (omega arith)) (is_less 2147483647 n (omega arith)))
+    (λ (small : n < 2147483648). equal_true _ (n / 4294967296) (overflows (pos n))
+    (let e : 0 ≡ n / 4294967296 = omega arith in s ∙ e) (is_not_less 2147483647 n (omega arith)))
+    (λ (large : 2147483648 ≤ n). equal_false _ (n / 4294967296) (overflows (pos n))
+    (λ e. let x : 0 ≡ n / 4294967296 = sym s ∙ e in absurd (omega arith)) (is_less 2147483647 n (omega arith)))
     (cases_lt n 2147483648))
     (λ (ge : 2147483648 ≤ n % 4294967296).
     let s = sign_high (n % 4294967296) ge (omega arith) in
-    equal_false _ (n / 4294967296) (overflows (pos n)) (λ e. let x : 4294967295 ≡ n / 4294967296 = sym s ∙ e in absurd (omega arith)) (is_less 2147483647 n (omega arith)))
+    equal_false _ (n / 4294967296) (overflows (pos n))
+    (λ e. let x : 4294967295 ≡ n / 4294967296 = sym s ∙ e in absurd (omega arith))
+    (is_less 2147483647 n (omega arith)))
     (cases_lt (n % 4294967296) 2147483648)
 high_test (negsuc n) h =
     let p : ℕ = 18446744073709551616 - suc n in
     ⊎_elim
     (λ (lt : p % 4294967296 < 2147483648).
     let s = sign_low (p % 4294967296) lt in
-    equal_false _ (p / 4294967296) (overflows (negsuc n)) (λ e. let x : 0 ≡ p / 4294967296 = sym s ∙ e in absurd (omega arith)) (or_right (ltb 2147483647 n) ∙ is_less 2147483647 n (omega arith)))
+    equal_false _ (p / 4294967296) (overflows (negsuc n))
+    (λ e. let x : 0 ≡ p / 4294967296 = sym s ∙ e in absurd (omega arith))
+    (or_right (ltb 2147483647 n) ∙ is_less 2147483647 n (omega arith)))
     (λ (ge : 2147483648 ≤ p % 4294967296).
     let s = sign_high (p % 4294967296) ge (omega arith) in
     ⊎_elim
-    (λ (small : n < 2147483648). equal_true _ (p / 4294967296) (overflows (negsuc n)) (let e : 4294967295 ≡ p / 4294967296 = omega arith in s ∙ e) (or_right (ltb 2147483647 n) ∙ is_not_less 2147483647 n (omega arith)))
-    (λ (large : 2147483648 ≤ n). equal_false _ (p / 4294967296) (overflows (negsuc n)) (λ e. let x : 4294967295 ≡ p / 4294967296 = sym s ∙ e in absurd (omega arith)) (or_right (ltb 2147483647 n) ∙ is_less 2147483647 n (omega arith)))
+    (λ (small : n < 2147483648). equal_true _ (p / 4294967296) (overflows (negsuc n))
+    (let e : 4294967295 ≡ p / 4294967296 = omega arith in s ∙ e)
+    (or_right (ltb 2147483647 n) ∙ is_not_less 2147483647 n (omega arith)))
+    (λ (large : 2147483648 ≤ n). equal_false _ (p / 4294967296) (overflows (negsuc n))
+    (λ e. let x : 4294967295 ≡ p / 4294967296 = sym s ∙ e in absurd (omega arith))
+    (or_right (ltb 2147483647 n) ∙ is_less 2147483647 n (omega arith)))
     (cases_lt n 2147483648))
     (cases_lt (p % 4294967296) 2147483648)
 
@@ -146,15 +169,21 @@ product_size : (x y : ℤ) → IsNumber x → IsNumber y → unsigned_abs (x *�
 product_size x y nx ny =
     let hx : unsigned_abs x ≤ 2147483648 = omega (arith, ints, nx) in
     let hy : unsigned_abs y ≤ 2147483648 = omega (arith, ints, ny) in
-    subst (λ k. k ≤ 4611686018427387904) (sym (unsigned_abs-mul x y)) (mul-le (unsigned_abs x) (unsigned_abs y) 2147483648 2147483648 hx hy)
+    subst (λ k. k ≤ 4611686018427387904) (sym (unsigned_abs-mul x y))
+    (mul-le (unsigned_abs x) (unsigned_abs y) 2147483648 2147483648 hx hy)
 
-sized_test : (z : ℤ) → unsigned_abs z ≤ 4611686018427387904 → nat_eq (difference_of (sign_of (cast_unsigned w64 z % 2 ^ 32)) (cast_unsigned w64 z / 2 ^ 32)) 0 ≡ not (overflows z)
+sized_test : (z : ℤ) → unsigned_abs z ≤ 4611686018427387904 → nat_eq
+    (difference_of (sign_of (cast_unsigned w64 z % 2 ^ 32)) (cast_unsigned w64 z / 2 ^ 32)) 0 ≡ not (overflows z)
 sized_test z h =
-    difference_test (sign_of (cast_unsigned w64 z % 2 ^ 32)) (cast_unsigned w64 z / 2 ^ 32) (sign_narrow (cast_unsigned w64 z % 2 ^ 32) (omega arith)) (bits_narrow z h) ∙ high_test z h
+    difference_test (sign_of (cast_unsigned w64 z % 2 ^ 32)) (cast_unsigned w64 z / 2 ^ 32)
+    (sign_narrow (cast_unsigned w64 z % 2 ^ 32) (omega arith)) (bits_narrow z h) ∙ high_test z h
 
-pub product_test : (m n : ℤ) → IsNumber m → IsNumber n → nat_eq (difference_of (sign_of (product_of (word_of_int m) (word_of_int n))) (product (word_of_int m) (word_of_int n) / 2 ^ 32)) 0 ≡ not (overflows (m *ℤ n))
+pub product_test : (m n : ℤ) → IsNumber m → IsNumber n → nat_eq
+    (difference_of (sign_of (product_of (word_of_int m) (word_of_int n)))
+    (product (word_of_int m) (word_of_int n) / 2 ^ 32)) 0 ≡ not (overflows (m *ℤ n))
 product_test m n h k =
-    ap (λ b. nat_eq (difference_of (sign_of (b % 2 ^ 32)) (b / 2 ^ 32)) 0) (product_bits m n h k) ∙ sized_test (m *ℤ n) (product_size m n h k)
+    ap (λ b. nat_eq (difference_of (sign_of (b % 2 ^ 32)) (b / 2 ^ 32)) 0) (product_bits m n h k) ∙ sized_test (m *ℤ n)
+    (product_size m n h k)
 
 -- ---- N <> V after a difference of two numbers is their order
 less_true : (x y : ℤ) → x <ℤ y → int_lt x y ≡ true
@@ -170,7 +199,8 @@ or_true false b h = inr h
 less_is : (x y : ℤ) → int_lt x y ≡ true → x <ℤ y
 less_is x y h = grind (arith, ints)
 
-pub compare_flags : (x y : ℤ) → IsNumber x → IsNumber y → differ (nat_le 2147483648 (difference_of (word_of_int x) (word_of_int y))) (overflows (x -ℤ y)) ≡ int_lt x y
+pub compare_flags : (x y : ℤ) → IsNumber x → IsNumber y → differ
+    (nat_le 2147483648 (difference_of (word_of_int x) (word_of_int y))) (overflows (x -ℤ y)) ≡ int_lt x y
 compare_flags x y hx hy = go (overflows (x -ℤ y)) refl
   where
     fits : IsNumber (x -ℤ y) → x <ℤ y → 2147483648 ≤ (word_of_int x + 2 ^ 33 - word_of_int y - 0) % 2 ^ 32
@@ -191,14 +221,18 @@ compare_flags x y hx hy = go (overflows (x -ℤ y)) refl
     high_order : pos 2147483647 <ℤ (x -ℤ y) → y ≤ℤ x
     high_order h = omega (arith, ints, hx, hy, h)
 
-    go : (b : Bool) → overflows (x -ℤ y) ≡ b → differ (nat_le 2147483648 (difference_of (word_of_int x) (word_of_int y))) b ≡ int_lt x y
+    go : (b : Bool) → overflows (x -ℤ y) ≡ b → differ
+        (nat_le 2147483648 (difference_of (word_of_int x) (word_of_int y))) b ≡ int_lt x y
     go false e =
         let n = is_number (x -ℤ y) e in
-        by_lt_z x y (λ lt. ap (λ c. differ c false) (at_least _ 2147483648 (fits n lt)) ∙ sym (less_true x y lt)) (λ le. ap (λ c. differ c false) (not_at_least _ 2147483648 (fits_not n le)) ∙ sym (less_false x y le))
+        by_lt_z x y (λ lt. ap (λ c. differ c false) (at_least _ 2147483648 (fits n lt)) ∙ sym (less_true x y lt))
+        (λ le. ap (λ c. differ c false) (not_at_least _ 2147483648 (fits_not n le)) ∙ sym (less_false x y le))
     go true e =
         ⊎_elim
-        (λ l. let h = less_is (x -ℤ y) (negsuc 2147483647) l in ap (λ c. differ c true) (not_at_least _ 2147483648 (low h)) ∙ sym (less_true x y (low_order h)))
-        (λ r. let h = less_is (pos 2147483647) (x -ℤ y) r in ap (λ c. differ c true) (at_least _ 2147483648 (high h)) ∙ sym (less_false x y (high_order h)))
+        (λ l. let h = less_is (x -ℤ y) (negsuc 2147483647) l in ap (λ c. differ c true)
+        (not_at_least _ 2147483648 (low h)) ∙ sym (less_true x y (low_order h)))
+        (λ r. let h = less_is (pos 2147483647) (x -ℤ y) r in ap (λ c. differ c true) (at_least _ 2147483648 (high h))
+        ∙ sym (less_false x y (high_order h)))
         (or_true (int_lt (x -ℤ y) (negsuc 2147483647)) (int_lt (pos 2147483647) (x -ℤ y)) e)
 
 -- ---- quotients
@@ -229,11 +263,13 @@ quotient_corrected (negsuc a) (pos b) h =
     ⊎_elim
     (λ (e : a % b + 1 ≡ b).
     let z : b - 1 - a % b ≡ 0 = omega arith in
-    ap (λ k. neg_ℤ (pos k)) (last_quotient a b lt e) ∙ ap (λ t. cond t (negsuc (a / b)) (negsuc (a / b) +ℤ pos 1)) (sym (ap (λ x. nat_eq x 0) z)))
+    ap (λ k. neg_ℤ (pos k)) (last_quotient a b lt e) ∙ ap (λ t. cond t (negsuc (a / b)) (negsuc (a / b) +ℤ pos 1))
+    (sym (ap (λ x. nat_eq x 0) z)))
     (λ (ne : a % b + 1 ≢ b).
     let r : a % b < b = omega arith in
     let z : b - 1 - a % b ≢ 0 = omega arith in
-    ap (λ k. neg_ℤ (pos k)) (next_quotient a b lt ne) ∙ one_up (a / b) ∙ ap (λ t. cond t (negsuc (a / b)) (negsuc (a / b) +ℤ pos 1)) (sym (eqb_other (b - 1 - a % b) 0 z)))
+    ap (λ k. neg_ℤ (pos k)) (next_quotient a b lt ne) ∙ one_up (a / b)
+    ∙ ap (λ t. cond t (negsuc (a / b)) (negsuc (a / b) +ℤ pos 1)) (sym (eqb_other (b - 1 - a % b) 0 z)))
     (cases_eq (a % b + 1) b)
 quotient_corrected (pos a) (negsuc b) h = absurd (omega (arith, ints, h))
 quotient_corrected (negsuc a) (negsuc b) h = absurd (omega (arith, ints, h))

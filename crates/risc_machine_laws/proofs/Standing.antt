@@ -1,5 +1,6 @@
--- Instructions that stand in a code: parts of a line, and lines within a longer code.
-use Rattle.std.proofs.Common.{◌≡◌, ℕ, zero, suc, ◌+◌, List, [], ◌∷◌, ◌++◌, length, map, Some, refl, ap, ◌∙◌, subst, arith, append_assoc, length-append}
+-- Instructions that are in a code: parts of a line, and lines within a longer code.
+use Rattle.std.proofs.Common.{◌≡◌, ℕ, zero, suc, ◌+◌, List, [], ◌∷◌, ◌++◌, length, map, Some, refl, ap, ◌∙◌, subst}
+use Rattle.std.proofs.Common.{arith, append_assoc, length-append}
 use Rattle.std.specs.Prelude.{slice_get}
 use Rattle.risc_word.specs.declared.instr.Instr.{Instr}
 use Rattle.risc_word.specs.Words.{word_of, IsInstr}
@@ -19,19 +20,22 @@ pub has_front : (code : List ℕ) (place : ℕ) (is js : List Instr) → HasAt c
 has_front code place [] js h = tt
 has_front code place (i ∷ is) js h = (h.0, has_front code (place + 1) is js h.1)
 
-pub has_back : (code : List ℕ) (place : ℕ) (is js : List Instr) → HasAt code place (is ++ js) → HasAt code (place + length is) js
+pub has_back : (code : List ℕ) (place : ℕ) (is js : List Instr) → HasAt code place (is ++ js) → HasAt code
+    (place + length is) js
 has_back code place [] js h = let e : place ≡ place + 0 = omega arith in subst (λ p. HasAt code p js) e h
 has_back code place (i ∷ is) js h =
     let e : place + 1 + length is ≡ place + suc (length is) = omega arith in
     subst (λ p. HasAt code p js) e (has_back code (place + 1) is js h.1)
 
-pub has_join : (code : List ℕ) (place : ℕ) (is js : List Instr) → HasAt code place is → HasAt code (place + length is) js → HasAt code place (is ++ js)
+pub has_join : (code : List ℕ) (place : ℕ) (is js : List Instr) → HasAt code place is → HasAt code
+    (place + length is) js → HasAt code place (is ++ js)
 has_join code place [] js h k = let e : place + 0 ≡ place = omega arith in subst (λ p. HasAt code p js) e k
 has_join code place (i ∷ is) js h k =
     let e : place + suc (length is) ≡ place + 1 + length is = omega arith in
     (h.0, has_join code (place + 1) is js h.1 (subst (λ p. HasAt code p js) e k))
 
-pub has_at : (code : List ℕ) (place k : ℕ) (is : List Instr) (i : Instr) → HasAt code place is → slice_get is k ≡ Some i → IsAt code (place + k) i
+pub has_at : (code : List ℕ) (place k : ℕ) (is : List Instr) (i : Instr) → HasAt code place is → slice_get is k ≡ Some i
+    → IsAt code (place + k) i
 has_at code place k [] i h e = absurd (cc e)
 has_at code place zero (j ∷ is) i h e =
     let same : j ≡ i = cc e in
@@ -54,7 +58,8 @@ word_past (w ∷ front) back k =
 first_word : (w : ℕ) (ws : List ℕ) → slice_get (w ∷ ws) 0 ≡ Some w
 first_word w ws = refl
 
-pub has_here : (front back : List ℕ) (is : List Instr) → AllInstr is → HasAt (front ++ (map word_of is ++ back)) (length front) is
+pub has_here : (front back : List ℕ) (is : List Instr) → AllInstr is → HasAt (front ++ (map word_of is ++ back))
+    (length front) is
 has_here front back [] h = tt
 has_here front back (i ∷ is) h =
     let w = word_of i in

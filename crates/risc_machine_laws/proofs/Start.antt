@@ -1,5 +1,6 @@
 -- The loaded machine shows the view of its start.
-use Rattle.std.proofs.Common.{◌≡◌, ℕ, zero, suc, ◌+◌, ◌*◌, ◌/◌, ◌%◌, ◌<◌, ◌≤◌, List, [], ◌∷◌, ◌++◌, length, get_or, replicate, Some, refl, ap, ◌∙◌, subst, arith, length-append}
+use Rattle.std.proofs.Common.{◌≡◌, ℕ, zero, suc, ◌+◌, ◌*◌, ◌/◌, ◌%◌, ◌<◌, ◌≤◌, List, [], ◌∷◌, ◌++◌, length, get_or}
+use Rattle.std.proofs.Common.{replicate, Some, refl, ap, ◌∙◌, subst, arith, length-append}
 use Rattle.std.specs.Prelude.{slice_get, map}
 use Rattle.std.proofs.Math.ListN.{length-replicate}
 use Rattle.risc_word.specs.declared.instr.Instr.{Instr}
@@ -35,7 +36,8 @@ pub length_code : (ws : List ℕ) → length (code_bytes ws) ≡ 4 * length ws
 length_code [] = refl
 length_code (w ∷ ws) = omega (arith, length_code ws)
 
-digits : (w : ℕ) → w < 4294967296 → w % 256 + w / 256 % 256 * 256 + w / 65536 % 256 * 65536 + w / 16777216 % 256 * 16777216 ≡ w
+digits : (w : ℕ) → w < 4294967296 → w % 256 + w / 256 % 256 * 256 + w / 65536 % 256 * 65536
+    + w / 16777216 % 256 * 16777216 ≡ w
 digits w h = omega arith
 
 zero_at : (n j : ℕ) → get_or (replicate n zero) j zero ≡ zero
@@ -49,9 +51,11 @@ word_in [] n k h = rw (zero_at n (4 * k), zero_at n (4 * k + 1), zero_at n (4 * 
 word_in (w ∷ ws) n zero h = digits w (h 0 w refl)
 word_in (w ∷ ws) n (suc k) h =
     let e : 4 * suc k ≡ suc (suc (suc (suc (4 * k)))) = omega arith in
-    ap (λ a. word_at (code_bytes (w ∷ ws) ++ replicate n 0) a) e ∙ shifted (4 * k) ∙ word_in ws n k (λ j x s. h (suc j) x s)
+    ap (λ a. word_at (code_bytes (w ∷ ws) ++ replicate n 0) a) e ∙ shifted (4 * k) ∙ word_in ws n k
+    (λ j x s. h (suc j) x s)
   where
-    shifted : (a : ℕ) → word_at (code_bytes (w ∷ ws) ++ replicate n 0) (suc (suc (suc (suc a)))) ≡ word_at (code_bytes ws ++ replicate n 0) a
+    shifted : (a : ℕ) → word_at (code_bytes (w ∷ ws) ++ replicate n 0) (suc (suc (suc (suc a)))) ≡ word_at
+        (code_bytes ws ++ replicate n 0) a
     shifted a =
         let e1 : suc (suc (suc (suc a))) + 1 ≡ suc (suc (suc (suc (a + 1)))) = omega arith in
         let e2 : suc (suc (suc (suc a))) + 2 ≡ suc (suc (suc (suc (a + 2)))) = omega arith in
@@ -66,9 +70,12 @@ index_of (x ∷ ws) (suc k) w h = index_of ws k w h
 -- the registers, where the globals begin at g
 abbrev start_registers : ℕ → ℕ → ℕ → ℕ → List ℕ
 start_registers global heap stack g =
-    (g + global) ∷ (g + global + heap) ∷ 0 ∷ 0 ∷ 0 ∷ 0 ∷ 0 ∷ 0 ∷ 0 ∷ 0 ∷ 0 ∷ 0 ∷ 0 ∷ g ∷ (g + global + heap + stack) ∷ 0 ∷ []
+    (g + global) ∷ (g + global + heap) ∷ 0 ∷ 0 ∷ 0 ∷ 0 ∷ 0 ∷ 0 ∷ 0 ∷ 0 ∷ 0 ∷ 0 ∷ 0 ∷ g ∷ (g + global + heap + stack) ∷ 0
+    ∷ []
 
-pub shows_start : (code : List ℕ) (global heap stack : ℕ) → start_size code global heap stack ≤ 16777152 → AreWords code → Shows code (start_size code global heap stack) (start_state (code_bytes code) global heap stack) (start_view code global heap stack)
+pub shows_start : (code : List ℕ) (global heap stack : ℕ) → start_size code global heap stack ≤ 16777152 → AreWords code
+    → Shows code (start_size code global heap stack) (start_state (code_bytes code) global heap stack)
+    (start_view code global heap stack)
 shows_start code global heap stack fits words =
     let n = global + heap + stack in
     let globals = 4 * length code in
@@ -76,7 +83,43 @@ shows_start code global heap stack fits words =
     record {
       registers = λ k h. ap (λ g. get_or (start_registers global heap stack g) k 0) e;
       count = refl;
-      narrow = λ k h. below_at (start_registers global heap stack globals) 4294967296 k (omega arith) (omega arith, (omega arith, (omega arith, (omega arith, (omega arith, (omega arith, (omega arith, (omega arith, (omega arith, (omega arith, (omega arith, (omega arith, (omega arith, (omega arith, (omega arith, (omega arith, tt))))))))))))))));
+      narrow = λ k h. below_at (start_registers global heap stack globals) 4294967296 k (omega arith) (
+        omega arith,
+        (
+          omega arith,
+          (
+            omega arith,
+            (
+              omega arith,
+              (
+                omega arith,
+                (
+                  omega arith,
+                  (
+                    omega arith,
+                    (
+                      omega arith,
+                      (
+                        omega arith,
+                        (
+                          omega arith,
+                          (
+                            omega arith,
+                            (
+                              omega arith,
+                              (omega arith, (omega arith, (omega arith, (omega arith, tt)))),
+                            ),
+                          ),
+                        ),
+                      ),
+                    ),
+                  ),
+                ),
+              ),
+            ),
+          ),
+        ),
+      );
       high = refl;
       high_narrow = omega arith;
       negative = refl;
@@ -84,9 +127,12 @@ shows_start code global heap stack fits words =
       carry = refl;
       overflow = refl;
       place = refl;
-      extent = length-append (code_bytes code) (replicate n 0) ∙ ap (λ x. length (code_bytes code) + x) (length-replicate n 0) ∙ all (length (code_bytes code)) globals e;
-      bytes = λ j. below_at (code_bytes code ++ replicate n 0) 256 j (omega arith) (below_append (code_bytes code) (replicate n 0) 256 (below_code code) (below_zeros n 256 (omega arith)));
-      words = λ a al high. let q : a ≡ 4 * (a / 4) = omega arith in ap (λ x. word_at (code_bytes code ++ replicate n 0) x) q ∙ word_in code n (a / 4) words;
+      extent = length-append (code_bytes code) (replicate n 0) ∙ ap (λ x. length (code_bytes code) + x)
+          (length-replicate n 0) ∙ all (length (code_bytes code)) globals e;
+      bytes = λ j. below_at (code_bytes code ++ replicate n 0) 256 j (omega arith)
+          (below_append (code_bytes code) (replicate n 0) 256 (below_code code) (below_zeros n 256 (omega arith)));
+      words = λ a al high. let q : a ≡ 4 * (a / 4) = omega arith
+          in ap (λ x. word_at (code_bytes code ++ replicate n 0) x) q ∙ word_in code n (a / 4) words;
       stands = λ k w h. word_in code n k words ∙ index_of code k w h;
     }
   where
@@ -115,6 +161,8 @@ words_append [] xs h k = k
 words_append (w ∷ ws) xs h k = words_cons w (ws ++ xs) (h 0 w refl) (words_append ws xs (λ j x e. h (suc j) x e) k)
 
 -- the words of instructions
-pub words_of_instrs : (is : List Instr) → ((k : ℕ) (i : Instr) → slice_get is k ≡ Some i → IsInstr i) → AreWords (map word_of is)
+pub words_of_instrs : (is : List Instr) → ((k : ℕ) (i : Instr) → slice_get is k ≡ Some i → IsInstr i) → AreWords
+    (map word_of is)
 words_of_instrs [] h = words_nil
-words_of_instrs (i ∷ is) h = words_cons (word_of i) (map word_of is) (word_below i (h 0 i refl)) (words_of_instrs is (λ k j e. h (suc k) j e))
+words_of_instrs (i ∷ is) h = words_cons (word_of i) (map word_of is) (word_below i (h 0 i refl))
+    (words_of_instrs is (λ k j e. h (suc k) j e))

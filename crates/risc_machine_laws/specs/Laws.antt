@@ -1,4 +1,4 @@
--- The laws of views: what the processor does, seen on them. Each holds from every state that shows the view.
+-- The laws of views: what the processor does, as seen through them. Each holds from every state that shows the view.
 use Rattle.std.specs.Prelude.{◌≡◌, ℕ, ◌+◌, ◌%◌, ◌≤◌, Bool, if◌then◌else◌, List, ◌∷◌, pos}
 use Rattle.risc_word.specs.declared.instr.Condition.{Condition}
 use Rattle.risc_word.specs.declared.instr.Target.{Target}
@@ -7,7 +7,8 @@ use Rattle.risc_word.specs.declared.instr.Instr.{Instr}
 use Rattle.risc_word.specs.declared.instr.Instr.TheVariants.{Load, Store, Branch}
 use Rattle.risc_machine.specs.Step.{State, start_state}
 use Rattle.risc_machine.specs.Exec.{told}
-use Rattle.risc_machine_laws.specs.View.{View, Fits, IsAt, HasAt, Shows, AllPlain, line, at_view, link_view, holds_view, target_view}
+use Rattle.risc_machine_laws.specs.View.{View, Fits, IsAt, HasAt, Shows, AllPlain, line, at_view, link_view}
+use Rattle.risc_machine_laws.specs.View.{holds_view, target_view}
 use Rattle.risc_machine_laws.specs.Runs.{To, Way, StopsWith, TakesTo, same_tape}
 use Rattle.risc_machine_laws.specs.Start.{code_bytes, AreWords, start_size, start_view}
 
@@ -18,7 +19,7 @@ StraightLinesRun =
     → Fits code size → Shows code size m v → HasAt code v.place (i ∷ is) → AllPlain code size (i ∷ is) v
     → To code size m same_tape (line (i ∷ is) v)
 
--- the same of a line that may have no instruction
+-- the same for a line that may have no instruction
 abbrev pub AnyLinesRun : Type 0
 AnyLinesRun =
     (code : List ℕ) (size : ℕ) (is : List Instr) (m : State) (v : View)
@@ -27,7 +28,8 @@ AnyLinesRun =
 
 -- a branch goes to its target, with a link in R15 if it asks for one, or on to the next instruction
 abbrev pub branch_view : Condition → Bool → Target → View → View
-branch_view c link t v = if holds_view v c then at_view (target_view v t) (link_view link v) else at_view (v.place + 1) v
+branch_view c link t v = if holds_view v c then at_view (target_view v t) (link_view link v) else at_view
+    (v.place + 1) v
 
 abbrev pub BranchesRun : Type 0
 BranchesRun =
@@ -59,4 +61,5 @@ StopsRun =
 abbrev pub LoadedStateShows : Type 0
 LoadedStateShows =
     (code : List ℕ) (global heap stack : ℕ) → AreWords code → start_size code global heap stack ≤ 16777152
-    → Shows code (start_size code global heap stack) (start_state (code_bytes code) global heap stack) (start_view code global heap stack)
+    → Shows code (start_size code global heap stack) (start_state (code_bytes code) global heap stack)
+    (start_view code global heap stack)

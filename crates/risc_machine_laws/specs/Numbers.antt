@@ -1,5 +1,6 @@
--- Signed numbers as words: what results and flags of the operations say of the numbers that the words stand for.
-use Rattle.std.specs.Prelude.{◌≡◌, ℕ, ◌+◌, ◌-◌, ◌*◌, ◌/◌, ◌%◌, ◌^◌, ◌<◌, false, not, nat_eq, nat_le, if◌then◌else◌, List, [], ◌∷◌, ℤ, pos, negsuc, ◌+ℤ◌, ◌-ℤ◌, ◌*ℤ◌, neg_ℤ, int_lt, int_div, ◌≤ℤ◌, ◌<ℤ◌}
+-- Signed numbers as words: what results and flags of the operations say about the numbers that the words stand for.
+use Rattle.std.specs.Prelude.{◌≡◌, ℕ, ◌+◌, ◌-◌, ◌*◌, ◌/◌, ◌%◌, ◌^◌, ◌<◌, false, not, nat_eq, nat_le, if◌then◌else◌}
+use Rattle.std.specs.Prelude.{List, [], ◌∷◌, ℤ, pos, negsuc, ◌+ℤ◌, ◌-ℤ◌, ◌*ℤ◌, neg_ℤ, int_lt, int_div, ◌≤ℤ◌, ◌<ℤ◌}
 use Rattle.std.specs.Int.{int_shr, int_div_euclid, int_rem_euclid}
 use Rattle.risc_word.specs.declared.instr.Operation.TheVariants.{Add}
 use Rattle.risc_word.specs.declared.instr.Operand.TheVariants.{Constant}
@@ -40,7 +41,7 @@ toward_zero (negsuc q) (pos r) = if nat_eq r 0 then negsuc q else negsuc q +ℤ 
 toward_zero (negsuc q) (negsuc r) = negsuc q
 
 pub record NumberLaws : Type 0 where
-  -- a number's word has 32 bits, and the number is read back from it
+  -- a number's word has 32 bits, and the number can be read back from it
   pub narrow : (n : ℤ) → IsNumber n → word_of_int n < 4294967296
   pub read : (n : ℤ) → IsNumber n → signed (word_of_int n) ≡ n
   -- N and Z of a number's word
@@ -48,16 +49,23 @@ pub record NumberLaws : Type 0 where
   pub zeros : (n : ℤ) → IsNumber n → word_of_int n ≡ 0 → n ≡ pos 0
   -- what does not overflow has a word
   pub fits : (n : ℤ) → overflows n ≡ false → IsNumber n
-  pub sums : (m n : ℤ) → IsNumber m → IsNumber n → IsNumber (m +ℤ n) → sum_of (word_of_int m) (word_of_int n) ≡ word_of_int (m +ℤ n)
-  pub differences : (m n : ℤ) → IsNumber m → IsNumber n → IsNumber (m -ℤ n) → difference_of (word_of_int m) (word_of_int n) ≡ word_of_int (m -ℤ n)
-  pub products : (m n : ℤ) → IsNumber m → IsNumber n → IsNumber (m *ℤ n) → product_of (word_of_int m) (word_of_int n) ≡ word_of_int (m *ℤ n)
+  pub sums : (m n : ℤ) → IsNumber m → IsNumber n → IsNumber (m +ℤ n) → sum_of (word_of_int m) (word_of_int n)
+      ≡ word_of_int (m +ℤ n)
+  pub differences : (m n : ℤ) → IsNumber m → IsNumber n → IsNumber (m -ℤ n) → difference_of (word_of_int m)
+      (word_of_int n) ≡ word_of_int (m -ℤ n)
+  pub products : (m n : ℤ) → IsNumber m → IsNumber n → IsNumber (m *ℤ n) → product_of (word_of_int m) (word_of_int n)
+      ≡ word_of_int (m *ℤ n)
   -- a product has a word exactly where H holds the sign of the low word
-  pub product_fits : (m n : ℤ) → IsNumber m → IsNumber n → nat_eq (difference_of (sign_of (product_of (word_of_int m) (word_of_int n))) (product (word_of_int m) (word_of_int n) / 2 ^ 32)) 0 ≡ not (overflows (m *ℤ n))
+  pub product_fits : (m n : ℤ) → IsNumber m → IsNumber n → nat_eq
+      (difference_of (sign_of (product_of (word_of_int m) (word_of_int n)))
+      (product (word_of_int m) (word_of_int n) / 2 ^ 32)) 0 ≡ not (overflows (m *ℤ n))
   -- N <> V after a difference is the order
-  pub order : (m n : ℤ) → IsNumber m → IsNumber n → differ (nat_le 2147483648 (difference_of (word_of_int m) (word_of_int n))) (overflows (m -ℤ n)) ≡ int_lt m n
+  pub order : (m n : ℤ) → IsNumber m → IsNumber n → differ
+      (nat_le 2147483648 (difference_of (word_of_int m) (word_of_int n))) (overflows (m -ℤ n)) ≡ int_lt m n
   -- the quotient rounded toward zero, from what DIV gives; a divisor below zero is negated, and then the quotient
   pub quotients : (m n : ℤ) → pos 0 <ℤ n → int_div m n ≡ toward_zero (int_div_euclid m n) (int_rem_euclid m n)
   pub negated : (m n : ℤ) → pos 0 <ℤ n → int_div m (neg_ℤ n) ≡ neg_ℤ (int_div m n)
-  -- a branch comes to its place, and the two words of a constant give it
-  pub reached : (from to : ℕ) → from < 4194303 → to < 4194304 → (from + 1 + word_of_int (distance from to)) % 4194304 ≡ to
+  -- a branch reaches its place, and the two words of a constant give it
+  pub reached : (from to : ℕ) → from < 4194303 → to < 4194304 → (from + 1 + word_of_int (distance from to)) % 4194304
+      ≡ to
   pub constant : (w : ℕ) → w < 4294967296 → sum_of (w / 65536 * 65536) (word_of_int (pos (w % 65536))) ≡ w

@@ -1,5 +1,6 @@
 -- What is seen of the loaded machine: the code, then globals, heap and stack.
-use Rattle.std.specs.Prelude.{◌≡◌, ℕ, ◌+◌, ◌*◌, ◌/◌, ◌%◌, ◌<◌, false, List, [], ◌∷◌, length, slice_index, slice_get, Some}
+use Rattle.std.specs.Prelude.{◌≡◌, ℕ, ◌+◌, ◌*◌, ◌/◌, ◌%◌, ◌<◌, false, List, [], ◌∷◌, length, slice_index, slice_get}
+use Rattle.std.specs.Prelude.{Some}
 use Rattle.risc_machine_laws.specs.View.{View}
 
 -- the bytes of the words, lowest first
@@ -24,7 +25,8 @@ start_view code global heap stack =
     let stack_at = heap_at + heap in
     let end = stack_at + stack in
     record {
-      registers = λ k. slice_index (heap_at ∷ stack_at ∷ 0 ∷ 0 ∷ 0 ∷ 0 ∷ 0 ∷ 0 ∷ 0 ∷ 0 ∷ 0 ∷ 0 ∷ 0 ∷ globals ∷ end ∷ 0 ∷ []) k;
+      registers = λ k. slice_index (heap_at ∷ stack_at ∷ 0 ∷ 0 ∷ 0 ∷ 0 ∷ 0 ∷ 0 ∷ 0 ∷ 0 ∷ 0 ∷ 0 ∷ 0 ∷ globals ∷ end ∷ 0
+          ∷ []) k;
       high = 0;
       negative = false;
       equal = false;

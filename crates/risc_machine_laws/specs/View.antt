@@ -1,14 +1,19 @@
 -- A view of the processor's state, with functions for the registers and for the words of memory, and what instructions
 -- make of it. On a view the instructions of a straight line are evaluated one after the other.
-use Rattle.std.specs.Prelude.{◌≡◌, ℕ, ◌+◌, ◌-◌, ◌*◌, ◌/◌, ◌%◌, ◌^◌, ◌<◌, ◌≤◌, Bool, true, false, not, ◌||◌, nat_eq, nat_lt, nat_le, if◌then◌else◌, List, [], ◌∷◌, length, slice_index, slice_get, Some, ℤ, pos, negsuc, ◌+ℤ◌, ◌-ℤ◌, int_lt, bit_and, bit_or, bit_xor}
+use Rattle.std.specs.Prelude.{◌≡◌, ℕ, ◌+◌, ◌-◌, ◌*◌, ◌/◌, ◌%◌, ◌^◌, ◌<◌, ◌≤◌, Bool, true, false, not, ◌||◌, nat_eq}
+use Rattle.std.specs.Prelude.{nat_lt, nat_le, if◌then◌else◌, List, [], ◌∷◌, length, slice_index, slice_get, Some, ℤ}
+use Rattle.std.specs.Prelude.{pos, negsuc, ◌+ℤ◌, ◌-ℤ◌, int_lt, bit_and, bit_or, bit_xor}
 use Rattle.std.specs.Int.{w32, int_shr, rotate_right, int_div_euclid, int_rem_euclid, from_bool}
 use Rattle.risc_word.specs.declared.instr.Operation.{Operation}
-use Rattle.risc_word.specs.declared.instr.Operation.TheVariants.{Lsl, Asr, Ror, And, Ann, Ior, Xor, Add, Sub, Mul, Div, Adc, Sbc}
+use Rattle.risc_word.specs.declared.instr.Operation.TheVariants.{Lsl, Asr, Ror, And, Ann, Ior, Xor, Add, Sub, Mul, Div}
+use Rattle.risc_word.specs.declared.instr.Operation.TheVariants.{Adc, Sbc}
 use Rattle.risc_word.specs.declared.instr.Operand.{Operand}
 use Rattle.risc_word.specs.declared.instr.Operand.TheVariants.{Content, Constant}
 use Rattle.risc_word.specs.declared.instr.Width.TheVariants.{Word, Byte}
 use Rattle.risc_word.specs.declared.instr.Condition.{Condition}
-use Rattle.risc_word.specs.declared.instr.Condition.TheVariants.{Minus, Equal, CarrySet, OverflowSet, Less, LessEqual, Always, Plus, NotEqual, CarryClear, OverflowClear, GreaterEqual, Greater, Never}
+use Rattle.risc_word.specs.declared.instr.Condition.TheVariants.{Minus, Equal, CarrySet, OverflowSet, Less, LessEqual}
+use Rattle.risc_word.specs.declared.instr.Condition.TheVariants.{Always, Plus, NotEqual, CarryClear, OverflowClear}
+use Rattle.risc_word.specs.declared.instr.Condition.TheVariants.{GreaterEqual, Greater, Never}
 use Rattle.risc_word.specs.declared.instr.Target.{Target}
 use Rattle.risc_word.specs.declared.instr.Target.TheVariants.{Relative, Absolute}
 use Rattle.risc_word.specs.declared.instr.Instr.{Instr}
@@ -34,12 +39,12 @@ pub record Fits (code : List ℕ) (size : ℕ) : Type 0 where
   pub room : 4 * length code ≤ size
   pub top : size ≤ 16777152
 
--- this instruction stands at a place of the code
+-- this instruction is at a place of the code
 pub record IsAt (code : List ℕ) (place : ℕ) (i : Instr) : Type 0 where
   pub word : slice_get code place ≡ Some (word_of i)
   pub ranges : IsInstr i
 
--- these instructions stand in the code one after the other, from a place on
+-- these instructions are in the code one after the other, from a place on
 abbrev pub HasAt : List ℕ → ℕ → List Instr → Type 0
 HasAt code place [] = Unit {0}
 HasAt code place (i ∷ is) = IsAt code place i × HasAt code (place + 1) is
@@ -54,7 +59,7 @@ pub record IsWritable (code : List ℕ) (size a : ℕ) : Type 0 where
   pub low : 4 * length code ≤ a
   pub high : a + 4 ≤ size
 
--- ---- the state that a view shows: the code stands at its place, and the rest of memory is any bytes
+-- ---- the state that a view shows: the code is at its place, and the rest of memory is any bytes
 pub record Shows (code : List ℕ) (size : ℕ) (m : State) (v : View) : Type 0 where
   pub registers : (k : ℕ) → k < 16 → slice_index m.registers k ≡ v.registers k
   pub count : length m.registers ≡ 16
@@ -91,10 +96,16 @@ view_of m =
 abbrev pub update : ℕ → ℕ → (ℕ → ℕ) → ℕ → ℕ
 update k x f j = if nat_eq j k then x else f j
 
--- a register takes a word, which N and Z follow, and the place moves on
+-- a register takes a word, which determines N and Z, and the place moves on
 abbrev pub result_view : ℕ → ℕ → View → View
 result_view a w v =
-    record v { registers = update a w v.registers; negative = nat_le 2147483648 w; equal = nat_eq w 0; place = v.place + 1 }
+    record v {
+      registers = update a w v.registers;
+      negative = nat_le 2147483648 w;
+      equal = nat_eq w 0;
+      place = v.place
+          + 1;
+    }
 
 abbrev pub carries_view : Bool → Bool → View → View
 carries_view c o v = record v { carry = c; overflow = o }
@@ -119,11 +130,13 @@ offset_of (negsuc n) = 0
 
 abbrev pub added_view : ℕ → ℕ → ℕ → ℕ → View → View
 added_view a x n c v =
-    result_view a ((x + n + c) % 2 ^ 32) (carries_view (nat_le (2 ^ 32) (x + n + c)) (overflows (signed x +ℤ signed n +ℤ pos c)) v)
+    result_view a ((x + n + c) % 2 ^ 32) (carries_view (nat_le (2 ^ 32) (x + n + c))
+    (overflows (signed x +ℤ signed n +ℤ pos c)) v)
 
 abbrev pub subtracted_view : ℕ → ℕ → ℕ → ℕ → View → View
 subtracted_view a x n c v =
-    result_view a ((x + 2 ^ 33 - n - c) % 2 ^ 32) (carries_view (nat_lt x (n + c)) (overflows (signed x -ℤ signed n -ℤ pos c)) v)
+    result_view a ((x + 2 ^ 33 - n - c) % 2 ^ 32)
+    (carries_view (nat_lt x (n + c)) (overflows (signed x -ℤ signed n -ℤ pos c)) v)
 
 abbrev pub operated_view : Operation → ℕ → ℕ → ℕ → View → View
 operated_view Lsl a x n v = result_view a ((x * 2 ^ (n % 32)) % 2 ^ 32) v
@@ -137,7 +150,8 @@ operated_view Add a x n v = added_view a x n 0 v
 operated_view Sub a x n v = subtracted_view a x n 0 v
 operated_view Mul a x n v = result_view a (product x n % 2 ^ 32) (high_view (product x n / 2 ^ 32) v)
 operated_view Div a x n v =
-    result_view a (word_of_int (int_div_euclid (signed x) (signed n))) (high_view (word_of_int (int_rem_euclid (signed x) (signed n))) v)
+    result_view a (word_of_int (int_div_euclid (signed x) (signed n)))
+    (high_view (word_of_int (int_rem_euclid (signed x) (signed n))) v)
 operated_view Adc a x n v = added_view a x n (from_bool v.carry) v
 operated_view Sbc a x n v = subtracted_view a x n (from_bool v.carry) v
 
@@ -145,7 +159,7 @@ operated_view Sbc a x n v = subtracted_view a x n (from_bool v.carry) v
 abbrev pub word_place : ℕ → ℕ
 word_place at = at - at % 4
 
--- a byte of a word, counted from the lowest, and the word with another one there
+-- a byte of a word, counted from the lowest, and the word with that byte replaced
 abbrev pub byte_in : ℕ → ℕ → ℕ
 byte_in w k = w / 256 ^ k % 256
 
@@ -182,7 +196,7 @@ abbrev pub IsPlainOffset : ℤ → Type 0
 IsPlainOffset (pos n) = Unit {0}
 IsPlainOffset (negsuc n) = ⊥
 
--- DIV asks for a divisor above 0
+-- DIV requires a positive divisor
 abbrev pub IsPlainOperation : Operation → ℕ → Type 0
 IsPlainOperation Div n = int_lt (pos 0) (signed n) ≡ true
 IsPlainOperation _ n = Unit {0}
@@ -228,5 +242,10 @@ target_view v (Absolute c) = v.registers c % 16777216 / 4
 -- the link in R15, with the place left as it is
 abbrev pub link_view : Bool → View → View
 link_view true v =
-    record v { registers = update 15 (4 * (v.place + 1)) v.registers; negative = nat_le 2147483648 (4 * (v.place + 1)); equal = nat_eq (4 * (v.place + 1)) 0 }
+    record v {
+      registers = update 15 (4 * (v.place + 1)) v.registers;
+      negative = nat_le 2147483648
+          (4 * (v.place + 1));
+      equal = nat_eq (4 * (v.place + 1)) 0;
+    }
 link_view false v = v

@@ -1,19 +1,20 @@
 //! Laws: what straight lines of code, branches, the device page and stops do to the machine, over views of its state.
 //!
-//! They serve those who emit code. The functions do nothing when they run; each stands for its contract.
+//! For those who emit code. The functions do nothing when they run; each stands for its contract.
 //! proofs/Example.antt shows how the laws are used: the lemmas behind them, such as `line_to`, `way_line`, `put_to`
 //! and `shows_start`, are public in proofs/.
 #![tactic(auto)]
 
-ghost use Rattle.risc_machine_laws.specs.Laws.{StraightLinesRun, AnyLinesRun, BranchesRun, PutsRun, TakesRun, StopsRun, LoadedStateShows};
+ghost use Rattle.risc_machine_laws.specs.Laws.{StraightLinesRun, AnyLinesRun, BranchesRun, PutsRun, TakesRun, StopsRun};
+ghost use Rattle.risc_machine_laws.specs.Laws.{LoadedStateShows};
 ghost use Rattle.risc_machine_laws.specs.Numbers.{NumberLaws};
 
-/// A straight line of plain instructions comes to the view that evaluates it.
+/// A straight line of plain instructions reaches the view that evaluates it.
 pub fn straight_lines_run()
     ensures { StraightLinesRun }
 {}
 
-/// A straight line of any number of plain instructions, none too, comes to the view that evaluates it.
+/// A straight line of any number of plain instructions, possibly none, reaches the view that evaluates it.
 pub fn any_lines_run()
     ensures { AnyLinesRun }
 {}
@@ -43,7 +44,7 @@ pub fn loaded_state_shows()
     ensures { LoadedStateShows }
 {}
 
-/// What results and flags say of the signed numbers that the words stand for.
+/// What results and flags say about the signed numbers that the words stand for.
 pub fn numbers_as_words()
     ensures { NumberLaws }
 {}

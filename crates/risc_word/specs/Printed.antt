@@ -3,13 +3,16 @@
 use Rattle.std.specs.Prelude.{ℕ, Bool, true, false, List, ◌++◌, codes, decimal}
 use Rattle.std.specs.Fmt.{signed_decimal}
 use Rattle.risc_word.specs.declared.instr.Operation.{Operation}
-use Rattle.risc_word.specs.declared.instr.Operation.TheVariants.{Lsl, Asr, Ror, And, Ann, Ior, Xor, Add, Sub, Mul, Div, Adc, Sbc}
+use Rattle.risc_word.specs.declared.instr.Operation.TheVariants.{Lsl, Asr, Ror, And, Ann, Ior, Xor, Add, Sub, Mul, Div}
+use Rattle.risc_word.specs.declared.instr.Operation.TheVariants.{Adc, Sbc}
 use Rattle.risc_word.specs.declared.instr.Operand.{Operand}
 use Rattle.risc_word.specs.declared.instr.Operand.TheVariants.{Content, Constant}
 use Rattle.risc_word.specs.declared.instr.Width.{Width}
 use Rattle.risc_word.specs.declared.instr.Width.TheVariants.{Word, Byte}
 use Rattle.risc_word.specs.declared.instr.Condition.{Condition}
-use Rattle.risc_word.specs.declared.instr.Condition.TheVariants.{Minus, Equal, CarrySet, OverflowSet, Less, LessEqual, Always, Plus, NotEqual, CarryClear, OverflowClear, GreaterEqual, Greater, Never}
+use Rattle.risc_word.specs.declared.instr.Condition.TheVariants.{Minus, Equal, CarrySet, OverflowSet, Less, LessEqual}
+use Rattle.risc_word.specs.declared.instr.Condition.TheVariants.{Always, Plus, NotEqual, CarryClear, OverflowClear}
+use Rattle.risc_word.specs.declared.instr.Condition.TheVariants.{GreaterEqual, Greater, Never}
 use Rattle.risc_word.specs.declared.instr.Target.{Target}
 use Rattle.risc_word.specs.declared.instr.Target.TheVariants.{Relative, Absolute}
 use Rattle.risc_word.specs.declared.instr.Instr.{Instr}
@@ -82,7 +85,8 @@ abbrev pub printed : Instr → List ℕ
 printed (Move a n) = with_two (codes "MOV") (printed_register a) (printed_operand n)
 printed (MoveTop a n) = with_two (codes "MOVH") (printed_register a) (decimal n)
 printed (MoveHigh a) = with_two (codes "MOV") (printed_register a) (codes "H")
-printed (Operate op a b n) = with_three (operation_name op) (printed_register a) (printed_register b) (printed_operand n)
+printed (Operate op a b n) = with_three (operation_name op) (printed_register a) (printed_register b)
+    (printed_operand n)
 printed (Load w a b off) = with_three (load_name w) (printed_register a) (printed_register b) (signed_decimal off)
 printed (Store w a b off) = with_three (store_name w) (printed_register a) (printed_register b) (signed_decimal off)
 printed (Branch cond link target) = with_two (branch_name link) (condition_name cond) (printed_target target)

@@ -13,11 +13,11 @@ pub enum Operation {
     Ror,
     /// The bits that both have.
     And,
-    /// The bits that the first has and the second has not.
+    /// The bits that are set in the first and clear in the second.
     Ann,
     /// The bits that either has.
     Ior,
-    /// The bits that just one has.
+    /// The bits that are set in exactly one.
     Xor,
     /// The sum, with its carry in C.
     Add,
@@ -66,7 +66,7 @@ pub enum Condition {
     Less,
     /// N differs from V, or Z.
     LessEqual,
-    /// In every case.
+    /// Always.
     Always,
     /// Not N.
     Plus,
@@ -80,14 +80,14 @@ pub enum Condition {
     GreaterEqual,
     /// N is V, and not Z.
     Greater,
-    /// In no case.
+    /// Never.
     Never,
 }
 
 /// Where a branch goes.
 #[derive(Clone, Copy, Debug)]
 pub enum Target {
-    /// So many words on from the next instruction.
+    /// A number of words on from the next instruction.
     Relative(Displacement),
     /// The byte address in a register.
     Absolute(Register),

@@ -4,18 +4,19 @@ ghost use Rattle.std.specs.Prelude.{◌≡◌, IfOk, Some};
 ghost use Rattle.std.specs.Fmt.{DisplaysOnOk, signed_decimal};
 ghost use Rattle.std.specs.String.{string_bytes};
 ghost use Rattle.risc_word.specs.declared.instr.Instr.TheVariants as instr;
-ghost use Rattle.risc_word.specs.Printed.{printed, printed_register, printed_operand, printed_target, with_three, operation_name, condition_name, load_name, store_name, branch_name};
+ghost use Rattle.risc_word.specs.Printed.{printed, printed_register, printed_operand, printed_target, with_three};
+ghost use Rattle.risc_word.specs.Printed.{operation_name, condition_name, load_name, store_name, branch_name};
 
 use crate::field::{Offset, Register};
 use crate::instr::{Condition, Instr, Operand, Operation, Target, Width};
 use std::alloc::{AllocError, Global};
 use std::fmt;
 
-/// What a call answers where the host refuses memory.
+/// Returned where the host refuses memory.
 pub type OutOfMemory = AllocError;
 
-/// The printed form of an instruction, as `ADD R1, R1, 1` or `BL T, -12`: its name, and then its
-/// operands. Immediates and offsets are signed decimal numbers.
+/// The printed form of an instruction, as `ADD R1, R1, 1` or `BL T, -12`: its name, and then its operands. Immediates
+/// and offsets are signed decimal numbers.
 pub fn print(alloc: Global, instr: Instr) -> Result<String, OutOfMemory>
     ensures { IfOk result (λ text. string_bytes text ≡ printed instr) }
 {
@@ -101,7 +102,8 @@ fn write_operation<W: fmt::Write>(
     left: Register,
     right: Operand,
 ) -> fmt::Result
-    ensures { DisplaysOnOk W.write_str_gives f.old result (Some (printed (instr.Operate operation to left right))) f.new }
+    ensures { DisplaysOnOk W.write_str_gives f.old result
+        (Some (printed (instr.Operate operation to left right))) f.new }
 {
     let name = name_of_operation(operation);
     write!(f, "{name} {to}, {left}, {right}")
@@ -115,7 +117,8 @@ fn write_access<W: fmt::Write>(
     base: Register,
     offset: Offset,
 ) -> fmt::Result
-    ensures { DisplaysOnOk W.write_str_gives f.old result (Some (with_three name.now (printed_register register) (printed_register base) (signed_decimal offset))) f.new }
+    ensures { DisplaysOnOk W.write_str_gives f.old result
+        (Some (with_three name.now (printed_register register) (printed_register base) (signed_decimal offset))) f.new }
 {
     let distance = offset.value();
     write!(f, "{name} {register}, {base}, {distance}")

@@ -1,10 +1,13 @@
 // Between instructions and words.
 
-ghost use Rattle.std.specs.Prelude.{◌≡◌, ◌≢◌, ℕ, ◌+◌, ◌-◌, ◌*◌, ◌/◌, ◌%◌, ◌^◌, ◌<◌, ◌≤◌, pos, negsuc, ◌≤ℤ◌, nat_eq, IfNone, IfSome, Some};
+ghost use Rattle.std.specs.Prelude.{◌≡◌, ◌≢◌, ℕ, ◌+◌, ◌-◌, ◌*◌, ◌/◌, ◌%◌, ◌^◌, ◌<◌, ◌≤◌, pos, negsuc, ◌≤ℤ◌, nat_eq};
+ghost use Rattle.std.specs.Prelude.{IfNone, IfSome, Some};
 ghost use Rattle.risc_word.specs.declared.instr.Instr.{Instr};
 ghost use Rattle.risc_word.specs.declared.instr.Target.TheVariants.{Relative};
 ghost use Rattle.risc_word.specs.declared.instr.Instr.TheVariants.{Branch};
-ghost use Rattle.risc_word.specs.Words.{code_of, carry_of, condition_code, byte_of, bits_of, with_operand, form_2, word_of, operation_at, condition_at, immediate_at, signed_at, register_form, immediate_form, absolute_form, branch, instr_at, Denotes};
+ghost use Rattle.risc_word.specs.Words.{code_of, carry_of, condition_code, byte_of, bits_of, with_operand, form_2};
+ghost use Rattle.risc_word.specs.Words.{word_of, operation_at, condition_at, immediate_at, signed_at, register_form};
+ghost use Rattle.risc_word.specs.Words.{immediate_form, absolute_form, branch, instr_at, Denotes};
 
 use crate::field::{Displacement, Immediate, Offset, Register};
 use crate::instr::{Condition, Instr, Operand, Operation, Target, Width};
@@ -180,7 +183,7 @@ fn branch_word(condition: Condition, link: bool, target: Target) -> u32
     }
 }
 
-// In a loop of steps decoding is inlined, so that no instruction is ever put together.
+// In a loop of steps decoding is inlined, so that no instruction is ever built.
 /// The instruction of a word, where it has one.
 #[inline(always)]
 pub fn decode(word: u32) -> Option<Instr>
@@ -234,12 +237,12 @@ fn instruction_of(word: u32) -> Option<Instr>
         12 => decode_absolute(false, a.number(), word % 16777216),
         13 => decode_absolute(true, a.number(), word % 16777216),
         14 => decode_relative(false, a.number(), word),
-        // 15, the last of four bits
+        // 15, the largest number of four bits
         _ => decode_relative(true, a.number(), word),
     }
 }
 
-// The register whose number stands from this bit up.
+// The register whose number begins at this bit.
 fn register(word: u32, from: u32) -> Register
     requires { from < 32 }
     ensures { result ≡ word / 2 ^ from % 16 }

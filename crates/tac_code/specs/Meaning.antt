@@ -1,5 +1,6 @@
 -- What three-address code does, one instruction after another.
-use Rattle.std.specs.Prelude.{ℕ, suc, ◌+◌, ◌-◌, ◌*◌, ◌/◌, Bool, true, false, ◌&&◌, not, nat_eq, nat_lt, if◌then◌else◌, List, [], ◌∷◌, ◌++◌, length, replicate, slice_get, Option, Some, None, ℤ, pos, negsuc}
+use Rattle.std.specs.Prelude.{ℕ, suc, ◌+◌, ◌-◌, ◌*◌, ◌/◌, Bool, true, false, ◌&&◌, not, nat_eq, nat_lt, if◌then◌else◌}
+use Rattle.std.specs.Prelude.{List, [], ◌∷◌, ◌++◌, length, replicate, slice_get, Option, Some, None, ℤ, pos, negsuc}
 use Rattle.behavior.specs.Endings.{Ending, Normal, Stack, Heap, Stuck, ending_by}
 use Rattle.behavior.specs.Transcripts.{mark}
 use Rattle.tac_code.specs.declared.code.Block.{Block}
@@ -13,9 +14,14 @@ use Rattle.tac_code.specs.declared.code.Base.TheVariants as base
 use Rattle.tac_code.specs.declared.code.Relation.{Relation}
 use Rattle.tac_code.specs.declared.code.Relation.TheVariants.{Equal, NotEqual}
 use Rattle.tac_code.specs.declared.code.Instruction.{Instruction}
-use Rattle.tac_code.specs.declared.code.Instruction.TheVariants.{Literal, Copy, Arithmetic, Bits, Compare, CheckRange, CheckPointer, Text, Offset, Index, RoutineValue, Load, Store, LoadByte, StoreByte, Jump, JumpBack, Branch, BranchBack, Call, CallValue, Return, Trap, Take, Put, New, End}
+use Rattle.tac_code.specs.declared.code.Instruction.TheVariants.{Literal, Copy, Arithmetic, Bits, Compare, CheckRange}
+use Rattle.tac_code.specs.declared.code.Instruction.TheVariants.{CheckPointer, Text, Offset, Index, RoutineValue, Load}
+use Rattle.tac_code.specs.declared.code.Instruction.TheVariants.{Store, LoadByte, StoreByte, Jump, JumpBack, Branch}
+use Rattle.tac_code.specs.declared.code.Instruction.TheVariants.{BranchBack, Call, CallValue, Return, Trap, Take, Put}
+use Rattle.tac_code.specs.declared.code.Instruction.TheVariants.{New, End}
 use Rattle.tac_code.specs.declared.code.TacRoutine.{TacRoutine}
-use Rattle.tac_code.specs.Numbers.{is_zero, truth, Computed, Gives, Fails, computed, bits, compared, is_in_range, steps_above}
+use Rattle.tac_code.specs.Numbers.{is_zero, truth, Computed, Gives, Fails, computed, bits, compared, is_in_range}
+use Rattle.tac_code.specs.Numbers.{steps_above}
 use Rattle.tac_code.specs.Memory.{Words, Living, Memory, load, load_byte, store, store_byte}
 
 -- The parts of the code. Routines are numbered through both lists, the program's first; routine 0 is the program block.
@@ -56,7 +62,8 @@ Temporaries = ℕ → Option Value
 abbrev pub put : Temporaries → ℕ → Value → Temporaries
 put temporaries t v u = if nat_eq u t then Some v else temporaries u
 
--- An open activation: the place of its next instruction, the number that names its blocks, the temporary of its caller that takes its result, and the line of the call.
+-- An open activation: the place of its next instruction, the number that names its blocks, the temporary of its caller
+-- that takes its result, and the line of the call.
 pub record Activation : Type 0 where
   pub routine : ℕ
   pub place : ℕ
@@ -71,7 +78,8 @@ pub record Tape : Type 0 where
   pub ended : Bool
   pub transcript : List ℕ
 
--- The innermost activation, its callers (innermost first), the memory, how many activations there have been, and the bytes of all objects made.
+-- The innermost activation, its callers (innermost first), the memory, the number of activations so far, and the bytes
+-- of all objects made.
 pub record State : Type 0 where
   pub current : Activation
   pub callers : List Activation
@@ -85,7 +93,7 @@ pub data Step : Type 0 where
   Goes : State → Step
   Over : Ending → Step
 
--- ---- operands: without a value of the kind that is asked for, the run is stuck
+-- ---- operands: without a value of the kind required, the run is stuck
 
 abbrev pub with_some : {A : Type 0} → Option A → (A → Step) → Step
 with_some None go = Over Stuck
@@ -137,13 +145,13 @@ abbrev pub is_nil : Option ℕ → Bool
 is_nil None = true
 is_nil (Some n) = false
 
--- whether two pointers are as a relation says, of which only two are asked of pointers
+-- whether a relation holds between two pointers; only equality and inequality are defined for pointers
 abbrev pub pointers_related : Relation → Option (Option ℕ) → Option (Option ℕ) → Option Bool
 pointers_related Equal (Some p) (Some q) = Some (same_pointer p q)
 pointers_related NotEqual (Some p) (Some q) = Some (not (same_pointer p q))
 pointers_related _ _ _ = None
 
--- whether two numbers, or two pointers, are as a relation says
+-- whether a relation holds between two numbers, or between two pointers
 abbrev pub related : Relation → Option Value → Option Value → Option Bool
 related relation (Some (Number x)) (Some (Number y)) = Some (compared relation x y)
 related relation v w = pointers_related relation (pointer_of v) (pointer_of w)
@@ -153,7 +161,7 @@ abbrev pub operand_value : Temporaries → Operand → Option Value
 operand_value temporaries (operand.Temporary t) = temporaries t
 operand_value temporaries (operand.Number z) = Some (Number z)
 
--- The address that a base stands for. The program block is the first activation.
+-- The address that a base means. The program block is the first activation.
 abbrev pub base_value : Activation → Base → Option Value
 base_value a base.Frame = Some (Address (Frame a.number) 0)
 base_value a base.Scratch = Some (Address (Scratch a.number) 0)
@@ -192,7 +200,7 @@ gives t v s = Goes (record s { current = giving t v s.current })
 abbrev pub stores : Memory → State → Step
 stores m s = Goes (record s { current = onward s.current; memory = m })
 
--- An offset is below 2147483648, as the bytes of each block are.
+-- An offset is below 2147483648, as is the size of each block in bytes.
 abbrev pub gives_address : ℕ → Block → ℕ → State → Step
 gives_address t block offset s =
     if nat_lt offset 2147483648 then gives t (Address block offset) s else Over Stuck
@@ -211,7 +219,14 @@ abbrev pub takes : ℕ → List ℕ → State → Step
 takes t [] s =
     Goes (record s { current = giving t (Number (negsuc 0)) s.current; tape = end_taken s.tape.ended s.tape })
 takes t (b ∷ rest) s =
-    Goes (record s { current = giving t (Number (pos b)) s.current; tape = record { input = rest; ended = s.tape.ended; transcript = s.tape.transcript ++ mark ∷ [] } })
+    Goes (record s {
+      current = giving t (Number (pos b)) s.current;
+      tape = record {
+        input = rest;
+        ended = s.tape.ended;
+        transcript = s.tape.transcript ++ mark ∷ [];
+      };
+    })
 
 abbrev pub puts : ℕ → State → Step
 puts byte s = Goes (record s { current = onward s.current; tape = told byte s.tape })
@@ -229,9 +244,15 @@ without_first (b ∷ bs) = bs
 abbrev pub leave : Value → List Activation → State → Step
 leave v [] s = Over Stuck
 leave v (c ∷ cs) s =
-    Goes (record s { current = record c { temporaries = put c.temporaries s.current.result v }; callers = cs; memory = record s.memory { frames = without_first s.memory.frames; scratch = without_first s.memory.scratch } })
+    Goes (record s {
+      current = record c { temporaries = put c.temporaries s.current.result v };
+      callers = cs;
+      memory =
+          record s.memory { frames = without_first s.memory.frames; scratch = without_first s.memory.scratch };
+    })
 
--- The lines of the open calls, innermost first. The program block was not called, and calls of run-time routines don't count.
+-- The lines of the open calls, innermost first. The program block was not called, and calls of run-time routines don't
+-- count.
 abbrev pub open_calls : ℕ → Activation → List Activation → List ℕ
 open_calls program a [] = []
 open_calls program a (c ∷ cs) =
@@ -240,7 +261,7 @@ open_calls program a (c ∷ cs) =
 -- ---- errors
 
 module _ (code : Code) where
-  -- the ending that the number of an error stands for, with the calls that are open
+  -- the ending that an error's number means, with the calls that are open
   abbrev pub fails : ℕ → ℕ → State → Step
   fails number line s = Over (ending_by number line (open_calls (length code.program) s.current s.callers))
 
@@ -252,7 +273,7 @@ module _ (code : Code) where
   checks true number line s = goes_on s
   checks false number line s = fails number line s
 
-  -- the address of a component, whose index was found to lie in its range or not
+  -- the address of a component, whose index was found to be in its range or not
   abbrev pub gives_component : Bool → ℕ → Block → ℕ → ℕ → ℕ → State → Step
   gives_component true t block offset number line s = gives_address t block offset s
   gives_component false t block offset number line s = fails number line s
@@ -269,15 +290,36 @@ module _ (code : Code) (F : ℕ → ℕ) where
   open_bytes (a ∷ rest) = frame_cost a.routine + open_bytes rest
 
 module _ (code : Code) (F G : ℕ → ℕ) (S H : ℕ) where
-  -- whether entering a routine would pass the budget of the stack
+  -- whether entering a routine would exceed the budget of the stack
   abbrev pub is_full : ℕ → List Activation → Bool
   is_full r callers = nat_lt r (length code.program) && nat_lt S (F r + open_bytes code F callers)
 
   abbrev pub entered : TacRoutine → ℕ → List Value → ℕ → ℕ → List Activation → State → State
   entered routine r values result line callers s =
-      record s { current = record { routine = r; place = 0; number = s.count; temporaries = λ t. slice_get values t; result = result; line = line }; callers = callers; memory = record s.memory { frames = record { number = s.count; words = unwritten routine.frame } ∷ s.memory.frames; scratch = record { number = s.count; words = unwritten routine.scratch } ∷ s.memory.scratch }; count = suc s.count }
+      record s {
+        current = record {
+          routine = r;
+          place = 0;
+          number = s.count;
+          temporaries = λ t. slice_get values t;
+          result = result;
+          line = line;
+        };
+        callers = callers;
+        memory = record s.memory {
+          frames = record {
+            number = s.count;
+            words = unwritten routine.frame;
+          } ∷ s.memory.frames;
+          scratch = record {
+            number = s.count;
+            words = unwritten routine.scratch;
+          } ∷ s.memory.scratch;
+        };
+        count = suc s.count;
+      }
 
-  -- a new activation, whose parameters stand in its first temporaries
+  -- a new activation, whose parameters are in its first temporaries
   abbrev pub enter : ℕ → List Value → ℕ → ℕ → List Activation → State → Step
   enter r values result line callers s =
       with_some (slice_get (routines code) r) (λ routine.
@@ -287,12 +329,18 @@ module _ (code : Code) (F G : ℕ → ℕ) (S H : ℕ) where
 
   abbrev pub calls : ℕ → ℕ → List ℕ → ℕ → State → Step
   calls t r operands line s =
-      with_some (values_of s.current.temporaries operands) (λ values. enter r values t line (onward s.current ∷ s.callers) s)
+      with_some (values_of s.current.temporaries operands)
+      (λ values. enter r values t line (onward s.current ∷ s.callers) s)
 
   -- an object whose words are unwritten
   abbrev pub made : ℕ → ℕ → ℕ → State → State
   made t object_type bytes s =
-      record s { current = giving t (Address (Object (length s.memory.objects)) 0) s.current; memory = record s.memory { objects = s.memory.objects ++ unwritten bytes ∷ [] }; heap = s.heap + G object_type }
+      record s {
+        current = giving t (Address (Object (length s.memory.objects)) 0) s.current;
+        memory = record s.memory
+            { objects = s.memory.objects ++ unwritten bytes ∷ [] };
+        heap = s.heap + G object_type;
+      }
 
   abbrev pub makes : ℕ → ℕ → ℕ → ℕ → State → Step
   makes t object_type bytes line s =
@@ -304,11 +352,14 @@ module _ (code : Code) (F G : ℕ → ℕ) (S H : ℕ) where
   act (Some (Literal t z)) s = gives t (Number z) s
   act (Some (Copy t a)) s = with_some (s.current.temporaries a) (λ v. gives t v s)
   act (Some (Arithmetic operator t a b number line)) s =
-      with_number (s.current.temporaries a) (λ x. with_number (operand_value s.current.temporaries b) (λ y. gives_computed code t (computed operator number x y) line s))
+      with_number (s.current.temporaries a) (λ x. with_number (operand_value s.current.temporaries b)
+      (λ y. gives_computed code t (computed operator number x y) line s))
   act (Some (Bits operator t a b)) s =
-      with_number (s.current.temporaries a) (λ x. with_number (operand_value s.current.temporaries b) (λ y. gives t (Number (bits operator x y)) s))
+      with_number (s.current.temporaries a) (λ x. with_number (operand_value s.current.temporaries b)
+      (λ y. gives t (Number (bits operator x y)) s))
   act (Some (Compare relation t a b)) s =
-      with_some (related relation (s.current.temporaries a) (operand_value s.current.temporaries b)) (λ holds. gives t (Number (truth holds)) s)
+      with_some (related relation (s.current.temporaries a) (operand_value s.current.temporaries b))
+      (λ holds. gives t (Number (truth holds)) s)
   act (Some (CheckRange a low high number line)) s =
       with_number (s.current.temporaries a) (λ x. checks code (is_in_range low high x) number line s)
   act (Some (CheckPointer a number line)) s =
@@ -317,24 +368,33 @@ module _ (code : Code) (F G : ℕ → ℕ) (S H : ℕ) where
   act (Some (Offset t a n extent)) s =
       with_address (base_value s.current a) (λ block offset. gives_address t block (offset + n) s)
   act (Some (Index t a i low high width number line)) s =
-      with_address (base_value s.current a) (λ block offset. with_number (s.current.temporaries i) (λ x. gives_component code (is_in_range low high x) t block (offset + steps_above low x * width) number line s))
+      with_address (base_value s.current a) (λ block offset. with_number (s.current.temporaries i)
+      (λ x. gives_component code (is_in_range low high x) t block
+      (offset + steps_above low x * width) number line s))
   act (Some (RoutineValue t r)) s = gives t (Routine r) s
   act (Some (Load t a n)) s =
-      with_address (base_value s.current a) (λ block offset. with_some (load (text_at code) s.memory block (offset + n)) (λ v. gives t v s))
+      with_address (base_value s.current a) (λ block offset. with_some (load (text_at code) s.memory block (offset + n))
+      (λ v. gives t v s))
   act (Some (Store a n b)) s =
-      with_address (base_value s.current a) (λ block offset. with_some (s.current.temporaries b) (λ v. with_some (store s.memory block (offset + n) v) (λ m. stores m s)))
+      with_address (base_value s.current a) (λ block offset. with_some (s.current.temporaries b)
+      (λ v. with_some (store s.memory block (offset + n) v) (λ m. stores m s)))
   act (Some (LoadByte t a n)) s =
-      with_address (base_value s.current a) (λ block offset. with_some (load_byte (text_at code) s.memory block (offset + n)) (λ byte. gives t (Number (pos byte)) s))
+      with_address (base_value s.current a) (λ block offset. with_some
+      (load_byte (text_at code) s.memory block (offset + n)) (λ byte. gives t (Number (pos byte)) s))
   act (Some (StoreByte a n b)) s =
-      with_address (base_value s.current a) (λ block offset. with_number (s.current.temporaries b) (λ x. with_byte_value x (λ byte. with_some (store_byte s.memory block (offset + n) byte) (λ m. stores m s))))
+      with_address (base_value s.current a) (λ block offset. with_number (s.current.temporaries b)
+      (λ x. with_byte_value x (λ byte. with_some (store_byte s.memory block (offset + n) byte) (λ m. stores m s))))
   act (Some (Jump n)) s = goes_to (suc s.current.place + n) s
   act (Some (JumpBack n)) s = goes_to (s.current.place - n) s
   act (Some (Branch relation a b n)) s =
-      with_some (related relation (s.current.temporaries a) (operand_value s.current.temporaries b)) (λ holds. if holds then goes_to (suc s.current.place + n) s else goes_on s)
+      with_some (related relation (s.current.temporaries a) (operand_value s.current.temporaries b))
+      (λ holds. if holds then goes_to (suc s.current.place + n) s else goes_on s)
   act (Some (BranchBack relation a b n)) s =
-      with_some (related relation (s.current.temporaries a) (operand_value s.current.temporaries b)) (λ holds. if holds then goes_to (s.current.place - n) s else goes_on s)
+      with_some (related relation (s.current.temporaries a) (operand_value s.current.temporaries b))
+      (λ holds. if holds then goes_to (s.current.place - n) s else goes_on s)
   act (Some (Call t r operands line)) s = calls t r operands line s
-  act (Some (CallValue t a operands line)) s = with_routine (s.current.temporaries a) (λ r. if nat_lt r (length code.program) then calls t r operands line s else Over Stuck)
+  act (Some (CallValue t a operands line)) s = with_routine (s.current.temporaries a)
+      (λ r. if nat_lt r (length code.program) then calls t r operands line s else Over Stuck)
   act (Some (Return a)) s = with_some (s.current.temporaries a) (λ v. leave v s.callers s)
   act (Some (Trap number line)) s = fails code number line s
   act (Some (Take t)) s = takes t s.tape.input s

@@ -1,5 +1,7 @@
--- Memory: living blocks of words. A word is unwritten or holds a value; bytes are those of words that hold numbers, lowest first.
-use Rattle.std.specs.Prelude.{ℕ, zero, suc, ◌+◌, ◌*◌, ◌/◌, ◌%◌, Bool, ◌&&◌, nat_eq, nat_lt, if◌then◌else◌, List, [], ◌∷◌, length, slice_get, slice_set, Option, Some, None}
+-- Memory: live blocks of words. A word is unwritten or holds a value; bytes are those of words that hold numbers,
+-- lowest first.
+use Rattle.std.specs.Prelude.{ℕ, zero, suc, ◌+◌, ◌*◌, ◌/◌, ◌%◌, Bool, ◌&&◌, nat_eq, nat_lt, if◌then◌else◌, List, []}
+use Rattle.std.specs.Prelude.{◌∷◌, length, slice_get, slice_set, Option, Some, None}
 use Rattle.tac_code.specs.declared.code.Block.{Block}
 use Rattle.tac_code.specs.declared.code.Block.TheVariants.{Frame, Scratch, Object, Constant}
 use Rattle.tac_code.specs.declared.code.Value.{Value}
@@ -14,7 +16,8 @@ pub record Living : Type 0 where
   pub number : ℕ
   pub words : Words
 
--- the blocks of the open activations, innermost first, and the words of the objects in the order in which they were made
+-- the blocks of the open activations, innermost first, and the words of the objects in the order in which they were
+-- made
 pub record Memory : Type 0 where
   pub frames : List Living
   pub scratch : List Living
@@ -29,13 +32,14 @@ known (Some word) = word
 abbrev pub is_aligned : ℕ → Bool
 is_aligned offset = nat_eq (offset % 4) 0
 
--- the value at an offset: none where it is no multiple of 4, is outside the block or was never written
+-- the value at an offset: none where it is not a multiple of 4, is outside the block or was never written
 abbrev pub word_at : Words → ℕ → Option Value
 word_at words offset = if is_aligned offset then known (slice_get words (offset / 4)) else None
 
 abbrev pub with_word : Words → ℕ → Value → Option Words
 with_word words offset v =
-    if is_aligned offset && nat_lt (offset / 4) (length words) then Some (slice_set words (offset / 4) (Some v)) else None
+    if is_aligned offset && nat_lt (offset / 4) (length words) then Some (slice_set words (offset / 4) (Some v))
+    else None
 
 -- a byte of a word: none unless the word holds a number
 abbrev pub byte_in : Option Value → ℕ → Option ℕ
@@ -76,7 +80,7 @@ abbrev pub living : List Living → ℕ → Option Words
 living [] number = None
 living (b ∷ bs) number = if nat_eq b.number number then Some b.words else living bs number
 
--- the blocks with other words for one of them, where it lives and there are such words
+-- the blocks with other words for one of them, where it is live and has such words
 abbrev pub behind : Living → Option (List Living) → Option (List Living)
 behind b None = None
 behind b (Some bs) = Some (b ∷ bs)
@@ -112,7 +116,7 @@ abbrev pub Constants : Type 0
 Constants = ℕ → ℕ → Option (List ℕ)
 
 module _ (constants : Constants) (m : Memory) where
-  -- the words of a block that lives
+  -- the words of a live block
   abbrev pub words_in : Block → Option Words
   words_in (Frame a) = living m.frames a
   words_in (Scratch a) = living m.scratch a
@@ -131,7 +135,7 @@ abbrev pub with_objects : Memory → Option (List Words) → Option Memory
 with_objects m None = None
 with_objects m (Some objects) = Some (record m { objects = objects })
 
--- the memory after a change in a block: none where it doesn't live or is a constant
+-- the memory after a change in a block: none where it is not live or is a constant
 abbrev pub changed_in : Memory → Block → (Words → Option Words) → Option Memory
 changed_in m (Frame a) change = with_frames m (changed m.frames a change)
 changed_in m (Scratch a) change = with_scratch m (changed m.scratch a change)

@@ -1,5 +1,6 @@
--- Numbers of 32 bits: what the operators give.
-use Rattle.std.specs.Prelude.{ℕ, zero, suc, ◌+◌, ◌-◌, ◌*◌, ◌/◌, ◌%◌, ◌^◌, Bool, true, false, not, ◌&&◌, nat_eq, nat_lt, if◌then◌else◌, ℤ, pos, negsuc, ◌+ℤ◌, ◌-ℤ◌, ◌*ℤ◌, int_div, int_lt, bit_and, bit_or}
+-- Numbers of 32 bits: the results of the operators.
+use Rattle.std.specs.Prelude.{ℕ, zero, suc, ◌+◌, ◌-◌, ◌*◌, ◌/◌, ◌%◌, ◌^◌, Bool, true, false, not, ◌&&◌, nat_eq, nat_lt}
+use Rattle.std.specs.Prelude.{if◌then◌else◌, ℤ, pos, negsuc, ◌+ℤ◌, ◌-ℤ◌, ◌*ℤ◌, int_div, int_lt, bit_and, bit_or}
 use Rattle.std.specs.Int.{w32, cast_unsigned, cast_signed, int_rem_euclid}
 use Rattle.tac_code.specs.declared.code.Operator.{Operator}
 use Rattle.tac_code.specs.declared.code.Operator.TheVariants.{Add, Subtract, Multiply, Divide, Modulo}
@@ -73,7 +74,7 @@ compared GreaterEqual x y = not (int_lt x y)
 abbrev pub is_in_range : (low high : ℤ) → ℤ → Bool
 is_in_range low high x = not (int_lt x low) && not (int_lt high x)
 
--- how far a number lies above the lowest one
+-- how far a number is above the lowest one
 abbrev pub natural : ℤ → ℕ
 natural (pos n) = n
 natural (negsuc n) = 0

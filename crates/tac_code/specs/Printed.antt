@@ -12,7 +12,11 @@ use Rattle.tac_code.specs.declared.code.Operand.TheVariants as operand
 use Rattle.tac_code.specs.declared.code.Base.{Base}
 use Rattle.tac_code.specs.declared.code.Base.TheVariants as base
 use Rattle.tac_code.specs.declared.code.Instruction.{Instruction}
-use Rattle.tac_code.specs.declared.code.Instruction.TheVariants.{Literal, Copy, Arithmetic, Bits, Compare, CheckRange, CheckPointer, Text, Offset, Index, RoutineValue, Load, Store, LoadByte, StoreByte, Jump, JumpBack, Branch, BranchBack, Call, CallValue, Return, Trap, Take, Put, New, End}
+use Rattle.tac_code.specs.declared.code.Instruction.TheVariants.{Literal, Copy, Arithmetic, Bits, Compare, CheckRange}
+use Rattle.tac_code.specs.declared.code.Instruction.TheVariants.{CheckPointer, Text, Offset, Index, RoutineValue, Load}
+use Rattle.tac_code.specs.declared.code.Instruction.TheVariants.{Store, LoadByte, StoreByte, Jump, JumpBack, Branch}
+use Rattle.tac_code.specs.declared.code.Instruction.TheVariants.{BranchBack, Call, CallValue, Return, Trap, Take, Put}
+use Rattle.tac_code.specs.declared.code.Instruction.TheVariants.{New, End}
 use Rattle.tac_code.specs.declared.code.TacRoutine.{TacRoutine}
 use Rattle.tac_code.specs.Meaning.{Code}
 
@@ -59,18 +63,25 @@ printed_bytes bytes = flat_map (λ b. codes " " ++ decimal b) bytes
 unfoldable pub or_error : ℕ → ℕ → List ℕ
 or_error number line = codes ", else error " ++ decimal number ++ codes " at line " ++ decimal line
 
--- the temporary that is written stands last, behind an arrow
+-- the temporary that is written comes last, after an arrow
 abbrev pub printed : Instruction → List ℕ
 printed (Literal t z) = signed_decimal z ++ codes " -> t" ++ decimal t
 printed (Copy t a) = codes "t" ++ decimal a ++ codes " -> t" ++ decimal t
-printed (Arithmetic operator t a b number line) = codes "t" ++ decimal a ++ codes " " ++ operator_sign operator ++ codes " " ++ printed_operand b ++ codes " -> t" ++ decimal t ++ or_error number line
-printed (Bits operator t a b) = codes "t" ++ decimal a ++ codes " " ++ bit_operator_sign operator ++ codes " " ++ printed_operand b ++ codes " -> t" ++ decimal t
-printed (Compare relation t a b) = codes "t" ++ decimal a ++ codes " " ++ relation_sign relation ++ codes " " ++ printed_operand b ++ codes " -> t" ++ decimal t
-printed (CheckRange a low high number line) = codes "check t" ++ decimal a ++ codes " in " ++ signed_decimal low ++ codes ".." ++ signed_decimal high ++ or_error number line
+printed (Arithmetic operator t a b number line) = codes "t" ++ decimal a ++ codes " " ++ operator_sign operator
+    ++ codes " " ++ printed_operand b ++ codes " -> t" ++ decimal t ++ or_error number line
+printed (Bits operator t a b) = codes "t" ++ decimal a ++ codes " " ++ bit_operator_sign operator ++ codes " "
+    ++ printed_operand b ++ codes " -> t" ++ decimal t
+printed (Compare relation t a b) = codes "t" ++ decimal a ++ codes " " ++ relation_sign relation ++ codes " "
+    ++ printed_operand b ++ codes " -> t" ++ decimal t
+printed (CheckRange a low high number line) = codes "check t" ++ decimal a ++ codes " in " ++ signed_decimal low
+    ++ codes ".." ++ signed_decimal high ++ or_error number line
 printed (CheckPointer a number line) = codes "check t" ++ decimal a ++ codes " <> nil" ++ or_error number line
 printed (Text t bytes) = codes "text" ++ printed_bytes bytes ++ codes " -> t" ++ decimal t
-printed (Offset t a n extent) = printed_base a ++ codes " + " ++ decimal n ++ codes " -> t" ++ decimal t ++ codes ", " ++ decimal extent ++ codes " bytes"
-printed (Index t a i low high width number line) = printed_base a ++ codes " + (t" ++ decimal i ++ codes " in " ++ signed_decimal low ++ codes ".." ++ signed_decimal high ++ codes ") * " ++ decimal width ++ codes " -> t" ++ decimal t ++ or_error number line
+printed (Offset t a n extent) = printed_base a ++ codes " + " ++ decimal n ++ codes " -> t" ++ decimal t ++ codes ", "
+    ++ decimal extent ++ codes " bytes"
+printed (Index t a i low high width number line) = printed_base a ++ codes " + (t" ++ decimal i ++ codes " in "
+    ++ signed_decimal low ++ codes ".." ++ signed_decimal high ++ codes ") * " ++ decimal width ++ codes " -> t"
+    ++ decimal t ++ or_error number line
 printed (RoutineValue t r) = codes "routine " ++ decimal r ++ codes " -> t" ++ decimal t
 printed (Load t a n) = codes "word " ++ printed_base a ++ codes " + " ++ decimal n ++ codes " -> t" ++ decimal t
 printed (Store a n b) = codes "t" ++ decimal b ++ codes " -> word " ++ printed_base a ++ codes " + " ++ decimal n
@@ -78,20 +89,25 @@ printed (LoadByte t a n) = codes "byte " ++ printed_base a ++ codes " + " ++ dec
 printed (StoreByte a n b) = codes "t" ++ decimal b ++ codes " -> byte " ++ printed_base a ++ codes " + " ++ decimal n
 printed (Jump n) = codes "jump forward " ++ decimal n
 printed (JumpBack n) = codes "jump back " ++ decimal n
-printed (Branch relation a b n) = codes "jump forward " ++ decimal n ++ codes " if t" ++ decimal a ++ codes " " ++ relation_sign relation ++ codes " " ++ printed_operand b
-printed (BranchBack relation a b n) = codes "jump back " ++ decimal n ++ codes " if t" ++ decimal a ++ codes " " ++ relation_sign relation ++ codes " " ++ printed_operand b
-printed (Call t r operands line) = codes "call " ++ decimal r ++ codes " at line " ++ decimal line ++ codes " (" ++ printed_operands operands ++ codes " ) -> t" ++ decimal t
-printed (CallValue t a operands line) = codes "call t" ++ decimal a ++ codes " at line " ++ decimal line ++ codes " (" ++ printed_operands operands ++ codes " ) -> t" ++ decimal t
+printed (Branch relation a b n) = codes "jump forward " ++ decimal n ++ codes " if t" ++ decimal a ++ codes " "
+    ++ relation_sign relation ++ codes " " ++ printed_operand b
+printed (BranchBack relation a b n) = codes "jump back " ++ decimal n ++ codes " if t" ++ decimal a ++ codes " "
+    ++ relation_sign relation ++ codes " " ++ printed_operand b
+printed (Call t r operands line) = codes "call " ++ decimal r ++ codes " at line " ++ decimal line ++ codes " ("
+    ++ printed_operands operands ++ codes " ) -> t" ++ decimal t
+printed (CallValue t a operands line) = codes "call t" ++ decimal a ++ codes " at line " ++ decimal line ++ codes " ("
+    ++ printed_operands operands ++ codes " ) -> t" ++ decimal t
 printed (Return a) = codes "return t" ++ decimal a
 printed (Trap number line) = codes "error " ++ decimal number ++ codes " at line " ++ decimal line
 printed (Take t) = codes "take -> t" ++ decimal t
 printed (Put a) = codes "put t" ++ decimal a
-printed (New t object_type line) = codes "new " ++ decimal object_type ++ codes " at line " ++ decimal line ++ codes " -> t" ++ decimal t
+printed (New t object_type line) = codes "new " ++ decimal object_type ++ codes " at line " ++ decimal line
+    ++ codes " -> t" ++ decimal t
 printed End = codes "end"
 
 -- ---- the whole
 
--- what is printed of each element, with its number, from a number on
+-- what is printed for each element, with its number, from a number on
 abbrev pub numbered : {X : Type 0} → (ℕ → X → List ℕ) → ℕ → List X → List ℕ
 numbered line n [] = []
 numbered line n (x ∷ rest) = line n x ++ numbered line (suc n) rest
@@ -118,9 +134,11 @@ printed_routine number r =
     ++ numbered instruction_line 0 r.body)))))
 
 abbrev pub type_line : ℕ → ℕ → List ℕ
-type_line number bytes = codes "type " ++ (decimal number ++ (codes ": " ++ (decimal bytes ++ (codes " bytes" ++ newline))))
+type_line number bytes = codes "type " ++ (decimal number
+    ++ (codes ": " ++ (decimal bytes ++ (codes " bytes" ++ newline))))
 
--- the routines by their numbers, the program's and then those of the run-time list, and the bytes of an object of each type
+-- the routines by their numbers, the program's and then those of the run-time list, and the bytes of an object of each
+-- type
 abbrev pub printed_code : Code → List ℕ
 printed_code code =
     numbered printed_routine 0 code.program

@@ -1,4 +1,4 @@
--- The invariant of the code: each target and each operand exists, and numbers lie in their ranges.
+-- The invariant of the code: each target and each operand exists, and numbers are in their ranges.
 use Rattle.std.specs.Prelude.{◌≡◌, ℕ, suc, ◌+◌, ◌<◌, ◌≤◌, ◌%◌, IsTrue, ℤ, List, length, slice_get, Some}
 use Rattle.std.specs.List.{All}
 use Rattle.tac_code.specs.declared.code.Operand.{Operand}
@@ -6,7 +6,11 @@ use Rattle.tac_code.specs.declared.code.Operand.TheVariants as operand
 use Rattle.tac_code.specs.declared.code.Base.{Base}
 use Rattle.tac_code.specs.declared.code.Base.TheVariants as base
 use Rattle.tac_code.specs.declared.code.Instruction.{Instruction}
-use Rattle.tac_code.specs.declared.code.Instruction.TheVariants.{Literal, Copy, Arithmetic, Bits, Compare, CheckRange, CheckPointer, Text, Offset, Index, RoutineValue, Load, Store, LoadByte, StoreByte, Jump, JumpBack, Branch, BranchBack, Call, CallValue, Return, Trap, Take, Put, New, End}
+use Rattle.tac_code.specs.declared.code.Instruction.TheVariants.{Literal, Copy, Arithmetic, Bits, Compare, CheckRange}
+use Rattle.tac_code.specs.declared.code.Instruction.TheVariants.{CheckPointer, Text, Offset, Index, RoutineValue, Load}
+use Rattle.tac_code.specs.declared.code.Instruction.TheVariants.{Store, LoadByte, StoreByte, Jump, JumpBack, Branch}
+use Rattle.tac_code.specs.declared.code.Instruction.TheVariants.{BranchBack, Call, CallValue, Return, Trap, Take, Put}
+use Rattle.tac_code.specs.declared.code.Instruction.TheVariants.{New, End}
 use Rattle.tac_code.specs.declared.code.TacRoutine.{TacRoutine}
 use Rattle.tac_code.specs.declared.code.TacRaw.{TacRaw}
 use Rattle.tac_code.specs.declared.check.Limits.{Limits}
@@ -17,7 +21,7 @@ use Rattle.tac_code.specs.Meaning.{Code, size}
 abbrev pub Each : {X : Type 0} → (ℕ → X → Type 0) → List X → Type 0
 Each {X} P xs = (i : ℕ) (x : X) → slice_get xs i ≡ Some x → P i x
 
--- what the parts of a `TacRaw` are as code
+-- the code that the parts of a `TacRaw` stand for
 abbrev pub code_of : TacRaw → Code
 code_of raw =
     record { program = raw.program.items; run_time = raw.run_time.items; objects = raw.objects.items }
@@ -41,14 +45,14 @@ abbrev pub IsOperand : ℕ → Operand → Type 0
 IsOperand temporaries (operand.Temporary t) = t < temporaries
 IsOperand temporaries (operand.Number z) = IsInteger z
 
--- A base, of which so many bytes are meant from an offset on: of the scratch block they lie within it.
+-- A base with `bytes` bytes meant from an offset on: in the scratch block they are within it.
 abbrev pub IsBase : Limits → Base → (offset bytes : ℕ) → Type 0
 IsBase l base.Frame offset bytes = Unit {0}
 IsBase l base.Scratch offset bytes = offset + bytes ≤ l.scratch
 IsBase l base.Program offset bytes = Unit {0}
 IsBase l (base.Temporary t) offset bytes = t < l.temporaries
 
--- what an instruction at a place asks
+-- what is required of an instruction at a place
 abbrev pub IsSoundAt : Limits → ℕ → Instruction → Type 0
 IsSoundAt l place (Literal t z) = (t < l.temporaries) × IsInteger z
 IsSoundAt l place (Copy t a) = (t < l.temporaries) × (a < l.temporaries)
@@ -62,7 +66,8 @@ IsSoundAt l place (CheckPointer a error line) = (a < l.temporaries) × IsErrorNu
 IsSoundAt l place (Text t bytes) = (t < l.temporaries) × (length bytes % 4 ≡ 0)
 IsSoundAt l place (Offset t a n extent) = (t < l.temporaries) × IsBase l a n extent
 IsSoundAt l place (Index t a i low high width error line) =
-    (t < l.temporaries) × IsBase l a 0 0 × (i < l.temporaries) × IsInteger low × IsInteger high × IsErrorNumber error × IsLine line
+    (t < l.temporaries) × IsBase l a 0 0 × (i < l.temporaries) × IsInteger low × IsInteger high × IsErrorNumber error
+    × IsLine line
 IsSoundAt l place (RoutineValue t r) = (t < l.temporaries) × (r < l.routines)
 IsSoundAt l place (Load t a offset) = (t < l.temporaries) × IsBase l a offset 4
 IsSoundAt l place (Store a offset b) = IsBase l a offset 4 × (b < l.temporaries)
@@ -87,10 +92,16 @@ IsSoundAt l place End = Unit {0}
 abbrev pub IsSoundBody : Limits → List Instruction → Type 0
 IsSoundBody l body = Each (IsSoundAt l) body
 
--- what there is: for a routine of the code
+-- what exists, for a routine of the code
 abbrev pub limits_of : Code → TacRoutine → Limits
 limits_of code routine =
-    record { temporaries = routine.temporaries; places = length routine.body; routines = length code.program + length code.run_time; object_types = length code.objects; scratch = routine.scratch }
+    record {
+      temporaries = routine.temporaries;
+      places = length routine.body;
+      routines = length code.program + length code.run_time;
+      object_types = length code.objects;
+      scratch = routine.scratch;
+    }
 
 pub record IsSoundRoutine (l : Limits) (routine : TacRoutine) : Type 0 where
   pub parameters : routine.parameters ≤ routine.temporaries
@@ -105,7 +116,7 @@ CallsNone (Call t r list line) = ⊥
 CallsNone (CallValue t a list line) = ⊥
 CallsNone _ = Unit {0}
 
--- A run-time routine calls none and is small: its frame lies within its caller's.
+-- A run-time routine calls none and is small: its frame is within its caller's.
 pub record IsLeaf (routine : TacRoutine) : Type 0 where
   pub parameters : routine.parameters ≤ 8
   pub bytes : size routine ≤ 160

@@ -2,7 +2,8 @@
 
 ghost use Rattle.std.specs.Prelude.{◌≡◌, ℕ, suc, ◌+◌, ◌<◌, ◌≤◌, ◌%◌, ◌↔◌, IsTrue, length};
 ghost use Rattle.tac_code.specs.Meaning.{size};
-ghost use Rattle.tac_code.specs.Sound.{AreOperands, IsInteger, IsOperand, IsBase, IsSoundAt, IsSoundBody, IsSoundRoutine, IsLeaf, Each, CallsNone, IsErrorNumber, IsLine};
+ghost use Rattle.tac_code.specs.Sound.{AreOperands, IsInteger, IsOperand, IsBase, IsSoundAt, IsSoundBody};
+ghost use Rattle.tac_code.specs.Sound.{IsSoundRoutine, IsLeaf, Each, CallsNone, IsErrorNumber, IsLine};
 
 use crate::code::{Base, Instruction, Operand, Operands, TacRoutine};
 
@@ -36,7 +37,7 @@ fn is_error(error: u8, line: u16) -> bool
     is_error_number(error) && is_line(line)
 }
 
-// Every number of this type is one, which what is proved of the code wants to know.
+// Every number of this type is one, a fact that proofs about the code need.
 fn is_integer(number: i32) -> bool
     ensures { IsTrue result ↔ IsInteger number }
 {
@@ -44,7 +45,7 @@ fn is_integer(number: i32) -> bool
     true
 }
 
-// A range, and the error of what lies outside.
+// A range, and the error for what is outside it.
 fn is_range(low: i32, high: i32, error: u8, line: u16) -> bool
     ensures { IsTrue result ↔ (IsInteger low × IsInteger high × IsErrorNumber error × IsLine line) }
 {
@@ -81,7 +82,7 @@ fn are_compared(temporaries: u32, left: u32, right: Operand) -> bool
     left < temporaries && is_operand(temporaries, right)
 }
 
-// A base, of which so many bytes are meant from an offset on.
+// A base with `bytes` bytes meant from an offset on.
 fn is_base(l: Limits, base: Base, offset: u32, bytes: u32) -> bool
     ensures { IsTrue result ↔ IsBase l base offset bytes }
 {
@@ -92,7 +93,7 @@ fn is_base(l: Limits, base: Base, offset: u32, bytes: u32) -> bool
     }
 }
 
-// A place so many instructions behind the next one.
+// A place `forward` instructions after the next one.
 fn is_forward(l: Limits, place: usize, forward: u64) -> bool
     requires { place < l.places }
     ensures { IsTrue result ↔ suc place + forward < l.places }

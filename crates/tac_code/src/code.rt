@@ -1,11 +1,11 @@
-// The code: instructions over numbered temporaries, routines, and what the untested whole is made of.
+// The code: instructions over numbered temporaries, routines, and the parts of a whole that is not yet tested.
 
 use smallvec::SmallVec;
 use std::alloc::{AllocError, Global};
 use std::marker::Model;
 use std::rc::Rc;
 
-/// Want of memory: a growth was refused.
+/// Out of memory: the allocator refused a growth.
 pub type OutOfMemory = AllocError;
 
 /// The temporaries whose values a call passes, first parameter first.
@@ -75,13 +75,13 @@ pub enum BitOperator {
     Or,
     /// The bits of the left word that aren't in the right one.
     AndNot,
-    /// By the right number modulo 32; what leaves the word is lost.
+    /// By the right number modulo 32; bits shifted out of the word are lost.
     ShiftLeft,
     /// The sum modulo 2^32.
     Plus,
 }
 
-/// A relation between two numbers; two pointers are only equal or not.
+/// A relation between two numbers; two pointers are only equal or unequal.
 #[derive(Clone, Copy)]
 pub enum Relation {
     Equal,
@@ -92,15 +92,15 @@ pub enum Relation {
     GreaterEqual,
 }
 
-/// A block of memory. Activations and objects are counted from 0 over the whole run, so no name is used twice.
+/// A block of memory. Activations and objects are numbered from 0 over the whole run, so no name is used twice.
 #[derive(Clone, Copy)]
 pub enum Block {
     /// The variables of an activation, with its parameters, result and static link.
     Frame(u64),
-    /// Room of an activation for copied structures and sets between their turn and their use.
+    /// Room of an activation for copied structures and for sets, between their evaluation and their use.
     Scratch(u64),
     Object(u64),
-    /// The bytes of the `Text` at this place of this routine, which are only read.
+    /// The bytes of the `Text` at this place of this routine, which are read-only.
     Constant(u32, u64),
 }
 
@@ -133,7 +133,7 @@ pub enum Base {
     Temporary(u32),
 }
 
-/// The bytes of a constant, as those of a string. Several constants may share them.
+/// The bytes of a constant, such as those of a string. Several constants may share them.
 pub struct Constant {
     list: Rc<Vec<u8>>,
 }
@@ -160,7 +160,7 @@ impl Constant {
         Ok(Constant::shared(Rc::new(alloc, bytes)?))
     }
 
-    /// A constant of bytes that others have too.
+    /// A constant whose bytes are shared with others.
     pub fn shared(bytes: Rc<Vec<u8>>) -> Constant
         ensures { result ≡ bytes.value.items }
     {
@@ -207,7 +207,7 @@ pub enum Instruction {
         left: u32,
         right: Operand,
     },
-    /// The error unless the number lies in `low`..`high`.
+    /// The error unless the number is in `low`..`high`.
     CheckRange {
         value: u32,
         low: i32,
@@ -226,14 +226,14 @@ pub enum Instruction {
         to: u32,
         bytes: Constant,
     },
-    /// The address so many bytes on, where `extent` bytes are meant.
+    /// The address `bytes` bytes on, where `extent` bytes are meant.
     Offset {
         to: u32,
         base: Base,
         bytes: u32,
         extent: u32,
     },
-    /// The address of a component, `index - low` widths on; the error unless the index lies in `low`..`high`.
+    /// The address of a component, `index - low` widths on; the error unless the index is in `low`..`high`.
     Index {
         to: u32,
         base: Base,
@@ -268,22 +268,22 @@ pub enum Instruction {
         offset: u32,
         from: u32,
     },
-    /// Passes so many instructions.
+    /// Skips `forward` instructions.
     Jump {
         forward: u64,
     },
-    /// Goes back so many instructions, counted from the jump itself.
+    /// Goes back `back` instructions, counted from the jump itself.
     JumpBack {
         back: u64,
     },
-    /// Passes so many instructions where the relation holds, as `Compare` tells it.
+    /// Skips `forward` instructions where the relation holds, as `Compare` decides it.
     Branch {
         relation: Relation,
         left: u32,
         right: Operand,
         forward: u64,
     },
-    /// Goes back so many instructions, counted from the branch itself, where the relation holds.
+    /// Goes back `back` instructions, counted from the branch itself, where the relation holds.
     BranchBack {
         relation: Relation,
         left: u32,

@@ -4,7 +4,9 @@ ghost use Rattle.std.specs.Prelude.{◌≡◌, ◌+◌, ◌<◌, ◌^◌, ◌++�
 ghost use Rattle.std.specs.Fmt.{DisplaysOnOk};
 ghost use Rattle.std.specs.String.{string_bytes};
 ghost use Rattle.tac_code.specs.declared.code.Instruction.TheVariants as instruction;
-ghost use Rattle.tac_code.specs.Printed.{operator_sign, bit_operator_sign, relation_sign, printed_operand, printed_base, printed_operands, printed_bytes, or_error, printed, numbered, instruction_line, count_line, printed_routine, type_line, printed_code};
+ghost use Rattle.tac_code.specs.Printed.{operator_sign, bit_operator_sign, relation_sign, printed_operand};
+ghost use Rattle.tac_code.specs.Printed.{printed_base, printed_operands, printed_bytes, or_error, printed, numbered};
+ghost use Rattle.tac_code.specs.Printed.{instruction_line, count_line, printed_routine, type_line, printed_code};
 
 use crate::code::{
     Base, BitOperator, Constant, Instruction, Operand, Operands, Operator, OutOfMemory, Relation,
@@ -140,7 +142,7 @@ fn error_at(error: u8, line: u16) -> Otherwise
     Otherwise { error, line }
 }
 
-// A number behind what names it.
+// A number after its name.
 fn write_named<W: fmt::Write>(f: &mut fmt::Formatter<W>, name: &str, number: u64) -> fmt::Result
     ensures { DisplaysOnOk W.write_str_gives f.old result (Some (name.now ++ decimal number)) f.new }
 {
@@ -154,7 +156,8 @@ fn write_copied<W: fmt::Write>(
     number: u32,
     to: u32,
 ) -> fmt::Result
-    ensures { DisplaysOnOk W.write_str_gives f.old result (Some (name.now ++ decimal number ++ codes " -> t" ++ decimal to)) f.new }
+    ensures { DisplaysOnOk W.write_str_gives f.old result
+        (Some (name.now ++ decimal number ++ codes " -> t" ++ decimal to)) f.new }
 {
     write!(f, "{name}{number} -> t{to}")
 }
@@ -185,7 +188,9 @@ fn write_operation<W: fmt::Write>(
     right: Operand,
     to: u32,
 ) -> fmt::Result
-    ensures { DisplaysOnOk W.write_str_gives f.old result (Some (codes "t" ++ decimal left ++ codes " " ++ sign.now ++ codes " " ++ printed_operand right ++ codes " -> t" ++ decimal to)) f.new }
+    ensures { DisplaysOnOk W.write_str_gives f.old result
+        (Some (codes "t" ++ decimal left ++ codes " " ++ sign.now ++ codes " " ++ printed_operand right ++ codes " -> t"
+        ++ decimal to)) f.new }
 {
     write!(f, "t{left} {sign} {right} -> t{to}")
 }
@@ -198,7 +203,8 @@ fn write_arithmetic<W: fmt::Write>(
     right: Operand,
     or_error: Otherwise,
 ) -> fmt::Result
-    ensures { DisplaysOnOk W.write_str_gives f.old result (Some (printed (instruction.Arithmetic operator to left right or_error.error or_error.line))) f.new }
+    ensures { DisplaysOnOk W.write_str_gives f.old result
+        (Some (printed (instruction.Arithmetic operator to left right or_error.error or_error.line))) f.new }
 {
     write!(f, "t{left} {operator} {right} -> t{to}{or_error}")
 }
@@ -210,7 +216,8 @@ fn write_range_check<W: fmt::Write>(
     high: i32,
     or_error: Otherwise,
 ) -> fmt::Result
-    ensures { DisplaysOnOk W.write_str_gives f.old result (Some (printed (instruction.CheckRange value low high or_error.error or_error.line))) f.new }
+    ensures { DisplaysOnOk W.write_str_gives f.old result
+        (Some (printed (instruction.CheckRange value low high or_error.error or_error.line))) f.new }
 {
     write!(f, "check t{value} in {low}..{high}{or_error}")
 }
@@ -220,7 +227,8 @@ fn write_pointer_check<W: fmt::Write>(
     pointer: u32,
     or_error: Otherwise,
 ) -> fmt::Result
-    ensures { DisplaysOnOk W.write_str_gives f.old result (Some (printed (instruction.CheckPointer pointer or_error.error or_error.line))) f.new }
+    ensures { DisplaysOnOk W.write_str_gives f.old result
+        (Some (printed (instruction.CheckPointer pointer or_error.error or_error.line))) f.new }
 {
     write!(f, "check t{pointer} <> nil{or_error}")
 }
@@ -232,12 +240,13 @@ fn write_offset<W: fmt::Write>(
     bytes: u32,
     extent: u32,
 ) -> fmt::Result
-    ensures { DisplaysOnOk W.write_str_gives f.old result (Some (printed (instruction.Offset to base bytes extent))) f.new }
+    ensures { DisplaysOnOk W.write_str_gives f.old result
+        (Some (printed (instruction.Offset to base bytes extent))) f.new }
 {
     write!(f, "{base} + {bytes} -> t{to}, {extent} bytes")
 }
 
-// A load of a word or of a byte, as it is named.
+// A load of a word or of a byte, by its name.
 fn write_load<W: fmt::Write>(
     f: &mut fmt::Formatter<W>,
     width: &str,
@@ -245,7 +254,9 @@ fn write_load<W: fmt::Write>(
     base: Base,
     offset: u32,
 ) -> fmt::Result
-    ensures { DisplaysOnOk W.write_str_gives f.old result (Some (width.now ++ codes " " ++ printed_base base ++ codes " + " ++ decimal offset ++ codes " -> t" ++ decimal to)) f.new }
+    ensures { DisplaysOnOk W.write_str_gives f.old result
+        (Some (width.now ++ codes " " ++ printed_base base ++ codes " + " ++ decimal offset ++ codes " -> t"
+        ++ decimal to)) f.new }
 {
     write!(f, "{width} {base} + {offset} -> t{to}")
 }
@@ -258,12 +269,14 @@ fn write_store<W: fmt::Write>(
     offset: u32,
     from: u32,
 ) -> fmt::Result
-    ensures { DisplaysOnOk W.write_str_gives f.old result (Some (codes "t" ++ decimal from ++ codes " -> " ++ width.now ++ codes " " ++ printed_base base ++ codes " + " ++ decimal offset)) f.new }
+    ensures { DisplaysOnOk W.write_str_gives f.old result
+        (Some (codes "t" ++ decimal from ++ codes " -> " ++ width.now ++ codes " " ++ printed_base base ++ codes " + "
+        ++ decimal offset)) f.new }
 {
     write!(f, "t{from} -> {width} {base} + {offset}")
 }
 
-// A branch so far, behind what names its way.
+// A branch so far, after the name of its kind.
 fn write_branch<W: fmt::Write>(
     f: &mut fmt::Formatter<W>,
     name: &str,
@@ -272,12 +285,14 @@ fn write_branch<W: fmt::Write>(
     left: u32,
     right: Operand,
 ) -> fmt::Result
-    ensures { DisplaysOnOk W.write_str_gives f.old result (Some (name.now ++ decimal distance ++ codes " if t" ++ decimal left ++ codes " " ++ relation_sign relation ++ codes " " ++ printed_operand right)) f.new }
+    ensures { DisplaysOnOk W.write_str_gives f.old result
+        (Some (name.now ++ decimal distance ++ codes " if t" ++ decimal left ++ codes " " ++ relation_sign relation
+        ++ codes " " ++ printed_operand right)) f.new }
 {
     write!(f, "{name}{distance} if t{left} {relation} {right}")
 }
 
-// A call of a routine by its number, or by the temporary that holds it, with a t before.
+// A call of a routine by its number, or by the temporary that holds it, with a t before it.
 fn write_call<W: fmt::Write>(
     f: &mut fmt::Formatter<W>,
     before: &str,
@@ -286,7 +301,9 @@ fn write_call<W: fmt::Write>(
     operands: &Operands,
     to: u32,
 ) -> fmt::Result
-    ensures { DisplaysOnOk W.write_str_gives f.old result (Some (codes "call " ++ before.now ++ decimal callee ++ codes " at line " ++ decimal line ++ codes " (" ++ printed_operands operands.now ++ codes " ) -> t" ++ decimal to)) f.new }
+    ensures { DisplaysOnOk W.write_str_gives f.old result
+        (Some (codes "call " ++ before.now ++ decimal callee ++ codes " at line " ++ decimal line ++ codes " ("
+        ++ printed_operands operands.now ++ codes " ) -> t" ++ decimal to)) f.new }
 {
     write!(
         f,
@@ -461,7 +478,7 @@ fn add_routine(
     Ok(())
 }
 
-// Adds routines, whose numbers begin with the first.
+// Adds routines, numbered from the first on.
 fn add_routines(
     alloc: Global,
     text: &mut String,

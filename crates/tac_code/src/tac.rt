@@ -4,7 +4,7 @@ use crate::check::{Limits, is_leaf, is_sound_routine};
 use crate::code::{TacRaw, TacRoutine};
 use std::marker::Model;
 
-/// Three-address code that keeps its invariant: each target and operand exists, and numbers lie in their ranges.
+/// Three-address code that keeps its invariant: each target and operand exists, and numbers are in their ranges.
 pub struct Tac {
     raw: TacRaw,
 }
@@ -28,7 +28,8 @@ impl Model for Tac {
 
 ghost use Rattle.std.specs.Prelude.{◌≡◌, ◌<◌, ◌↔◌, IsTrue, IsSome, IfSome, length, slice_get, Option, Some};
 ghost use Rattle.tac_code.specs.Meaning.{routines};
-ghost use Rattle.tac_code.specs.Sound.{code_of, limits_of, IsSound, IsObjectSize, AreSoundRoutines, AreLeaves, AreObjectSizes};
+ghost use Rattle.tac_code.specs.Sound.{code_of, limits_of, IsSound, IsObjectSize, AreSoundRoutines, AreLeaves};
+ghost use Rattle.tac_code.specs.Sound.{AreObjectSizes};
 
 impl Tac {
     /// The code with these parts, where they keep the invariant.

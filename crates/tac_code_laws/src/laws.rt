@@ -2,7 +2,7 @@
 
 ghost use Rattle.tac_code_laws.specs.Laws.{RunGrows};
 
-/// A run of three-address code only grows, and its ending stays, its open calls included.
+/// A run of three-address code only grows, and its ending stays, including its open calls.
 pub fn run_grows()
     ensures { RunGrows }
 {}

@@ -1,5 +1,7 @@
--- The runner takes an instruction in two parts: its operands come to an effect, and the effect is done.
-use Rattle.std.specs.Prelude.{ℕ, suc, ◌+◌, ◌-◌, ◌*◌, Bool, true, false, not, nat_eq, nat_lt, ◌≡◌, if◌then◌else◌, List, [], ◌∷◌, ◌++◌, length, map, slice_get, Option, Some, None, Result, Ok, Err, ℤ, pos, negsuc}
+-- The runner executes an instruction in two parts: its operands give an effect, and the effect is carried out.
+use Rattle.std.specs.Prelude.{ℕ, suc, ◌+◌, ◌-◌, ◌*◌, Bool, true, false, not, nat_eq, nat_lt, ◌≡◌, if◌then◌else◌, List}
+use Rattle.std.specs.Prelude.{[], ◌∷◌, ◌++◌, length, map, slice_get, Option, Some, None, Result, Ok, Err, ℤ, pos}
+use Rattle.std.specs.Prelude.{negsuc}
 use Rattle.behavior.specs.Endings as ending
 use Rattle.behavior.specs.Endings.{failed}
 use Rattle.behavior.specs.Transcripts.{Shown}
@@ -8,20 +10,27 @@ use Rattle.tac_code.specs.declared.code.Block.TheVariants.{Object, Constant}
 use Rattle.tac_code.specs.declared.code.Value.{Value}
 use Rattle.tac_code.specs.declared.code.Value.TheVariants.{Number, Address, Routine}
 use Rattle.tac_code.specs.declared.code.Instruction.{Instruction}
-use Rattle.tac_code.specs.declared.code.Instruction.TheVariants.{Literal, Copy, Arithmetic, Bits, Compare, CheckRange, CheckPointer, Text, Offset, Index, RoutineValue, Load, Store, LoadByte, StoreByte, Jump, JumpBack, Branch, BranchBack, Call, CallValue, Return, Trap, Take, Put, New, End}
+use Rattle.tac_code.specs.declared.code.Instruction.TheVariants.{Literal, Copy, Arithmetic, Bits, Compare, CheckRange}
+use Rattle.tac_code.specs.declared.code.Instruction.TheVariants.{CheckPointer, Text, Offset, Index, RoutineValue, Load}
+use Rattle.tac_code.specs.declared.code.Instruction.TheVariants.{Store, LoadByte, StoreByte, Jump, JumpBack, Branch}
+use Rattle.tac_code.specs.declared.code.Instruction.TheVariants.{BranchBack, Call, CallValue, Return, Trap, Take, Put}
+use Rattle.tac_code.specs.declared.code.Instruction.TheVariants.{New, End}
 use Rattle.tac_code_runner.specs.declared.effect.Ending.{Ending}
 use Rattle.tac_code_runner.specs.declared.effect.Ending.TheVariants.{More, Normal, Error, OutOfStack, OutOfHeap, Stuck}
 use Rattle.tac_code_runner.specs.declared.effect.Effect.{Effect}
-use Rattle.tac_code_runner.specs.declared.effect.Effect.TheVariants.{Stop, Proceed, GoTo, Give, Write, WriteByte, Enter, Leave, TakeByte, PutByte, Make}
+use Rattle.tac_code_runner.specs.declared.effect.Effect.TheVariants.{Stop, Proceed, GoTo, Give, Write, WriteByte}
+use Rattle.tac_code_runner.specs.declared.effect.Effect.TheVariants.{Enter, Leave, TakeByte, PutByte, Make}
 use Rattle.tac_code_runner.specs.declared.machine.Activation.{Activation as Activation'}
 use Rattle.tac_code_runner.specs.declared.machine.Machine.{Machine}
 use Rattle.tac_code_runner.specs.declared.runner.Report.{Report}
 use Rattle.tac_code.specs.declared.code.TacRoutine.{TacRoutine}
 use Rattle.tac_code.specs.Numbers.{truth, Computed, Gives, Fails, computed, bits, is_in_range, steps_above}
 use Rattle.tac_code.specs.Memory.{known, load, load_byte, store, store_byte}
-use Rattle.tac_code.specs.Meaning.{Code, Temporaries, Activation, State, Step, Goes, Over, text_at, pointer_of, related, operand_value, base_value, is_nil, with_some, goes_on, goes_to, gives, stores, takes, puts, leave, open_calls, calls, makes, onward, giving, unwritten}
+use Rattle.tac_code.specs.Meaning.{Code, Temporaries, Activation, State, Step, Goes, Over, text_at, pointer_of}
+use Rattle.tac_code.specs.Meaning.{related, operand_value, base_value, is_nil, with_some, goes_on, goes_to, gives}
+use Rattle.tac_code.specs.Meaning.{stores, takes, puts, leave, open_calls, calls, makes, onward, giving, unwritten}
 
--- an ending as that of all layers, where these calls are open
+-- an ending as that of all layers, with these calls open
 abbrev pub ending_of : Ending → List ℕ → ending.Ending
 ending_of More lines = ending.More
 ending_of Normal lines = ending.Normal
@@ -78,7 +87,7 @@ abbrev pub given_component : Bool → ℕ → Block → ℕ → ℕ → ℕ → 
 given_component true t block offset number line = given_address t block offset
 given_component false t block offset number line = Stop (ended_by number line)
 
--- how far on a jump leads
+-- how far forward a jump leads
 abbrev pub forward_of : Instruction → ℕ
 forward_of (Jump n) = n
 forward_of (Branch relation a b n) = n
@@ -90,16 +99,19 @@ operands_in (Call t r operands line) = operands
 operands_in (CallValue t a operands line) = operands
 operands_in _ = []
 
--- what an instruction comes to
+-- the effect of an instruction
 abbrev pub effect_of : Code → Instruction → State → Effect
 effect_of code (Literal t z) s = Give t (Number z)
 effect_of code (Copy t a) s = if_some (s.current.temporaries a) (λ v. Give t v)
 effect_of code (Arithmetic operator t a b number line) s =
-    if_number (s.current.temporaries a) (λ x. if_number (operand_value s.current.temporaries b) (λ y. given_computed t (computed operator number x y) line))
+    if_number (s.current.temporaries a) (λ x. if_number (operand_value s.current.temporaries b)
+    (λ y. given_computed t (computed operator number x y) line))
 effect_of code (Bits operator t a b) s =
-    if_number (s.current.temporaries a) (λ x. if_number (operand_value s.current.temporaries b) (λ y. Give t (Number (bits operator x y))))
+    if_number (s.current.temporaries a) (λ x. if_number (operand_value s.current.temporaries b)
+    (λ y. Give t (Number (bits operator x y))))
 effect_of code (Compare relation t a b) s =
-    if_some (related relation (s.current.temporaries a) (operand_value s.current.temporaries b)) (λ holds. Give t (Number (truth holds)))
+    if_some (related relation (s.current.temporaries a) (operand_value s.current.temporaries b))
+    (λ holds. Give t (Number (truth holds)))
 effect_of code (CheckRange a low high number line) s =
     if_number (s.current.temporaries a) (λ x. checked_by (is_in_range low high x) number line)
 effect_of code (CheckPointer a number line) s =
@@ -108,22 +120,29 @@ effect_of code (Text t bytes) s = Give t (Address (Constant s.current.routine s.
 effect_of code (Offset t a n extent) s =
     if_address (base_value s.current a) (λ block offset. given_address t block (offset + n))
 effect_of code (Index t a i low high width number line) s =
-    if_address (base_value s.current a) (λ block offset. if_number (s.current.temporaries i) (λ x. given_component (is_in_range low high x) t block (offset + steps_above low x * width) number line))
+    if_address (base_value s.current a) (λ block offset. if_number (s.current.temporaries i)
+    (λ x. given_component (is_in_range low high x) t block (offset + steps_above low x * width) number line))
 effect_of code (RoutineValue t r) s = Give t (Routine r)
 effect_of code (Load t a n) s =
-    if_address (base_value s.current a) (λ block offset. if_some (load (text_at code) s.memory block (offset + n)) (λ v. Give t v))
+    if_address (base_value s.current a) (λ block offset. if_some (load (text_at code) s.memory block (offset + n))
+    (λ v. Give t v))
 effect_of code (Store a n b) s =
-    if_address (base_value s.current a) (λ block offset. if_some (s.current.temporaries b) (λ v. Write block (offset + n) v))
+    if_address (base_value s.current a) (λ block offset. if_some (s.current.temporaries b)
+    (λ v. Write block (offset + n) v))
 effect_of code (LoadByte t a n) s =
-    if_address (base_value s.current a) (λ block offset. if_some (load_byte (text_at code) s.memory block (offset + n)) (λ byte. Give t (Number (pos byte))))
+    if_address (base_value s.current a) (λ block offset. if_some (load_byte (text_at code) s.memory block (offset + n))
+    (λ byte. Give t (Number (pos byte))))
 effect_of code (StoreByte a n b) s =
-    if_address (base_value s.current a) (λ block offset. if_number (s.current.temporaries b) (λ x. if_byte x (λ byte. WriteByte block (offset + n) byte)))
+    if_address (base_value s.current a) (λ block offset. if_number (s.current.temporaries b)
+    (λ x. if_byte x (λ byte. WriteByte block (offset + n) byte)))
 effect_of code (Jump n) s = GoTo (suc s.current.place + n)
 effect_of code (JumpBack n) s = GoTo (s.current.place - n)
 effect_of code (Branch relation a b n) s =
-    if_some (related relation (s.current.temporaries a) (operand_value s.current.temporaries b)) (λ holds. if holds then GoTo (suc s.current.place + n) else Proceed)
+    if_some (related relation (s.current.temporaries a) (operand_value s.current.temporaries b))
+    (λ holds. if holds then GoTo (suc s.current.place + n) else Proceed)
 effect_of code (BranchBack relation a b n) s =
-    if_some (related relation (s.current.temporaries a) (operand_value s.current.temporaries b)) (λ holds. if holds then GoTo (s.current.place - n) else Proceed)
+    if_some (related relation (s.current.temporaries a) (operand_value s.current.temporaries b))
+    (λ holds. if holds then GoTo (s.current.place - n) else Proceed)
 effect_of code (Call t r operands line) s = Enter t r line
 effect_of code (CallValue t a operands line) s =
     if_routine (s.current.temporaries a) (λ r. if nat_lt r (length code.program) then Enter t r line else Stop Stuck)
@@ -157,51 +176,97 @@ reads words t = known (slice_get words t)
 
 abbrev pub activation_of : Activation' → Activation
 activation_of a =
-    record { routine = a.routine; place = a.place; number = a.number; temporaries = reads a.temporaries; result = a.result; line = a.line }
+    record {
+      routine = a.routine;
+      place = a.place;
+      number = a.number;
+      temporaries = reads a.temporaries;
+      result = a.result;
+      line = a.line;
+    }
 
 abbrev pub state_of : Machine → State
 state_of m =
-    record { current = activation_of m.current; callers = map activation_of m.callers.items; memory = m.memory; count = m.count; heap = m.heap; tape = record { input = m.input.now; ended = m.ended; transcript = m.transcript.items } }
+    record {
+      current = activation_of m.current;
+      callers = map activation_of m.callers.items;
+      memory = m.memory;
+      count = m.count;
+      heap = m.heap;
+      tape = record {
+        input = m.input.now;
+        ended = m.ended;
+        transcript = m.transcript.items;
+      };
+    }
 
--- what an answer of the runner says, where the program has so many routines: it goes on, or the run is over
+-- what an answer of the runner says, in a program of this many routines: it goes on, or the run is over
 abbrev pub led : ℕ → Option Ending → State → Step
 led program None s = Goes s
 led program (Some e) s = Over (ending_of e (open_calls program s.current s.callers))
 
--- the same of a step that ends in no error, so that no open calls are told
+-- the same for a step that ends in no error, so that no open calls are reported
 abbrev pub Leads : Step → Option Ending → State → Type 0
 Leads step over s = (program : ℕ) → step ≡ led program over s
 
--- values in front of others
+-- values before others
 abbrev pub values_after : List Value → Option (List Value) → Option (List Value)
 values_after xs None = None
 values_after xs (Some vs) = Some (xs ++ vs)
 
--- what the end of a run is told from stayed
+-- all that the end of a run is read from is unchanged
 pub record KeepsShown (s t : State) : Type 0 where
   pub tape : t.tape ≡ s.tape
   pub current : t.current ≡ s.current
   pub callers : t.callers ≡ s.callers
 
--- the state with a new object of so many bytes, at a cost
+-- the state with a new object of this many bytes, at a cost
 abbrev pub made_object : ℕ → ℕ → ℕ → State → State
 made_object t bytes cost s =
-    record s { current = giving t (Address (Object (length s.memory.objects)) 0) s.current; memory = record s.memory { objects = s.memory.objects ++ unwritten bytes ∷ [] }; heap = s.heap + cost }
+    record s {
+      current = giving t (Address (Object (length s.memory.objects)) 0) s.current;
+      memory = record s.memory
+          { objects = s.memory.objects ++ unwritten bytes ∷ [] };
+      heap = s.heap + cost;
+    }
 
 -- a new activation
 abbrev pub first_of : ℕ → ℕ → List Value → ℕ → ℕ → Activation
 first_of r number values result line =
-    record { routine = r; place = 0; number = number; temporaries = λ t. slice_get values t; result = result; line = line }
+    record {
+      routine = r;
+      place = 0;
+      number = number;
+      temporaries = λ t. slice_get values t;
+      result = result;
+      line = line;
+    }
 
 -- the state with the blocks of a new activation
 abbrev pub with_blocks : TacRoutine → State → State
 with_blocks routine s =
-    record s { memory = record s.memory { frames = record { number = s.count; words = unwritten routine.frame } ∷ s.memory.frames; scratch = record { number = s.count; words = unwritten routine.scratch } ∷ s.memory.scratch }; count = suc s.count }
+    record s {
+      memory = record s.memory {
+        frames = record {
+          number = s.count;
+          words = unwritten routine.frame;
+        } ∷ s.memory.frames;
+        scratch = record {
+          number = s.count;
+          words = unwritten routine.scratch;
+        } ∷ s.memory.scratch;
+      };
+      count = suc s.count;
+    }
 
 -- the state with a new activation
 abbrev pub with_activation : TacRoutine → ℕ → List Value → ℕ → ℕ → State → State
 with_activation routine r values result line s =
-    record (with_blocks routine s) { current = first_of r s.count values result line; callers = onward s.current ∷ s.callers }
+    record (with_blocks routine s) {
+      current = first_of r s.count values result line;
+      callers = onward s.current
+          ∷ s.callers;
+    }
 
 pub record SameCounters (m n : Machine) : Type 0 where
   pub count : n.count ≡ m.count
@@ -215,6 +280,6 @@ abbrev pub begun : Result Machine Ending → Step
 begun (Ok m) = Goes (state_of m)
 begun (Err e) = Over (ending_of e [])
 
--- what a run shows that ends in a state
+-- what a run that ends in a state shows
 abbrev pub ended_at : ℕ → Ending → State → Shown
 ended_at program e s = (s.tape.transcript, ending_of e (open_calls program s.current s.callers))

@@ -1,4 +1,4 @@
--- What the runner's own functions give.
+-- The results of the runner's own functions.
 use Rattle.std.specs.Prelude.{ℕ, suc, nat_eq, if◌then◌else◌, List, [], ◌∷◌, Option, Some, None}
 use Rattle.tac_code.specs.Memory.{Living}
 

@@ -82,7 +82,7 @@ impl Blocks {
         }
     }
 
-    /// Adds the block of a new activation, of so many bytes of unwritten words.
+    /// Adds the block of a new activation: `bytes` bytes of unwritten words.
     pub fn enter(&mut self, alloc: Global, number: u64, bytes: u32) -> Result<(), OutOfMemory>
         ensures { OnOk result (self.new ≡ record { number = number; words = unwritten bytes } ∷ self.old) }
     {
@@ -126,9 +126,10 @@ impl Blocks {
         }
     }
 
-    /// Writes a word at an offset in bytes of a block, and tells whether there is such a word; else nothing is changed.
+    /// Writes a word at an offset in bytes of a block, if there is such a word, and reports whether there is.
     pub fn store(&mut self, number: u64, offset: usize, value: Value) -> bool
-        ensures { changed self.old number (λ words. with_word words offset value) ≡ (if result then Some self.new else None) }
+        ensures { changed self.old number (λ words. with_word words offset value)
+            ≡ (if result then Some self.new else None) }
     {
         match find_place(self.list.as_slice(), number) {
             None => false,
@@ -136,9 +137,10 @@ impl Blocks {
         }
     }
 
-    /// Writes a byte at an offset of a block, and tells whether its word there holds a number; else nothing is changed.
+    /// Writes a byte at an offset of a block, if its word there holds a number, and reports whether it does.
     pub fn store_byte(&mut self, number: u64, offset: usize, byte: u8) -> bool
-        ensures { changed self.old number (λ words. with_byte_at words offset byte) ≡ (if result then Some self.new else None) }
+        ensures { changed self.old number (λ words. with_byte_at words offset byte)
+            ≡ (if result then Some self.new else None) }
     {
         match find_place(self.list.as_slice(), number) {
             None => false,

@@ -20,7 +20,7 @@ ghost use Rattle.std.specs.Prelude.{◌≡◌, ◌+◌, ◌<◌, ◌≤◌, ◌^
 ghost use Rattle.tac_code.specs.Meaning.{onward, is_full, enter, calls, frame_cost, open_bytes};
 ghost use Rattle.tac_code_runner.specs.Effect.{state_of, activation_of, led, KeepsShown};
 
-// The frame bytes that a routine counts.
+// The frame bytes that a routine counts for.
 pub(crate) fn frame_cost(tac: &Tac, frames: &[u32], routine: u32) -> u32
     ensures { result ≡ frame_cost tac.now (λ r. slice_index frames.now r) routine }
 {
@@ -32,9 +32,10 @@ pub(crate) fn frame_cost(tac: &Tac, frames: &[u32], routine: u32) -> u32
     }
 }
 
-// Whether so many bytes hold the frames of these activations.
+// Whether `left` bytes hold the frames of these activations.
 fn fits(tac: &Tac, frames: &[u32], left: u64, activations: &[Activation]) -> bool
-    ensures { result ≡ nat_le (open_bytes tac.now (λ r. slice_index frames.now r) (map activation_of activations.now)) left }
+    ensures { result ≡ nat_le (open_bytes tac.now (λ r. slice_index frames.now r) (map activation_of activations.now))
+        left }
 {
     let mut left = left;
     for activation in activations {
@@ -47,7 +48,7 @@ fn fits(tac: &Tac, frames: &[u32], left: u64, activations: &[Activation]) -> boo
     true
 }
 
-// Whether entering a routine would pass the budget of the stack.
+// Whether entering a routine would exceed the budget of the stack.
 fn is_full(
     tac: &Tac,
     budget: Budget,
@@ -55,7 +56,9 @@ fn is_full(
     current: &Activation,
     callers: &[Activation],
 ) -> bool
-    ensures { result ≡ is_full tac.now (λ r. slice_index budget.entry.frames.now r) (λ t. slice_index budget.entry.objects.now t) budget.entry.stack budget.entry.heap routine (onward (activation_of current.now) ∷ map activation_of callers.now) }
+    ensures { result ≡ is_full tac.now (λ r. slice_index budget.entry.frames.now r)
+        (λ t. slice_index budget.entry.objects.now t) budget.entry.stack budget.entry.heap routine
+        (onward (activation_of current.now) ∷ map activation_of callers.now) }
 {
     if routine as usize >= tac.program().len() {
         return false;
@@ -78,7 +81,9 @@ impl<'a> Machine<'a> {
     ) -> Result<Option<Ending>, OutOfMemory>
         requires place { self.old.current.place + 1 < 2 ^ 64 }
         requires count { self.old.count + 1 < 2 ^ 64 }
-        ensures led { IfOk result (λ over. calls tac.now (λ r. slice_index budget.entry.frames.now r) (λ t. slice_index budget.entry.objects.now t) budget.entry.stack budget.entry.heap call.to call.routine operands.now call.line (state_of self.old) ≡ led (length tac.now.program) over (state_of self.new)) }
+        ensures led { IfOk result (λ over. calls tac.now (λ r. slice_index budget.entry.frames.now r)
+            (λ t. slice_index budget.entry.objects.now t) budget.entry.stack budget.entry.heap call.to call.routine
+            operands.now call.line (state_of self.old) ≡ led (length tac.now.program) over (state_of self.new)) }
         ensures kept { IfOk result (λ over. OnSome over (KeepsShown (state_of self.old) (state_of self.new))) }
         ensures count { IfOk result (λ over. self.new.count ≤ self.old.count + 1) }
         ensures heap { IfOk result (λ over. self.new.heap ≡ self.old.heap) }
@@ -90,7 +95,7 @@ impl<'a> Machine<'a> {
         self.call_with(alloc, tac, budget, call, values.as_slice())
     }
 
-    // Enters a routine with these values, if it takes so many of them and the stack has room for it.
+    // Enters a routine with these values, if it takes that many and the stack has room for it.
     fn call_with(
         &mut self,
         alloc: Global,
@@ -101,7 +106,10 @@ impl<'a> Machine<'a> {
     ) -> Result<Option<Ending>, OutOfMemory>
         requires place { self.old.current.place + 1 < 2 ^ 64 }
         requires count { self.old.count + 1 < 2 ^ 64 }
-        ensures led { IfOk result (λ over. enter tac.now (λ r. slice_index budget.entry.frames.now r) (λ t. slice_index budget.entry.objects.now t) budget.entry.stack budget.entry.heap call.routine values.now call.to call.line (onward (activation_of self.old.current) ∷ map activation_of self.old.callers.items) (state_of self.old) ≡ led (length tac.now.program) over (state_of self.new)) }
+        ensures led { IfOk result (λ over. enter tac.now (λ r. slice_index budget.entry.frames.now r)
+            (λ t. slice_index budget.entry.objects.now t) budget.entry.stack budget.entry.heap call.routine values.now
+            call.to call.line (onward (activation_of self.old.current) ∷ map activation_of self.old.callers.items)
+            (state_of self.old) ≡ led (length tac.now.program) over (state_of self.new)) }
         ensures kept { IfOk result (λ over. OnSome over (KeepsShown (state_of self.old) (state_of self.new))) }
         ensures count { IfOk result (λ over. self.new.count ≤ self.old.count + 1) }
         ensures heap { IfOk result (λ over. self.new.heap ≡ self.old.heap) }

@@ -1,4 +1,4 @@
-// What an instruction comes to, once its operands are read.
+// The effect of an instruction, once its operands are read.
 
 use tac_code::code::{BitOperator, Block, Operator, Relation, Value};
 
@@ -13,7 +13,7 @@ pub enum Ending {
     Stuck,
 }
 
-/// What is left to be done of an instruction.
+/// What is left to do for an instruction.
 #[derive(Clone, Copy)]
 pub enum Effect {
     Stop(Ending),
@@ -37,12 +37,15 @@ pub enum Effect {
     },
 }
 
-ghost use Rattle.std.specs.Prelude.{◌≡◌, ◌<◌, MatchResult, MatchOption, MatchBool, IsTrue, ◌↔◌, if◌then◌else◌, FitsSigned, Some, None, ℤ, pos, ◌-ℤ◌, ◌+◌, ◌*◌, nat_lt, int_lt, false, not, ◌&&◌, ◌||◌, length, List, ℕ};
+ghost use Rattle.std.specs.Prelude.{◌≡◌, ◌<◌, MatchResult, MatchOption, MatchBool, IsTrue, ◌↔◌, if◌then◌else◌};
+ghost use Rattle.std.specs.Prelude.{FitsSigned, Some, None, ℤ, pos, ◌-ℤ◌, ◌+◌, ◌*◌, nat_lt, int_lt, false, not, ◌&&◌};
+ghost use Rattle.std.specs.Prelude.{◌||◌, length, List, ℕ};
 ghost use Rattle.tac_code.specs.Numbers.{computed, Gives, Fails, bits, compared, truth, is_in_range, steps_above};
 ghost use Rattle.tac_code.specs.Meaning.{pointer_of, same_pointer, pointers_related, related, is_nil};
-ghost use Rattle.tac_code_runner.specs.Effect.{ended_by, if_some, if_number, if_address, if_routine, if_byte, checked_by, given_address, given_component, given_computed};
+ghost use Rattle.tac_code_runner.specs.Effect.{ended_by, if_some, if_number, if_address, if_routine, if_byte};
+ghost use Rattle.tac_code_runner.specs.Effect.{checked_by, given_address, given_component, given_computed};
 
-/// The ending that the number of an error stands for.
+/// The ending that the number of an error means.
 pub(crate) fn ending_by_number(number: u8, line: u16) -> Ending
     ensures { result ≡ ended_by number line }
 {
@@ -53,9 +56,10 @@ pub(crate) fn ending_by_number(number: u8, line: u16) -> Ending
     }
 }
 
-// ISO 7185 6.7.2.2: the quotient is cut off toward zero.
+// ISO 7185 6.7.2.2: the quotient is truncated toward zero.
 fn quotient(error: u8, x: i32, y: i32) -> Result<i32, u8>
-    ensures { MatchResult result (λ z. computed Operator.Divide error x y ≡ Gives z) (λ e. computed Operator.Divide error x y ≡ Fails e) }
+    ensures { MatchResult result (λ z. computed Operator.Divide error x y ≡ Gives z)
+        (λ e. computed Operator.Divide error x y ≡ Fails e) }
 {
     if y == 0 {
         return Err(2);
@@ -64,7 +68,8 @@ fn quotient(error: u8, x: i32, y: i32) -> Result<i32, u8>
 }
 
 fn compute(operator: Operator, error: u8, x: i32, y: i32) -> Result<i32, u8>
-    ensures { MatchResult result (λ z. computed operator error x y ≡ Gives z) (λ e. computed operator error x y ≡ Fails e) }
+    ensures { MatchResult result (λ z. computed operator error x y ≡ Gives z)
+        (λ e. computed operator error x y ≡ Fails e) }
 {
     match operator {
         Operator::Add => x.checked_add(y).ok_or(error),
@@ -164,7 +169,7 @@ fn same_pointer(p: Option<u64>, q: Option<u64>) -> bool
     }
 }
 
-// Whether two pointers are as a relation says, where it is asked of pointers.
+// Whether a relation holds between two pointers, where it is defined for pointers.
 fn pointers_related(relation: Relation, left: Option<Value>, right: Option<Value>) -> Option<bool>
     ensures { result ≡ pointers_related relation (pointer_of left) (pointer_of right) }
 {
@@ -178,7 +183,7 @@ fn pointers_related(relation: Relation, left: Option<Value>, right: Option<Value
     }
 }
 
-// Whether two numbers, or two pointers, are as a relation says.
+// Whether a relation holds between two numbers, or between two pointers.
 pub(crate) fn related(relation: Relation, left: Option<Value>, right: Option<Value>) -> Option<bool>
     ensures { result ≡ related relation left right }
 {
@@ -281,7 +286,9 @@ pub(crate) fn index_address(
     error: u8,
     line: u16,
 ) -> Effect
-    ensures { result ≡ if_address base (λ block offset. if_number index (λ x. given_component (is_in_range range.0 range.1 x) to block (offset + steps_above range.0 x * width) error line)) }
+    ensures { result ≡ if_address base (λ block offset. if_number index
+        (λ x. given_component (is_in_range range.0 range.1 x) to block
+        (offset + steps_above range.0 x * width) error line)) }
 {
     let (Some(Value::Address(block, offset)), Some(Value::Number(x))) = (base, index) else {
         return STUCK;
@@ -304,7 +311,8 @@ pub(crate) fn word_write(base: Option<Value>, offset: u32, value: Option<Value>)
 }
 
 pub(crate) fn byte_write(base: Option<Value>, offset: u32, value: Option<Value>) -> Effect
-    ensures { result ≡ if_address base (λ block start. if_number value (λ x. if_byte x (λ b. Effect.WriteByte block (start + offset) b))) }
+    ensures { result ≡ if_address base (λ block start. if_number value
+        (λ x. if_byte x (λ b. Effect.WriteByte block (start + offset) b))) }
 {
     let (Some(Value::Address(block, start)), Some(Value::Number(x))) = (base, value) else {
         return STUCK;

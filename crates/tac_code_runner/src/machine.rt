@@ -33,7 +33,7 @@ impl Drop for Activation {
     }
 }
 
-/// A call: the temporary of the caller that its result goes to, the routine, and the line that it stands in.
+/// A call: the temporary of the caller that its result goes to, the routine, and the line of the call.
 #[derive(Clone, Copy)]
 pub struct Call {
     pub to: u32,
@@ -71,11 +71,13 @@ impl<'a> Drop for Machine<'a> {
 ghost use Rattle.std.specs.Prelude.{◌≡◌, ◌+◌, ◌<◌, ◌≤◌, ◌^◌, ◌∷◌, map, nat_lt, if◌then◌else◌, IfOk, OnOk, OnSome};
 ghost use Rattle.tac_code.specs.Memory.{store, store_byte};
 ghost use Rattle.behavior.specs.Endings.{Heap};
-ghost use Rattle.tac_code.specs.Meaning.{with_some, Over, Goes, gives, goes_on, goes_to, stores, puts, takes, leave, onward};
-ghost use Rattle.tac_code_runner.specs.Effect.{state_of, activation_of, Leads, made_object, with_activation, with_blocks, first_of, KeepsShown, SameCounters};
+ghost use Rattle.tac_code.specs.Meaning.{with_some, Over, Goes, gives, goes_on, goes_to, stores, puts, takes, leave};
+ghost use Rattle.tac_code.specs.Meaning.{onward};
+ghost use Rattle.tac_code_runner.specs.Effect.{state_of, activation_of, Leads, made_object, with_activation};
+ghost use Rattle.tac_code_runner.specs.Effect.{with_blocks, first_of, KeepsShown, SameCounters};
 
 impl<'a> Machine<'a> {
-    // What the run showed so far, of which all else is let go.
+    // What the run showed so far; all else is dropped.
     pub(crate) fn into_transcript(self) -> Vec<u16>
         ensures { result ≡ self.entry.transcript }
     {
@@ -120,7 +122,8 @@ impl<'a> Machine<'a> {
 
     pub(crate) fn write(&mut self, block: Block, offset: usize, value: Value) -> Option<Ending>
         requires { self.old.current.place + 1 < 2 ^ 64 }
-        ensures led { Leads (with_some (store self.old.memory block offset value) (λ m. stores m (state_of self.old))) result (state_of self.new) }
+        ensures led { Leads (with_some (store self.old.memory block offset value) (λ m. stores m (state_of self.old)))
+            result (state_of self.new) }
         ensures kept { OnSome result (KeepsShown (state_of self.old) (state_of self.new)) }
         ensures same { SameCounters self.old self.new }
     {
@@ -134,7 +137,8 @@ impl<'a> Machine<'a> {
 
     pub(crate) fn write_byte(&mut self, block: Block, offset: usize, byte: u8) -> Option<Ending>
         requires { self.old.current.place + 1 < 2 ^ 64 }
-        ensures led { Leads (with_some (store_byte self.old.memory block offset byte) (λ m. stores m (state_of self.old))) result (state_of self.new) }
+        ensures led { Leads (with_some (store_byte self.old.memory block offset byte)
+            (λ m. stores m (state_of self.old))) result (state_of self.new) }
         ensures kept { OnSome result (KeepsShown (state_of self.old) (state_of self.new)) }
         ensures same { SameCounters self.old self.new }
     {
@@ -179,7 +183,8 @@ impl<'a> Machine<'a> {
 
     // Back to the caller, with a result.
     pub(crate) fn leave(&mut self, value: Value) -> Result<Option<Ending>, OutOfMemory>
-        ensures led { IfOk result (λ over. Leads (leave value (map activation_of self.old.callers.items) (state_of self.old)) over (state_of self.new)) }
+        ensures led { IfOk result (λ over. Leads
+            (leave value (map activation_of self.old.callers.items) (state_of self.old)) over (state_of self.new)) }
         ensures kept { IfOk result (λ over. OnSome over (KeepsShown (state_of self.old) (state_of self.new))) }
         ensures same { IfOk result (λ over. SameCounters self.old self.new) }
     {
@@ -204,7 +209,9 @@ impl<'a> Machine<'a> {
     ) -> Result<Option<Ending>, OutOfMemory>
         requires place { self.old.current.place + 1 < 2 ^ 64 }
         requires heap { self.old.heap ≤ budget }
-        ensures led { IfOk result (λ over. Leads (if nat_lt budget (self.old.heap + cost) then Over (Heap line) else Goes (made_object to bytes cost (state_of self.old))) over (state_of self.new)) }
+        ensures led { IfOk result (λ over. Leads
+            (if nat_lt budget (self.old.heap + cost) then Over (Heap line) else Goes
+            (made_object to bytes cost (state_of self.old))) over (state_of self.new)) }
         ensures kept { IfOk result (λ over. OnSome over (KeepsShown (state_of self.old) (state_of self.new))) }
         ensures heap { IfOk result (λ over. self.new.heap ≤ budget) }
         ensures count { IfOk result (λ over. self.new.count ≡ self.old.count) }
@@ -220,10 +227,15 @@ impl<'a> Machine<'a> {
         Ok(None)
     }
 
-    // The current activation waits, and another is the current one.
+    // The current activation waits, and another becomes the current one.
     pub(crate) fn switch(&mut self, entered: Activation) -> Result<(), OutOfMemory>
         requires { self.old.current.place + 1 < 2 ^ 64 }
-        ensures state { OnOk result (state_of self.new ≡ record (state_of self.old) { current = activation_of entered; callers = onward (activation_of self.old.current) ∷ map activation_of self.old.callers.items }) }
+        ensures state { OnOk result (state_of self.new ≡ record
+            (state_of self.old) {
+              current = activation_of entered;
+              callers = onward (activation_of self.old.current)
+                  ∷ map activation_of self.old.callers.items;
+            }) }
         ensures count { OnOk result (self.new.count ≡ self.old.count) }
         ensures heap { OnOk result (self.new.heap ≡ self.old.heap) }
     {
@@ -262,7 +274,8 @@ impl<'a> Machine<'a> {
     ) -> Result<(), OutOfMemory>
         requires place { self.old.current.place + 1 < 2 ^ 64 }
         requires count { self.old.count + 1 < 2 ^ 64 }
-        ensures state { OnOk result (state_of self.new ≡ with_activation called.now call.routine values.now call.to call.line (state_of self.old)) }
+        ensures state { OnOk result (state_of self.new
+            ≡ with_activation called.now call.routine values.now call.to call.line (state_of self.old)) }
         ensures count { OnOk result (self.new.count ≡ self.old.count + 1) }
         ensures heap { OnOk result (self.new.heap ≡ self.old.heap) }
     {

@@ -1,4 +1,4 @@
-// Memory as the runner keeps it: the blocks of the open activations, and objects. The constants stand in the code.
+// Memory as the runner keeps it: the blocks of the open activations, and objects. The constants are in the code.
 
 use crate::blocks::Blocks;
 use crate::instructions::text_at;
@@ -39,13 +39,15 @@ impl Model for Memory {
     ghost view = { λ m. record { frames = m.frames; scratch = m.scratch; objects = m.objects } };
 }
 
-ghost use Rattle.std.specs.Prelude.{◌≡◌, ◌+◌, ◌*◌, ◌/◌, if◌then◌else◌, slice_get, [], ◌∷◌, ◌++◌, length, Some, None, OnOk};
+ghost use Rattle.std.specs.Prelude.{◌≡◌, ◌+◌, ◌*◌, ◌/◌, if◌then◌else◌, slice_get, [], ◌∷◌, ◌++◌, length, Some, None};
+ghost use Rattle.std.specs.Prelude.{OnOk};
 ghost use Rattle.tac_code.specs.Numbers.{number_of};
-ghost use Rattle.tac_code.specs.Memory.{known, with_word, with_byte_at, constant_words, changed_object, value_in, byte_value_in, constant_at};
+ghost use Rattle.tac_code.specs.Memory.{known, with_word, with_byte_at, constant_words, changed_object, value_in};
+ghost use Rattle.tac_code.specs.Memory.{byte_value_in, constant_at};
 ghost use Rattle.tac_code.specs.Memory.{load, load_byte, store, store_byte};
 ghost use Rattle.tac_code.specs.Meaning.{text_at, unwritten, without_first};
 
-// The number whose word four bytes make, the lowest first.
+// The number whose word these four bytes make, lowest first.
 fn number_of_bytes(a: u8, b: u8, c: u8, d: u8) -> Value
     ensures { result ≡ Value.Number (number_of (a + 256 * b + 65536 * c + 16777216 * d)) }
 {
@@ -65,7 +67,7 @@ fn constant_word(bytes: &[u8], offset: usize) -> Option<Value>
 }
 
 impl Objects {
-    /// No object.
+    /// No objects.
     pub fn new(alloc: Global) -> Objects
         ensures { result ≡ [] }
     {
@@ -81,7 +83,7 @@ impl Objects {
         self.list.as_slice().len()
     }
 
-    /// Adds an object of so many bytes of unwritten words.
+    /// Adds an object: `bytes` bytes of unwritten words.
     pub fn make(&mut self, alloc: Global, bytes: u32) -> Result<(), OutOfMemory>
         ensures { OnOk result (self.new ≡ self.old ++ unwritten bytes ∷ []) }
     {
@@ -110,9 +112,10 @@ impl Objects {
         }
     }
 
-    /// Writes a word at an offset in bytes of an object, and tells whether there is such a word; else nothing is changed.
+    /// Writes a word at an offset in bytes of an object, if there is such a word, and reports whether there is.
     pub fn store(&mut self, number: usize, offset: usize, value: Value) -> bool
-        ensures { changed_object self.old number (λ words. with_word words offset value) ≡ (if result then Some self.new else None) }
+        ensures { changed_object self.old number (λ words. with_word words offset value)
+            ≡ (if result then Some self.new else None) }
     {
         if number < self.list.as_slice().len() {
             self.list[number].set_word(offset, value)
@@ -121,9 +124,10 @@ impl Objects {
         }
     }
 
-    /// Writes a byte at an offset of an object, and tells whether its word there holds a number; else nothing is changed.
+    /// Writes a byte at an offset of an object, if its word there holds a number, and reports whether it does.
     pub fn store_byte(&mut self, number: usize, offset: usize, byte: u8) -> bool
-        ensures { changed_object self.old number (λ words. with_byte_at words offset byte) ≡ (if result then Some self.new else None) }
+        ensures { changed_object self.old number (λ words. with_byte_at words offset byte)
+            ≡ (if result then Some self.new else None) }
     {
         if number < self.list.as_slice().len() {
             self.list[number].set_byte(offset, byte)
@@ -161,7 +165,7 @@ fn load_constant_byte(tac: &Tac, routine: u32, place: u64, offset: usize) -> Opt
 }
 
 impl Memory {
-    /// No block, and no object.
+    /// No blocks, and no objects.
     pub fn new(alloc: Global) -> Memory
         ensures { result ≡ record { frames = []; scratch = []; objects = [] } }
     {
@@ -172,7 +176,7 @@ impl Memory {
         }
     }
 
-    /// Adds the blocks of a new activation, of so many bytes each.
+    /// Adds the blocks of a new activation, of `frame` and `scratch` bytes.
     pub fn enter(
         &mut self,
         alloc: Global,
@@ -180,7 +184,11 @@ impl Memory {
         frame: u32,
         scratch: u32,
     ) -> Result<(), OutOfMemory>
-        ensures { OnOk result (self.new ≡ record self.old { frames = record { number = number; words = unwritten frame } ∷ self.old.frames; scratch = record { number = number; words = unwritten scratch } ∷ self.old.scratch }) }
+        ensures { OnOk result (self.new ≡ record self.old {
+          frames = record { number = number; words = unwritten frame }
+              ∷ self.old.frames;
+          scratch = record { number = number; words = unwritten scratch } ∷ self.old.scratch;
+        }) }
     {
         self.frames.enter(alloc, number, frame)?;
         self.scratch.enter(alloc, number, scratch)
@@ -188,20 +196,24 @@ impl Memory {
 
     /// Drops the innermost activation's blocks.
     pub fn leave(&mut self)
-        ensures { self.new ≡ record self.old { frames = without_first self.old.frames; scratch = without_first self.old.scratch } }
+        ensures { self.new ≡ record self.old {
+          frames = without_first self.old.frames;
+          scratch = without_first
+              self.old.scratch;
+        } }
     {
         self.frames.leave();
         self.scratch.leave();
     }
 
-    /// How many objects there are, which is the number of the next.
+    /// How many objects there are, which is the number of the next one.
     pub fn object_count(&self) -> usize
         ensures { result ≡ length self.now.objects }
     {
         self.objects.len()
     }
 
-    /// Adds an object of so many bytes.
+    /// Adds an object of `bytes` bytes.
     pub fn make(&mut self, alloc: Global, bytes: u32) -> Result<(), OutOfMemory>
         ensures { OnOk result (self.new ≡ record self.old { objects = self.old.objects ++ unwritten bytes ∷ [] }) }
     {

@@ -8,8 +8,8 @@ use std::alloc::Global;
 use tac_code::code::OutOfMemory;
 use tac_code::tac::Tac;
 
-/// What a run showed: its transcript, where 256 marks a first look at the input, how it ended, and the lines of the calls that were open there,
-/// innermost first, of which an error tells 16.
+/// What a run showed: its transcript, where 256 marks a first look at the input, how it ended, and the lines of the
+/// calls that were open there, innermost first; an error reports 16 of them.
 #[derive(Drop)]
 pub struct Report {
     pub transcript: Vec<u16>,
@@ -50,7 +50,8 @@ fn add_open_calls(
     current: &Activation,
     callers: &[Activation],
 ) -> Result<(), OutOfMemory>
-    ensures { OnOk result (lines.new.items ≡ lines.old.items ++ open_calls program (activation_of current.now) (map activation_of callers.now)) }
+    ensures { OnOk result (lines.new.items ≡ lines.old.items ++ open_calls program (activation_of current.now)
+        (map activation_of callers.now)) }
 {
     let mut called = current;
     for caller in callers {
@@ -76,7 +77,9 @@ fn start<'a>(
     budget: Budget,
     input: &'a [u8],
 ) -> Result<Result<Machine<'a>, Ending>, OutOfMemory>
-    ensures led { IfOk result (λ r. enter tac.now (λ r. slice_index budget.entry.frames.now r) (λ t. slice_index budget.entry.objects.now t) budget.entry.stack budget.entry.heap 0 [] 0 0 [] (before input.now) ≡ begun r) }
+    ensures led { IfOk result (λ r. enter tac.now (λ r. slice_index budget.entry.frames.now r)
+        (λ t. slice_index budget.entry.objects.now t) budget.entry.stack budget.entry.heap 0 [] 0 0 []
+        (before input.now) ≡ begun r) }
     ensures counters { IfOk result (λ r. IfOk r (λ m. (m.count ≡ 1) × (m.heap ≡ 0))) }
 {
     if tac.program().len() + tac.run_time().len() == 0 {
@@ -103,7 +106,7 @@ fn start<'a>(
     Ok(Ok(machine))
 }
 
-// At most so many instructions.
+// At most `steps` instructions.
 fn go(
     alloc: Global,
     machine: Machine,
@@ -114,7 +117,9 @@ fn go(
     requires count { machine.count ≤ 1 }
     requires heap { machine.heap ≤ budget.heap }
     requires steps { steps + 1 < 2 ^ 64 }
-    ensures { IfOk result (λ r. shown_of r ≡ run tac.now (λ r. slice_index budget.entry.frames.now r) (λ t. slice_index budget.entry.objects.now t) budget.entry.stack budget.entry.heap steps (state_of machine.entry)) }
+    ensures { IfOk result (λ r. shown_of r ≡ run tac.now (λ r. slice_index budget.entry.frames.now r)
+        (λ t. slice_index budget.entry.objects.now t) budget.entry.stack budget.entry.heap steps
+        (state_of machine.entry)) }
 {
     let mut machine = machine;
     for made in 0..steps {
@@ -126,7 +131,8 @@ fn go(
     machine.finish(alloc, tac, Ending::More)
 }
 
-/// Runs the code for at most so many steps, the entry of the program block among them: a slow runner for tests. What it answers is what the code means.
+/// Runs the code for at most `steps` steps, including the entry of the program block: a slow runner for tests. Its
+/// answer is the meaning of the code.
 pub fn run(
     alloc: Global,
     tac: &Tac,
@@ -134,7 +140,8 @@ pub fn run(
     input: &[u8],
     steps: u64,
 ) -> Result<Report, OutOfMemory>
-    ensures { IfOk result (λ r. shown_of r ≡ tac_run tac.now (λ r. slice_index budget.entry.frames.now r) (λ t. slice_index budget.entry.objects.now t) budget.entry.stack budget.entry.heap input.now steps) }
+    ensures { IfOk result (λ r. shown_of r ≡ tac_run tac.now (λ r. slice_index budget.entry.frames.now r)
+        (λ t. slice_index budget.entry.objects.now t) budget.entry.stack budget.entry.heap input.now steps) }
 {
     if steps == 0 {
         return Ok(nothing_shown(alloc, Ending::More));

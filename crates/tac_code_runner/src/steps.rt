@@ -1,9 +1,11 @@
-// Steps: what an instruction comes to, and doing it.
+// Steps: the effect of an instruction, and carrying it out.
 
-ghost use Rattle.std.specs.Prelude.{◌≡◌, ◌+◌, ◌-◌, ◌<◌, ◌≤◌, ◌^◌, nat_lt, if◌then◌else◌, IfOk, OnSome, length, slice_index, pos};
+ghost use Rattle.std.specs.Prelude.{◌≡◌, ◌+◌, ◌-◌, ◌<◌, ◌≤◌, ◌^◌, nat_lt, if◌then◌else◌, IfOk, OnSome, length};
+ghost use Rattle.std.specs.Prelude.{slice_index, pos};
 ghost use Rattle.tac_code.specs.Memory.{load, load_byte};
 ghost use Rattle.tac_code.specs.Meaning.{text_at, related, operand_value, base_value, step};
-ghost use Rattle.tac_code_runner.specs.Effect.{reads, effect_of, forward_of, activation_of, state_of, led, if_some, if_address, if_routine, KeepsShown, perform};
+ghost use Rattle.tac_code_runner.specs.Effect.{reads, effect_of, forward_of, activation_of, state_of, led, if_some};
+ghost use Rattle.tac_code_runner.specs.Effect.{if_address, if_routine, KeepsShown, perform};
 
 use crate::calls::Budget;
 use crate::effect::{
@@ -44,12 +46,13 @@ impl<'a> Machine<'a> {
     }
 
     fn related(&self, relation: Relation, left: u32, right: Operand) -> Option<bool>
-        ensures { result ≡ related relation (reads self.now.current.temporaries left) (operand_value (reads self.now.current.temporaries) right) }
+        ensures { result ≡ related relation (reads self.now.current.temporaries left)
+            (operand_value (reads self.now.current.temporaries) right) }
     {
         related(relation, self.value(left), self.operand(right))
     }
 
-    // What an instruction comes to.
+    // The effect of an instruction.
     fn effect(&self, tac: &Tac, instruction: &Instruction) -> Effect
         requires { self.now.current.place + 1 + forward_of instruction.now < 2 ^ 64 }
         ensures { result ≡ effect_of tac.now instruction.now (state_of self.now) }
@@ -180,7 +183,7 @@ impl<'a> Machine<'a> {
         }
     }
 
-    // The place so many instructions back.
+    // The place `back` instructions back.
     fn back(&self, back: u64) -> usize
         ensures { result ≡ self.now.current.place - back }
     {
@@ -189,14 +192,17 @@ impl<'a> Machine<'a> {
 
     // The address of the constant of the instruction itself.
     fn text_address(&self, to: u32) -> Effect
-        ensures { result ≡ Effect.Give to (Value.Address (Block.Constant self.now.current.routine self.now.current.place) 0) }
+        ensures { result ≡ Effect.Give to (Value.Address
+            (Block.Constant self.now.current.routine self.now.current.place) 0) }
     {
         let constant = Block::Constant(self.current.routine, self.current.place as u64);
         Effect::Give(to, Value::Address(constant, 0))
     }
 
     fn loaded(&self, tac: &Tac, to: u32, base: Base, offset: u32) -> Effect
-        ensures { result ≡ if_address (base_value (activation_of self.now.current) base) (λ block start. if_some (load (text_at tac.now) self.now.memory block (start + offset)) (λ v. Effect.Give to v)) }
+        ensures { result ≡ if_address (base_value (activation_of self.now.current) base)
+            (λ block start. if_some (load (text_at tac.now) self.now.memory block (start + offset))
+            (λ v. Effect.Give to v)) }
     {
         match self.base(base) {
             Some(Value::Address(block, start)) => {
@@ -211,7 +217,9 @@ impl<'a> Machine<'a> {
     }
 
     fn loaded_byte(&self, tac: &Tac, to: u32, base: Base, offset: u32) -> Effect
-        ensures { result ≡ if_address (base_value (activation_of self.now.current) base) (λ block start. if_some (load_byte (text_at tac.now) self.now.memory block (start + offset)) (λ byte. Effect.Give to (Value.Number (pos byte)))) }
+        ensures { result ≡ if_address (base_value (activation_of self.now.current) base)
+            (λ block start. if_some (load_byte (text_at tac.now) self.now.memory block (start + offset))
+            (λ byte. Effect.Give to (Value.Number (pos byte)))) }
     {
         match self.base(base) {
             Some(Value::Address(block, start)) => {
@@ -248,7 +256,8 @@ fn leave_with(value: Option<Value>) -> Effect
 
 // Only the program's own routines are called as values.
 fn enter_value(tac: &Tac, to: u32, callee: Option<Value>, line: u16) -> Effect
-    ensures { result ≡ if_routine callee (λ r. if nat_lt r (length tac.now.program) then Effect.Enter to r line else Effect.Stop Ending.Stuck) }
+    ensures { result ≡ if_routine callee (λ r. if nat_lt r (length tac.now.program) then Effect.Enter to r line
+        else Effect.Stop Ending.Stuck) }
 {
     match callee {
         Some(Value::Routine(routine)) => {
@@ -262,7 +271,7 @@ fn enter_value(tac: &Tac, to: u32, callee: Option<Value>, line: u16) -> Effect
     }
 }
 
-// The bytes that an object of a type counts.
+// The bytes that an object of a type counts for.
 fn object_cost(objects: &[u32], object_type: u32) -> u32
     ensures { result ≡ slice_index objects.now object_type }
 {
@@ -270,7 +279,7 @@ fn object_cost(objects: &[u32], object_type: u32) -> u32
 }
 
 impl<'a> Machine<'a> {
-    // Does what an instruction came to.
+    // Carries out the effect of an instruction.
     fn perform(
         &mut self,
         alloc: Global,
@@ -282,7 +291,9 @@ impl<'a> Machine<'a> {
         requires place { self.old.current.place + 1 < 2 ^ 64 }
         requires count { self.old.count + 1 < 2 ^ 64 }
         requires heap { self.old.heap ≤ budget.heap }
-        ensures led { IfOk result (λ over. perform tac.now (λ r. slice_index budget.entry.frames.now r) (λ t. slice_index budget.entry.objects.now t) budget.entry.stack budget.entry.heap operands.now effect (state_of self.old) ≡ led (length tac.now.program) over (state_of self.new)) }
+        ensures led { IfOk result (λ over. perform tac.now (λ r. slice_index budget.entry.frames.now r)
+            (λ t. slice_index budget.entry.objects.now t) budget.entry.stack budget.entry.heap operands.now effect
+            (state_of self.old) ≡ led (length tac.now.program) over (state_of self.new)) }
         ensures kept { IfOk result (λ over. OnSome over (KeepsShown (state_of self.old) (state_of self.new))) }
         ensures count { IfOk result (λ over. self.new.count ≤ self.old.count + 1) }
         ensures heap { IfOk result (λ over. self.new.heap ≤ budget.entry.heap) }
@@ -338,7 +349,9 @@ impl<'a> Machine<'a> {
     ) -> Result<Option<Ending>, OutOfMemory>
         requires count { self.old.count + 1 < 2 ^ 64 }
         requires heap { self.old.heap ≤ budget.heap }
-        ensures led { IfOk result (λ over. step tac.now (λ r. slice_index budget.entry.frames.now r) (λ t. slice_index budget.entry.objects.now t) budget.entry.stack budget.entry.heap (state_of self.old) ≡ led (length tac.now.program) over (state_of self.new)) }
+        ensures led { IfOk result (λ over. step tac.now (λ r. slice_index budget.entry.frames.now r)
+            (λ t. slice_index budget.entry.objects.now t) budget.entry.stack budget.entry.heap (state_of self.old) ≡ led
+            (length tac.now.program) over (state_of self.new)) }
         ensures kept { IfOk result (λ over. OnSome over (KeepsShown (state_of self.old) (state_of self.new))) }
         ensures count { IfOk result (λ over. self.new.count ≤ self.old.count + 1) }
         ensures heap { IfOk result (λ over. self.new.heap ≤ budget.entry.heap) }

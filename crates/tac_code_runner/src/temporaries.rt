@@ -75,7 +75,8 @@ pub(crate) fn gather(
     from: &Temporaries,
     operands: &[u32],
 ) -> Result<bool, OutOfMemory>
-    ensures { IfOk result (λ all. values_after values.old.items (values_of (reads from.now) operands.now) ≡ (if all then Some values.new.items else None)) }
+    ensures { IfOk result (λ all. values_after values.old.items (values_of (reads from.now) operands.now)
+        ≡ (if all then Some values.new.items else None)) }
 {
     for operand in operands {
         let Some(value) = from.get(*operand) else {

@@ -38,7 +38,7 @@ pub(crate) fn byte_of_number(number: i32, k: usize) -> u8
     }
 }
 
-// What a byte counts as byte k of a word.
+// The value of a byte as byte k of a word.
 fn scaled(byte: u8, k: usize) -> u32
     requires { k < 4 }
     ensures { result ≡ byte * 256 ^ k }
@@ -66,7 +66,7 @@ pub(crate) fn with_byte_of_number(number: i32, k: usize, byte: u8) -> i32
 }
 
 impl Words {
-    /// So many bytes of unwritten words.
+    /// `bytes` bytes of unwritten words.
     pub fn unwritten(alloc: Global, bytes: u32) -> Result<Words, OutOfMemory>
         ensures { IfOk result (λ words. words ≡ unwritten bytes) }
     {

@@ -8,16 +8,19 @@ use Rattle.tac_code.specs.Run.{after}
 use Rattle.tac_code_steps.specs.Runs.{Machine, step_of, runs, Stands, Leads, Comes, Stops}
 
 -- where one stretch ends, the next begins
-pub split : (code : Code) (r pc : ℕ) (a b : List Instruction) (pc' : ℕ) → Stands code r pc (a ++ b) pc' → (m : ℕ) × Stands code r pc a m × Stands code r m b pc'
+pub split : (code : Code) (r pc : ℕ) (a b : List Instruction) (pc' : ℕ) → Stands code r pc (a ++ b) pc' → (m : ℕ)
+    × Stands code r pc a m × Stands code r m b pc'
 split code r pc [] b pc' h = (pc, refl, h)
 split code r pc (i ∷ a) b pc' h = let s = split code r (suc pc) a b pc' h.1 in (s.0, (h.0, s.1), s.2)
 
 -- two stretches, one after the other
-pub join : (code : Code) (r pc : ℕ) (a b : List Instruction) (m pc' : ℕ) → Stands code r pc a m → Stands code r m b pc' → Stands code r pc (a ++ b) pc'
+pub join : (code : Code) (r pc : ℕ) (a b : List Instruction) (m pc' : ℕ) → Stands code r pc a m → Stands code r m b pc'
+    → Stands code r pc (a ++ b) pc'
 join code r pc [] b m pc' h g = subst (λ q. Stands code r q b pc') (sym h) g
 join code r pc (i ∷ a) b m pc' h g = (h.0, join code r (suc pc) a b m pc' h.1 g)
 
-pub stands_length : (code : Code) (r pc : ℕ) (a : List Instruction) (pc' : ℕ) → Stands code r pc a pc' → pc' ≡ pc + length a
+pub stands_length : (code : Code) (r pc : ℕ) (a : List Instruction) (pc' : ℕ) → Stands code r pc a pc' → pc' ≡ pc
+    + length a
 stands_length code r pc [] pc' h = omega arith
 stands_length code r pc (i ∷ a) pc' h = let e = stands_length code r (suc pc) a pc' h.1 in omega arith
 
@@ -43,13 +46,16 @@ then_leads l n = record { by = λ k. let b = n.by k in let a = l.by b.0 in (a.0,
 pub leads_then : {m : Machine} {s s1 s2 : State} → Leads m s s1 → Comes m s1 s2 → Leads m s s2
 leads_then l n = record { by = λ k. let b = n.by k in let a = l.by b.0 in (a.0, omega (arith, a.1, b.1), a.2 ∙ b.2) }
 
-pub stops_now : {m : Machine} (n : ℕ) (s : State) (e : Ending) → step_of m s ≡ Over e → Stops m n s (s.tape.transcript, e)
+pub stops_now : {m : Machine} (n : ℕ) (s : State) (e : Ending) → step_of m s ≡ Over e → Stops m n s
+    (s.tape.transcript, e)
 stops_now {m} n s e h = record { by = (suc n, omega arith, ap (λ t. after t s (runs m n)) h) }
 
-pub comes_stops : {m : Machine} {n : ℕ} {s s' : State} {shown : Shown} → Comes m s s' → Stops m n s' shown → Stops m n s shown
+pub comes_stops : {m : Machine} {n : ℕ} {s s' : State} {shown : Shown} → Comes m s s' → Stops m n s' shown
+    → Stops m n s shown
 comes_stops l r = let a = l.by r.by.0 in record { by = (a.0, omega (arith, a.1, r.by.1), a.2 ∙ r.by.2) }
 
-pub leads_stops : {m : Machine} {n : ℕ} {s s' : State} {shown : Shown} → Leads m s s' → Stops m n s' shown → Stops m (suc n) s shown
+pub leads_stops : {m : Machine} {n : ℕ} {s s' : State} {shown : Shown} → Leads m s s' → Stops m n s' shown → Stops m
+    (suc n) s shown
 leads_stops l r = let a = l.by r.by.0 in record { by = (a.0, omega (arith, a.1, r.by.1), a.2 ∙ r.by.2) }
 
 pub stops_sooner : {m : Machine} {n : ℕ} {s : State} {shown : Shown} → Stops m (suc n) s shown → Stops m n s shown

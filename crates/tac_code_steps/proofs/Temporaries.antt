@@ -1,5 +1,6 @@
 -- Tables of temporaries.
-use Rattle.std.proofs.Common.{◌≡◌, ℕ, ◌<◌, ◌≤◌, Bool, true, false, nat_eq, if◌then◌else◌, Some, refl, ap, ◌∙◌, arith, eq-eqb, eqb-true}
+use Rattle.std.proofs.Common.{◌≡◌, ℕ, ◌<◌, ◌≤◌, Bool, true, false, nat_eq, if◌then◌else◌, Some, refl, ap, ◌∙◌, arith}
+use Rattle.std.proofs.Common.{eq-eqb, eqb-true}
 use Rattle.tac_code.specs.declared.code.Value.{Value}
 use Rattle.tac_code.specs.Meaning.{Temporaries, put}
 

@@ -3,10 +3,12 @@ use Rattle.std.specs.Prelude.{◌≡◌, ℕ, ◌+◌, ◌≤◌, length}
 use Rattle.tac_code.specs.Memory.{Words}
 use Rattle.tac_code_steps.specs.Splices.{spliced}
 
--- two stretches that lie apart may be replaced in either order
+-- two disjoint stretches may be replaced in either order
 abbrev pub SplicesApart : Type 0
-SplicesApart = (k j : ℕ) (xs ys ws : Words) → k + length xs ≤ j → spliced k xs (spliced j ys ws) ≡ spliced j ys (spliced k xs ws)
+SplicesApart = (k j : ℕ) (xs ys ws : Words) → k + length xs ≤ j → spliced k xs (spliced j ys ws) ≡ spliced j ys
+    (spliced k xs ws)
 
 -- a stretch within another
 abbrev pub SplicesWithin : Type 0
-SplicesWithin = (k j : ℕ) (xs ys ws : Words) → j + length xs ≤ length ys → spliced (k + j) xs (spliced k ys ws) ≡ spliced k (spliced j xs ys) ws
+SplicesWithin = (k j : ℕ) (xs ys ws : Words) → j + length xs ≤ length ys → spliced (k + j) xs (spliced k ys ws)
+    ≡ spliced k (spliced j xs ys) ws

@@ -1,4 +1,4 @@
--- Words of a block of which a stretch is replaced.
+-- The words of a block with a stretch replaced.
 use Rattle.std.specs.Prelude.{◌⊎◌, ℕ, zero, suc, ◌+◌, ◌≤◌, List, [], ◌∷◌, length}
 use Rattle.tac_code.specs.Memory.{Words}
 
@@ -14,7 +14,7 @@ spliced zero ns ws = overlaid ns ws
 spliced (suc k) ns [] = []
 spliced (suc k) ns (w ∷ ws) = w ∷ spliced k ns ws
 
--- words, and where they stand in a block
+-- words, and their place in a block
 pub record Piece : Type 0 where
   pub place : ℕ
   pub words : Words
@@ -31,7 +31,7 @@ abbrev pub ApartFrom : Piece → List Piece → Type 0
 ApartFrom p [] = Unit {0}
 ApartFrom p (q ∷ qs) = LieApart p q × ApartFrom p qs
 
--- the pieces lie apart from one another, within so many words
+-- the pieces are disjoint, and within n words
 abbrev pub ArePlaced : ℕ → List Piece → Type 0
 ArePlaced size [] = Unit {0}
 ArePlaced size (p ∷ ps) = (p.place + length p.words ≤ size) × ApartFrom p ps × ArePlaced size ps

@@ -1,17 +1,17 @@
 //! Laws: an equation for each instruction of three-address code, runs put together, and stretches of words.
 //!
-//! They serve those who lower to the code. The functions do nothing when they run; each stands for its contract.
+//! For those who lower to the code. The functions do nothing when they run; each stands for its contract.
 #![tactic(auto)]
 
 ghost use Rattle.tac_code_steps.specs.Laws.{SplicesApart, SplicesWithin};
 
-/// Two stretches of words that lie apart may be replaced in either order.
+/// Two disjoint stretches of words may be replaced in either order.
 #[tactic(auto, using(crate::proofs::Splices::spliced_past))]
 pub fn splices_apart()
     ensures { SplicesApart }
 {}
 
-/// To replace a stretch within one that was replaced is to replace it first.
+/// Replacing a stretch within one that was just replaced is the same as replacing it first.
 #[tactic(auto, using(crate::proofs::Splices::spliced_within))]
 pub fn splices_within()
     ensures { SplicesWithin }

@@ -1,5 +1,7 @@
 -- What is made of an instruction is what the rules allow.
-use Rattle.std.proofs.Common.{◌≡◌, ◌⊎◌, inl, inr, ℕ, ◌+◌, ◌*◌, ◌/◌, ◌%◌, ◌≤◌, Bool, true, false, nat_eq, nat_lt, if◌then◌else◌, List, [], ◌∷◌, Option, Some, None, refl, sym, subst, arith, eqb-true, true≢false}
+use Rattle.std.proofs.Common.{◌≡◌, ◌⊎◌, inl, inr, ℕ, ◌+◌, ◌*◌, ◌/◌, ◌%◌, ◌≤◌, Bool, true, false, nat_eq, nat_lt}
+use Rattle.std.proofs.Common.{if◌then◌else◌, List, [], ◌∷◌, Option, Some, None, refl, sym, subst, arith, eqb-true}
+use Rattle.std.proofs.Common.{true≢false}
 use Rattle.std.proofs.lemmas.Nat.{mul-le}
 use Rattle.std.proofs.lemmas.Option.{none-some, same_Some}
 use Rattle.tac_code.specs.declared.code.Operand.{Operand}
@@ -7,20 +9,31 @@ use Rattle.tac_code.specs.declared.code.Operand.TheVariants as operand
 use Rattle.tac_code.specs.declared.code.Base.{Base}
 use Rattle.tac_code.specs.declared.code.Base.TheVariants as base
 use Rattle.tac_code.specs.declared.code.Instruction.{Instruction}
-use Rattle.tac_code.specs.declared.code.Instruction.TheVariants.{Literal, Copy, Arithmetic, Bits, Compare, CheckRange, CheckPointer, Text, Offset, Index, RoutineValue, Load, Store, LoadByte, StoreByte, Jump, JumpBack, Branch, BranchBack, Call, CallValue, Return, Trap, Take, Put, New, End}
+use Rattle.tac_code.specs.declared.code.Instruction.TheVariants.{Literal, Copy, Arithmetic, Bits, Compare, CheckRange}
+use Rattle.tac_code.specs.declared.code.Instruction.TheVariants.{CheckPointer, Text, Offset, Index, RoutineValue, Load}
+use Rattle.tac_code.specs.declared.code.Instruction.TheVariants.{Store, LoadByte, StoreByte, Jump, JumpBack, Branch}
+use Rattle.tac_code.specs.declared.code.Instruction.TheVariants.{BranchBack, Call, CallValue, Return, Trap, Take, Put}
+use Rattle.tac_code.specs.declared.code.Instruction.TheVariants.{New, End}
 use Rattle.tac_code.specs.Numbers.{steps_above}
 use Rattle.tac_pass.specs.declared.table.Reach.{Reach}
 use Rattle.tac_pass.specs.declared.table.Reach.TheVariants.{Anywhere, Within}
 use Rattle.tac_pass.specs.Claims.{Claim}
-use Rattle.tac_pass.specs.Rules.{Holds, Right, SameBase, AllHold, base_points, Forgets, Gave, None_of_them, Elsewhere, As, As_word, Behind, Component, Spares, Renames, Calls, Ends, PutsIn}
+use Rattle.tac_pass.specs.Rules.{Holds, Right, SameBase, AllHold, base_points, Forgets, Gave, None_of_them, Elsewhere}
+use Rattle.tac_pass.specs.Rules.{As, As_word, Behind, Component, Spares, Renames, Calls, Ends, PutsIn}
 use Rattle.tac_pass.specs.Rules as rule
-use Rattle.tac_pass.specs.Tables.{Table, points_to, nowhere, known_in, word_in, claim_in, free, is_minded, give, give_word, spare, store_both, store_old, base_reach, is_seen, write, are_fresh}
-use Rattle.tac_pass.specs.Acts.{and_then, only_if, holder, renamed_right, renamed_base, renamed_list, own_word, bounded, shifted, stretched, Made, makes, kept_load, kept_store, kept, ending, spared_load, spared_store, spared, moved_load, moved_store, moved_word, cleaned, fetched}
-use Rattle.tac_pass.proofs.Tables.{give_is, give_word_is, spare_is, find_is, store_both_is, store_old_is, keep_word_is, clean_is, fetch_word_is, base_is, seen, write_is, call_is}
+use Rattle.tac_pass.specs.Tables.{Table, points_to, nowhere, known_in, word_in, claim_in, free, is_minded, give}
+use Rattle.tac_pass.specs.Tables.{give_word, spare, store_both, store_old, base_reach, is_seen, write, are_fresh}
+use Rattle.tac_pass.specs.Acts.{and_then, only_if, holder, renamed_right, renamed_base, renamed_list, own_word}
+use Rattle.tac_pass.specs.Acts.{bounded, shifted, stretched, Made, makes, kept_load, kept_store, kept, ending}
+use Rattle.tac_pass.specs.Acts.{spared_load, spared_store, spared, moved_load, moved_store, moved_word, cleaned}
+use Rattle.tac_pass.specs.Acts.{fetched}
+use Rattle.tac_pass.proofs.Tables.{give_is, give_word_is, spare_is, find_is, store_both_is, store_old_is, keep_word_is}
+use Rattle.tac_pass.proofs.Tables.{clean_is, fetch_word_is, base_is, seen, write_is, call_is}
 
 -- ---- what was tested
 
-then_some : {A B : Type 0} (o : Option A) (go : A → Option B) (y : B) → and_then o go ≡ Some y → (x : A) × (o ≡ Some x) × (go x ≡ Some y)
+then_some : {A B : Type 0} (o : Option A) (go : A → Option B) (y : B) → and_then o go ≡ Some y → (x : A) × (o ≡ Some x)
+    × (go x ≡ Some y)
 then_some None go y f = absurd (none-some y f)
 then_some (Some x) go y f = (x, refl, f)
 
@@ -45,7 +58,8 @@ all_forgets c = record {
 own_is : (b : Base) (n k : ℕ) → own_word b n ≡ Some k → (b ≡ base.Frame) × (n ≡ 4 * k)
 own_is base.Frame n k f = which (nat_eq (n % 4) 0) refl f
   where
-    which : (t : Bool) → nat_eq (n % 4) 0 ≡ t → (if t then Some (n / 4) else None) ≡ Some k → (base.Frame ≡ base.Frame) × (n ≡ 4 * k)
+    which : (t : Bool) → nat_eq (n % 4) 0 ≡ t → (if t then Some (n / 4) else None) ≡ Some k → (base.Frame ≡ base.Frame)
+        × (n ≡ 4 * k)
     which true e f = let g = eqb-true (n % 4) 0 e in let h = same_Some (n / 4) k f in (refl, omega (arith, g, h))
     which false e f = absurd (none-some k f)
 own_is base.Scratch n k f = absurd (none-some k f)
@@ -55,7 +69,8 @@ own_is (base.Temporary _) n k f = absurd (none-some k f)
 bounded_not : (low high o : ℕ) → points_to (bounded low high) o ≡ false → points_to (Within low high) o ≡ false
 bounded_not low high o f = which (nat_lt high 4294967296) f
   where
-    which : (b : Bool) → points_to (if b then Within low high else Anywhere) o ≡ false → points_to (Within low high) o ≡ false
+    which : (b : Bool) → points_to (if b then Within low high else Anywhere) o ≡ false → points_to (Within low high) o
+        ≡ false
     which true f = f
     which false f = absurd (true≢false f)
 
@@ -67,12 +82,14 @@ module _ (r : ℕ) (minded : List ℕ) (table : Table) where
 
   pub right_is : (b b' : Operand) → renamed_right table b ≡ Some b' → Right c b b'
   right_is (operand.Temporary u) b' f =
-      let x = then_some (holder table u) (λ v. Some (operand.Temporary v)) b' f in (x.0, sym (same_Some (operand.Temporary x.0) b' x.2), x.1)
+      let x = then_some (holder table u) (λ v. Some (operand.Temporary v)) b' f
+      in (x.0, sym (same_Some (operand.Temporary x.0) b' x.2), x.1)
   right_is (operand.Number z) b' f = sym (same_Some (operand.Number z) b' f)
 
   base_same : (b b' : Base) → renamed_base table b ≡ Some b' → SameBase c b b'
   base_same (base.Temporary u) b' f =
-      let x = then_some (holder table u) (λ v. Some (base.Temporary v)) b' f in (x.0, sym (same_Some (base.Temporary x.0) b' x.2), x.1)
+      let x = then_some (holder table u) (λ v. Some (base.Temporary v)) b' f
+      in (x.0, sym (same_Some (base.Temporary x.0) b' x.2), x.1)
   base_same base.Frame b' f = sym (same_Some base.Frame b' f)
   base_same base.Scratch b' f = sym (same_Some base.Scratch b' f)
   base_same base.Program b' f = sym (same_Some base.Program b' f)
@@ -93,12 +110,15 @@ module _ (r : ℕ) (minded : List ℕ) (table : Table) where
       not_there Anywhere f = absurd (true≢false f)
       not_there (Within low high) f = which (nat_lt low high) refl f
         where
-          which : (t : Bool) → nat_lt low high ≡ t → points_to (if t then bounded (low + n) (high + n) else nowhere) o ≡ false → points_to (Within low high) from ≡ false
+          which : (t : Bool) → nat_lt low high ≡ t → points_to (if t then bounded (low + n) (high + n) else nowhere) o
+              ≡ false → points_to (Within low high) from ≡ false
           which true g f = let h = bounded_not (low + n) (high + n) o f in grind arith
           which false g f = grind arith
 
-  stretched_away : (b : Base) (width most o : ℕ) → points_to (stretched (most * width) (base_reach r b table)) o ≡ false → Component r c b width most o
-  stretched_away b width most o f from steps within e = base_is minded table r b from (not_there (base_reach r b table) f)
+  stretched_away : (b : Base) (width most o : ℕ) → points_to (stretched (most * width) (base_reach r b table)) o ≡ false
+      → Component r c b width most o
+  stretched_away b width most o f from steps within e = base_is minded table r b from
+      (not_there (base_reach r b table) f)
     where
       product : steps * width ≤ most * width
       product = mul-le steps width most width within (omega arith)
@@ -107,7 +127,9 @@ module _ (r : ℕ) (minded : List ℕ) (table : Table) where
       not_there Anywhere f = absurd (true≢false f)
       not_there (Within low high) f = which (nat_lt low high) refl f
         where
-          which : (t : Bool) → nat_lt low high ≡ t → points_to (if t then bounded low (high + most * width) else nowhere) o ≡ false → points_to (Within low high) from ≡ false
+          which : (t : Bool) → nat_lt low high ≡ t → points_to
+              (if t then bounded low (high + most * width) else nowhere) o ≡ false → points_to (Within low high) from
+              ≡ false
           which true g f = let h = bounded_not low (high + most * width) o f in let l = product in grind arith
           which false g f = grind arith
 
@@ -118,48 +140,94 @@ module _ (r : ℕ) (minded : List ℕ) (table : Table) where
 
   abbrev Allowed : Instruction → Made → Type 0
   Allowed i made =
-      Renames r c (claim_in minded made.table) i made.instruction ⊎ Calls r c (claim_in minded made.table) i made.instruction
+      Renames r c (claim_in minded made.table) i made.instruction ⊎ Calls r c
+      (claim_in minded made.table) i made.instruction
 
   made_one : Instruction → Table → Made
   made_one i t = record { instruction = i; table = t }
 
-  load_is : (t' t : ℕ) (b : Base) (n : ℕ) (o : Option ℕ) → own_word b n ≡ o → (made : Made) → kept_load r minded table t' t b n o ≡ Some made → Allowed (Load t b n) made
+  load_is : (t' t : ℕ) (b : Base) (n : ℕ) (o : Option ℕ) → own_word b n ≡ o → (made : Made)
+      → kept_load r minded table t' t b n o ≡ Some made → Allowed (Load t b n) made
   load_is t' t b n (Some k) own made f =
-      let x = only_some (if (word_in minded table k).stale then false else true) (makes (Load t' base.Frame n) (give_word minded t t' k table)) made f in
+      let x = only_some (if (word_in minded table k).stale then false else true)
+      (makes (Load t' base.Frame n) (give_word minded t t' k table)) made f in
       let o = own_is b n k own in
-      subst (Allowed (Load t b n)) (same_Some _ made x.1) (inl (inr (k, o.0, o.1, inl (record { t' = t'; same = refl; fresh = was_false (word_in minded table k).stale x.0; gave = give_word_is minded table t t' k }))))
+      subst (Allowed (Load t b n)) (same_Some _ made x.1) (inl (inr (
+        k,
+        o.0,
+        o.1,
+        inl (record {
+          t' = t';
+          same = refl;
+          fresh = was_false (word_in minded table k).stale x.0;
+          gave = give_word_is minded table t t' k;
+        }),
+      )))
   load_is t' t b n None own made f =
-      let x = only_some (is_seen minded (base_reach r b table) n table) (and_then (renamed_base table b) (λ b'. makes (Load t' b' n) (give t t' Anywhere table))) made f in
+      let x = only_some (is_seen minded (base_reach r b table) n table)
+      (and_then (renamed_base table b) (λ b'. makes (Load t' b' n) (give t t' Anywhere table))) made f in
       let y = then_some (renamed_base table b) (λ b'. makes (Load t' b' n) (give t t' Anywhere table)) made x.1 in
-      subst (Allowed (Load t b n)) (same_Some _ made y.2) (inl (inl (record { t' = t'; b' = y.0; same = refl; from = base_same b y.0 y.1; sees = seen minded table r b n x.0; gave = give_is minded table t t' Anywhere rule.Anywhere (λ o f. absurd (true≢false f)) })))
+      subst (Allowed (Load t b n)) (same_Some _ made y.2) (inl (inl (record {
+        t' = t';
+        b' = y.0;
+        same = refl;
+        from = base_same b y.0 y.1;
+        sees = seen minded table r b n x.0;
+        gave = give_is minded table t t' Anywhere rule.Anywhere (λ o f. absurd (true≢false f));
+      })))
 
-  store_is : (b : Base) (n a : ℕ) (o : Option ℕ) → own_word b n ≡ o → (made : Made) → kept_store r minded table b n a o ≡ Some made → Allowed (Store b n a) made
+  store_is : (b : Base) (n a : ℕ) (o : Option ℕ) → own_word b n ≡ o → (made : Made) → kept_store r minded table b n a o
+      ≡ Some made → Allowed (Store b n a) made
   store_is b n a (Some k) own made f =
       let x = then_some (holder table a) (λ a'. makes (Store base.Frame n a') (store_both minded a k table)) made f in
       let o = own_is b n k own in
-      subst (Allowed (Store b n a)) (same_Some _ made x.2) (inl (inr (k, o.0, o.1, inl (record { b' = x.0; same = refl; holds = x.1; stored = store_both_is minded table a k }))))
+      subst (Allowed (Store b n a)) (same_Some _ made x.2) (inl (inr (
+        k,
+        o.0,
+        o.1,
+        inl (record {
+          b' = x.0;
+          same = refl;
+          holds = x.1;
+          stored = store_both_is minded table a k;
+        }),
+      )))
   store_is b n a None own made f =
-      let x = then_some (renamed_base table b) (λ b'. and_then (holder table a) (λ a'. makes (Store b' n a') (write minded (base_reach r b table) n table))) made f in
-      let y = then_some (holder table a) (λ a'. makes (Store x.0 n a') (write minded (base_reach r b table) n table)) made x.2 in
-      subst (Allowed (Store b n a)) (same_Some _ made y.2) (inl (inl (record { a' = y.0; b' = x.0; same = refl; to = base_same b x.0 x.1; holds = y.1; wrote = write_is minded table r b n (As c a) })))
+      let x = then_some (renamed_base table b)
+      (λ b'. and_then (holder table a) (λ a'. makes (Store b' n a') (write minded (base_reach r b table) n table)))
+      made f in
+      let y = then_some (holder table a) (λ a'. makes (Store x.0 n a') (write minded (base_reach r b table) n table))
+      made x.2 in
+      subst (Allowed (Store b n a)) (same_Some _ made y.2) (inl (inl (record {
+        a' = y.0;
+        b' = x.0;
+        same = refl;
+        to = base_same b x.0 x.1;
+        holds = y.1;
+        wrote = write_is minded table r b n (As c a);
+      })))
 
   pub kept_is : (t' : ℕ) (i : Instruction) (made : Made) → kept r minded table t' i ≡ Some made → Allowed i made
   kept_is t' (Literal t z) made f = subst (Allowed (Literal t z)) (same_Some _ made f) (inl (t', refl, given t t'))
   kept_is t' (Copy t a) made f =
       let x = then_some (holder table a) _ made f in
-      subst (Allowed (Copy t a)) (same_Some _ made x.2) (inl (t', x.0, refl, x.1, give_is minded table t t' (known_in table a).reach (As c a) (λ o g. g)))
+      subst (Allowed (Copy t a)) (same_Some _ made x.2)
+      (inl (t', x.0, refl, x.1, give_is minded table t t' (known_in table a).reach (As c a) (λ o g. g)))
   kept_is t' (Arithmetic operator t a b error line) made f =
       let x = then_some (holder table a) _ made f in
       let y = then_some (renamed_right table b) _ made x.2 in
-      subst (Allowed (Arithmetic operator t a b error line)) (same_Some _ made y.2) (inl (t', x.0, y.0, refl, x.1, right_is b y.0 y.1, given t t'))
+      subst (Allowed (Arithmetic operator t a b error line)) (same_Some _ made y.2)
+      (inl (t', x.0, y.0, refl, x.1, right_is b y.0 y.1, given t t'))
   kept_is t' (Bits operator t a b) made f =
       let x = then_some (holder table a) _ made f in
       let y = then_some (renamed_right table b) _ made x.2 in
-      subst (Allowed (Bits operator t a b)) (same_Some _ made y.2) (inl (t', x.0, y.0, refl, x.1, right_is b y.0 y.1, given t t'))
+      subst (Allowed (Bits operator t a b)) (same_Some _ made y.2)
+      (inl (t', x.0, y.0, refl, x.1, right_is b y.0 y.1, given t t'))
   kept_is t' (Compare relation t a b) made f =
       let x = then_some (holder table a) _ made f in
       let y = then_some (renamed_right table b) _ made x.2 in
-      subst (Allowed (Compare relation t a b)) (same_Some _ made y.2) (inl (t', x.0, y.0, refl, x.1, right_is b y.0 y.1, given t t'))
+      subst (Allowed (Compare relation t a b)) (same_Some _ made y.2)
+      (inl (t', x.0, y.0, refl, x.1, right_is b y.0 y.1, given t t'))
   kept_is t' (CheckRange a low high error line) made f =
       let x = then_some (holder table a) _ made f in
       subst (Allowed (CheckRange a low high error line)) (same_Some _ made x.2) (inl (x.0, refl, x.1, all_forgets c))
@@ -169,38 +237,71 @@ module _ (r : ℕ) (minded : List ℕ) (table : Table) where
   kept_is t' (Text t bytes) made f = subst (Allowed (Text t bytes)) (same_Some _ made f) (inl (t', refl, given t t'))
   kept_is t' (Offset t b n extent) made f =
       let x = then_some (renamed_base table b) _ made f in
-      subst (Allowed (Offset t b n extent)) (same_Some _ made x.2) (inl (t', x.0, refl, base_same b x.0 x.1, give_is minded table t t' (shifted n (base_reach r b table)) (Behind r c b n) (λ o g. shifted_away b n o g)))
+      subst (Allowed (Offset t b n extent)) (same_Some _ made x.2)
+      (inl (
+        t',
+        x.0,
+        refl,
+        base_same b x.0 x.1,
+        give_is minded table t t' (shifted n (base_reach r b table))
+            (Behind r c b n) (λ o g. shifted_away b n o g),
+      ))
   kept_is t' (Index t b i low high width error line) made f =
       let x = then_some (renamed_base table b) _ made f in
       let y = then_some (holder table i) _ made x.2 in
       subst (Allowed (Index t b i low high width error line)) (same_Some _ made y.2)
-      (inl (t', x.0, y.0, refl, base_same b x.0 x.1, y.1, give_is minded table t t' (stretched (steps_above low high * width) (base_reach r b table)) (Component r c b width (steps_above low high)) (λ o g. stretched_away b width (steps_above low high) o g)))
-  kept_is t' (RoutineValue t routine) made f = subst (Allowed (RoutineValue t routine)) (same_Some _ made f) (inl (t', refl, given t t'))
+      (inl (
+        t',
+        x.0,
+        y.0,
+        refl,
+        base_same b x.0 x.1,
+        y.1,
+        give_is minded table t t'
+            (stretched (steps_above low high * width) (base_reach r b table))
+            (Component r c b width (steps_above low high)) (λ o g. stretched_away b width (steps_above low high) o g),
+      ))
+  kept_is t' (RoutineValue t routine) made f = subst (Allowed (RoutineValue t routine)) (same_Some _ made f)
+      (inl (t', refl, given t t'))
   kept_is t' (Load t b n) made f = load_is t' t b n (own_word b n) refl made f
   kept_is t' (Store b n a) made f = store_is b n a (own_word b n) refl made f
   kept_is t' (LoadByte t b n) made f =
       let x = only_some (is_seen minded (base_reach r b table) n table) _ made f in
       let y = then_some (renamed_base table b) _ made x.1 in
-      subst (Allowed (LoadByte t b n)) (same_Some _ made y.2) (inl (t', y.0, refl, base_same b y.0 y.1, seen minded table r b n x.0, given t t'))
+      subst (Allowed (LoadByte t b n)) (same_Some _ made y.2)
+      (inl (t', y.0, refl, base_same b y.0 y.1, seen minded table r b n x.0, given t t'))
   kept_is t' (StoreByte b n a) made f =
       let x = only_some (is_seen minded (base_reach r b table) n table) _ made f in
       let y = then_some (renamed_base table b) _ made x.1 in
       let z = then_some (holder table a) _ made y.2 in
-      subst (Allowed (StoreByte b n a)) (same_Some _ made z.2) (inl (y.0, z.0, refl, base_same b y.0 y.1, z.1, seen minded table r b n x.0, write_is minded table r b n Elsewhere))
+      subst (Allowed (StoreByte b n a)) (same_Some _ made z.2)
+      (inl (
+        y.0,
+        z.0,
+        refl,
+        base_same b y.0 y.1,
+        z.1,
+        seen minded table r b n x.0,
+        write_is minded table r b n
+            Elsewhere,
+      ))
   kept_is t' (Take t) made f = subst (Allowed (Take t)) (same_Some _ made f) (inl (t', refl, given t t'))
   kept_is t' (Put a) made f =
       let x = then_some (holder table a) _ made f in
       subst (Allowed (Put a)) (same_Some _ made x.2) (inl (x.0, refl, x.1, all_forgets c))
-  kept_is t' (New t object_type line) made f = subst (Allowed (New t object_type line)) (same_Some _ made f) (inl (t', refl, given t t'))
+  kept_is t' (New t object_type line) made f = subst (Allowed (New t object_type line)) (same_Some _ made f)
+      (inl (t', refl, given t t'))
   kept_is t' (Call t routine operands line) made f =
       let x = only_some (are_fresh table.words) _ made f in
       let y = then_some (renamed_list table operands) _ made x.1 in
-      subst (Allowed (Call t routine operands line)) (same_Some _ made y.2) (inr (t', y.0, refl, list_is operands y.0 y.1, call_is minded table t t' x.0))
+      subst (Allowed (Call t routine operands line)) (same_Some _ made y.2)
+      (inr (t', y.0, refl, list_is operands y.0 y.1, call_is minded table t t' x.0))
   kept_is t' (CallValue t a operands line) made f =
       let x = only_some (are_fresh table.words) _ made f in
       let y = then_some (holder table a) _ made x.1 in
       let z = then_some (renamed_list table operands) _ made y.2 in
-      subst (Allowed (CallValue t a operands line)) (same_Some _ made z.2) (inr (t', y.0, z.0, refl, y.1, list_is operands z.0 z.1, call_is minded table t t' x.0))
+      subst (Allowed (CallValue t a operands line)) (same_Some _ made z.2)
+      (inr (t', y.0, z.0, refl, y.1, list_is operands z.0 z.1, call_is minded table t t' x.0))
   kept_is t' (Jump _) made f = absurd (none-some made f)
   kept_is t' (JumpBack _) made f = absurd (none-some made f)
   kept_is t' (Branch _ _ _ _) made f = absurd (none-some made f)
@@ -212,7 +313,8 @@ module _ (r : ℕ) (minded : List ℕ) (table : Table) where
   -- ---- ends
 
   pub ending_is : (i i' : Instruction) → ending r minded table i ≡ Some i' → Ends c i i'
-  ending_is (Return a) i' f = let x = then_some (holder table a) _ i' f in (x.0, sym (same_Some (Return x.0) i' x.2), x.1)
+  ending_is (Return a) i' f = let x = then_some (holder table a) _ i' f
+      in (x.0, sym (same_Some (Return x.0) i' x.2), x.1)
   ending_is (Trap error line) i' f = sym (same_Some (Trap error line) i' f)
   ending_is End i' f = sym (same_Some End i' f)
   ending_is (Literal _ _) i' f = absurd (none-some i' f)
@@ -245,24 +347,35 @@ module _ (r : ℕ) (minded : List ℕ) (table : Table) where
   abbrev Left_out : Instruction → Table → Type 0
   Left_out i t = Spares c (claim_in minded t) i
 
-  at_frame : (b : Base) (n k t : ℕ) (i : Base → Instruction) (table' : Table) → own_word b n ≡ Some k → Left_out (i base.Frame) table' → Left_out (i b) table'
+  at_frame : (b : Base) (n k t : ℕ) (i : Base → Instruction) (table' : Table) → own_word b n ≡ Some k → Left_out
+      (i base.Frame) table' → Left_out (i b) table'
   at_frame b n k t i table' own x = subst (λ b. Left_out (i b) table') (sym (own_is b n k own).0) x
 
-  load_spared : (t : ℕ) (b : Base) (n : ℕ) (o : Option ℕ) → own_word b n ≡ o → (table' : Table) → spared_load r minded table t o ≡ Some table' → Left_out (Load t b n) table'
+  load_spared : (t : ℕ) (b : Base) (n : ℕ) (o : Option ℕ) → own_word b n ≡ o → (table' : Table)
+      → spared_load r minded table t o ≡ Some table' → Left_out (Load t b n) table'
   load_spared t b n None own table' f = absurd (none-some table' f)
   load_spared t b n (Some k) own table' f =
-      subst (Left_out (Load t b n)) (same_Some _ table' f) (at_frame b n k t (λ b. Load t b n) (spare t (word_in minded table k).value table) own
-      (k, (own_is b n k own).1, spare_is minded table t (word_in minded table k).value (λ v. c.words k ≡ Some v) (As_word c k) (λ v g. g) (λ o g. g)))
+      subst (Left_out (Load t b n)) (same_Some _ table' f)
+      (at_frame b n k t (λ b. Load t b n) (spare t (word_in minded table k).value table) own (
+        k,
+        (own_is b n k own).1,
+        spare_is minded table t (word_in minded table k).value (λ v. c.words k ≡ Some v)
+            (As_word c k) (λ v g. g) (λ o g. g),
+      ))
 
-  store_spared : (b : Base) (n a : ℕ) (o : Option ℕ) → own_word b n ≡ o → (table' : Table) → spared_store r minded table a o ≡ Some table' → Left_out (Store b n a) table'
+  store_spared : (b : Base) (n a : ℕ) (o : Option ℕ) → own_word b n ≡ o → (table' : Table)
+      → spared_store r minded table a o ≡ Some table' → Left_out (Store b n a) table'
   store_spared b n a None own table' f = absurd (none-some table' f)
   store_spared b n a (Some k) own table' f =
       let x = only_some (is_minded minded k table) _ table' f in
-      subst (Left_out (Store b n a)) (same_Some _ table' x.1) (at_frame b n k a (λ b. Store b n a) (store_old minded a k table) own (k, (own_is b n k own).1, store_old_is minded table a k x.0))
+      subst (Left_out (Store b n a)) (same_Some _ table' x.1)
+      (at_frame b n k a (λ b. Store b n a) (store_old minded a k table) own
+      (k, (own_is b n k own).1, store_old_is minded table a k x.0))
 
   pub spared_is : (i : Instruction) (table' : Table) → spared r minded table i ≡ Some table' → Left_out i table'
   spared_is (Copy t a) table' f =
-      subst (Left_out (Copy t a)) (same_Some _ table' f) (spare_is minded table t (known_in table a) (Holds c a) (As c a) (λ v g. g) (λ o g. g))
+      subst (Left_out (Copy t a)) (same_Some _ table' f)
+      (spare_is minded table t (known_in table a) (Holds c a) (As c a) (λ v g. g) (λ o g. g))
   spared_is (Load t b n) table' f = load_spared t b n (own_word b n) refl table' f
   spared_is (Store b n a) table' f = store_spared b n a (own_word b n) refl table' f
   spared_is (Literal _ _) table' f = absurd (none-some table' f)
@@ -292,20 +405,44 @@ module _ (r : ℕ) (minded : List ℕ) (table : Table) where
 
   -- ---- what becomes a copy
 
-  load_moved : (t' t : ℕ) (b : Base) (n : ℕ) (o : Option ℕ) → own_word b n ≡ o → (made : Made) → moved_load r minded table t' t o ≡ Some made → Allowed (Load t b n) made
+  load_moved : (t' t : ℕ) (b : Base) (n : ℕ) (o : Option ℕ) → own_word b n ≡ o → (made : Made)
+      → moved_load r minded table t' t o ≡ Some made → Allowed (Load t b n) made
   load_moved t' t b n None own made f = absurd (none-some made f)
   load_moved t' t b n (Some k) own made f =
       let x = then_some (word_in minded table k).value.holder _ made f in
       let o = own_is b n k own in
-      subst (Allowed (Load t b n)) (same_Some _ made x.2) (inl (inr (k, o.0, o.1, inr (record { t' = t'; a' = x.0; same = refl; held = x.1; gave = give_word_is minded table t t' k }))))
+      subst (Allowed (Load t b n)) (same_Some _ made x.2) (inl (inr (
+        k,
+        o.0,
+        o.1,
+        inr (record {
+          t' = t';
+          a' = x.0;
+          same = refl;
+          held = x.1;
+          gave = give_word_is minded table t t' k;
+        }),
+      )))
 
-  store_moved : (t' : ℕ) (b : Base) (n a : ℕ) (o : Option ℕ) → own_word b n ≡ o → (made : Made) → moved_store r minded table t' a o ≡ Some made → Allowed (Store b n a) made
+  store_moved : (t' : ℕ) (b : Base) (n a : ℕ) (o : Option ℕ) → own_word b n ≡ o → (made : Made)
+      → moved_store r minded table t' a o ≡ Some made → Allowed (Store b n a) made
   store_moved t' b n a None own made f = absurd (none-some made f)
   store_moved t' b n a (Some k) own made f =
       let x = only_some (is_minded minded k (free t' table)) _ made f in
       let y = then_some (holder table a) _ made x.1 in
       let o = own_is b n k own in
-      subst (Allowed (Store b n a)) (same_Some _ made y.2) (inl (inr (k, o.0, o.1, inr (record { t' = t'; b' = y.0; same = refl; holds = y.1; kept = keep_word_is minded table a k t' x.0 }))))
+      subst (Allowed (Store b n a)) (same_Some _ made y.2) (inl (inr (
+        k,
+        o.0,
+        o.1,
+        inr (record {
+          t' = t';
+          b' = y.0;
+          same = refl;
+          holds = y.1;
+          kept = keep_word_is minded table a k t' x.0;
+        }),
+      )))
 
   pub moved_is : (t' : ℕ) (i : Instruction) (made : Made) → moved_word r minded table t' i ≡ Some made → Allowed i made
   moved_is t' (Load t b n) made f = load_moved t' t b n (own_word b n) refl made f
@@ -345,15 +482,22 @@ module _ (r : ℕ) (minded : List ℕ) (table : Table) where
   cleaned_is k made f =
       let x = only_some (if (word_in minded table k).blank then false else true) _ made f in
       let y = then_some (word_in minded table k).value.holder _ made x.1 in
-      subst Put_in (same_Some _ made y.2) (k, refl, clean_is minded table k y.0 y.1 (was_false (word_in minded table k).blank x.0))
+      subst Put_in (same_Some _ made y.2) (
+        k,
+        refl,
+        clean_is minded table k y.0 y.1
+            (was_false (word_in minded table k).blank x.0),
+      )
 
   pub fetched_is : (k t : ℕ) (made : Made) → fetched r minded table k t ≡ Some made → Put_in made
   fetched_is k t made f =
-      let x = only_some (if (word_in minded table k).blank then false else if (word_in minded table k).stale then false else true) _ made f in
+      let x = only_some (if (word_in minded table k).blank then false else if (word_in minded table k).stale then false
+      else true) _ made f in
       let y = both (word_in minded table k).blank (word_in minded table k).stale x.0 in
       subst Put_in (same_Some _ made x.1) (k, refl, fetch_word_is minded table k t y.1 y.0)
     where
-      both : (blank stale : Bool) → (if blank then false else if stale then false else true) ≡ true → (blank ≡ false) × (stale ≡ false)
+      both : (blank stale : Bool) → (if blank then false else if stale then false else true) ≡ true → (blank ≡ false)
+          × (stale ≡ false)
       both true stale f = absurd (true≢false (sym f))
       both false true f = absurd (true≢false (sym f))
       both false false f = (refl, refl)

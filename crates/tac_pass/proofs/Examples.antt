@@ -1,5 +1,6 @@
 -- A certificate that the test is met by: a word that is stored and loaded stands in a temporary instead.
-use Rattle.std.proofs.Common.{◌≡◌, ◌≢◌, ◌⊎◌, inl, inr, ℕ, zero, suc, Bool, true, false, [], ◌∷◌, slice_get, Option, Some, None, pos, refl, sym, ap, subst, arith, true≢false}
+use Rattle.std.proofs.Common.{◌≡◌, ◌≢◌, ◌⊎◌, inl, inr, ℕ, zero, suc, Bool, true, false, [], ◌∷◌, slice_get, Option}
+use Rattle.std.proofs.Common.{Some, None, pos, refl, sym, ap, subst, arith, true≢false}
 use Rattle.std.proofs.lemmas.Option.{none-some, same_Some}
 use Rattle.behavior.specs.Endings.{Normal}
 use Rattle.tac_code.specs.declared.code.Base.TheVariants as base
@@ -16,14 +17,28 @@ use Rattle.tac_pass.proofs.Whole.{checked_keeps}
 
 abbrev old : Code
 old = record {
-  program = record { parameters = 0; temporaries = 2; frame = 4; scratch = 0; line = 1; body = Literal 0 (pos 65) ∷ Store base.Frame 0 0 ∷ Load 1 base.Frame 0 ∷ Put 1 ∷ End ∷ [] } ∷ [];
+  program = record {
+    parameters = 0;
+    temporaries = 2;
+    frame = 4;
+    scratch = 0;
+    line = 1;
+    body = Literal 0 (pos 65) ∷ Store base.Frame 0 0 ∷ Load 1 base.Frame 0 ∷ Put 1 ∷ End ∷ [];
+  } ∷ [];
   run_time = [];
   objects = [];
 }
 
 abbrev new : Code
 new = record {
-  program = record { parameters = 0; temporaries = 2; frame = 4; scratch = 0; line = 1; body = Literal 0 (pos 65) ∷ Put 0 ∷ End ∷ [] } ∷ [];
+  program = record {
+    parameters = 0;
+    temporaries = 2;
+    frame = 4;
+    scratch = 0;
+    line = 1;
+    body = Literal 0 (pos 65) ∷ Put 0 ∷ End ∷ [];
+  } ∷ [];
   run_time = [];
   objects = [];
 }
@@ -57,7 +72,14 @@ first_stale (suc k) = false
 -- with nothing known of what was written, and of what points where
 abbrev claim_of : (ℕ → Option ℕ) → (ℕ → Option ℕ) → (ℕ → Bool) → Claim
 claim_of temporaries words stale =
-    record { temporaries = temporaries; words = words; stale = stale; blank = λ k. true; points = λ u o. true; word_points = λ k o. true }
+    record {
+      temporaries = temporaries;
+      words = words;
+      stale = stale;
+      blank = λ k. true;
+      points = λ u o. true;
+      word_points = λ k o. true;
+    }
 
 abbrev claim_at : ℕ → Claim
 claim_at zero = claim_of nothing nothing (λ k. false)
@@ -187,7 +209,12 @@ put_becomes = record {
   number = 0;
   claim = claim_at 3;
   comes = (refl, forgets_none (claim_at 3));
-  becomes = inr (inl (record { new_one = Put 0; there = refl; renames = inl (0, refl, refl, forgets_none (claim_at 3)); onwards = refl }));
+  becomes = inr (inl (record {
+    new_one = Put 0;
+    there = refl;
+    renames = inl (0, refl, refl, forgets_none (claim_at 3));
+    onwards = refl;
+  }));
 }
 
 end_becomes : Becomes old new certificate 0 4 End
@@ -199,19 +226,38 @@ end_becomes = record {
 }
 
 each_becomes : (r place : ℕ) (i : Instruction) → fetch old r place ≡ Some i → Becomes old new certificate r place i
-each_becomes zero zero i f = subst (Becomes old new certificate 0 0) (same_Some (Literal 0 (pos 65)) i f) literal_becomes
-each_becomes zero (suc zero) i f = subst (Becomes old new certificate 0 1) (same_Some (Store base.Frame 0 0) i f) store_becomes
-each_becomes zero (suc (suc zero)) i f = subst (Becomes old new certificate 0 2) (same_Some (Load 1 base.Frame 0) i f) load_becomes
-each_becomes zero (suc (suc (suc zero))) i f = subst (Becomes old new certificate 0 3) (same_Some (Put 1) i f) put_becomes
-each_becomes zero (suc (suc (suc (suc zero)))) i f = subst (Becomes old new certificate 0 4) (same_Some End i f) end_becomes
+each_becomes zero zero i f = subst (Becomes old new certificate 0 0)
+    (same_Some (Literal 0 (pos 65)) i f) literal_becomes
+each_becomes zero (suc zero) i f = subst (Becomes old new certificate 0 1)
+    (same_Some (Store base.Frame 0 0) i f) store_becomes
+each_becomes zero (suc (suc zero)) i f = subst (Becomes old new certificate 0 2)
+    (same_Some (Load 1 base.Frame 0) i f) load_becomes
+each_becomes zero (suc (suc (suc zero))) i f = subst (Becomes old new certificate 0 3)
+    (same_Some (Put 1) i f) put_becomes
+each_becomes zero (suc (suc (suc (suc zero)))) i f = subst (Becomes old new certificate 0 4)
+    (same_Some End i f) end_becomes
 each_becomes zero (suc (suc (suc (suc (suc place))))) i f = absurd (none-some i f)
 each_becomes (suc r) place i f = absurd (none-some i f)
 
 abbrev old_block : TacRoutine
-old_block = record { parameters = 0; temporaries = 2; frame = 4; scratch = 0; line = 1; body = Literal 0 (pos 65) ∷ Store base.Frame 0 0 ∷ Load 1 base.Frame 0 ∷ Put 1 ∷ End ∷ [] }
+old_block = record {
+  parameters = 0;
+  temporaries = 2;
+  frame = 4;
+  scratch = 0;
+  line = 1;
+  body = Literal 0 (pos 65) ∷ Store base.Frame 0 0 ∷ Load 1 base.Frame 0 ∷ Put 1 ∷ End ∷ [];
+}
 
 abbrev new_block : TacRoutine
-new_block = record { parameters = 0; temporaries = 2; frame = 4; scratch = 0; line = 1; body = Literal 0 (pos 65) ∷ Put 0 ∷ End ∷ [] }
+new_block = record {
+  parameters = 0;
+  temporaries = 2;
+  frame = 4;
+  scratch = 0;
+  line = 1;
+  body = Literal 0 (pos 65) ∷ Put 0 ∷ End ∷ [];
+}
 
 same_heading : (routine : TacRoutine) → old_block ≡ routine → SameHeading routine new_block
 same_heading routine f = record {
@@ -221,7 +267,8 @@ same_heading routine f = record {
   line = ap (λ (x : TacRoutine). x.line) f;
 }
 
-heading : (r : ℕ) (routine : TacRoutine) → slice_get (routines old) r ≡ Some routine → (routine' : TacRoutine) × (slice_get (routines new) r ≡ Some routine') × SameHeading routine routine'
+heading : (r : ℕ) (routine : TacRoutine) → slice_get (routines old) r ≡ Some routine → (routine' : TacRoutine)
+    × (slice_get (routines new) r ≡ Some routine') × SameHeading routine routine'
 heading zero routine f = (new_block, refl, same_heading routine (same_Some old_block routine f))
 heading (suc r) routine f = absurd (none-some routine f)
 
@@ -230,7 +277,14 @@ tested = record {
   program = refl;
   objects = refl;
   headings = heading;
-  begins = λ r. (record { temporaries = λ u t h. absurd (none-some t h); words = λ k t h. none-some t h; blank = λ k h. true≢false h }, refl);
+  begins = λ r. (
+    record {
+      temporaries = λ u t h. absurd (none-some t h);
+      words = λ k t h. none-some t h;
+      blank = λ k h. true≢false h;
+    },
+    refl,
+  );
   becomes = each_becomes;
 }
 

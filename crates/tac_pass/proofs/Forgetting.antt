@@ -3,9 +3,14 @@ use Rattle.std.proofs.Common.{inl, inr, ℕ}
 use Rattle.tac_code.specs.declared.code.Base.{Base}
 use Rattle.tac_code.specs.declared.code.Base.TheVariants as base
 use Rattle.tac_code.specs.declared.code.Instruction.{Instruction}
-use Rattle.tac_code.specs.declared.code.Instruction.TheVariants.{Literal, Copy, Arithmetic, Bits, Compare, CheckRange, CheckPointer, Text, Offset, Index, RoutineValue, Load, Store, LoadByte, StoreByte, Jump, JumpBack, Branch, BranchBack, Call, CallValue, Return, Trap, Take, Put, New, End}
+use Rattle.tac_code.specs.declared.code.Instruction.TheVariants.{Literal, Copy, Arithmetic, Bits, Compare, CheckRange}
+use Rattle.tac_code.specs.declared.code.Instruction.TheVariants.{CheckPointer, Text, Offset, Index, RoutineValue, Load}
+use Rattle.tac_code.specs.declared.code.Instruction.TheVariants.{Store, LoadByte, StoreByte, Jump, JumpBack, Branch}
+use Rattle.tac_code.specs.declared.code.Instruction.TheVariants.{BranchBack, Call, CallValue, Return, Trap, Take, Put}
+use Rattle.tac_code.specs.declared.code.Instruction.TheVariants.{New, End}
 use Rattle.tac_pass.specs.Claims.{Claim}
-use Rattle.tac_pass.specs.Rules.{Forgets, Found, Gave, Spared, Stored, Postponed, Kept, Wrote, Called, Spares, Renames, Calls}
+use Rattle.tac_pass.specs.Rules.{Forgets, Found, Gave, Spared, Stored, Postponed, Kept, Wrote, Called, Spares, Renames}
+use Rattle.tac_pass.specs.Rules.{Calls}
 
 module _ (c : Claim) {c' c'' : Claim} (f : Forgets c' c'') where
   pub forgets_on : Forgets c c' → Forgets c c''
@@ -28,7 +33,8 @@ module _ (c : Claim) {c' c'' : Claim} (f : Forgets c' c'') where
     word_points = λ k o h. g.word_points k o (f.word_points k o h);
   }
 
-  pub gave_on : (t : ℕ) (t' : ℕ) (Word : ℕ → Type 0) (Away : ℕ → Type 0) → Gave t t' Word Away c c' → Gave t t' Word Away c c''
+  pub gave_on : (t : ℕ) (t' : ℕ) (Word : ℕ → Type 0) (Away : ℕ → Type 0) → Gave t t' Word Away c c'
+      → Gave t t' Word Away c c''
   gave_on t t' Word Away g = record {
     temporaries = λ u v h. g.temporaries u v (f.temporaries u v h);
     words = λ k v h. g.words k v (f.words k v h);
@@ -136,27 +142,87 @@ module _ (c : Claim) {c' c'' : Claim} (f : Forgets c' c'') where
   spares_on End h = absurd h
 
   module _ (r : ℕ) where
-    load_on : (t : ℕ) (b : Base) (n : ℕ) (i' : Instruction) → Renames r c c' (Load t b n) i' → Renames r c c'' (Load t b n) i'
-    load_on t b n i' (inl x) = inl (record { t' = x.t'; b' = x.b'; same = x.same; from = x.from; sees = x.sees; gave = gave_on t x.t' _ _ x.gave })
-    load_on t b n i' (inr (k, e, g, inl x)) = inr (k, e, g, inl (record { t' = x.t'; same = x.same; fresh = x.fresh; gave = gave_on t x.t' _ _ x.gave }))
-    load_on t b n i' (inr (k, e, g, inr x)) = inr (k, e, g, inr (record { t' = x.t'; a' = x.a'; same = x.same; held = x.held; gave = gave_on t x.t' _ _ x.gave }))
+    load_on : (t : ℕ) (b : Base) (n : ℕ) (i' : Instruction) → Renames r c c' (Load t b n) i' → Renames r c c''
+        (Load t b n) i'
+    load_on t b n i' (inl x) = inl (record {
+      t' = x.t';
+      b' = x.b';
+      same = x.same;
+      from = x.from;
+      sees = x.sees;
+      gave = gave_on t x.t' _ _ x.gave;
+    })
+    load_on t b n i' (inr (k, e, g, inl x)) = inr (
+      k,
+      e,
+      g,
+      inl (record {
+        t' = x.t';
+        same = x.same;
+        fresh = x.fresh;
+        gave = gave_on t x.t' _ _ x.gave;
+      }),
+    )
+    load_on t b n i' (inr (k, e, g, inr x)) = inr (
+      k,
+      e,
+      g,
+      inr (record {
+        t' = x.t';
+        a' = x.a';
+        same = x.same;
+        held = x.held;
+        gave = gave_on t x.t' _ _ x.gave;
+      }),
+    )
 
-    store_on : (b : Base) (n a : ℕ) (i' : Instruction) → Renames r c c' (Store b n a) i' → Renames r c c'' (Store b n a) i'
-    store_on b n a i' (inl x) = inl (record { a' = x.a'; b' = x.b'; same = x.same; to = x.to; holds = x.holds; wrote = wrote_on r b n _ x.wrote })
-    store_on b n a i' (inr (k, e, g, inl x)) = inr (k, e, g, inl (record { b' = x.b'; same = x.same; holds = x.holds; stored = stored_on a k x.stored }))
-    store_on b n a i' (inr (k, e, g, inr x)) = inr (k, e, g, inr (record { t' = x.t'; b' = x.b'; same = x.same; holds = x.holds; kept = kept_on a k x.t' x.kept }))
+    store_on : (b : Base) (n a : ℕ) (i' : Instruction) → Renames r c c' (Store b n a) i' → Renames r c c''
+        (Store b n a) i'
+    store_on b n a i' (inl x) = inl (record {
+      a' = x.a';
+      b' = x.b';
+      same = x.same;
+      to = x.to;
+      holds = x.holds;
+      wrote = wrote_on r b n _ x.wrote;
+    })
+    store_on b n a i' (inr (k, e, g, inl x)) = inr (
+      k,
+      e,
+      g,
+      inl (record {
+        b' = x.b';
+        same = x.same;
+        holds = x.holds;
+        stored = stored_on a k x.stored;
+      }),
+    )
+    store_on b n a i' (inr (k, e, g, inr x)) = inr (
+      k,
+      e,
+      g,
+      inr (record {
+        t' = x.t';
+        b' = x.b';
+        same = x.same;
+        holds = x.holds;
+        kept = kept_on a k x.t' x.kept;
+      }),
+    )
 
     pub renames_on : (i i' : Instruction) → Renames r c c' i i' → Renames r c c'' i i'
     renames_on (Literal t z) i' (t', e, g) = (t', e, gave_on t t' _ _ g)
     renames_on (Copy t a) i' (t', a', e, h, g) = (t', a', e, h, gave_on t t' _ _ g)
-    renames_on (Arithmetic operator t a b error line) i' (t', a', b', e, h, k, g) = (t', a', b', e, h, k, gave_on t t' _ _ g)
+    renames_on (Arithmetic operator t a b error line) i' (t', a', b', e, h, k, g) =
+        (t', a', b', e, h, k, gave_on t t' _ _ g)
     renames_on (Bits operator t a b) i' (t', a', b', e, h, k, g) = (t', a', b', e, h, k, gave_on t t' _ _ g)
     renames_on (Compare relation t a b) i' (t', a', b', e, h, k, g) = (t', a', b', e, h, k, gave_on t t' _ _ g)
     renames_on (CheckRange a low high error line) i' (a', e, h, g) = (a', e, h, forgets_on g)
     renames_on (CheckPointer a error line) i' (a', e, h, g) = (a', e, h, found_on a g)
     renames_on (Text t bytes) i' (t', e, g) = (t', e, gave_on t t' _ _ g)
     renames_on (Offset t b n extent) i' (t', b', e, h, g) = (t', b', e, h, gave_on t t' _ _ g)
-    renames_on (Index t b x low high width error line) i' (t', b', x', e, h, k, g) = (t', b', x', e, h, k, gave_on t t' _ _ g)
+    renames_on (Index t b x low high width error line) i' (t', b', x', e, h, k, g) =
+        (t', b', x', e, h, k, gave_on t t' _ _ g)
     renames_on (RoutineValue t routine) i' (t', e, g) = (t', e, gave_on t t' _ _ g)
     renames_on (Load t b n) i' x = load_on t b n i' x
     renames_on (Store b n a) i' x = store_on b n a i' x
@@ -177,7 +243,8 @@ module _ (c : Claim) {c' c'' : Claim} (f : Forgets c' c'') where
 
     pub calls_on : (i i' : Instruction) → Calls r c c' i i' → Calls r c c'' i i'
     calls_on (Call t routine operands line) i' (t', operands', e, h, g) = (t', operands', e, h, called_on t t' g)
-    calls_on (CallValue t a operands line) i' (t', a', operands', e, h, k, g) = (t', a', operands', e, h, k, called_on t t' g)
+    calls_on (CallValue t a operands line) i' (t', a', operands', e, h, k, g) =
+        (t', a', operands', e, h, k, called_on t t' g)
     calls_on (Literal _ _) i' h = absurd h
     calls_on (Copy _ _) i' h = absurd h
     calls_on (Arithmetic _ _ _ _ _ _) i' h = absurd h

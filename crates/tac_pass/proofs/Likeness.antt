@@ -10,7 +10,12 @@ use Rattle.tac_pass.proofs.Memories.{Grown}
 -- the same call and callers, with all else given
 abbrev pub scene : ℕ → Temporaries → Memory → ℕ → Tape → State → State
 scene place temporaries memory heap tape s =
-    record s { current = record s.current { place = place; temporaries = temporaries }; memory = memory; heap = heap; tape = tape }
+    record s {
+      current = record s.current { place = place; temporaries = temporaries };
+      memory = memory;
+      heap = heap;
+      tape = tape;
+    }
 
 abbrev pub at_place : ℕ → State → State
 at_place place s = record s { current = record s.current { place = place } }
@@ -23,7 +28,8 @@ told_on tape s = record s { tape = tape }
 
 module _ (e : Certificate) where
   -- callers wait for frames in which more was written
-  pub wait_grown : (result result' : ℕ) (old new : List Activation) (fs gs : List Living) → Wait e result result' old new fs → Grown e.stands fs gs → Wait e result result' old new gs
+  pub wait_grown : (result result' : ℕ) (old new : List Activation) (fs gs : List Living)
+      → Wait e result result' old new fs → Grown e.stands fs gs → Wait e result result' old new gs
   wait_grown result result' [] [] [] [] w g = tt
   wait_grown result result' [] [] [] (_ ∷ _) w g = absurd g
   wait_grown result result' [] [] (_ ∷ _) gs w g = absurd w
@@ -45,8 +51,10 @@ module _ (e : Certificate) where
     wait_grown a.result b.result old new fs hs w.1 g.2,
   )
 
-  pub outside_scene : {s s' : State} {words words' words2 words2' : Words} {rest rest2 : List Living} (q q' : ℕ) (ts ts' : Temporaries) (m m' : Memory) (heap heap' : ℕ) (tape tape' : Tape) → Outside e s s' words words' rest
-      → Memories e.stands s.current.number words2 words2' rest2 m m' → Wait e s.current.result s'.current.result s.callers s'.callers rest2 → heap' ≡ heap → tape' ≡ tape
+  pub outside_scene : {s s' : State} {words words' words2 words2' : Words} {rest rest2 : List Living} (q q' : ℕ)
+      (ts ts' : Temporaries) (m m' : Memory) (heap heap' : ℕ) (tape tape' : Tape) → Outside e s s' words words' rest
+      → Memories e.stands s.current.number words2 words2' rest2 m m'
+      → Wait e s.current.result s'.current.result s.callers s'.callers rest2 → heap' ≡ heap → tape' ≡ tape
       → Outside e (scene q ts m heap tape s) (scene q' ts' m' heap' tape' s') words2 words2' rest2
   outside_scene q q' ts ts' m m' heap heap' tape tape' o memory callers same_heap same_tape = record {
     call = record { routine = o.call.routine; number = o.call.number; line = o.call.line; first = o.call.first };
@@ -60,22 +68,30 @@ module _ (e : Certificate) where
 
   module _ {c c' : Claim} {s s' : State} (a : Alike e c s s') where
     -- places and temporaries have changed, and nothing else
-    pub alike_inside : (q q' : ℕ) (ts ts' : Temporaries) (tape tape' : Tape) → tape' ≡ tape → Inside e.stands c' s.current.number ts ts' a.words a.words' → Alike e c' (scene q ts s.memory s.heap tape s) (scene q' ts' s'.memory s'.heap tape' s')
+    pub alike_inside : (q q' : ℕ) (ts ts' : Temporaries) (tape tape' : Tape) → tape' ≡ tape
+        → Inside e.stands c' s.current.number ts ts' a.words a.words' → Alike e c' (scene q ts s.memory s.heap tape s)
+        (scene q' ts' s'.memory s'.heap tape' s')
     alike_inside q q' ts ts' tape tape' same_tape inside = record {
       words = a.words;
       words' = a.words';
       rest = a.rest;
       inside = inside;
-      outside = outside_scene q q' ts ts' s.memory s'.memory s.heap s'.heap tape tape' a.outside a.outside.memory a.outside.callers a.outside.heap same_tape;
+      outside = outside_scene q q' ts ts' s.memory s'.memory s.heap s'.heap tape tape' a.outside a.outside.memory
+          a.outside.callers a.outside.heap same_tape;
     }
 
     -- and memory, as it is now
-    pub alike_scene : {words words' : Words} {rest : List Living} (q q' : ℕ) (ts ts' : Temporaries) (m m' : Memory) (heap heap' : ℕ) → heap' ≡ heap → Memories e.stands s.current.number words words' rest m m' → Grown e.stands a.rest rest
-        → Inside e.stands c' s.current.number ts ts' words words' → Alike e c' (scene q ts m heap s.tape s) (scene q' ts' m' heap' s'.tape s')
+    pub alike_scene : {words words' : Words} {rest : List Living} (q q' : ℕ) (ts ts' : Temporaries) (m m' : Memory)
+        (heap heap' : ℕ) → heap' ≡ heap → Memories e.stands s.current.number words words' rest m m'
+        → Grown e.stands a.rest rest
+        → Inside e.stands c' s.current.number ts ts' words words' → Alike e c' (scene q ts m heap s.tape s)
+        (scene q' ts' m' heap' s'.tape s')
     alike_scene {words} {words'} {rest} q q' ts ts' m m' heap heap' same_heap memory grown inside = record {
       words = words;
       words' = words';
       rest = rest;
       inside = inside;
-      outside = outside_scene q q' ts ts' m m' heap heap' s.tape s'.tape a.outside memory (wait_grown s.current.result s'.current.result s.callers s'.callers a.rest rest a.outside.callers grown) same_heap a.outside.tape;
+      outside = outside_scene q q' ts ts' m m' heap heap' s.tape s'.tape a.outside memory
+          (wait_grown s.current.result s'.current.result s.callers s'.callers a.rest rest a.outside.callers grown)
+          same_heap a.outside.tape;
     }

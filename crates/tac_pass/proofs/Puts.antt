@@ -3,7 +3,11 @@ use Rattle.std.proofs.Common.{◌≡◌, ℕ, zero, suc, ◌*◌, Bool, false, m
 use Rattle.tac_code.specs.declared.code.Value.{Value}
 use Rattle.tac_code.specs.declared.code.Base.TheVariants as base
 use Rattle.tac_code.specs.declared.code.Instruction.{Instruction}
-use Rattle.tac_code.specs.declared.code.Instruction.TheVariants.{Literal, Copy, Arithmetic, Bits, Compare, CheckRange, CheckPointer, Text, Offset, Index, RoutineValue, Load, Store, LoadByte, StoreByte, Jump, JumpBack, Branch, BranchBack, Call, CallValue, Return, Trap, Take, Put, New, End}
+use Rattle.tac_code.specs.declared.code.Instruction.TheVariants.{Literal, Copy, Arithmetic, Bits, Compare, CheckRange}
+use Rattle.tac_code.specs.declared.code.Instruction.TheVariants.{CheckPointer, Text, Offset, Index, RoutineValue, Load}
+use Rattle.tac_code.specs.declared.code.Instruction.TheVariants.{Store, LoadByte, StoreByte, Jump, JumpBack, Branch}
+use Rattle.tac_code.specs.declared.code.Instruction.TheVariants.{BranchBack, Call, CallValue, Return, Trap, Take, Put}
+use Rattle.tac_code.specs.declared.code.Instruction.TheVariants.{New, End}
 use Rattle.tac_code.specs.Memory.{known}
 use Rattle.tac_code.specs.Meaning.{Code, State, Step, Goes, Over, fetch, act, put, puts, onward}
 use Rattle.tac_pass.specs.Turns.{turns_aside}
@@ -31,35 +35,54 @@ module _ (old new : Code) (p : Setting) (e : Certificate) (s : State) where
     pub place : s1.current.place ≡ suc s'.current.place
     pub routine : s1.current.routine ≡ s'.current.routine
 
-  known_word : (c : Claim) (s' : State) (a : Alike e c s s') (k : ℕ) → c.blank k ≡ false → (v : Value) × (known (slice_get a.words k) ≡ Some v)
+  known_word : (c : Claim) (s' : State) (a : Alike e c s s') (k : ℕ) → c.blank k ≡ false → (v : Value)
+      × (known (slice_get a.words k) ≡ Some v)
   known_word c s' a k there = which (known (slice_get a.words k)) refl
     where
-      which : (o : Option Value) → known (slice_get a.words k) ≡ o → (v : Value) × (known (slice_get a.words k) ≡ Some v)
+      which : (o : Option Value) → known (slice_get a.words k) ≡ o → (v : Value)
+          × (known (slice_get a.words k) ≡ Some v)
       which None is = absurd (a.inside.written k there is)
       which (Some v) is = (v, is)
 
-  cleaned : (c d : Claim) (s' : State) → Alike e c s s' → (n k t : ℕ) → n ≡ 4 * k → Cleans k t c d → Put_in d s' (Store base.Frame n t)
+  cleaned : (c d : Claim) (s' : State) → Alike e c s s' → (n k t : ℕ) → n ≡ 4 * k → Cleans k t c d → Put_in d s'
+      (Store base.Frame n t)
   cleaned c d s' a n k t f g =
       let word = known_word c s' a k g.there in
       let below = is_within a.words k word.0 word.1 in
       record {
-        s1 = record s' { current = onward s'.current; memory = with_own s.current.number (with_set a.words' k (moved e.stands word.0)) (map (moved_living e.stands) a.rest) s'.memory };
-        goes = own_store old new p e s s' c a n k t word.0 f below (a.inside.held k t g.held ∙ ap (moved_word e.stands) word.1);
+        s1 = record s' {
+          current = onward s'.current;
+          memory = with_own s.current.number
+              (with_set a.words' k (moved e.stands word.0)) (map (moved_living e.stands) a.rest) s'.memory;
+        };
+        goes = own_store old new p e s s' c a n k t word.0 f below
+            (a.inside.held k t g.held ∙ ap (moved_word e.stands) word.1);
         straight = refl;
-        alike = alike_scene e a s.current.place (suc s'.current.place) s.current.temporaries s'.current.temporaries s.memory (with_own s.current.number (with_set a.words' k (moved e.stands word.0)) (map (moved_living e.stands) a.rest) s'.memory) s.heap s'.heap a.outside.heap
-            (record { frames = a.outside.memory.frames; frames' = refl; scratch = a.outside.memory.scratch; objects = a.outside.memory.objects }) (same_grown e.stands a.rest) (inside_cleaned e.stands s.current.number a.inside k t word.0 word.1 below g);
+        alike = alike_scene e a s.current.place (suc s'.current.place) s.current.temporaries s'.current.temporaries
+            s.memory (with_own s.current.number (with_set a.words' k (moved e.stands word.0))
+            (map (moved_living e.stands) a.rest) s'.memory) s.heap s'.heap a.outside.heap
+            (record {
+              frames = a.outside.memory.frames;
+              frames' = refl;
+              scratch = a.outside.memory.scratch;
+              objects = a.outside.memory.objects;
+            }) (same_grown e.stands a.rest) (inside_cleaned e.stands s.current.number a.inside k t word.0 word.1 below
+            g);
         place = refl;
         routine = refl;
       }
 
-  fetched : (c d : Claim) (s' : State) → Alike e c s s' → (n k t : ℕ) → n ≡ 4 * k → Fetches k t c d → Put_in d s' (Load t base.Frame n)
+  fetched : (c d : Claim) (s' : State) → Alike e c s s' → (n k t : ℕ) → n ≡ 4 * k → Fetches k t c d → Put_in d s'
+      (Load t base.Frame n)
   fetched c d s' a n k t f g =
       let word = known_word c s' a k g.there in
       record {
         s1 = given t (moved e.stands word.0) s';
         goes = own_load old new p e s s' c a n k t word.0 f g.fresh word.1;
         straight = refl;
-        alike = alike_inside e a s.current.place (suc s'.current.place) s.current.temporaries (put s'.current.temporaries t (moved e.stands word.0)) s.tape s'.tape a.outside.tape (inside_fetched e.stands s.current.number a.inside t k word.0 word.1 g);
+        alike = alike_inside e a s.current.place (suc s'.current.place) s.current.temporaries
+            (put s'.current.temporaries t (moved e.stands word.0)) s.tape s'.tape a.outside.tape
+            (inside_fetched e.stands s.current.number a.inside t k word.0 word.1 g);
         place = refl;
         routine = refl;
       }
@@ -106,19 +129,25 @@ module _ (old new : Code) (p : Setting) (e : Certificate) (s : State) where
     pub place : s2.current.place ≡ to
     pub back : (b : Bool) (x : Step) → Followed old new p e b s s2 x → Followed old new p e b s s' x
 
-  one_before : (s' s1 : State) (i : Instruction) → fetch new s'.current.routine s'.current.place ≡ Some i → act_new old new p e i s' ≡ Goes s1 → turns_aside (Some i) ≡ false → (b : Bool) (x : Step) → Followed old new p e b s s1 x → Followed old new p e b s s' x
+  one_before : (s' s1 : State) (i : Instruction) → fetch new s'.current.routine s'.current.place ≡ Some i
+      → act_new old new p e i s' ≡ Goes s1 → turns_aside (Some i) ≡ false → (b : Bool) (x : Step)
+      → Followed old new p e b s s1 x → Followed old new p e b s s' x
   one_before s' s1 i there goes straight b (Goes t) f = (
     f.0,
     f.1,
-    first new p s' s1 f.0 (ap (λ o. act new p.frames p.objects p.stack p.heap o s') there ∙ goes) (ap turns_aside there ∙ straight) f.2,
+    first new p s' s1 f.0 (ap (λ o. act new p.frames p.objects p.stack p.heap o s') there ∙ goes)
+        (ap turns_aside there ∙ straight) f.2,
   )
   one_before s' s1 i there goes straight b (Over x) f =
-      λ live. first_ends new p s' s1 (ap (λ o. act new p.frames p.objects p.stack p.heap o s') there ∙ goes) (ap turns_aside there ∙ straight) (f live)
+      λ live. first_ends new p s' s1 (ap (λ o. act new p.frames p.objects p.stack p.heap o s') there ∙ goes)
+      (ap turns_aside there ∙ straight) (f live)
 
-  pub behind_puts : (n : ℕ) (c c2 : Claim) (s' : State) (from to : ℕ) → Alike e c s s' → s'.current.place ≡ from → Comes old new e s.current.routine n c from c2 to → Behind_puts c2 to s'
+  pub behind_puts : (n : ℕ) (c c2 : Claim) (s' : State) (from to : ℕ) → Alike e c s s' → s'.current.place ≡ from
+      → Comes old new e s.current.routine n c from c2 to → Behind_puts c2 to s'
   behind_puts zero c c2 s' from to a here (same, forgets) = record {
     s2 = s';
-    alike = alike_inside e a s.current.place s'.current.place s.current.temporaries s'.current.temporaries s.tape s'.tape a.outside.tape (inside_forgot e.stands s.current.number a.inside forgets);
+    alike = alike_inside e a s.current.place s'.current.place s.current.temporaries s'.current.temporaries s.tape
+        s'.tape a.outside.tape (inside_forgot e.stands s.current.number a.inside forgets);
     place = here ∙ same;
     back = λ b x f. f;
   }
@@ -129,5 +158,6 @@ module _ (old new : Code) (p : Setting) (e : Certificate) (s : State) where
         s2 = rest.s2;
         alike = rest.alike;
         place = rest.place;
-        back = λ b x f. one_before s' one.s1 i (ap (λ r. fetch new r s'.current.place) a.outside.call.routine ∙ ap (fetch new s.current.routine) here ∙ there) one.goes one.straight b x (rest.back b x f);
+        back = λ b x f. one_before s' one.s1 i (ap (λ r. fetch new r s'.current.place) a.outside.call.routine
+            ∙ ap (fetch new s.current.routine) here ∙ there) one.goes one.straight b x (rest.back b x f);
       }

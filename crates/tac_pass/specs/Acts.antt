@@ -1,15 +1,21 @@
 -- What an instruction becomes by an action, computed from a table: the new instruction, and the table behind it.
-use Rattle.std.specs.Prelude.{ℕ, ◌+◌, ◌*◌, ◌/◌, ◌%◌, Bool, true, false, nat_eq, nat_lt, if◌then◌else◌, List, [], ◌∷◌, Option, Some, None}
+use Rattle.std.specs.Prelude.{ℕ, ◌+◌, ◌*◌, ◌/◌, ◌%◌, Bool, true, false, nat_eq, nat_lt, if◌then◌else◌, List, [], ◌∷◌}
+use Rattle.std.specs.Prelude.{Option, Some, None}
 use Rattle.tac_code.specs.declared.code.Operand.{Operand}
 use Rattle.tac_code.specs.declared.code.Operand.TheVariants as operand
 use Rattle.tac_code.specs.declared.code.Base.{Base}
 use Rattle.tac_code.specs.declared.code.Base.TheVariants as base
 use Rattle.tac_code.specs.declared.code.Instruction.{Instruction}
-use Rattle.tac_code.specs.declared.code.Instruction.TheVariants.{Literal, Copy, Arithmetic, Bits, Compare, CheckRange, CheckPointer, Text, Offset, Index, RoutineValue, Load, Store, LoadByte, StoreByte, Call, CallValue, Return, Trap, Take, Put, New, End}
+use Rattle.tac_code.specs.declared.code.Instruction.TheVariants.{Literal, Copy, Arithmetic, Bits, Compare, CheckRange}
+use Rattle.tac_code.specs.declared.code.Instruction.TheVariants.{CheckPointer, Text, Offset, Index, RoutineValue, Load}
+use Rattle.tac_code.specs.declared.code.Instruction.TheVariants.{Store, LoadByte, StoreByte, Call, CallValue, Return}
+use Rattle.tac_code.specs.declared.code.Instruction.TheVariants.{Trap, Take, Put, New, End}
 use Rattle.tac_code.specs.Numbers.{steps_above}
 use Rattle.tac_pass.specs.declared.table.Reach.{Reach}
 use Rattle.tac_pass.specs.declared.table.Reach.TheVariants.{Anywhere, Within}
-use Rattle.tac_pass.specs.Tables.{Table, nowhere, known_in, word_in, free, is_minded, give, give_word, spare, store_both, store_old, keep_word, find, clean, fetch_word, base_reach, is_seen, write, are_fresh, call}
+use Rattle.tac_pass.specs.Tables.{Table, nowhere, known_in, word_in, free, is_minded, give, give_word, spare}
+use Rattle.tac_pass.specs.Tables.{store_both, store_old, keep_word, find, clean, fetch_word, base_reach, is_seen}
+use Rattle.tac_pass.specs.Tables.{write, are_fresh, call}
 
 abbrev pub and_then : {A B : Type 0} → Option A → (A → Option B) → Option B
 and_then None go = None
@@ -69,49 +75,64 @@ module _ (r : ℕ) (minded : List ℕ) (table : Table) where
 
   abbrev pub kept_load : ℕ → ℕ → Base → ℕ → Option ℕ → Option Made
   kept_load t' t b n (Some k) =
-      only_if (if (word_in minded table k).stale then false else true) (makes (Load t' base.Frame n) (give_word minded t t' k table))
+      only_if (if (word_in minded table k).stale then false else true)
+      (makes (Load t' base.Frame n) (give_word minded t t' k table))
   kept_load t' t b n None =
-      only_if (is_seen minded (base_reach r b table) n table) (and_then (renamed_base table b) (λ b'. makes (Load t' b' n) (give t t' Anywhere table)))
+      only_if (is_seen minded (base_reach r b table) n table)
+      (and_then (renamed_base table b) (λ b'. makes (Load t' b' n) (give t t' Anywhere table)))
 
   abbrev pub kept_store : Base → ℕ → ℕ → Option ℕ → Option Made
   kept_store b n a (Some k) =
       and_then (holder table a) (λ a'. makes (Store base.Frame n a') (store_both minded a k table))
   kept_store b n a None =
-      and_then (renamed_base table b) (λ b'. and_then (holder table a) (λ a'. makes (Store b' n a') (write minded (base_reach r b table) n table)))
+      and_then (renamed_base table b) (λ b'. and_then (holder table a)
+      (λ a'. makes (Store b' n a') (write minded (base_reach r b table) n table)))
 
   abbrev pub kept : ℕ → Instruction → Option Made
   kept t' (Literal t z) = makes (Literal t' z) (give t t' nowhere table)
   kept t' (Copy t a) =
       and_then (holder table a) (λ a'. makes (Copy t' a') (give t t' (known_in table a).reach table))
   kept t' (Arithmetic operator t a b error line) =
-      and_then (holder table a) (λ a'. and_then (renamed_right table b) (λ b'. makes (Arithmetic operator t' a' b' error line) (give t t' nowhere table)))
+      and_then (holder table a) (λ a'. and_then (renamed_right table b)
+      (λ b'. makes (Arithmetic operator t' a' b' error line) (give t t' nowhere table)))
   kept t' (Bits operator t a b) =
-      and_then (holder table a) (λ a'. and_then (renamed_right table b) (λ b'. makes (Bits operator t' a' b') (give t t' nowhere table)))
+      and_then (holder table a) (λ a'. and_then (renamed_right table b)
+      (λ b'. makes (Bits operator t' a' b') (give t t' nowhere table)))
   kept t' (Compare relation t a b) =
-      and_then (holder table a) (λ a'. and_then (renamed_right table b) (λ b'. makes (Compare relation t' a' b') (give t t' nowhere table)))
+      and_then (holder table a) (λ a'. and_then (renamed_right table b)
+      (λ b'. makes (Compare relation t' a' b') (give t t' nowhere table)))
   kept t' (CheckRange a low high error line) =
       and_then (holder table a) (λ a'. makes (CheckRange a' low high error line) table)
   kept t' (CheckPointer a error line) =
       and_then (holder table a) (λ a'. makes (CheckPointer a' error line) (find a table))
   kept t' (Text t bytes) = makes (Text t' bytes) (give t t' nowhere table)
   kept t' (Offset t b n extent) =
-      and_then (renamed_base table b) (λ b'. makes (Offset t' b' n extent) (give t t' (shifted n (base_reach r b table)) table))
+      and_then (renamed_base table b) (λ b'. makes (Offset t' b' n extent)
+      (give t t' (shifted n (base_reach r b table)) table))
   kept t' (Index t b x low high width error line) =
-      and_then (renamed_base table b) (λ b'. and_then (holder table x) (λ x'. makes (Index t' b' x' low high width error line) (give t t' (stretched (steps_above low high * width) (base_reach r b table)) table)))
+      and_then (renamed_base table b) (λ b'. and_then (holder table x)
+      (λ x'. makes (Index t' b' x' low high width error line)
+      (give t t' (stretched (steps_above low high * width) (base_reach r b table)) table)))
   kept t' (RoutineValue t routine) = makes (RoutineValue t' routine) (give t t' nowhere table)
   kept t' (Load t b n) = kept_load t' t b n (own_word b n)
   kept t' (Store b n a) = kept_store b n a (own_word b n)
   kept t' (LoadByte t b n) =
-      only_if (is_seen minded (base_reach r b table) n table) (and_then (renamed_base table b) (λ b'. makes (LoadByte t' b' n) (give t t' nowhere table)))
+      only_if (is_seen minded (base_reach r b table) n table)
+      (and_then (renamed_base table b) (λ b'. makes (LoadByte t' b' n) (give t t' nowhere table)))
   kept t' (StoreByte b n a) =
-      only_if (is_seen minded (base_reach r b table) n table) (and_then (renamed_base table b) (λ b'. and_then (holder table a) (λ a'. makes (StoreByte b' n a') (write minded (base_reach r b table) n table))))
+      only_if (is_seen minded (base_reach r b table) n table)
+      (and_then (renamed_base table b) (λ b'. and_then (holder table a)
+      (λ a'. makes (StoreByte b' n a') (write minded (base_reach r b table) n table))))
   kept t' (Take t) = makes (Take t') (give t t' nowhere table)
   kept t' (Put a) = and_then (holder table a) (λ a'. makes (Put a') table)
   kept t' (New t object_type line) = makes (New t' object_type line) (give t t' nowhere table)
   kept t' (Call t routine operands line) =
-      only_if (are_fresh table.words) (and_then (renamed_list table operands) (λ operands'. makes (Call t' routine operands' line) (call t t' table)))
+      only_if (are_fresh table.words) (and_then (renamed_list table operands)
+      (λ operands'. makes (Call t' routine operands' line) (call t t' table)))
   kept t' (CallValue t a operands line) =
-      only_if (are_fresh table.words) (and_then (holder table a) (λ a'. and_then (renamed_list table operands) (λ operands'. makes (CallValue t' a' operands' line) (call t t' table))))
+      only_if (are_fresh table.words) (and_then (holder table a)
+      (λ a'. and_then (renamed_list table operands)
+      (λ operands'. makes (CallValue t' a' operands' line) (call t t' table))))
   kept t' _ = None
 
   -- ---- an instruction behind which nothing follows
@@ -147,7 +168,8 @@ module _ (r : ℕ) (minded : List ℕ) (table : Table) where
 
   abbrev pub moved_store : ℕ → ℕ → Option ℕ → Option Made
   moved_store t' a (Some k) =
-      only_if (is_minded minded k (free t' table)) (and_then (holder table a) (λ a'. makes (Copy t' a') (keep_word minded a k t' table)))
+      only_if (is_minded minded k (free t' table))
+      (and_then (holder table a) (λ a'. makes (Copy t' a') (keep_word minded a k t' table)))
   moved_store t' a None = None
 
   abbrev pub moved_word : ℕ → Instruction → Option Made
@@ -161,10 +183,12 @@ module _ (r : ℕ) (minded : List ℕ) (table : Table) where
   abbrev pub cleaned : ℕ → Option Made
   cleaned k =
       let w = word_in minded table k in
-      only_if (if w.blank then false else true) (and_then w.value.holder (λ t. makes (Store base.Frame (4 * k) t) (clean minded k table)))
+      only_if (if w.blank then false else true)
+      (and_then w.value.holder (λ t. makes (Store base.Frame (4 * k) t) (clean minded k table)))
 
   -- word k is loaded into t
   abbrev pub fetched : ℕ → ℕ → Option Made
   fetched k t =
       let w = word_in minded table k in
-      only_if (if w.blank then false else if w.stale then false else true) (makes (Load t base.Frame (4 * k)) (fetch_word minded k t table))
+      only_if (if w.blank then false else if w.stale then false else true)
+      (makes (Load t base.Frame (4 * k)) (fetch_word minded k t table))

@@ -23,7 +23,8 @@ pub record Inside (at : Places) (c : Claim) (number : ℕ) (old new : Temporarie
 
 -- ---- the others
 
--- Two activations of one call: of the same routine, with the same number and line. The program block alone has number 0.
+-- Two activations of one call: of the same routine, with the same number and line. The program block alone has number
+-- 0.
 pub record OneCall (old new : Activation) : Type 0 where
   pub routine : new.routine ≡ old.routine
   pub number : new.number ≡ old.number
@@ -43,10 +44,12 @@ module _ (e : Certificate) where
     pub call : OneCall old new
     pub place : new.place ≡ e.starts old.routine old.place
     pub own : frame.number ≡ old.number
-    pub hold : (u t : ℕ) → (e.claims old.routine old.place).temporaries u ≡ Some t → ((u ≡ result) × (t ≡ result')) ⊎ ((u ≢ result) × (t ≢ result') × (new.temporaries t ≡ moved_word e.stands (old.temporaries u)))
+    pub hold : (u t : ℕ) → (e.claims old.routine old.place).temporaries u ≡ Some t → ((u ≡ result) × (t ≡ result'))
+        ⊎ ((u ≢ result) × (t ≢ result') × (new.temporaries t ≡ moved_word e.stands (old.temporaries u)))
     pub held : (k t : ℕ) → (e.claims old.routine old.place).words k ≢ Some t
     pub written : (k : ℕ) → (e.claims old.routine old.place).blank k ≡ false → known (slice_get frame.words k) ≢ None
-    pub away : (u o : ℕ) → (e.claims old.routine old.place).points u o ≡ false → (u ≢ result) × (old.temporaries u ≢ Some (Address (Frame old.number) o))
+    pub away : (u o : ℕ) → (e.claims old.routine old.place).points u o ≡ false → (u ≢ result)
+        × (old.temporaries u ≢ Some (Address (Frame old.number) o))
     pub word_away : (k o : ℕ) → (e.claims old.routine old.place).word_points k o ≢ false
 
   -- the callers and their old frames, pair by pair, with the temporaries for the results of what they called

@@ -1,5 +1,7 @@
--- A certificate as data: a table for each place of the old code, by which each instruction has become what is made of it.
-use Rattle.std.specs.Prelude.{◌≡◌, ◌⊎◌, ℕ, zero, suc, ◌+◌, ◌-◌, Bool, true, false, ◌&&◌, nat_eq, List, [], ◌∷◌, length, slice_get, Option, Some, None}
+-- A certificate as data: a table for each place of the old code, by which each instruction has become what is made of
+-- it.
+use Rattle.std.specs.Prelude.{◌≡◌, ◌⊎◌, ℕ, zero, suc, ◌+◌, ◌-◌, Bool, true, false, ◌&&◌, nat_eq, List, [], ◌∷◌, length}
+use Rattle.std.specs.Prelude.{slice_get, Option, Some, None}
 use Rattle.tac_code.specs.declared.code.Operand.{Operand}
 use Rattle.tac_code.specs.declared.code.Instruction.{Instruction}
 use Rattle.tac_code.specs.declared.code.Instruction.TheVariants.{Jump, JumpBack, Branch, BranchBack}
@@ -38,7 +40,8 @@ begins table = are_passed 0 table.temporaries && are_new table.words
 
 -- ---- each instruction
 
--- Of each routine: the words that are kept in mind, and a table for each place; and where the new code begins and stands for a place of the old one.
+-- Of each routine: the words that are kept in mind, and a table for each place; and where the new code begins and
+-- stands for a place of the old one.
 pub record Tested : Type 0 where
   pub minded : ℕ → List ℕ
   pub tables : ℕ → ℕ → Table
@@ -53,12 +56,14 @@ module _ (new : Code) (x : Tested) (r : ℕ) where
   -- a word is stored by what holds it, or loaded
   abbrev pub IsPut : Table → Made → Type 0
   IsPut table made =
-      ((k : ℕ) × (cleaned r (x.minded r) table k ≡ Some made)) ⊎ ((k : ℕ) × (t : ℕ) × (fetched r (x.minded r) table k t ≡ Some made))
+      ((k : ℕ) × (cleaned r (x.minded r) table k ≡ Some made))
+      ⊎ ((k : ℕ) × (t : ℕ) × (fetched r (x.minded r) table k t ≡ Some made))
 
   abbrev pub ArePut : ℕ → Table → ℕ → Table → ℕ → Type 0
   ArePut zero table from behind to = (from ≡ to) × (table ≡ behind)
   ArePut (suc n) table from behind to =
-      (made : Made) × IsPut table made × (fetch new r from ≡ Some made.instruction) × ArePut n made.table (suc from) behind to
+      (made : Made) × IsPut table made × (fetch new r from ≡ Some made.instruction) × ArePut n made.table
+      (suc from) behind to
 
   -- the new code for a place begins here, and no more is claimed there than here
   pub record Leads (table : Table) (here place : ℕ) : Type 0 where
@@ -89,9 +94,11 @@ module _ (new : Code) (x : Tested) (r : ℕ) where
     Turned (Jump n) = (m : ℕ) × (fetch new r stand ≡ Some (Jump m)) × Leads table (suc stand + m) (suc place + n)
     Turned (JumpBack n) = (m : ℕ) × (fetch new r stand ≡ Some (JumpBack m)) × Leads table (stand - m) (place - n)
     Turned (Branch relation a b n) =
-        (a' : ℕ) × (b' : Operand) × (m : ℕ) × (fetch new r stand ≡ Some (Branch relation a' b' m)) × Branches a a' b b' × Leads table (suc stand + m) (suc place + n)
+        (a' : ℕ) × (b' : Operand) × (m : ℕ) × (fetch new r stand ≡ Some (Branch relation a' b' m)) × Branches a a' b b'
+        × Leads table (suc stand + m) (suc place + n)
     Turned (BranchBack relation a b n) =
-        (a' : ℕ) × (b' : Operand) × (m : ℕ) × (fetch new r stand ≡ Some (BranchBack relation a' b' m)) × Branches a a' b b' × Leads table (stand - m) (place - n)
+        (a' : ℕ) × (b' : Operand) × (m : ℕ) × (fetch new r stand ≡ Some (BranchBack relation a' b' m))
+        × Branches a a' b b' × Leads table (stand - m) (place - n)
     Turned _ = ⊥
 
     pub record Ended (i : Instruction) : Type 0 where
@@ -110,6 +117,7 @@ module _ (new : Code) (x : Tested) (r : ℕ) where
 pub record Certified (old new : Code) (x : Tested) : Type 0 where
   pub program : length new.program ≡ length old.program
   pub objects : new.objects ≡ old.objects
-  pub headings : (r : ℕ) (routine : TacRoutine) → slice_get (routines old) r ≡ Some routine → (routine' : TacRoutine) × (slice_get (routines new) r ≡ Some routine') × SameHeading routine routine'
+  pub headings : (r : ℕ) (routine : TacRoutine) → slice_get (routines old) r ≡ Some routine → (routine' : TacRoutine)
+      × (slice_get (routines new) r ≡ Some routine') × SameHeading routine routine'
   pub begin : (r : ℕ) → (begins (x.tables r 0) ≡ true) × (x.starts r 0 ≡ 0)
   pub passed : (r place : ℕ) (i : Instruction) → fetch old r place ≡ Some i → PassedAt new x r place i

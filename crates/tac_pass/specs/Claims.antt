@@ -2,7 +2,8 @@
 use Rattle.std.specs.Prelude.{ℕ, Bool, Option}
 use Rattle.tac_pass.specs.Moved.{Places}
 
--- Words of the own frame are counted from 0, each of 4 bytes; an offset of it is one in bytes. Of each family, what is not claimed is None or true.
+-- Words of the own frame are counted from 0, each of 4 bytes; an offset of it is one in bytes. Of each family, what is
+-- not claimed is None or true.
 pub record Claim : Type 0 where
   -- the new temporary that holds what an old one holds
   pub temporaries : ℕ → Option ℕ

@@ -8,7 +8,8 @@ use Rattle.tac_code.specs.Meaning.{Code, fetch, routines}
 use Rattle.tac_pass.specs.Claims.{Claim, Certificate}
 use Rattle.tac_pass.specs.Rules.{Holds, Right, Forgets, Spares, Renames, Calls, Ends, PutsIn}
 
--- What is claimed at a routine's begin: no word is held, and none was written. Parameters stand where they are passed. What was there before the call points elsewhere: so much may be claimed of every temporary and word.
+-- What is claimed at a routine's begin: no word is held, and none was written. Parameters stand where they are passed.
+-- What was there before the call points elsewhere: so much may be claimed of every temporary and word.
 pub record Begins (c : Claim) : Type 0 where
   pub temporaries : (u t : ℕ) → c.temporaries u ≡ Some t → t ≡ u
   pub words : (k t : ℕ) → c.words k ≢ Some t
@@ -52,14 +53,17 @@ module _ (old new : Code) (e : Certificate) where
 
     abbrev pub Jumps : Instruction → Type 0
     Jumps (Jump n) =
-        (m : ℕ) × (fetch new r (e.stands r place) ≡ Some (Jump m)) × Arrives r c (suc (e.stands r place) + m) (suc place + n)
+        (m : ℕ) × (fetch new r (e.stands r place) ≡ Some (Jump m)) × Arrives r c (suc (e.stands r place) + m)
+        (suc place + n)
     Jumps (JumpBack n) =
         (m : ℕ) × (fetch new r (e.stands r place) ≡ Some (JumpBack m)) × Arrives r c (e.stands r place - m) (place - n)
     Jumps (Branch relation a b n) =
-        (a' : ℕ) × (b' : Operand) × (m : ℕ) × (fetch new r (e.stands r place) ≡ Some (Branch relation a' b' m)) × Tests a a' b b'
+        (a' : ℕ) × (b' : Operand) × (m : ℕ) × (fetch new r (e.stands r place) ≡ Some (Branch relation a' b' m))
+        × Tests a a' b b'
         × Arrives r c (suc (e.stands r place) + m) (suc place + n)
     Jumps (BranchBack relation a b n) =
-        (a' : ℕ) × (b' : Operand) × (m : ℕ) × (fetch new r (e.stands r place) ≡ Some (BranchBack relation a' b' m)) × Tests a a' b b'
+        (a' : ℕ) × (b' : Operand) × (m : ℕ) × (fetch new r (e.stands r place) ≡ Some (BranchBack relation a' b' m))
+        × Tests a a' b b'
         × Arrives r c (e.stands r place - m) (place - n)
     Jumps _ = ⊥
 
@@ -73,12 +77,14 @@ module _ (old new : Code) (e : Certificate) where
     pub number : ℕ
     pub claim : Claim
     pub comes : Comes r number (e.claims r place) (e.starts r place) claim (e.stands r place)
-    pub becomes : IsSpared r place claim i ⊎ (IsRenamed r place claim i ⊎ (Jumps r place claim i ⊎ IsEnding r place claim i))
+    pub becomes : IsSpared r place claim i ⊎ (IsRenamed r place claim i
+        ⊎ (Jumps r place claim i ⊎ IsEnding r place claim i))
 
   -- routines are called as they were, and each instruction has become what it may
   pub record Checked : Type 0 where
     pub program : length new.program ≡ length old.program
     pub objects : new.objects ≡ old.objects
-    pub headings : (r : ℕ) (routine : TacRoutine) → slice_get (routines old) r ≡ Some routine → (routine' : TacRoutine) × (slice_get (routines new) r ≡ Some routine') × SameHeading routine routine'
+    pub headings : (r : ℕ) (routine : TacRoutine) → slice_get (routines old) r ≡ Some routine → (routine' : TacRoutine)
+        × (slice_get (routines new) r ≡ Some routine') × SameHeading routine routine'
     pub begins : (r : ℕ) → Begins (e.claims r 0) × (e.starts r 0 ≡ 0)
     pub becomes : (r place : ℕ) (i : Instruction) → fetch old r place ≡ Some i → Becomes r place i

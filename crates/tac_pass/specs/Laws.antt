@@ -13,7 +13,8 @@ use Rattle.tac_pass.specs.Walk.{ArePassed}
 -- this is how a pass is put behind the lowering, or behind another pass
 abbrev pub KeepingComposes : Type 0
 KeepingComposes =
-    (a : ℕ → Shown) (old new : Code) (p : Setting) → ((n : ℕ) → (a n).1 ≡ Stuck → ⊥) → Keeps old new → ShowsInTurns a old p → ShowsInTurns a new p
+    (a : ℕ → Shown) (old new : Code) (p : Setting) → ((n : ℕ) → (a n).1 ≡ Stuck → ⊥) → Keeps old new
+    → ShowsInTurns a old p → ShowsInTurns a new p
 
 -- a turn is an instruction
 abbrev pub KeptIsSame : Type 0

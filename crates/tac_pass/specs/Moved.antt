@@ -1,4 +1,5 @@
--- Values of the old code as the new code has them: a constant is named by the place of its instruction, which may be another one.
+-- Values of the old code as the new code has them: a constant is named by the place of its instruction, which may be
+-- another one.
 use Rattle.std.specs.Prelude.{ℕ, map, Option, Some, None}
 use Rattle.tac_code.specs.declared.code.Block.{Block}
 use Rattle.tac_code.specs.declared.code.Block.TheVariants.{Frame, Scratch, Object, Constant}

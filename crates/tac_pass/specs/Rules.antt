@@ -5,7 +5,10 @@ use Rattle.tac_code.specs.declared.code.Operand.TheVariants as operand
 use Rattle.tac_code.specs.declared.code.Base.{Base}
 use Rattle.tac_code.specs.declared.code.Base.TheVariants as base
 use Rattle.tac_code.specs.declared.code.Instruction.{Instruction}
-use Rattle.tac_code.specs.declared.code.Instruction.TheVariants.{Literal, Copy, Arithmetic, Bits, Compare, CheckRange, CheckPointer, Text, Offset, Index, RoutineValue, Load, Store, LoadByte, StoreByte, Call, CallValue, Return, Trap, Take, Put, New, End}
+use Rattle.tac_code.specs.declared.code.Instruction.TheVariants.{Literal, Copy, Arithmetic, Bits, Compare, CheckRange}
+use Rattle.tac_code.specs.declared.code.Instruction.TheVariants.{CheckPointer, Text, Offset, Index, RoutineValue, Load}
+use Rattle.tac_code.specs.declared.code.Instruction.TheVariants.{Store, LoadByte, StoreByte, Call, CallValue, Return}
+use Rattle.tac_code.specs.declared.code.Instruction.TheVariants.{Trap, Take, Put, New, End}
 use Rattle.tac_code.specs.Numbers.{steps_above}
 use Rattle.tac_pass.specs.Claims.{Claim}
 
@@ -27,7 +30,8 @@ AllHold c [] [] = Unit {0}
 AllHold c (u ∷ us) (t ∷ ts) = Holds c u t × AllHold c us ts
 AllHold c _ _ = ⊥
 
--- Whether a base, in a routine, may be the address of an offset of the own frame. The program block's frame is its own in the program block alone.
+-- Whether a base, in a routine, may be the address of an offset of the own frame. The program block's frame is its own
+-- in the program block alone.
 abbrev pub base_points : ℕ → Claim → Base → ℕ → Bool
 base_points r c base.Frame o = nat_eq o 0
 base_points r c base.Scratch o = false
@@ -62,9 +66,11 @@ pub record Found (a : ℕ) (c c' : Claim) : Type 0 where
   pub points : (u o : ℕ) → c'.points u o ≡ false → (u ≡ a) ⊎ (c.points u o ≡ false)
   pub word_points : (k o : ℕ) → c'.word_points k o ≡ false → c.word_points k o ≡ false
 
--- The old temporary t and the new one t' were given one value, which is that of these words, and is no address of these offsets of the own frame.
+-- The old temporary t and the new one t' were given one value, which is that of these words, and is no address of these
+-- offsets of the own frame.
 pub record Gave (t t' : ℕ) (Word Away : ℕ → Type 0) (c c' : Claim) : Type 0 where
-  pub temporaries : (u v : ℕ) → c'.temporaries u ≡ Some v → ((u ≡ t) × (v ≡ t')) ⊎ ((u ≢ t) × (v ≢ t') × (c.temporaries u ≡ Some v))
+  pub temporaries : (u v : ℕ) → c'.temporaries u ≡ Some v → ((u ≡ t) × (v ≡ t'))
+      ⊎ ((u ≢ t) × (v ≢ t') × (c.temporaries u ≡ Some v))
   pub words : (k v : ℕ) → c'.words k ≡ Some v → (Word k × (v ≡ t')) ⊎ ((v ≢ t') × (c.words k ≡ Some v))
   pub stale : (k : ℕ) → c'.stale k ≡ false → c.stale k ≡ false
   pub blank : (k : ℕ) → c'.blank k ≡ false → c.blank k ≡ false
@@ -87,7 +93,8 @@ pub record Stored (b k : ℕ) (c c' : Claim) : Type 0 where
   pub stale : (j : ℕ) → c'.stale j ≡ false → (j ≡ k) ⊎ (c.stale j ≡ false)
   pub blank : (j : ℕ) → c'.blank j ≡ false → (j ≡ k) ⊎ (c.blank j ≡ false)
   pub points : (u o : ℕ) → c'.points u o ≡ false → c.points u o ≡ false
-  pub word_points : (j o : ℕ) → c'.word_points j o ≡ false → ((j ≡ k) × (c.points b o ≡ false)) ⊎ ((j ≢ k) × (c.word_points j o ≡ false))
+  pub word_points : (j o : ℕ) → c'.word_points j o ≡ false → ((j ≡ k) × (c.points b o ≡ false))
+      ⊎ ((j ≢ k) × (c.word_points j o ≡ false))
 
 -- The same of the old frame alone: the new code stored it nowhere.
 pub record Postponed (b k : ℕ) (c c' : Claim) : Type 0 where
@@ -96,16 +103,19 @@ pub record Postponed (b k : ℕ) (c c' : Claim) : Type 0 where
   pub stale : (j : ℕ) → c'.stale j ≡ false → (j ≢ k) × (c.stale j ≡ false)
   pub blank : (j : ℕ) → c'.blank j ≡ false → (j ≡ k) ⊎ (c.blank j ≡ false)
   pub points : (u o : ℕ) → c'.points u o ≡ false → c.points u o ≡ false
-  pub word_points : (j o : ℕ) → c'.word_points j o ≡ false → ((j ≡ k) × (c.points b o ≡ false)) ⊎ ((j ≢ k) × (c.word_points j o ≡ false))
+  pub word_points : (j o : ℕ) → c'.word_points j o ≡ false → ((j ≡ k) × (c.points b o ≡ false))
+      ⊎ ((j ≢ k) × (c.word_points j o ≡ false))
 
 -- The same of the old frame, where the new code gave it to the new temporary t'.
 pub record Kept (b k t' : ℕ) (c c' : Claim) : Type 0 where
-  pub temporaries : (u v : ℕ) → c'.temporaries u ≡ Some v → ((u ≡ b) × (v ≡ t')) ⊎ ((v ≢ t') × (c.temporaries u ≡ Some v))
+  pub temporaries : (u v : ℕ) → c'.temporaries u ≡ Some v → ((u ≡ b) × (v ≡ t'))
+      ⊎ ((v ≢ t') × (c.temporaries u ≡ Some v))
   pub words : (j v : ℕ) → c'.words j ≡ Some v → ((j ≡ k) × (v ≡ t')) ⊎ ((j ≢ k) × (v ≢ t') × (c.words j ≡ Some v))
   pub stale : (j : ℕ) → c'.stale j ≡ false → (j ≢ k) × (c.stale j ≡ false)
   pub blank : (j : ℕ) → c'.blank j ≡ false → (j ≡ k) ⊎ (c.blank j ≡ false)
   pub points : (u o : ℕ) → c'.points u o ≡ false → c.points u o ≡ false
-  pub word_points : (j o : ℕ) → c'.word_points j o ≡ false → ((j ≡ k) × (c.points b o ≡ false)) ⊎ ((j ≢ k) × (c.word_points j o ≡ false))
+  pub word_points : (j o : ℕ) → c'.word_points j o ≡ false → ((j ≡ k) × (c.points b o ≡ false))
+      ⊎ ((j ≢ k) × (c.word_points j o ≡ false))
 
 -- Both codes stored a value behind a base, which is no address of these offsets of the own frame.
 pub record Wrote (r : ℕ) (b : Base) (n : ℕ) (Away : ℕ → Type 0) (c c' : Claim) : Type 0 where
@@ -119,7 +129,8 @@ pub record Wrote (r : ℕ) (b : Base) (n : ℕ) (Away : ℕ → Type 0) (c c' : 
 -- A call gave its result to the old temporary t and the new one t'. Words may have been stored by what was called.
 pub record Called (t t' : ℕ) (c c' : Claim) : Type 0 where
   pub fresh : (k : ℕ) → c.stale k ≡ false
-  pub temporaries : (u v : ℕ) → c'.temporaries u ≡ Some v → ((u ≡ t) × (v ≡ t')) ⊎ ((u ≢ t) × (v ≢ t') × (c.temporaries u ≡ Some v))
+  pub temporaries : (u v : ℕ) → c'.temporaries u ≡ Some v → ((u ≡ t) × (v ≡ t'))
+      ⊎ ((u ≢ t) × (v ≢ t') × (c.temporaries u ≡ Some v))
   pub words : (k v : ℕ) → c'.words k ≢ Some v
   pub blank : (k : ℕ) → c'.blank k ≡ false → c.blank k ≡ false
   pub points : (u o : ℕ) → c'.points u o ≡ false → (u ≢ t) × (c.points u o ≡ false)
@@ -216,11 +227,14 @@ module _ (r : ℕ) (c c' : Claim) where
   Renames (Literal t z) i = (t' : ℕ) × (i ≡ Literal t' z) × Given t t' Elsewhere
   Renames (Copy t a) i = (t' : ℕ) × (a' : ℕ) × (i ≡ Copy t' a') × Holds c a a' × Given t t' (As c a)
   Renames (Arithmetic operator t a b error line) i =
-      (t' : ℕ) × (a' : ℕ) × (b' : Operand) × (i ≡ Arithmetic operator t' a' b' error line) × Holds c a a' × Right c b b' × Given t t' Elsewhere
+      (t' : ℕ) × (a' : ℕ) × (b' : Operand) × (i ≡ Arithmetic operator t' a' b' error line) × Holds c a a' × Right c b b'
+      × Given t t' Elsewhere
   Renames (Bits operator t a b) i =
-      (t' : ℕ) × (a' : ℕ) × (b' : Operand) × (i ≡ Bits operator t' a' b') × Holds c a a' × Right c b b' × Given t t' Elsewhere
+      (t' : ℕ) × (a' : ℕ) × (b' : Operand) × (i ≡ Bits operator t' a' b') × Holds c a a' × Right c b b'
+      × Given t t' Elsewhere
   Renames (Compare relation t a b) i =
-      (t' : ℕ) × (a' : ℕ) × (b' : Operand) × (i ≡ Compare relation t' a' b') × Holds c a a' × Right c b b' × Given t t' Elsewhere
+      (t' : ℕ) × (a' : ℕ) × (b' : Operand) × (i ≡ Compare relation t' a' b') × Holds c a a' × Right c b b'
+      × Given t t' Elsewhere
   Renames (CheckRange a low high error line) i =
       (a' : ℕ) × (i ≡ CheckRange a' low high error line) × Holds c a a' × Forgets c c'
   Renames (CheckPointer a error line) i = (a' : ℕ) × (i ≡ CheckPointer a' error line) × Holds c a a' × Found a c c'
@@ -228,7 +242,8 @@ module _ (r : ℕ) (c c' : Claim) where
   Renames (Offset t b n extent) i =
       (t' : ℕ) × (b' : Base) × (i ≡ Offset t' b' n extent) × SameBase c b b' × Given t t' (Behind r c b n)
   Renames (Index t b x low high width error line) i =
-      (t' : ℕ) × (b' : Base) × (x' : ℕ) × (i ≡ Index t' b' x' low high width error line) × SameBase c b b' × Holds c x x' × Given t t' (Component r c b width (steps_above low high))
+      (t' : ℕ) × (b' : Base) × (x' : ℕ) × (i ≡ Index t' b' x' low high width error line) × SameBase c b b'
+      × Holds c x x' × Given t t' (Component r c b width (steps_above low high))
   Renames (RoutineValue t routine) i = (t' : ℕ) × (i ≡ RoutineValue t' routine) × Given t t' Elsewhere
   Renames (Load t b n) i =
       Loads t b n i ⊎ ((k : ℕ) × (b ≡ base.Frame) × (n ≡ 4 * k) × (LoadsWord t k n i ⊎ CopiesWord t k i))
@@ -237,7 +252,8 @@ module _ (r : ℕ) (c c' : Claim) where
   Renames (LoadByte t b n) i =
       (t' : ℕ) × (b' : Base) × (i ≡ LoadByte t' b' n) × SameBase c b b' × Sees r c b n × Given t t' Elsewhere
   Renames (StoreByte b n a) i =
-      (b' : Base) × (a' : ℕ) × (i ≡ StoreByte b' n a') × SameBase c b b' × Holds c a a' × Sees r c b n × Wrote r b n Elsewhere c c'
+      (b' : Base) × (a' : ℕ) × (i ≡ StoreByte b' n a') × SameBase c b b' × Holds c a a' × Sees r c b n
+      × Wrote r b n Elsewhere c c'
   Renames (Take t) i = (t' : ℕ) × (i ≡ Take t') × Given t t' Elsewhere
   Renames (Put a) i = (a' : ℕ) × (i ≡ Put a') × Holds c a a' × Forgets c c'
   Renames (New t object_type line) i = (t' : ℕ) × (i ≡ New t' object_type line) × Given t t' Elsewhere
@@ -246,9 +262,11 @@ module _ (r : ℕ) (c c' : Claim) where
   -- calls, whose results stand where they are claimed to stand
   abbrev pub Calls : Instruction → Instruction → Type 0
   Calls (Call t routine operands line) i =
-      (t' : ℕ) × (operands' : List ℕ) × (i ≡ Call t' routine operands' line) × AllHold c operands operands' × Called t t' c c'
+      (t' : ℕ) × (operands' : List ℕ) × (i ≡ Call t' routine operands' line) × AllHold c operands operands'
+      × Called t t' c c'
   Calls (CallValue t a operands line) i =
-      (t' : ℕ) × (a' : ℕ) × (operands' : List ℕ) × (i ≡ CallValue t' a' operands' line) × Holds c a a' × AllHold c operands operands' × Called t t' c c'
+      (t' : ℕ) × (a' : ℕ) × (operands' : List ℕ) × (i ≡ CallValue t' a' operands' line) × Holds c a a'
+      × AllHold c operands operands' × Called t t' c c'
   Calls _ i = ⊥
 
 -- ---- instructions behind which nothing follows

@@ -1,5 +1,7 @@
--- Claims as data: a table of the old temporaries and of the words of the own frame that are kept in mind, and what instructions make of it.
-use Rattle.std.specs.Prelude.{ℕ, suc, ◌+◌, ◌*◌, Bool, true, false, not, ◌&&◌, ◌||◌, nat_eq, nat_lt, if◌then◌else◌, List, [], ◌∷◌, length, map, slice_get, slice_set, Option, Some, None}
+-- Claims as data: a table of the old temporaries and of the words of the own frame that are kept in mind, and what
+-- instructions make of it.
+use Rattle.std.specs.Prelude.{ℕ, suc, ◌+◌, ◌*◌, Bool, true, false, not, ◌&&◌, ◌||◌, nat_eq, nat_lt, if◌then◌else◌}
+use Rattle.std.specs.Prelude.{List, [], ◌∷◌, length, map, slice_get, slice_set, Option, Some, None}
 use Rattle.tac_code.specs.declared.code.Base.{Base}
 use Rattle.tac_code.specs.declared.code.Base.TheVariants as base
 use Rattle.tac_pass.specs.declared.table.Reach.{Reach}
@@ -179,7 +181,9 @@ all_no_more less (x ∷ xs) (y ∷ ys) = less x y && all_no_more less xs ys
 -- as many rows, since no word that is stale may be forgotten
 abbrev pub is_forgetful : Table → Table → Bool
 is_forgetful from to =
-    nat_eq (length from.temporaries) (length to.temporaries) && (nat_eq (length from.words) (length to.words) && (all_no_more is_no_more from.temporaries to.temporaries && all_no_more is_no_more_word from.words to.words))
+    nat_eq (length from.temporaries) (length to.temporaries)
+    && (nat_eq (length from.words) (length to.words)
+    && (all_no_more is_no_more from.temporaries to.temporaries && all_no_more is_no_more_word from.words to.words))
 
 -- ---- words that are kept in mind
 
@@ -216,7 +220,14 @@ module _ (minded : List ℕ) where
   -- the same of the old frame, and t' was given it
   abbrev pub keep_word : ℕ → ℕ → ℕ → Table → Table
   keep_word b k t' table =
-      with_word k (record { value = record { holder = Some t'; reach = (known_in table b).reach }; stale = true; blank = false }) (free t' table)
+      with_word k (record {
+        value = record {
+          holder = Some t';
+          reach = (known_in table b).reach;
+        };
+        stale = true;
+        blank = false;
+      }) (free t' table)
 
   -- word k is made to agree
   abbrev pub clean : ℕ → Table → Table

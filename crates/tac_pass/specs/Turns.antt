@@ -1,4 +1,5 @@
--- How often a run turns aside. Each turn of a loop and each call of the language does so once at least, whatever is spared between.
+-- How often a run turns aside. Each turn of a loop and each call of the language does so once at least, whatever is
+-- spared between.
 use Rattle.std.specs.Prelude.{ℕ, zero, suc, Bool, true, false, List, [], Option, Some}
 use Rattle.tac_code.specs.declared.code.Instruction.{Instruction}
 use Rattle.tac_code.specs.declared.code.Instruction.TheVariants.{Jump, JumpBack, Branch, BranchBack, Call, CallValue}

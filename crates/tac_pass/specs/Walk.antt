@@ -1,5 +1,6 @@
 -- New code from old code by a plan, a place after the other: what each step may do to the table and to the code so far.
-use Rattle.std.specs.Prelude.{◌≡◌, ◌⊎◌, ℕ, zero, suc, ◌+◌, ◌-◌, ◌<◌, ◌≤◌, ◌++◌, Bool, true, false, nat_lt, if◌then◌else◌, List, [], ◌∷◌, length, slice_get, Option, Some, None}
+use Rattle.std.specs.Prelude.{◌≡◌, ◌⊎◌, ℕ, zero, suc, ◌+◌, ◌-◌, ◌<◌, ◌≤◌, ◌++◌, Bool, true, false, nat_lt}
+use Rattle.std.specs.Prelude.{if◌then◌else◌, List, [], ◌∷◌, length, slice_get, Option, Some, None}
 use Rattle.tac_code.specs.declared.code.Instruction.{Instruction}
 use Rattle.tac_code.specs.declared.code.Instruction.TheVariants.{Jump, JumpBack, Branch, BranchBack}
 use Rattle.tac_code.specs.declared.code.TacRoutine.{TacRoutine}
@@ -9,7 +10,8 @@ use Rattle.tac_pass.specs.declared.plan.Put.TheVariants.{Clean, Fetch}
 use Rattle.tac_pass.specs.declared.plan.Step.{Step}
 use Rattle.tac_pass.specs.Follows.{SameHeading}
 use Rattle.tac_pass.specs.Tables.{Table, is_forgetful}
-use Rattle.tac_pass.specs.Acts.{Made, and_then, only_if, holder, renamed_right, kept, ending, spared, moved_word, cleaned, fetched}
+use Rattle.tac_pass.specs.Acts.{Made, and_then, only_if, holder, renamed_right, kept, ending, spared, moved_word}
+use Rattle.tac_pass.specs.Acts.{cleaned, fetched}
 use Rattle.tac_pass.specs.Certified.{begins}
 
 -- what is made, told by its parts
@@ -45,9 +47,11 @@ module _ (steps : List Step) (starts : List ℕ) (table : Table) (place stand : 
   turned (Jump n) = and_then (ahead n) (λ m. Some (Jump m))
   turned (JumpBack n) = and_then (behind n) (λ m. Some (JumpBack m))
   turned (Branch relation a b n) =
-      and_then (holder table a) (λ a'. and_then (renamed_right table b) (λ b'. and_then (ahead n) (λ m. Some (Branch relation a' b' m))))
+      and_then (holder table a) (λ a'. and_then (renamed_right table b)
+      (λ b'. and_then (ahead n) (λ m. Some (Branch relation a' b' m))))
   turned (BranchBack relation a b n) =
-      and_then (holder table a) (λ a'. and_then (renamed_right table b) (λ b'. and_then (behind n) (λ m. Some (BranchBack relation a' b' m))))
+      and_then (holder table a) (λ a'. and_then (renamed_right table b)
+      (λ b'. and_then (behind n) (λ m. Some (BranchBack relation a' b' m))))
   turned _ = None
 
 abbrev pub is_branch : Instruction → Bool
@@ -104,7 +108,8 @@ module _ (r : ℕ) (minded : List ℕ) (steps : List Step) (starts : List ℕ) w
       pub holder : ℕ
       pub new_one : Instruction
       pub left : Table
-      pub made : IsMade (kept r minded from.table holder i) new_one left ⊎ IsMade (moved_word r minded from.table holder i) new_one left
+      pub made : IsMade (kept r minded from.table holder i) new_one left ⊎ IsMade
+          (moved_word r minded from.table holder i) new_one left
       pub pushed : to.out ≡ from.out ++ new_one ∷ []
       pub goes : GoesOn steps starts place left to.table (length to.out)
 
@@ -138,7 +143,8 @@ module _ (r : ℕ) (minded : List ℕ) (steps : List Step) (starts : List ℕ) w
     pub begins : begins (at 0).table ≡ true
     pub starts_first : slice_get starts 0 ≡ Some 0
     pub joins : (place : ℕ) → place ≤ places → Joins steps place (at place).table
-    pub steps_on : (place : ℕ) (i : Instruction) → place < places → slice_get body place ≡ Some i → Steps place i (at place) (at (suc place))
+    pub steps_on : (place : ℕ) (i : Instruction) → place < places → slice_get body place ≡ Some i → Steps place i
+        (at place) (at (suc place))
 
 -- a body that was made by a plan
 pub record Passed (r : ℕ) (body body' : List Instruction) : Type 0 where
@@ -161,11 +167,13 @@ abbrev pub PassedSoFar : ℕ → List TacRoutine → ℕ → List TacRoutine →
 PassedSoFar first routines zero routines' = routines' ≡ []
 PassedSoFar first routines (suc n) routines' =
     (routine : TacRoutine) × (routine' : TacRoutine) × (before : List TacRoutine)
-    × PassedSoFar first routines n before × (slice_get routines n ≡ Some routine) × PassedRoutine (first + n) routine routine' × (routines' ≡ before ++ routine' ∷ [])
+    × PassedSoFar first routines n before × (slice_get routines n ≡ Some routine) × PassedRoutine
+    (first + n) routine routine' × (routines' ≡ before ++ routine' ∷ [])
 
 -- each routine of the old code has one of the new code in its place
 pub record ArePassed (old new : Code) : Type 0 where
   pub program : length new.program ≡ length old.program
   pub run_time : length new.run_time ≡ length old.run_time
   pub objects : new.objects ≡ old.objects
-  pub routines : (r : ℕ) (routine : TacRoutine) → slice_get (routines old) r ≡ Some routine → (routine' : TacRoutine) × (slice_get (routines new) r ≡ Some routine') × PassedRoutine r routine routine'
+  pub routines : (r : ℕ) (routine : TacRoutine) → slice_get (routines old) r ≡ Some routine → (routine' : TacRoutine)
+      × (slice_get (routines new) r ≡ Some routine') × PassedRoutine r routine routine'

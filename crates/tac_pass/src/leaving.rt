@@ -48,7 +48,8 @@ pub fn moved(
     to: u32,
     instruction: &Instruction,
 ) -> Option<Instruction>
-    ensures { (r : ℕ) → IfSome result (λ new_one. IsMade (act.moved_word r minded.now rows.old to instruction.now) new_one rows.new) }
+    ensures { (r : ℕ) → IfSome result (λ new_one. IsMade
+        (act.moved_word r minded.now rows.old to instruction.now) new_one rows.new) }
 {
     match instruction {
         Instruction::Load {
@@ -76,7 +77,8 @@ pub fn moved(
 
 /// An instruction behind which nothing follows.
 pub fn ending(rows: &Rows, instruction: &Instruction) -> Option<Instruction>
-    ensures { (r : ℕ) (minded : List ℕ) → IfSome result (λ new_one. act.ending r minded rows.now instruction.now ≡ Some new_one) }
+    ensures { (r : ℕ) (minded : List ℕ) → IfSome result
+        (λ new_one. act.ending r minded rows.now instruction.now ≡ Some new_one) }
 {
     match instruction {
         Instruction::Return { from } => Some(Instruction::Return {

@@ -22,7 +22,9 @@ fn kept_text(
     to: u32,
     instruction: &Instruction,
 ) -> Result<Option<Instruction>, OutOfMemory>
-    ensures { IfOk result (λ made. IfSome made (λ new_one. (r : ℕ) (minded : List ℕ) → IsMade (act.kept r minded rows.old to instruction.now) new_one rows.new)) }
+    ensures { IfOk result (λ made. IfSome made
+        (λ new_one. (r : ℕ) (minded : List ℕ) → IsMade
+        (act.kept r minded rows.old to instruction.now) new_one rows.new)) }
 {
     let Instruction::Text { to: given, bytes } = instruction else {
         return Ok(None);
@@ -33,7 +35,8 @@ fn kept_text(
 }
 
 fn kept_given(rows: &mut Rows, to: u32, instruction: &Instruction) -> Option<Instruction>
-    ensures { IfSome result (λ new_one. (r : ℕ) (minded : List ℕ) → IsMade (act.kept r minded rows.old to instruction.now) new_one rows.new) }
+    ensures { IfSome result (λ new_one. (r : ℕ) (minded : List ℕ) → IsMade
+        (act.kept r minded rows.old to instruction.now) new_one rows.new) }
 {
     match instruction {
         Instruction::Literal { to: given, value } => {
@@ -68,7 +71,8 @@ fn kept_given(rows: &mut Rows, to: u32, instruction: &Instruction) -> Option<Ins
 }
 
 fn kept_copy(rows: &mut Rows, to: u32, given: u32, from: u32) -> Option<Instruction>
-    ensures { (r : ℕ) (minded : List ℕ) → IfSome result (λ new_one. IsMade (act.kept r minded rows.old to (Element.Copy given from)) new_one rows.new) }
+    ensures { (r : ℕ) (minded : List ℕ) → IfSome result
+        (λ new_one. IsMade (act.kept r minded rows.old to (Element.Copy given from)) new_one rows.new) }
 {
     let known = rows.known(from);
     let from = known.holder?;
@@ -77,7 +81,8 @@ fn kept_copy(rows: &mut Rows, to: u32, given: u32, from: u32) -> Option<Instruct
 }
 
 fn kept_computed(rows: &mut Rows, to: u32, instruction: &Instruction) -> Option<Instruction>
-    ensures { IfSome result (λ new_one. (r : ℕ) (minded : List ℕ) → IsMade (act.kept r minded rows.old to instruction.now) new_one rows.new) }
+    ensures { IfSome result (λ new_one. (r : ℕ) (minded : List ℕ) → IsMade
+        (act.kept r minded rows.old to instruction.now) new_one rows.new) }
 {
     match instruction {
         Instruction::Arithmetic {
@@ -137,7 +142,8 @@ fn kept_computed(rows: &mut Rows, to: u32, instruction: &Instruction) -> Option<
 }
 
 fn kept_tested(rows: &mut Rows, instruction: &Instruction) -> Option<Instruction>
-    ensures { IfSome result (λ new_one. (r t : ℕ) (minded : List ℕ) → IsMade (act.kept r minded rows.old t instruction.now) new_one rows.new) }
+    ensures { IfSome result (λ new_one. (r t : ℕ) (minded : List ℕ) → IsMade
+        (act.kept r minded rows.old t instruction.now) new_one rows.new) }
 {
     match instruction {
         Instruction::CheckRange {
@@ -190,7 +196,8 @@ fn kept_address(
     to: u32,
     instruction: &Instruction,
 ) -> Option<Instruction>
-    ensures { IfSome result (λ new_one. IsMade (act.kept routine minded.now rows.old to instruction.now) new_one rows.new) }
+    ensures { IfSome result (λ new_one. IsMade
+        (act.kept routine minded.now rows.old to instruction.now) new_one rows.new) }
 {
     match instruction {
         Instruction::Offset {
@@ -248,7 +255,8 @@ fn kept_load(
     base: Base,
     offset: u32,
 ) -> Option<Instruction>
-    ensures { IfSome result (λ new_one. IsMade (act.kept routine minded.now rows.old to (Element.Load given base offset)) new_one rows.new) }
+    ensures { IfSome result (λ new_one. IsMade
+        (act.kept routine minded.now rows.old to (Element.Load given base offset)) new_one rows.new) }
 {
     if let Some(word) = own_word(base, offset) {
         if rows.word(minded, word).stale {
@@ -279,7 +287,8 @@ fn kept_load_byte(
     base: Base,
     offset: u32,
 ) -> Option<Instruction>
-    ensures { IfSome result (λ new_one. IsMade (act.kept routine minded.now rows.old to (Element.LoadByte given base offset)) new_one rows.new) }
+    ensures { IfSome result (λ new_one. IsMade
+        (act.kept routine minded.now rows.old to (Element.LoadByte given base offset)) new_one rows.new) }
 {
     let reach = base_reach(routine, base, rows);
     if !rows.is_seen(minded, reach, offset) {
@@ -298,7 +307,8 @@ fn kept_store(
     offset: u32,
     from: u32,
 ) -> Option<Instruction>
-    ensures { (t : ℕ) → IfSome result (λ new_one. IsMade (act.kept routine minded.now rows.old t (Element.Store base offset from)) new_one rows.new) }
+    ensures { (t : ℕ) → IfSome result (λ new_one. IsMade
+        (act.kept routine minded.now rows.old t (Element.Store base offset from)) new_one rows.new) }
 {
     let holder = holder(rows, from)?;
     if let Some(word) = own_word(base, offset) {
@@ -327,7 +337,8 @@ fn kept_store_byte(
     offset: u32,
     from: u32,
 ) -> Option<Instruction>
-    ensures { (t : ℕ) → IfSome result (λ new_one. IsMade (act.kept routine minded.now rows.old t (Element.StoreByte base offset from)) new_one rows.new) }
+    ensures { (t : ℕ) → IfSome result (λ new_one. IsMade
+        (act.kept routine minded.now rows.old t (Element.StoreByte base offset from)) new_one rows.new) }
 {
     let reach = base_reach(routine, base, rows);
     if !rows.is_seen(minded, reach, offset) {
@@ -362,7 +373,9 @@ fn kept_call(
     to: u32,
     instruction: &Instruction,
 ) -> Result<Option<Instruction>, OutOfMemory>
-    ensures { IfOk result (λ made. IfSome made (λ new_one. (r : ℕ) (minded : List ℕ) → IsMade (act.kept r minded rows.old to instruction.now) new_one rows.new)) }
+    ensures { IfOk result (λ made. IfSome made
+        (λ new_one. (r : ℕ) (minded : List ℕ) → IsMade
+        (act.kept r minded rows.old to instruction.now) new_one rows.new)) }
 {
     let Instruction::Call {
         to: given,
@@ -394,7 +407,9 @@ fn kept_call_value(
     to: u32,
     instruction: &Instruction,
 ) -> Result<Option<Instruction>, OutOfMemory>
-    ensures { IfOk result (λ made. IfSome made (λ new_one. (r : ℕ) (minded : List ℕ) → IsMade (act.kept r minded rows.old to instruction.now) new_one rows.new)) }
+    ensures { IfOk result (λ made. IfSome made
+        (λ new_one. (r : ℕ) (minded : List ℕ) → IsMade
+        (act.kept r minded rows.old to instruction.now) new_one rows.new)) }
 {
     let Instruction::CallValue {
         to: given,
@@ -430,7 +445,8 @@ fn kept_memory(
     to: u32,
     instruction: &Instruction,
 ) -> Option<Instruction>
-    ensures { IfSome result (λ new_one. IsMade (act.kept routine minded.now rows.old to instruction.now) new_one rows.new) }
+    ensures { IfSome result (λ new_one. IsMade
+        (act.kept routine minded.now rows.old to instruction.now) new_one rows.new) }
 {
     match instruction {
         Instruction::Load {
@@ -462,7 +478,8 @@ pub fn kept(
     to: u32,
     instruction: &Instruction,
 ) -> Result<Option<Instruction>, OutOfMemory>
-    ensures { IfOk result (λ made. IfSome made (λ new_one. IsMade (act.kept routine minded.now rows.old to instruction.now) new_one rows.new)) }
+    ensures { IfOk result (λ made. IfSome made
+        (λ new_one. IsMade (act.kept routine minded.now rows.old to instruction.now) new_one rows.new)) }
 {
     match instruction {
         Instruction::Literal { .. }

@@ -180,7 +180,8 @@ fn is_no_more_word(from: Word, to: Word) -> bool
 fn is_no_more_at(from: &[Known], to: &[Known], at: usize) -> bool
     requires here { at < length from.now }
     requires there { at < length to.now }
-    ensures { result ≡ table.is_no_more (table.or_unknown (slice_get from.now at)) (table.or_unknown (slice_get to.now at)) }
+    ensures { result ≡ table.is_no_more (table.or_unknown (slice_get from.now at))
+        (table.or_unknown (slice_get to.now at)) }
 {
     is_no_more(from[at], to[at])
 }
@@ -609,7 +610,8 @@ impl Rows {
 
     /// What an old temporary holds was stored in a word: of both frames, or of the old one, in which case the new one is stale.
     pub fn store(&mut self, minded: &[u32], from: u32, word: u32, is_stale: bool)
-        ensures { self.new ≡ table.with_word minded.now word (record { value = table.known_in self.old from; stale = is_stale; blank = false }) self.old }
+        ensures { self.new ≡ table.with_word minded.now word
+            (record { value = table.known_in self.old from; stale = is_stale; blank = false }) self.old }
     {
         let value = self.known(from);
         self.set_word(

@@ -1,11 +1,13 @@
 // New code from old code by a plan, a place after the other.
 
-ghost use Rattle.std.specs.Prelude.{◌≡◌, ◌⊎◌, ℕ, suc, ◌+◌, ◌-◌, ◌<◌, ◌≤◌, true, false, List, [], length, slice_get, IsTrue, IfOk, IfSome, Some};
+ghost use Rattle.std.specs.Prelude.{◌≡◌, ◌⊎◌, ℕ, suc, ◌+◌, ◌-◌, ◌<◌, ◌≤◌, true, false, List, [], length, slice_get};
+ghost use Rattle.std.specs.Prelude.{IsTrue, IfOk, IfSome, Some};
 ghost use Rattle.std.specs.Option.{option_copied};
 ghost use Rattle.tac_code.specs.declared.code.Instruction.{Instruction as Element};
 ghost use Rattle.tac_pass.specs.Acts as act;
 ghost use Rattle.tac_pass.specs.Tables.{is_forgetful};
-ghost use Rattle.tac_pass.specs.Walk.{IsMade, join_at, Joins, aimed, ahead, behind, turned, is_branch, put_in, ArePutIn, GoesOn, spot, Becomes, Steps, Walked, Passed};
+ghost use Rattle.tac_pass.specs.Walk.{IsMade, join_at, Joins, aimed, ahead, behind, turned, is_branch, put_in};
+ghost use Rattle.tac_pass.specs.Walk.{ArePutIn, GoesOn, spot, Becomes, Steps, Walked, Passed};
 
 use crate::leaving::{cleaned, ending, fetched, moved, spare};
 use crate::operands::{holder, renamed_right};
@@ -127,7 +129,8 @@ fn put_all(
     puts: &[Put],
     out: &mut Vec<Instruction>,
 ) -> Result<bool, OutOfMemory>
-    ensures { IfOk result (λ done. IsTrue done → (r : ℕ) → ArePutIn r minded.now rows.old out.old.items (length puts.now) rows.new out.new.items) }
+    ensures { IfOk result (λ done. IsTrue done → (r : ℕ) → ArePutIn r minded.now rows.old out.old.items
+        (length puts.now) rows.new out.new.items) }
 {
     for at in 0..puts.len() {
         let Some(instruction) = put_in(minded, rows, puts[at]) else {
@@ -174,7 +177,8 @@ fn turned(
     stand: usize,
     instruction: &Instruction,
 ) -> Option<Instruction>
-    ensures { IfSome result (λ new_one. turned way.now.steps.now way.now.starts.now rows.now place stand instruction.now ≡ Some new_one) }
+    ensures { IfSome result (λ new_one. turned way.now.steps.now way.now.starts.now rows.now place stand instruction.now
+        ≡ Some new_one) }
 {
     match instruction {
         Instruction::Jump { forward } => Some(Instruction::Jump {
@@ -217,7 +221,9 @@ fn leave_out(
     instruction: &Instruction,
     here: usize,
 ) -> bool
-    ensures { IsTrue result → (out : List Element) → length out ≡ here → Becomes way.now.routine way.now.minded.now way.now.steps.now way.now.starts.now place instruction.now (spot rows.old out) (spot rows.new out) }
+    ensures { IsTrue result → (out : List Element) → length out ≡ here
+        → Becomes way.now.routine way.now.minded.now way.now.steps.now way.now.starts.now place instruction.now
+        (spot rows.old out) (spot rows.new out) }
 {
     spare(way.minded, rows, instruction) && goes_on(way, rows, place, here)
 }
@@ -230,7 +236,10 @@ fn made_new(
     action: Action,
     instruction: &Instruction,
 ) -> Result<Option<Instruction>, OutOfMemory>
-    ensures { IfOk result (λ made. IfSome made (λ new_one. (to : ℕ) × (IsMade (act.kept way.now.routine way.now.minded.now rows.old to instruction.now) new_one rows.new ⊎ IsMade (act.moved_word way.now.routine way.now.minded.now rows.old to instruction.now) new_one rows.new))) }
+    ensures { IfOk result (λ made. IfSome made
+        (λ new_one. (to : ℕ) × (IsMade (act.kept way.now.routine way.now.minded.now rows.old to instruction.now) new_one
+        rows.new ⊎ IsMade (act.moved_word way.now.routine way.now.minded.now rows.old to instruction.now) new_one
+        rows.new))) }
 {
     match action {
         Action::Spare => Ok(None),
@@ -249,7 +258,9 @@ fn make_new(
     instruction: &Instruction,
     out: &mut Vec<Instruction>,
 ) -> Result<bool, OutOfMemory>
-    ensures { IfOk result (λ done. IsTrue done → Becomes way.now.routine way.now.minded.now way.now.steps.now way.now.starts.now place instruction.now (spot rows.old out.old.items) (spot rows.new out.new.items)) }
+    ensures { IfOk result (λ done. IsTrue done
+        → Becomes way.now.routine way.now.minded.now way.now.steps.now way.now.starts.now place instruction.now
+        (spot rows.old out.old.items) (spot rows.new out.new.items)) }
 {
     let Some(new_one) = made_new(alloc, way, rows, action, instruction)? else {
         return Ok(false);
@@ -267,7 +278,9 @@ fn jump(
     out: &mut Vec<Instruction>,
 ) -> Result<bool, OutOfMemory>
     requires { is_branch instruction.now ≡ false }
-    ensures { IfOk result (λ done. IsTrue done → Becomes way.now.routine way.now.minded.now way.now.steps.now way.now.starts.now place instruction.now (spot rows.old out.old.items) (spot rows.new out.new.items)) }
+    ensures { IfOk result (λ done. IsTrue done
+        → Becomes way.now.routine way.now.minded.now way.now.steps.now way.now.starts.now place instruction.now
+        (spot rows.old out.old.items) (spot rows.new out.new.items)) }
 {
     let Some(new_one) = turned(way, rows, place, out.len(), instruction) else {
         return Ok(false);
@@ -284,7 +297,9 @@ fn branch(
     instruction: &Instruction,
     out: &mut Vec<Instruction>,
 ) -> Result<bool, OutOfMemory>
-    ensures { IfOk result (λ done. IsTrue done → Becomes way.now.routine way.now.minded.now way.now.steps.now way.now.starts.now place instruction.now (spot rows.old out.old.items) (spot rows.new out.new.items)) }
+    ensures { IfOk result (λ done. IsTrue done
+        → Becomes way.now.routine way.now.minded.now way.now.steps.now way.now.starts.now place instruction.now
+        (spot rows.old out.old.items) (spot rows.new out.new.items)) }
 {
     let Some(new_one) = turned(way, rows, place, out.len(), instruction) else {
         return Ok(false);
@@ -300,7 +315,9 @@ fn end(
     instruction: &Instruction,
     out: &mut Vec<Instruction>,
 ) -> Result<bool, OutOfMemory>
-    ensures { IfOk result (λ done. IsTrue done → Becomes way.now.routine way.now.minded.now way.now.steps.now way.now.starts.now place instruction.now (spot rows.old out.old.items) (spot rows.new out.new.items)) }
+    ensures { IfOk result (λ done. IsTrue done
+        → Becomes way.now.routine way.now.minded.now way.now.steps.now way.now.starts.now place instruction.now
+        (spot rows.old out.old.items) (spot rows.new out.new.items)) }
 {
     let Some(new_one) = ending(rows, instruction) else {
         return Ok(false);
@@ -318,7 +335,9 @@ fn act(
     instruction: &Instruction,
     out: &mut Vec<Instruction>,
 ) -> Result<bool, OutOfMemory>
-    ensures { IfOk result (λ done. IsTrue done → Becomes way.now.routine way.now.minded.now way.now.steps.now way.now.starts.now place instruction.now (spot rows.old out.old.items) (spot rows.new out.new.items)) }
+    ensures { IfOk result (λ done. IsTrue done
+        → Becomes way.now.routine way.now.minded.now way.now.steps.now way.now.starts.now place instruction.now
+        (spot rows.old out.old.items) (spot rows.new out.new.items)) }
 {
     match action {
         Action::Spare => Ok(leave_out(way, rows, place, instruction, out.len())),
@@ -336,7 +355,9 @@ fn become_new(
     instruction: &Instruction,
     out: &mut Vec<Instruction>,
 ) -> Result<bool, OutOfMemory>
-    ensures { IfOk result (λ done. IsTrue done → Becomes way.now.routine way.now.minded.now way.now.steps.now way.now.starts.now place instruction.now (spot rows.old out.old.items) (spot rows.new out.new.items)) }
+    ensures { IfOk result (λ done. IsTrue done
+        → Becomes way.now.routine way.now.minded.now way.now.steps.now way.now.starts.now place instruction.now
+        (spot rows.old out.old.items) (spot rows.new out.new.items)) }
 {
     match instruction {
         Instruction::Jump { .. } | Instruction::JumpBack { .. } => {
@@ -362,7 +383,9 @@ fn pass_place(
     instruction: &Instruction,
     out: &mut Vec<Instruction>,
 ) -> Result<bool, OutOfMemory>
-    ensures { IfOk result (λ done. IsTrue done → Steps way.now.routine way.now.minded.now way.now.steps.now way.now.starts.now place instruction.now (spot rows.old out.old.items) (spot rows.new out.new.items)) }
+    ensures { IfOk result (λ done. IsTrue done
+        → Steps way.now.routine way.now.minded.now way.now.steps.now way.now.starts.now place instruction.now
+        (spot rows.old out.old.items) (spot rows.new out.new.items)) }
 {
     if place >= way.steps.len() || !is_there(way.starts, place, out.len()) {
         return Ok(false);
@@ -376,7 +399,8 @@ fn pass_place(
 
 // Whether the rows may be claimed at a routine's begin, where the plan's claim is taken.
 fn begin(way: &Way<'_>, rows: &mut Rows) -> bool
-    ensures { IsTrue result → (body : List Element) → Walked way.now.routine way.now.minded.now way.now.steps.now way.now.starts.now body 0 (spot rows.new []) }
+    ensures { IsTrue result → (body : List Element)
+        → Walked way.now.routine way.now.minded.now way.now.steps.now way.now.starts.now body 0 (spot rows.new []) }
 {
     if !join_in(way.steps, rows, 0) {
         return false;
@@ -393,7 +417,9 @@ fn walk_on(
     rows: &mut Rows,
     body: &[Instruction],
 ) -> Result<Option<Vec<Instruction>>, OutOfMemory>
-    ensures { IfOk result (λ made. IfSome made (λ new_body. Walked way.now.routine way.now.minded.now way.now.steps.now way.now.starts.now body.now (length body.now) (spot rows.new new_body.items))) }
+    ensures { IfOk result (λ made. IfSome made
+        (λ new_body. Walked way.now.routine way.now.minded.now way.now.steps.now way.now.starts.now body.now
+        (length body.now) (spot rows.new new_body.items))) }
 {
     let mut out = Vec::with_capacity(alloc, body.len())?;
     if !begin(way, rows) {

@@ -1,5 +1,7 @@
 -- What the operators give for numbers that are in range.
-use Rattle.std.proofs.Common.{◌≡◌, ℕ, zero, suc, ◌+◌, ◌-◌, ◌*◌, ◌/◌, ◌%◌, ◌<◌, ◌≤◌, ℤ, pos, negsuc, neg_ℤ, ◌-ℤ◌, Bool, true, false, not, nat_lt, if◌then◌else◌, refl, sym, ap, ◌∙◌, arith, lt-ltb, ltb-true, ltb-false}
+use Rattle.std.proofs.Common.{◌≡◌, ℕ, zero, suc, ◌+◌, ◌-◌, ◌*◌, ◌/◌, ◌%◌, ◌<◌, ◌≤◌, ℤ, pos, negsuc, neg_ℤ, ◌-ℤ◌, Bool}
+use Rattle.std.proofs.Common.{true, false, not, nat_lt, if◌then◌else◌, refl, sym, ap, ◌∙◌, arith, lt-ltb, ltb-true}
+use Rattle.std.proofs.Common.{ltb-false}
 use Rattle.std.proofs.Math.Nat.{div-eq_of_lt, div-le_self}
 use Rattle.std.proofs.lemmas.Int.{ints}
 use Rattle.std.proofs.lemmas.Grind.{and_numeral}
@@ -22,13 +24,16 @@ pub gives_negative : (n : ℕ) → n < 2147483648 → within 1 (negsuc n) ≡ Gi
 gives_negative n l = ap (λ b. if b then Gives (negsuc n) else Fails 1) (lt-ltb n 2147483648 l)
 
 pub difference : (w n : ℕ) → n ≤ w → w < 2147483648 → computed Subtract 1 (pos w) (pos n) ≡ Gives (pos (w - n))
-difference w n l h = let e : pos w -ℤ pos n ≡ pos (w - n) = omega (arith, ints) in ap (within 1) e ∙ gives_natural (w - n) (omega arith)
+difference w n l h = let e : pos w -ℤ pos n ≡ pos (w - n) = omega (arith, ints) in ap (within 1) e ∙ gives_natural
+    (w - n) (omega arith)
 
 pub shortfall : (w n : ℕ) → w < n → n < 2147483648 → computed Subtract 1 (pos w) (pos n) ≡ Gives (negsuc (n - suc w))
-shortfall w n l h = let e : pos w -ℤ pos n ≡ negsuc (n - suc w) = omega (arith, ints) in ap (within 1) e ∙ gives_negative (n - suc w) (omega arith)
+shortfall w n l h = let e : pos w -ℤ pos n ≡ negsuc (n - suc w) = omega (arith, ints) in ap (within 1) e
+    ∙ gives_negative (n - suc w) (omega arith)
 
 pub one_less : (k : ℕ) → suc k < 2147483648 → computed Subtract 1 (pos (suc k)) (pos 1) ≡ Gives (pos k)
-one_less k l = let e : pos (suc k) -ℤ pos 1 ≡ pos k = omega (arith, ints) in ap (within 1) e ∙ gives_natural k (omega arith)
+one_less k l = let e : pos (suc k) -ℤ pos 1 ≡ pos k = omega (arith, ints) in ap (within 1) e ∙ gives_natural k
+    (omega arith)
 
 -- ---- sums modulo 2 ^ 32
 
@@ -50,7 +55,7 @@ counted_up n l =
 pub low_byte : (x : ℤ) → bits And x (pos 255) ≡ pos (word_of x % 256)
 low_byte x = ap number_of (and_numeral (word_of x) 254 refl) ∙ number_below (word_of x % 256) (omega arith)
 
--- whether a number of bytes is one of so many pairs of words
+-- whether a number of bytes is one of this many pairs of words
 pub low_bits : (w r : ℕ) → w % 8 ≡ r → r < 8 → bits And (pos w) (pos 7) ≡ pos r
 low_bits w r e l = ap number_of (and_numeral w 6 refl ∙ e) ∙ number_below r (omega arith)
 
@@ -64,12 +69,13 @@ pub twice_is : (k : ℕ) → twice k ≡ 2 * k
 twice_is zero = refl
 twice_is (suc k) = let e = twice_is k in omega (arith, e)
 
--- so many twos, and one more or none
+-- this many twos, and one more or none
 pub halves : (n : ℕ) → (odd : Bool) × (k : ℕ) × (n ≡ (if odd then suc (twice k) else twice k))
 halves zero = (false, zero, refl)
 halves (suc n) = go (halves n)
   where
-    go : ((odd : Bool) × (k : ℕ) × (n ≡ (if odd then suc (twice k) else twice k))) → (odd : Bool) × (k : ℕ) × (suc n ≡ (if odd then suc (twice k) else twice k))
+    go : ((odd : Bool) × (k : ℕ) × (n ≡ (if odd then suc (twice k) else twice k))) → (odd : Bool) × (k : ℕ)
+        × (suc n ≡ (if odd then suc (twice k) else twice k))
     go (true, k, e) = (false, suc k, ap suc e)
     go (false, k, e) = (true, k, ap suc e)
 
@@ -84,11 +90,13 @@ gives_minus (suc n) l = gives_negative n (omega arith)
 
 pub negated : (n : ℕ) → n ≤ 2147483648 → computed Subtract 1 (pos 0) (pos n) ≡ Gives (minus n)
 negated zero l = refl
-negated (suc n) l = let e : pos 0 -ℤ pos (suc n) ≡ negsuc n = omega (arith, ints) in ap (within 1) e ∙ gives_negative n (omega arith)
+negated (suc n) l = let e : pos 0 -ℤ pos (suc n) ≡ negsuc n = omega (arith, ints) in ap (within 1) e ∙ gives_negative n
+    (omega arith)
 
 pub divided : (n p : ℕ) → 0 < p → n ≤ 2147483648 → computed Divide 1 (minus n) (pos p) ≡ Gives (minus (n / p))
 divided n zero l h = absurd (omega arith)
-divided zero (suc p) l h = let e : 0 / suc p ≡ 0 = div-eq_of_lt l in ap (λ q. within 1 (pos q)) e ∙ ap (λ q. Gives (minus q)) (sym e)
+divided zero (suc p) l h = let e : 0 / suc p ≡ 0 = div-eq_of_lt l in ap (λ q. within 1 (pos q)) e
+    ∙ ap (λ q. Gives (minus q)) (sym e)
 divided (suc n) (suc p) l h = let m = div-le_self (suc n) (suc p) in gives_minus (suc n / suc p) (omega (arith, m))
 
 pub a_tenth : (p : ℕ) → p < 2147483648 → computed Divide 1 (pos p) (pos 10) ≡ Gives (pos (p / 10))
@@ -99,10 +107,12 @@ ten_times p l = gives_natural (p * 10) l
 
 pub digit_of : (d : ℕ) → d < 10 → computed Subtract 1 (pos 48) (minus d) ≡ Gives (pos (48 + d))
 digit_of zero l = refl
-digit_of (suc d) l = let e : pos 48 -ℤ negsuc d ≡ pos (48 + suc d) = omega (arith, ints) in ap (within 1) e ∙ gives_natural (48 + suc d) (omega arith)
+digit_of (suc d) l = let e : pos 48 -ℤ negsuc d ≡ pos (48 + suc d) = omega (arith, ints) in ap (within 1) e
+    ∙ gives_natural (48 + suc d) (omega arith)
 
 pub multiplied : (d p : ℕ) → d * p ≤ 2147483648 → computed Multiply 1 (minus d) (pos p) ≡ Gives (minus (d * p))
-multiplied zero p l = let e : 0 * p ≡ 0 = omega arith in ap (λ q. within 1 (pos q)) e ∙ ap (λ q. Gives (minus q)) (sym e)
+multiplied zero p l = let e : 0 * p ≡ 0 = omega arith in ap (λ q. within 1 (pos q)) e ∙ ap (λ q. Gives (minus q))
+    (sym e)
 multiplied (suc d) p l = gives_minus (suc d * p) l
 
 pub what_is_left : (n k : ℕ) → k ≤ n → n ≤ 2147483648 → computed Subtract 1 (minus n) (minus k) ≡ Gives (minus (n - k))
@@ -131,11 +141,15 @@ pub remains : (w n : ℕ) → w < 2147483648 → n < 2147483648 → within 1 (po
 remains w n l h = go (nat_lt w n) refl
   where
     go : (b : Bool) → nat_lt w n ≡ b → within 1 (pos w -ℤ pos n) ≡ Gives (pos w -ℤ pos n)
-    go true e = let s = ltb-true w n e in let z : pos w -ℤ pos n ≡ negsuc (n - suc w) = omega (arith, ints) in shortfall w n s h ∙ ap Gives (sym z)
-    go false e = let s = ltb-false w n e in let z : pos w -ℤ pos n ≡ pos (w - n) = omega (arith, ints) in difference w n (omega (arith, s)) l ∙ ap Gives (sym z)
+    go true e = let s = ltb-true w n e in let z : pos w -ℤ pos n ≡ negsuc (n - suc w) = omega (arith, ints)
+        in shortfall w n s h ∙ ap Gives (sym z)
+    go false e = let s = ltb-false w n e in let z : pos w -ℤ pos n ≡ pos (w - n) = omega (arith, ints) in difference w n
+        (omega (arith, s)) l ∙ ap Gives (sym z)
 
-pub one_narrower : (w n : ℕ) → w < 2147483648 → suc n < 2147483648 → computed Subtract 1 (pos w -ℤ pos n) (pos 1) ≡ Gives (pos w -ℤ pos (suc n))
-one_narrower w n l h = let e : (pos w -ℤ pos n) -ℤ pos 1 ≡ pos w -ℤ pos (suc n) = omega (arith, ints) in ap (within 1) e ∙ remains w (suc n) l h
+pub one_narrower : (w n : ℕ) → w < 2147483648 → suc n < 2147483648 → computed Subtract 1 (pos w -ℤ pos n) (pos 1)
+    ≡ Gives (pos w -ℤ pos (suc n))
+one_narrower w n l h = let e : (pos w -ℤ pos n) -ℤ pos 1 ≡ pos w -ℤ pos (suc n) = omega (arith, ints) in ap (within 1) e
+    ∙ remains w (suc n) l h
 
 -- ---- comparisons of numbers that are not positive
 

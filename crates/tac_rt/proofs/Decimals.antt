@@ -1,5 +1,7 @@
 -- The decimal digits of a number, highest first.
-use Rattle.std.proofs.Common.{◌≡◌, ℕ, zero, suc, ◌+◌, ◌-◌, ◌*◌, ◌/◌, ◌%◌, ◌^◌, ◌<◌, ◌≤◌, Bool, true, false, nat_lt, if◌then◌else◌, List, [], ◌∷◌, ◌++◌, length, refl, sym, ap, ◌∙◌, subst, arith, lt-ltb, ltb-true, ltb-false}
+use Rattle.std.proofs.Common.{◌≡◌, ℕ, zero, suc, ◌+◌, ◌-◌, ◌*◌, ◌/◌, ◌%◌, ◌^◌, ◌<◌, ◌≤◌, Bool, true, false, nat_lt}
+use Rattle.std.proofs.Common.{if◌then◌else◌, List, [], ◌∷◌, ◌++◌, length, refl, sym, ap, ◌∙◌, subst, arith, lt-ltb}
+use Rattle.std.proofs.Common.{ltb-true, ltb-false}
 use Rattle.std.proofs.Math.Nat.{pow-suc, mul-le-mul_right}
 use Rattle.ps_meaning.specs.Text.{digits}
 
@@ -78,15 +80,22 @@ longer n text l d = record {
 short_decimal : (k n : ℕ) → nat_lt n 10 ≡ true → Decimal n (digits (suc k) n)
 short_decimal k n e =
     let low = ltb-true n 10 e in
-    subst (Decimal n) (sym (digits_short k n e)) (record { digits = (omega arith, omega (arith, low), tt); worth = omega arith; some = omega arith; least = λ j h. absurd (omega (arith, h)) })
+    subst (Decimal n) (sym (digits_short k n e)) (record {
+      digits = (omega arith, omega (arith, low), tt);
+      worth = omega arith;
+      some = omega arith;
+      least = λ j h. absurd (omega (arith, h));
+    })
 
 pub decimal : (k n : ℕ) → n < 10 ^ suc k → Decimal n (digits (suc k) n)
 decimal zero n l = short_decimal 0 n (lt-ltb n 10 (omega arith))
 decimal (suc k) n l = go (λ h. decimal k (n / 10) h) (nat_lt n 10) refl
   where
-    go : (n / 10 < 10 ^ suc k → Decimal (n / 10) (digits (suc k) (n / 10))) → (b : Bool) → nat_lt n 10 ≡ b → Decimal n (digits (suc (suc k)) n)
+    go : (n / 10 < 10 ^ suc k → Decimal (n / 10) (digits (suc k) (n / 10))) → (b : Bool) → nat_lt n 10 ≡ b → Decimal n
+        (digits (suc (suc k)) n)
     go rest true e = short_decimal (suc k) n e
     go rest false e =
         let h = ltb-false n 10 e in
         let p = pow-suc 10 (suc k) in
-        subst (Decimal n) (sym (digits_long (suc k) n e)) (longer n (digits (suc k) (n / 10)) (omega (arith, h)) (rest (omega (arith, l, p))))
+        subst (Decimal n) (sym (digits_long (suc k) n e))
+        (longer n (digits (suc k) (n / 10)) (omega (arith, h)) (rest (omega (arith, l, p))))

@@ -1,5 +1,6 @@
 -- Words are packed to bytes.
-use Rattle.std.proofs.Common.{◌≡◌, ℕ, suc, ◌+◌, ◌*◌, ◌<◌, pos, not, List, [], ◌∷◌, length, slice_get, Some, refl, ap, ◌∙◌, subst, arith}
+use Rattle.std.proofs.Common.{◌≡◌, ℕ, suc, ◌+◌, ◌*◌, ◌<◌, pos, not, List, [], ◌∷◌, length, slice_get, Some, refl, ap}
+use Rattle.std.proofs.Common.{◌∙◌, subst, arith}
 use Rattle.tac_code.specs.declared.code.Block.{Block}
 use Rattle.tac_code.specs.declared.code.Value.{Value}
 use Rattle.tac_code.specs.declared.code.Value.TheVariants.{Number, Address}
@@ -16,7 +17,8 @@ use Rattle.tac_rt.specs.Bodies.{routine_of}
 use Rattle.tac_rt.specs.Calls.{HasRoutines}
 use Rattle.tac_rt.specs.Laws.{PackedUp, PacksBytes}
 use Rattle.tac_rt.proofs.Blocks.{IsFresh, stored}
-use Rattle.tac_rt.proofs.Inside.{back, does_so, here_at, enters, returns, counts, offsets, loads, stores_byte, branches, passes, branches_back, passes_back}
+use Rattle.tac_rt.proofs.Inside.{back, does_so, here_at, enters, returns, counts, offsets, loads, stores_byte}
+use Rattle.tac_rt.proofs.Inside.{branches, passes, branches_back, passes_back}
 
 abbrev routine : TacRoutine
 routine = routine_of 3 4 PACK
@@ -29,27 +31,40 @@ module _ (m : Machine) (s : State) (has : HasRoutines m) (to line : ℕ) (upper 
   here o = omega arith
 
   -- nothing is left
-  ends : (t : Temporaries) (before memory : Memory) → t 2 ≡ Some (Number (pos 0)) → before ≡ memory → Comes m (at_place 7 t before) (back s to (Number (pos 0)) memory s.tape)
-  ends t before memory n e = subst (λ x. Comes m (at_place 7 t before) (back s to (Number (pos 0)) x s.tape)) e (a_step _ _ (returns m s 8 routine has refl to line 7 t before s.tape 2 (Number (pos 0)) refl n))
+  ends : (t : Temporaries) (before memory : Memory) → t 2 ≡ Some (Number (pos 0)) → before ≡ memory → Comes m
+      (at_place 7 t before) (back s to (Number (pos 0)) memory s.tape)
+  ends t before memory n e = subst (λ x. Comes m (at_place 7 t before) (back s to (Number (pos 0)) x s.tape)) e
+      (a_step _ _ (returns m s 8 routine has refl to line 7 t before s.tape 2 (Number (pos 0)) refl n))
 
-  -- the temporaries behind one turn
+  -- the temporaries after one turn
   abbrev turned : (byte n place start : ℕ) → Temporaries → Temporaries
-  turned byte n place start t = put (put (put (put t 3 (Number (pos byte))) 0 (Address upper (place + 1))) 1 (Address lower (start + 4))) 2 (Number (pos n))
+  turned byte n place start t = put (put (put (put t 3 (Number (pos byte))) 0 (Address upper (place + 1))) 1
+      (Address lower (start + 4))) 2 (Number (pos n))
 
   -- one byte
-  turns : (byte n place start : ℕ) (t : Temporaries) (before middle : Memory) → t 0 ≡ Some (Address upper place) → t 1 ≡ Some (Address lower start) → t 2 ≡ Some (Number (pos (suc n))) → IsFresh s.count before → load (text_at m.code) before lower start ≡ Some (Number (pos byte)) → byte < 256 → store_byte before upper place byte ≡ Some middle → place + suc n < 2147483648 → start + 4 * suc n < 2147483648 → Comes m (at_place 1 t before) (at_place 6 (turned byte n place start t) middle)
+  turns : (byte n place start : ℕ) (t : Temporaries) (before middle : Memory) → t 0 ≡ Some (Address upper place) → t 1
+      ≡ Some (Address lower start) → t 2 ≡ Some (Number (pos (suc n))) → IsFresh s.count before → load
+      (text_at m.code) before lower start ≡ Some (Number (pos byte)) → byte < 256 → store_byte before upper place byte
+      ≡ Some middle → place + suc n < 2147483648 → start + 4 * suc n < 2147483648 → Comes m (at_place 1 t before)
+      (at_place 6 (turned byte n place start t) middle)
   turns byte n place start t before middle a b c f l low h near far =
       let t1 : Temporaries = put t 3 (Number (pos byte)) in
       let t2 : Temporaries = put t1 0 (Address upper (place + 1)) in
       let t3 : Temporaries = put t2 1 (Address lower (start + 4)) in
-      loads m s 8 routine has refl to line 1 t before s.tape 3 1 0 lower start (Number (pos byte)) refl b f (ap (load (text_at m.code) before lower) (here start) ∙ l)
-      >> stores_byte m s 8 routine has refl to line 2 t1 before s.tape 0 0 3 upper place byte middle refl a refl low f (ap (λ o. store_byte before upper o byte) (here place) ∙ h)
+      loads m s 8 routine has refl to line 1 t before s.tape 3 1 0 lower start (Number (pos byte)) refl b f
+      (ap (load (text_at m.code) before lower) (here start) ∙ l)
+      >> stores_byte m s 8 routine has refl to line 2 t1 before s.tape 0 0 3 upper place byte middle refl a refl low f
+      (ap (λ o. store_byte before upper o byte) (here place) ∙ h)
       >> offsets m s 8 routine has refl to line 3 t1 middle s.tape 0 0 1 upper place refl a (omega arith)
       >> offsets m s 8 routine has refl to line 4 t2 middle s.tape 1 1 4 lower start refl b (omega arith)
       >> counts m s 8 routine has refl to line 5 t3 middle s.tape 2 (suc n) n 0 refl c (omega arith) (omega arith)
 
   -- from the top of the loop on
-  moves : (byte : ℕ) (bytes : List ℕ) (place start : ℕ) (t : Temporaries) (before memory : Memory) → t 0 ≡ Some (Address upper place) → t 1 ≡ Some (Address lower start) → t 2 ≡ Some (Number (pos (suc (length bytes)))) → IsFresh s.count before → PackedUp (text_at m.code) before upper place lower start (byte ∷ bytes) memory → place + suc (length bytes) < 2147483648 → start + 4 * suc (length bytes) < 2147483648 → Comes m (at_place 1 t before) (back s to (Number (pos 0)) memory s.tape)
+  moves : (byte : ℕ) (bytes : List ℕ) (place start : ℕ) (t : Temporaries) (before memory : Memory) → t 0 ≡ Some
+      (Address upper place) → t 1 ≡ Some (Address lower start) → t 2 ≡ Some (Number (pos (suc (length bytes))))
+      → IsFresh s.count before → PackedUp (text_at m.code) before upper place lower start (byte ∷ bytes) memory → place
+      + suc (length bytes) < 2147483648 → start + 4 * suc (length bytes) < 2147483648 → Comes m (at_place 1 t before)
+      (back s to (Number (pos 0)) memory s.tape)
   moves byte [] place start t before memory a b n f c l h =
       let t4 : Temporaries = turned byte 0 place start t in
       turns byte 0 place start t before c.0 a b n f c.1 c.2 c.3 l h
@@ -59,19 +74,27 @@ module _ (m : Machine) (s : State) (has : HasRoutines m) (to line : ℕ) (upper 
       let t4 : Temporaries = turned byte (suc (length bytes)) place start t in
       let more : suc (length bytes) ≡ 0 → ⊥ = λ e. omega arith in
       turns byte (suc (length bytes)) place start t before c.0 a b n f c.1 c.2 c.3 l h
-      >> branches_back m s 8 routine has refl to line 6 t4 c.0 s.tape NotEqual 2 (operand.Number (pos 0)) 5 refl (ap (λ x. Some (not x)) (eq_no (suc (length bytes)) 0 more))
-      >> moves next bytes (place + 1) (start + 4) t4 c.0 memory refl refl refl (stored s.count before (λ words. with_byte_at words place byte) c.0 f upper c.3).fresh c.4 (omega arith) (omega arith)
+      >> branches_back m s 8 routine has refl to line 6 t4 c.0 s.tape NotEqual 2 (operand.Number (pos 0)) 5 refl
+      (ap (λ x. Some (not x)) (eq_no (suc (length bytes)) 0 more))
+      >> moves next bytes (place + 1) (start + 4) t4 c.0 memory refl refl refl
+      (stored s.count before (λ words. with_byte_at words place byte) c.0 f upper c.3).fresh c.4 (omega arith)
+      (omega arith)
 
   abbrev first : (bytes : List ℕ) (place start : ℕ) → Temporaries
   first bytes place start u = slice_get (Address upper place ∷ Address lower start ∷ Number (pos (length bytes)) ∷ []) u
 
-  whole : (bytes : List ℕ) (place start : ℕ) (before memory : Memory) → IsFresh s.count before → PackedUp (text_at m.code) before upper place lower start bytes memory → place + length bytes < 2147483648 → start + 4 * length bytes < 2147483648 → Comes m (at_place 0 (first bytes place start) before) (back s to (Number (pos 0)) memory s.tape)
+  whole : (bytes : List ℕ) (place start : ℕ) (before memory : Memory) → IsFresh s.count before → PackedUp
+      (text_at m.code) before upper place lower start bytes memory → place + length bytes < 2147483648 → start
+      + 4 * length bytes < 2147483648 → Comes m (at_place 0 (first bytes place start) before)
+      (back s to (Number (pos 0)) memory s.tape)
   whole [] place start before memory f c l h =
-      branches m s 8 routine has refl to line 0 (first [] place start) before s.tape Equal 2 (operand.Number (pos 0)) 6 refl refl
+      branches m s 8 routine has refl to line 0 (first [] place start) before s.tape Equal 2
+      (operand.Number (pos 0)) 6 refl refl
       >> ends (first [] place start) before memory refl c
   whole (byte ∷ bytes) place start before memory f c l h =
       let more : suc (length bytes) ≡ 0 → ⊥ = λ e. omega arith in
-      passes m s 8 routine has refl to line 0 (first (byte ∷ bytes) place start) before s.tape Equal 2 (operand.Number (pos 0)) 6 refl (ap Some (eq_no (suc (length bytes)) 0 more))
+      passes m s 8 routine has refl to line 0 (first (byte ∷ bytes) place start) before s.tape Equal 2
+      (operand.Number (pos 0)) 6 refl (ap Some (eq_no (suc (length bytes)) 0 more))
       >> moves byte bytes place start (first (byte ∷ bytes) place start) before memory refl refl refl f c l h
 
 pub packs_bytes : PacksBytes

@@ -1,5 +1,6 @@
 -- Every target and every operand of the routines exists: a test of their tables, and what it means.
-use Rattle.std.proofs.Common.{◌≡◌, ℕ, zero, suc, ◌+◌, ◌<◌, Bool, true, false, ◌&&◌, nat_lt, nat_le, List, [], ◌∷◌, map, length, slice_get, Some, refl, sym, ap, ◌∙◌, subst, arith, ltb-true, leb-true}
+use Rattle.std.proofs.Common.{◌≡◌, ℕ, zero, suc, ◌+◌, ◌<◌, Bool, true, false, ◌&&◌, nat_lt, nat_le, List, [], ◌∷◌, map}
+use Rattle.std.proofs.Common.{length, slice_get, Some, refl, sym, ap, ◌∙◌, subst, arith, ltb-true, leb-true}
 use Rattle.std.proofs.lemmas.Option.{none-some}
 use Rattle.tac_code.specs.declared.code.Operand.{Operand}
 use Rattle.tac_code.specs.declared.code.Operand.TheVariants as operand
@@ -8,7 +9,8 @@ use Rattle.tac_code.specs.declared.code.TacRoutine.{TacRoutine}
 use Rattle.tac_code.specs.declared.check.Limits.{Limits}
 use Rattle.tac_code.specs.Numbers.{is_integer}
 use Rattle.tac_code.specs.Meaning.{Code}
-use Rattle.tac_code.specs.Sound.{IsOperand, IsErrorNumber, IsLine, IsSoundAt, CallsNone, limits_of, IsSoundRoutine, IsLeaf}
+use Rattle.tac_code.specs.Sound.{IsOperand, IsErrorNumber, IsLine, IsSoundAt, CallsNone, limits_of, IsSoundRoutine}
+use Rattle.tac_code.specs.Sound.{IsLeaf}
 use Rattle.tac_rt.specs.declared.step.Step.{Step}
 use Rattle.tac_rt.specs.declared.step.Step.TheVariants as step
 use Rattle.tac_rt.specs.declared.words.TheConstants.{COPY, COMPARE, PACK, UNPACK}
@@ -19,7 +21,7 @@ use Rattle.tac_rt.specs.Bodies.{instruction_of, routine_of, run_time_routines}
 use Rattle.tac_rt.specs.Laws.{RoutinesAreSound}
 use Rattle.tac_rt.proofs.Blocks.{some_is}
 
--- ---- the test: so many temporaries, so many places
+-- ---- the test: this many temporaries, this many places
 
 abbrev is_operand : (temporaries : ℕ) → Operand → Bool
 is_operand ts (operand.Temporary t) = nat_lt t ts
@@ -50,7 +52,8 @@ are_sound_steps ts ps pc [] = true
 are_sound_steps ts ps pc (i ∷ is) = is_sound_step ts ps pc i && are_sound_steps ts ps (suc pc) is
 
 abbrev is_sound_table : (parameters temporaries : ℕ) → List Step → Bool
-is_sound_table parameters ts steps = nat_le parameters 8 && (nat_le parameters ts && (nat_le ts 40 && are_sound_steps ts (length steps) 0 steps))
+is_sound_table parameters ts steps = nat_le parameters 8
+    && (nat_le parameters ts && (nat_le ts 40 && are_sound_steps ts (length steps) 0 steps))
 
 -- ---- what it means
 
@@ -71,23 +74,34 @@ operand_sound ts (operand.Number z) e = e
 two_sound : (ts t a : ℕ) → (nat_lt t ts && nat_lt a ts) ≡ true → (t < ts) × (a < ts)
 two_sound ts t a e = let p = both (nat_lt t ts) (nat_lt a ts) e in (ltb-true t ts p.0, ltb-true a ts p.1)
 
-three_sound : (ts t a : ℕ) (b : Operand) → (nat_lt t ts && (nat_lt a ts && is_operand ts b)) ≡ true → (t < ts) × (a < ts) × IsOperand ts b
+three_sound : (ts t a : ℕ) (b : Operand) → (nat_lt t ts && (nat_lt a ts && is_operand ts b)) ≡ true → (t < ts)
+    × (a < ts) × IsOperand ts b
 three_sound ts t a b e =
     let p = both (nat_lt t ts) (nat_lt a ts && is_operand ts b) e in
     let q = both (nat_lt a ts) (is_operand ts b) p.1 in
     (ltb-true t ts p.0, ltb-true a ts q.0, operand_sound ts b q.1)
 
-step_sound : (l : Limits) (pc : ℕ) (i : Step) → is_sound_step l.temporaries l.places pc i ≡ true → IsSoundAt l pc (instruction_of i)
-step_sound l pc (step.Literal t z) e = let p = both (nat_lt t l.temporaries) (is_integer z) e in (ltb-true t l.temporaries p.0, p.1)
+step_sound : (l : Limits) (pc : ℕ) (i : Step) → is_sound_step l.temporaries l.places pc i ≡ true → IsSoundAt l pc
+    (instruction_of i)
+step_sound l pc (step.Literal t z) e = let p = both (nat_lt t l.temporaries) (is_integer z) e
+    in (ltb-true t l.temporaries p.0, p.1)
 step_sound l pc (step.Copy t a) e = two_sound l.temporaries t a e
-step_sound l pc (step.Arithmetic operator t a b) e = let p = three_sound l.temporaries t a b e in (p.0, p.1, p.2, error_one, line_one)
+step_sound l pc (step.Arithmetic operator t a b) e = let p = three_sound l.temporaries t a b e
+    in (p.0, p.1, p.2, error_one, line_one)
 step_sound l pc (step.Bits operator t a b) e = three_sound l.temporaries t a b e
 step_sound l pc (step.Compare relation t a b) e = three_sound l.temporaries t a b e
 step_sound l pc (step.Offset t a n) e = two_sound l.temporaries t a e
 step_sound l pc (step.SetWord t a i) e =
     let p = both (nat_lt t l.temporaries) (nat_lt a l.temporaries && nat_lt i l.temporaries) e in
-    let q = both (nat_lt a l.temporaries) (nat_lt i l.temporaries) p.1 in
-    (ltb-true t l.temporaries p.0, ltb-true a l.temporaries q.0, ltb-true i l.temporaries q.1, refl, refl, error_one, line_one)
+    let q = both (nat_lt a l.temporaries) (nat_lt i l.temporaries) p.1 in (
+      ltb-true t l.temporaries p.0,
+      ltb-true a l.temporaries q.0,
+      ltb-true i l.temporaries q.1,
+      refl,
+      refl,
+      error_one,
+      line_one,
+    )
 step_sound l pc (step.Load t a n) e = two_sound l.temporaries t a e
 step_sound l pc (step.Store a n b) e = two_sound l.temporaries a b e
 step_sound l pc (step.LoadByte t a n) e = two_sound l.temporaries t a e
@@ -126,18 +140,22 @@ calls_none (step.Return a) = tt
 calls_none (step.Take t) = tt
 calls_none (step.Put a) = tt
 
-steps_sound : (l : Limits) (pc : ℕ) (steps : List Step) → are_sound_steps l.temporaries l.places pc steps ≡ true → (i : ℕ) (x : Instruction) → slice_get (map instruction_of steps) i ≡ Some x → IsSoundAt l (pc + i) x
+steps_sound : (l : Limits) (pc : ℕ) (steps : List Step) → are_sound_steps l.temporaries l.places pc steps ≡ true
+    → (i : ℕ) (x : Instruction) → slice_get (map instruction_of steps) i ≡ Some x → IsSoundAt l (pc + i) x
 steps_sound l pc [] t i x e = absurd (none-some x e)
 steps_sound l pc (s ∷ steps) t zero x e =
-    let p = both (is_sound_step l.temporaries l.places pc s) (are_sound_steps l.temporaries l.places (suc pc) steps) t in
+    let p = both (is_sound_step l.temporaries l.places pc s) (are_sound_steps l.temporaries l.places (suc pc) steps) t
+    in
     let here : pc ≡ pc + 0 = omega arith in
     subst (λ q. IsSoundAt l q x) here (subst (IsSoundAt l pc) (some_is e) (step_sound l pc s p.0))
 steps_sound l pc (s ∷ steps) t (suc i) x e =
-    let p = both (is_sound_step l.temporaries l.places pc s) (are_sound_steps l.temporaries l.places (suc pc) steps) t in
+    let p = both (is_sound_step l.temporaries l.places pc s) (are_sound_steps l.temporaries l.places (suc pc) steps) t
+    in
     let there : suc pc + i ≡ pc + suc i = omega arith in
     subst (λ q. IsSoundAt l q x) there (steps_sound l (suc pc) steps p.1 i x e)
 
-steps_call_none : (steps : List Step) (i : ℕ) (x : Instruction) → slice_get (map instruction_of steps) i ≡ Some x → CallsNone x
+steps_call_none : (steps : List Step) (i : ℕ) (x : Instruction) → slice_get (map instruction_of steps) i ≡ Some x
+    → CallsNone x
 steps_call_none [] i x e = absurd (none-some x e)
 steps_call_none (s ∷ steps) zero x e = subst CallsNone (some_is e) (calls_none s)
 steps_call_none (s ∷ steps) (suc i) x e = steps_call_none steps i x e
@@ -150,16 +168,28 @@ length_mapped (s ∷ steps) = ap suc (length_mapped steps)
 abbrev Fine : Code → TacRoutine → Type 0
 Fine code routine = IsSoundRoutine (limits_of code routine) routine × IsLeaf routine
 
-table_fine : (code : Code) (parameters temporaries : ℕ) (steps : List Step) → is_sound_table parameters temporaries steps ≡ true → Fine code (routine_of parameters temporaries steps)
+table_fine : (code : Code) (parameters temporaries : ℕ) (steps : List Step)
+    → is_sound_table parameters temporaries steps ≡ true → Fine code (routine_of parameters temporaries steps)
 table_fine code parameters ts steps e =
-    let a = both (nat_le parameters 8) (nat_le parameters ts && (nat_le ts 40 && are_sound_steps ts (length steps) 0 steps)) e in
+    let a = both (nat_le parameters 8) (nat_le parameters ts
+    && (nat_le ts 40 && are_sound_steps ts (length steps) 0 steps)) e in
     let b = both (nat_le parameters ts) (nat_le ts 40 && are_sound_steps ts (length steps) 0 steps) a.1 in
     let c = both (nat_le ts 40) (are_sound_steps ts (length steps) 0 steps) b.1 in
     let few = leb-true ts 40 c.0 in
-    let places : are_sound_steps ts (length (map instruction_of steps)) 0 steps ≡ true = ap (λ n. are_sound_steps ts n 0 steps) (sym (length_mapped steps)) ∙ c.1 in
+    let places : are_sound_steps ts (length (map instruction_of steps)) 0 steps
+    ≡ true = ap (λ n. are_sound_steps ts n 0 steps) (sym (length_mapped steps)) ∙ c.1 in
     let l : Limits = limits_of code (routine_of parameters ts steps) in
-    let body_sound : (i : ℕ) (x : Instruction) → slice_get (map instruction_of steps) i ≡ Some x → IsSoundAt l i x = λ i x e. let here : 0 + i ≡ i = omega arith in subst (λ q. IsSoundAt l q x) here (steps_sound l 0 steps places i x e) in (
-      record { parameters = leb-true parameters ts b.0; frame = refl; scratch = refl; bytes = omega (arith, few); begins = line_one; body = body_sound },
+    let body_sound : (i : ℕ) (x : Instruction) → slice_get (map instruction_of steps) i ≡ Some x
+    → IsSoundAt l i x = λ i x e. let here : 0 + i ≡ i = omega arith in subst (λ q. IsSoundAt l q x) here
+    (steps_sound l 0 steps places i x e) in (
+      record {
+        parameters = leb-true parameters ts b.0;
+        frame = refl;
+        scratch = refl;
+        bytes = omega (arith, few);
+        begins = line_one;
+        body = body_sound;
+      },
       record { parameters = leb-true parameters 8 a.0; bytes = omega (arith, few); body = steps_call_none steps },
     )
 
@@ -169,7 +199,8 @@ abbrev Every : (TacRoutine → Type 0) → List TacRoutine → Type 0
 Every P [] = Unit {0}
 Every P (r ∷ rs) = P r × Every P rs
 
-every_each : (P : TacRoutine → Type 0) (rs : List TacRoutine) → Every P rs → (i : ℕ) (r : TacRoutine) → slice_get rs i ≡ Some r → P r
+every_each : (P : TacRoutine → Type 0) (rs : List TacRoutine) → Every P rs → (i : ℕ) (r : TacRoutine) → slice_get rs i
+    ≡ Some r → P r
 every_each P [] h i r e = absurd (none-some r e)
 every_each P (x ∷ rs) h zero r e = subst P (some_is e) h.0
 every_each P (x ∷ rs) h (suc i) r e = every_each P rs h.1 i r e

@@ -2,7 +2,9 @@
 use Rattle.std.specs.Prelude.{ℕ, List, [], ◌∷◌, ◌++◌, map, pos}
 use Rattle.tac_code.specs.declared.code.Base.TheVariants as base
 use Rattle.tac_code.specs.declared.code.Instruction.{Instruction}
-use Rattle.tac_code.specs.declared.code.Instruction.TheVariants.{Literal, Copy, Arithmetic, Bits, Compare, Offset, Index, Load, Store, LoadByte, StoreByte, Jump, JumpBack, Branch, BranchBack, Return, Take, Put}
+use Rattle.tac_code.specs.declared.code.Instruction.TheVariants.{Literal, Copy, Arithmetic, Bits, Compare, Offset}
+use Rattle.tac_code.specs.declared.code.Instruction.TheVariants.{Index, Load, Store, LoadByte, StoreByte, Jump}
+use Rattle.tac_code.specs.declared.code.Instruction.TheVariants.{JumpBack, Branch, BranchBack, Return, Take, Put}
 use Rattle.tac_code.specs.declared.code.TacRoutine.{TacRoutine}
 use Rattle.tac_rt.specs.declared.step.Step.{Step}
 use Rattle.tac_rt.specs.declared.step.Step.TheVariants as step
@@ -11,7 +13,7 @@ use Rattle.tac_rt.specs.declared.sets.TheConstants.{ADD_RANGE, UNITE, SUBTRACT, 
 use Rattle.tac_rt.specs.declared.writing.TheConstants.{WRITE_NUMBER, WRITE_CHARACTER, WRITE_STRING}
 use Rattle.tac_rt.specs.declared.reading.TheConstants.{LOOK, READ_CHARACTER, READ_NUMBER, READ_LINE}
 
--- A step's instruction. The error and the line are those of nothing: no step fails.
+-- A step's instruction. Its error and line are dummies: no step fails.
 abbrev pub instruction_of : Step → Instruction
 instruction_of (step.Literal t z) = Literal t z
 instruction_of (step.Copy t a) = Copy t a
@@ -37,12 +39,20 @@ body_of steps = map instruction_of steps
 
 abbrev pub routine_of : (parameters temporaries : ℕ) → List Step → TacRoutine
 routine_of parameters temporaries steps =
-    record { parameters = parameters; temporaries = temporaries; frame = 0; scratch = 0; line = 1; body = body_of steps }
+    record {
+      parameters = parameters;
+      temporaries = temporaries;
+      frame = 0;
+      scratch = 0;
+      line = 1;
+      body = body_of steps;
+    }
 
--- these routines behind others: a range added, union, difference, intersection, inclusion, membership
+-- these routines after others: adding a range, union, difference, intersection, inclusion, membership
 abbrev pub with_sets : List TacRoutine → List TacRoutine
 with_sets list =
-    list ++ routine_of 3 6 ADD_RANGE ∷ [] ++ routine_of 2 5 UNITE ∷ [] ++ routine_of 2 5 SUBTRACT ∷ [] ++ routine_of 2 5 INTERSECT ∷ []
+    list ++ routine_of 3 6 ADD_RANGE ∷ [] ++ routine_of 2 5 UNITE ∷ [] ++ routine_of 2 5 SUBTRACT ∷ []
+    ++ routine_of 2 5 INTERSECT ∷ []
     ++ routine_of 2 5 IS_INCLUDED ∷ [] ++ routine_of 2 4 IS_MEMBER ∷ []
 
 -- the comparison of strings, words to bytes, bytes to words
@@ -51,12 +61,14 @@ with_words list = list ++ routine_of 3 5 COMPARE ∷ [] ++ routine_of 3 4 PACK �
 
 -- an integer, a character, a string
 abbrev pub with_writing : List TacRoutine → List TacRoutine
-with_writing list = list ++ routine_of 2 6 WRITE_NUMBER ∷ [] ++ routine_of 2 4 WRITE_CHARACTER ∷ [] ++ routine_of 3 5 WRITE_STRING ∷ []
+with_writing list = list ++ routine_of 2 6 WRITE_NUMBER ∷ [] ++ routine_of 2 4 WRITE_CHARACTER ∷ []
+    ++ routine_of 3 5 WRITE_STRING ∷ []
 
--- a look ahead, a character, an integer, the rest of a line
+-- looking ahead, a character, an integer, the rest of a line
 abbrev pub with_reading : List TacRoutine → List TacRoutine
 with_reading list =
-    list ++ routine_of 1 2 LOOK ∷ [] ++ routine_of 1 4 READ_CHARACTER ∷ [] ++ routine_of 2 7 READ_NUMBER ∷ [] ++ routine_of 1 4 READ_LINE ∷ []
+    list ++ routine_of 1 2 LOOK ∷ [] ++ routine_of 1 4 READ_CHARACTER ∷ [] ++ routine_of 2 7 READ_NUMBER ∷ []
+    ++ routine_of 1 4 READ_LINE ∷ []
 
 -- all of them, in the order of their numbers
 abbrev pub run_time_routines : List TacRoutine

@@ -1,8 +1,11 @@
 // Laws of the run-time routines. Each is the contract of a function that does nothing when it runs.
 
-ghost use Rattle.tac_rt.specs.Laws.{RoutinesAreSound, AddsMembers, ComparesBytes, ReadsLines, PacksBytes, UnpacksBytes, JoinedSets, IncludesSets, FindsMembers, WritesNumbers, WritesCharacters, WritesStrings, LooksAhead, ReadsCharacters, CopiesWords, ReadsNumbers};
+ghost use Rattle.tac_rt.specs.Laws.{RoutinesAreSound, AddsMembers, ComparesBytes, ReadsLines, PacksBytes, UnpacksBytes};
+ghost use Rattle.tac_rt.specs.Laws.{JoinedSets, IncludesSets, FindsMembers, WritesNumbers, WritesCharacters};
+ghost use Rattle.tac_rt.specs.Laws.{WritesStrings, LooksAhead, ReadsCharacters, CopiesWords, ReadsNumbers};
 
-/// The routine that writes a string writes what the meaning says: the string right-aligned in its field, or its first characters (6.9.3.6).
+/// The routine that writes a string writes it as the meaning says: right-aligned in its field, or its first characters
+/// (6.9.3.6).
 #[tactic(auto, using(crate::proofs::Strings::writes_strings))]
 pub fn writes_strings()
     ensures { WritesStrings }
@@ -32,18 +35,18 @@ pub fn writes_numbers()
     ensures { WritesNumbers }
 {}
 
-/// The routine that writes a character writes the byte that an integer stands for, right-aligned in the field (6.9.3.3).
+/// The routine that writes a character writes the byte that an integer stands for, right-aligned (6.9.3.3).
 #[tactic(auto, using(crate::proofs::Letters::writes_characters))]
 pub fn writes_characters()
     ensures { WritesCharacters }
 {}
 
-/// The routines keep the invariant of three-address code behind any program, and call none.
+/// The routines keep the invariant of three-address code after any program, and call none.
 pub fn routines_are_sound()
     ensures { RoutinesAreSound }
 {}
 
-/// The routine that compares strings gives the first bytes that differ, the left less the right one, or 0 (6.7.2.5).
+/// The routine that compares strings gives the first bytes that differ, left minus right, or 0 (6.7.2.5).
 #[tactic(auto, using(crate::proofs::Comparisons::compares_bytes))]
 pub fn compares_bytes()
     ensures { ComparesBytes }
@@ -61,25 +64,25 @@ pub fn unpacks_bytes()
     ensures { UnpacksBytes }
 {}
 
-/// Union, difference and intersection join the words of two sets (6.7.2.4).
+/// Union, difference and intersection combine the words of two sets (6.7.2.4).
 #[tactic(auto, using(crate::proofs::Joins::joined_sets))]
 pub fn joined_sets()
     ensures { JoinedSets }
 {}
 
-/// The rest of a line is passed up to and with its end, or the end of the input (6.9.2).
+/// The rest of a line is skipped up to and including its end, or the end of the input (6.9.2).
 #[tactic(auto, using(crate::proofs::Lines::reads_lines))]
 pub fn reads_lines()
     ensures { ReadsLines }
 {}
 
-/// A set is included in another where no bit of its words is missing there (6.7.2.5).
+/// A set is included in another where no bit of its words is missing in the other's (6.7.2.5).
 #[tactic(auto, using(crate::proofs::Inclusions::includes_sets))]
 pub fn includes_sets()
     ensures { IncludesSets }
 {}
 
-/// An integer is a member of a set where it lies in 0..255 and its bit is set (6.7.2.5).
+/// An integer is a member of a set where it is in 0..255 and its bit is set (6.7.2.5).
 #[tactic(auto, using(crate::proofs::Members::finds_members))]
 pub fn finds_members()
     ensures { FindsMembers }
@@ -91,7 +94,8 @@ pub fn adds_members()
     ensures { AddsMembers }
 {}
 
-/// An integer is read as the meaning says: blanks are passed, a sign and digits are taken, and what stands behind them is looked at (6.9.1).
+/// An integer is read as the meaning says: blanks are skipped, a sign and digits are taken, and what comes after them
+/// is looked at (6.9.1).
 pub fn reads_numbers()
     ensures { ReadsNumbers }
 {}

@@ -1,7 +1,8 @@
 // All run-time routines, in the order of their numbers.
 
 ghost use Rattle.std.specs.Prelude.{◌≡◌, ◌++◌, ◌∷◌, [], map, OnOk, OnErr, IfOk};
-ghost use Rattle.tac_rt.specs.Bodies.{body_of, routine_of, with_words, with_sets, with_writing, with_reading, run_time_routines};
+ghost use Rattle.tac_rt.specs.Bodies.{body_of, routine_of, with_words, with_sets, with_writing, with_reading};
+ghost use Rattle.tac_rt.specs.Bodies.{run_time_routines};
 
 use crate::reading::{LOOK, READ_CHARACTER, READ_LINE, READ_NUMBER};
 use crate::sets::{ADD_RANGE, INTERSECT, IS_INCLUDED, IS_MEMBER, SUBTRACT, UNITE};
@@ -21,7 +22,7 @@ fn body(alloc: Global, steps: &[Step]) -> Result<Body, OutOfMemory>
     Ok(Body::new(list))
 }
 
-/// A routine of so many parameters and temporaries. It has no variables, and no line is ever told of it.
+/// A routine with this many parameters and temporaries. It has no variables, and no line is ever reported for it.
 fn routine(
     alloc: Global,
     parameters: u32,

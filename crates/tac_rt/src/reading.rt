@@ -1,12 +1,12 @@
-// What eof, eoln, read and readln do with the input. Two words tell what was done with it so far: the byte that was taken ahead, -1 for the
-// end, or -2 where nothing was taken ahead; and 1 where a line was begun and not ended, else 0.
+// What eof, eoln, read and readln do with the input. Two words record what was done with it so far: the byte that was
+// taken ahead, -1 for the end, or -2 where nothing was taken ahead; and 1 where a line was begun and not ended, else 0.
 
 use crate::step::Step;
 use tac_code::code::Operand::{Number, Temporary};
 use tac_code::code::Operator::{Multiply, Subtract};
 use tac_code::code::Relation::{Equal, Greater, GreaterEqual, Less, LessEqual, NotEqual};
 
-/// What stands next: 0 nothing, 1 a line end, 2 another character. 0 the address of the two words.
+/// What comes next: 0 nothing, 1 a line end, 2 another character. 0 the address of the two words.
 pub const LOOK: [Step; 12] = [
     Step::Load(1, 0, 0),
     Step::Branch(NotEqual, 1, Number(-2), 2),
@@ -22,8 +22,8 @@ pub const LOOK: [Step; 12] = [
     Step::Return(0),
 ];
 
-/// The next character, a line end as a space, or -1 where nothing is left: 0 the address of the two words. Temporary 2 is not 0 where a line ends, be it
-/// at the end of the input.
+/// The next character, a line end as a space, or -1 where nothing is left: 0 the address of the two words. Temporary 2
+/// is not 0 where a line ends, even at the end of the input.
 pub const READ_CHARACTER: [Step; 18] = [
     Step::Load(1, 0, 0),
     Step::Branch(GreaterEqual, 1, Number(0), 3),
@@ -45,8 +45,8 @@ pub const READ_CHARACTER: [Step; 18] = [
     Step::Return(1),
 ];
 
-/// An integer, which goes to an address: 0 the address of the two words, 1 that address. 0 where one was read, 1 where it has more than 32 bits, 2
-/// where none stands there, 3 at the end of the input. Temporary 5 holds minus the number.
+/// An integer, which goes to an address: 0 the address of the two words, 1 that address. 0 where one was read, 1 where
+/// it has more than 32 bits, 2 where there is none, 3 at the end of the input. Temporary 5 holds minus the number.
 pub const READ_NUMBER: [Step; 43] = [
     Step::Load(2, 0, 0),
     Step::Branch(NotEqual, 2, Number(-2), 1),
@@ -93,8 +93,8 @@ pub const READ_NUMBER: [Step; 43] = [
     Step::Return(4),
 ];
 
-/// Passes the rest of the line and its end: 0, or 1 where nothing is left. 0 the address of the two words. Temporary 2 is not 0 where something was
-/// passed or a line was begun.
+/// Skips the rest of the line and its end: 0, or 1 where nothing is left. 0 the address of the two words. Temporary 2
+/// is not 0 where something was skipped or a line was begun.
 pub const READ_LINE: [Step; 18] = [
     Step::Load(1, 0, 0),
     Step::Load(2, 0, 4),

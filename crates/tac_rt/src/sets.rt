@@ -1,4 +1,4 @@
-// Sets: eight words, of which bit m modulo 32 of word m div 32 tells whether m is a member. Each turn joins two words.
+// Sets: eight words; bit m modulo 32 of word m div 32 is set if m is a member. Each turn combines two words.
 
 use crate::step::Step;
 use tac_code::code::BitOperator::{And, AndNot, Or, Plus, ShiftLeft};
@@ -6,7 +6,7 @@ use tac_code::code::Operand::{Number, Temporary};
 use tac_code::code::Operator::Divide;
 use tac_code::code::Relation::{Greater, LessEqual, NotEqual};
 
-/// Adds the members from one to another, which lie in 0..255: 0 the set's address, 1 the first, 2 the last.
+/// Adds the members from one to another, which are in 0..255: 0 the set's address, 1 the first, 2 the last.
 pub const ADD_RANGE: [Step; 12] = [
     Step::Branch(Greater, 1, Temporary(2), 9),
     Step::Arithmetic(Divide, 3, 1, Number(32)),
@@ -22,7 +22,7 @@ pub const ADD_RANGE: [Step; 12] = [
     Step::Return(0),
 ];
 
-/// The members of either: 0 the address of the one, which becomes the union, 1 that of the other.
+/// The members of either set: 0 the address of the first, which becomes the union, 1 that of the second.
 pub const UNITE: [Step; 14] = [
     Step::Literal(2, 4),
     Step::Load(3, 0, 0),
@@ -40,7 +40,8 @@ pub const UNITE: [Step; 14] = [
     Step::Return(2),
 ];
 
-/// The members of the one that are not of the other: 0 the address of the one, which becomes the difference, 1 that of the other.
+/// The members of the first set that are not in the second: 0 the address of the first, which becomes the difference, 1
+/// that of the second.
 pub const SUBTRACT: [Step; 14] = [
     Step::Literal(2, 4),
     Step::Load(3, 0, 0),
@@ -58,7 +59,7 @@ pub const SUBTRACT: [Step; 14] = [
     Step::Return(2),
 ];
 
-/// The members of both: 0 the address of the one, which becomes the intersection, 1 that of the other.
+/// The members of both sets: 0 the address of the first, which becomes the intersection, 1 that of the second.
 pub const INTERSECT: [Step; 14] = [
     Step::Literal(2, 4),
     Step::Load(3, 0, 0),
@@ -76,7 +77,7 @@ pub const INTERSECT: [Step; 14] = [
     Step::Return(2),
 ];
 
-/// Whether each member of the one is one of the other: 0 the address of the one, 1 that of the other.
+/// Whether each member of the first set is in the second: 0 the address of the first, 1 that of the second.
 pub const IS_INCLUDED: [Step; 13] = [
     Step::Literal(2, 8),
     Step::Load(3, 0, 0),

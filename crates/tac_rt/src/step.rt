@@ -5,8 +5,8 @@ ghost use Rattle.tac_rt.specs.Bodies.{instruction_of};
 
 use tac_code::code::{Base, BitOperator, Instruction, Operand, Operator, Relation};
 
-/// An instruction of a run-time routine, with the temporary that it writes first. Bases are addresses in temporaries. None of them ever
-/// fails, so they bear no error and no line.
+/// An instruction of a run-time routine, with the temporary that it writes first. Bases are addresses in temporaries.
+/// None of them ever fails, so they have no error and no line.
 #[derive(Clone, Copy)]
 pub enum Step {
     Literal(u32, i32),
@@ -14,7 +14,7 @@ pub enum Step {
     Arithmetic(Operator, u32, u32, Operand),
     Bits(BitOperator, u32, u32, Operand),
     Compare(Relation, u32, u32, Operand),
-    /// The address so many bytes on.
+    /// The address a number of bytes on.
     Offset(u32, u32, u32),
     /// The address of a set's word, by the number of the word.
     SetWord(u32, u32, u32),

@@ -1,5 +1,5 @@
-// Copies, packed bytes, and the comparison of strings. A loop is passed by where there is nothing to do; else each turn ends with the sum that counts
-// down, and goes on where it is not 0.
+// Copies, packed bytes, and the comparison of strings. A loop is skipped where there is nothing to do; otherwise each
+// turn ends with the sum that counts down, and repeats while that is not 0.
 
 use crate::step::Step;
 use tac_code::code::BitOperator::{And, Plus};
@@ -7,8 +7,8 @@ use tac_code::code::Operand::{Number, Temporary};
 use tac_code::code::Operator::Subtract;
 use tac_code::code::Relation::{Equal, NotEqual};
 
-/// Copies words upward, from the lowest on: 0 the address to which, 1 the address from which, 2 how many bytes. A word is copied first where their
-/// number is odd, then two in each turn.
+/// Copies words upward, from the lowest on: 0 the address to copy to, 1 the address to copy from, 2 the number of
+/// bytes. A word is copied first where the number of words is odd, then two in each turn.
 pub const COPY: [Step; 17] = [
     Step::Bits(And, 3, 2, Number(7)),
     Step::Branch(Equal, 3, Number(0), 5),
@@ -29,7 +29,7 @@ pub const COPY: [Step; 17] = [
     Step::Return(2),
 ];
 
-/// The first bytes that differ, the left less the right one, or 0: 0 and 1 the addresses, 2 how many bytes.
+/// The difference of the first bytes that differ, left minus right, or 0: 0 and 1 the addresses, 2 the number of bytes.
 pub const COMPARE: [Step; 11] = [
     Step::Branch(Equal, 2, Number(0), 7),
     Step::LoadByte(3, 0, 0),
@@ -44,7 +44,7 @@ pub const COMPARE: [Step; 11] = [
     Step::Return(0),
 ];
 
-/// Words to bytes: 0 the address to which, 1 the address from which, 2 how many.
+/// Words to bytes: 0 the address to write to, 1 the address to read from, 2 how many.
 pub const PACK: [Step; 8] = [
     Step::Branch(Equal, 2, Number(0), 6),
     Step::Load(3, 1, 0),
@@ -56,7 +56,7 @@ pub const PACK: [Step; 8] = [
     Step::Return(2),
 ];
 
-/// Bytes to words: 0 the address to which, 1 the address from which, 2 how many.
+/// Bytes to words: 0 the address to write to, 1 the address to read from, 2 how many.
 pub const UNPACK: [Step; 8] = [
     Step::Branch(Equal, 2, Number(0), 6),
     Step::LoadByte(3, 1, 0),

@@ -6,8 +6,8 @@ use tac_code::code::Operand::{Number, Temporary};
 use tac_code::code::Operator::{Divide, Multiply, Subtract};
 use tac_code::code::Relation::{Equal, Greater, GreaterEqual, LessEqual, NotEqual};
 
-/// An integer, right-aligned: 0 the integer, 1 the width. Temporary 2 holds minus its absolute value, or what is left of it, and 3 the power of ten of
-/// the next digit.
+/// An integer, right-aligned: 0 the integer, 1 the width. Temporary 2 holds minus its absolute value, or what is left
+/// of it, and 3 the power of ten of the next digit.
 pub const WRITE_NUMBER: [Step; 30] = [
     Step::Copy(2, 0),
     Step::Branch(LessEqual, 2, Number(0), 2),
@@ -41,7 +41,7 @@ pub const WRITE_NUMBER: [Step; 30] = [
     Step::Return(3),
 ];
 
-/// A character, right-aligned: 0 its ordinal, of which the absolute value modulo 256 counts, 1 the width.
+/// A character, right-aligned: 0 its ordinal, whose absolute value modulo 256 counts, 1 the width.
 pub const WRITE_CHARACTER: [Step; 13] = [
     Step::Bits(And, 2, 0, Number(255)),
     Step::Branch(GreaterEqual, 0, Number(0), 3),

@@ -7,15 +7,18 @@ use Rattle.ps_scan.proofs.OneAnswer.{tokens_only}
 use Rattle.ps_build.specs.Refusals.{of_scan, of_parse, of_check}
 use Rattle.ps_tree.specs.Checked.{program_in}
 use Rattle.ps_build.specs.Accepts.{IsProgramOf, IsRefused}
-use Rattle.ps_build.proofs.Compiled.{program_of_text, no_tokens, no_tree, no_program, IsFaultyOrMemory, text_refused, tokens_refused, faulty_tree, faulty_program}
+use Rattle.ps_build.proofs.Compiled.{program_of_text, no_tokens, no_tree, no_program, IsFaultyOrMemory, text_refused}
+use Rattle.ps_build.proofs.Compiled.{tokens_refused, faulty_tree, faulty_program}
 use Rattle.ps_build.proofs.built.program_of.Goals as goal
 
 pub returns-in_err-tokens-clause-err : goal.returns-in_err-tokens-clause-err
 returns-in_err-tokens-clause-err c =
     let source = c.in_ok-source.ensures.source in
-    let limits : IsSource c.in_ok-source.source = subst IsSource (sym source) (c.in_ok-source.ensures.accepted.0 refl) in
+    let limits : IsSource c.in_ok-source.source = subst IsSource (sym source) (c.in_ok-source.ensures.accepted.0 refl)
+    in
     let told : IsRefused c.args.text.now (of_scan c.in_err-tokens.field-0.0) =
-    subst (λ text. IsRefused text (of_scan c.in_err-tokens.field-0.0)) source (no_tokens c.in_ok-source.source limits c.in_err-tokens.field-0.0 c.in_err-tokens.ensures) in
+    subst (λ text. IsRefused text (of_scan c.in_err-tokens.field-0.0)) source
+    (no_tokens c.in_ok-source.source limits c.in_err-tokens.field-0.0 c.in_err-tokens.ensures) in
     search rules
 
 pub returns-in-Err-clause-err : goal.returns-in-Err-clause-err
@@ -78,10 +81,12 @@ pub returns-in_err-source-clause-faulty : goal.returns-in_err-source-clause-faul
 returns-in_err-source-clause-faulty c = text_refused c.from_residual.result _ c.from_residual.ensures.1
 
 pub returns-in_err-tokens-clause-faulty : goal.returns-in_err-tokens-clause-faulty
-returns-in_err-tokens-clause-faulty c = tokens_refused c.from_residual-in_err-tokens.result _ c.from_residual-in_err-tokens.ensures.1
+returns-in_err-tokens-clause-faulty c = tokens_refused c.from_residual-in_err-tokens.result _
+    c.from_residual-in_err-tokens.ensures.1
 
 pub returns-in-Err-clause-faulty : goal.returns-in-Err-clause-faulty
 returns-in-Err-clause-faulty c = subst IsFaultyOrMemory (sym c.from.ensures) (faulty_tree c.in-Err.refusal)
 
 pub returns-clause-faulty : goal.returns-clause-faulty
-returns-clause-faulty c = subst IsFaultyOrMemory (sym c.of_check.ensures) (faulty_program c.deref-in-Err-checked.result.now c.in-Err-checked.refusal)
+returns-clause-faulty c = subst IsFaultyOrMemory (sym c.of_check.ensures)
+    (faulty_program c.deref-in-Err-checked.result.now c.in-Err-checked.refusal)

@@ -12,4 +12,9 @@ list-requires c = c.view.ensures.well_formed
 pub returns : goal.returns
 returns c =
     let image = c.view.result in
-    if_ok c.list.result (λ text. string_bytes text ≡ listing image) (λ text. IsListed c.args.built.now (string_bytes text)) (λ text same. record { image = image; is_image = c.view.ensures; listed = same }) c.list.ensures
+    if_ok c.list.result (λ text. string_bytes text ≡ listing image)
+    (λ text. IsListed c.args.built.now (string_bytes text)) (λ text same. record {
+      image = image;
+      is_image = c.view.ensures;
+      listed = same;
+    }) c.list.ensures

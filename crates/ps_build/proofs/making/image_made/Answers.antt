@@ -14,7 +14,8 @@ returns-clause-ok g c =
     made_of checked c.in_ok-tac.tac image c.in_ok-bytes.bytes.items
     (subst (IsCodeOf checked) (sym c.in_ok-tac.ensures.ok) (c.code_does.ensures checked c.requires.fits))
     c.keeps_invariant.ensures c.in_ok-parts.ensures.ok
-    (charged c.routines_are_bounded.ensures c.objects_are_bounded.ensures checked image (subst (λ code. HasBounds code image) c.in_ok-tac.ensures.ok c.in_ok-parts.ensures.bounds))
+    (charged c.routines_are_bounded.ensures c.objects_are_bounded.ensures checked image
+    (subst (λ code. HasBounds code image) c.in_ok-tac.ensures.ok c.in_ok-parts.ensures.bounds))
     c.in_ok-bytes.ensures
 
 pub returns-clause-emitted : goal.returns-clause-emitted

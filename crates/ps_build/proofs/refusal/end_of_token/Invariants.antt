@@ -1,5 +1,5 @@
 -- The tokens that are left have the same end.
-use Rattle.std.proofs.Common.{◌≡◌, ℕ, length}
+use Rattle.std.proofs.Common.{◌≡◌, length}
 use Rattle.ps_build.specs.Refusals.{end_of_token}
 use Rattle.ps_build.proofs.refusal.end_of_token.Given as goal
 

@@ -11,7 +11,9 @@ returns-in_default-clause-left g c =
     let new = g.C.Console.world c.run_in_slices.new.console in
     let left = c.run_in_slices.new.machine in
     let fits = budget_of c.args.image.now c.args.budget c.in_ok-machine.ensures.fits in
-    left_runs c.args.image.now c.args.budget c.args.max_steps left old new fits (subst (λ state. IsLeft c.args.max_steps state old left new) c.in_ok-machine.ensures.ok c.in_default.ensures.left)
+    left_runs c.args.image.now c.args.budget c.args.max_steps left old new fits
+    (subst (λ state. IsLeft c.args.max_steps state old left new) c.in_ok-machine.ensures.ok
+    c.in_default.ensures.left)
 
 pub returns-clause-runs : goal.returns-clause-runs
 returns-clause-runs g c =
@@ -19,4 +21,6 @@ returns-clause-runs g c =
     let new = g.C.Console.world c.run_in_slices.new.console in
     let left = c.run_in_slices.new.machine in
     let fits = budget_of c.args.image.now c.args.budget c.in_ok-machine.ensures.fits in
-    comes_runs c.args.image.now c.args.budget c.args.max_steps left old new c.outcome_of.result c.in-Some.stop fits (subst (λ state. ComesTo c.args.max_steps state old left new c.in-Some.stop) c.in_ok-machine.ensures.ok c.in-Some.ensures.stopped) c.outcome_of.ensures
+    comes_runs c.args.image.now c.args.budget c.args.max_steps left old new c.outcome_of.result c.in-Some.stop fits
+    (subst (λ state. ComesTo c.args.max_steps state old left new c.in-Some.stop) c.in_ok-machine.ensures.ok
+    c.in-Some.ensures.stopped) c.outcome_of.ensures

@@ -7,4 +7,6 @@ use Rattle.ps_check.specs.Views.{routines_of}
 use Rattle.ps_check.proofs.blocks.+block.Given as goal
 
 abbrev pub invariant-read_routines-loop-written : goal.invariant-read_routines-loop-written
-invariant-read_routines-loop-written l = Stepped (one_routine (frame_of l.frame) l.chain) (routines_of l.fn.local l.fn.gathered) (map (routine (context_of l.frame.reading.now)) l.list) l.written-index (routines_of l.local l.gathered)
+invariant-read_routines-loop-written l = Stepped (one_routine (frame_of l.frame) l.chain)
+    (routines_of l.fn.local l.fn.gathered) (map (routine (context_of l.frame.reading.now)) l.list) l.written-index
+    (routines_of l.local l.gathered)

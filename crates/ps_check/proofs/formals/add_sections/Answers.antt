@@ -7,7 +7,8 @@ pub loop-section-init : goal.loop-section-init
 loop-section-init c = entered_start _ _ _
 
 pub loop-section-preserved : goal.loop-section-preserved
-loop-section-preserved c = entered_next _ _ _ _ _ _ _ c.loop-section-test.true c.section-item.is c.loop-section.invariant c.in_ok-next.ensures
+loop-section-preserved c = entered_next _ _ _ _ _ _ _ c.loop-section-test.true c.section-item.is
+    c.loop-section.invariant c.in_ok-next.ensures
 
 pub returns : goal.returns
 returns c = entered_end _ _ _ _ _ c.loop-section-test.false c.loop-section.invariant

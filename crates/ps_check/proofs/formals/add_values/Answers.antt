@@ -9,7 +9,8 @@ loop-init c = pushed_start _ _
 
 pub loop-preserved : goal.loop-preserved
 unfolding formal_of
-loop-preserved c = pushed_next _ _ _ _ _ _ c.loop.invariant c.in_ok-push.ensures.items (ap ValueFormal c.in_ok-copy.ensures)
+loop-preserved c = pushed_next _ _ _ _ _ _ c.loop.invariant c.in_ok-push.ensures.items
+    (ap ValueFormal c.in_ok-copy.ensures)
 
 pub returns : goal.returns
 returns c =

@@ -4,4 +4,5 @@ use Rattle.ps_check.proofs.Lists.{Headed}
 use Rattle.ps_check.proofs.routines.add_routines.Given as goal
 
 abbrev pub invariant-loop-written : goal.invariant-loop-written
-invariant-loop-written l = Headed l.reading.source.now (routine (context_of l.reading)) l.fn.names l.list l.written-index l.names
+invariant-loop-written l = Headed l.reading.source.now
+    (routine (context_of l.reading)) l.fn.names l.list l.written-index l.names

@@ -6,4 +6,5 @@ use Rattle.ps_check.specs.Views.{gathered_of}
 use Rattle.ps_check.proofs.routines.all_complete.Given as goal
 
 abbrev pub invariant-loop-meaning : goal.invariant-loop-meaning
-invariant-loop-meaning l = Stepped (one_complete (gathered_of l.gathered)) tt (map meaning_of l.known) l.meaning-index tt
+invariant-loop-meaning l = Stepped (one_complete (gathered_of l.gathered)) tt
+    (map meaning_of l.known) l.meaning-index tt

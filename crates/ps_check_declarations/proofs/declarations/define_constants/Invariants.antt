@@ -4,4 +4,5 @@ use Rattle.ps_check_declarations.specs.Views.{frame_of, declared_of}
 use Rattle.ps_check_declarations.proofs.declarations.define_constants.Given as goal
 
 abbrev pub invariant-loop-definition : goal.invariant-loop-definition
-invariant-loop-definition l = Stepped (define_constant (frame_of l.frame)) (declared_of l.fn.declared) l.definitions l.definition-index (declared_of l.declared)
+invariant-loop-definition l = Stepped (define_constant (frame_of l.frame))
+    (declared_of l.fn.declared) l.definitions l.definition-index (declared_of l.declared)

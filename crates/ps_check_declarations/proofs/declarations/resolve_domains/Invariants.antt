@@ -7,4 +7,5 @@ use Rattle.ps_check_declarations.proofs.declarations.resolve_domains.Given as go
 abbrev pub invariant-loop-i : goal.invariant-loop-i
 invariant-loop-i l =
     (l.declared.pending.items ≡ l.fn.declared.pending.items)
-    × Stepped (resolve_domain (frame_of l.frame)) (declared_of l.fn.declared) l.fn.declared.pending.items l.i (declared_of l.declared)
+    × Stepped (resolve_domain (frame_of l.frame)) (declared_of l.fn.declared) l.fn.declared.pending.items l.i
+    (declared_of l.declared)

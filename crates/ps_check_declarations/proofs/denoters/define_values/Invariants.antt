@@ -4,4 +4,5 @@ use Rattle.ps_check_declarations.proofs.DenoterLemmas.{Values}
 use Rattle.ps_check_declarations.proofs.denoters.define_values.Given as goal
 
 abbrev pub invariant-loop-value : goal.invariant-loop-value
-invariant-loop-value l = Values l.ordinal (map meaning_of l.fn.known.items) l.names l.value (map meaning_of l.known.items)
+invariant-loop-value l = Values l.ordinal (map meaning_of l.fn.known.items) l.names l.value
+    (map meaning_of l.known.items)

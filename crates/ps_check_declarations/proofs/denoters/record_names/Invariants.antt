@@ -5,4 +5,5 @@ use Rattle.ps_check_declarations.proofs.Walks.{Walked}
 use Rattle.ps_check_declarations.proofs.denoters.record_names.Given as goal
 
 abbrev pub invariant-loop-section : goal.invariant-loop-section
-invariant-loop-section l = Walked (frame_of l.frame).text (section_names (frame_of l.frame)) [] l.sections l.section-index l.names
+invariant-loop-section l = Walked (frame_of l.frame).text
+    (section_names (frame_of l.frame)) [] l.sections l.section-index l.names

@@ -5,4 +5,5 @@ use Rattle.ps_check_declarations.proofs.points.add_block.Goals as goal
 
 pub returns : goal.returns
 unfolding block_points
-returns c = both_added _ _ _ _ _ _ _ _ (added_both _ _ _ _ _ _ _ c.in_ok-add_constants.ensures c.in_ok-add_definitions.ensures refl) c.add_variables.ensures refl
+returns c = both_added _ _ _ _ _ _ _ _ (added_both _ _ _ _ _ _ _ c.in_ok-add_constants.ensures
+    c.in_ok-add_definitions.ensures refl) c.add_variables.ensures refl

@@ -5,4 +5,5 @@ use Rattle.ps_check_declarations.proofs.points.add_declaration.Goals as goal
 
 pub returns : goal.returns
 unfolding variables_points
-returns c = both_added _ _ _ _ _ _ _ _ c.in_ok-add_type.ensures c.add_points.ensures (ap (λ l. type_points c.args.declaration.now.ty ++ l) (sym c.as_slice.ensures))
+returns c = both_added _ _ _ _ _ _ _ _ c.in_ok-add_type.ensures c.add_points.ensures
+    (ap (λ l. type_points c.args.declaration.now.ty ++ l) (sym c.as_slice.ensures))

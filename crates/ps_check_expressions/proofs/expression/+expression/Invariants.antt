@@ -9,19 +9,29 @@ use Rattle.ps_check_expressions.proofs.CallLemmas.{Gathering, Passed}
 use Rattle.ps_check_expressions.proofs.expression.+expression.Given as goal
 
 abbrev pub invariant-add_terms-loop-term : goal.invariant-add_terms-loop-term
-invariant-add_terms-loop-term l = Stepped (λ t x. add_term (context_at l.site) (regions_at l.site) x l.fn.at t.0 t.1) (value_of l.fn.first, l.fn.changes.items) l.terms l.term-index (value_of l.value, l.changes.items)
+invariant-add_terms-loop-term l = Stepped (λ t x. add_term (context_at l.site) (regions_at l.site) x l.fn.at t.0 t.1)
+    (value_of l.fn.first, l.fn.changes.items) l.terms l.term-index (value_of l.value, l.changes.items)
 
 abbrev pub invariant-multiply_factors-loop-factor : goal.invariant-multiply_factors-loop-factor
-invariant-multiply_factors-loop-factor l = Stepped (λ t x. multiply_factor (context_at l.site) (regions_at l.site) x l.fn.at t.0 t.1) (value_of l.fn.first, l.fn.changes.items) l.factors l.factor-index (value_of l.value, l.changes.items)
+invariant-multiply_factors-loop-factor l = Stepped
+    (λ t x. multiply_factor (context_at l.site) (regions_at l.site) x l.fn.at t.0 t.1)
+    (value_of l.fn.first, l.fn.changes.items) l.factors l.factor-index (value_of l.value, l.changes.items)
 
 abbrev pub invariant-set_value-loop-x : goal.invariant-set_value-loop-x
-invariant-set_value-loop-x l = Gathering (context_at l.site) (regions_at l.site) l.members l.fn.changes.items l.x-index l.list.items l.base l.changes.items
+invariant-set_value-loop-x l = Gathering (context_at l.site)
+    (regions_at l.site) l.members l.fn.changes.items l.x-index l.list.items l.base l.changes.items
 
 abbrev pub invariant-select_all-loop-selector : goal.invariant-select_all-loop-selector
-invariant-select_all-loop-selector l = Stepped (λ t x. select (context_at l.site) (regions_at l.site) x l.fn.at t.0 t.1) (variable_of l.fn.variable, l.fn.changes.items) l.selectors l.selector-index (variable_of l.place, l.changes.items)
+invariant-select_all-loop-selector l = Stepped (λ t x. select (context_at l.site) (regions_at l.site) x l.fn.at t.0 t.1)
+    (variable_of l.fn.variable, l.fn.changes.items) l.selectors l.selector-index (variable_of l.place, l.changes.items)
 
 abbrev pub invariant-index_all-loop-index : goal.invariant-index_all-loop-index
-invariant-index_all-loop-index l = Stepped (λ t x. indexed (context_at l.site) (regions_at l.site) l.fn.at t.0 x t.1) (variable_of l.fn.variable, l.fn.changes.items) (map (operand (context_at l.site) (regions_at l.site)) l.indices) l.index-index (variable_of l.place, l.changes.items)
+invariant-index_all-loop-index l = Stepped (λ t x. indexed (context_at l.site) (regions_at l.site) l.fn.at t.0 x t.1)
+    (variable_of l.fn.variable, l.fn.changes.items)
+    (map (operand (context_at l.site) (regions_at l.site)) l.indices) l.index-index
+    (variable_of l.place, l.changes.items)
 
 abbrev pub invariant-argument_all-loop-i : goal.invariant-argument_all-loop-i
-invariant-argument_all-loop-i l = Passed (actual (context_at l.site) (regions_at l.site)) (λ s. section_of s.now) (operand (context_at l.site) (regions_at l.site)) argument_of l.formals.items l.operands l.fn.changes.items l.i l.list.items l.changes.items
+invariant-argument_all-loop-i l = Passed (actual (context_at l.site) (regions_at l.site)) (λ s. section_of s.now)
+    (operand (context_at l.site) (regions_at l.site)) argument_of l.formals.items l.operands l.fn.changes.items l.i
+    l.list.items l.changes.items

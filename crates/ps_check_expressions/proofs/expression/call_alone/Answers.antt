@@ -9,19 +9,62 @@ use Rattle.ps_check_expressions.proofs.expression.call_alone.Goals as goal
 pub returns-in_err-ty-in-Routine : goal.returns-in_err-ty-in-Routine
 unfolding called meaning_of
 returns-in_err-ty-in-Routine c =
-    λ cs. handed_on _ _ _ _ c.from_residual.ensures.1 (rw (c.in-Name.is, c.in-Routine.is, ← c.deref.ensures, ← c.deref-in-Routine.ensures.value, ← c.line-line.ensures) (call_told (λ t xs. SimpleValue (Tree.Call c.in-Routine.heading.number c.in-Name.up (argument_list xs) c.line-line.result.number) t) _ _ cs cs _ _ _ c.result_type-ty.ensures (c.no_arguments-arguments.ensures cs) c.in_err-ty-in-Routine.ensures))
+    λ cs. handed_on _ _ _ _ c.from_residual.ensures.1
+    (rw (
+      c.in-Name.is,
+      c.in-Routine.is,
+      ← c.deref.ensures,
+      ← c.deref-in-Routine.ensures.value,
+      ←
+          c.line-line.ensures,
+    ) (call_told (λ t xs. SimpleValue
+    (Tree.Call c.in-Routine.heading.number c.in-Name.up (argument_list xs) c.line-line.result.number) t) _ _ cs cs _
+    _ _ c.result_type-ty.ensures (c.no_arguments-arguments.ensures cs) c.in_err-ty-in-Routine.ensures))
 
 pub returns-in_err-ty-in-RoutineParameter : goal.returns-in_err-ty-in-RoutineParameter
 unfolding called meaning_of
 returns-in_err-ty-in-RoutineParameter c =
-    λ cs. handed_on _ _ _ _ c.from_residual-in_err-ty-in-RoutineParameter.ensures.1 (rw (c.in-Name.is, c.in-RoutineParameter.is, ← c.deref-in-RoutineParameter.ensures, ← c.deref-in-RoutineParameter-2.ensures.value, ← c.line-line.ensures) (call_told (λ t xs. SimpleValue (Tree.CallFormal c.in-Name.up c.in-RoutineParameter.entry (argument_list xs) c.line-line.result.number) t) _ _ cs cs _ _ _ c.result_type-ty-in-RoutineParameter.ensures (c.no_arguments-arguments-in-RoutineParameter.ensures cs) c.in_err-ty-in-RoutineParameter.ensures))
+    λ cs. handed_on _ _ _ _ c.from_residual-in_err-ty-in-RoutineParameter.ensures.1
+    (rw (
+      c.in-Name.is,
+      c.in-RoutineParameter.is,
+      ← c.deref-in-RoutineParameter.ensures,
+      ←
+          c.deref-in-RoutineParameter-2.ensures.value,
+      ← c.line-line.ensures,
+    )
+    (call_told (λ t xs. SimpleValue (Tree.CallFormal c.in-Name.up c.in-RoutineParameter.entry
+    (argument_list xs) c.line-line.result.number) t) _ _ cs cs _ _ _ c.result_type-ty-in-RoutineParameter.ensures
+    (c.no_arguments-arguments-in-RoutineParameter.ensures cs) c.in_err-ty-in-RoutineParameter.ensures))
 
 pub returns-in_ok-ty-in-Routine : goal.returns-in_ok-ty-in-Routine
 unfolding called meaning_of
 returns-in_ok-ty-in-Routine c =
-    λ cs. rw (c.in-Name.is, c.in-Routine.is, ← c.deref.ensures, ← c.deref-in-Routine.ensures.value, ← c.line-line.ensures, c.declared_call.ensures) (call_yes (λ t xs. SimpleValue (Tree.Call c.in-Routine.heading.number c.in-Name.up (argument_list xs) c.line-line.result.number) t) _ _ cs cs _ _ _ _ c.result_type-ty.ensures (c.no_arguments-arguments.ensures cs) c.in_ok-ty-in-Routine.ensures)
+    λ cs. rw (
+      c.in-Name.is,
+      c.in-Routine.is,
+      ← c.deref.ensures,
+      ← c.deref-in-Routine.ensures.value,
+      ←
+          c.line-line.ensures,
+      c.declared_call.ensures,
+    )
+    (call_yes (λ t xs. SimpleValue (Tree.Call c.in-Routine.heading.number c.in-Name.up
+    (argument_list xs) c.line-line.result.number) t) _ _ cs cs _ _ _ _ c.result_type-ty.ensures
+    (c.no_arguments-arguments.ensures cs) c.in_ok-ty-in-Routine.ensures)
 
 pub returns-in_ok-ty-in-RoutineParameter : goal.returns-in_ok-ty-in-RoutineParameter
 unfolding called meaning_of
 returns-in_ok-ty-in-RoutineParameter c =
-    λ cs. rw (c.in-Name.is, c.in-RoutineParameter.is, ← c.deref-in-RoutineParameter.ensures, ← c.deref-in-RoutineParameter-2.ensures.value, ← c.line-line.ensures, c.formal_call.ensures) (call_yes (λ t xs. SimpleValue (Tree.CallFormal c.in-Name.up c.in-RoutineParameter.entry (argument_list xs) c.line-line.result.number) t) _ _ cs cs _ _ _ _ c.result_type-ty-in-RoutineParameter.ensures (c.no_arguments-arguments-in-RoutineParameter.ensures cs) c.in_ok-ty-in-RoutineParameter.ensures)
+    λ cs. rw (
+      c.in-Name.is,
+      c.in-RoutineParameter.is,
+      ← c.deref-in-RoutineParameter.ensures,
+      ←
+          c.deref-in-RoutineParameter-2.ensures.value,
+      ← c.line-line.ensures,
+      c.formal_call.ensures,
+    )
+    (call_yes (λ t xs. SimpleValue (Tree.CallFormal c.in-Name.up c.in-RoutineParameter.entry
+    (argument_list xs) c.line-line.result.number) t) _ _ cs cs _ _ _ _ c.result_type-ty-in-RoutineParameter.ensures
+    (c.no_arguments-arguments-in-RoutineParameter.ensures cs) c.in_ok-ty-in-RoutineParameter.ensures)

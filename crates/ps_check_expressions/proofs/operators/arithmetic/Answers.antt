@@ -5,4 +5,5 @@ use Rattle.ps_check_expressions.proofs.operators.arithmetic.Goals as goal
 
 pub returns-in_err-left : goal.returns-in_err-left
 unfolding arithmetic
-returns-in_err-left c = handed_on _ _ _ _ c.from_residual.ensures.1 (pair_told _ _ _ _ _ _ _ _ c.operand_of-left.ensures c.operand_of-right.ensures c.in_err-left.ensures)
+returns-in_err-left c = handed_on _ _ _ _ c.from_residual.ensures.1
+    (pair_told _ _ _ _ _ _ _ _ c.operand_of-left.ensures c.operand_of-right.ensures c.in_err-left.ensures)

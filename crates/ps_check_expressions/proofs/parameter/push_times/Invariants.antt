@@ -4,4 +4,5 @@ use Rattle.ps_check_expressions.specs.Calls.{times}
 use Rattle.ps_check_expressions.proofs.parameter.push_times.Given as goal
 
 abbrev pub invariant-loop-time : goal.invariant-loop-time
-invariant-loop-time l = map (λ s. section_of s.now) l.list.items ≡ map (λ s. section_of s.now) l.initial.list.items ++ times l.time (section_of l.section) []
+invariant-loop-time l = map (λ s. section_of s.now) l.list.items ≡ map (λ s. section_of s.now) l.initial.list.items
+    ++ times l.time (section_of l.section) []

@@ -5,4 +5,5 @@ use Rattle.ps_check_names.proofs.scope.find.Given as goal
 
 -- what is left of the regions is searched as all of them are
 abbrev pub invariant-loop-here : goal.invariant-loop-here
-invariant-loop-here l = (at : ℕ) → find_past l.up l.which (scope_of l.here) l.name at ≡ find (scope_of l.scope) l.name at
+invariant-loop-here l = (at : ℕ) → find_past l.up l.which (scope_of l.here) l.name at ≡ find
+    (scope_of l.scope) l.name at

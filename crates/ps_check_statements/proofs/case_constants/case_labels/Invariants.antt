@@ -6,6 +6,7 @@ use Rattle.ps_check_statements.proofs.case_constants.case_labels.Given as goal
 
 abbrev pub invariant-loop-label : goal.invariant-loop-label
 invariant-loop-label l = record {
-  stepped : Stepped (next_label (context_at l.site) (regions_at l.site) l.index l.fn.seen.keys) [] l.constants l.label-index l.own.items;
+  stepped : Stepped (next_label (context_at l.site) (regions_at l.site) l.index l.fn.seen.keys) [] l.constants
+      l.label-index l.own.items;
   seen : l.seen.keys ≡ l.fn.seen.keys ++ l.own.items;
 }

@@ -8,8 +8,22 @@ use Rattle.ps_check_statements.proofs.for_statements.for_head.Goals as goal
 
 pub returns-in_err-first : goal.returns-in_err-first
 returns-in_err-first c =
-    handed_on _ _ _ _ c.from_residual-in_err-first.ensures.1 (rw c.in_ok-variable.ensures (next_told _ _ (λ e. expr_of e) (λ e. (expr_of e, c.bound_at.new.changes.items)) c.bound_at-first.new.changes.items _ (bound_at (context_at c.args.site) (regions_at c.args.site) c.in_ok-variable.ordinal c.args.y.now) _ _ c.bound_at-first.ensures c.bound_at.ensures c.in_err-first.ensures))
+    handed_on _ _ _ _ c.from_residual-in_err-first.ensures.1
+    (rw c.in_ok-variable.ensures (next_told _ _ (λ e. expr_of e)
+    (λ e. (expr_of e, c.bound_at.new.changes.items)) c.bound_at-first.new.changes.items _
+    (bound_at (context_at c.args.site) (regions_at c.args.site) c.in_ok-variable.ordinal c.args.y.now) _ _
+    c.bound_at-first.ensures c.bound_at.ensures c.in_err-first.ensures))
 
 pub returns : goal.returns
 returns c =
-    rw (c.in_ok-variable.ensures, c.line.ensures, c.line-2.ensures, c.first_token.ensures, c.first_token-2.ensures, c.direction_of.ensures) (next_yes _ _ (λ e. expr_of e) (λ e. (expr_of e, c.bound_at.new.changes.items)) c.bound_at-first.new.changes.items _ (bound_at (context_at c.args.site) (regions_at c.args.site) c.in_ok-variable.ordinal c.args.y.now) _ _ _ c.bound_at-first.ensures c.bound_at.ensures c.in_ok-first.ensures)
+    rw (
+      c.in_ok-variable.ensures,
+      c.line.ensures,
+      c.line-2.ensures,
+      c.first_token.ensures,
+      c.first_token-2.ensures,
+      c.direction_of.ensures,
+    ) (next_yes _ _ (λ e. expr_of e)
+    (λ e. (expr_of e, c.bound_at.new.changes.items)) c.bound_at-first.new.changes.items _
+    (bound_at (context_at c.args.site) (regions_at c.args.site) c.in_ok-variable.ordinal c.args.y.now) _ _ _
+    c.bound_at-first.ensures c.bound_at.ensures c.in_ok-first.ensures)

@@ -8,54 +8,88 @@ use Rattle.ps_check_expressions.specs.View.{context_at, regions_at, controls_of}
 use Rattle.ps_check_expressions.proofs.RoutineLemmas.{still_answers, next_yes}
 use Rattle.ps_check_statements.specs.Statements as spec
 use Rattle.ps_check_statements.specs.View.{element_of}
-use Rattle.ps_check_statements.proofs.Equations.{at_empty, at_assign, at_call, at_compound, at_if, at_if_else, at_case, at_while, at_repeat, at_for, at_with, element_at, statements_listed, elements_listed}
-use Rattle.ps_check_statements.proofs.Loops.{added_start, added_next, added_fault, added_end, collected_start, collected_next, collected_fault, collected_end}
+use Rattle.ps_check_statements.proofs.Equations.{at_empty, at_assign, at_call, at_compound, at_if, at_if_else, at_case}
+use Rattle.ps_check_statements.proofs.Equations.{at_while, at_repeat, at_for, at_with, element_at, statements_listed}
+use Rattle.ps_check_statements.proofs.Equations.{elements_listed}
+use Rattle.ps_check_statements.proofs.Loops.{added_start, added_next, added_fault, added_end, collected_start}
+use Rattle.ps_check_statements.proofs.Loops.{collected_next, collected_fault, collected_end}
 use Rattle.ps_check_statements.proofs.Paired.{second_told, second_yes, next_both, both_parts, boxed_answers}
 use Rattle.ps_check_statements.proofs.statement.+statement.Goals as goal
 
 -- ---- sequences
 
 pub statements-loop-x-init : goal.statements-loop-x-init
-statements-loop-x-init t c = rw c.in_ok-typed.ensures.items (added_start (λ s. spec.statement s (context_at c.args.site) (regions_at c.args.site)) statement_of c.args.list.now c.args.changes.now.items)
+statements-loop-x-init t c = rw c.in_ok-typed.ensures.items
+    (added_start (λ s. spec.statement s (context_at c.args.site) (regions_at c.args.site)) statement_of c.args.list.now
+    c.args.changes.now.items)
 
 pub statements-loop-x-preserved : goal.statements-loop-x-preserved
 statements-loop-x-preserved t c =
-    added_next (λ s. spec.statement s (context_at c.args.site) (regions_at c.args.site)) statement_of c.args.list.now _ c.loop-x.x-index c.loop-x.typed.items _ _ _ c.x-item.result c.statement.result c.loop-x-test.true c.x-item.is c.loop-x.invariant c.statement.ensures c.in_ok-push_answer.ensures.ok
+    added_next (λ s. spec.statement s (context_at c.args.site) (regions_at c.args.site)) statement_of c.args.list.now _
+    c.loop-x.x-index c.loop-x.typed.items _ _ _ c.x-item.result c.statement.result c.loop-x-test.true c.x-item.is
+    c.loop-x.invariant c.statement.ensures c.in_ok-push_answer.ensures.ok
 
 pub statements-returns-in_err-push_answer : goal.statements-returns-in_err-push_answer
 unfolding spec.statements
 statements-returns-in_err-push_answer t c =
-    handed_on _ _ _ _ c.from_residual-in_err-push_answer.ensures.1 (told_bind _ _ _ (added_fault (λ s. spec.statement s (context_at c.args.site) (regions_at c.args.site)) statement_of c.args.list.now _ c.loop-x.x-index c.loop-x.typed.items _ _ c.x-item.result c.statement.result _ c.loop-x-test.true c.x-item.is c.loop-x.invariant c.statement.ensures c.in_err-push_answer.ensures.err))
+    handed_on _ _ _ _ c.from_residual-in_err-push_answer.ensures.1
+    (told_bind _ _ _ (added_fault (λ s. spec.statement s (context_at c.args.site) (regions_at c.args.site))
+    statement_of c.args.list.now _ c.loop-x.x-index c.loop-x.typed.items _ _ c.x-item.result c.statement.result _
+    c.loop-x-test.true c.x-item.is c.loop-x.invariant c.statement.ensures c.in_err-push_answer.ensures.err))
 
 pub statements-returns : goal.statements-returns
 unfolding spec.statements
 statements-returns t c =
-    rw (added_end (λ s. spec.statement s (context_at c.args.site) (regions_at c.args.site)) statement_of c.args.list.now _ c.loop-x.x-index c.loop-x.typed.items _ c.loop-x-test.false c.loop-x.invariant, statements_listed c.loop-x.typed.items) refl
+    rw (
+      added_end (λ s. spec.statement s (context_at c.args.site) (regions_at c.args.site)) statement_of c.args.list.now
+          _ c.loop-x.x-index c.loop-x.typed.items _ c.loop-x-test.false c.loop-x.invariant,
+      statements_listed
+          c.loop-x.typed.items,
+    ) refl
 
 -- ---- case elements
 
 pub elements-loop-x-init : goal.elements-loop-x-init
 elements-loop-x-init t c =
-    rw (c.in_ok-typed.ensures.items, c.new-seen.ensures.empty) (collected_start (context_at c.args.site) (regions_at c.args.site) c.args.index c.args.list.now c.args.changes.now.items)
+    rw (c.in_ok-typed.ensures.items, c.new-seen.ensures.empty)
+    (collected_start (context_at c.args.site)
+    (regions_at c.args.site) c.args.index c.args.list.now c.args.changes.now.items)
 
 pub elements-loop-x-preserved : goal.elements-loop-x-preserved
 elements-loop-x-preserved t c =
-    collected_next (context_at c.args.site) (regions_at c.args.site) c.args.index c.args.list.now _ c.loop-x.x-index c.loop-x.seen.keys _ c.loop-x.typed.items _ _ _ c.x-item.result c.element.result c.loop-x-test.true c.x-item.is c.loop-x.invariant c.element.ensures.element c.element.ensures.seen c.in_ok-push_answer.ensures.ok
+    collected_next (context_at c.args.site) (regions_at c.args.site) c.args.index c.args.list.now _ c.loop-x.x-index
+    c.loop-x.seen.keys _ c.loop-x.typed.items _ _ _ c.x-item.result c.element.result c.loop-x-test.true c.x-item.is
+    c.loop-x.invariant c.element.ensures.element c.element.ensures.seen c.in_ok-push_answer.ensures.ok
 
 pub elements-returns-in_err-push_answer : goal.elements-returns-in_err-push_answer
 elements-returns-in_err-push_answer t c =
-    handed_on _ _ _ _ c.from_residual-in_err-push_answer.ensures.1 (collected_fault (context_at c.args.site) (regions_at c.args.site) c.args.index c.args.list.now _ c.loop-x.x-index c.loop-x.seen.keys c.loop-x.typed.items _ _ c.x-item.result c.element.result _ c.loop-x-test.true c.x-item.is c.loop-x.invariant c.element.ensures.element c.in_err-push_answer.ensures.err)
+    handed_on _ _ _ _ c.from_residual-in_err-push_answer.ensures.1
+    (collected_fault (context_at c.args.site)
+    (regions_at c.args.site) c.args.index c.args.list.now _ c.loop-x.x-index c.loop-x.seen.keys c.loop-x.typed.items
+    _ _ c.x-item.result c.element.result _ c.loop-x-test.true c.x-item.is c.loop-x.invariant
+    c.element.ensures.element c.in_err-push_answer.ensures.err)
 
 pub elements-returns : goal.elements-returns
-elements-returns t c = collected_end (context_at c.args.site) (regions_at c.args.site) c.args.index c.args.list.now _ c.loop-x.x-index c.loop-x.seen.keys c.loop-x.typed.items _ c.loop-x-test.false c.loop-x.invariant
+elements-returns t c = collected_end (context_at c.args.site)
+    (regions_at c.args.site) c.args.index c.args.list.now _ c.loop-x.x-index c.loop-x.seen.keys c.loop-x.typed.items _
+    c.loop-x-test.false c.loop-x.invariant
 
 pub element-returns-in_err-constants-clause-element : goal.element-returns-in_err-constants-clause-element
 element-returns-in_err-constants-clause-element t c =
-    handed_on _ _ _ _ c.from_residual.ensures.1 (rw (element_at, ← c.as_slice.ensures) (next_told _ _ (λ own. own.items) (λ s. (statement_of s, c.statement-body.new.changes.items)) c.args.changes.now.items _ (spec.statement (out-Element c.args.x.now).statement (context_at c.args.site) (regions_at c.args.site)) _ _ (still_answers _ _ _ _ c.case_labels-constants.ensures.labels) c.statement-body.ensures c.in_err-constants.ensures))
+    handed_on _ _ _ _ c.from_residual.ensures.1
+    (rw (element_at, ← c.as_slice.ensures) (next_told _ _ (λ own. own.items)
+    (λ s. (statement_of s, c.statement-body.new.changes.items)) c.args.changes.now.items _
+    (spec.statement (out-Element c.args.x.now).statement (context_at c.args.site) (regions_at c.args.site)) _ _
+    (still_answers _ _ _ _ c.case_labels-constants.ensures.labels) c.statement-body.ensures
+    c.in_err-constants.ensures))
 
 pub element-returns-clause-element : goal.element-returns-clause-element
 element-returns-clause-element t c =
-    rw (element_at, ← c.as_slice.ensures) (next_yes _ _ (λ own. own.items) (λ s. (statement_of s, c.statement-body.new.changes.items)) c.args.changes.now.items _ (spec.statement (out-Element c.args.x.now).statement (context_at c.args.site) (regions_at c.args.site)) _ _ _ (still_answers _ _ _ _ c.case_labels-constants.ensures.labels) c.statement-body.ensures c.in_ok-constants.ensures)
+    rw (element_at, ← c.as_slice.ensures) (next_yes _ _ (λ own. own.items)
+    (λ s. (statement_of s, c.statement-body.new.changes.items)) c.args.changes.now.items _
+    (spec.statement (out-Element c.args.x.now).statement (context_at c.args.site) (regions_at c.args.site)) _ _ _
+    (still_answers _ _ _ _ c.case_labels-constants.ensures.labels) c.statement-body.ensures
+    c.in_ok-constants.ensures)
 
 pub element-returns-clause-seen : goal.element-returns-clause-seen
 element-returns-clause-seen t c =
@@ -63,57 +97,90 @@ element-returns-clause-seen t c =
     rw parts.0 at c.case_labels-constants.ensures.seen
 
 pub case_statement-returns-in_err-index : goal.case_statement-returns-in_err-index
-case_statement-returns-in_err-index t c = handed_on _ _ _ _ c.from_residual.ensures.1 (told_bind _ _ _ c.in_err-index.ensures)
+case_statement-returns-in_err-index t c = handed_on _ _ _ _ c.from_residual.ensures.1
+    (told_bind _ _ _ c.in_err-index.ensures)
 
 pub case_statement-returns-in_err-index-2 : goal.case_statement-returns-in_err-index-2
 case_statement-returns-in_err-index-2 t c =
-    handed_on _ _ _ _ c.from_residual-in_err-index-2.ensures.1 (rw c.in_ok-index.ensures (second_told c.in_ok-index.index c.elements-elements.result (λ es. (map element_of es.items, c.elements-elements.new.changes.items)) (spec.elements (context_at c.args.site) (regions_at c.args.site) c.in_ok-index.ordinal (map spec.element c.args.list.now) c.index_at.new.changes.items) _ _ c.elements-elements.ensures c.in_err-index-2.ensures))
+    handed_on _ _ _ _ c.from_residual-in_err-index-2.ensures.1
+    (rw c.in_ok-index.ensures (second_told c.in_ok-index.index c.elements-elements.result
+    (λ es. (map element_of es.items, c.elements-elements.new.changes.items))
+    (spec.elements (context_at c.args.site) (regions_at c.args.site) c.in_ok-index.ordinal
+    (map spec.element c.args.list.now) c.index_at.new.changes.items) _ _ c.elements-elements.ensures
+    c.in_err-index-2.ensures))
 
 pub case_statement-returns : goal.case_statement-returns
 case_statement-returns t c =
-    let parts = second_yes c.in_ok-index.index c.elements-elements.result (λ es. (map element_of es.items, c.elements-elements.new.changes.items)) (spec.elements (context_at c.args.site) (regions_at c.args.site) c.in_ok-index.ordinal (map spec.element c.args.list.now) c.index_at.new.changes.items) _ _ c.elements-elements.ensures c.in_ok-index-2.ensures in
+    let parts = second_yes c.in_ok-index.index c.elements-elements.result
+    (λ es. (map element_of es.items, c.elements-elements.new.changes.items))
+    (spec.elements (context_at c.args.site) (regions_at c.args.site) c.in_ok-index.ordinal
+    (map spec.element c.args.list.now) c.index_at.new.changes.items) _ _ c.elements-elements.ensures
+    c.in_ok-index-2.ensures in
     rw (c.in_ok-index.ensures, parts.1, parts.0, statement_of_Case, elements_listed, c.line.ensures) refl
 
 -- ---- two parts
 
 pub boxed-returns : goal.boxed-returns
-boxed-returns t c = boxed_answers _ c.statement.result (λ b. b.value) (λ s. (statement_of s, c.statement.new.changes.items)) _ c.statement.ensures c.boxed_answer.ensures.ok c.boxed_answer.ensures.err
+boxed-returns t c = boxed_answers _ c.statement.result (λ b. b.value)
+    (λ s. (statement_of s, c.statement.new.changes.items)) _ c.statement.ensures c.boxed_answer.ensures.ok
+    c.boxed_answer.ensures.err
 
 pub governed-returns : goal.governed-returns
 governed-returns t c =
-    next_both (λ e. expr_of e) (λ s. statement_of s.value) c.condition_at-condition.new.changes.items c.boxed-body.new.changes.items _ (spec.statement c.args.body.now (context_at c.args.site) (regions_at c.args.site)) c.paired.result c.condition_at-condition.result c.boxed-body.result c.condition_at-condition.ensures c.boxed-body.ensures c.paired.ensures
+    next_both (λ e. expr_of e) (λ s. statement_of s.value) c.condition_at-condition.new.changes.items
+    c.boxed-body.new.changes.items _ (spec.statement c.args.body.now (context_at c.args.site)
+    (regions_at c.args.site)) c.paired.result c.condition_at-condition.result c.boxed-body.result
+    c.condition_at-condition.ensures c.boxed-body.ensures c.paired.ensures
 
 pub if_else_statement-returns-in_err-condition : goal.if_else_statement-returns-in_err-condition
 if_else_statement-returns-in_err-condition t c =
-    handed_on _ _ _ _ c.from_residual.ensures.1 (next_told _ _ (λ p. (expr_of p.0, statement_of p.1.value)) (λ s. (statement_of s.value, c.boxed-otherwise.new.changes.items)) c.governed-first.new.changes.items _ (spec.statement c.args.otherwise.now (context_at c.args.site) (regions_at c.args.site)) _ _ c.governed-first.ensures c.boxed-otherwise.ensures c.in_err-condition.ensures)
+    handed_on _ _ _ _ c.from_residual.ensures.1
+    (next_told _ _ (λ p. (expr_of p.0, statement_of p.1.value))
+    (λ s. (statement_of s.value, c.boxed-otherwise.new.changes.items)) c.governed-first.new.changes.items _
+    (spec.statement c.args.otherwise.now (context_at c.args.site) (regions_at c.args.site)) _ _
+    c.governed-first.ensures c.boxed-otherwise.ensures c.in_err-condition.ensures)
 
 pub if_else_statement-returns : goal.if_else_statement-returns
 unfolding statement_of
 if_else_statement-returns t c =
-    next_yes _ _ (λ p. (expr_of p.0, statement_of p.1.value)) (λ s. (statement_of s.value, c.boxed-otherwise.new.changes.items)) c.governed-first.new.changes.items _ (spec.statement c.args.otherwise.now (context_at c.args.site) (regions_at c.args.site)) _ _ _ c.governed-first.ensures c.boxed-otherwise.ensures c.in_ok-condition.ensures
+    next_yes _ _ (λ p. (expr_of p.0, statement_of p.1.value))
+    (λ s. (statement_of s.value, c.boxed-otherwise.new.changes.items)) c.governed-first.new.changes.items _
+    (spec.statement c.args.otherwise.now (context_at c.args.site) (regions_at c.args.site)) _ _ _
+    c.governed-first.ensures c.boxed-otherwise.ensures c.in_ok-condition.ensures
 
 pub repeat_statement-returns-in_err-body : goal.repeat_statement-returns-in_err-body
 repeat_statement-returns-in_err-body t c =
-    handed_on _ _ _ _ c.from_residual.ensures.1 (next_told _ _ (λ ss. statements_of ss.items) (λ e. (expr_of e, c.condition_at-condition.new.changes.items)) c.statements-body.new.changes.items _ (spec.condition_at (context_at c.args.site) (regions_at c.args.site) c.args.x.now) _ _ c.statements-body.ensures c.condition_at-condition.ensures c.in_err-body.ensures)
+    handed_on _ _ _ _ c.from_residual.ensures.1
+    (next_told _ _ (λ ss. statements_of ss.items)
+    (λ e. (expr_of e, c.condition_at-condition.new.changes.items)) c.statements-body.new.changes.items _
+    (spec.condition_at (context_at c.args.site) (regions_at c.args.site) c.args.x.now) _ _ c.statements-body.ensures
+    c.condition_at-condition.ensures c.in_err-body.ensures)
 
 pub repeat_statement-returns : goal.repeat_statement-returns
 repeat_statement-returns t c =
-    rw statement_of_Repeat (next_yes _ _ (λ ss. statements_of ss.items) (λ e. (expr_of e, c.condition_at-condition.new.changes.items)) c.statements-body.new.changes.items _ (spec.condition_at (context_at c.args.site) (regions_at c.args.site) c.args.x.now) _ _ _ c.statements-body.ensures c.condition_at-condition.ensures c.in_ok-body.ensures)
+    rw statement_of_Repeat (next_yes _ _ (λ ss. statements_of ss.items)
+    (λ e. (expr_of e, c.condition_at-condition.new.changes.items)) c.statements-body.new.changes.items _
+    (spec.condition_at (context_at c.args.site) (regions_at c.args.site) c.args.x.now) _ _ _
+    c.statements-body.ensures c.condition_at-condition.ensures c.in_ok-body.ensures)
 
 pub for_statement-returns-in_err-head : goal.for_statement-returns-in_err-head
-for_statement-returns-in_err-head t c = handed_on _ _ _ _ c.from_residual.ensures.1 (told_bind _ _ _ c.in_err-head.ensures)
+for_statement-returns-in_err-head t c = handed_on _ _ _ _ c.from_residual.ensures.1
+    (told_bind _ _ _ c.in_err-head.ensures)
 
 pub for_statement-returns-in_err-head-2 : goal.for_statement-returns-in_err-head-2
 unfolding controls_of
 for_statement-returns-in_err-head-2 t c =
     let h = rw (c.with_controls.ensures.context, c.with_controls.ensures.regions) at c.boxed-body.ensures in
-    handed_on _ _ _ _ c.from_residual-in_err-head-2.ensures.1 (rw c.in_ok-head.ensures (second_told c.in_ok-head.head c.boxed-body.result (λ s. (statement_of s.value, c.boxed-body.new.changes.items)) _ _ _ h c.in_err-head-2.ensures))
+    handed_on _ _ _ _ c.from_residual-in_err-head-2.ensures.1
+    (rw c.in_ok-head.ensures (second_told c.in_ok-head.head c.boxed-body.result
+    (λ s. (statement_of s.value, c.boxed-body.new.changes.items)) _ _ _ h c.in_err-head-2.ensures))
 
 pub for_statement-returns : goal.for_statement-returns
 unfolding controls_of
 for_statement-returns t c =
     let h = rw (c.with_controls.ensures.context, c.with_controls.ensures.regions) at c.boxed-body.ensures in
-    let parts = second_yes c.in_ok-head.head c.boxed-body.result (λ s. (statement_of s.value, c.boxed-body.new.changes.items)) _ _ _ h c.in_ok-head-2.ensures in
+    let parts = second_yes c.in_ok-head.head c.boxed-body.result
+    (λ s. (statement_of s.value, c.boxed-body.new.changes.items)) _ _ _ h c.in_ok-head-2.ensures in
     rw (c.in_ok-head.ensures, parts.1, parts.0, c.repeated.ensures) refl
 
 -- ---- one construct
@@ -129,39 +196,76 @@ pub statement-returns-in-Call : goal.statement-returns-in-Call
 statement-returns-in-Call t c = rw (c.in-Call.is, at_call, ← c.as_slice.ensures) c.procedure_statement.ensures
 
 pub statement-returns-in_ok-statements-in-Compound : goal.statement-returns-in_ok-statements-in-Compound
-statement-returns-in_ok-statements-in-Compound t c = rw (c.in-Compound.is, at_compound, ← c.as_slice-in-Compound.ensures, c.in_ok-statements-in-Compound.ensures, statement_of_Compound) refl
+statement-returns-in_ok-statements-in-Compound t c = rw (
+  c.in-Compound.is,
+  at_compound,
+  ← c.as_slice-in-Compound.ensures,
+  c.in_ok-statements-in-Compound.ensures,
+  statement_of_Compound,
+) refl
 
 pub statement-returns-in_err-statements-in-Compound : goal.statement-returns-in_err-statements-in-Compound
 statement-returns-in_err-statements-in-Compound t c =
-    handed_on _ _ _ _ c.from_residual.ensures.1 (rw (c.in-Compound.is, at_compound, ← c.as_slice-in-Compound.ensures) (told_bind _ _ _ c.in_err-statements-in-Compound.ensures))
+    handed_on _ _ _ _ c.from_residual.ensures.1
+    (rw (c.in-Compound.is, at_compound, ← c.as_slice-in-Compound.ensures)
+    (told_bind _ _ _ c.in_err-statements-in-Compound.ensures))
 
 pub statement-returns-in_ok-condition-in-If : goal.statement-returns-in_ok-condition-in-If
 unfolding statement_of
-statement-returns-in_ok-condition-in-If t c = rw (c.in-If.is, at_if, ← c.get-in-If.ensures, ← c.get-in-If-2.ensures, c.in_ok-condition-in-If.ensures) refl
+statement-returns-in_ok-condition-in-If t c = rw
+    (c.in-If.is, at_if, ← c.get-in-If.ensures, ← c.get-in-If-2.ensures, c.in_ok-condition-in-If.ensures) refl
 
 pub statement-returns-in_err-condition-in-If : goal.statement-returns-in_err-condition-in-If
 statement-returns-in_err-condition-in-If t c =
-    handed_on _ _ _ _ c.from_residual-in_err-condition-in-If.ensures.1 (rw (c.in-If.is, at_if, ← c.get-in-If.ensures, ← c.get-in-If-2.ensures) (told_bind _ _ _ c.in_err-condition-in-If.ensures))
+    handed_on _ _ _ _ c.from_residual-in_err-condition-in-If.ensures.1
+    (rw (c.in-If.is, at_if, ← c.get-in-If.ensures, ← c.get-in-If-2.ensures)
+    (told_bind _ _ _ c.in_err-condition-in-If.ensures))
 
 pub statement-returns-in-IfElse : goal.statement-returns-in-IfElse
-statement-returns-in-IfElse t c = rw (c.in-IfElse.is, at_if_else, ← c.get-in-IfElse.ensures, ← c.get-in-IfElse-2.ensures, ← c.get-in-IfElse-3.ensures) c.if_else_statement.ensures
+statement-returns-in-IfElse t c = rw (
+  c.in-IfElse.is,
+  at_if_else,
+  ← c.get-in-IfElse.ensures,
+  ←
+      c.get-in-IfElse-2.ensures,
+  ← c.get-in-IfElse-3.ensures,
+) c.if_else_statement.ensures
 
 pub statement-returns-in-Case : goal.statement-returns-in-Case
-statement-returns-in-Case t c = rw (c.in-Case.is, at_case, ← c.as_slice-in-Case.ensures, ← c.get-in-Case.ensures) c.case_statement.ensures
+statement-returns-in-Case t c = rw (c.in-Case.is, at_case, ← c.as_slice-in-Case.ensures, ← c.get-in-Case.ensures)
+    c.case_statement.ensures
 
 pub statement-returns-in_ok-condition-in-While : goal.statement-returns-in_ok-condition-in-While
 unfolding statement_of
-statement-returns-in_ok-condition-in-While t c = rw (c.in-While.is, at_while, ← c.get-in-While.ensures, ← c.get-in-While-2.ensures, c.in_ok-condition-in-While.ensures) refl
+statement-returns-in_ok-condition-in-While t c = rw
+    (c.in-While.is, at_while, ← c.get-in-While.ensures, ← c.get-in-While-2.ensures, c.in_ok-condition-in-While.ensures)
+    refl
 
 pub statement-returns-in_err-condition-in-While : goal.statement-returns-in_err-condition-in-While
 statement-returns-in_err-condition-in-While t c =
-    handed_on _ _ _ _ c.from_residual-in_err-condition-in-While.ensures.1 (rw (c.in-While.is, at_while, ← c.get-in-While.ensures, ← c.get-in-While-2.ensures) (told_bind _ _ _ c.in_err-condition-in-While.ensures))
+    handed_on _ _ _ _ c.from_residual-in_err-condition-in-While.ensures.1
+    (rw (c.in-While.is, at_while, ← c.get-in-While.ensures, ← c.get-in-While-2.ensures)
+    (told_bind _ _ _ c.in_err-condition-in-While.ensures))
 
 pub statement-returns-in-Repeat : goal.statement-returns-in-Repeat
-statement-returns-in-Repeat t c = rw (c.in-Repeat.is, at_repeat, ← c.as_slice-in-Repeat.ensures, ← c.get-in-Repeat.ensures) c.repeat_statement.ensures
+statement-returns-in-Repeat t c = rw (
+  c.in-Repeat.is,
+  at_repeat,
+  ← c.as_slice-in-Repeat.ensures,
+  ←
+      c.get-in-Repeat.ensures,
+) c.repeat_statement.ensures
 
 pub statement-returns-in-For : goal.statement-returns-in-For
-statement-returns-in-For t c = rw (c.in-For.is, at_for, ← c.get-in-For.ensures, ← c.get-in-For-2.ensures, ← c.get-in-For-3.ensures) c.for_statement.ensures
+statement-returns-in-For t c = rw (
+  c.in-For.is,
+  at_for,
+  ← c.get-in-For.ensures,
+  ← c.get-in-For-2.ensures,
+  ←
+      c.get-in-For-3.ensures,
+) c.for_statement.ensures
 
 pub statement-returns-in-With : goal.statement-returns-in-With
-statement-returns-in-With t c = rw (c.in-With.is, at_with, ← c.get-in-With.ensures, ← c.as_slice-in-With.ensures) c.with_statement.ensures
+statement-returns-in-With t c = rw (c.in-With.is, at_with, ← c.get-in-With.ensures, ← c.as_slice-in-With.ensures)
+    c.with_statement.ensures

@@ -5,4 +5,5 @@ use Rattle.ps_check_statements.proofs.Loops.{Added}
 use Rattle.ps_check_statements.proofs.text.read_parameters.Given as goal
 
 abbrev pub invariant-loop-parameter : goal.invariant-loop-parameter
-invariant-loop-parameter l = Added (read_parameter (context_at l.site) (regions_at l.site)) read_of l.rest l.fn.changes.items l.parameter-index l.list.items l.changes.items
+invariant-loop-parameter l = Added (read_parameter (context_at l.site) (regions_at l.site)) read_of l.rest
+    l.fn.changes.items l.parameter-index l.list.items l.changes.items

@@ -11,9 +11,11 @@ loop-argument-init c = ended_start _ _
 
 pub loop-argument-preserved : goal.loop-argument-preserved
 loop-argument-preserved c =
-    ended_next _ _ _ _ _ _ _ c.argument-item.result c.loop-argument-test.true c.loop-argument.invariant c.tail-rest.ensures
+    ended_next _ _ _ _ _ _ _ c.argument-item.result c.loop-argument-test.true c.loop-argument.invariant
+    c.tail-rest.ensures
     (c.argument_end-depth.ensures.value
-    ∙ ap (λ n. argument_end (argument_of c.argument-item.result) n) (c.held.ensures.value ∙ ap (λ b. held b c.loop-argument.depth) c.arguments_call.ensures)
+    ∙ ap (λ n. argument_end (argument_of c.argument-item.result) n)
+    (c.held.ensures.value ∙ ap (λ b. held b c.loop-argument.depth) c.arguments_call.ensures)
     ∙ ap (λ y. argument_end (argument_of y) (slot c.tail-rest.result.now c.loop-argument.depth)) c.argument-item.is)
 
 pub returns : goal.returns
@@ -23,7 +25,8 @@ pub held-requires : goal.held-requires
 held-requires c =
     let e = c.loop-argument.invariant.left in
     let r = c.requires in
-    let l = ending_one c.args.arguments.now c.loop-argument.argument-index c.loop-argument.depth 2147483647 (omega (arith, e, r)) in
+    let l = ending_one c.args.arguments.now c.loop-argument.argument-index c.loop-argument.depth 2147483647
+    (omega (arith, e, r)) in
     omega (arith, l)
 
 pub argument_end-depth-requires : goal.argument_end-depth-requires
@@ -31,5 +34,6 @@ argument_end-depth-requires c =
     let e = c.loop-argument.invariant.left in
     let r = c.requires in
     let h = c.held.ensures.small in
-    let l = ending_one c.args.arguments.now c.loop-argument.argument-index c.loop-argument.depth 2147483647 (omega (arith, e, r)) in
+    let l = ending_one c.args.arguments.now c.loop-argument.argument-index c.loop-argument.depth 2147483647
+    (omega (arith, e, r)) in
     omega (arith, l, h)

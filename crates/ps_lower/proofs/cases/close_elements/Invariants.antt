@@ -9,4 +9,6 @@ use Rattle.ps_lower.proofs.Elements.{Closing}
 use Rattle.ps_lower.proofs.cases.close_elements.Given as goal
 
 abbrev pub invariant-loop-end : goal.invariant-loop-end
-invariant-loop-end l = (k : Scope) (before : List Instruction) (elements : Elements) (d line : ℕ) → l.fn.out ≡ before ++ (open_elements k elements d ++ i.Trap 7 line ∷ []) → l.ends ≡ ends_from k elements d (length before) → Closing k d line (before ++ elements_code k elements d line) l.out (drop l.end-index l.ends)
+invariant-loop-end l = (k : Scope) (before : List Instruction) (elements : Elements) (d line : ℕ) → l.fn.out ≡ before
+    ++ (open_elements k elements d ++ i.Trap 7 line ∷ []) → l.ends ≡ ends_from k elements d (length before)
+    → Closing k d line (before ++ elements_code k elements d line) l.out (drop l.end-index l.ends)

@@ -4,4 +4,6 @@ use Rattle.ps_lower.proofs.Rooms.{set_room}
 use Rattle.ps_lower.proofs.filling.fill_with_branch.Goals as goal
 
 pub returns-then-place-len : goal.returns-then-place-len
-returns-then-place-len c = λ before filler behind e p. c.put.ensures ∙ set_room (λ n. i.Branch c.args.relation c.args.left c.args.right n) before behind filler _ _ _ e p (c.len-then-place-len.ensures ∙ c.args.list.now.ok.0)
+returns-then-place-len c = λ before filler behind e p. c.put.ensures ∙ set_room
+    (λ n. i.Branch c.args.relation c.args.left c.args.right n) before behind filler _ _ _ e p
+    (c.len-then-place-len.ensures ∙ c.args.list.now.ok.0)

@@ -12,4 +12,11 @@ pub returns-then-n-eq3 : goal.returns-then-n-eq3
 returns-then-n-eq3 c = three_bytes _ _ c.if-n-eq3.true
 
 pub returns : goal.returns
-returns c = four_bytes _ _ (omega (arith, c.if-n-eq1.false, c.if-n-eq2.false, c.if-n-eq3.false, c.requires.some, c.requires.few))
+returns c = four_bytes _ _ (omega (
+  arith,
+  c.if-n-eq1.false,
+  c.if-n-eq2.false,
+  c.if-n-eq3.false,
+  c.requires.some,
+  c.requires.few,
+))

@@ -5,5 +5,7 @@ use Rattle.ps_lower.proofs.firsts.field.Goals as goal
 pub returns : goal.returns
 returns c =
     when_left c.leave-2.result
-    (field_left c.args.offset (c.args.offset + c.byte_count.result) c.args.types.now c.in-Some.ty c.in-Some.rest c.args.tasks.now.items c.leave.new.tasks.items c.leave-2.new.tasks.items c.in-Some.ensures.cases.0 (ap (λ n. c.args.offset + n) c.byte_count.ensures) c.in_ok-leave.ensures)
+    (field_left c.args.offset (c.args.offset + c.byte_count.result) c.args.types.now c.in-Some.ty c.in-Some.rest
+    c.args.tasks.now.items c.leave.new.tasks.items c.leave-2.new.tasks.items c.in-Some.ensures.cases.0
+    (ap (λ n. c.args.offset + n) c.byte_count.ensures) c.in_ok-leave.ensures)
     c.leave-2.ensures

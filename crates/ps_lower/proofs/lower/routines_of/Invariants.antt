@@ -7,4 +7,5 @@ use Rattle.ps_lower.proofs.Mapping.{Made}
 use Rattle.ps_lower.proofs.lower.routines_of.Given as goal
 
 abbrev pub invariant-loop-routine : goal.invariant-loop-routine
-invariant-loop-routine l = Made routine_of (tac_of (program_in l.checked)) l.routine-items l.routine-index l.list.items × (l.left + instructions_of l.list.items ≡ most_instructions)
+invariant-loop-routine l = Made routine_of (tac_of (program_in l.checked)) l.routine-items l.routine-index l.list.items
+    × (l.left + instructions_of l.list.items ≡ most_instructions)

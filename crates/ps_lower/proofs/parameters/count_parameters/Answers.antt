@@ -10,7 +10,8 @@ pub with_parameter-count-requires : goal.with_parameter-count-requires
 with_parameter-count-requires c = counted_small _ _ _ 2147483647 c.loop-formal.invariant c.requires
 
 pub loop-formal-preserved : goal.loop-formal-preserved
-loop-formal-preserved c = counted_next _ _ _ _ c.formal-item.result c.loop-formal-test.true c.loop-formal.invariant (c.with_parameter-count.ensures ∙ ap (λ f. c.loop-formal.count + parameter_words (kind_at f)) c.formal-item.is)
+loop-formal-preserved c = counted_next _ _ _ _ c.formal-item.result c.loop-formal-test.true c.loop-formal.invariant
+    (c.with_parameter-count.ensures ∙ ap (λ f. c.loop-formal.count + parameter_words (kind_at f)) c.formal-item.is)
 
 pub returns : goal.returns
 returns c = counted_all _ _ _ c.loop-formal-test.false c.loop-formal.invariant

@@ -10,11 +10,17 @@ use Rattle.ps_lower.proofs.routines.begin.Goals as goal
 
 pub returns : goal.returns
 returns c =
-    begin_made (scope_of c.args.k.now) (routine_of c.args.routine.now) c.args.t c.in_ok-place.place c.in_ok-place-2.place c.firsts.result c.firsts.new.out c.parameters.new.out c.first_result.new.out c.head.new.out c.args.out.now
+    begin_made (scope_of c.args.k.now) (routine_of c.args.routine.now) c.args.t c.in_ok-place.place
+    c.in_ok-place-2.place c.firsts.result c.firsts.new.out c.parameters.new.out c.first_result.new.out
+    c.head.new.out c.args.out.now
     c.requires.total c.in_ok-head.ensures c.in_ok-place.ensures.code c.in_ok-place.ensures.next
-    (c.in_ok-place-2.ensures.code ∙ ap (λ l. c.first_result.new.out ++ parameters_at (scope_of c.args.k.now) (kinds_of (formals_of l)) 1 c.in_ok-place.place c.args.t) c.as_slice.ensures.value)
-    (c.in_ok-place-2.ensures.next ∙ ap (λ l. c.in_ok-place.place + words_of_all (listed_kinds (kinds_of (formals_of l)))) c.as_slice.ensures.value)
-    (subst (λ (l : List Ty). OnOk c.firsts.result (c.firsts.new.out ≡ c.parameters.new.out ++ firsts_code (scope_of c.args.k.now) c.args.t c.in_ok-place-2.place (map type_of l))) c.as_slice-2.ensures.value c.firsts.ensures)
+    (c.in_ok-place-2.ensures.code ∙ ap (λ l. c.first_result.new.out ++ parameters_at (scope_of c.args.k.now)
+    (kinds_of (formals_of l)) 1 c.in_ok-place.place c.args.t) c.as_slice.ensures.value)
+    (c.in_ok-place-2.ensures.next ∙ ap (λ l. c.in_ok-place.place + words_of_all
+    (listed_kinds (kinds_of (formals_of l)))) c.as_slice.ensures.value)
+    (subst (λ (l : List Ty). OnOk c.firsts.result
+    (c.firsts.new.out ≡ c.parameters.new.out ++ firsts_code (scope_of c.args.k.now) c.args.t c.in_ok-place-2.place
+    (map type_of l))) c.as_slice-2.ensures.value c.firsts.ensures)
 
 pub parameters-requires-clause-words : goal.parameters-requires-clause-words
 parameters-requires-clause-words c =
@@ -22,7 +28,8 @@ parameters-requires-clause-words c =
     let small = c.requires.small in
     let exact = c.requires.exact in
     let e = c.in_ok-place.ensures.next in
-    subst (λ l. 4 * (c.in_ok-place.place + words_of_all (listed_kinds (kinds_of (formals_of l)))) ≤ 2147483647) (sym c.as_slice.ensures.value) (omega (arith, p, small, exact, e))
+    subst (λ l. 4 * (c.in_ok-place.place + words_of_all (listed_kinds (kinds_of (formals_of l)))) ≤ 2147483647)
+    (sym c.as_slice.ensures.value) (omega (arith, p, small, exact, e))
 
 pub firsts-requires-clause-words : goal.firsts-requires-clause-words
 firsts-requires-clause-words c =
@@ -30,5 +37,7 @@ firsts-requires-clause-words c =
     let small = c.requires.small in
     let exact = c.requires.exact in
     let e = c.in_ok-place.ensures.next in
-    let f = c.in_ok-place-2.ensures.next ∙ ap (λ l. c.in_ok-place.place + words_of_all (listed_kinds (kinds_of (formals_of l)))) c.as_slice.ensures.value in
-    subst (λ l. 4 * (c.in_ok-place-2.place + words_of_all (variable_kinds (map type_of l))) ≤ 2147483647) (sym c.as_slice-2.ensures.value) (omega (arith, p, small, exact, e, f))
+    let f = c.in_ok-place-2.ensures.next ∙ ap (λ l. c.in_ok-place.place + words_of_all
+    (listed_kinds (kinds_of (formals_of l)))) c.as_slice.ensures.value in
+    subst (λ l. 4 * (c.in_ok-place-2.place + words_of_all (variable_kinds (map type_of l))) ≤ 2147483647)
+    (sym c.as_slice-2.ensures.value) (omega (arith, p, small, exact, e, f))

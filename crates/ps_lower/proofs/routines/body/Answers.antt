@@ -10,5 +10,7 @@ use Rattle.ps_lower.proofs.routines.body.Goals as goal
 pub returns-in_err-block : goal.returns-in_err-block
 returns-in_err-block c =
     let r = routine_of c.args.routine.now in
-    whole_refused c.from_residual.result _ _ c.new-out.result (begin_code (scope_of c.level-k.result) r ++ statements_code (scope_of c.level-k.result) r.body 0 ++ end_code r) (routine_code (program_in c.args.checked.now) r) c.from_residual.ensures.1 c.new-out.ensures
+    whole_refused c.from_residual.result _ _ c.new-out.result
+    (begin_code (scope_of c.level-k.result) r ++ statements_code (scope_of c.level-k.result) r.body 0 ++ end_code r)
+    (routine_code (program_in c.args.checked.now) r) c.from_residual.ensures.1 c.new-out.ensures
     (ap (λ s. begin_code s r ++ statements_code s r.body 0 ++ end_code r) c.level-k.ensures) c.in_err-block.ensures

@@ -5,4 +5,5 @@ use Rattle.ps_lower_code.specs.Values.{text_length}
 use Rattle.ps_lower.proofs.texts.text_length.Goals as goal
 
 pub returns-in-Contents : goal.returns-in-Contents
-returns-in-Contents c = c.contents_length.ensures (place_of c.in-Contents.place.value) ∙ sym (ap text_length (ap structure_of c.in-Contents.is ∙ structure_of_Contents c.in-Contents.place c.in-Contents.ty))
+returns-in-Contents c = c.contents_length.ensures (place_of c.in-Contents.place.value) ∙ sym
+    (ap text_length (ap structure_of c.in-Contents.is ∙ structure_of_Contents c.in-Contents.place c.in-Contents.ty))

@@ -11,13 +11,17 @@ abbrev pub invariant-go_on-loop-step : goal.invariant-go_on-loop-step
 invariant-go_on-loop-step l = Added (steps_added (scope_of l.k) l.a l.x) l.fn.out l.steps l.step-index l.out
 
 abbrev pub invariant-go_on_with-loop-operand : goal.invariant-go_on_with-loop-operand
-invariant-go_on_with-loop-operand l = Added (operands_added (scope_of l.k) l.operator l.a l.x) l.fn.out l.operands l.operand-index l.out
+invariant-go_on_with-loop-operand l = Added
+    (operands_added (scope_of l.k) l.operator l.a l.x) l.fn.out l.operands l.operand-index l.out
 
 abbrev pub invariant-along-loop-selector : goal.invariant-along-loop-selector
-invariant-along-loop-selector l = Led (scope_of l.k) l.t l.x l.fn.out (site_of l.fn.site) l.selectors l.selector-index l.out (site_of l.site) × Leads (scope_of l.k) l.t l.x l.selectors l.selector-index l.site.offset
+invariant-along-loop-selector l = Led (scope_of l.k) l.t l.x l.fn.out
+    (site_of l.fn.site) l.selectors l.selector-index l.out (site_of l.site) × Leads
+    (scope_of l.k) l.t l.x l.selectors l.selector-index l.site.offset
 
 abbrev pub invariant-arguments-loop-one : goal.invariant-arguments-loop-one
-invariant-arguments-loop-one l = Handed (scope_of l.k) l.fn.out l.arguments l.d l.x l.one-index l.rest l.out l.depth l.scratch × Handing (scope_of l.k) l.arguments l.one-index l.depth l.scratch
+invariant-arguments-loop-one l = Handed (scope_of l.k) l.fn.out l.arguments l.d l.x l.one-index l.rest l.out l.depth
+    l.scratch × Handing (scope_of l.k) l.arguments l.one-index l.depth l.scratch
 
 abbrev pub invariant-combine-loop-step : goal.invariant-combine-loop-step
 invariant-combine-loop-step l = Added (set_steps_added (scope_of l.k) l.d l.x) l.fn.out l.steps l.step-index l.out

@@ -12,17 +12,27 @@ loop-element-init c = λ job n line d w. refl
 
 pub loop-element-preserved : goal.loop-element-preserved
 loop-element-preserved c =
-    let h : is_among (number_of (value_of c.args.x.now)) (out-CaseElement c.element-item.result).constants.items ≡ false = ap (is_among (number_of (value_of c.args.x.now))) (sym c.as_slice.ensures.value) ∙ sym c.has_constant.ensures ∙ c.if-has_constant.false in
-    λ job n line d w. a.selects_next job n d c.args.elements.now c.loop-element.element-index c.element-item.result (number_of (value_of c.args.x.now)) line w _ (c.loop-element.invariant job n line d w) h c.element-item.is c.loop-element-test.true
+    let h : is_among (number_of (value_of c.args.x.now)) (out-CaseElement c.element-item.result).constants.items
+    ≡ false = ap (is_among (number_of (value_of c.args.x.now))) (sym c.as_slice.ensures.value)
+    ∙ sym c.has_constant.ensures ∙ c.if-has_constant.false in
+    λ job n line d w. a.selects_next job n d c.args.elements.now c.loop-element.element-index c.element-item.result
+    (number_of (value_of c.args.x.now)) line w _
+    (c.loop-element.invariant job n line d w) h c.element-item.is c.loop-element-test.true
 
 pub returns-then-has_constant-clause-chosen : goal.returns-then-has_constant-clause-chosen
 returns-then-has_constant-clause-chosen c =
-    let h : is_among (number_of (value_of c.args.x.now)) (out-CaseElement c.element-item.result).constants.items ≡ true = ap (is_among (number_of (value_of c.args.x.now))) (sym c.as_slice.ensures.value) ∙ sym c.has_constant.ensures ∙ c.if-has_constant.true in
-    λ job n line d w. sym (a.selects job n d c.args.elements.now c.loop-element.element-index c.element-item.result (number_of (value_of c.args.x.now)) line w _ (c.loop-element.invariant job n line d w) h c.element-item.is c.loop-element-test.true)
+    let h : is_among (number_of (value_of c.args.x.now)) (out-CaseElement c.element-item.result).constants.items
+    ≡ true = ap (is_among (number_of (value_of c.args.x.now))) (sym c.as_slice.ensures.value)
+    ∙ sym c.has_constant.ensures ∙ c.if-has_constant.true in
+    λ job n line d w. sym (a.selects job n d c.args.elements.now c.loop-element.element-index c.element-item.result
+    (number_of (value_of c.args.x.now)) line w _
+    (c.loop-element.invariant job n line d w) h c.element-item.is c.loop-element-test.true)
 
 pub returns-then-has_constant-clause-within : goal.returns-then-has_constant-clause-within
-returns-then-has_constant-clause-within c = element_within c.args.elements.now c.loop-element.element-index c.element-item.result c.element-item.is c.loop-element-test.true
+returns-then-has_constant-clause-within c = element_within c.args.elements.now c.loop-element.element-index
+    c.element-item.result c.element-item.is c.loop-element-test.true
 
 pub returns-clause-chosen : goal.returns-clause-chosen
 returns-clause-chosen c =
-    λ job n line d w. a.selects_none job n d c.args.elements.now c.loop-element.element-index (number_of (value_of c.args.x.now)) line w _ (c.loop-element.invariant job n line d w) (omega arith)
+    λ job n line d w. a.selects_none job n d c.args.elements.now c.loop-element.element-index
+    (number_of (value_of c.args.x.now)) line w _ (c.loop-element.invariant job n line d w) (omega arith)

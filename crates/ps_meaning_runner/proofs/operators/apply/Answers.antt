@@ -8,8 +8,12 @@ returns-in-Ord c = ap Result (to_z-of_z c.ranges.x) ∙ ap (λ f. apply f c.args
 
 pub returns-then-is_between : goal.returns-then-is_between
 returns-then-is_between c =
-    ap Result (to_z-of_z c.ranges.x) ∙ ap (λ k. if k then Result c.args.x else Fault 4) (sym c.if-is_between.true ∙ c.is_between.ensures ∙ ap (λ x. is_between (pos 0) x (pos 255)) (to_z-of_z c.ranges.x)) ∙ ap (λ f. apply f c.args.x) (sym c.in-Chr.is)
+    ap Result (to_z-of_z c.ranges.x) ∙ ap (λ k. if k then Result c.args.x else Fault 4)
+    (sym c.if-is_between.true ∙ c.is_between.ensures ∙ ap (λ x. is_between (pos 0) x (pos 255))
+    (to_z-of_z c.ranges.x)) ∙ ap (λ f. apply f c.args.x) (sym c.in-Chr.is)
 
 pub returns-else-is_between : goal.returns-else-is_between
 returns-else-is_between c =
-    ap (λ k. if k then Result c.args.x else Fault 4) (sym c.if-is_between.false ∙ c.is_between.ensures ∙ ap (λ x. is_between (pos 0) x (pos 255)) (to_z-of_z c.ranges.x)) ∙ ap (λ f. apply f c.args.x) (sym c.in-Chr.is)
+    ap (λ k. if k then Result c.args.x else Fault 4)
+    (sym c.if-is_between.false ∙ c.is_between.ensures ∙ ap (λ x. is_between (pos 0) x (pos 255))
+    (to_z-of_z c.ranges.x)) ∙ ap (λ f. apply f c.args.x) (sym c.in-Chr.is)

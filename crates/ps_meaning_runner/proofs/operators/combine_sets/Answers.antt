@@ -4,7 +4,9 @@ use Rattle.ps_meaning_runner.proofs.operators.combine_sets.Goals as goal
 
 pub loop-number-preserved : goal.loop-number-preserved
 loop-number-preserved c =
-    rw c.in_ok-push.ensures.items (combined_next c.args.operator c.args.a.now c.args.b.now c.loop-number.number c.loop-number.tests.items _ (search rules) c.loop-number.invariant)
+    rw c.in_ok-push.ensures.items (combined_next c.args.operator c.args.a.now c.args.b.now c.loop-number.number
+    c.loop-number.tests.items _ (search rules) c.loop-number.invariant)
 
 pub returns : goal.returns
-returns c = combined_all c.args.operator c.args.a.now c.args.b.now c.loop-number.number c.loop-number.tests.items (omega arith) c.loop-number.invariant
+returns c = combined_all c.args.operator c.args.a.now c.args.b.now c.loop-number.number c.loop-number.tests.items
+    (omega arith) c.loop-number.invariant

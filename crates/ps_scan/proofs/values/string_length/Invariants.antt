@@ -4,4 +4,5 @@ use Rattle.ps_scan.proofs.values.string_length.Given as goal
 
 abbrev pub invariant-loop-byte : goal.invariant-loop-byte
 invariant-loop-byte l =
-    (l.length + length (characters_after l.is_twin (drop l.byte-index l.byte-items)) ≡ length (characters_after false l.byte-items)) × (l.length ≤ l.byte-index)
+    (l.length + length (characters_after l.is_twin (drop l.byte-index l.byte-items)) ≡ length
+    (characters_after false l.byte-items)) × (l.length ≤ l.byte-index)

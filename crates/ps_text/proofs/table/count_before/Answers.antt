@@ -6,4 +6,5 @@ use Rattle.ps_text.proofs.table.count_before.Goals as goal
 pub returns-clause-point : goal.returns-clause-point
 returns-clause-point c =
     let parted = IsPartitionedBy-ltb (λ end. end) c.args.ends.now c.args.offset c.requires.rise in
-    IsPartitionPoint-from_clause (λ end. nat_lt end c.args.offset) _ _ c.partition_point.ensures.partitioned parted (λ a r q k. search rules)
+    IsPartitionPoint-from_clause (λ end. nat_lt end c.args.offset) _ _ c.partition_point.ensures.partitioned parted
+    (λ a r q k. search rules)

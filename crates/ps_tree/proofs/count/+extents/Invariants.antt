@@ -1,5 +1,6 @@
 use Rattle.ps_tree.specs.Counts.{nothing}
-use Rattle.ps_tree.proofs.Sums.{Summed, arguments_size, members_size, selectors_size, arithmetic_size, operands_size, set_steps_size}
+use Rattle.ps_tree.proofs.Sums.{Summed, arguments_size, members_size, selectors_size, arithmetic_size, operands_size}
+use Rattle.ps_tree.proofs.Sums.{set_steps_size}
 use Rattle.ps_tree.proofs.count.+extents.Given as goal
 
 abbrev pub invariant-count_arguments-loop-argument : goal.invariant-count_arguments-loop-argument

@@ -8,7 +8,10 @@ pub loop-place-init : goal.loop-place-init
 loop-place-init c = summed_start places_size nothing _ _ refl
 
 pub loop-place-preserved : goal.loop-place-preserved
-loop-place-preserved c = summed_next places_size (λ x. place_extent (place_of x)) places_more nothing _ _ _ _ _ c.place-item.result c.loop-place-test.true c.loop-place.invariant (c.count_place.ensures ∙ ap (λ x. capped (place_extent (place_of x))) c.place-item.is) c.both-total.ensures
+loop-place-preserved c = summed_next places_size
+    (λ x. place_extent (place_of x)) places_more nothing _ _ _ _ _ c.place-item.result c.loop-place-test.true
+    c.loop-place.invariant (c.count_place.ensures ∙ ap (λ x. capped (place_extent (place_of x))) c.place-item.is)
+    c.both-total.ensures
 
 pub returns : goal.returns
 returns c = summed_all places_size places_none _ _ _ c.loop-place-test.false c.loop-place.invariant

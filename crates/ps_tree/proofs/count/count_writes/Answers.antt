@@ -8,7 +8,10 @@ pub loop-parameter-init : goal.loop-parameter-init
 loop-parameter-init c = summed_start writes_size nothing _ _ refl
 
 pub loop-parameter-preserved : goal.loop-parameter-preserved
-loop-parameter-preserved c = summed_next writes_size (λ x. write_extent (write_of x)) writes_more nothing _ _ _ _ _ c.parameter-item.result c.loop-parameter-test.true c.loop-parameter.invariant (c.count_write.ensures ∙ ap (λ x. capped (write_extent (write_of x))) c.parameter-item.is) c.both-total.ensures
+loop-parameter-preserved c = summed_next writes_size
+    (λ x. write_extent (write_of x)) writes_more nothing _ _ _ _ _ c.parameter-item.result c.loop-parameter-test.true
+    c.loop-parameter.invariant (c.count_write.ensures
+    ∙ ap (λ x. capped (write_extent (write_of x))) c.parameter-item.is) c.both-total.ensures
 
 pub returns : goal.returns
 returns c = summed_all writes_size writes_none _ _ _ c.loop-parameter-test.false c.loop-parameter.invariant

@@ -10,4 +10,6 @@ returns c =
     ∙ sym (ap (λ n. min n 4294967295) (field_bytes_total c.args.types.now))
 
 pub loop-ty-preserved : goal.loop-ty-preserved
-loop-ty-preserved c = counted_next bytes 4294967295 _ _ _ _ c.ty-item.result c.loop-ty-test.true c.loop-ty.invariant (c.saturating_add-total.ensures ∙ ap (λ n. min (c.loop-ty.total + n) 4294967295) (c.bytes.ensures ∙ ap (λ t. min (bytes (type_of t)) 4294967295) c.ty-item.is))
+loop-ty-preserved c = counted_next bytes 4294967295 _ _ _ _ c.ty-item.result c.loop-ty-test.true c.loop-ty.invariant
+    (c.saturating_add-total.ensures ∙ ap (λ n. min (c.loop-ty.total + n) 4294967295)
+    (c.bytes.ensures ∙ ap (λ t. min (bytes (type_of t)) 4294967295) c.ty-item.is))

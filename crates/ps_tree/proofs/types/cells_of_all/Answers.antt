@@ -16,4 +16,6 @@ returns c names =
     ∙ sym (ap (λ n. min n 18446744073709551615) (record_cells_total names c.args.types.now some))
 
 pub loop-ty-preserved : goal.loop-ty-preserved
-loop-ty-preserved c = counted_next cells 18446744073709551615 _ _ _ _ c.ty-item.result c.loop-ty-test.true c.loop-ty.invariant (c.saturating_add-total.ensures ∙ ap (λ n. min (c.loop-ty.total + n) 18446744073709551615) (c.cells.ensures ∙ ap (λ t. min (cells (type_of t)) 18446744073709551615) c.ty-item.is))
+loop-ty-preserved c = counted_next cells 18446744073709551615 _ _ _ _ c.ty-item.result c.loop-ty-test.true
+    c.loop-ty.invariant (c.saturating_add-total.ensures ∙ ap (λ n. min (c.loop-ty.total + n) 18446744073709551615)
+    (c.cells.ensures ∙ ap (λ t. min (cells (type_of t)) 18446744073709551615) c.ty-item.is))

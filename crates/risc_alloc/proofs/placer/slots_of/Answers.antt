@@ -7,4 +7,6 @@ use Rattle.risc_alloc.proofs.placer.slots_of.Goals as goal
 
 pub loop-number-preserved : goal.loop-number-preserved
 loop-number-preserved c =
-    c.in_ok-add_slots.ensures ∙ ap (λ (l : List Home). l ++ own_slots c.routine.result.now.temporaries) c.loop-number.invariant ∙ sym (every_more (routines c.args.tac.now) c.loop-number.number c.routine.result.now c.routine.ensures)
+    c.in_ok-add_slots.ensures ∙ ap (λ (l : List Home). l ++ own_slots c.routine.result.now.temporaries)
+    c.loop-number.invariant ∙ sym (every_more
+    (routines c.args.tac.now) c.loop-number.number c.routine.result.now c.routine.ensures)

@@ -4,4 +4,5 @@ use Rattle.risc_alloc.proofs.routine.is_apart.Goals as goal
 
 pub returns-in-Some : goal.returns-in-Some
 returns-in-Some c =
-    apart_of c.args.routine.now c.args.homes.now c.in_ok-seats.field-0 c.in-Some.seats c.as_slice.result.now _ c.are_apart.result c.in_ok-seats.ensures c.in-Some.is c.as_slice.ensures.value (omega arith) c.are_apart.ensures
+    apart_of c.args.routine.now c.args.homes.now c.in_ok-seats.field-0 c.in-Some.seats c.as_slice.result.now _
+    c.are_apart.result c.in_ok-seats.ensures c.in-Some.is c.as_slice.ensures.value (omega arith) c.are_apart.ensures

@@ -5,4 +5,5 @@ use Rattle.risc_alloc.proofs.seats.seats_of.Given as goal
 
 abbrev pub invariant-loop-home : goal.invariant-loop-home
 invariant-loop-home l =
-    (length l.seats.items ≡ l.home-index) × ((t : ℕ) (home : Home) → t < l.home-index → slice_get l.homes t ≡ Some home → IsSeatOf (length l.homes) home (slice_index l.seats.items t))
+    (length l.seats.items ≡ l.home-index) × ((t : ℕ) (home : Home) → t < l.home-index → slice_get l.homes t ≡ Some home
+    → IsSeatOf (length l.homes) home (slice_index l.seats.items t))

@@ -6,7 +6,8 @@ use Rattle.risc_emit.proofs.calls.put_carry.Given as goal
 
 abbrev pub invariant-loop-j : goal.invariant-loop-j
 invariant-loop-j l =
-    (l.j ≤ l.n) × (l.pieces ++ carry (context_of l.frame) l.frame.number l.n l.j l.operands ≡ l.initial.pieces ++ carry (context_of l.frame) l.frame.number l.n l.n l.operands)
+    (l.j ≤ l.n) × (l.pieces ++ carry (context_of l.frame) l.frame.number l.n l.j l.operands ≡ l.initial.pieces ++ carry
+    (context_of l.frame) l.frame.number l.n l.n l.operands)
 
 abbrev pub decreases-loop-j : goal.decreases-loop-j
 decreases-loop-j l = l.j

@@ -6,4 +6,5 @@ use Rattle.risc_emit.proofs.calls.put_operands.Given as goal
 
 abbrev pub invariant-loop-j : goal.invariant-loop-j
 invariant-loop-j l =
-    l.pieces ++ pass (context_of l.frame) l.frame.number l.n l.j (drop l.j l.operands) ≡ l.initial.pieces ++ pass (context_of l.frame) l.frame.number l.n 0 l.operands
+    l.pieces ++ pass (context_of l.frame) l.frame.number l.n l.j (drop l.j l.operands) ≡ l.initial.pieces ++ pass
+    (context_of l.frame) l.frame.number l.n 0 l.operands

@@ -10,5 +10,10 @@ returns c =
     let k = context_of c.args.frame.now in
     let r = c.args.frame.now.number in
     let h = home k r c.args.value in
-    let words = read_back (λ x y. form.range_code k r c.in_ok-register.register x y c.args.error c.args.line) _ c.args.low _ c.args.high c.put_range.new.pieces c.fetch.new.pieces (to_z-of_z c.ranges.low) (to_z-of_z c.ranges.high) c.in_ok-put_range.ensures.words in
-    both_put c.r12.result c.in_ok-register.register (λ d. form.fetch k r d h) (λ q. form.range_code k r q c.args.low c.args.high c.args.error c.args.line) (λ d. form.fetched k r d h) c.args.pieces.now c.fetch.new.pieces c.put_range.new.pieces c.r12.ensures c.in_ok-register.ensures.register c.in_ok-register.ensures.words words
+    let words = read_back (λ x y. form.range_code k r c.in_ok-register.register x y c.args.error c.args.line) _
+    c.args.low _ c.args.high c.put_range.new.pieces c.fetch.new.pieces (to_z-of_z c.ranges.low)
+    (to_z-of_z c.ranges.high) c.in_ok-put_range.ensures.words in
+    both_put c.r12.result c.in_ok-register.register (λ d. form.fetch k r d h)
+    (λ q. form.range_code k r q c.args.low c.args.high c.args.error c.args.line)
+    (λ d. form.fetched k r d h) c.args.pieces.now c.fetch.new.pieces c.put_range.new.pieces c.r12.ensures
+    c.in_ok-register.ensures.register c.in_ok-register.ensures.words words

@@ -11,7 +11,17 @@ returns c =
     let k = context_of c.args.frame.now in
     let r = c.args.frame.now.number in
     let h = home k r c.args.index in
-    let words = read_back (λ x y. form.range_code k r c.in_ok-register.register x y c.args.error c.args.line) _ c.args.low _ c.args.high c.put_range.new.pieces c.fetch.new.pieces (to_z-of_z c.ranges.low) (to_z-of_z c.ranges.high) c.in_ok-steps.ensures.words in
-    let range = both_put c.r12.result c.in_ok-register.register (λ d. form.fetch k r d h) (λ q. form.range_code k r q c.args.low c.args.high c.args.error c.args.line) (λ d. form.fetched k r d h) c.args.pieces.now c.fetch.new.pieces c.put_range.new.pieces c.r12.ensures c.in_ok-register.ensures.register c.in_ok-register.ensures.words words in
-    let above = c.in_ok-steps.ensures.register ∙ ap (form.above_register k r c.in_ok-register.register) (to_z-of_z c.ranges.low) ∙ ap (λ q. form.above_register k r q c.args.low) (c.in_ok-register.ensures.register ∙ ap (λ d. form.fetched k r d h) c.r12.ensures) in
-    then_put c.put_steps.result c.args.pieces.now c.put_range.new.pieces c.put_steps.new.pieces (form.check_form k r c.args.index c.args.low c.args.high c.args.error c.args.line) c.in_ok-steps.steps (form.above_register k r (form.fetched k r 12 h) c.args.low) (λ q. form.steps_form k r c.args.bent c.args.to c.args.base q c.args.width) range above c.put_steps.ensures
+    let words = read_back (λ x y. form.range_code k r c.in_ok-register.register x y c.args.error c.args.line) _
+    c.args.low _ c.args.high c.put_range.new.pieces c.fetch.new.pieces (to_z-of_z c.ranges.low)
+    (to_z-of_z c.ranges.high) c.in_ok-steps.ensures.words in
+    let range = both_put c.r12.result c.in_ok-register.register (λ d. form.fetch k r d h)
+    (λ q. form.range_code k r q c.args.low c.args.high c.args.error c.args.line)
+    (λ d. form.fetched k r d h) c.args.pieces.now c.fetch.new.pieces c.put_range.new.pieces c.r12.ensures
+    c.in_ok-register.ensures.register c.in_ok-register.ensures.words words in
+    let above = c.in_ok-steps.ensures.register ∙ ap (form.above_register k r c.in_ok-register.register)
+    (to_z-of_z c.ranges.low) ∙ ap (λ q. form.above_register k r q c.args.low)
+    (c.in_ok-register.ensures.register ∙ ap (λ d. form.fetched k r d h) c.r12.ensures) in
+    then_put c.put_steps.result c.args.pieces.now c.put_range.new.pieces c.put_steps.new.pieces
+    (form.check_form k r c.args.index c.args.low c.args.high c.args.error c.args.line) c.in_ok-steps.steps
+    (form.above_register k r (form.fetched k r 12 h) c.args.low)
+    (λ q. form.steps_form k r c.args.bent c.args.to c.args.base q c.args.width) range above c.put_steps.ensures

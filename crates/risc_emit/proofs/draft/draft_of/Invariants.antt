@@ -7,4 +7,5 @@ use Rattle.risc_emit.proofs.draft.draft_of.Given as goal
 
 abbrev pub invariant-loop-number : goal.invariant-loop-number
 invariant-loop-number l =
-    AllDrafted (laid_out l.tac l.homes) l.number l.pieces l.texts.items l.marks.items × (l.first ≡ temporaries_before (routines l.tac) l.number)
+    AllDrafted (laid_out l.tac l.homes) l.number l.pieces l.texts.items l.marks.items
+    × (l.first ≡ temporaries_before (routines l.tac) l.number)

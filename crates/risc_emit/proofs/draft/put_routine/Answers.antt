@@ -12,24 +12,41 @@ pub put_place-requires : goal.put_place-requires
 put_place-requires c =
     let k = context_of c.args.frame.now in
     let r = c.args.frame.now.number in
-    let here = ap (λ l. slice_get l c.loop-place.place) (sym c.as_slice-body.ensures) ∙ slice_get_read c.as_slice-body.result.now _ c.loop-place.place c.index-body-place.result refl c.loop-place-test.true c.index-body-place.is in
-    let bent = bent_here k r c.loop-place.place c.args.routine.now c.as_slice-body.result.now c.bent-here.result c.requires.own c.as_slice-body.ensures c.bent-here.ensures in
+    let here = ap (λ l. slice_get l c.loop-place.place) (sym c.as_slice-body.ensures)
+    ∙ slice_get_read c.as_slice-body.result.now _ c.loop-place.place c.index-body-place.result refl
+    c.loop-place-test.true c.index-body-place.is in
+    let bent = bent_here k r c.loop-place.place c.args.routine.now c.as_slice-body.result.now c.bent-here.result
+    c.requires.own c.as_slice-body.ensures c.bent-here.ensures in
     record {
-      few = passes_few c.args.frame.now.code r c.loop-place.place c.args.routine.now c.index-body-place.result c.keeps_invariant.ensures c.requires.own here;
-      told = told_here k r c.loop-place.place c.args.routine.now c.as_slice-body.result.now c.told-told.result c.requires.own c.as_slice-body.ensures c.told-told.ensures;
+      few = passes_few c.args.frame.now.code r c.loop-place.place c.args.routine.now c.index-body-place.result
+          c.keeps_invariant.ensures c.requires.own here;
+      told = told_here k r c.loop-place.place c.args.routine.now c.as_slice-body.result.now c.told-told.result
+          c.requires.own c.as_slice-body.ensures c.told-told.ensures;
       bent = bent;
-      next = bent_next k r c.loop-place.place c.args.routine.now c.as_slice-body.result.now c.bent-next.result c.requires.own c.as_slice-body.ensures c.bent-next.ensures;
-      near = loads_near k r c.loop-place.place c.index-body-place.result c.bent-here.result (ap (λ o. body_at o c.loop-place.place) c.requires.own ∙ here) bent;
+      next = bent_next k r c.loop-place.place c.args.routine.now c.as_slice-body.result.now c.bent-next.result
+          c.requires.own c.as_slice-body.ensures c.bent-next.ensures;
+      near = loads_near k r c.loop-place.place c.index-body-place.result c.bent-here.result
+          (ap (λ o. body_at o c.loop-place.place) c.requires.own ∙ here) bent;
     }
 
 pub loop-place-preserved : goal.loop-place-preserved
 loop-place-preserved c =
-    drafted_more (context_of c.args.frame.now) c.args.frame.now.number c.args.routine.now c.args.pieces.now c.args.texts.now.items c.requires.entry c.requires.first c.loop-place.place c.index-body-place.result _ _ _ _ _ _ c.loop-place.invariant (ap (λ l. slice_get l c.loop-place.place) (sym c.as_slice-body.ensures) ∙ slice_get_read c.as_slice-body.result.now _ c.loop-place.place c.index-body-place.result refl c.loop-place-test.true c.index-body-place.is) c.in_ok-put_place.ensures.pieces c.in_ok-put_place.ensures.texts c.in_ok-put_place.ensures.mark
+    drafted_more (context_of c.args.frame.now) c.args.frame.now.number c.args.routine.now c.args.pieces.now
+    c.args.texts.now.items c.requires.entry c.requires.first c.loop-place.place c.index-body-place.result _ _ _ _ _
+    _ c.loop-place.invariant (ap (λ l. slice_get l c.loop-place.place) (sym c.as_slice-body.ensures)
+    ∙ slice_get_read c.as_slice-body.result.now _ c.loop-place.place c.index-body-place.result refl
+    c.loop-place-test.true c.index-body-place.is) c.in_ok-put_place.ensures.pieces c.in_ok-put_place.ensures.texts
+    c.in_ok-put_place.ensures.mark
 
 pub returns-clause-marks : goal.returns-clause-marks
 returns-clause-marks c =
-    drafted_marks (context_of c.args.frame.now) c.args.frame.now.number c.args.routine.now c.args.pieces.now c.args.texts.now.items c.requires.entry c.requires.first c.loop-place.place _ _ _ (search rules) c.loop-place.invariant _ (search rules) c.len-entry.ensures (search rules)
+    drafted_marks (context_of c.args.frame.now) c.args.frame.now.number c.args.routine.now c.args.pieces.now
+    c.args.texts.now.items c.requires.entry c.requires.first c.loop-place.place _ _ _
+    (search rules) c.loop-place.invariant _ (search rules) c.len-entry.ensures (search rules)
 
 pub returns-then-is_too_large-clause-too_large : goal.returns-then-is_too_large-clause-too_large
 returns-then-is_too_large-clause-too_large c =
-    λ _. drafted_past (context_of c.args.frame.now) c.args.frame.now.number c.args.routine.now c.args.pieces.now c.args.texts.now.items c.loop-place.place 1048576 _ _ _ c.requires.own c.requires.entry c.requires.first c.loop-place.invariant (ap (λ t. nat_lt 1048576 (length c.loop-place.pieces + length t)) (sym c.as_slice.ensures.value) ∙ sym c.is_too_large.ensures ∙ c.if-is_too_large.true)
+    λ _. drafted_past (context_of c.args.frame.now) c.args.frame.now.number c.args.routine.now c.args.pieces.now
+    c.args.texts.now.items c.loop-place.place 1048576 _ _ _ c.requires.own c.requires.entry c.requires.first
+    c.loop-place.invariant (ap (λ t. nat_lt 1048576 (length c.loop-place.pieces + length t))
+    (sym c.as_slice.ensures.value) ∙ sym c.is_too_large.ensures ∙ c.if-is_too_large.true)

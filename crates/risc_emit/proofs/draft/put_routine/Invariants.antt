@@ -4,4 +4,5 @@ use Rattle.risc_emit.proofs.draft.put_routine.Given as goal
 
 abbrev pub invariant-loop-place : goal.invariant-loop-place
 invariant-loop-place l =
-    Drafted (context_of l.frame) l.frame.number l.routine l.fn.pieces l.fn.texts.items l.place l.pieces l.texts.items l.places.items
+    Drafted (context_of l.frame) l.frame.number l.routine l.fn.pieces l.fn.texts.items l.place l.pieces l.texts.items
+    l.places.items

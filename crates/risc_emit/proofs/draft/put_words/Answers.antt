@@ -4,7 +4,9 @@ use Rattle.risc_emit.proofs.draft.put_words.Goals as goal
 
 pub loop-k-preserved : goal.loop-k-preserved
 loop-k-preserved c =
-    word_put _ _ _ c.args.bytes.now c.loop-k.k _ (λ i. let fits = c.type_inv.bytes i in omega (arith, fits)) (let lt = c.loop-k-test.true in omega (arith, lt)) c.word_at.ensures c.in_ok-push.ensures.items c.loop-k.invariant
+    word_put _ _ _ c.args.bytes.now c.loop-k.k _ (λ i. let fits = c.type_inv.bytes i in omega (arith, fits))
+    (let lt = c.loop-k-test.true in omega (arith, lt)) c.word_at.ensures c.in_ok-push.ensures.items
+    c.loop-k.invariant
 
 pub returns : goal.returns
 returns c =

@@ -5,7 +5,8 @@ use Rattle.risc_emit.proofs.emit.frame_row.Goals as goal
 
 pub address_of-requires : goal.address_of-requires
 address_of-requires c =
-    within_few _ _ _ (entry_within c.args.tac.now c.args.homes.now c.args.marks.now c.requires.marks c.args.number) c.requires.few
+    within_few _ _ _ (entry_within c.args.tac.now c.args.homes.now c.args.marks.now c.requires.marks c.args.number)
+    c.requires.few
 
 pub bytes_of-requires-clause-exists : goal.bytes_of-requires-clause-exists
 bytes_of-requires-clause-exists c = is_routine c.args.tac.now c.args.number c.requires.exists
@@ -16,4 +17,5 @@ bytes_of-requires-clause-small c =
 
 pub returns-clause-entry : goal.returns-clause-entry
 returns-clause-entry c =
-    c.address_of.ensures ∙ ap (λ n. 4 * n) (entries_of_program c.args.tac.now c.args.homes.now c.args.marks.now c.requires.marks c.args.number c.requires.exists)
+    c.address_of.ensures ∙ ap (λ n. 4 * n) (entries_of_program c.args.tac.now c.args.homes.now c.args.marks.now
+    c.requires.marks c.args.number c.requires.exists)

@@ -6,4 +6,5 @@ use Rattle.risc_emit.proofs.emit.frame_rows.Given as goal
 
 abbrev pub invariant-loop-number : goal.invariant-loop-number
 invariant-loop-number l =
-    l.rows.items ++ frame_rows_of (laid_out l.tac l.homes) l.number (drop l.number l.tac.program) ≡ frame_rows_of (laid_out l.tac l.homes) 0 l.tac.program
+    l.rows.items ++ frame_rows_of (laid_out l.tac l.homes) l.number (drop l.number l.tac.program) ≡ frame_rows_of
+    (laid_out l.tac l.homes) 0 l.tac.program

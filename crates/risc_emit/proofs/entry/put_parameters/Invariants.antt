@@ -6,4 +6,5 @@ use Rattle.risc_emit.proofs.entry.put_parameters.Given as goal
 
 abbrev pub invariant-loop-j : goal.invariant-loop-j
 invariant-loop-j l =
-    l.pieces ++ parameters (context_of l.frame) l.frame.number (carried l.count) l.behind l.j (l.count - l.j) ≡ l.initial.pieces ++ parameters (context_of l.frame) l.frame.number (carried l.count) l.behind 0 l.count
+    l.pieces ++ parameters (context_of l.frame) l.frame.number (carried l.count) l.behind l.j (l.count - l.j)
+    ≡ l.initial.pieces ++ parameters (context_of l.frame) l.frame.number (carried l.count) l.behind 0 l.count

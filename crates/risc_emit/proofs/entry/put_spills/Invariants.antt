@@ -6,4 +6,5 @@ use Rattle.risc_emit.proofs.entry.put_spills.Given as goal
 
 abbrev pub invariant-loop-j : goal.invariant-loop-j
 invariant-loop-j l =
-    l.pieces ++ spill (context_of l.frame) l.frame.number (carried l.count) l.behind l.j (l.count - l.j) ≡ l.initial.pieces ++ spill (context_of l.frame) l.frame.number (carried l.count) l.behind 0 l.count
+    l.pieces ++ spill (context_of l.frame) l.frame.number (carried l.count) l.behind l.j (l.count - l.j)
+    ≡ l.initial.pieces ++ spill (context_of l.frame) l.frame.number (carried l.count) l.behind 0 l.count

@@ -6,4 +6,5 @@ pub returns-in-None : goal.returns-in-None
 returns-in-None c = without_table c.args.image.now c.args.machine.now c.calls.result c.calls.ensures c.in-None.is
 
 pub returns-in-Some : goal.returns-in-Some
-returns-in-Some c = with_table c.args.image.now c.args.machine.now c.calls.result c.in-Some.field-0 c.walked.result c.calls.ensures c.in-Some.is c.walked.ensures
+returns-in-Some c = with_table c.args.image.now c.args.machine.now c.calls.result c.in-Some.field-0 c.walked.result
+    c.calls.ensures c.in-Some.is c.walked.ensures

@@ -12,7 +12,8 @@ row_within width m count lt =
     omega (arith, mul-le-mul_left width next)
 
 -- a key that is above row m is above the rows up to it, and likewise from it on
-keys_below : (width count : ℕ) (ws : List ℕ) (m key : ℕ) → KeysRise width count ws → m < count → get_or ws (width * m) 0 < key
+keys_below : (width count : ℕ) (ws : List ℕ) (m key : ℕ) → KeysRise width count ws → m < count → get_or ws
+    (width * m) 0 < key
     → (k : ℕ) → k < m + 1 → get_or ws (width * k) 0 < key
 keys_below width count ws m key rising within low k lt =
     elim (cases_lt k m) [
@@ -30,12 +31,18 @@ keys_above width count ws m key rising high k from within =
 
 pub word_at-found-requires : goal.word_at-found-requires
 word_at-found-requires c =
-    omega (arith, row_within c.args.width (c.loop-low.low + (c.loop-low.high - c.loop-low.low) / 2) c.args.count (omega arith))
+    omega (
+      arith,
+      row_within c.args.width (c.loop-low.low + (c.loop-low.high - c.loop-low.low) / 2) c.args.count
+          (omega arith),
+    )
 
 pub loop-low-preserved-then-found-key-2 : goal.loop-low-preserved-then-found-key-2
 loop-low-preserved-then-found-key-2 c = record {
   within = omega arith;
-  below = keys_below c.args.width c.args.count _ (c.loop-low.low + (c.loop-low.high - c.loop-low.low) / 2) c.args.key c.requires.rising (omega arith) (omega arith);
+  below = keys_below c.args.width c.args.count _
+      (c.loop-low.low + (c.loop-low.high - c.loop-low.low) / 2) c.args.key c.requires.rising (omega arith)
+      (omega arith);
   above = c.loop-low.invariant.above;
 }
 
@@ -43,5 +50,6 @@ pub loop-low-preserved : goal.loop-low-preserved
 loop-low-preserved c = record {
   within = omega arith;
   below = c.loop-low.invariant.below;
-  above = keys_above c.args.width c.args.count _ (c.loop-low.low + (c.loop-low.high - c.loop-low.low) / 2) c.args.key c.requires.rising (omega arith);
+  above = keys_above c.args.width c.args.count _
+      (c.loop-low.low + (c.loop-low.high - c.loop-low.low) / 2) c.args.key c.requires.rising (omega arith);
 }

@@ -5,4 +5,5 @@ use Rattle.risc_image.proofs.writing.put_words.Goals as goal
 
 pub loop-word-preserved : goal.loop-word-preserved
 loop-word-preserved c =
-    written_more (to_le_bytes w32) c.args.words.now c.loop-word.word-index _ _ _ _ (omega arith) c.loop-word.invariant c.in_ok-put_word.ensures
+    written_more (to_le_bytes w32) c.args.words.now c.loop-word.word-index _ _ _ _
+    (omega arith) c.loop-word.invariant c.in_ok-put_word.ensures

@@ -9,5 +9,7 @@ pub loop-number-preserved : goal.loop-number-preserved
 loop-number-preserved c =
     let k = c.loop-number.number-counter in
     let here = slice_get-get_or c.args.objects.now k 0 c.loop-number-test.true in
-    first_line_added type_line c.args.objects.now k (get_or c.args.objects.now k 0) (string_bytes c.args.text.now) (string_bytes c.loop-number.text) (string_bytes c.push_str.new.self) here c.loop-number.invariant
-    (c.in_ok-push_str.ensures.bytes ∙ ap (λ (t : List ℕ). string_bytes c.loop-number.text ++ t) (c.as_str.ensures.value ∙ c.in_ok-line.ensures.ok))
+    first_line_added type_line c.args.objects.now k (get_or c.args.objects.now k 0) (string_bytes c.args.text.now)
+    (string_bytes c.loop-number.text) (string_bytes c.push_str.new.self) here c.loop-number.invariant
+    (c.in_ok-push_str.ensures.bytes ∙ ap (λ (t : List ℕ). string_bytes c.loop-number.text ++ t)
+    (c.as_str.ensures.value ∙ c.in_ok-line.ensures.ok))

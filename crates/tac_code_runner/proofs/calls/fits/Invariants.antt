@@ -6,4 +6,5 @@ use Rattle.tac_code_runner.proofs.calls.fits.Given as goal
 
 abbrev pub invariant-loop-activation : goal.invariant-loop-activation
 invariant-loop-activation l =
-    nat_le (open_bytes l.tac (λ r. slice_index l.frames r) (from_place l.activation-index l.activations)) l.left ≡ nat_le (open_bytes l.tac (λ r. slice_index l.frames r) (map activation_of l.activations)) l.initial.left
+    nat_le (open_bytes l.tac (λ r. slice_index l.frames r) (from_place l.activation-index l.activations)) l.left
+    ≡ nat_le (open_bytes l.tac (λ r. slice_index l.frames r) (map activation_of l.activations)) l.initial.left

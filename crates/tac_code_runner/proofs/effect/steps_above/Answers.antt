@@ -8,4 +8,5 @@ returns-then-x-low-clause-value c =
 
 pub returns-else-x-low-clause-value : goal.returns-else-x-low-clause-value
 returns-else-x-low-clause-value c =
-    c.from.ensures ∙ steps_counted c.args.low c.args.x c.abs_diff.result c.ranges.low c.ranges.x (not_below_as_words c.args.x c.args.low c.ranges.x c.ranges.low c.if-x-low.false) c.abs_diff.ensures
+    c.from.ensures ∙ steps_counted c.args.low c.args.x c.abs_diff.result c.ranges.low c.ranges.x
+    (not_below_as_words c.args.x c.args.low c.ranges.x c.ranges.low c.if-x-low.false) c.abs_diff.ensures

@@ -6,4 +6,5 @@ use Rattle.tac_code_runner.proofs.runner.add_open_calls.Given as goal
 
 abbrev pub invariant-loop-caller : goal.invariant-loop-caller
 invariant-loop-caller l =
-    l.lines.items ++ open_calls l.program (activation_of l.called) (from_place l.caller-index l.callers) ≡ l.initial.lines.items ++ open_calls l.program (activation_of l.current) (map activation_of l.callers)
+    l.lines.items ++ open_calls l.program (activation_of l.called) (from_place l.caller-index l.callers)
+    ≡ l.initial.lines.items ++ open_calls l.program (activation_of l.current) (map activation_of l.callers)

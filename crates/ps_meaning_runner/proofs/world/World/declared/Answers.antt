@@ -7,4 +7,6 @@ use Rattle.ps_meaning_runner.proofs.world.World.declared.Goals as goal
 
 pub returns : goal.returns
 returns c =
-    λ others. declared_is (value_of c.args.value) (world_of c.args.self.now) (world_of c.declare.new.self) c.entire.result others c.in_ok-name.ensures.world (c.entire.ensures ∙ ap (λ n. entire (Declared n)) c.in_ok-name.ensures.name)
+    λ others. declared_is (value_of c.args.value) (world_of c.args.self.now)
+    (world_of c.declare.new.self) c.entire.result others c.in_ok-name.ensures.world
+    (c.entire.ensures ∙ ap (λ n. entire (Declared n)) c.in_ok-name.ensures.name)

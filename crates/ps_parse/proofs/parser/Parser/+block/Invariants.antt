@@ -29,7 +29,11 @@ abbrev pub decreases-any_block : goal.decreases-any_block
 decreases-any_block l = 16 * l.depth + 6
 
 abbrev pub invariant-routines-loop-found : goal.invariant-routines-loop-found
-invariant-routines-loop-found l = many (if_begins program.begins_routine (program.routine (is_forward l.text) (program.read_formals l.depth) (program.read_block (is_forward l.text) l.depth))) l.fn.self.rest.now ≡ many_from (if_begins program.begins_routine (program.routine (is_forward l.text) (program.read_formals l.depth) (program.read_block (is_forward l.text) l.depth))) (length l.self.rest.now) l.found l.self.rest.now
+invariant-routines-loop-found l = many (if_begins program.begins_routine
+    (program.routine (is_forward l.text) (program.read_formals l.depth)
+    (program.read_block (is_forward l.text) l.depth))) l.fn.self.rest.now ≡ many_from
+    (if_begins program.begins_routine (program.routine (is_forward l.text) (program.read_formals l.depth)
+    (program.read_block (is_forward l.text) l.depth))) (length l.self.rest.now) l.found l.self.rest.now
 
 abbrev pub decreases-routines-loop-found : goal.decreases-routines-loop-found
 decreases-routines-loop-found l = length l.self.rest.now

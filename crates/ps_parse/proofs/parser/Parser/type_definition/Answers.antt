@@ -6,12 +6,27 @@ use Rattle.ps_parse.proofs.parser.Parser.type_definition.Goals as goal
 
 pub returns-in_err-name : goal.returns-in_err-name
 unfolding program.type_definition
-returns-in_err-name c = refused _ _ _ _ c.from_residual.ensures.1 (λ ne. elim (c.in_err-name.ensures.err ne) [ inl e ↦ rw (was_refused _ _ _ _ c.expect-read.ensures.read (λ _. e) ne) refl | inr s ↦ rw (was_read _ _ _ _ c.expect-read.ensures.read s.1, s.2) refl ])
+returns-in_err-name c = refused _ _ _ _ c.from_residual.ensures.1
+    (λ ne. elim (c.in_err-name.ensures.err ne) [
+      | inl e ↦ rw (was_refused _ _ _ _ c.expect-read.ensures.read (λ _. e) ne) refl
+      | inr s ↦ rw
+          (was_read _ _ _ _ c.expect-read.ensures.read s.1, s.2) refl
+    ])
 
 pub returns-in_err-ty : goal.returns-in_err-ty
 unfolding program.type_definition
-returns-in_err-ty c = refused _ _ _ _ c.from_residual-in_err-ty.ensures.1 (λ ne. rw (was_read _ _ _ _ c.expect-read.ensures.read c.in_ok-name.ensures.ok.0, c.in_ok-name.ensures.ok.2, c.in_err-ty.ensures ne) refl)
+returns-in_err-ty c = refused _ _ _ _ c.from_residual-in_err-ty.ensures.1
+    (λ ne. rw (
+      was_read _ _ _ _ c.expect-read.ensures.read c.in_ok-name.ensures.ok.0,
+      c.in_ok-name.ensures.ok.2,
+      c.in_err-ty.ensures ne,
+    ) refl)
 
 pub returns : goal.returns
 unfolding program.type_definition
-returns c = rw (was_read _ _ _ _ c.expect-read.ensures.read c.in_ok-name.ensures.ok.0, c.in_ok-name.ensures.ok.2, c.in_ok-ty.ensures, c.and.ensures) (closed _ _ _ _ c.expect-end.ensures.read)
+returns c = rw (
+  was_read _ _ _ _ c.expect-read.ensures.read c.in_ok-name.ensures.ok.0,
+  c.in_ok-name.ensures.ok.2,
+  c.in_ok-ty.ensures,
+  c.and.ensures,
+) (closed _ _ _ _ c.expect-end.ensures.read)

@@ -4,4 +4,6 @@ use Rattle.ps_tree.proofs.NameLemmas.{list_any-map}
 use Rattle.ps_tree.proofs.names.Names.add.Goals as goal
 
 pub returns-clause-added : goal.returns-clause-added
-returns-clause-added c = c.in_ok-added.ensures.added ∙ ap not (list_any-map (λ v. v.items) (same c.args.name.items) c.self.inside.set.keys ∙ ap (λ names. has names c.args.name.items) c.self.view_is)
+returns-clause-added c = c.in_ok-added.ensures.added ∙ ap not
+    (list_any-map (λ v. v.items) (same c.args.name.items) c.self.inside.set.keys
+    ∙ ap (λ names. has names c.args.name.items) c.self.view_is)

@@ -8,7 +8,11 @@ use Rattle.ps_tree.proofs.program.Checked.nodes.Goals as goal
 
 pub returns : goal.returns
 returns c =
-    let within : c.args.routine < length c.self.inside.routines.items = subst (λ (parts : Parts). c.args.routine < length parts.routines) (sym c.self.view_is) c.requires in
-    let told : c.nodes.result ≡ min (routine_nodes (routine_of (get_or c.self.inside.routines.items c.args.routine c.index.result.now))) 18446744073709551615 = c.nodes.ensures ∙ ap (λ r. min (routine_nodes (routine_of r)) 18446744073709551615) c.index.ensures in
-    nodes_told c.self.inside.routines.items c.self.inside.domains.items c.args.routine _ c.index.result.now c.self.invariant within told
+    let within : c.args.routine < length c.self.inside.routines.items = subst
+    (λ (parts : Parts). c.args.routine < length parts.routines) (sym c.self.view_is) c.requires in
+    let told : c.nodes.result ≡ min (routine_nodes
+    (routine_of (get_or c.self.inside.routines.items c.args.routine c.index.result.now))) 18446744073709551615 =
+    c.nodes.ensures ∙ ap (λ r. min (routine_nodes (routine_of r)) 18446744073709551615) c.index.ensures in
+    nodes_told c.self.inside.routines.items c.self.inside.domains.items c.args.routine _ c.index.result.now
+    c.self.invariant within told
     ∙ ap (λ (parts : Parts). routine_nodes (routine_at (program_in parts) c.args.routine)) c.self.view_is

@@ -28,8 +28,10 @@ returns-in-Text c = rw c.in-Text.is refl
 
 pub returns-in_ok-clone-in-Array : goal.returns-in_ok-clone-in-Array
 unfolding type_of
-returns-in_ok-clone-in-Array c = let same : c.in_ok-clone-in-Array.field-0.value ≡ c.in-Array.component.value = search rules in rw (c.in-Array.is, same) refl
+returns-in_ok-clone-in-Array c = let same : c.in_ok-clone-in-Array.field-0.value
+    ≡ c.in-Array.component.value = search rules in rw (c.in-Array.is, same) refl
 
 pub returns-in_ok-clone-in-Record : goal.returns-in_ok-clone-in-Record
 unfolding type_of
-returns-in_ok-clone-in-Record c = let same : c.in_ok-clone-in-Record.field-0.value ≡ c.in-Record.fields.value = search rules in rw (c.in-Record.is, same) refl
+returns-in_ok-clone-in-Record c = let same : c.in_ok-clone-in-Record.field-0.value
+    ≡ c.in-Record.fields.value = search rules in rw (c.in-Record.is, same) refl

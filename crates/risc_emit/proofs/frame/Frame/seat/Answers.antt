@@ -10,4 +10,5 @@ seat_of-requires c =
 
 pub returns : goal.returns
 returns c =
-    c.seat_of.ensures ∙ (home_is _ _ _ _ c.args.temporary c.home_in.result c.self.invariant.1 c.home_in.ensures ∙ ap (λ (p : Place). home (context_of p) p.number c.args.temporary) c.self.view_is)
+    c.seat_of.ensures ∙ (home_is _ _ _ _ c.args.temporary c.home_in.result c.self.invariant.1 c.home_in.ensures
+    ∙ ap (λ (p : Place). home (context_of p) p.number c.args.temporary) c.self.view_is)

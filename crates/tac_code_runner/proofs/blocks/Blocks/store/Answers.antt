@@ -4,8 +4,13 @@ use Rattle.tac_code_runner.proofs.blocks.Blocks.store.Goals as goal
 
 pub returns-in-None : goal.returns-in-None
 returns-in-None c =
-    not_stored c.args.self.now c.self.inside.list.items c.as_slice.result.now c.args.number (λ words. with_word words c.args.offset c.args.value) c.self.view_is c.as_slice.ensures.value c.in-None.ensures.place
+    not_stored c.args.self.now c.self.inside.list.items c.as_slice.result.now c.args.number
+    (λ words. with_word words c.args.offset c.args.value) c.self.view_is c.as_slice.ensures.value
+    c.in-None.ensures.place
 
 pub returns-in-Some : goal.returns-in-Some
 returns-in-Some c =
-    block_stored c.args.self.now c.self.inside.list.items c.as_slice.result.now c.args.number (λ words. with_word words c.args.offset c.args.value) c.in-Some.i c.index_mut.result.now c.set_word.new.self c.set_word.result c.self.view_is c.as_slice.ensures.value c.in-Some.ensures.place c.in-Some.ensures.within c.index_mut.ensures.value c.set_word.ensures.words c.set_word.ensures.number
+    block_stored c.args.self.now c.self.inside.list.items c.as_slice.result.now c.args.number
+    (λ words. with_word words c.args.offset c.args.value) c.in-Some.i c.index_mut.result.now c.set_word.new.self
+    c.set_word.result c.self.view_is c.as_slice.ensures.value c.in-Some.ensures.place c.in-Some.ensures.within
+    c.index_mut.ensures.value c.set_word.ensures.words c.set_word.ensures.number

@@ -7,4 +7,8 @@ use Rattle.tac_code_runner.proofs.temporaries.Temporaries.set.Goals as goal
 
 pub returns : goal.returns
 returns c =
-    let within : c.args.temporary < length c.self.inside.list.items = subst (λ (xs : List (Option Value)). c.args.temporary < length xs) (sym c.self.view_is) c.in_ok-reach.ensures.within in reads-set c.self.inside.list.items c.args.temporary c.args.value within ∙ ap (λ (r : Temporaries). put r c.args.temporary c.args.value) (ap reads c.self.view_is ∙ c.in_ok-reach.ensures.same)
+    let within : c.args.temporary < length c.self.inside.list.items = subst
+    (λ (xs : List (Option Value)). c.args.temporary < length xs) (sym c.self.view_is) c.in_ok-reach.ensures.within
+    in reads-set c.self.inside.list.items c.args.temporary c.args.value within
+    ∙ ap (λ (r : Temporaries). put r c.args.temporary c.args.value)
+    (ap reads c.self.view_is ∙ c.in_ok-reach.ensures.same)
