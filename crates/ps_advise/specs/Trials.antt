@@ -20,7 +20,8 @@ Says text (Refused refusal) = IsRefused text refusal
 -- what an outcome tells of the text that was tried: that it is accepted, or the line at which it is refused
 abbrev pub Tells : List ℕ → Outcome → Type 0
 Tells text outcome.Accepted = IsAccepted text
-Tells text (outcome.FaultAt line) = (refusal : Refusal) × IsRefused text refusal × (line ≡ unwrap_or (line_of refusal) 0)
+Tells text (outcome.FaultAt line) = (refusal : Refusal) × IsRefused text refusal
+    × (line ≡ unwrap_or (line_of refusal) 0)
 
 -- what a mend tells of a text is so of the one that it makes of it
 abbrev pub IsMendOf : List ℕ → Mend → Type 0

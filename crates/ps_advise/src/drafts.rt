@@ -55,6 +55,11 @@ pub(crate) fn is_plain(draft: &Draft) -> bool {
     draft.text.ends_with(PLAIN)
 }
 
+/// Whether a draft tells what to do, so that a change which says something else is none to be shown beside it.
+pub(crate) fn is_advised(draft: &Draft) -> bool {
+    !draft.helps.is_empty()
+}
+
 /// Tells that a token of a kind is missing before the place.
 pub(crate) fn tell_missing(
     alloc: Global,

@@ -2,7 +2,7 @@
 
 use crate::budget::Budget;
 use crate::candidates::Change;
-use crate::drafts::{draft_of, is_plain, tell_missing};
+use crate::drafts::{draft_of, is_advised, is_plain, tell_missing};
 use crate::mends::{Faulty, Found, Graded, best_of, is_meant, mends_of, nearest_mend};
 use crate::possible::{Around, around_place, expected};
 use crate::routines::{function_of, routine_around};
@@ -95,7 +95,7 @@ fn drafted_by_grammar(
     let Some(around) = around else {
         return Ok(drafted);
     };
-    if has_accepted(drafted.mends.as_slice()) {
+    if has_accepted(drafted.mends.as_slice()) || is_advised(&drafted.draft) {
         return Ok(drafted);
     }
     let found = nearest_mend(alloc, faulty, around, budget)?;

@@ -277,7 +277,7 @@ fn told_by(alloc: Global, fault: &Fault<'_>, at: usize, row: Row) -> Result<Draf
     let name = piece(text, fault.place);
     let origin = row.origin();
     let mut draft = Draft {
-        text: format!(in alloc; "`{name}` is not declared: it is of {origin}")?,
+        text: format!(in alloc; "`{name}` is not declared: it comes from {origin}")?,
         labels: Vec::new(alloc),
         expects: false,
         trials: Vec::new(alloc),

@@ -4,6 +4,8 @@ use Rattle.std.proofs.Common.{
   ℕ,
   ◌+◌,
   ◌<◌,
+  ◌≤◌,
+  ◌⊎◌,
   inl,
   inr,
   List,
@@ -17,15 +19,22 @@ use Rattle.std.proofs.Common.{
   sym,
   subst,
   arith,
+  ap,
+  ◌∙◌,
+  zero,
+  suc,
+  map,
+  ⊎_elim,
 }
 use Rattle.std.specs.Prelude.{All}
 use Rattle.std.specs.List.{Contains}
-use Rattle.std.proofs.lemmas.List.{take_more}
-use Rattle.std.proofs.lemmas.List.Elements.{All-nil, All-push, Contains-append_left, Contains-push}
+use Rattle.std.proofs.lemmas.List.{take_more, length-take, length_push, get_or-take, get_or_default}
+use Rattle.std.proofs.lemmas.List.{get_or_append_left, get_or_push}
+use Rattle.std.proofs.lemmas.List.Elements.{All-nil, All-push, Contains-append_left, Contains-push, Contains-push_cases}
 use Rattle.ps_scan.specs.declared.token.Kind.{Kind}
 use Rattle.ps_scan.specs.declared.token.Kind.TheVariants as k
 use Rattle.ps_parse_grammar.specs.Symbols.{Tokens}
-use Rattle.ps_diagnose.specs.Begun.{Tells, LieTooDeep, one_more, CouldStand, IsSettled, Asked, Expects}
+use Rattle.ps_diagnose.specs.Begun.{Tells, LieTooDeep, one_more, CouldStand, IsSettled, AreApart, Asked, Expects}
 use Rattle.ps_diagnose.specs.declared.begun.Answer.TheVariants.{Begun, NotBegun, Unknown}
 use Rattle.ps_diagnose.specs.declared.kinds.TheConstants.{ALL}
 
@@ -34,6 +43,8 @@ pub nothing_asked : (text : List ℕ) (ts : Tokens) → Asked text ts [] []
 nothing_asked text ts = record {
   stand = All-nil (CouldStand text ts);
   settled = All-nil (IsSettled text ts []);
+  apart = λ i j d lt within. absurd (omega (arith, within));
+  among = λ kind none. (let within = none.1 in absurd (omega (arith, within)));
 }
 
 -- what is known stays known where one more is given
@@ -42,16 +53,46 @@ still_settled : (text : List ℕ) (ts : Tokens) (given : List Kind) (more kind :
 still_settled text ts given more kind (inl given') = inl (Contains-append_left given (more ∷ []) kind given')
 still_settled text ts given more kind (inr other) = inr other
 
+below_or_not : (a b : ℕ) → (a < b) ⊎ (b ≤ a)
+below_or_not a zero = inr (omega arith)
+below_or_not zero (suc b) = inl (omega arith)
+below_or_not (suc a) (suc b) =
+    ⊎_elim (λ below. inl (omega (arith, below))) (λ above. inr (omega (arith, above))) (below_or_not a b)
+
+-- one more that isn't given yet
+apart_push : (given : List Kind) (more : Kind) → AreApart given → (Contains given more → ⊥)
+    → AreApart (given ++ more ∷ [])
+apart_push given more apart fresh i j d lt within same =
+    let long = length_push given more in
+    let first : i < length given = omega (arith, long, lt, within) in
+    let before : get_or given i d ≡ get_or (given ++ more ∷ []) i d
+    = sym (get_or_append_left given (more ∷ []) d i first) in
+    ⊎_elim
+    (λ inside. apart i j d lt inside (before ∙ same ∙ get_or_append_left given (more ∷ []) d j inside))
+    (λ past. (let last : length given ≡ j = omega (arith, long, past, within) in
+    fresh (i, first, get_or_default given i more d first ∙ before ∙ same ∙ get_or_push given more d j last)))
+    (below_or_not j (length given))
+
+among_push : (asked given : List Kind) (more kind : Kind) → ((k : Kind) → Contains given k → Contains asked k)
+    → Contains (given ++ more ∷ []) kind → Contains (asked ++ more ∷ []) kind
+among_push asked given more kind among here =
+    ⊎_elim
+    (λ inside. Contains-append_left asked (more ∷ []) kind (among kind inside))
+    (λ is. subst (Contains (asked ++ more ∷ [])) is (Contains-push asked more))
+    (Contains-push_cases given more kind here)
+
 -- one that could stand there is given
-pub asked_begun : (text : List ℕ) (ts : Tokens) (asked given : List Kind) (kind : Kind)
+pub asked_begun : (text : List ℕ) (ts : Tokens) (asked given : List Kind) (kind : Kind) → (Contains asked kind → ⊥)
     → Tells text (one_more ts kind) Begun → Asked text ts asked given
     → Asked text ts (asked ++ kind ∷ []) (given ++ kind ∷ [])
-asked_begun text ts asked given kind stands before = record {
+asked_begun text ts asked given kind fresh stands before = record {
   stand = All-push (CouldStand text ts) given kind before.stand stands;
   settled =
       All-push (IsSettled text ts (given ++ kind ∷ [])) asked kind
       (λ i d inside. still_settled text ts given kind _ (before.settled i d inside))
       (inl (Contains-push given kind));
+  apart = apart_push given kind before.apart (λ here. fresh (before.among kind here));
+  among = λ k here. among_push asked given kind k before.among here;
 }
 
 -- one that could not, or of which it isn't known, is not
@@ -60,6 +101,8 @@ pub asked_not : (text : List ℕ) (ts : Tokens) (asked given : List Kind) (kind 
 asked_not text ts asked given kind never before = record {
   stand = before.stand;
   settled = All-push (IsSettled text ts given) asked kind before.settled (inr (inl never));
+  apart = before.apart;
+  among = λ k here. Contains-append_left asked (kind ∷ []) k (before.among k here);
 }
 
 pub asked_unknown : (text : List ℕ) (ts : Tokens) (asked given : List Kind) (kind : Kind)
@@ -67,6 +110,8 @@ pub asked_unknown : (text : List ℕ) (ts : Tokens) (asked given : List Kind) (k
 asked_unknown text ts asked given kind deep before = record {
   stand = before.stand;
   settled = All-push (IsSettled text ts given) asked kind before.settled (inr (inr deep));
+  apart = before.apart;
+  among = λ k here. Contains-append_left asked (kind ∷ []) k (before.among k here);
 }
 
 -- the next kind of all
@@ -140,10 +185,54 @@ is_one k.Semicolon = let all = all_length in (56, omega arith, refl)
 is_one k.Caret = let all = all_length in (57, omega arith, refl)
 is_one k.Assign = let all = all_length in (58, omega arith, refl)
 
+-- ---- no kind stands twice among all: the number of each is where it stands
+
+number : Kind → ℕ
+number kind = (is_one kind).0
+
+-- so many numbers from one on
+numbers_from : ℕ → ℕ → List ℕ
+numbers_from first zero = []
+numbers_from first (suc more) = first ∷ numbers_from (suc first) more
+
+numbers : map number ALL ≡ numbers_from 0 59
+unfolding numbers_from number is_one
+numbers = refl
+
+number_from : (first count at d : ℕ) → at < count → get_or (numbers_from first count) at d ≡ first + at
+unfolding numbers_from
+number_from first zero at d lt = absurd (omega (arith, lt))
+number_from first (suc more) zero d lt = omega arith
+number_from first (suc more) (suc at) d lt = number_from (suc first) more at d (omega (arith, lt)) ∙ omega arith
+
+number_in : (kinds : List Kind) (at : ℕ) (d : Kind) → number (get_or kinds at d)
+    ≡ get_or (map number kinds) at (number d)
+number_in [] at d = refl
+number_in (kind ∷ kinds) zero d = refl
+number_in (kind ∷ kinds) (suc at) d = number_in kinds at d
+
+number_at : (at : ℕ) (d : Kind) → at < length ALL → number (get_or ALL at d) ≡ at
+number_at at d lt =
+    let all = all_length in
+    number_in ALL at d ∙ ap (λ l. get_or l at (number d)) numbers
+    ∙ number_from 0 59 at (number d) (omega (arith, all, lt)) ∙ omega arith
+
+-- one is none of those before it
+pub not_before : (at : ℕ) (d : Kind) → at < length ALL → Contains (take at ALL) (get_or ALL at d) → ⊥
+not_before at d lt (k, within, same) =
+    let shorter = length-take at ALL in
+    let below : k < at = omega (arith, shorter, within) in
+    let e = get_or ALL at d in
+    let equal : get_or ALL k e ≡ e = sym (get_or-take at ALL k e below) ∙ same in
+    let one : number (get_or ALL k e) ≡ k = number_at k e (omega (arith, below, lt)) in
+    let other : number e ≡ at = number_at at d lt in
+    absurd (omega (arith, sym one ∙ ap number equal ∙ other, below))
+
 -- where all were asked about
 pub asked_all : (text : List ℕ) (ts : Tokens) (given : List Kind) → Asked text ts ALL given → Expects text ts given
 asked_all text ts given asked = record {
   stand = asked.stand;
   settled = λ kind. (let here = is_one kind in
       subst (IsSettled text ts given) here.2 (asked.settled here.0 kind here.1));
+  apart = asked.apart;
 }

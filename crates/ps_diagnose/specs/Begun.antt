@@ -1,5 +1,5 @@
 -- Whether tokens begin a program (ISO 7185 6.2 to 6.10).
-use Rattle.std.specs.Prelude.{ℕ, ◌+◌, ◌<◌, ◌⊎◌, List, [], ◌∷◌, ◌++◌, length, All}
+use Rattle.std.specs.Prelude.{◌≡◌, ℕ, ◌+◌, ◌<◌, ◌⊎◌, List, [], ◌∷◌, ◌++◌, length, All, AllPairs}
 use Rattle.std.specs.List.{Contains}
 use Rattle.ps_text.specs.declared.Span.{Span}
 use Rattle.ps_scan.specs.declared.token.Kind.{Kind}
@@ -32,17 +32,26 @@ one_more ts kind = ts ++ (token kind nowhere) ∷ []
 abbrev pub CouldStand : List ℕ → Tokens → Kind → Type 0
 CouldStand text ts kind = Begins text (one_more ts kind)
 
--- of a kind it is known whether a token of it could stand behind them, unless one lies too deep: it is given, or it could not
+-- of a kind it is known whether a token of it could stand behind them, unless one lies too deep: it is given, or it
+-- could not
 abbrev pub IsSettled : List ℕ → Tokens → List Kind → Kind → Type 0
 IsSettled text ts given kind =
     Contains given kind ⊎ ((CouldStand text ts kind → ⊥) ⊎ LieTooDeep text (one_more ts kind))
 
--- these kinds were asked about, and those of them that could stand there are given
+-- none is given twice
+abbrev pub AreApart : List Kind → Type 0
+AreApart given = AllPairs (λ one other. one ≡ other → ⊥) given
+
+-- these kinds were asked about, and those of them that could stand there are given, each once
 pub record Asked (text : List ℕ) (ts : Tokens) (asked given : List Kind) : Type 0 where
   pub stand : All (CouldStand text ts) given
   pub settled : All (IsSettled text ts given) asked
+  pub apart : AreApart given
+  pub among : (kind : Kind) → Contains given kind → Contains asked kind
 
--- exactly the kinds that could stand there are given: with one more token of one they begin a program, and with none of the others
+-- exactly the kinds that could stand there are given, each once: with one more token of one they begin a program, and
+-- with none of the others
 pub record Expects (text : List ℕ) (ts : Tokens) (given : List Kind) : Type 0 where
   pub stand : All (CouldStand text ts) given
   pub settled : (kind : Kind) → IsSettled text ts given kind
+  pub apart : AreApart given

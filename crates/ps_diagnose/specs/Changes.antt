@@ -6,7 +6,9 @@ use Rattle.ps_diagnostic.specs.declared.Edit.{Edit}
 abbrev pub part : List ℕ → ℕ → ℕ → List ℕ
 part text from to = if nat_le from to && nat_le to (length text) then slice_range text from to else []
 
--- what is made of a text from an offset on: what stands there up to the next edit's span, what that puts, and so on behind it
+-- what is made of a text from an offset on: what stands there up to the next edit's span, what that puts, and so on
+-- behind it
 abbrev pub changed_from : List ℕ → ℕ → List Edit → List ℕ
 changed_from text at [] = part text at (length text)
-changed_from text at (edit ∷ edits) = part text at edit.span.from ++ string_bytes edit.put ++ changed_from text edit.span.to edits
+changed_from text at (edit ∷ edits) = part text at edit.span.from ++ string_bytes edit.put
+    ++ changed_from text edit.span.to edits

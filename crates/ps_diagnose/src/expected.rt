@@ -1,6 +1,7 @@
 //! Which kinds of tokens could stand at a place.
 
 ghost use Rattle.std.specs.Prelude.{◌<◌, ◌+◌, ◌^◌, ◌≡◌, List, [], ◌∷◌, ◌++◌, length, IfOk, OnOk};
+ghost use Rattle.std.specs.List.{Contains};
 ghost use Rattle.ps_parse_grammar.specs.Symbols.{token};
 ghost use Rattle.ps_diagnose.specs.Begun.{Tells, Asked, Expects, nowhere, one_more};
 ghost use Rattle.ps_scan.specs.declared.token.Kind.{Kind};
@@ -48,7 +49,8 @@ fn add_possible(
     kind: Kind,
 ) -> Result<(), AllocError>
     requires { length before.now + 1 < 2 ^ 32 }
-    ensures { (asked : List Kind) → OnOk result (Asked source.now before.now asked kinds.old.items
+    ensures { (asked : List Kind) → (Contains asked kind → ⊥)
+        → OnOk result (Asked source.now before.now asked kinds.old.items
         → Asked source.now before.now (asked ++ kind ∷ []) kinds.new.items) }
 {
     match could_stand(alloc, source, before, kind)? {
@@ -61,8 +63,8 @@ fn add_possible(
     }
 }
 
-/// The kinds of which a token could stand behind these of a text: with one more of such a kind they begin a program, and
-/// with one of any other they don't. (Where one lies too deep in them, no kind is given.)
+/// The kinds of which a token could stand behind these of a text, each once: with one more of such a kind they begin a
+/// program, and with one of any other they don't. (Where one lies too deep in them, no kind is given.)
 pub fn expected_at(
     alloc: Global,
     source: &Source,

@@ -263,6 +263,9 @@ impl<'a> Context<'a> {
                 if is_text(value) {
                     return self.with_packed(why, target.wanted);
                 }
+                if self.is_set(target.given) {
+                    return why.help("its components are assigned one by one");
+                }
                 self.with_components(why, index, self.expr_span(value))
             }
             Some(Form::Record(region)) => why.helped(self.field_help(

@@ -106,7 +106,7 @@ impl<'a> Context<'a> {
                 Help::None,
             )),
             PointKind::Procedure | PointKind::ProcedureParameter => {
-                Some(name_of_kind(name, kind, WITHOUT_VALUE, A_FUNCTION_HAS))
+                Some(self.valueless(name, kind))
             }
             PointKind::Type => Some(name_of_kind(
                 name,
@@ -160,6 +160,17 @@ impl<'a> Context<'a> {
         }
     }
 
+    // A procedure where a value is needed.
+    fn valueless(&self, name: Span, kind: PointKind) -> Why {
+        let help = match self.known(name) {
+            Known::Read | Known::Readln | Known::New => {
+                Help::Is("it gives a variable its value, as a statement: `@x(..)`")
+            }
+            _ => Help::Is("a `function` has a value"),
+        };
+        name_of_kind(name, kind, WITHOUT_VALUE, help)
+    }
+
     // What stands before parameters in an expression and is no function.
     fn no_function(&self, name: Span, parameters: &[Expr]) -> Option<Why> {
         let Some(kind) = self.kind_of(name) else {
@@ -167,7 +178,7 @@ impl<'a> Context<'a> {
         };
         match kind {
             PointKind::Procedure | PointKind::ProcedureParameter => {
-                Some(name_of_kind(name, kind, WITHOUT_VALUE, A_FUNCTION_HAS))
+                Some(self.valueless(name, kind))
             }
             PointKind::Function | PointKind::FunctionParameter => None,
             PointKind::Type => Some(name_of_kind(
@@ -346,8 +357,6 @@ const WITHOUT_VALUE: &str = "`@x` is @k, and has no value";
 const NO_FUNCTION: &str = "`@x` is @k, and no function";
 
 const NOT_ASSIGNED: &str = "`@x` is @k, and cannot be assigned";
-
-const A_FUNCTION_HAS: Help = Help::Is("a `function` has a value");
 
 const VARIABLE_OF: Help = Help::Is("declare a variable of it: var name: @x;");
 

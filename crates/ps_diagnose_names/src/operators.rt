@@ -4,7 +4,7 @@ use crate::context::Context;
 use crate::facts::{factor_in_simple, relation_word};
 use crate::required::Known;
 use crate::spot::Spot;
-use crate::why::{Change, Help, Mark, Why, told};
+use crate::why::{Change, Mark, Why, told};
 use ps_diagnose_outline::{Form, Part, Type};
 use ps_scan::Kind;
 use ps_syntax::{Adding, Factor, Multiplying, Relation, Sign, Simple, Term};
@@ -73,13 +73,14 @@ impl<'a> Context<'a> {
     fn not_change(&self, at: Span, operand: Span) -> Change {
         match self.token_at(operand.to) {
             Some(relation) if is_comparing(relation.kind) => {
-                self.parenthesized(at, operand, relation.span.to)
+                self.parenthesized(at.from, operand, relation.span.to, "not (@b)")
             }
             _ => Change::None,
         }
     }
 
-    fn parenthesized(&self, at: Span, operand: Span, behind: u32) -> Change {
+    // Tries parentheses round the comparison that begins with an operand, in a form that stands for all from an offset on.
+    fn parenthesized(&self, from: u32, operand: Span, behind: u32, form: &'static str) -> Change {
         match self.token_at(behind) {
             Some(next) => {
                 let to = self.outline.extent(next.span.from, Part::Simple).to;
@@ -87,7 +88,7 @@ impl<'a> Context<'a> {
                     from: operand.from,
                     to,
                 };
-                Change::With(Span { from: at.from, to }, inner, "not (@b)")
+                Change::With(Span { from, to }, inner, form)
             }
             None => Change::None,
         }
@@ -115,11 +116,10 @@ impl<'a> Context<'a> {
             return None;
         };
         match multiplying_of(term, number) {
-            Multiplying::And if !self.is_boolean(ty) => Some(
-                takes("and", BOOLEAN, text, ty)
-                    .variable(text)
-                    .helped(self.tight_help(term.first.first_token())),
-            ),
+            Multiplying::And if !self.is_boolean(ty) => {
+                let why = takes("and", BOOLEAN, text, ty).variable(text);
+                Some(self.with_comparison(why, term.first.first_token(), text))
+            }
             Multiplying::Div if !self.is_integer(ty) => {
                 Some(self.no_number("div", INTEGER, text, ty).variable(text))
             }
@@ -138,15 +138,47 @@ impl<'a> Context<'a> {
         takes(operator, form, text, ty).helped(self.conversion(Type::Integer, ty, text))
     }
 
-    // How tight `and` or `or` binds, where a comparison stands before its operands.
-    fn tight_help(&self, first: u32) -> Help {
+    // How tight `and` or `or` binds, where a comparison stands before its operands, or behind one of them.
+    fn with_comparison(&self, why: Why, first: u32, operand: Span) -> Why {
         match self.outline.token_before(first) {
-            Some(before) if is_comparing(before.kind) => Help::Of(
-                "`@w` binds tighter than `@a`: each comparison stands between parentheses",
-                before.span,
-            ),
-            Some(_) => Help::Is("a comparison is Boolean, as `(.. = ..)`"),
-            None => Help::None,
+            Some(before) if is_comparing(before.kind) => why
+                .changed(self.left_comparison(operand))
+                .help_of(
+                    "`@w` binds tighter than `@a`: each comparison stands between parentheses",
+                    before.span,
+                ),
+            _ => self.with_right(why, first, operand),
+        }
+    }
+
+    // Tries parentheses round the comparison whose right side begins with an operand.
+    fn left_comparison(&self, operand: Span) -> Change {
+        for spot in self.spots.iter() {
+            if let Spot::Compare(left, ..) = spot {
+                let inner = Span {
+                    from: self.simple_span(left).from,
+                    to: operand.to,
+                };
+                return Change::With(inner, inner, "(@b)");
+            }
+        }
+        Change::None
+    }
+
+    // Tries parentheses round the comparison that begins with an operand.
+    fn with_right(&self, why: Why, first: u32, operand: Span) -> Why {
+        match (
+            self.outline.token_before(operand.from),
+            self.token_at(operand.to),
+        ) {
+            (Some(joint), Some(relation)) if is_comparing(relation.kind) && first < operand.from =>
+                why.third(Span {
+                    from: first,
+                    to: joint.span.to,
+                })
+                .changed(self.parenthesized(first, operand, relation.span.to, "@z (@b)"))
+                .help_of("`@w` binds tighter than `@a`", relation.span),
+            _ => why.help("a comparison is Boolean, as `(.. = ..)`"),
         }
     }
 
@@ -181,14 +213,13 @@ impl<'a> Context<'a> {
             return None;
         }
         let first = simple.first_token();
-        let why = takes("or", BOOLEAN, text, ty)
-            .declared(text)
-            .helped(self.tight_help(first));
-        if first == self.place().from {
-            Some(why.changed(Change::EachCompared))
+        let why = takes("or", BOOLEAN, text, ty).declared(text);
+        let why = if first == self.place().from {
+            why.changed(Change::EachCompared)
         } else {
-            Some(why)
-        }
+            why
+        };
+        Some(self.with_comparison(why, first, text))
     }
 
     fn wrong_plus(&self, simple: &Simple, number: u32, text: Span, ty: Type) -> Option<Why> {
@@ -231,7 +262,7 @@ impl<'a> Context<'a> {
                 } else {
                     Change::None
                 })
-                .help("strings are not joined: write one behind another"),
+                .help("strings are not joined: `write(a, b)` writes one behind another"),
             None => why,
         }
     }

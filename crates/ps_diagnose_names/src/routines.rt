@@ -13,7 +13,7 @@ impl<'a> Context<'a> {
             None => self.place(),
         };
         Some(
-            told("`@p` was told by `forward`, and its block never follows")
+            told("`@p` was declared with `forward`, and its block never follows")
                 .text(word)
                 .help("behind it stands its block: @x @p; begin .. end;"),
         )

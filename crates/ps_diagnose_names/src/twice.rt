@@ -97,7 +97,7 @@ impl<'a> Context<'a> {
 
     // A heading by `forward` whose parameters are told again.
     fn twice_forward(&self, first: Point) -> Why {
-        let why = told("`@p` was declared by `forward`: its parameters are not told again").marked(
+        let why = told("`@p` was declared with `forward`: its parameters are not repeated").marked(
             Mark::At("here the first time", first.name),
         );
         match end_of_heading(self.tokens_behind(self.place().to)) {
@@ -196,7 +196,7 @@ impl<'a> Context<'a> {
     fn with_forward(&self, why: Why, point: Point) -> Why {
         match self.heading_of(point) {
             Some(heading) => why.help_of(
-                "declare it first, or tell its heading before by `forward`: @a; forward;",
+                "declare it first, or put its heading before this one, with `forward`: @a; forward;",
                 heading,
             ),
             None => why,

@@ -438,8 +438,27 @@ impl<'a> Context<'a> {
             Some(Spot::Definition(..) | Spot::Range(..) | Spot::CaseConstant(..)) => {
                 why.help("a constant is declared in the `const` part: const @p = ..;")
             }
-            _ => self.with_variable(self.with_members(why), self.common_block()),
+            _ => {
+                let why = self.with_string(self.with_members(why));
+                self.with_variable(why, self.common_block())
+            }
         }
+    }
+
+    // The string that may be meant where a name is written once, and used nowhere else.
+    fn with_string(&self, why: Why) -> Why {
+        for spot in self.spots.iter() {
+            if let Spot::Passed(name, ..) = spot {
+                return match self.known(*name) {
+                    Known::Write | Known::Writeln if self.uses.is_empty() => {
+                        why.help("a string stands between apostrophes: '@p'")
+                            .changed(Change::For(self.place(), "'@p'"))
+                    }
+                    _ => why,
+                };
+            }
+        }
+        why
     }
 
     // The constants of the enumeration that is wanted at the place.

@@ -1,7 +1,7 @@
 //! The outline of a text, and what is looked up in it.
 
 use crate::constructions::Construction;
-use crate::parts::{Denoter, Held, Point, PointKind, Region, RegionKind, Shape, Type, pair, small};
+use crate::parts::{Denoter, Held, Point, PointKind, Region, Shape, Type, pair, small};
 use crate::required::{Required, RequiredKind, required_of};
 use indexmap::IndexSet;
 use ps_scan::{Kind, Token};

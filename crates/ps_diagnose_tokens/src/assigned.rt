@@ -1,292 +1,437 @@
 //! What is told of `=`, `:=` and `:` where another one of them is meant.
 
 use crate::context::Context;
-use crate::kinds::{bounds_expression, is_operator};
-use crate::rows::{Part, other_pascal};
-use crate::spread::{first_between, next_that, statement_end};
-use crate::tell::{exchange, help, label, put_before, refuse, shown};
-use crate::walk::Stage;
-use ps_diagnose::Draft;
+use crate::kinds::OPERATORS;
+use crate::rows::Part;
+use crate::rule::Piece::{Is, Token, Tokens};
+use crate::rule::Place::{
+    Ahead, Assigned, Back, ExpressionEnd, Here, Last, NextAssign, Start, Top,
+};
+use crate::rule::{Also, Fact, Reach, Rule, Test, Told};
+use crate::tests::first_of;
 use ps_scan::Kind;
-use std::alloc::AllocError;
 
-// The signs of two pieces that are torn apart at the place.
-fn torn(first: Kind, second: Kind) -> Option<&'static str> {
-    match (first, second) {
-        (Kind::Colon, Kind::Equal) => Some(":="),
-        (Kind::Less, Kind::Equal) => Some("<="),
-        (Kind::Greater, Kind::Equal) => Some(">="),
-        (Kind::Less, Kind::Greater) => Some("<>"),
-        _ => None,
-    }
+// The first pieces of signs.
+const PIECES: &[Kind] = &[Kind::Colon, Kind::Less, Kind::Greater];
+
+// What is told of a sign whose second piece is at the place.
+const TORN_BEFORE: &[Told] = &[
+    Told::Why(&[
+        Is("`"),
+        Token(Back(1)),
+        Token(Here),
+        Is("` is one sign, without a space"),
+    ]),
+    Told::Exchange(Reach::To(Back(1), Here), &[Token(Back(1)), Token(Here)]),
+];
+
+// What is told of a sign whose first piece is at the place.
+const TORN_BEHIND: &[Told] = &[
+    Told::Why(&[
+        Is("`"),
+        Token(Here),
+        Token(Ahead(1)),
+        Is("` is one sign, without a space"),
+    ]),
+    Told::Exchange(Reach::To(Here, Ahead(1)), &[Token(Here), Token(Ahead(1))]),
+];
+
+// What is told of `:=` in a condition.
+const COMPARED: &[Told] = &[
+    Told::Why(&[Is("it assigns, and `=` compares")]),
+    Told::Exchange(Reach::One(Here), &[Is("=")]),
+];
+
+// What is told of an assignment the wrong way round.
+const REVERSED: &[Told] = &[Told::Why(&[Is("what is assigned stands behind `:=`")])];
+
+// What is proposed for it.
+const TURNED: &[Also] = &[Also {
+    when: &[
+        Test::Same(Last(2), NextAssign),
+        Test::Is(Last(1), &[Kind::Name]),
+    ],
+    told: &[Told::Exchange(
+        Reach::To(Start, Last(1)),
+        &[
+            Token(Last(1)),
+            Is(" := "),
+            Tokens(Reach::UpTo(Start, NextAssign)),
+        ],
+    )],
+}];
+
+// A sign of two pieces with something between.
+const TORN_RULES: &[Rule] = &[
+    Rule {
+        when: &[
+            Test::Holds(Fact::Statements),
+            Test::Is(Here, PIECES),
+            Test::Is(Ahead(1), &[Kind::Equal]),
+        ],
+        told: TORN_BEHIND,
+        also: &[],
+    },
+    Rule {
+        when: &[
+            Test::Holds(Fact::Statements),
+            Test::Is(Here, &[Kind::Less]),
+            Test::Is(Ahead(1), &[Kind::Greater]),
+        ],
+        told: TORN_BEHIND,
+        also: &[],
+    },
+    Rule {
+        when: &[
+            Test::Holds(Fact::Statements),
+            Test::Is(Back(1), PIECES),
+            Test::Is(Here, &[Kind::Equal]),
+        ],
+        told: TORN_BEFORE,
+        also: &[],
+    },
+    Rule {
+        when: &[
+            Test::Holds(Fact::Statements),
+            Test::Is(Back(1), &[Kind::Less]),
+            Test::Is(Here, &[Kind::Greater]),
+        ],
+        told: TORN_BEFORE,
+        also: &[],
+    },
+];
+
+// What stands in a `for` for `:=` or `to`.
+const FOR_RULES: &[Rule] = &[
+    // `=` or `:` in a `for`
+    Rule {
+        when: &[
+            Test::Head(&[Kind::For]),
+            Test::Is(Here, &[Kind::Equal, Kind::Colon]),
+            Test::Same(Back(2), Top),
+        ],
+        told: &[
+            Told::Why(&[Is("a `for` begins with `"), Token(Back(1)), Is(" := ..`")]),
+            Told::Exchange(Reach::One(Here), &[Is(":=")]),
+        ],
+        also: &[],
+    },
+    // `..` or `,` between its values
+    Rule {
+        when: &[
+            Test::Head(&[Kind::For]),
+            Test::Is(Here, &[Kind::DotDot, Kind::Comma]),
+            Test::Has(Assigned),
+        ],
+        told: &[
+            Told::Why(&[Is("between the values of a `for` stands `to` or `downto`")]),
+            Told::Exchange(Reach::One(Here), &[Is(" to ")]),
+        ],
+        also: &[],
+    },
+];
+
+// A condition without the word before it, and `=` that assigns.
+const ALONE_RULES: &[Rule] = &[
+    // a condition without the word before it
+    Rule {
+        when: &[
+            Test::Is(Here, OPERATORS),
+            Test::Holds(Fact::Statements),
+            Test::Holds(Fact::BehindVariable),
+            Test::Is(ExpressionEnd, &[Kind::Then]),
+        ],
+        told: &[
+            Told::Why(&[Is("`if` is missing before the condition")]),
+            Told::PutBefore(Start, "if", "if "),
+        ],
+        also: &[],
+    },
+    Rule {
+        when: &[
+            Test::Is(Here, OPERATORS),
+            Test::Holds(Fact::Statements),
+            Test::Holds(Fact::BehindVariable),
+            Test::Is(ExpressionEnd, &[Kind::Do]),
+        ],
+        told: &[
+            Told::Why(&[Is("`while` is missing before the condition")]),
+            Told::PutBefore(Start, "while", "while "),
+        ],
+        also: &[],
+    },
+    Rule {
+        when: &[
+            Test::Is(Here, &[Kind::Equal]),
+            Test::Holds(Fact::Statements),
+            Test::Holds(Fact::BehindVariable),
+        ],
+        told: &[
+            Told::Why(&[Is("it compares, and `:=` assigns")]),
+            Told::Exchange(Reach::One(Here), &[Is(":=")]),
+        ],
+        also: &[],
+    },
+];
+
+// `:=` in an expression, and a second one in a statement.
+const TWICE_RULES: &[Rule] = &[
+    // `:=` in an expression
+    Rule {
+        when: &[
+            Test::Is(Here, &[Kind::Assign]),
+            Test::Holds(Fact::Statements),
+            Test::IsNot(Top, &[Kind::LeftBracket]),
+            Test::Holds(Fact::Inside),
+        ],
+        told: COMPARED,
+        also: &[],
+    },
+    Rule {
+        when: &[
+            Test::Is(Here, &[Kind::Assign]),
+            Test::Holds(Fact::Statements),
+            Test::IsNot(Top, &[Kind::LeftBracket]),
+            Test::Is(Start, &[Kind::Until]),
+        ],
+        told: COMPARED,
+        also: &[],
+    },
+    Rule {
+        when: &[
+            Test::Is(Here, &[Kind::Assign]),
+            Test::Holds(Fact::Statements),
+            Test::Fails(Fact::Inside),
+            Test::Has(Assigned),
+        ],
+        told: &[
+            Told::Why(&[Is("a statement assigns once")]),
+            Told::Label(Reach::One(Assigned), &[Is("the first `:=`")]),
+            Told::Help(&[Is(
+                "write two statements, with `;` between; what is compared stands beside `=`",
+            )]),
+        ],
+        also: &[],
+    },
+];
+
+// An assignment the wrong way round.
+const BEHIND_RULES: &[Rule] = &[
+    // an assignment the wrong way round
+    Rule {
+        when: &[
+            Test::Holds(Fact::Statements),
+            Test::Is(Here, &[Kind::Number, Kind::Text]),
+            Test::Same(Start, Here),
+            Test::Has(NextAssign),
+        ],
+        told: REVERSED,
+        also: TURNED,
+    },
+    Rule {
+        when: &[
+            Test::Holds(Fact::Statements),
+            Test::Is(Here, OPERATORS),
+            Test::Holds(Fact::BehindVariable),
+            Test::Has(NextAssign),
+        ],
+        told: REVERSED,
+        also: TURNED,
+    },
+];
+
+// What is told of `=` before a type.
+const DECLARES: &[Told] = &[
+    Told::Why(&[Is("between a variable and its type stands `:`")]),
+    Told::Exchange(Reach::One(Here), &[Is(":")]),
+];
+
+// What is told of a value in the declaration of a variable.
+const GETS_VALUE: &[Told] = &[
+    Told::Why(&[Is("a variable gets its value by a statement")]),
+    Told::Advice(Part::Declarations, "NAME ="),
+];
+
+// What stands before the name that a declaration begins with.
+const BEFORE_NAME: &[Kind] = &[Kind::Const, Kind::Type, Kind::Var, Kind::Semicolon];
+
+// `:=` or `:` in the definition of a constant.
+const CONSTANTS_RULES: &[Rule] = &[
+    Rule {
+        when: &[
+            Test::Is(Here, &[Kind::Assign]),
+            Test::Part(&[Kind::Const]),
+            Test::Holds(Fact::Declarations),
+            Test::No(Top),
+            Test::Is(Back(1), &[Kind::Name]),
+            Test::Is(Back(2), BEFORE_NAME),
+        ],
+        told: &[
+            Told::Why(&[Is("it assigns, and `=` defines a constant")]),
+            Told::Exchange(Reach::One(Here), &[Is("=")]),
+        ],
+        also: &[],
+    },
+    Rule {
+        when: &[
+            Test::Is(Here, &[Kind::Colon]),
+            Test::Part(&[Kind::Const]),
+            Test::Holds(Fact::Declarations),
+            Test::No(Top),
+            Test::Is(Back(1), &[Kind::Name]),
+            Test::Is(Back(2), BEFORE_NAME),
+        ],
+        told: &[
+            Told::Why(&[Is("`=` defines a constant")]),
+            Told::Exchange(Reach::One(Here), &[Is("=")]),
+        ],
+        also: &[],
+    },
+];
+
+// `:=` or `:` in the definition of a type.
+const TYPES_RULES: &[Rule] = &[
+    Rule {
+        when: &[
+            Test::Is(Here, &[Kind::Assign]),
+            Test::Part(&[Kind::Type]),
+            Test::Holds(Fact::Declarations),
+            Test::No(Top),
+            Test::Is(Back(1), &[Kind::Name]),
+            Test::Is(Back(2), BEFORE_NAME),
+        ],
+        told: &[
+            Told::Why(&[Is("it assigns, and `=` defines a type")]),
+            Told::Exchange(Reach::One(Here), &[Is("=")]),
+        ],
+        also: &[],
+    },
+    Rule {
+        when: &[
+            Test::Is(Here, &[Kind::Colon]),
+            Test::Part(&[Kind::Type]),
+            Test::Holds(Fact::Declarations),
+            Test::No(Top),
+            Test::Is(Back(1), &[Kind::Name]),
+            Test::Is(Back(2), BEFORE_NAME),
+        ],
+        told: &[
+            Told::Why(&[Is("`=` defines a type")]),
+            Told::Exchange(Reach::One(Here), &[Is("=")]),
+        ],
+        also: &[],
+    },
+];
+
+// `=` between variables and their type.
+const DECLARED_RULES: &[Rule] = &[
+    // `=` between variables and their type
+    Rule {
+        when: &[
+            Test::Is(Here, &[Kind::Equal]),
+            Test::Holds(Fact::Declarations),
+            Test::Part(&[Kind::Var]),
+            Test::Is(Back(1), &[Kind::Name]),
+            Test::IsNot(Back(2), &[Kind::Colon]),
+            Test::IsNot(Ahead(1), &[Kind::Number, Kind::Text]),
+        ],
+        told: DECLARES,
+        also: &[],
+    },
+    Rule {
+        when: &[
+            Test::Is(Here, &[Kind::Equal]),
+            Test::Holds(Fact::Declarations),
+            Test::Is(Top, &[Kind::Record]),
+            Test::Is(Back(1), &[Kind::Name]),
+            Test::IsNot(Back(2), &[Kind::Colon]),
+            Test::IsNot(Ahead(1), &[Kind::Number, Kind::Text]),
+        ],
+        told: DECLARES,
+        also: &[],
+    },
+];
+
+// A value of a variable in its declaration.
+const VALUES_RULES: &[Rule] = &[
+    // a value of a variable in its declaration
+    Rule {
+        when: &[
+            Test::Is(Here, &[Kind::Assign, Kind::Equal]),
+            Test::Part(&[Kind::Var]),
+            Test::Holds(Fact::Declarations),
+            Test::Is(Back(1), &[Kind::End]),
+        ],
+        told: GETS_VALUE,
+        also: &[],
+    },
+    Rule {
+        when: &[
+            Test::Is(Here, &[Kind::Assign, Kind::Equal]),
+            Test::Part(&[Kind::Var]),
+            Test::Holds(Fact::Declarations),
+            Test::Is(Back(2), &[Kind::Colon, Kind::Of, Kind::Var]),
+        ],
+        told: GETS_VALUE,
+        also: &[],
+    },
+];
+
+// The rule of a sign of two pieces with something between.
+fn torn(cx: &Context<'_>) -> Option<&'static Rule> {
+    first_of(cx, TORN_RULES)
 }
 
-// Tells a sign of two pieces, of which the first is a token.
-fn tell_torn(cx: &Context<'_>, draft: &mut Draft, first: usize) -> Result<bool, AllocError> {
-    let second = first.saturating_add(1);
-    let (Some(a), Some(b)) = (cx.kind(first), cx.kind(second)) else {
-        return Ok(false);
-    };
-    let Some(sign) = torn(a, b) else {
-        return Ok(false);
-    };
-    refuse(cx, draft, &["`", sign, "` is one sign, without a space"])?;
-    exchange(cx, draft, 0, cx.span_of(first, second), sign)?;
-    Ok(true)
+// The rule of what stands in a `for` for `:=` or `to`.
+fn of_for(cx: &Context<'_>) -> Option<&'static Rule> {
+    first_of(cx, FOR_RULES)
 }
 
-/// A sign of two pieces with something between.
-pub(crate) fn torn_apart(cx: &Context<'_>, draft: &mut Draft) -> Result<bool, AllocError> {
-    if !cx.is_in_statements() {
-        return Ok(false);
-    }
-    if tell_torn(cx, draft, cx.at)? {
-        return Ok(true);
-    }
-    match cx.back(1) {
-        Some(before) => tell_torn(cx, draft, before),
-        None => Ok(false),
-    }
+// The rule of a condition without the word before it, and `=` that assigns.
+fn alone(cx: &Context<'_>) -> Option<&'static Rule> {
+    first_of(cx, ALONE_RULES)
 }
 
-// Whether the tokens before the place are a variable that begins a statement.
-fn is_behind_variable(cx: &Context<'_>) -> bool {
-    let start = cx.opened.start;
-    let is_word = |kind: Kind| is_operator(kind) || kind == Kind::Assign || kind == Kind::Colon;
-    start < cx.at
-        && cx.is(start, Kind::Name)
-        && cx.opened.assigned.is_none()
-        && first_between(cx, start, cx.at, is_word).is_none()
-        && !is_inside(cx)
+// The rule of `:=` in an expression, and a second one in a statement.
+fn twice(cx: &Context<'_>) -> Option<&'static Rule> {
+    first_of(cx, TWICE_RULES)
 }
 
-// Whether the place is in parentheses or brackets, or in the head of a construction.
-fn is_inside(cx: &Context<'_>) -> bool {
-    match cx.top() {
-        Some(open) => {
-            matches!(open.kind, Kind::LeftParen | Kind::LeftBracket)
-                || is_head(open.kind, open.stage)
-        }
-        None => false,
-    }
+// The rule of an assignment the wrong way round.
+fn behind(cx: &Context<'_>) -> Option<&'static Rule> {
+    first_of(cx, BEHIND_RULES)
 }
 
-// Whether a construction is in its head.
-fn is_head(kind: Kind, stage: Stage) -> bool {
-    stage == Stage::Head
-        && matches!(
-            kind,
-            Kind::If | Kind::While | Kind::For | Kind::With | Kind::Case
-        )
+// The rule of `:=` or `:` in the definition of a constant.
+fn constants(cx: &Context<'_>) -> Option<&'static Rule> {
+    first_of(cx, CONSTANTS_RULES)
 }
 
-/// A condition without the word before it.
-pub(crate) fn condition_alone(cx: &Context<'_>, draft: &mut Draft) -> Result<bool, AllocError> {
-    let is_sign = cx.kind(cx.at).is_some_and(is_operator);
-    if !is_sign || !cx.is_in_statements() || !is_behind_variable(cx) {
-        return Ok(false);
-    }
-    let end = next_that(
-        cx,
-        cx.at,
-        |kind| bounds_expression(kind) && !is_operator(kind),
-    );
-    let word = match cx.kind(end) {
-        Some(Kind::Then) => "if",
-        Some(Kind::Do) => "while",
-        _ => return Ok(false),
-    };
-    let start = cx.opened.start;
-    refuse(cx, draft, &["`", word, "` is missing before the condition"])?;
-    put_before(
-        cx,
-        draft,
-        0,
-        start,
-        word,
-        if word == "if" { "if " } else { "while " },
-    )?;
-    Ok(true)
+// The rule of `:=` or `:` in the definition of a type.
+fn types(cx: &Context<'_>) -> Option<&'static Rule> {
+    first_of(cx, TYPES_RULES)
 }
 
-/// `=` behind a variable that begins a statement.
-pub(crate) fn equal_assigns(cx: &Context<'_>, draft: &mut Draft) -> Result<bool, AllocError> {
-    if !cx.is_here(Kind::Equal) || !cx.is_in_statements() || !is_behind_variable(cx) {
-        return Ok(false);
-    }
-    refuse(cx, draft, &["it compares, and `:=` assigns"])?;
-    exchange(cx, draft, 0, cx.span(cx.at), ":=")?;
-    Ok(true)
+// The rule of `=` between variables and their type.
+fn declared(cx: &Context<'_>) -> Option<&'static Rule> {
+    first_of(cx, DECLARED_RULES)
 }
 
-// The `for` in whose head the place is.
-fn head_of_for(cx: &Context<'_>) -> Option<usize> {
-    match cx.top() {
-        Some(open) if open.kind == Kind::For && open.stage == Stage::Head => Some(open.at),
-        _ => None,
-    }
+// The rule of a value of a variable in its declaration.
+fn values(cx: &Context<'_>) -> Option<&'static Rule> {
+    first_of(cx, VALUES_RULES)
 }
 
-/// `=` or `:` in a `for` without `:=`.
-pub(crate) fn for_begins(cx: &Context<'_>, draft: &mut Draft) -> Result<bool, AllocError> {
-    let Some(at) = head_of_for(cx) else {
-        return Ok(false);
-    };
-    let is_sign = cx.is_here(Kind::Equal) || cx.is_here(Kind::Colon);
-    if !is_sign || cx.at != at.saturating_add(2) {
-        return Ok(false);
-    }
-    let name = cx.told(at.saturating_add(1));
-    refuse(cx, draft, &["a `for` begins with `", name, " := ..`"])?;
-    exchange(cx, draft, 0, cx.span(cx.at), ":=")?;
-    Ok(true)
+/// The first rule that fits of those of what assigns in statements.
+pub(crate) fn in_statements(cx: &Context<'_>) -> Option<&'static Rule> {
+    torn(cx)
+        .or(of_for(cx))
+        .or(alone(cx))
+        .or(twice(cx))
+        .or(behind(cx))
 }
 
-/// `..` between the values of a `for`.
-pub(crate) fn for_goes(cx: &Context<'_>, draft: &mut Draft) -> Result<bool, AllocError> {
-    let is_sign = cx.is_here(Kind::DotDot) || cx.is_here(Kind::Comma);
-    if head_of_for(cx).is_none() || !is_sign || cx.opened.assigned.is_none() {
-        return Ok(false);
-    }
-    refuse(
-        cx,
-        draft,
-        &["between the values of a `for` stands `to` or `downto`"],
-    )?;
-    exchange(cx, draft, 0, cx.span(cx.at), " to ")?;
-    Ok(true)
-}
-
-/// A second `:=` in a statement.
-pub(crate) fn assigns_twice(cx: &Context<'_>, draft: &mut Draft) -> Result<bool, AllocError> {
-    let Some(first) = cx.opened.assigned else {
-        return Ok(false);
-    };
-    if !cx.is_here(Kind::Assign) || !cx.is_in_statements() || is_inside(cx) {
-        return Ok(false);
-    }
-    refuse(cx, draft, &["a statement assigns once"])?;
-    label(cx, draft, cx.span(first), &["the first `:=`"])?;
-    help(
-        cx,
-        draft,
-        &["write two statements, with `;` between; what is compared stands beside `=`"],
-    )?;
-    Ok(true)
-}
-
-/// `:=` in an expression.
-pub(crate) fn assign_compares(cx: &Context<'_>, draft: &mut Draft) -> Result<bool, AllocError> {
-    let is_until = matches!(cx.kind(cx.opened.start), Some(Kind::Until));
-    let is_bracket = cx.is_within(Kind::LeftBracket);
-    if !cx.is_here(Kind::Assign)
-        || !cx.is_in_statements()
-        || is_bracket
-        || !(is_inside(cx) || is_until)
-    {
-        return Ok(false);
-    }
-    refuse(cx, draft, &["it assigns, and `=` compares"])?;
-    exchange(cx, draft, 0, cx.span(cx.at), "=")?;
-    Ok(true)
-}
-
-// What a part defines by `=`.
-fn defined_by(part: Option<Kind>) -> Option<&'static str> {
-    match part {
-        Some(Kind::Const) => Some("constant"),
-        Some(Kind::Type) => Some("type"),
-        _ => None,
-    }
-}
-
-// Whether the token before the place begins a declaration.
-fn is_behind_name(cx: &Context<'_>) -> bool {
-    cx.is_back(1, Kind::Name)
-        && matches!(
-            cx.kind_back(2),
-            Some(Kind::Const | Kind::Type | Kind::Var | Kind::Semicolon)
-        )
-}
-
-/// `:=` or `:` in the definition of a constant or a type.
-pub(crate) fn equal_defines(cx: &Context<'_>, draft: &mut Draft) -> Result<bool, AllocError> {
-    let Some(what) = defined_by(cx.block().part) else {
-        return Ok(false);
-    };
-    if !cx.is_in_declarations() || cx.top().is_some() || !is_behind_name(cx) {
-        return Ok(false);
-    }
-    if cx.is_here(Kind::Assign) {
-        refuse(cx, draft, &["it assigns, and `=` defines a ", what])?;
-    } else if cx.is_here(Kind::Colon) {
-        refuse(cx, draft, &["`=` defines a ", what])?;
-    } else {
-        return Ok(false);
-    }
-    exchange(cx, draft, 0, cx.span(cx.at), "=")?;
-    Ok(true)
-}
-
-/// `=` between variables and their type.
-pub(crate) fn colon_declares(cx: &Context<'_>, draft: &mut Draft) -> Result<bool, AllocError> {
-    let is_variable = cx.block().part == Some(Kind::Var) || cx.is_within(Kind::Record);
-    let is_name = cx.is_back(1, Kind::Name) && !cx.is_back(2, Kind::Colon);
-    let is_name = is_name && !cx.is_next(Kind::Number) && !cx.is_next(Kind::Text);
-    if !cx.is_here(Kind::Equal) || !cx.is_in_declarations() || !is_variable || !is_name {
-        return Ok(false);
-    }
-    refuse(cx, draft, &["between a variable and its type stands `:`"])?;
-    exchange(cx, draft, 0, cx.span(cx.at), ":")?;
-    Ok(true)
-}
-
-/// A value of a variable in its declaration.
-pub(crate) fn value_in_declaration(
-    cx: &Context<'_>,
-    draft: &mut Draft,
-) -> Result<bool, AllocError> {
-    let is_sign = cx.is_here(Kind::Assign) || cx.is_here(Kind::Equal);
-    let is_part = cx.block().part == Some(Kind::Var) && cx.is_in_declarations();
-    let is_type = cx.is_back(1, Kind::End)
-        || matches!(cx.kind_back(2), Some(Kind::Colon | Kind::Of | Kind::Var));
-    if !is_sign || !is_part || !is_type {
-        return Ok(false);
-    }
-    refuse(cx, draft, &["a variable gets its value by a statement"])?;
-    if let Some(row) = other_pascal(Part::Declarations, "NAME =") {
-        help(cx, draft, &[row.advice])?;
-    }
-    Ok(true)
-}
-
-// Whether a statement has its `:=` behind what it assigns.
-fn is_reversed(cx: &Context<'_>) -> bool {
-    let kind = cx.kind(cx.at);
-    let is_start = cx.opened.start == cx.at && matches!(kind, Some(Kind::Number | Kind::Text));
-    let is_sum = is_behind_variable(cx) && kind.is_some_and(is_operator);
-    let end = statement_end(cx, cx.at);
-    let has_assign = first_between(cx, cx.at, end, |kind| kind == Kind::Assign).is_some();
-    (is_start || is_sum) && has_assign
-}
-
-/// An assignment the wrong way round.
-pub(crate) fn assigned_behind(cx: &Context<'_>, draft: &mut Draft) -> Result<bool, AllocError> {
-    if !cx.is_in_statements() || !is_reversed(cx) {
-        return Ok(false);
-    }
-    refuse(cx, draft, &["what is assigned stands behind `:=`"])?;
-    let start = cx.opened.start;
-    let end = statement_end(cx, cx.at);
-    let last = end.saturating_sub(1);
-    let Some(assign) = first_between(cx, cx.at, end, |kind| kind == Kind::Assign) else {
-        return Ok(true);
-    };
-    if assign.saturating_add(1) == last && cx.is(last, Kind::Name) {
-        let name = cx.told(last);
-        let value = shown(cx.piece(cx.span_of(start, assign.saturating_sub(1))));
-        let put = format!(in cx.alloc; "{name} := {value}")?;
-        exchange(cx, draft, 0, cx.span_of(start, last), put.as_str())?;
-    }
-    Ok(true)
+/// The first that fits of those of what defines and declares.
+pub(crate) fn in_declarations(cx: &Context<'_>) -> Option<&'static Rule> {
+    constants(cx).or(types(cx)).or(declared(cx)).or(values(cx))
 }

@@ -1,179 +1,200 @@
 //! What is told at the ends of a text: where it begins otherwise, where it ends too early, and behind its end.
 
 use crate::context::Context;
-use crate::rows::{Part, other_pascal};
-use crate::tell::{exchange, help, label, put_before, put_behind, refuse, say, take_away};
-use crate::walk::Stage;
-use ps_diagnose::Draft;
+use crate::rule::Piece::{Is, Token};
+use crate::rule::Place::{Ahead, Back, Begun, Ended, Here, List, Point, TextEnd};
+use crate::rule::{Also, Fact, More, Reach, Rule, Test, Told};
+use crate::tell::{Telling, Text, joined, put_behind};
+use crate::tests::first_of;
+use crate::walk::{Open, Stage};
 use ps_scan::Kind;
-use std::alloc::AllocError;
 
-// The text ends, and only its point is missing.
-fn point_missing(cx: &Context<'_>, draft: &mut Draft) -> Result<bool, AllocError> {
-    let Some(end) = cx.back(1) else {
-        return Ok(false);
-    };
-    if cx.opened.ended != Some(end) {
-        return Ok(false);
-    }
-    say(
-        draft,
-        &["the text ends here: `.` is missing behind the last `end`"],
-    )?;
-    draft.expects = true;
-    put_behind(cx, draft, 0, end, ".", ".")?;
-    Ok(true)
-}
+// What a program may begin with whose heading is missing.
+const BEGINS: &[Kind] = &[
+    Kind::Begin,
+    Kind::Const,
+    Kind::Type,
+    Kind::Var,
+    Kind::Procedure,
+    Kind::Function,
+];
 
-// Puts what ends all that is open; false where that is not known.
-fn put_ends(cx: &Context<'_>, out: &mut String) -> Result<bool, AllocError> {
+// The end of a text.
+const END_RULES: &[Rule] = &[
+    Rule {
+        when: &[Test::Same(Here, TextEnd), Test::No(Back(1))],
+        told: &[Told::Says(&[Is("the text is empty")])],
+        also: &[],
+    },
+    Rule {
+        when: &[Test::Same(Here, TextEnd), Test::Same(Back(1), Ended)],
+        told: &[
+            Told::Expects(&[Is("the text ends here: `.` is missing behind the last `end`")]),
+            Told::PutBehind(0, Ended, ".", "."),
+        ],
+        also: &[],
+    },
+    Rule {
+        when: &[Test::Same(Here, TextEnd)],
+        told: &[
+            Told::Expects(&[
+                Is("the text ends here, and this `"),
+                Token(List),
+                Is("` is not ended"),
+            ]),
+            Told::Label(Reach::One(List), &[Is("this `"), Token(List), Is("`")]),
+            Told::More(More::Ends),
+        ],
+        also: &[
+            Also {
+                when: &[Test::No(Begun), Test::Holds(Fact::InRoutine)],
+                told: &[Told::Help(&[Is("its statements stand between `begin` and `end;`")])],
+            },
+            Also {
+                when: &[Test::No(Begun), Test::Fails(Fact::InRoutine)],
+                told: &[Told::Help(&[Is("its statements stand between `begin` and `end.`")])],
+            },
+        ],
+    },
+];
+
+// A text that begins otherwise than by a heading.
+const BEGINNING_RULES: &[Rule] = &[
+    Rule {
+        when: &[Test::No(Back(1)), Test::Is(Here, &[Kind::Number])],
+        told: &[Told::Why(&[Is("the lines of a program have no numbers")])],
+        also: &[],
+    },
+    Rule {
+        when: &[Test::No(Back(1))],
+        told: &[
+            Told::Why(&[Is("the heading of the program is missing")]),
+            Told::More(More::Beginning),
+        ],
+        also: &[
+            Also {
+                when: &[Test::Is(Here, BEGINS), Test::Holds(Fact::Reads)],
+                told: &[Told::PutBefore(
+                    Here,
+                    "program name(input, output);",
+                    "program name(input, output); ",
+                )],
+            },
+            Also {
+                when: &[Test::Is(Here, BEGINS), Test::Fails(Fact::Reads)],
+                told: &[Told::PutBefore(Here, "program name(output);", "program name(output); ")],
+            },
+            Also {
+                when: &[
+                    Test::Is(Here, &[Kind::Name]),
+                    Test::Is(Ahead(1), &[Kind::Name]),
+                    Test::Is(Ahead(2), &[Kind::LeftParen, Kind::Semicolon]),
+                ],
+                told: &[Told::Exchange(Reach::One(Here), &[Is("program")])],
+            },
+        ],
+    },
+];
+
+// What stands behind the end of the program, or of a string.
+const BEHIND_END_RULES: &[Rule] = &[
+    Rule {
+        when: &[Test::From(Back(1), Point), Test::Is(Point, &[Kind::Dot])],
+        told: &[
+            Told::Why(&[Is("the program ended before it")]),
+            Told::Label(Reach::To(Ended, Point), &[Is("it ends here")]),
+        ],
+        also: &[Also {
+            when: &[Test::Same(Ahead(1), TextEnd)],
+            told: &[Told::TakeAway(0, Reach::One(Here))],
+        }],
+    },
+    Rule {
+        when: &[
+            Test::Is(Back(1), &[Kind::Text]),
+            Test::Is(Here, &[Kind::Name]),
+            Test::Touches(Back(1)),
+        ],
+        told: &[
+            Told::Why(&[Is("the string before it ended at its apostrophe")]),
+            Told::Label(Reach::One(Back(1)), &[Is("this string")]),
+            Told::Help(&[Is("an apostrophe within a string is written twice")]),
+            Told::More(More::Apostrophe),
+        ],
+        also: &[],
+    },
+];
+
+// Puts what ends all that is open.
+fn put_ends(cx: &Context<'_>, out: &mut Text) {
+    let mut is_first = true;
     for open in cx.opened.opens.iter().rev() {
-        match open.kind {
-            Kind::Begin | Kind::Case | Kind::Record => out.push_str("end ")?,
-            Kind::LeftParen | Kind::LeftBracket | Kind::Repeat => return Ok(false),
-            _ if open.stage == Stage::Head => return Ok(false),
-            _ => {}
+        if matches!(open.kind, Kind::Begin | Kind::Case | Kind::Record) {
+            out.put(if is_first { "end" } else { " end" });
+            is_first = false;
         }
     }
-    Ok(cx.opened.blocks.len() == 1)
+    out.put(".");
 }
 
-// Proposes to end all that is open.
-fn propose_ends(cx: &Context<'_>, draft: &mut Draft) -> Result<(), AllocError> {
-    let mut ends = String::new(cx.alloc);
-    let is_known = put_ends(cx, &mut ends)?;
-    let Some(last) = cx.back(1) else {
-        return Ok(());
-    };
-    if !is_known || ends.is_empty() {
-        return Ok(());
-    }
-    let told = format!(in cx.alloc; "{}.", ends.trim_ascii_end())?;
-    let put = format!(in cx.alloc; "\n{told}")?;
-    put_behind(cx, draft, 0, last, told.as_str(), put.as_str())
-}
-
-// Helps where the statements of the program never began.
-fn help_without_begin(cx: &Context<'_>, draft: &mut Draft) -> Result<(), AllocError> {
-    let block = cx.block();
-    if block.begun.is_some() {
-        Ok(())
-    } else if block.is_routine {
-        help(
-            cx,
-            draft,
-            &["its statements stand between `begin` and `end;`"],
-        )
-    } else {
-        help(
-            cx,
-            draft,
-            &["its statements stand between `begin` and `end.`"],
-        )
+// Whether no more than an `end` is missing of a construction.
+fn wants_end_alone(open: &Open) -> bool {
+    match open.kind {
+        Kind::Begin | Kind::Case | Kind::Record => true,
+        Kind::LeftParen | Kind::LeftBracket | Kind::Repeat => false,
+        _ => !matches!(open.stage, Stage::Head),
     }
 }
 
-// The token of the innermost construction, or else the block, that is open where the text ends.
-fn innermost(cx: &Context<'_>) -> usize {
-    match cx.list() {
-        Some(open) => open.at,
-        None => cx.block().head,
-    }
-}
-
-/// The text ends before the program does.
-pub(crate) fn text_ends(cx: &Context<'_>, draft: &mut Draft) -> Result<bool, AllocError> {
-    if cx.at < cx.tokens.len() {
-        return Ok(false);
-    }
-    if cx.tokens.is_empty() {
-        say(draft, &["the text is empty"])?;
-        return Ok(true);
-    }
-    if point_missing(cx, draft)? {
-        return Ok(true);
-    }
-    let open = innermost(cx);
-    let token = cx.told(open);
-    say(
-        draft,
-        &["the text ends here, and this `", token, "` is not ended"],
-    )?;
-    draft.expects = true;
-    label(cx, draft, cx.span(open), &["this `", token, "`"])?;
-    help_without_begin(cx, draft)?;
-    propose_ends(cx, draft)?;
-    Ok(true)
-}
-
-// Whether a text seems to read.
-fn reads(cx: &Context<'_>) -> bool {
-    for (at, token) in cx.tokens.iter().enumerate() {
-        let is_read = cx.is_spelled(at, "read") || cx.is_spelled(at, "readln");
-        if token.kind == Kind::Name && is_read {
-            return true;
+// Whether the program ends where all that is open has got its `end`, and there is something.
+fn ends_by_end(cx: &Context<'_>) -> bool {
+    let mut has_end = false;
+    for open in cx.opened.opens.iter() {
+        if !wants_end_alone(open) {
+            return false;
         }
+        has_end = has_end || open.has_end();
     }
-    false
+    has_end && cx.opened.blocks.len() == 1
 }
 
-// Proposes a heading.
-fn propose_heading(cx: &Context<'_>, draft: &mut Draft) -> Result<(), AllocError> {
-    let is_part = matches!(
-        cx.kind(cx.at),
-        Some(Kind::Begin | Kind::Const | Kind::Type | Kind::Var | Kind::Procedure | Kind::Function)
+/// Proposes to end all that is open.
+pub(crate) fn propose_ends(cx: &Context<'_>, to: &mut Telling) {
+    if !ends_by_end(cx) {
+        return;
+    }
+    let mut put = joined(cx, &["\n"]);
+    put_ends(cx, &mut put);
+    let told = put.string.as_str().trim_ascii();
+    put_behind(
+        cx,
+        to,
+        0,
+        cx.at.saturating_sub(1),
+        told,
+        put.string.as_str(),
     );
-    if !is_part {
-        return Ok(());
-    }
-    if reads(cx) {
-        let told = "program name(input, output);";
-        put_before(cx, draft, 0, cx.at, told, "program name(input, output); ")
-    } else {
-        let told = "program name(output);";
-        put_before(cx, draft, 0, cx.at, told, "program name(output); ")
-    }
+    to.has_failed = to.has_failed || put.has_failed;
 }
 
-// Proposes `program` for what stands before a name and the end of a heading.
-fn propose_program(cx: &Context<'_>, draft: &mut Draft) -> Result<(), AllocError> {
-    let behind = cx.at.saturating_add(2);
-    let ends = cx.is(behind, Kind::LeftParen) || cx.is(behind, Kind::Semicolon);
-    if cx.is_here(Kind::Name) && cx.is_next(Kind::Name) && ends {
-        exchange(cx, draft, 0, cx.span(cx.at), "program")?;
-    }
-    Ok(())
+// The rule of the end of a text.
+fn at_the_end(cx: &Context<'_>) -> Option<&'static Rule> {
+    first_of(cx, END_RULES)
 }
 
-/// The text begins otherwise than by the heading of a program.
-pub(crate) fn begins_otherwise(cx: &Context<'_>, draft: &mut Draft) -> Result<bool, AllocError> {
-    if cx.at != 0 {
-        return Ok(false);
-    }
-    refuse(cx, draft, &["the heading of the program is missing"])?;
-    propose_heading(cx, draft)?;
-    propose_program(cx, draft)?;
-    let row = other_pascal(Part::Program, cx.told_here());
-    match row.or(other_pascal(Part::Program, "begin")) {
-        Some(row) => help(cx, draft, &[row.advice])?,
-        None => {}
-    }
-    Ok(true)
+// The rule of a text that begins otherwise than by a heading.
+fn at_the_beginning(cx: &Context<'_>) -> Option<&'static Rule> {
+    first_of(cx, BEGINNING_RULES)
 }
 
-/// Something stands behind the end of the program.
-pub(crate) fn behind_the_end(cx: &Context<'_>, draft: &mut Draft) -> Result<bool, AllocError> {
-    let Some(end) = cx.opened.ended else {
-        return Ok(false);
-    };
-    let point = end.saturating_add(1);
-    if cx.at <= point || !cx.is(point, Kind::Dot) {
-        return Ok(false);
-    }
-    refuse(cx, draft, &["the program ended before it"])?;
-    label(cx, draft, cx.span_of(end, point), &["it ends here"])?;
-    if cx.at.saturating_add(1) == cx.tokens.len() {
-        take_away(cx, draft, 0, cx.span(cx.at))?;
-    }
-    Ok(true)
+// The rule of what stands behind the end of the program, or of a string.
+fn behind_the_end(cx: &Context<'_>) -> Option<&'static Rule> {
+    first_of(cx, BEHIND_END_RULES)
+}
+
+/// The first rule that fits of those of the ends of a text.
+pub(crate) fn at_the_ends(cx: &Context<'_>) -> Option<&'static Rule> {
+    at_the_end(cx)
+        .or(at_the_beginning(cx))
+        .or(behind_the_end(cx))
 }

@@ -1,197 +1,225 @@
 //! What is told of comparisons: a second one in an expression, and what stands behind `in`.
 
 use crate::context::{Context, slice};
-use crate::kinds::{adds, compares, is_operator};
-use crate::spread::{expression_end, expression_start, first_between, last_between};
-use crate::tell::{exchange, help, label, refuse, shown};
-use ps_diagnose::Draft;
+use crate::kinds::{COMPARES, ENDS_VALUE, JOINS};
+use crate::rule::Piece::{Is, Token, Tokens};
+use crate::rule::Place::{
+    Back, ExpressionEnd, ExpressionStart, First, Here, Joint, JointLeft, JointRight,
+    NextExpressionEnd,
+};
+use crate::rule::{Also, Fact, More, Reach, Rule, Test, Told};
+use crate::spread::{expression_end, expression_start, first_between};
+use crate::tell::{Telling, Text, empty, exchange_text, joined};
+use crate::tests::first_of;
 use ps_scan::Kind;
-use ps_text::Span;
-use std::alloc::AllocError;
 
-// Whether a token joins two conditions.
-fn joins(kind: Kind) -> bool {
-    matches!(kind, Kind::And | Kind::Or)
-}
+// The most bytes of a condition for which parentheses are proposed: the change tells it twice.
+const MOST: u32 = 200;
 
-// Whether a token ends an operand of `and`, or of `or`.
-fn bounds_operand(joint: Kind, kind: Kind) -> bool {
-    compares(kind) || joint == Kind::And && adds(kind)
-}
+// What `and` or `or` takes between two comparisons.
+const LABEL_JOINT: Told = Told::Label(
+    Reach::One(Joint),
+    &[
+        Is("this takes `"),
+        Tokens(Reach::Between(JointLeft, Joint)),
+        Is("` and `"),
+        Tokens(Reach::Between(Joint, JointRight)),
+        Is("`"),
+    ],
+);
 
-// The span of the tokens from one on, up to another one.
-fn tokens_span(cx: &Context<'_>, from: usize, to: usize) -> Span {
-    cx.span_of(from, to.saturating_sub(1))
-}
+// The token `in` before the place.
+const IN: &[Kind] = &[Kind::In];
 
-// Tells what the operator between two comparisons takes.
-fn label_joint(
-    cx: &Context<'_>,
-    draft: &mut Draft,
-    first: usize,
-    joint: usize,
-) -> Result<(), AllocError> {
-    let kind = cx.kind(joint).unwrap_or(Kind::And);
-    let from = last_between(cx, first, joint, |it| bounds_operand(kind, it)).unwrap_or(first);
-    let left = tokens_span(cx, from.saturating_add(1), joint);
-    let behind = joint.saturating_add(1);
-    let to = first_between(cx, behind, cx.at, is_operator).unwrap_or(cx.at);
-    let right = tokens_span(cx, behind, to);
-    let words = [
-        "this takes `",
-        shown(cx.piece(left)),
-        "` and `",
-        shown(cx.piece(right)),
-        "`",
-    ];
-    label(cx, draft, cx.span(joint), &words)
-}
-
-// Puts a piece of a condition, in parentheses where it compares.
-fn put_piece(cx: &Context<'_>, out: &mut String, from: usize, to: usize) -> Result<(), AllocError> {
-    let is_not = cx.is(from, Kind::Not);
-    let first = if is_not { from.saturating_add(1) } else { from };
-    let span = tokens_span(cx, first, to);
-    let text = str::from_utf8(cx.piece(span)).unwrap_or("");
-    if is_not {
-        out.push_str("not ")?;
-    }
-    if first_between(cx, first, to, compares).is_none() {
-        return out.push_str(text);
-    }
-    out.push('(')?;
-    out.push_str(text)?;
-    out.push(')')
-}
-
-// Puts what stands between two tokens, with the first of them: an operator with the spaces round it.
-fn put_joint(cx: &Context<'_>, out: &mut String, joint: usize) -> Result<(), AllocError> {
-    let from = match joint.checked_sub(1) {
-        Some(before) => cx.span(before).to,
-        None => cx.span(joint).from,
-    };
-    let to = cx.span(joint.saturating_add(1)).from;
-    out.push_str(str::from_utf8(slice(cx.bytes, from, to)).unwrap_or(" "))
-}
-
-// A condition with parentheses round its comparisons.
-fn with_parentheses(cx: &Context<'_>, start: usize, end: usize) -> Result<String, AllocError> {
-    let mut out = String::new(cx.alloc);
-    let mut from = start;
-    for _ in start..end {
-        let Some(joint) = first_between(cx, from, end, joins) else {
-            break;
-        };
-        put_piece(cx, &mut out, from, joint)?;
-        put_joint(cx, &mut out, joint)?;
-        from = joint.saturating_add(1);
-    }
-    put_piece(cx, &mut out, from, end)?;
-    Ok(out)
-}
-
-// Proposes parentheses round the comparisons of the condition at the place.
-fn propose_parentheses(
-    cx: &Context<'_>,
-    draft: &mut Draft,
-    start: usize,
-) -> Result<(), AllocError> {
-    let end = expression_end(cx, cx.at);
-    let text = with_parentheses(cx, start, end)?;
-    exchange(cx, draft, 0, tokens_span(cx, start, end), text.as_str())
-}
+// A second comparison, with `and` or `or` between, and the same sign.
+const ALIKE_RULES: &[Rule] = &[
+    // a second one, with `and` or `or` between, and the same sign
+    Rule {
+        when: &[
+            Test::Is(Here, COMPARES),
+            Test::Holds(Fact::Statements),
+            Test::Is(Back(1), ENDS_VALUE),
+            Test::Has(Joint),
+            Test::Alike(First(COMPARES), Here),
+        ],
+        told: &[
+            Told::Why(&[
+                Is("`"),
+                Token(Joint),
+                Is("` binds tighter than `"),
+                Token(Here),
+                Is("`"),
+            ]),
+            LABEL_JOINT,
+            Told::More(More::Parentheses),
+        ],
+        also: &[],
+    },
+];
 
 // A second comparison, with `and` or `or` between.
-fn binds_tighter(
-    cx: &Context<'_>,
-    draft: &mut Draft,
-    start: usize,
-    first: usize,
-    joint: usize,
-) -> Result<(), AllocError> {
-    let operator = cx.told(joint);
-    let (one, other) = (cx.told(first), cx.told_here());
-    if one == other {
-        refuse(
-            cx,
-            draft,
-            &["`", operator, "` binds tighter than `", one, "`"],
-        )?;
-    } else {
-        let why = [
-            "`",
-            operator,
-            "` binds tighter than `",
-            one,
-            "` and `",
-            other,
-            "`",
-        ];
-        refuse(cx, draft, &why)?;
-    }
-    label_joint(cx, draft, first, joint)?;
-    propose_parentheses(cx, draft, start)
+const JOINED_RULES: &[Rule] = &[
+    // and another sign
+    Rule {
+        when: &[
+            Test::Is(Here, COMPARES),
+            Test::Holds(Fact::Statements),
+            Test::Is(Back(1), ENDS_VALUE),
+            Test::Has(Joint),
+        ],
+        told: &[
+            Told::Why(&[
+                Is("`"),
+                Token(Joint),
+                Is("` binds tighter than `"),
+                Token(First(COMPARES)),
+                Is("` and `"),
+                Token(Here),
+                Is("`"),
+            ]),
+            LABEL_JOINT,
+            Told::More(More::Parentheses),
+        ],
+        also: &[],
+    },
+];
+
+// A chain of comparisons.
+const CHAIN_RULES: &[Rule] = &[
+    // a chain
+    Rule {
+        when: &[
+            Test::Is(Here, COMPARES),
+            Test::Holds(Fact::Statements),
+            Test::Is(Back(1), ENDS_VALUE),
+            Test::Has(First(COMPARES)),
+        ],
+        told: &[
+            Told::Why(&[Is("a comparison has two sides")]),
+            Told::Label(Reach::One(First(COMPARES)), &[Is("the first comparison")]),
+            Told::Help(&[Is("two comparisons are joined so: `(a < b) and (b < c)`")]),
+        ],
+        also: &[Also {
+            when: &[
+                Test::IsShown(Reach::UpTo(ExpressionStart, Here)),
+                Test::IsShown(Reach::Between(First(COMPARES), ExpressionEnd)),
+            ],
+            told: &[Told::Exchange(
+                Reach::UpTo(ExpressionStart, ExpressionEnd),
+                &[
+                    Is("("),
+                    Tokens(Reach::UpTo(ExpressionStart, Here)),
+                    Is(") and ("),
+                    Tokens(Reach::Between(First(COMPARES), ExpressionEnd)),
+                    Is(")"),
+                ],
+            )],
+        }],
+    },
+];
+
+// A range behind `in`, without brackets.
+const RANGE_RULES: &[Rule] = &[
+    // a range behind `in`, without brackets
+    Rule {
+        when: &[
+            Test::Is(Here, &[Kind::DotDot]),
+            Test::Holds(Fact::Statements),
+            Test::Has(First(IN)),
+        ],
+        told: &[
+            Told::Why(&[Is("behind `in` stands a set")]),
+            Told::Label(Reach::One(First(IN)), &[Is("the `in`")]),
+            Told::Exchange(
+                Reach::Between(First(IN), NextExpressionEnd),
+                &[
+                    Is("["),
+                    Tokens(Reach::Between(First(IN), NextExpressionEnd)),
+                    Is("]"),
+                ],
+            ),
+        ],
+        also: &[],
+    },
+];
+
+// Puts a piece of a condition, in parentheses where it compares.
+fn put_piece(cx: &Context<'_>, out: &mut Text, from: usize, to: usize) {
+    let is_not = cx.is_of(from, &[Kind::Not]);
+    let first = if is_not { from.saturating_add(1) } else { from };
+    let compares = first_between(cx, first, to, COMPARES).is_some();
+    let text = str::from_utf8(cx.piece(cx.span_of(first, to.saturating_sub(1)))).unwrap_or("");
+    out.put(before_piece(is_not, compares));
+    out.put(text);
+    out.put(if compares { ")" } else { "" });
 }
 
-// A chain of two comparisons.
-fn two_sides(
-    cx: &Context<'_>,
-    draft: &mut Draft,
-    start: usize,
-    first: usize,
-) -> Result<(), AllocError> {
-    refuse(cx, draft, &["a comparison has two sides"])?;
-    label(cx, draft, cx.span(first), &["the first comparison"])?;
-    help(
-        cx,
-        draft,
-        &["two comparisons are joined so: `(a < b) and (b < c)`"],
-    )?;
+// What stands before a piece of a condition.
+fn before_piece(is_not: bool, compares: bool) -> &'static str {
+    match (is_not, compares) {
+        (true, true) => "not (",
+        (true, false) => "not ",
+        (false, true) => "(",
+        (false, false) => "",
+    }
+}
+
+// What stands between two tokens, with the first of them: an operator with the spaces round it.
+fn joint_text<'a>(cx: &Context<'a>, joint: usize) -> &'a str {
+    let from = cx.span(joint.saturating_sub(1)).to;
+    let to = cx.span(joint.saturating_add(1)).from;
+    str::from_utf8(slice(cx.bytes, from, to)).unwrap_or(" ")
+}
+
+// Puts a condition with parentheses round its comparisons.
+fn put_condition(cx: &Context<'_>, out: &mut Text, start: usize, end: usize) {
+    let mut from = start;
+    for _ in start..end {
+        let Some(joint) = first_between(cx, from, end, JOINS) else {
+            break;
+        };
+        put_piece(cx, out, from, joint);
+        out.put(joint_text(cx, joint));
+        from = joint.saturating_add(1);
+    }
+    put_piece(cx, out, from, end);
+}
+
+/// Proposes parentheses round the comparisons of the condition at the place.
+pub(crate) fn propose_parentheses(cx: &Context<'_>, to: &mut Telling) {
+    let start = expression_start(cx, cx.at);
     let end = expression_end(cx, cx.at);
-    let whole = tokens_span(cx, start, end);
-    let left = shown(cx.piece(tokens_span(cx, start, cx.at)));
-    let right = shown(cx.piece(tokens_span(cx, first.saturating_add(1), end)));
-    if left == ".." || right == ".." {
-        return Ok(());
+    let span = cx.span_of(start, end.saturating_sub(1));
+    if span.to.saturating_sub(span.from) > MOST {
+        to.help(joined(cx, &["each comparison stands between parentheses"]));
+        return;
     }
-    let put = format!(in cx.alloc; "({left}) and ({right})")?;
-    exchange(cx, draft, 0, whole, put.as_str())
+    let mut text = empty(cx.alloc);
+    put_condition(cx, &mut text, start, end);
+    exchange_text(cx, to, span, text);
 }
 
-/// A second comparison in one expression.
-pub(crate) fn second_comparison(cx: &Context<'_>, draft: &mut Draft) -> Result<bool, AllocError> {
-    if !cx.is_in_statements() || !cx.kind(cx.at).is_some_and(compares) {
-        return Ok(false);
-    }
-    let start = expression_start(cx, cx.at);
-    let Some(first) = first_between(cx, start, cx.at, compares) else {
-        return Ok(false);
-    };
-    if !cx.kind_back(1).is_some_and(crate::kinds::ends_value) {
-        return Ok(false);
-    }
-    match first_between(cx, first.saturating_add(1), cx.at, joins) {
-        Some(joint) => binds_tighter(cx, draft, start, first, joint)?,
-        None => two_sides(cx, draft, start, first)?,
-    }
-    Ok(true)
+// The rule of a second comparison, with `and` or `or` between, and the same sign.
+fn alike(cx: &Context<'_>) -> Option<&'static Rule> {
+    first_of(cx, ALIKE_RULES)
 }
 
-/// A range behind `in`, without brackets.
-pub(crate) fn range_behind_in(cx: &Context<'_>, draft: &mut Draft) -> Result<bool, AllocError> {
-    if !cx.is_in_statements() || !cx.is_here(Kind::DotDot) {
-        return Ok(false);
-    }
-    let start = expression_start(cx, cx.at);
-    let Some(is_in) = first_between(cx, start, cx.at, |kind| kind == Kind::In) else {
-        return Ok(false);
-    };
-    refuse(cx, draft, &["behind `in` stands a set"])?;
-    label(cx, draft, cx.span(is_in), &["the `in`"])?;
-    let end = expression_end(cx, cx.at.saturating_add(1));
-    let range = tokens_span(cx, is_in.saturating_add(1), end);
-    let text = shown(cx.piece(range));
-    let put = format!(in cx.alloc; "[{text}]")?;
-    exchange(cx, draft, 0, range, put.as_str())?;
-    Ok(true)
+// The rule of a second comparison, with `and` or `or` between.
+fn of_joint(cx: &Context<'_>) -> Option<&'static Rule> {
+    first_of(cx, JOINED_RULES)
+}
+
+// The rule of a chain of comparisons.
+fn chain(cx: &Context<'_>) -> Option<&'static Rule> {
+    first_of(cx, CHAIN_RULES)
+}
+
+// The rule of a range behind `in`, without brackets.
+fn range(cx: &Context<'_>) -> Option<&'static Rule> {
+    first_of(cx, RANGE_RULES)
+}
+
+/// The first rule that fits of those of comparisons.
+pub(crate) fn compared(cx: &Context<'_>) -> Option<&'static Rule> {
+    alike(cx).or(of_joint(cx)).or(chain(cx)).or(range(cx))
 }

@@ -1,5 +1,7 @@
 //! The place of a refusal, and the tokens round it.
 
+use crate::kinds::ROUTINES;
+use crate::tell::shown;
 use crate::walk::{Block, Open, Opened, opened_before};
 use ps_diagnose::Fault;
 use ps_scan::{Kind, Token};
@@ -21,8 +23,7 @@ pub(crate) struct Context<'a> {
 /// The context of a refusal.
 pub(crate) fn context_of<'a>(alloc: Global, fault: &Fault<'a>) -> Result<Context<'a>, AllocError> {
     let bytes = fault.source.bytes();
-    let from = fault.place.from;
-    let at = fault.tokens.partition_point(|token| token.span.from < from);
+    let at = number_at(fault.tokens, fault.place.from);
     let opened = opened_before(alloc, bytes, fault.tokens, at)?;
     Ok(Context {
         alloc,
@@ -34,66 +35,54 @@ pub(crate) fn context_of<'a>(alloc: Global, fault: &Fault<'a>) -> Result<Context
     })
 }
 
+// The number of the first token from an offset on.
+fn number_at(tokens: &[Token], from: u32) -> usize {
+    for (at, token) in tokens.iter().enumerate() {
+        if token.span.from >= from {
+            return at;
+        }
+    }
+    tokens.len()
+}
+
 /// The bytes of a span; none where it is not of the text.
 pub(crate) fn slice(bytes: &[u8], from: u32, to: u32) -> &[u8] {
     bytes.get(from as usize..to as usize).unwrap_or(&[])
 }
 
-/// The bytes of a token; none behind the last.
-pub(crate) fn token_text<'a>(bytes: &'a [u8], tokens: &[Token], at: usize) -> &'a [u8] {
-    match tokens.get(at) {
-        Some(token) => slice(bytes, token.span.from, token.span.to),
-        None => &[],
-    }
-}
-
-/// The kind of a token; none behind the last.
-pub(crate) fn kind_at(tokens: &[Token], at: usize) -> Option<Kind> {
-    tokens.get(at).map(|token| token.kind)
-}
-
 impl<'a> Context<'a> {
     /// The kind of a token.
     pub(crate) fn kind(&self, at: usize) -> Option<Kind> {
-        kind_at(self.tokens, at)
-    }
-
-    /// Whether a token is of a kind.
-    pub(crate) fn is(&self, at: usize, kind: Kind) -> bool {
-        self.kind(at) == Some(kind)
-    }
-
-    /// The number of the token so many before the place.
-    pub(crate) fn back(&self, count: usize) -> Option<usize> {
-        self.at.checked_sub(count)
-    }
-
-    /// The kind of the token so many before the place.
-    pub(crate) fn kind_back(&self, count: usize) -> Option<Kind> {
-        match self.back(count) {
-            Some(at) => self.kind(at),
+        match self.tokens.get(at) {
+            Some(token) => Some(token.kind),
             None => None,
         }
     }
 
-    /// Whether the token so many before the place is of a kind.
-    pub(crate) fn is_back(&self, count: usize, kind: Kind) -> bool {
-        self.kind_back(count) == Some(kind)
-    }
-
-    /// Whether the token at the place is of a kind.
-    pub(crate) fn is_here(&self, kind: Kind) -> bool {
-        self.kind(self.at) == Some(kind)
-    }
-
-    /// Whether the token behind the one at the place is of a kind.
-    pub(crate) fn is_next(&self, kind: Kind) -> bool {
-        self.kind(self.at.saturating_add(1)) == Some(kind)
+    /// Whether a token is of one of some kinds.
+    pub(crate) fn is_of(&self, at: usize, kinds: &[Kind]) -> bool {
+        match self.tokens.get(at) {
+            Some(token) => kinds.contains(&token.kind),
+            None => false,
+        }
     }
 
     /// The bytes of a token.
     pub(crate) fn text(&self, at: usize) -> &'a [u8] {
-        token_text(self.bytes, self.tokens, at)
+        match self.tokens.get(at) {
+            Some(token) => slice(self.bytes, token.span.from, token.span.to),
+            None => &[],
+        }
+    }
+
+    /// A token as it is told.
+    pub(crate) fn told(&self, at: usize) -> &'a str {
+        shown(self.text(at))
+    }
+
+    /// The piece of the text that a span has.
+    pub(crate) fn piece(&self, span: Span) -> &'a [u8] {
+        slice(self.bytes, span.from, span.to)
     }
 
     /// The span of a token; the place, where there is none.
@@ -129,32 +118,15 @@ impl<'a> Context<'a> {
 
     /// The innermost construction that is open.
     pub(crate) fn top(&self) -> Option<Open> {
-        self.opened.opens.last().copied()
+        self.opened.top()
     }
 
-    /// Whether the innermost construction that is open begins with a token of a kind.
-    pub(crate) fn is_within(&self, kind: Kind) -> bool {
-        matches!(self.top(), Some(open) if open.kind == kind)
-    }
-
-    /// The innermost construction with an end of its own that is open.
-    pub(crate) fn list(&self) -> Option<Open> {
-        for open in self.opened.opens.iter().rev() {
-            if open.has_end() {
-                return Some(*open);
-            }
+    // Whether the innermost construction that is open begins with a parenthesis.
+    fn is_in_parentheses(&self) -> bool {
+        match self.top() {
+            Some(open) => matches!(open.kind, Kind::LeftParen),
+            None => false,
         }
-        None
-    }
-
-    /// The innermost construction of a kind that is open.
-    pub(crate) fn innermost(&self, kind: Kind) -> Option<Open> {
-        for open in self.opened.opens.iter().rev() {
-            if open.kind == kind {
-                return Some(*open);
-            }
-        }
-        None
     }
 
     /// The innermost block that is open.
@@ -170,12 +142,29 @@ impl<'a> Context<'a> {
     /// Whether the place is among declarations, and in no list of parameters.
     pub(crate) fn is_in_declarations(&self) -> bool {
         let block = self.block();
-        block.is_told && block.begun.is_none() && !self.is_within(Kind::LeftParen)
+        block.is_told && block.begun.is_none() && !self.is_in_parentheses()
     }
 
     /// Whether the place is in the heading of a routine, and there in the list of its parameters.
     pub(crate) fn is_in_parameters(&self) -> bool {
         let block = self.block();
-        !block.is_told && block.is_routine && self.is_within(Kind::LeftParen)
+        !block.is_told && block.is_routine && self.is_in_parentheses()
+    }
+
+    // Whether a token is a name that is declared there, by the tokens beside it.
+    fn is_declared_at(&self, at: usize) -> bool {
+        let is_behind = at > 0 && self.is_of(at.saturating_sub(1), ROUTINES);
+        let behind = &[Kind::Colon, Kind::Comma, Kind::Equal];
+        self.is_of(at, &[Kind::Name]) && (is_behind || self.is_of(at.saturating_add(1), behind))
+    }
+
+    /// Whether a name seems to be declared in the text before a token of it.
+    pub(crate) fn seems_declared(&self, name: usize) -> bool {
+        for at in 0..name {
+            if self.are_alike(at, name) && self.is_declared_at(at) {
+                return true;
+            }
+        }
+        false
     }
 }

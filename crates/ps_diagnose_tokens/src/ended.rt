@@ -1,480 +1,504 @@
 //! What is told of `else`, `end`, `until` and of what stands behind an `end`.
 
 use crate::context::Context;
-use crate::kinds::is_operator;
-use crate::letters::{byte_before, count_of, end_of, line_start, start_of};
-use crate::spread::next_that;
-use crate::tell::{
-    exchange, help, label, note, put_all, put_before, put_behind, put_place, refuse, take_away,
+use crate::kinds::{BEGINS_STATEMENT, ENDS_VALUE};
+use crate::rule::Piece::{Is, Line, Routine, Token, Where};
+use crate::rule::Place::{
+    Ahead, Back, Bare, BeforeOutside, BehindEnd, BehindThen, Closed, ClosedHead, ClosedName, Ended,
+    EndedIf, ExpressionEnd, Here, Innermost, List, NextEnd, NextUntil, Outside, PastIf, Start,
+    TextEnd, Top, WaitingIf,
 };
-use crate::walk::{Block, Open, Stage};
-use ps_diagnose::Draft;
+use crate::rule::{Also, Fact, More, Reach, Rule, Test, Told};
+use crate::tests::first_of;
 use ps_scan::Kind;
-use std::alloc::AllocError;
 
-// The innermost `if` that waits for its `else`.
-fn waiting_if(cx: &Context<'_>) -> Option<Open> {
-    for open in cx.opened.opens.iter().rev() {
-        if open.kind == Kind::If && open.stage == Stage::Body {
-            return Some(*open);
-        }
-    }
-    None
-}
-
-// `else` behind a `;` that ended an `if`.
-fn else_behind_semicolon(cx: &Context<'_>, draft: &mut Draft, at: usize) -> Result<(), AllocError> {
-    refuse(cx, draft, &["the `;` before it ended the `if`"])?;
-    label(cx, draft, cx.span(at), &["the `if`"])?;
-    match cx.back(1) {
-        Some(before) => take_away(cx, draft, 0, cx.span(before)),
-        None => Ok(()),
-    }
-}
-
-// `else` behind further statements.
-fn else_further_on(cx: &Context<'_>, draft: &mut Draft, at: usize) -> Result<(), AllocError> {
-    refuse(cx, draft, &["the `if` before it ended at its `;`"])?;
-    label(cx, draft, cx.span(at), &["the `if`"])?;
-    help(
-        cx,
-        draft,
-        &["several statements are one where they stand between `begin` and `end`"],
-    )
-}
-
-// `else` within a `begin` that has not ended, in an `if`.
-fn else_in_begin(cx: &Context<'_>, draft: &mut Draft, begin: Open) -> Result<(), AllocError> {
-    refuse(cx, draft, &["`end` is missing before it"])?;
-    label(cx, draft, cx.span(begin.at), &["this `begin` is not ended"])?;
-    match cx.back(1) {
-        Some(before) if cx.is(before, Kind::Semicolon) => {
-            exchange(cx, draft, 0, cx.span(before), " end")
-        }
-        Some(before) => put_behind(cx, draft, 0, before, "end", " end"),
-        None => Ok(()),
-    }
-}
-
-/// `else` where no `if` waits for it.
-pub(crate) fn stray_else(cx: &Context<'_>, draft: &mut Draft) -> Result<bool, AllocError> {
-    if !cx.is_here(Kind::Else) || !cx.is_in_statements() {
-        return Ok(false);
-    }
-    if let Some(at) = cx.opened.last_if
-        && cx.is_back(1, Kind::Semicolon)
-    {
-        else_behind_semicolon(cx, draft, at)?;
-        return Ok(true);
-    }
-    if let Some((at, depth)) = cx.opened.past_if
-        && depth == cx.opened.opens.len()
-    {
-        else_further_on(cx, draft, at)?;
-        return Ok(true);
-    }
-    match (waiting_if(cx), cx.list()) {
-        (None, _) => refuse(cx, draft, &["no `if` before it waits for one"])?,
-        (Some(at), Some(begin)) if begin.kind == Kind::Begin && at.at < begin.at => {
-            else_in_begin(cx, draft, begin)?;
-        }
-        _ => return Ok(false),
-    }
-    Ok(true)
-}
-
-// Tells what has no `begin` in the block that ended too early.
-fn help_bare(cx: &Context<'_>, draft: &mut Draft, from: usize) -> Result<(), AllocError> {
-    let Some(bare) = cx.opened.bare else {
-        return Ok(());
-    };
-    if bare.at < from {
-        return Ok(());
-    }
-    let mut text = String::new(cx.alloc);
-    put_place(&mut text, cx.bytes, cx.span(bare.at).from)?;
-    let word = cx.told(bare.at);
-    help(
-        cx,
-        draft,
-        &["the `", word, "` at ", text.as_str(), " has no `begin`"],
-    )
-}
-
-// Tells the `begin` of an `end` that ended too much.
-fn tell_ended(
-    cx: &Context<'_>,
-    draft: &mut Draft,
-    end: usize,
-    closed: Open,
-) -> Result<(), AllocError> {
-    label(
-        cx,
-        draft,
-        cx.span(closed.at),
-        &["its `", cx.told(closed.at), "`"],
-    )?;
-    help_bare(cx, draft, closed.at)?;
-    if cx.at.saturating_add(1) == cx.tokens.len() {
-        exchange(cx, draft, 0, cx.span(cx.at), ".")?;
-    }
-    take_away(cx, draft, 1, cx.span(end))
-}
-
-/// Something behind the `end` that ended the program.
-pub(crate) fn end_of_program(cx: &Context<'_>, draft: &mut Draft) -> Result<bool, AllocError> {
-    let (Some(end), Some(closed)) = (cx.opened.ended, cx.opened.closed) else {
-        return Ok(false);
-    };
-    if cx.back(1) != Some(end) {
-        return Ok(false);
-    }
-    refuse(cx, draft, &["the `end` before it ends the program"])?;
-    tell_ended(cx, draft, end, closed)?;
-    Ok(true)
-}
-
-// Whether a byte is a space or a tab.
-fn is_blank(byte: u8) -> bool {
-    byte == b' ' || byte == b'\t'
-}
-
-// How far the line of a token is indented.
-fn indent_of(cx: &Context<'_>, at: usize) -> usize {
-    let start = line_start(cx.bytes, cx.span(at).from as usize);
-    end_of(cx.bytes, start, is_blank).saturating_sub(start)
-}
-
-// How far a token is indented, if it is the first one of its line.
-fn indent_of_first(cx: &Context<'_>, at: usize) -> Option<usize> {
-    let from = cx.span(at).from as usize;
-    let start = start_of(cx.bytes, from, is_blank);
-    if start == 0 || byte_before(cx.bytes, start) == b'\n' {
-        from.checked_sub(start)
-    } else {
-        None
-    }
-}
-
-// Whether a token begins a line that stands as if something around it had ended.
-fn stands_outside(cx: &Context<'_>, at: usize, indent: usize) -> bool {
-    match indent_of_first(cx, at) {
-        Some(own) => own <= indent,
-        None => false,
-    }
-}
-
-// The first token behind a `begin`, before its `end`, whose line stands as if that had ended.
-fn outside(cx: &Context<'_>, open: Open, end: usize) -> Option<usize> {
-    let indent = indent_of(cx, open.at);
-    for at in open.at.saturating_add(1)..end {
-        if !cx.is(at, Kind::Begin) && stands_outside(cx, at, indent) {
-            return Some(at);
-        }
-    }
-    None
-}
-
-// Tells the line that stands as if a construction had ended before it.
-fn note_outside(
-    cx: &Context<'_>,
-    draft: &mut Draft,
-    open: Open,
-    at: usize,
-) -> Result<(), AllocError> {
-    let before = cx.bytes.get(..cx.span(at).from as usize).unwrap_or(&[]);
-    let line = count_of(before, b'\n').saturating_add(1);
-    let word = cx.told(open.at);
-    let text = format!(in cx.alloc; "line {line} stands as if this `{word}` had ended before it")?;
-    note(draft, text)?;
-    let is_behind = match at.checked_sub(1) {
-        Some(last) => cx.is(last, Kind::Semicolon),
-        None => false,
-    };
-    if is_behind {
-        put_before(cx, draft, 0, at, "end;", "end; ")?;
-    }
-    Ok(())
-}
-
-// A point behind the `end` of an inner construction.
-fn inner_end(
-    cx: &Context<'_>,
-    draft: &mut Draft,
-    end: usize,
-    closed: Open,
-) -> Result<(), AllocError> {
-    let word = cx.told(closed.at);
-    refuse(
-        cx,
-        draft,
-        &["the `end` before it ends an inner `", word, "`"],
-    )?;
-    label(cx, draft, cx.span(closed.at), &["its `", word, "`"])?;
-    if let Some(at) = outside(cx, closed, end) {
-        note_outside(cx, draft, closed, at)?;
-    }
-    match end.checked_sub(1) {
-        Some(last) => put_behind(cx, draft, 1, last, "end", " end"),
-        None => Ok(()),
-    }
-}
-
-// The word of a block's heading.
-fn word_of(block: Block) -> &'static str {
-    if block.is_function {
-        "function"
-    } else {
-        "procedure"
-    }
-}
-
-// A point behind the `end` of a routine.
-fn routine_end(cx: &Context<'_>, draft: &mut Draft, block: Block) -> Result<(), AllocError> {
-    let name = cx.told(block.head.saturating_add(1));
-    refuse(
-        cx,
-        draft,
-        &["the `end` before it ends the ", word_of(block)],
-    )?;
-    put_all(&mut draft.text, &[" `", name, "`"])?;
-    label(
-        cx,
-        draft,
-        cx.span(block.head),
-        &["this `", word_of(block), "`"],
-    )?;
-    exchange(cx, draft, 0, cx.span(cx.at), ";")
-}
-
-/// A point behind an `end` that doesn't end the program.
-pub(crate) fn point_behind_end(cx: &Context<'_>, draft: &mut Draft) -> Result<bool, AllocError> {
-    let (Some(end), Some(closed)) = (cx.back(1), cx.opened.closed) else {
-        return Ok(false);
-    };
-    if !cx.is_here(Kind::Dot) || !cx.is(end, Kind::End) || cx.opened.ended.is_some() {
-        return Ok(false);
-    }
-    match cx.opened.closed_block {
-        Some(block) => routine_end(cx, draft, block)?,
-        None => inner_end(cx, draft, end, closed)?,
-    }
-    Ok(true)
-}
+// What has no `begin` in what ended too early.
+const HELP_BARE: Also = Also {
+    when: &[Test::From(Bare, Closed)],
+    told: &[Told::Help(&[
+        Is("the `"),
+        Token(Bare),
+        Is("` at "),
+        Where(Bare),
+        Is(" has no `begin`"),
+    ])],
+};
 
 /// A statement behind the `end` of a routine that ended too early.
-pub(crate) fn behind_routine(cx: &Context<'_>, draft: &mut Draft) -> Result<bool, AllocError> {
-    let (Some(block), Some(closed)) = (cx.opened.closed_block, cx.opened.closed) else {
-        return Ok(false);
-    };
-    let Some(end) = cx.back(2) else {
-        return Ok(false);
-    };
-    let is_here = cx.is(end, Kind::End) && cx.is_back(1, Kind::Semicolon) && block.is_routine;
-    if !is_here || !goes_on_in_routine(cx) {
-        return Ok(false);
-    }
-    let name = cx.told(block.head.saturating_add(1));
-    refuse(
-        cx,
-        draft,
-        &["the `end` before it ends the ", word_of(block)],
-    )?;
-    put_all(&mut draft.text, &[" `", name, "`"])?;
-    label(cx, draft, cx.span(closed.at), &["its `begin`"])?;
-    help_bare(cx, draft, closed.at)?;
-    take_away(cx, draft, 0, cx.span(end))?;
-    Ok(true)
+const BEHIND_ROUTINE_RULES: &[Rule] = &[Rule {
+    when: &[
+        Test::Is(Back(1), &[Kind::Semicolon]),
+        Test::Is(Back(2), &[Kind::End]),
+        Test::Holds(Fact::RoutineEnded),
+        Test::Has(Closed),
+        Test::Is(BehindEnd, &[Kind::Semicolon]),
+    ],
+    told: &[
+        Told::Why(&[
+            Is("the `end` before it ends the "),
+            Routine,
+            Is(" `"),
+            Token(ClosedName),
+            Is("`"),
+        ]),
+        Told::Label(Reach::One(Closed), &[Is("its `begin`")]),
+        Told::TakeAway(0, Reach::One(Back(2))),
+    ],
+    also: &[HELP_BARE],
+}];
+
+// `else` behind the end of an `if`.
+const ENDED_IF_RULES: &[Rule] = &[
+    // `else` behind a `;` that ended an `if`
+    Rule {
+        when: &[
+            Test::Is(Here, &[Kind::Else]),
+            Test::Holds(Fact::Statements),
+            Test::Has(EndedIf),
+            Test::Is(Back(1), &[Kind::Semicolon]),
+        ],
+        told: &[
+            Told::Why(&[Is("the `;` before it ended the `if`")]),
+            Told::Label(Reach::One(EndedIf), &[Is("the `if`")]),
+            Told::TakeAway(0, Reach::One(Back(1))),
+        ],
+        also: &[],
+    },
+    // behind a `;` that stands right behind `then`
+    Rule {
+        when: &[
+            Test::Is(Here, &[Kind::Else]),
+            Test::Holds(Fact::Statements),
+            Test::Is(BehindThen, &[Kind::Semicolon]),
+        ],
+        told: &[
+            Told::Why(&[Is("the `;` behind `then` ended the `if`")]),
+            Told::Label(Reach::One(PastIf), &[Is("the `if`")]),
+            Told::TakeAway(0, Reach::One(BehindThen)),
+        ],
+        also: &[],
+    },
+    // behind further statements
+    Rule {
+        when: &[
+            Test::Is(Here, &[Kind::Else]),
+            Test::Holds(Fact::Statements),
+            Test::Has(PastIf),
+        ],
+        told: &[
+            Told::Why(&[Is("the `if` before it ended at its `;`")]),
+            Told::Label(Reach::One(PastIf), &[Is("the `if`")]),
+            Told::More(More::Compound),
+            Told::Help(&[Is(
+                "several statements are one where they stand between `begin` and `end`",
+            )]),
+        ],
+        also: &[],
+    },
+];
+
+// `else` where no `if` waits for it.
+const STRAY_ELSE_RULES: &[Rule] = &[
+    Rule {
+        when: &[
+            Test::Is(Here, &[Kind::Else]),
+            Test::Holds(Fact::Statements),
+            Test::No(WaitingIf),
+        ],
+        told: &[Told::Why(&[Is("no `if` before it waits for one")])],
+        also: &[],
+    },
+    // within a `begin` that has not ended, in an `if`
+    Rule {
+        when: &[
+            Test::Is(Here, &[Kind::Else]),
+            Test::Holds(Fact::Statements),
+            Test::Is(List, &[Kind::Begin]),
+            Test::From(List, WaitingIf),
+        ],
+        told: &[
+            Told::Why(&[Is("`end` is missing before it")]),
+            Told::Label(Reach::One(List), &[Is("this `begin` is not ended")]),
+        ],
+        also: &[
+            Also {
+                when: &[Test::Is(Back(1), &[Kind::Semicolon])],
+                told: &[Told::Exchange(Reach::One(Back(1)), &[Is(" end")])],
+            },
+            Also {
+                when: &[Test::IsNot(Back(1), &[Kind::Semicolon])],
+                told: &[Told::PutBehind(0, Back(1), "end", " end")],
+            },
+        ],
+    },
+];
+
+// `until` where no `repeat` waits for it.
+const STRAY_UNTIL_RULES: &[Rule] = &[
+    Rule {
+        when: &[
+            Test::Is(Here, &[Kind::Until]),
+            Test::Holds(Fact::Statements),
+            Test::No(Innermost(Kind::Repeat)),
+        ],
+        told: &[Told::Why(&[Is("no `repeat` before it waits for one")])],
+        also: &[],
+    },
+    Rule {
+        when: &[
+            Test::Is(Here, &[Kind::Until]),
+            Test::Holds(Fact::Statements),
+            Test::Is(List, &[Kind::Begin]),
+            Test::From(List, Innermost(Kind::Repeat)),
+        ],
+        told: &[
+            Told::Why(&[Is("`end` is missing before it")]),
+            Told::Label(Reach::One(List), &[Is("this `begin` is not ended")]),
+            Told::PutBefore(Here, "end", "end "),
+        ],
+        also: &[],
+    },
+];
+
+// What stands behind the `end` that ended the program.
+const PROGRAM_RULES: &[Rule] = &[
+    // behind the `end` that ended the program
+    Rule {
+        when: &[Test::Same(Back(1), Ended), Test::Has(Closed)],
+        told: &[
+            Told::Why(&[Is("the `end` before it ends the program")]),
+            Told::Label(Reach::One(Closed), &[Is("its `"), Token(Closed), Is("`")]),
+        ],
+        also: &[
+            HELP_BARE,
+            Also {
+                when: &[Test::Same(Ahead(1), TextEnd)],
+                told: &[Told::Exchange(Reach::One(Here), &[Is(".")])],
+            },
+            Also {
+                when: &[],
+                told: &[Told::TakeAway(1, Reach::One(Ended))],
+            },
+        ],
+    },
+];
+
+// A point behind the `end` of a routine.
+const ROUTINE_RULES: &[Rule] = &[
+    // a point behind an `end` that doesn't end the program
+    Rule {
+        when: &[
+            Test::Is(Here, &[Kind::Dot]),
+            Test::Is(Back(1), &[Kind::End]),
+            Test::No(Ended),
+            Test::Has(Closed),
+            Test::Has(ClosedHead),
+        ],
+        told: &[
+            Told::Why(&[
+                Is("the `end` before it ends the "),
+                Routine,
+                Is(" `"),
+                Token(ClosedName),
+                Is("`"),
+            ]),
+            Told::Label(Reach::One(ClosedHead), &[Is("this `"), Routine, Is("`")]),
+            Told::Exchange(Reach::One(Here), &[Is(";")]),
+        ],
+        also: &[],
+    },
+];
+
+// A point behind the `end` of something else.
+const INNER_RULES: &[Rule] = &[Rule {
+    when: &[
+        Test::Is(Here, &[Kind::Dot]),
+        Test::Is(Back(1), &[Kind::End]),
+        Test::No(Ended),
+        Test::Has(Closed),
+    ],
+    told: &[
+        Told::Why(&[
+            Is("the `end` before it ends an inner `"),
+            Token(Closed),
+            Is("`"),
+        ]),
+        Told::Label(Reach::One(Closed), &[Is("its `"), Token(Closed), Is("`")]),
+    ],
+    also: &[
+        Also {
+            when: &[Test::Has(Outside)],
+            told: &[Told::Note(&[
+                Is("line "),
+                Line(Outside),
+                Is(" stands as if this `"),
+                Token(Closed),
+                Is("` had ended before it"),
+            ])],
+        },
+        Also {
+            when: &[
+                Test::Holds(Fact::InRoutine),
+                Test::Is(Closed, &[Kind::Begin]),
+            ],
+            told: &[Told::PutBefore(Closed, "end;", "end; ")],
+        },
+        Also {
+            when: &[Test::Is(BeforeOutside, &[Kind::Semicolon])],
+            told: &[Told::PutBefore(Outside, "end;", "end; ")],
+        },
+        Also {
+            when: &[Test::Has(Back(2))],
+            told: &[Told::PutBehind(1, Back(2), "end", " end")],
+        },
+    ],
+}];
+
+// `end` in a `repeat`, and `then` in a loop.
+const REPEAT_RULES: &[Rule] = &[
+    // `end` in a `repeat`
+    Rule {
+        when: &[
+            Test::Is(Here, &[Kind::End]),
+            Test::Is(List, &[Kind::Repeat]),
+        ],
+        told: &[
+            Told::Why(&[Is("a `repeat` ends with `until`")]),
+            Told::Label(Reach::One(List), &[Is("the `repeat`")]),
+        ],
+        also: &[],
+    },
+    // the word of another construction, as `then` in a `while`
+    Rule {
+        when: &[
+            Test::Head(&[Kind::While, Kind::For, Kind::With]),
+            Test::Is(Here, &[Kind::Then]),
+            Test::Is(Back(1), ENDS_VALUE),
+        ],
+        told: &[
+            Told::Why(&[Is("a `"), Token(Top), Is("` has `do`")]),
+            Told::Label(Reach::One(Top), &[Is("the `"), Token(Top), Is("`")]),
+            Told::Exchange(Reach::One(Here), &[Is("do")]),
+        ],
+        also: &[],
+    },
+];
+
+// The word of another construction.
+const WORDS_RULES: &[Rule] = &[
+    Rule {
+        when: &[
+            Test::Head(&[Kind::If]),
+            Test::Is(Here, &[Kind::Do]),
+            Test::Is(Back(1), ENDS_VALUE),
+        ],
+        told: &[
+            Told::Why(&[Is("an `if` has `then`")]),
+            Told::Label(Reach::One(Top), &[Is("the `if`")]),
+            Told::Exchange(Reach::One(Here), &[Is("then")]),
+        ],
+        also: &[],
+    },
+    Rule {
+        when: &[
+            Test::Head(&[Kind::Case]),
+            Test::Is(Here, &[Kind::Do, Kind::Then]),
+            Test::Is(Back(1), ENDS_VALUE),
+        ],
+        told: &[
+            Told::Why(&[Is("a `"), Token(Top), Is("` has `of`")]),
+            Told::Label(Reach::One(Top), &[Is("the `"), Token(Top), Is("`")]),
+            Told::Exchange(Reach::One(Here), &[Is("of")]),
+        ],
+        also: &[],
+    },
+];
+
+// What is told of a `repeat` whose `until` is missing.
+const UNTIL_MISSING: &[Told] = &[
+    Told::Why(&[Is("`;` or the `until` of a `repeat` is missing before it")]),
+    Told::Label(Reach::One(Top), &[Is("the `repeat`")]),
+    Told::Help(&[Is("a `repeat` ends with `until` and a condition")]),
+];
+
+// What may begin a statement that stands behind another one.
+const BEGINS: &[Kind] = &[
+    Kind::Name,
+    Kind::Begin,
+    Kind::If,
+    Kind::While,
+    Kind::For,
+    Kind::Repeat,
+    Kind::Case,
+    Kind::With,
+];
+
+// What is told of a statement in a `case` without a constant before it.
+const CASE_GOES_ON: &[Told] = &[
+    Told::Why(&[Is("in a `case` constants and `:` stand before a statement")]),
+    Told::Label(Reach::One(Top), &[Is("this `case` is not ended")]),
+    Told::Help(&[Is("several statements of one constant stand between `begin` and `end`")]),
+    Told::PutBefore(Start, "end;", "end; "),
+];
+
+// A `repeat` whose `until` is missing.
+const NO_UNTIL_RULES: &[Rule] = &[
+    Rule {
+        when: &[
+            Test::Is(Top, &[Kind::Repeat]),
+            Test::Is(Here, BEGINS),
+            Test::Is(Back(1), ENDS_VALUE),
+            Test::From(NextUntil, NextEnd),
+        ],
+        told: UNTIL_MISSING,
+        also: &[],
+    },
+    Rule {
+        when: &[
+            Test::Is(Top, &[Kind::Repeat]),
+            Test::Is(Here, BEGINS),
+            Test::Is(Back(1), &[Kind::End]),
+            Test::From(NextUntil, NextEnd),
+        ],
+        told: UNTIL_MISSING,
+        also: &[],
+    },
+];
+
+// A statement in a `case` without a constant before it.
+const NO_CONSTANT_RULES: &[Rule] = &[
+    Rule {
+        when: &[
+            Test::Body(&[Kind::Case]),
+            Test::Same(Start, Here),
+            Test::Is(Here, BEGINS_STATEMENT),
+        ],
+        told: CASE_GOES_ON,
+        also: &[],
+    },
+    Rule {
+        when: &[
+            Test::Body(&[Kind::Case]),
+            Test::Same(Start, Here),
+            Test::Is(Here, &[Kind::Begin]),
+        ],
+        told: CASE_GOES_ON,
+        also: &[],
+    },
+    Rule {
+        when: &[
+            Test::Body(&[Kind::Case]),
+            Test::Same(Start, Back(1)),
+            Test::Is(Back(1), &[Kind::Name]),
+            Test::Is(
+                Here,
+                &[
+                    Kind::Assign,
+                    Kind::LeftParen,
+                    Kind::LeftBracket,
+                    Kind::Semicolon,
+                    Kind::Caret,
+                ],
+            ),
+        ],
+        told: CASE_GOES_ON,
+        also: &[],
+    },
+];
+
+// Two operands beside each other in a condition.
+const NO_OPERATOR_RULES: &[Rule] = &[Rule {
+    when: &[
+        Test::Head(&[Kind::If, Kind::While]),
+        Test::Is(Back(1), ENDS_VALUE),
+        Test::Is(
+            Here,
+            &[Kind::Name, Kind::Number, Kind::Text, Kind::Nil, Kind::Not],
+        ),
+        Test::Is(ExpressionEnd, &[Kind::Then, Kind::Do]),
+    ],
+    told: &[Told::Why(&[Is("an operator is missing before it")])],
+    also: &[],
+}];
+
+// The rule of a statement behind the `end` of a routine that ended too early.
+fn behind_routine(cx: &Context<'_>) -> Option<&'static Rule> {
+    first_of(cx, BEHIND_ROUTINE_RULES)
 }
 
-// Whether one more token opens or ends something, at a depth.
-fn depth_behind(depth: usize, kind: Kind) -> Option<usize> {
-    match kind {
-        Kind::Begin | Kind::Case | Kind::Record => Some(depth.saturating_add(1)),
-        Kind::End => depth.checked_sub(1),
-        _ => Some(depth),
-    }
+// The rule of `else` behind the end of an `if`.
+fn ended_if(cx: &Context<'_>) -> Option<&'static Rule> {
+    first_of(cx, ENDED_IF_RULES)
 }
 
-// The first `end` from the place on that ends nothing which begins there.
-fn next_end(cx: &Context<'_>) -> Option<usize> {
-    let mut depth = 0;
-    let tokens = cx.tokens.get(cx.at..).unwrap_or(&[]);
-    for (count, token) in tokens.iter().enumerate() {
-        match depth_behind(depth, token.kind) {
-            Some(next) => depth = next,
-            None => return Some(cx.at.saturating_add(count)),
-        }
-    }
-    None
+// The rule of `else` where no `if` waits for it.
+fn stray_else(cx: &Context<'_>) -> Option<&'static Rule> {
+    first_of(cx, STRAY_ELSE_RULES)
 }
 
-// Whether the statements at the place end by an `end` that doesn't end the program.
-fn goes_on_in_routine(cx: &Context<'_>) -> bool {
-    match next_end(cx) {
-        Some(end) => cx.is(end.saturating_add(1), Kind::Semicolon),
-        None => false,
-    }
+// The rule of `until` where no `repeat` waits for it.
+fn stray_until(cx: &Context<'_>) -> Option<&'static Rule> {
+    first_of(cx, STRAY_UNTIL_RULES)
 }
 
-/// `end` in a `repeat`.
-pub(crate) fn end_in_repeat(cx: &Context<'_>, draft: &mut Draft) -> Result<bool, AllocError> {
-    let Some(open) = cx.list() else {
-        return Ok(false);
-    };
-    if !cx.is_here(Kind::End) || open.kind != Kind::Repeat {
-        return Ok(false);
-    }
-    refuse(cx, draft, &["a `repeat` ends with `until`"])?;
-    label(cx, draft, cx.span(open.at), &["the `repeat`"])?;
-    Ok(true)
+// The rule of what stands behind the `end` that ended the program.
+fn of_program(cx: &Context<'_>) -> Option<&'static Rule> {
+    first_of(cx, PROGRAM_RULES)
 }
 
-/// `until` where no `repeat` waits for it.
-pub(crate) fn stray_until(cx: &Context<'_>, draft: &mut Draft) -> Result<bool, AllocError> {
-    if !cx.is_here(Kind::Until) || !cx.is_in_statements() {
-        return Ok(false);
-    }
-    match (cx.innermost(Kind::Repeat), cx.list()) {
-        (None, _) => refuse(cx, draft, &["no `repeat` before it waits for one"])?,
-        (Some(at), Some(begin)) if begin.kind == Kind::Begin && at.at < begin.at => {
-            refuse(cx, draft, &["`end` is missing before it"])?;
-            label(cx, draft, cx.span(begin.at), &["this `begin` is not ended"])?;
-            put_before(cx, draft, 0, cx.at, "end", "end ")?;
-        }
-        _ => return Ok(false),
-    }
-    Ok(true)
+// The rule of a point behind the `end` of a routine.
+fn of_routine(cx: &Context<'_>) -> Option<&'static Rule> {
+    first_of(cx, ROUTINE_RULES)
 }
 
-/// The word of another construction, as `then` in a `while`.
-pub(crate) fn word_of_another(cx: &Context<'_>, draft: &mut Draft) -> Result<bool, AllocError> {
-    let Some(open) = cx.top() else {
-        return Ok(false);
-    };
-    let is_behind_value = cx.kind_back(1).is_some_and(crate::kinds::ends_value);
-    if open.stage != Stage::Head || !is_behind_value {
-        return Ok(false);
-    }
-    let word = match (open.kind, cx.kind(cx.at)) {
-        (Kind::While | Kind::For | Kind::With, Some(Kind::Then)) => "do",
-        (Kind::If, Some(Kind::Do)) => "then",
-        (Kind::Case, Some(Kind::Do | Kind::Then)) => "of",
-        _ => return Ok(false),
-    };
-    refuse(cx, draft, &["a `", cx.told(open.at), "` has `", word, "`"])?;
-    label(
-        cx,
-        draft,
-        cx.span(open.at),
-        &["the `", cx.told(open.at), "`"],
-    )?;
-    exchange(cx, draft, 0, cx.span(cx.at), word)?;
-    Ok(true)
+// The rule of a point behind the `end` of something else.
+fn inner(cx: &Context<'_>) -> Option<&'static Rule> {
+    first_of(cx, INNER_RULES)
 }
 
-// Whether a statement could begin at the place, behind one that ended.
-fn is_behind_statement(cx: &Context<'_>) -> bool {
-    let begins = matches!(cx.kind(cx.at), Some(Kind::Name | Kind::Begin))
-        || cx.kind(cx.at).is_some_and(crate::kinds::begins_statement);
-    let ended = cx.kind_back(1).is_some_and(crate::kinds::ends_value) || cx.is_back(1, Kind::End);
-    begins && ended
+// The rule of `end` in a `repeat`, and `then` in a loop.
+fn of_repeat(cx: &Context<'_>) -> Option<&'static Rule> {
+    first_of(cx, REPEAT_RULES)
 }
 
-// Whether an `until` follows for the innermost `repeat`.
-fn until_follows(cx: &Context<'_>) -> bool {
-    let at = next_that(cx, cx.at, |kind| matches!(kind, Kind::Until | Kind::Repeat));
-    let end = next_end(cx).unwrap_or(cx.tokens.len());
-    at < end
+// The rule of the word of another construction.
+fn words(cx: &Context<'_>) -> Option<&'static Rule> {
+    first_of(cx, WORDS_RULES)
 }
 
-/// A `repeat` whose `until` is missing.
-pub(crate) fn until_missing(cx: &Context<'_>, draft: &mut Draft) -> Result<bool, AllocError> {
-    let Some(open) = cx.top() else {
-        return Ok(false);
-    };
-    if open.kind != Kind::Repeat || !is_behind_statement(cx) || until_follows(cx) {
-        return Ok(false);
-    }
-    refuse(
-        cx,
-        draft,
-        &["`;` or the `until` of a `repeat` is missing before it"],
-    )?;
-    label(cx, draft, cx.span(open.at), &["the `repeat`"])?;
-    help(cx, draft, &["a `repeat` ends with `until` and a condition"])?;
-    Ok(true)
+// The rule of a `repeat` whose `until` is missing.
+fn no_until(cx: &Context<'_>) -> Option<&'static Rule> {
+    first_of(cx, NO_UNTIL_RULES)
 }
 
-// Whether a statement goes on at the place in a `case`, where a constant must stand before it.
-fn is_statement_of_case(cx: &Context<'_>) -> Option<usize> {
-    let kind = cx.kind(cx.at)?;
-    let begins = crate::kinds::begins_statement(kind) || kind == Kind::Begin;
-    if begins && cx.opened.start == cx.at {
-        return Some(cx.at);
-    }
-    let name = cx.back(1)?;
-    let goes_on = matches!(
-        kind,
-        Kind::Assign | Kind::LeftParen | Kind::LeftBracket | Kind::Semicolon | Kind::Caret
-    );
-    if goes_on && cx.is(name, Kind::Name) && cx.opened.start == name {
-        return Some(name);
-    }
-    None
+// The rule of a statement in a `case` without a constant before it.
+fn no_constant(cx: &Context<'_>) -> Option<&'static Rule> {
+    first_of(cx, NO_CONSTANT_RULES)
 }
 
-/// A statement in a `case` without a constant before it: the `end` of the `case` may be missing.
-pub(crate) fn case_goes_on(cx: &Context<'_>, draft: &mut Draft) -> Result<bool, AllocError> {
-    let Some(open) = cx.top() else {
-        return Ok(false);
-    };
-    if open.kind != Kind::Case || open.stage == Stage::Head {
-        return Ok(false);
-    }
-    let Some(start) = is_statement_of_case(cx) else {
-        return Ok(false);
-    };
-    refuse(
-        cx,
-        draft,
-        &["in a `case` constants and `:` stand before a statement"],
-    )?;
-    label(cx, draft, cx.span(open.at), &["this `case` is not ended"])?;
-    help(
-        cx,
-        draft,
-        &["several statements of one constant stand between `begin` and `end`"],
-    )?;
-    put_before(cx, draft, 0, start, "end;", "end; ")?;
-    Ok(true)
+// The rule of two operands beside each other in a condition.
+fn no_operator(cx: &Context<'_>) -> Option<&'static Rule> {
+    first_of(cx, NO_OPERATOR_RULES)
 }
 
-// The kinds between which an operator is missing.
-fn is_operand_start(kind: Kind) -> bool {
-    matches!(
-        kind,
-        Kind::Name | Kind::Number | Kind::Text | Kind::Nil | Kind::Not
-    )
+/// The rule of a statement behind the `end` of a routine, if it fits.
+pub(crate) fn of_routine_before(cx: &Context<'_>) -> Option<&'static Rule> {
+    behind_routine(cx)
 }
 
-/// Two operands beside each other in a condition that ends behind them.
-pub(crate) fn operator_missing(cx: &Context<'_>, draft: &mut Draft) -> Result<bool, AllocError> {
-    let Some(open) = cx.top() else {
-        return Ok(false);
-    };
-    let is_condition = matches!(open.kind, Kind::If | Kind::While) && open.stage == Stage::Head;
-    let is_pair = cx.kind(cx.at).is_some_and(is_operand_start)
-        && cx.kind_back(1).is_some_and(crate::kinds::ends_value);
-    if !is_condition || !is_pair {
-        return Ok(false);
-    }
-    let end = next_that(cx, cx.at, |kind| {
-        crate::kinds::bounds_expression(kind) && !is_operator(kind)
-    });
-    if !matches!(cx.kind(end), Some(Kind::Then | Kind::Do)) {
-        return Ok(false);
-    }
-    refuse(cx, draft, &["an operator is missing before it"])?;
-    Ok(true)
+/// The first rule that fits of those of `else`, `until` and `end`.
+pub(crate) fn at_the_end(cx: &Context<'_>) -> Option<&'static Rule> {
+    ended_if(cx)
+        .or(stray_else(cx))
+        .or(stray_until(cx))
+        .or(of_program(cx))
+        .or(of_routine(cx))
+        .or(inner(cx))
+        .or(of_repeat(cx))
+        .or(words(cx))
+}
+
+/// The first that fits of those of what is missing, and tells itself by what stands behind the place.
+pub(crate) fn missing(cx: &Context<'_>) -> Option<&'static Rule> {
+    no_until(cx).or(no_constant(cx)).or(no_operator(cx))
 }

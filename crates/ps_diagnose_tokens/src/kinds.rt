@@ -1,134 +1,178 @@
-//! What tokens are for.
+//! Kinds of tokens, by what they are for.
 
 use ps_scan::Kind;
 
-/// Whether a token compares.
-pub(crate) fn compares(kind: Kind) -> bool {
-    matches!(
-        kind,
-        Kind::Equal
-            | Kind::NotEqual
-            | Kind::Less
-            | Kind::Greater
-            | Kind::LessEqual
-            | Kind::GreaterEqual
-            | Kind::In
-    )
-}
+/// What compares.
+pub(crate) const COMPARES: &[Kind] = &[
+    Kind::Equal,
+    Kind::NotEqual,
+    Kind::Less,
+    Kind::Greater,
+    Kind::LessEqual,
+    Kind::GreaterEqual,
+    Kind::In,
+];
 
-/// Whether a token adds, or joins by `or`.
-pub(crate) fn adds(kind: Kind) -> bool {
-    matches!(kind, Kind::Plus | Kind::Minus | Kind::Or)
-}
+/// What compares, adds, or joins by `or`.
+pub(crate) const COMPARES_OR_ADDS: &[Kind] = &[
+    Kind::Equal,
+    Kind::NotEqual,
+    Kind::Less,
+    Kind::Greater,
+    Kind::LessEqual,
+    Kind::GreaterEqual,
+    Kind::In,
+    Kind::Plus,
+    Kind::Minus,
+    Kind::Or,
+];
 
-/// Whether a token multiplies, or joins by `and`.
-pub(crate) fn multiplies(kind: Kind) -> bool {
-    matches!(
-        kind,
-        Kind::Star | Kind::Slash | Kind::Div | Kind::Mod | Kind::And
-    )
-}
+/// The operators between two operands.
+pub(crate) const OPERATORS: &[Kind] = &[
+    Kind::Equal,
+    Kind::NotEqual,
+    Kind::Less,
+    Kind::Greater,
+    Kind::LessEqual,
+    Kind::GreaterEqual,
+    Kind::In,
+    Kind::Plus,
+    Kind::Minus,
+    Kind::Or,
+    Kind::Star,
+    Kind::Slash,
+    Kind::Div,
+    Kind::Mod,
+    Kind::And,
+];
 
-/// Whether a token is an operator between two operands.
-pub(crate) fn is_operator(kind: Kind) -> bool {
-    compares(kind) || adds(kind) || multiplies(kind)
-}
+/// What joins two conditions.
+pub(crate) const JOINS: &[Kind] = &[Kind::And, Kind::Or];
 
-/// Whether a value may end with a token.
-pub(crate) fn ends_value(kind: Kind) -> bool {
-    matches!(
-        kind,
-        Kind::Name
-            | Kind::Number
-            | Kind::Text
-            | Kind::Nil
-            | Kind::RightParen
-            | Kind::RightBracket
-            | Kind::Caret
-    )
-}
+/// What a value may end with.
+pub(crate) const ENDS_VALUE: &[Kind] = &[
+    Kind::Name,
+    Kind::Number,
+    Kind::Text,
+    Kind::Nil,
+    Kind::RightParen,
+    Kind::RightBracket,
+    Kind::Caret,
+];
 
-/// Whether a statement begins with a token, and nothing else does.
-pub(crate) fn begins_statement(kind: Kind) -> bool {
-    matches!(
-        kind,
-        Kind::If | Kind::While | Kind::For | Kind::Repeat | Kind::Case | Kind::With
-    )
-}
+/// What a statement begins with, and nothing else.
+pub(crate) const BEGINS_STATEMENT: &[Kind] = &[
+    Kind::If,
+    Kind::While,
+    Kind::For,
+    Kind::Repeat,
+    Kind::Case,
+    Kind::With,
+];
 
-/// Whether a token is a word of the language.
-pub(crate) fn is_word(kind: Kind) -> bool {
-    begins_statement(kind) || is_word_of_block(kind) || is_word_within(kind)
-}
+/// What ends a statement.
+pub(crate) const ENDS_STATEMENT: &[Kind] = &[Kind::Semicolon, Kind::End, Kind::Else, Kind::Until];
 
-// Whether a token is a word of blocks and types.
-fn is_word_of_block(kind: Kind) -> bool {
-    matches!(
-        kind,
-        Kind::Array
-            | Kind::Begin
-            | Kind::Const
-            | Kind::End
-            | Kind::File
-            | Kind::Function
-            | Kind::Label
-            | Kind::Packed
-            | Kind::Procedure
-            | Kind::Program
-            | Kind::Record
-            | Kind::Set
-            | Kind::Type
-            | Kind::Var
-    )
-}
+/// What an expression ends before, or begins behind.
+pub(crate) const BOUNDS_EXPRESSION: &[Kind] = &[
+    Kind::Semicolon,
+    Kind::Comma,
+    Kind::Colon,
+    Kind::Assign,
+    Kind::DotDot,
+    Kind::If,
+    Kind::While,
+    Kind::For,
+    Kind::Repeat,
+    Kind::Case,
+    Kind::With,
+    Kind::Array,
+    Kind::Begin,
+    Kind::Const,
+    Kind::End,
+    Kind::File,
+    Kind::Function,
+    Kind::Label,
+    Kind::Packed,
+    Kind::Procedure,
+    Kind::Program,
+    Kind::Record,
+    Kind::Set,
+    Kind::Type,
+    Kind::Var,
+    Kind::Do,
+    Kind::Downto,
+    Kind::Else,
+    Kind::Goto,
+    Kind::Of,
+    Kind::Then,
+    Kind::To,
+    Kind::Until,
+];
 
-// Whether a token is a word within statements.
-fn is_word_within(kind: Kind) -> bool {
-    matches!(
-        kind,
-        Kind::And
-            | Kind::Div
-            | Kind::Do
-            | Kind::Downto
-            | Kind::Else
-            | Kind::Goto
-            | Kind::In
-            | Kind::Mod
-            | Kind::Nil
-            | Kind::Not
-            | Kind::Of
-            | Kind::Or
-            | Kind::Then
-            | Kind::To
-            | Kind::Until
-    )
-}
+/// The words of the language.
+pub(crate) const WORDS: &[Kind] = &[
+    Kind::And,
+    Kind::Array,
+    Kind::Begin,
+    Kind::Case,
+    Kind::Const,
+    Kind::Div,
+    Kind::Do,
+    Kind::Downto,
+    Kind::Else,
+    Kind::End,
+    Kind::File,
+    Kind::For,
+    Kind::Function,
+    Kind::Goto,
+    Kind::If,
+    Kind::In,
+    Kind::Label,
+    Kind::Mod,
+    Kind::Nil,
+    Kind::Not,
+    Kind::Of,
+    Kind::Or,
+    Kind::Packed,
+    Kind::Procedure,
+    Kind::Program,
+    Kind::Record,
+    Kind::Repeat,
+    Kind::Set,
+    Kind::Then,
+    Kind::To,
+    Kind::Type,
+    Kind::Until,
+    Kind::Var,
+    Kind::While,
+    Kind::With,
+];
 
-/// Whether an expression ends before a token, or begins behind it.
-pub(crate) fn bounds_expression(kind: Kind) -> bool {
-    matches!(
-        kind,
-        Kind::Semicolon | Kind::Comma | Kind::Colon | Kind::Assign | Kind::DotDot
-    ) || bounds_by_word(kind)
-}
+/// What begins a part of declarations.
+pub(crate) const PARTS: &[Kind] = &[Kind::Const, Kind::Type, Kind::Var];
 
-// Whether an expression ends before a word, or begins behind it.
-fn bounds_by_word(kind: Kind) -> bool {
-    is_word(kind) && !is_operator(kind) && !matches!(kind, Kind::Nil | Kind::Not)
-}
+/// What a part of declarations ends before.
+pub(crate) const ENDS_PART: &[Kind] = &[
+    Kind::Const,
+    Kind::Type,
+    Kind::Var,
+    Kind::Procedure,
+    Kind::Function,
+    Kind::Begin,
+    Kind::Label,
+];
 
-/// Whether a statement ends before a token.
-pub(crate) fn ends_statement(kind: Kind) -> bool {
-    matches!(kind, Kind::Semicolon | Kind::End | Kind::Else | Kind::Until)
-}
+/// Procedures and functions.
+pub(crate) const ROUTINES: &[Kind] = &[Kind::Procedure, Kind::Function];
 
 /// What a declaration part declares, in words.
-pub(crate) fn declared_by(kind: Kind) -> &'static str {
+pub(crate) fn declared_by(kind: Option<Kind>) -> &'static str {
     match kind {
-        Kind::Const => "constants",
-        Kind::Type => "types",
-        Kind::Var => "variables",
-        Kind::Label => "labels",
+        Some(Kind::Const) => "constants",
+        Some(Kind::Type) => "types",
+        Some(Kind::Var) => "variables",
+        Some(Kind::Label) => "labels",
         _ => "procedures and functions",
     }
 }

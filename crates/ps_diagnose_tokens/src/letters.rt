@@ -1,18 +1,55 @@
 //! The bytes of a text where no tokens are known: letters, words and lines.
 
-/// Whether a byte is a letter or a digit.
-pub(crate) fn is_of_name(byte: u8) -> bool {
-    byte.is_ascii_alphanumeric()
+use ps_text::Span;
+
+/// Bytes that stand beside each other.
+#[derive(Clone, Copy)]
+pub(crate) enum Class {
+    /// Letters and digits.
+    Name,
+    /// Those of a name as other languages have them.
+    Word,
+    Digit,
+    Hexadecimal,
+    /// Spaces and tabs.
+    Blank,
+    /// Spaces of any kind.
+    Space,
+    /// All but the end of a line.
+    Line,
+    /// All but the end of a comment in braces.
+    Comment,
+    /// All but the end of a string or a line.
+    Text,
+    /// All but parentheses, commas, apostrophes and the end of a line.
+    Item,
+    /// Signs and spaces that end a line.
+    Closing,
 }
 
-/// Whether a byte is of a name as other languages have them.
-pub(crate) fn is_of_word(byte: u8) -> bool {
-    byte == b'_' || is_of_name(byte)
+/// Whether a byte is of a class.
+pub(crate) fn is_in(class: Class, byte: u8) -> bool {
+    match class {
+        Class::Name => byte.is_ascii_alphanumeric(),
+        Class::Word => byte == b'_' || byte.is_ascii_alphanumeric(),
+        Class::Digit => byte.is_ascii_digit(),
+        Class::Hexadecimal => byte.is_ascii_hexdigit(),
+        Class::Space => byte.is_ascii_whitespace(),
+        Class::Blank => matches!(byte, b' ' | b'\t'),
+        Class::Line => byte != b'\n',
+        Class::Comment => byte != b'}',
+        Class::Text => !matches!(byte, b'\'' | b'\n'),
+        Class::Item => !matches!(byte, b'(' | b',' | b'\'' | b'\n'),
+        Class::Closing => matches!(byte, b')' | b',' | b';' | b' '),
+    }
 }
 
 /// The byte at an offset; a space where there is none.
 pub(crate) fn byte_at(bytes: &[u8], at: usize) -> u8 {
-    bytes.get(at).copied().unwrap_or(b' ')
+    match bytes.get(at) {
+        Some(byte) => *byte,
+        None => b' ',
+    }
 }
 
 /// The byte before an offset; a space where there is none.
@@ -23,13 +60,11 @@ pub(crate) fn byte_before(bytes: &[u8], at: usize) -> u8 {
     }
 }
 
-/// The offset behind the bytes from an offset on that are of a kind.
-pub(crate) fn end_of<F: Fn(u8) -> bool>(bytes: &[u8], at: usize, is_one: F) -> usize
-    requires { F.IsAlwaysCallable is_one }
-{
+/// The offset behind the bytes from an offset on that are of a class.
+pub(crate) fn end_of(bytes: &[u8], at: usize, class: Class) -> usize {
     let mut end = at;
     for byte in bytes.get(at..).unwrap_or(&[]).iter() {
-        if !is_one(*byte) {
+        if !is_in(class, *byte) {
             break;
         }
         end = end.saturating_add(1);
@@ -37,13 +72,11 @@ pub(crate) fn end_of<F: Fn(u8) -> bool>(bytes: &[u8], at: usize, is_one: F) -> u
     end
 }
 
-/// The offset of the first of the bytes before an offset that are of a kind.
-pub(crate) fn start_of<F: Fn(u8) -> bool>(bytes: &[u8], at: usize, is_one: F) -> usize
-    requires { F.IsAlwaysCallable is_one }
-{
+/// The offset of the first of the bytes before an offset that are of a class.
+pub(crate) fn start_of(bytes: &[u8], at: usize, class: Class) -> usize {
     let mut start = at;
     for byte in bytes.get(..at).unwrap_or(bytes).iter().rev() {
-        if !is_one(*byte) {
+        if !is_in(class, *byte) {
             break;
         }
         start = start.saturating_sub(1);
@@ -51,20 +84,10 @@ pub(crate) fn start_of<F: Fn(u8) -> bool>(bytes: &[u8], at: usize, is_one: F) ->
     start
 }
 
-/// The offset at which the line of an offset ends.
-pub(crate) fn line_end(bytes: &[u8], at: usize) -> usize {
-    end_of(bytes, at, |byte| byte != b'\n')
-}
-
-/// The offset at which the line of an offset begins.
-pub(crate) fn line_start(bytes: &[u8], at: usize) -> usize {
-    start_of(bytes, at, |byte| byte != b'\n')
-}
-
 /// The offset behind the last byte of a line that is no space.
 pub(crate) fn trimmed_end(bytes: &[u8], at: usize) -> usize {
-    let end = line_end(bytes, at);
-    start_of(bytes, end, |byte| byte.is_ascii_whitespace()).max(at)
+    let end = end_of(bytes, at, Class::Line);
+    start_of(bytes, end, Class::Space).max(at)
 }
 
 /// The character at an offset, as it is written; none where the bytes there are none.
@@ -78,7 +101,10 @@ pub(crate) fn letter_at(bytes: &[u8], at: usize) -> Option<&str> {
     None
 }
 
-/// How many of the bytes are a byte.
-pub(crate) fn count_of(bytes: &[u8], wanted: u8) -> usize {
-    bytes.iter().filter(|byte| **byte == wanted).count()
+/// The span of a piece of the text.
+pub(crate) fn span_at(from: usize, to: usize) -> Span {
+    Span {
+        from: u32::try_from(from).unwrap_or(u32::MAX),
+        to: u32::try_from(to).unwrap_or(u32::MAX),
+    }
 }

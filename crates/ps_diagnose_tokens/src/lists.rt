@@ -1,385 +1,515 @@
 //! What is told of parentheses, of what stands in them, and of the heading of a routine.
 
 use crate::context::Context;
-use crate::kinds::is_operator;
-use crate::letters::trimmed_end;
-use crate::scanned::{before_signs, propose_closed};
-use crate::spread::{next_that, statement_end};
-use crate::tell::{exchange, help, label, put_before, put_behind, refuse, shown, take_away};
-use crate::walk::Stage;
-use ps_diagnose::Draft;
+use crate::kinds::OPERATORS;
+use crate::rule::Piece::{Is, Token, Tokens};
+use crate::rule::Place::{Ahead, Back, Closing, Head, Here, Innermost, Start, StatementEnd, Top};
+use crate::rule::{Also, Fact, Reach, Rule, Test, Told};
+use crate::tests::first_of;
 use ps_scan::Kind;
-use std::alloc::AllocError;
 
-// Whether a bracket of a kind is open in the statement or the heading.
-fn is_open(cx: &Context<'_>, kind: Kind) -> bool {
-    cx.innermost(kind).is_some()
-}
+// What stands before a value.
+const BEFORE_VALUE: &[Kind] = &[
+    Kind::If,
+    Kind::While,
+    Kind::Until,
+    Kind::To,
+    Kind::Downto,
+    Kind::Assign,
+    Kind::Not,
+];
 
-/// A parenthesis or a bracket that closes nothing.
-pub(crate) fn stray_closing(cx: &Context<'_>, draft: &mut Draft) -> Result<bool, AllocError> {
-    let (opening, told) = match cx.kind(cx.at) {
-        Some(Kind::RightParen) => (Kind::LeftParen, "("),
-        Some(Kind::RightBracket) => (Kind::LeftBracket, "["),
-        _ => return Ok(false),
-    };
-    if is_open(cx, opening) {
-        return Ok(false);
-    }
-    refuse(cx, draft, &["no `", told, "` before it is open"])?;
-    take_away(cx, draft, 0, cx.span(cx.at))?;
-    Ok(true)
-}
+// What no value begins with.
+const BEGINS_NONE: &[Kind] = &[
+    Kind::Semicolon,
+    Kind::RightParen,
+    Kind::RightBracket,
+    Kind::Comma,
+    Kind::Then,
+    Kind::Do,
+    Kind::Of,
+    Kind::End,
+    Kind::Else,
+    Kind::Until,
+    Kind::To,
+    Kind::Downto,
+];
 
-/// Parentheses without anything between.
-pub(crate) fn empty_parentheses(cx: &Context<'_>, draft: &mut Draft) -> Result<bool, AllocError> {
-    let Some(open) = cx.back(1) else {
-        return Ok(false);
-    };
-    if !cx.is_here(Kind::RightParen)
-        || !cx.is(open, Kind::LeftParen)
-        || !cx.is_back(2, Kind::Name)
-    {
-        return Ok(false);
-    }
-    refuse(cx, draft, &["without parameters there are no parentheses"])?;
-    take_away(cx, draft, 0, cx.span_of(open, cx.at))?;
-    Ok(true)
-}
+// What is told where a value is missing.
+const VALUE_MISSING: &[Told] = &[Told::Why(&[Is("a value is missing before it")])];
 
-/// Parameters without their type.
-pub(crate) fn parameter_type(cx: &Context<'_>, draft: &mut Draft) -> Result<bool, AllocError> {
-    let is_end = cx.is_here(Kind::RightParen) || cx.is_here(Kind::Semicolon);
-    if !cx.is_in_parameters()
-        || !is_end
-        || !cx.is_back(1, Kind::Name)
-        || cx.is_back(2, Kind::Colon)
-    {
-        return Ok(false);
-    }
-    refuse(
-        cx,
-        draft,
-        &["the type of the parameters is missing before it"],
-    )?;
-    help(cx, draft, &["a parameter is declared as `n: integer`"])?;
-    if let Some(last) = cx.back(1) {
-        put_behind(cx, draft, 0, last, ": integer", ": integer")?;
-    }
-    Ok(true)
-}
+// A parenthesis or a bracket that closes nothing, or ends no list.
+const CLOSING_RULES: &[Rule] = &[
+    Rule {
+        when: &[
+            Test::Is(Here, &[Kind::RightParen]),
+            Test::Is(Back(1), &[Kind::LeftParen]),
+            Test::Is(Back(2), &[Kind::Name]),
+        ],
+        told: &[
+            Told::Why(&[Is("without parameters there are no parentheses")]),
+            Told::TakeAway(0, Reach::To(Back(1), Here)),
+        ],
+        also: &[],
+    },
+    Rule {
+        when: &[
+            Test::Is(Here, &[Kind::RightParen]),
+            Test::No(Innermost(Kind::LeftParen)),
+        ],
+        told: &[
+            Told::Why(&[Is("no `(` before it is open")]),
+            Told::TakeAway(0, Reach::One(Here)),
+        ],
+        also: &[],
+    },
+    Rule {
+        when: &[
+            Test::Is(Here, &[Kind::RightBracket]),
+            Test::No(Innermost(Kind::LeftBracket)),
+        ],
+        told: &[
+            Told::Why(&[Is("no `[` before it is open")]),
+            Told::TakeAway(0, Reach::One(Here)),
+        ],
+        also: &[],
+    },
+];
 
-/// Parentheses in the place of an array's brackets.
-pub(crate) fn array_parentheses(cx: &Context<'_>, draft: &mut Draft) -> Result<bool, AllocError> {
-    if !cx.is_here(Kind::LeftParen) || !cx.is_back(1, Kind::Array) {
-        return Ok(false);
-    }
-    refuse(
-        cx,
-        draft,
-        &["the bounds of an array stand between `[` and `]`"],
-    )?;
-    let end = next_that(cx, cx.at.saturating_add(1), |_| false);
-    if cx.is(end, Kind::RightParen) {
-        let last = end.saturating_sub(1);
-        let bounds = shown(cx.piece(cx.span_of(cx.at.saturating_add(1), last)));
-        let put = format!(in cx.alloc; "[{bounds}]")?;
-        exchange(cx, draft, 0, cx.span_of(cx.at, end), put.as_str())?;
-    }
-    Ok(true)
-}
+// A value that is missing.
+const NO_VALUE_RULES: &[Rule] = &[
+    Rule {
+        when: &[
+            Test::Holds(Fact::Statements),
+            Test::Is(Here, BEGINS_NONE),
+            Test::Is(Back(1), OPERATORS),
+        ],
+        told: VALUE_MISSING,
+        also: &[],
+    },
+    Rule {
+        when: &[
+            Test::Holds(Fact::Statements),
+            Test::Is(Here, BEGINS_NONE),
+            Test::Is(Back(1), BEFORE_VALUE),
+        ],
+        told: VALUE_MISSING,
+        also: &[],
+    },
+    Rule {
+        when: &[
+            Test::Holds(Fact::Statements),
+            Test::Is(Here, BEGINS_NONE),
+            Test::Is(Back(1), &[Kind::Comma]),
+            Test::Is(Top, &[Kind::LeftParen]),
+        ],
+        told: VALUE_MISSING,
+        also: &[],
+    },
+];
 
-/// One number in the place of an array's bounds.
-pub(crate) fn array_bound(cx: &Context<'_>, draft: &mut Draft) -> Result<bool, AllocError> {
-    let is_alone = cx.is_back(1, Kind::Number) && cx.is_back(2, Kind::LeftBracket);
-    if !cx.is_here(Kind::RightBracket) || !is_alone || !cx.is_back(3, Kind::Array) {
-        return Ok(false);
-    }
-    refuse(cx, draft, &["the bounds of an array are two, as `1..10`"])?;
-    if let Some(before) = cx.back(1) {
-        put_before(cx, draft, 0, before, "1..", "1..")?;
-    }
-    Ok(true)
-}
+/// Names that are those of types in most texts.
+pub(crate) const TYPES: &[&str] = &[
+    "integer", "int", "char", "boolean", "bool", "real", "string",
+];
 
-// Whether two names stand beside each other at the place.
-fn are_names(cx: &Context<'_>) -> bool {
-    cx.is_here(Kind::Name) && cx.is_back(1, Kind::Name)
-}
+// What stands before a parameter.
+const BEFORE_PARAMETER: &[Kind] = &[Kind::LeftParen, Kind::Semicolon, Kind::Var];
 
-/// A type before the name of a parameter.
-pub(crate) fn type_before_parameter(
-    cx: &Context<'_>,
-    draft: &mut Draft,
-) -> Result<bool, AllocError> {
-    let is_first = matches!(
-        cx.kind_back(2),
-        Some(Kind::LeftParen | Kind::Semicolon | Kind::Var)
-    );
-    let is_type = matches!(cx.back(1), Some(before) if is_type_name(cx, before));
-    let is_one = is_first && (is_type || is_type_name(cx, cx.at));
-    if !cx.is_in_parameters() || !are_names(cx) || !is_one {
-        return Ok(false);
-    }
-    refuse(cx, draft, &["between a parameter and its type stands `:`"])?;
-    help(cx, draft, &["a parameter is declared as `n: integer`"])?;
-    propose_turned(cx, draft)?;
-    Ok(true)
-}
+// What is told of a type before the name of a parameter.
+const PARAMETER: &[Told] = &[
+    Told::Why(&[Is("between a parameter and its type stands `:`")]),
+    Told::Help(&[Is("a parameter is declared as `n: integer`")]),
+];
 
-// Whether a name is that of a type in most texts.
-fn is_type_name(cx: &Context<'_>, at: usize) -> bool {
-    cx.is_spelled(at, "integer")
-        || cx.is_spelled(at, "int")
-        || cx.is_spelled(at, "char")
-        || cx.is_spelled(at, "boolean")
-        || cx.is_spelled(at, "bool")
-        || cx.is_spelled(at, "real")
-        || cx.is_spelled(at, "string")
-}
+// `n: integer` is proposed for `integer n`.
+const TURNED: &[Also] = &[
+    Also {
+        when: &[Test::Spelled(Back(1), &["int"])],
+        told: &[Told::Exchange(Reach::To(Back(1), Here), &[Token(Here), Is(": integer")])],
+    },
+    Also {
+        when: &[Test::Spelled(
+            Back(1),
+            &["integer", "char", "boolean", "bool", "real", "string"],
+        )],
+        told: &[Told::Exchange(
+            Reach::To(Back(1), Here),
+            &[Token(Here), Is(": "), Token(Back(1))],
+        )],
+    },
+];
 
-// Proposes `n: integer` for `integer n`.
-fn propose_turned(cx: &Context<'_>, draft: &mut Draft) -> Result<(), AllocError> {
-    let Some(before) = cx.back(1) else {
-        return Ok(());
-    };
-    if !is_type_name(cx, before) {
-        return Ok(());
-    }
-    let (name, kind) = (cx.told_here(), cx.told(before));
-    let kind = if cx.is_spelled(before, "int") {
-        "integer"
-    } else {
-        kind
-    };
-    let put = format!(in cx.alloc; "{name}: {kind}")?;
-    exchange(cx, draft, 0, cx.span_of(before, cx.at), put.as_str())
-}
+// `a, b: integer` is proposed for `integer a, b`.
+const NAMES_FIRST: &[Also] = &[
+    Also {
+        when: &[
+            Test::Spelled(Back(1), &["int"]),
+            Test::IsShown(Reach::UpTo(Here, StatementEnd)),
+        ],
+        told: &[Told::Exchange(
+            Reach::UpTo(Back(1), StatementEnd),
+            &[Tokens(Reach::UpTo(Here, StatementEnd)), Is(": integer")],
+        )],
+    },
+    Also {
+        when: &[
+            Test::Spelled(
+                Back(1),
+                &["integer", "char", "boolean", "bool", "real", "string"],
+            ),
+            Test::IsShown(Reach::UpTo(Here, StatementEnd)),
+        ],
+        told: &[Told::Exchange(
+            Reach::UpTo(Back(1), StatementEnd),
+            &[
+                Tokens(Reach::UpTo(Here, StatementEnd)),
+                Is(": "),
+                Token(Back(1)),
+            ],
+        )],
+    },
+];
 
-/// A type before the name of a variable.
-pub(crate) fn type_before_variable(
-    cx: &Context<'_>,
-    draft: &mut Draft,
-) -> Result<bool, AllocError> {
-    let Some(before) = cx.back(1) else {
-        return Ok(false);
-    };
-    let is_first = cx.is_back(2, Kind::Var) || cx.is_back(2, Kind::Semicolon);
-    let is_part = cx.is_in_declarations() && cx.block().part == Some(Kind::Var);
-    if !is_part || !are_names(cx) || !is_first || !is_type_name(cx, before) {
-        return Ok(false);
-    }
-    refuse(cx, draft, &["between a variable and its type stands `:`"])?;
-    help(cx, draft, &["a variable is declared as `n: integer`"])?;
-    propose_turned(cx, draft)?;
-    Ok(true)
-}
+// What is told of parameters without parentheses.
+const GIVEN: &[Told] = &[Told::Why(&[Is("parameters stand between `(` and `)`")])];
 
-// Whether the heading of a routine is open at the place, behind its name or its parameters.
-fn is_behind_heading(cx: &Context<'_>) -> bool {
-    let block = cx.block();
-    let is_end = cx.is_back(1, Kind::RightParen) || cx.back(1) == block.head.checked_add(1);
-    block.is_routine && !block.is_told && cx.top().is_none() && is_end
-}
+// What is proposed for them.
+const PUT_BETWEEN: &[Also] = &[Also {
+    when: &[Test::IsShown(Reach::UpTo(Here, StatementEnd))],
+    told: &[Told::Exchange(
+        Reach::UpTo(Here, StatementEnd),
+        &[Is("("), Tokens(Reach::UpTo(Here, StatementEnd)), Is(")")],
+    )],
+}];
 
-/// A function without the type of its result.
-pub(crate) fn result_type(cx: &Context<'_>, draft: &mut Draft) -> Result<bool, AllocError> {
-    if !cx.is_here(Kind::Semicolon) || !is_behind_heading(cx) || !cx.block().is_function {
-        return Ok(false);
-    }
-    refuse(
-        cx,
-        draft,
-        &["the type of the function's result is missing before it"],
-    )?;
-    help(
-        cx,
-        draft,
-        &["a function is declared as `function f(n: integer): integer;`"],
-    )?;
-    if let Some(last) = cx.back(1) {
-        put_behind(cx, draft, 0, last, ": integer", ": integer")?;
-    }
-    Ok(true)
-}
+/// The required procedures with parameters.
+pub(crate) const REQUIRED: &[&str] = &["write", "writeln", "read", "readln"];
 
-/// A procedure with the type of a result.
-pub(crate) fn result_of_procedure(cx: &Context<'_>, draft: &mut Draft) -> Result<bool, AllocError> {
-    let block = cx.block();
-    if !cx.is_here(Kind::Colon) || !is_behind_heading(cx) || block.is_function {
-        return Ok(false);
-    }
-    refuse(
-        cx,
-        draft,
-        &["a procedure has no result, and a function has one"],
-    )?;
-    label(cx, draft, cx.span(block.head), &["this `procedure`"])?;
-    exchange(cx, draft, 0, cx.span(block.head), "function")?;
-    Ok(true)
-}
+// The bounds of an array.
+const BOUNDS_RULES: &[Rule] = &[
+    // parentheses in the place of an array's brackets
+    Rule {
+        when: &[
+            Test::Is(Here, &[Kind::LeftParen]),
+            Test::Is(Back(1), &[Kind::Array]),
+        ],
+        told: &[Told::Why(&[Is("the bounds of an array stand between `[` and `]`")])],
+        also: &[Also {
+            when: &[Test::Is(Closing, &[Kind::RightParen])],
+            told: &[Told::Exchange(
+                Reach::To(Here, Closing),
+                &[Is("["), Tokens(Reach::Between(Here, Closing)), Is("]")],
+            )],
+        }],
+    },
+    // one number in the place of its bounds
+    Rule {
+        when: &[
+            Test::Is(Here, &[Kind::RightBracket]),
+            Test::Is(Back(1), &[Kind::Number]),
+            Test::Is(Back(2), &[Kind::LeftBracket]),
+            Test::Is(Back(3), &[Kind::Array]),
+        ],
+        told: &[
+            Told::Why(&[Is("the bounds of an array are two, as `1..10`")]),
+            Told::PutBefore(Back(1), "1..", "1.."),
+        ],
+        also: &[],
+    },
+];
 
-// Whether a token is a required procedure with parameters.
-fn is_required(cx: &Context<'_>, at: usize) -> bool {
-    cx.is_spelled(at, "write")
-        || cx.is_spelled(at, "writeln")
-        || cx.is_spelled(at, "read")
-        || cx.is_spelled(at, "readln")
-}
+// Parameters without their type, or with it before them.
+const PARAMETERS_RULES: &[Rule] = &[
+    // parameters without their type
+    Rule {
+        when: &[
+            Test::Holds(Fact::Parameters),
+            Test::Is(Here, &[Kind::RightParen, Kind::Semicolon]),
+            Test::Is(Back(1), &[Kind::Name]),
+            Test::IsNot(Back(2), &[Kind::Colon]),
+        ],
+        told: &[
+            Told::Why(&[Is("the type of the parameters is missing before it")]),
+            Told::Help(&[Is("a parameter is declared as `n: integer`")]),
+            Told::PutBehind(0, Back(1), ": integer", ": integer"),
+        ],
+        also: &[],
+    },
+    // a type before the name of a parameter
+    Rule {
+        when: &[
+            Test::Holds(Fact::Parameters),
+            Test::Is(Here, &[Kind::Name]),
+            Test::Is(Back(1), &[Kind::Name]),
+            Test::Is(Back(2), BEFORE_PARAMETER),
+            Test::Spelled(Back(1), TYPES),
+        ],
+        told: PARAMETER,
+        also: TURNED,
+    },
+    Rule {
+        when: &[
+            Test::Holds(Fact::Parameters),
+            Test::Is(Here, &[Kind::Name]),
+            Test::Is(Back(1), &[Kind::Name]),
+            Test::Is(Back(2), BEFORE_PARAMETER),
+            Test::Spelled(Here, TYPES),
+        ],
+        told: PARAMETER,
+        also: &[],
+    },
+];
 
-// Whether two tokens stand on one line.
-fn are_on_one_line(cx: &Context<'_>, a: usize, b: usize) -> bool {
-    let from = cx.span(a).to as usize;
-    let to = cx.span(b).from as usize;
-    !cx.bytes.get(from..to).unwrap_or(&[]).contains(&b'\n')
-}
+// A type before the name of a variable.
+const VARIABLES_RULES: &[Rule] = &[
+    // a type before the name of a variable
+    Rule {
+        when: &[
+            Test::Part(&[Kind::Var]),
+            Test::Holds(Fact::Declarations),
+            Test::Is(Here, &[Kind::Name]),
+            Test::Is(Back(1), &[Kind::Name]),
+            Test::Is(Back(2), &[Kind::Var, Kind::Semicolon]),
+            Test::Spelled(Back(1), TYPES),
+        ],
+        told: &[
+            Told::Why(&[Is("between a variable and its type stands `:`")]),
+            Told::Help(&[Is("a variable is declared as `n: integer`")]),
+        ],
+        also: NAMES_FIRST,
+    },
+];
 
-// Whether a name seems to be that of a procedure.
-fn is_procedure(cx: &Context<'_>, name: usize) -> bool {
-    let before = cx.tokens.get(..name).unwrap_or(&[]);
-    let mut is_behind = false;
-    for (at, token) in before.iter().enumerate() {
-        if is_behind && cx.are_alike(at, name) {
-            return true;
+// The type of a result.
+const RESULTS_RULES: &[Rule] = &[
+    // a function without the type of its result
+    Rule {
+        when: &[
+            Test::Is(Here, &[Kind::Semicolon]),
+            Test::Holds(Fact::BehindHeading),
+            Test::Holds(Fact::InFunction),
+        ],
+        told: &[
+            Told::Why(&[Is("the type of the function's result is missing before it")]),
+            Told::Help(&[Is("a function is declared as `function f(n: integer): integer;`")]),
+            Told::PutBehind(0, Back(1), ": integer", ": integer"),
+        ],
+        also: &[],
+    },
+    // a procedure with one
+    Rule {
+        when: &[
+            Test::Is(Here, &[Kind::Colon]),
+            Test::Holds(Fact::BehindHeading),
+            Test::Fails(Fact::InFunction),
+        ],
+        told: &[
+            Told::Why(&[Is("a procedure has no result, and a function has one")]),
+            Told::Label(Reach::One(Head), &[Is("this `procedure`")]),
+            Told::Exchange(Reach::One(Head), &[Is("function")]),
+        ],
+        also: &[],
+    },
+];
+
+// Parameters without parentheses.
+const CALLS_RULES: &[Rule] = &[
+    // parameters without parentheses
+    Rule {
+        when: &[
+            Test::Same(Start, Back(1)),
+            Test::Is(Back(1), &[Kind::Name]),
+            Test::Holds(Fact::Statements),
+            Test::Is(Here, &[Kind::Text, Kind::Number]),
+            Test::Spelled(Back(1), REQUIRED),
+        ],
+        told: GIVEN,
+        also: PUT_BETWEEN,
+    },
+    Rule {
+        when: &[
+            Test::Same(Start, Back(1)),
+            Test::Is(Back(1), &[Kind::Name]),
+            Test::Holds(Fact::Statements),
+            Test::Is(Here, &[Kind::Name]),
+            Test::Spelled(Back(1), REQUIRED),
+            Test::Holds(Fact::OneLine),
+        ],
+        told: GIVEN,
+        also: PUT_BETWEEN,
+    },
+    Rule {
+        when: &[
+            Test::Same(Start, Back(1)),
+            Test::Is(Back(1), &[Kind::Name]),
+            Test::Holds(Fact::Statements),
+            Test::Is(Here, &[Kind::Text, Kind::Number]),
+            Test::Holds(Fact::Procedure),
+        ],
+        told: GIVEN,
+        also: PUT_BETWEEN,
+    },
+];
+
+// What is told of what begins a construction of which a sign is missing that closes it.
+const NOT_CLOSED: &[Told] = &[Told::Label(
+    Reach::One(Top),
+    &[Is("this `"), Token(Top), Is("` is not closed")],
+)];
+
+// What is told of the beginning of what a missing `end` ends.
+const NOT_ENDED: &[Rule] = &[Rule {
+    when: &[Test::Is(Top, &[Kind::Begin, Kind::Case, Kind::Record])],
+    told: &[Told::Label(
+        Reach::One(Top),
+        &[Is("this `"), Token(Top), Is("` is not ended")],
+    )],
+    also: &[],
+}];
+
+// What is told where a comment stands in the place of statements.
+const BRACES: &[Also] = &[Also {
+    when: &[Test::Holds(Fact::Brace)],
+    told: &[Told::Help(&[Is(
+        "what stands between `{` and `}` is a comment; statements stand between `begin` and `end`",
+    )])],
+}];
+
+// The heads of loops, and of `with`.
+const LOOPS: &[Test] = &[Test::Head(&[Kind::While, Kind::For, Kind::With])];
+
+// The rules of what is told of a construction, by what is missing of it.
+const MISSING: &[(&str, &[Rule])] = &[
+    (
+        ")",
+        &[Rule {
+            when: &[Test::Is(Top, &[Kind::LeftParen])],
+            told: NOT_CLOSED,
+            also: &[],
+        }],
+    ),
+    (
+        "]",
+        &[Rule {
+            when: &[Test::Is(Top, &[Kind::LeftBracket])],
+            told: NOT_CLOSED,
+            also: &[],
+        }],
+    ),
+    ("end", NOT_ENDED),
+    (
+        "then",
+        &[Rule {
+            when: &[Test::Head(&[Kind::If])],
+            told: &[Told::Label(
+                Reach::One(Top),
+                &[Is("the `then` of this `"), Token(Top), Is("`")],
+            )],
+            also: BRACES,
+        }],
+    ),
+    (
+        "of",
+        &[Rule {
+            when: &[Test::Head(&[Kind::Case])],
+            told: &[Told::Label(
+                Reach::One(Top),
+                &[Is("the `of` of this `"), Token(Top), Is("`")],
+            )],
+            also: &[],
+        }],
+    ),
+    (
+        "do",
+        &[Rule {
+            when: LOOPS,
+            told: &[Told::Label(
+                Reach::One(Top),
+                &[Is("the `do` of this `"), Token(Top), Is("`")],
+            )],
+            also: BRACES,
+        }],
+    ),
+    (
+        "to",
+        &[Rule {
+            when: LOOPS,
+            told: &[Told::Label(
+                Reach::One(Top),
+                &[Is("the `to` of this `"), Token(Top), Is("`")],
+            )],
+            also: &[],
+        }],
+    ),
+    (
+        ":=",
+        &[Rule {
+            when: LOOPS,
+            told: &[Told::Label(
+                Reach::One(Top),
+                &[Is("the `:=` of this `"), Token(Top), Is("`")],
+            )],
+            also: &[],
+        }],
+    ),
+];
+
+/// The rule of what begins the construction of which a word or a sign is missing at the place.
+pub(crate) fn rule_of_missing(cx: &Context<'_>, token: &str) -> Option<&'static Rule> {
+    for (word, rules) in MISSING.iter() {
+        if *word == token {
+            return first_of(cx, rules);
         }
-        is_behind = token.kind == Kind::Procedure;
     }
-    false
+    None
 }
 
-// Whether what stands at the place is given to the procedure before it, without parentheses.
-fn is_given(cx: &Context<'_>, name: usize) -> bool {
-    let is_value = matches!(cx.kind(cx.at), Some(Kind::Text | Kind::Number));
-    let is_name = cx.is_here(Kind::Name) && are_on_one_line(cx, name, cx.at);
-    is_required(cx, name) && (is_value || is_name) || is_value && is_procedure(cx, name)
+// The rule of a parenthesis or a bracket that closes nothing, or ends no list.
+fn closing(cx: &Context<'_>) -> Option<&'static Rule> {
+    first_of(cx, CLOSING_RULES)
 }
 
-/// Parameters without parentheses.
-pub(crate) fn parentheses_missing(cx: &Context<'_>, draft: &mut Draft) -> Result<bool, AllocError> {
-    let Some(name) = cx.back(1) else {
-        return Ok(false);
-    };
-    let is_call = cx.is(name, Kind::Name) && cx.opened.start == name && cx.is_in_statements();
-    if !is_call || !is_given(cx, name) {
-        return Ok(false);
-    }
-    refuse(cx, draft, &["parameters stand between `(` and `)`"])?;
-    let last = statement_end(cx, cx.at).saturating_sub(1);
-    let given = shown(cx.piece(cx.span_of(cx.at, last)));
-    if given != ".." {
-        let put = format!(in cx.alloc; "({given})")?;
-        exchange(cx, draft, 0, cx.span_of(cx.at, last), put.as_str())?;
-    }
-    Ok(true)
+// The rule of a value that is missing.
+fn no_value(cx: &Context<'_>) -> Option<&'static Rule> {
+    first_of(cx, NO_VALUE_RULES)
 }
 
-/// An apostrophe within a string that ended it.
-pub(crate) fn string_ended(cx: &Context<'_>, draft: &mut Draft) -> Result<bool, AllocError> {
-    let Some(before) = cx.back(1) else {
-        return Ok(false);
-    };
-    if !cx.is(before, Kind::Text) || !cx.is_here(Kind::Name) || !cx.touches_next(before) {
-        return Ok(false);
-    }
-    refuse(cx, draft, &["the string before it ended at its apostrophe"])?;
-    label(cx, draft, cx.span(before), &["this string"])?;
-    help(
-        cx,
-        draft,
-        &["an apostrophe within a string is written twice"],
-    )?;
-    let end = trimmed_end(cx.bytes, cx.place.from as usize);
-    let end = before_signs(cx.bytes, cx.place.from as usize, end);
-    propose_closed(cx, draft, cx.span(before), end)?;
-    Ok(true)
+// The rule of the bounds of an array.
+fn bounds(cx: &Context<'_>) -> Option<&'static Rule> {
+    first_of(cx, BOUNDS_RULES)
 }
 
-// Whether a value must stand behind a token.
-fn wants_value(cx: &Context<'_>, kind: Kind) -> bool {
-    let is_head = matches!(
-        kind,
-        Kind::If | Kind::While | Kind::Until | Kind::To | Kind::Downto
-    );
-    let is_listed = kind == Kind::Comma && cx.is_within(Kind::LeftParen);
-    is_operator(kind) || is_head || is_listed || matches!(kind, Kind::Assign | Kind::Not)
+// The rule of parameters without their type, or with it before them.
+fn parameters(cx: &Context<'_>) -> Option<&'static Rule> {
+    first_of(cx, PARAMETERS_RULES)
 }
 
-// Whether no value begins with a token.
-fn begins_none(kind: Kind) -> bool {
-    matches!(
-        kind,
-        Kind::Semicolon
-            | Kind::RightParen
-            | Kind::RightBracket
-            | Kind::Comma
-            | Kind::Then
-            | Kind::Do
-            | Kind::Of
-            | Kind::End
-            | Kind::Else
-            | Kind::Until
-            | Kind::To
-            | Kind::Downto
-    )
+// The rule of a type before the name of a variable.
+fn variables(cx: &Context<'_>) -> Option<&'static Rule> {
+    first_of(cx, VARIABLES_RULES)
 }
 
-/// A value is missing behind an operator, or where a condition begins.
-pub(crate) fn value_missing(cx: &Context<'_>, draft: &mut Draft) -> Result<bool, AllocError> {
-    let Some(before) = cx.kind_back(1) else {
-        return Ok(false);
-    };
-    let is_none = cx.kind(cx.at).is_some_and(begins_none);
-    if !cx.is_in_statements() || !is_none || !wants_value(cx, before) {
-        return Ok(false);
-    }
-    refuse(cx, draft, &["a value is missing before it"])?;
-    Ok(true)
+// The rule of the type of a result.
+fn results(cx: &Context<'_>) -> Option<&'static Rule> {
+    first_of(cx, RESULTS_RULES)
 }
 
-/// Which word or sign stands before the place where one is missing that is told as such: what begins the construction is a second place.
-pub(crate) fn label_construction(
-    cx: &Context<'_>,
-    draft: &mut Draft,
-    token: &str,
-) -> Result<(), AllocError> {
-    let Some(open) = cx.top() else {
-        return Ok(());
-    };
-    let word = cx.told(open.at);
-    let is_head = open.stage == Stage::Head;
-    match (open.kind, token) {
-        (Kind::LeftParen, ")") | (Kind::LeftBracket, "]") => {
-            label(
-                cx,
-                draft,
-                cx.span(open.at),
-                &["this `", word, "` is not closed"],
-            )
-        }
-        (Kind::If, "then") | (Kind::Case, "of") if is_head => {
-            label(
-                cx,
-                draft,
-                cx.span(open.at),
-                &["the `", token, "` of this `", word, "`"],
-            )
-        }
-        (Kind::While | Kind::For | Kind::With, "do" | "to" | ":=") if is_head => {
-            label(
-                cx,
-                draft,
-                cx.span(open.at),
-                &["the `", token, "` of this `", word, "`"],
-            )
-        }
-        (Kind::Begin | Kind::Case | Kind::Record, "end") => {
-            label(
-                cx,
-                draft,
-                cx.span(open.at),
-                &["this `", word, "` is not ended"],
-            )
-        }
-        _ => Ok(()),
-    }
+// The rule of parameters without parentheses.
+fn calls(cx: &Context<'_>) -> Option<&'static Rule> {
+    first_of(cx, CALLS_RULES)
+}
+
+/// The first rule that fits of those of parentheses and values.
+pub(crate) fn of_values(cx: &Context<'_>) -> Option<&'static Rule> {
+    closing(cx).or(no_value(cx))
+}
+
+/// The first that fits of those of headings and lists.
+pub(crate) fn of_headings(cx: &Context<'_>) -> Option<&'static Rule> {
+    bounds(cx)
+        .or(parameters(cx))
+        .or(variables(cx))
+        .or(results(cx))
+        .or(calls(cx))
 }

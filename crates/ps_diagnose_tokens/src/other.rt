@@ -1,13 +1,13 @@
 //! What is told of words and signs that other Pascals and other languages have.
 
 use crate::context::Context;
-use crate::rows::{Part, Row, rows_of};
+use crate::rows::{Part, Row, row_of};
 use crate::spread::statement_end;
-use crate::tell::{exchange, help, label, refuse, shown, take_away};
-use ps_diagnose::Draft;
+use crate::table::{numbers_of, text_at};
+use crate::tell::{Telling, Text, exchange, exchange_text, joined, refusal, shown, take_away};
+use crate::tests::is_behind_variable;
 use ps_scan::Kind;
 use ps_text::Span;
-use std::alloc::AllocError;
 
 /// The part of the table for the place.
 pub(crate) fn part_here(cx: &Context<'_>) -> Part {
@@ -37,7 +37,7 @@ fn part_beside(part: Part) -> Part {
 // Whether a token is a piece of a row.
 fn is_piece(cx: &Context<'_>, at: usize, piece: &str) -> bool {
     if piece == "NAME" {
-        cx.is(at, Kind::Name)
+        cx.is_of(at, &[Kind::Name])
     } else {
         cx.is_spelled(at, piece)
     }
@@ -45,7 +45,10 @@ fn is_piece(cx: &Context<'_>, at: usize, piece: &str) -> bool {
 
 // Whether a piece is a sign.
 fn is_sign(piece: &str) -> bool {
-    !piece.bytes().any(|byte| byte.is_ascii_alphanumeric())
+    match piece.as_bytes().first() {
+        Some(byte) => !byte.is_ascii_alphanumeric(),
+        None => true,
+    }
 }
 
 // Whether the pieces of a row stand from a token on; signs with nothing between, but for those behind a colon.
@@ -70,14 +73,9 @@ fn count_of(row: &Row) -> usize {
 
 // The first token of a row that stands at the place, if it does.
 fn stands(cx: &Context<'_>, row: &Row) -> Option<usize> {
-    let count = count_of(row);
-    let most = if row.is_behind {
-        count.saturating_add(1)
-    } else {
-        count
-    };
-    for back in 0..most {
-        let from = cx.back(back)?;
+    let behind = if row.is_behind { 1 } else { 0 };
+    for back in 0..count_of(row).saturating_add(behind) {
+        let from = cx.at.checked_sub(back)?;
         if stands_from(cx, row, from) {
             return Some(from);
         }
@@ -87,126 +85,169 @@ fn stands(cx: &Context<'_>, row: &Row) -> Option<usize> {
 
 // Whether what a row must stand within is there.
 fn is_within(cx: &Context<'_>, row: &Row) -> bool {
-    row.within.is_empty() || matches!(cx.top(), Some(open) if cx.is_spelled(open.at, row.within))
-}
-
-// Whether a token before a name tells that it is declared.
-fn declares(kind: Option<Kind>, next: Option<Kind>) -> bool {
-    matches!(kind, Some(Kind::Procedure | Kind::Function))
-        || matches!(next, Some(Kind::Colon | Kind::Comma | Kind::Equal))
-}
-
-/// Whether a name seems to be declared in the text before a token of it.
-pub(crate) fn seems_declared(cx: &Context<'_>, name: usize) -> bool {
-    let before = cx.tokens.get(..name).unwrap_or(&[]);
-    let mut last = None;
-    for (at, token) in before.iter().enumerate() {
-        let is_one = token.kind == Kind::Name && cx.are_alike(at, name);
-        if is_one && declares(last, cx.kind(at.saturating_add(1))) {
-            return true;
-        }
-        last = Some(token.kind);
+    match cx.top() {
+        _ if row.within.is_empty() => true,
+        Some(open) => cx.is_spelled(open.at, row.within),
+        None => false,
     }
-    false
 }
 
-// Whether a row is of a word of blocks, of which other reasons tell more.
-fn is_declaring(row: &Row) -> bool {
-    matches!(row.word, "var" | "begin")
+// Whether the token behind the place is of one of some kinds.
+fn is_next(cx: &Context<'_>, kinds: &[Kind]) -> bool {
+    cx.is_of(cx.at.saturating_add(1), kinds)
 }
 
 // Whether no more than an `if` ends at the place, as where it is told what is ended.
 fn is_end_of_if(cx: &Context<'_>) -> bool {
-    matches!(
-        cx.kind(cx.at.saturating_add(1)),
-        None | Some(Kind::Semicolon | Kind::End | Kind::Else)
-    )
+    is_next(cx, &[Kind::Semicolon, Kind::End, Kind::Else])
+        || cx.at.saturating_add(1) >= cx.tokens.len()
 }
 
-// Whether a value stands behind the place.
-fn is_before_value(cx: &Context<'_>) -> bool {
-    matches!(
-        cx.kind(cx.at.saturating_add(1)),
-        Some(Kind::Number | Kind::Text | Kind::Plus | Kind::Minus)
-    )
+// Whether a constant is declared with a type at the place.
+fn is_type_of_constant(cx: &Context<'_>) -> bool {
+    matches!(cx.block().part, Some(Kind::Const))
+        && cx.is_of(cx.at, &[Kind::Colon])
+        && is_next(cx, &[Kind::Name])
+        && cx.is_of(cx.at.saturating_add(2), &[Kind::Equal])
 }
 
-// Whether a row that stands at the place is meant there, by the tokens round it.
+// Whether a value of a variable or a parameter stands at the place, behind its type.
+fn is_value_behind_type(cx: &Context<'_>) -> bool {
+    match cx.at.checked_sub(2) {
+        Some(before) => cx.is_of(cx.at, &[Kind::Equal]) && cx.is_of(before, &[Kind::Colon]),
+        None => false,
+    }
+}
+
+// Whether the place is within a `for`.
+fn is_in_for(cx: &Context<'_>) -> bool {
+    match cx.top() {
+        Some(open) => matches!(open.kind, Kind::For),
+        None => false,
+    }
+}
+
+// Whether a row that stands at the place is meant there, by the tokens round it; words of blocks never, of which other reasons tell more.
 fn is_meant(cx: &Context<'_>, row: &Row) -> bool {
     match row.word {
+        "var" | "begin" => false,
         "end if" => is_end_of_if(cx),
-        "value" => is_before_value(cx),
-        "step" => cx.is_within(Kind::For),
-        "NAME :" => {
-            cx.is_here(Kind::Colon)
-                && cx.block().part == Some(Kind::Const)
-                && cx.is_next(Kind::Name)
-                && cx.is(cx.at.saturating_add(2), Kind::Equal)
-        }
-        "NAME =" => cx.is_here(Kind::Equal) && cx.is_back(2, Kind::Colon),
+        "value" => is_next(cx, &[Kind::Number, Kind::Text, Kind::Plus, Kind::Minus]),
+        "step" => is_in_for(cx),
+        "= =" => !is_behind_variable(cx),
+        "NAME :" => is_type_of_constant(cx),
+        "NAME =" => is_value_behind_type(cx),
         _ => true,
     }
 }
 
 // Whether a row of this refusal stands at the place.
 fn fits(cx: &Context<'_>, row: &Row) -> bool {
-    row.number == Some(20)
-        && !is_declaring(row)
+    matches!(row.number, Some(20))
         && is_meant(cx, row)
         && is_within(cx, row)
         && stands(cx, row).is_some()
 }
 
-// The row of a part that stands at the place.
-fn row_of_part(cx: &Context<'_>, part: Part) -> Result<Option<Row>, AllocError> {
-    let rows = rows_of(cx.alloc, part)?;
-    for row in rows.iter() {
-        if fits(cx, row) {
-            return Ok(Some(*row));
+// The row of a text that stands at the place.
+fn row_in_text(cx: &Context<'_>, text: &'static str) -> Option<Row> {
+    for line in text.split('\n') {
+        let row = row_of(line);
+        if fits(cx, &row) {
+            return Some(row);
         }
     }
-    Ok(None)
+    None
+}
+
+// The row of a part that stands at the place.
+fn row_in_part(cx: &Context<'_>, part: Part) -> Option<Row> {
+    let (first, end) = numbers_of(part);
+    for number in first..end {
+        if let Some(row) = row_in_text(cx, text_at(number)) {
+            return Some(row);
+        }
+    }
+    None
 }
 
 // The row of the table at the place.
-fn row_here(cx: &Context<'_>) -> Result<Option<Row>, AllocError> {
+fn row_here(cx: &Context<'_>) -> Option<Row> {
     let part = part_here(cx);
-    match row_of_part(cx, part)? {
-        Some(row) => Ok(Some(row)),
-        None => row_of_part(cx, part_beside(part)),
+    match row_in_part(cx, part) {
+        Some(row) => Some(row),
+        None => row_in_part(cx, part_beside(part)),
     }
+}
+
+// Whether a row that stands from a token on is something else: a name that the text seems to declare, or two signs of which the second is of a value.
+fn is_else(cx: &Context<'_>, row: &Row, from: usize) -> bool {
+    match row.word {
+        "+ +" | "- -" => is_next(cx, &[Kind::Name, Kind::Number, Kind::LeftParen]),
+        word if word.starts_with("NAME ") => false,
+        _ => cx.is_of(from, &[Kind::Name]) && cx.seems_declared(from),
+    }
+}
+
+/// The row of the table that stands at the place and is meant there, with its first token.
+pub(crate) fn other_here(cx: &Context<'_>) -> Option<(Row, usize)> {
+    let row = row_here(cx)?;
+    let from = stands(cx, &row)?;
+    if is_else(cx, &row, from) {
+        return None;
+    }
+    Some((row, from))
 }
 
 // Puts the pieces of a row: signs with nothing between.
-fn put_word(out: &mut String, row: &Row) -> Result<(), AllocError> {
+fn put_word(out: &mut Text, row: &Row) {
     let mut was_sign = true;
+    let mut is_first = true;
     for piece in row.word.split(' ') {
         let is_sign = is_sign(piece);
-        if !out.is_empty() && !(was_sign && is_sign) && piece != "[" {
-            out.push(' ')?;
-        }
-        out.push_str(piece)?;
+        let is_apart = !is_first && !(was_sign && is_sign) && piece != "[";
+        out.put(if is_apart { " " } else { "" });
+        out.put(piece);
         was_sign = is_sign;
+        is_first = false;
     }
-    Ok(())
+}
+
+// Puts what a row that stands from a token on is.
+fn put_row(cx: &Context<'_>, out: &mut Text, row: &Row, from: usize) {
+    let is_all = from == cx.at && count_of(row) == 1;
+    if !row.within.is_empty() {
+        out.put_all(&["in a `", row.within, "` it comes from ", row.origin()]);
+    } else if is_all || row.word.starts_with("NAME ") {
+        out.put_all(&["it comes from ", row.origin()]);
+    } else if row.word.starts_with("; ") {
+        out.put_all(&["where a statement begins, it comes from ", row.origin()]);
+    } else {
+        out.put("`");
+        put_word(out, row);
+        out.put_all(&["` comes from ", row.origin()]);
+    }
 }
 
 // Tells the sentence of a row.
-fn say_row(cx: &Context<'_>, draft: &mut Draft, row: &Row, from: usize) -> Result<(), AllocError> {
-    let origin = row.origin();
+fn say_row(cx: &Context<'_>, to: &mut Telling, row: &Row, from: usize) {
+    let mut text = refusal(cx);
     if row.word.starts_with(": ") && cx.is_in_parameters() {
-        return refuse(cx, draft, &["the type of a parameter is a name"]);
+        text.put("the type of a parameter is a name");
+    } else {
+        put_row(cx, &mut text, row, from);
     }
-    if !row.within.is_empty() {
-        return refuse(cx, draft, &["in a `", row.within, "` it is of ", origin]);
+    to.draft.expects = true;
+    to.say(text);
+}
+
+// Tells what a row stands within.
+fn label_within(cx: &Context<'_>, to: &mut Telling, row: &Row) {
+    if let Some(open) = cx.top()
+        && !row.within.is_empty()
+    {
+        to.label(cx.span(open.at), joined(cx, &["the `", row.within, "`"]));
     }
-    let is_all = from == cx.at && count_of(row) == 1;
-    if is_all || row.word.starts_with("NAME ") {
-        return refuse(cx, draft, &["it is of ", origin]);
-    }
-    let mut word = String::new(cx.alloc);
-    put_word(&mut word, row)?;
-    refuse(cx, draft, &["`", word.as_str(), "` is of ", origin])
 }
 
 // The span of a row's tokens.
@@ -216,153 +257,91 @@ fn span_of_row(cx: &Context<'_>, row: &Row, from: usize) -> Span {
 }
 
 // Proposes what a row is exchanged for.
-fn propose_mend(
-    cx: &Context<'_>,
-    draft: &mut Draft,
-    row: &Row,
-    from: usize,
-) -> Result<(), AllocError> {
+fn propose_mend(cx: &Context<'_>, to: &mut Telling, row: &Row, from: usize) {
     let span = span_of_row(cx, row, from);
     match row.mend {
-        Some("") => take_away(cx, draft, 0, span),
-        Some(put) => exchange(cx, draft, 0, span, put),
-        None => Ok(()),
+        Some("") => take_away(cx, to, 0, span),
+        Some(put) => exchange(cx, to, 0, span, put),
+        None => propose_by_word(cx, to, row, from),
     }
 }
 
-// Whether all up to the next semicolon is taken away with a word.
-fn goes_with_rest(row: &Row) -> bool {
-    matches!(row.word, "uses" | "import" | "inline" | "overload")
+// Proposes what depends on the tokens behind a row.
+fn propose_by_word(cx: &Context<'_>, to: &mut Telling, row: &Row, from: usize) {
+    match row.word {
+        "uses" | "import" | "inline" | "overload" => propose_without(cx, to, from),
+        "return" => propose_result(cx, to, from),
+        "let" => propose_assigned(cx, to, from),
+        "+ =" => propose_computed(cx, to, " + ", from),
+        "- =" => propose_computed(cx, to, " - ", from),
+        "* =" => propose_computed(cx, to, " * ", from),
+        "+ +" => propose_counted(cx, to, " + 1", from),
+        "- -" => propose_counted(cx, to, " - 1", from),
+        _ => {}
+    }
 }
 
 // Proposes to take away a word with what stands behind it up to the next semicolon.
-fn propose_without(
-    cx: &Context<'_>,
-    draft: &mut Draft,
-    row: &Row,
-    from: usize,
-) -> Result<(), AllocError> {
-    if !goes_with_rest(row) {
-        return Ok(());
-    }
+fn propose_without(cx: &Context<'_>, to: &mut Telling, from: usize) {
     let end = statement_end(cx, from);
-    if cx.is(end, Kind::Semicolon) {
-        take_away(cx, draft, 0, cx.span_of(from, end))?;
+    if cx.is_of(end, &[Kind::Semicolon]) {
+        take_away(cx, to, 0, cx.span_of(from, end));
     }
-    Ok(())
 }
 
 // Proposes the assignment of a function's result for `return`.
-fn propose_result(
-    cx: &Context<'_>,
-    draft: &mut Draft,
-    row: &Row,
-    from: usize,
-) -> Result<(), AllocError> {
+fn propose_result(cx: &Context<'_>, to: &mut Telling, from: usize) {
     let block = cx.block();
-    if row.word != "return" || !block.is_function {
-        return Ok(());
+    if block.is_function {
+        let name = cx.told(block.head.saturating_add(1));
+        exchange_text(cx, to, cx.span(from), joined(cx, &[name, " :="]));
     }
-    let name = cx.told(block.head.saturating_add(1));
-    let put = format!(in cx.alloc; "{name} :=")?;
-    exchange(cx, draft, 0, cx.span(from), put.as_str())
 }
 
-// The sign of an assignment that computes, if a row is one.
-fn computing(row: &Row) -> Option<&'static str> {
-    match row.word {
-        "+ =" => Some("+"),
-        "- =" => Some("-"),
-        "* =" => Some("*"),
-        _ => None,
+// Proposes `n :=` for `let n =`.
+fn propose_assigned(cx: &Context<'_>, to: &mut Telling, from: usize) {
+    let sign = from.saturating_add(2);
+    if cx.is_of(sign, &[Kind::Equal]) {
+        let name = cx.told(from.saturating_add(1));
+        exchange_text(cx, to, cx.span_of(from, sign), joined(cx, &[name, " :="]));
     }
+}
+
+// The assignment of what is made of a variable, which goes from the start of the statement to before a token.
+fn assigned(cx: &Context<'_>, end: usize, sign: &str) -> Text {
+    let span = cx.span_of(cx.opened.start, end.saturating_sub(1));
+    let name = shown(cx.piece(span));
+    let mut put = joined(cx, &[name, " := ", name]);
+    put.put(sign);
+    put
 }
 
 // Proposes `n := n + 1` for `n += 1`.
-fn propose_computed(
-    cx: &Context<'_>,
-    draft: &mut Draft,
-    row: &Row,
-    from: usize,
-) -> Result<(), AllocError> {
-    let Some(sign) = computing(row) else {
-        return Ok(());
-    };
-    let start = cx.opened.start;
+fn propose_computed(cx: &Context<'_>, to: &mut Telling, sign: &str, from: usize) {
     let first = from.saturating_add(2);
-    let end = statement_end(cx, first);
-    let last = end.saturating_sub(1);
-    if start >= from || last < first || (sign != "+" && last != first) {
-        return Ok(());
+    let last = statement_end(cx, first).saturating_sub(1);
+    let start = cx.opened.start;
+    if start >= from || last < first || (sign != " + " && last != first) {
+        return;
     }
-    let name = shown(cx.piece(cx.span_of(start, from.saturating_sub(1))));
-    let value = shown(cx.piece(cx.span_of(first, last)));
-    let put = format!(in cx.alloc; "{name} := {name} {sign} {value}")?;
-    exchange(cx, draft, 0, cx.span_of(start, last), put.as_str())
+    let mut put = assigned(cx, from, sign);
+    put.put(shown(cx.piece(cx.span_of(first, last))));
+    exchange_text(cx, to, cx.span_of(start, last), put);
 }
 
 // Proposes `n := n + 1` for `n++`.
-fn propose_counted(
-    cx: &Context<'_>,
-    draft: &mut Draft,
-    row: &Row,
-    from: usize,
-) -> Result<(), AllocError> {
-    let sign = match row.word {
-        "+ +" => "+",
-        "- -" => "-",
-        _ => return Ok(()),
-    };
+fn propose_counted(cx: &Context<'_>, to: &mut Telling, sign: &str, from: usize) {
     let start = cx.opened.start;
-    if start >= from || cx.opened.assigned.is_some() {
-        return Ok(());
+    if start < from && cx.opened.assigned.is_none() {
+        let span = cx.span_of(start, from.saturating_add(1));
+        exchange_text(cx, to, span, assigned(cx, from, sign));
     }
-    let name = shown(cx.piece(cx.span_of(start, from.saturating_sub(1))));
-    let put = format!(in cx.alloc; "{name} := {name} {sign} 1")?;
-    let span = cx.span_of(start, from.saturating_add(1));
-    exchange(cx, draft, 0, span, put.as_str())
 }
 
-// Tells all of a row.
-fn tell_row(cx: &Context<'_>, draft: &mut Draft, row: &Row, from: usize) -> Result<(), AllocError> {
-    say_row(cx, draft, row, from)?;
-    if let Some(open) = cx.top()
-        && !row.within.is_empty()
-    {
-        label(cx, draft, cx.span(open.at), &["the `", row.within, "`"])?;
-    }
-    help(cx, draft, &[row.advice])?;
-    propose_mend(cx, draft, row, from)?;
-    propose_without(cx, draft, row, from)?;
-    propose_result(cx, draft, row, from)?;
-    propose_computed(cx, draft, row, from)?;
-    propose_counted(cx, draft, row, from)
-}
-
-// Whether a word of the row is a name that the text seems to declare.
-fn is_of_text(cx: &Context<'_>, from: usize) -> bool {
-    cx.is(from, Kind::Name) && seems_declared(cx, from)
-}
-
-// Whether a row of counting stands before a value, whose sign its second piece may be.
-fn is_sign_of_value(cx: &Context<'_>, row: &Row) -> bool {
-    let next = cx.kind(cx.at.saturating_add(1));
-    matches!(row.word, "+ +" | "- -")
-        && matches!(next, Some(Kind::Name | Kind::Number | Kind::LeftParen))
-}
-
-/// A row of the table.
-pub(crate) fn of_other_pascals(cx: &Context<'_>, draft: &mut Draft) -> Result<bool, AllocError> {
-    let Some(row) = row_here(cx)? else {
-        return Ok(false);
-    };
-    let Some(from) = stands(cx, &row) else {
-        return Ok(false);
-    };
-    let is_sample = row.word.starts_with("NAME ");
-    if is_sign_of_value(cx, &row) || !is_sample && is_of_text(cx, from) {
-        return Ok(false);
-    }
-    tell_row(cx, draft, &row, from)?;
-    Ok(true)
+/// Tells all of a row that stands from a token on.
+pub(crate) fn tell_row(cx: &Context<'_>, to: &mut Telling, row: &Row, from: usize) {
+    say_row(cx, to, row, from);
+    label_within(cx, to, row);
+    to.help(joined(cx, &[row.advice]));
+    propose_mend(cx, to, row, from);
 }

@@ -1,13 +1,12 @@
 //! The uses of real numbers in a text, whether it has tokens or not.
 
 use crate::context::Context;
-use crate::letters::{byte_at, end_of, is_of_name, line_end};
-use crate::tell::{note, put_all, put_place, shown};
-use ps_diagnose::Draft;
-use std::alloc::{AllocError, Global};
+use crate::letters::{Class, byte_at, end_of, is_in, span_at};
+use crate::tell::{Telling, Text, empty, shown};
+use ps_text::Span;
 
 // The most uses that are told.
-const MOST: usize = 8;
+const MOST: u32 = 8;
 
 // The words of real numbers.
 const WORDS: [&str; 9] = [
@@ -16,14 +15,9 @@ const WORDS: [&str; 9] = [
 
 // A piece of a text: a word, a number or a sign.
 #[derive(Clone, Copy)]
-struct Piece {
+struct Piece<'a> {
     from: usize,
-    to: usize,
-}
-
-// The offset behind a comment that begins with a brace.
-fn behind_comment(bytes: &[u8], at: usize) -> usize {
-    end_of(bytes, at, |byte| byte != b'}').saturating_add(1)
+    text: &'a [u8],
 }
 
 // The offset behind a comment that begins with a parenthesis.
@@ -38,19 +32,12 @@ fn behind_long_comment(bytes: &[u8], at: usize) -> usize {
     bytes.len()
 }
 
-// The offset behind a string.
-fn behind_string(bytes: &[u8], at: usize) -> usize {
-    let inner = at.saturating_add(1);
-    let end = end_of(bytes, inner, |byte| byte != b'\'' && byte != b'\n');
-    end.saturating_add(1)
-}
-
 // The offset behind a number, with what stands behind its point.
 fn behind_number(bytes: &[u8], at: usize) -> usize {
-    let end = end_of(bytes, at, is_of_name);
+    let end = end_of(bytes, at, Class::Name);
     let fraction = end.saturating_add(1);
     if byte_at(bytes, end) == b'.' && byte_at(bytes, fraction).is_ascii_digit() {
-        end_of(bytes, fraction, is_of_name)
+        end_of(bytes, fraction, Class::Name)
     } else {
         end
     }
@@ -58,42 +45,20 @@ fn behind_number(bytes: &[u8], at: usize) -> usize {
 
 /// The offset behind the comment, string, word, number or sign that begins at an offset.
 pub(crate) fn behind(bytes: &[u8], at: usize) -> usize {
-    let byte = byte_at(bytes, at);
-    match byte {
-        b'{' => behind_comment(bytes, at),
-        b'\'' => behind_string(bytes, at),
-        b'(' if byte_at(bytes, at.saturating_add(1)) == b'*' => behind_long_comment(bytes, at),
-        _ if byte.is_ascii_digit() => behind_number(bytes, at),
-        _ if byte.is_ascii_alphabetic() => end_of(bytes, at, is_of_name),
-        b'/' if byte_at(bytes, at.saturating_add(1)) == b'/' => line_end(bytes, at),
-        _ => at.saturating_add(1),
+    let next = at.saturating_add(1);
+    match (byte_at(bytes, at), byte_at(bytes, next)) {
+        (b'{', _) => end_of(bytes, at, Class::Comment).saturating_add(1),
+        (b'\'', _) => end_of(bytes, next, Class::Text).saturating_add(1),
+        (b'(', b'*') => behind_long_comment(bytes, at),
+        (b'/', b'/') => end_of(bytes, at, Class::Line),
+        (byte, _) if byte.is_ascii_digit() => behind_number(bytes, at),
+        (byte, _) if byte.is_ascii_alphabetic() => end_of(bytes, at, Class::Name),
+        _ => next,
     }
 }
 
-// The last three pieces before one.
-#[derive(Clone, Copy)]
-struct Before {
-    last: Piece,
-    last_but_one: Piece,
-    last_but_two: Piece,
-}
-
-// The bytes of a piece.
-fn text_of(bytes: &[u8], piece: Piece) -> &[u8] {
-    bytes.get(piece.from..piece.to).unwrap_or(&[])
-}
-
-// Whether a piece is a number.
-fn is_number(bytes: &[u8], piece: Piece) -> bool {
-    byte_at(bytes, piece.from).is_ascii_digit()
-}
-
-// Whether a piece is a word or a number of real numbers.
-fn is_real(bytes: &[u8], piece: Piece) -> bool {
-    let text = text_of(bytes, piece);
-    if is_number(bytes, piece) {
-        return text.contains(&b'.');
-    }
+// Whether a piece is a word of real numbers.
+fn is_real_word(text: &[u8]) -> bool {
     for word in WORDS.iter() {
         if text.eq_ignore_ascii_case(word.as_bytes()) {
             return true;
@@ -102,85 +67,95 @@ fn is_real(bytes: &[u8], piece: Piece) -> bool {
     false
 }
 
+// Whether a piece is a word or a number of real numbers.
+fn is_real(text: &[u8]) -> bool {
+    if byte_at(text, 0).is_ascii_digit() {
+        text.contains(&b'.')
+    } else {
+        is_real_word(text)
+    }
+}
+
 // Whether a piece is a second width, which stands behind a first one: `: 8 : 2`.
-fn is_second_width(bytes: &[u8], before: Before, piece: Piece) -> bool {
-    is_number(bytes, piece)
-        && text_of(bytes, before.last) == b":".as_slice()
-        && text_of(bytes, before.last_but_two) == b":".as_slice()
-        && byte_at(bytes, before.last_but_one.from).is_ascii_alphanumeric()
+fn is_second_width(before: &[Piece<'_>; 3], piece: Piece<'_>) -> bool {
+    let [colon, width, other] = before;
+    byte_at(piece.text, 0).is_ascii_digit()
+        && is_colon(colon.text)
+        && is_colon(other.text)
+        && is_in(Class::Name, byte_at(width.text, 0))
 }
 
-// Adds a piece that is a use of real numbers.
-fn add_use(
-    bytes: &[u8],
-    uses: &mut Vec<Piece>,
-    before: Before,
-    piece: Piece,
-) -> Result<(), AllocError> {
-    if is_real(bytes, piece) {
-        uses.push(piece)?;
-    } else if is_second_width(bytes, before, piece) {
-        uses.push(Piece {
-            from: before.last.from,
-            to: piece.to,
-        })?;
-    }
-    Ok(())
+// Whether a piece is a colon.
+fn is_colon(text: &[u8]) -> bool {
+    matches!(text, [b':'])
 }
 
-// The uses of real numbers.
-fn uses_of(alloc: Global, bytes: &[u8]) -> Result<Vec<Piece>, AllocError> {
-    let mut uses = Vec::new(alloc);
-    let none = Piece { from: 0, to: 0 };
-    let mut before = Before {
-        last: none,
-        last_but_one: none,
-        last_but_two: none,
+// The offset at which a use of real numbers begins, if a piece is one and not at the place; the last three pieces before it are known, the last
+// first.
+fn use_at(cx: &Context<'_>, before: &[Piece<'_>; 3], piece: Piece<'_>) -> Option<usize> {
+    let [colon, _, _] = before;
+    let from = if is_real(piece.text) {
+        piece.from
+    } else if is_second_width(before, piece) {
+        colon.from
+    } else {
+        return None;
     };
-    let mut end: usize = 0;
-    for (at, byte) in bytes.iter().enumerate() {
-        if at >= end && !byte.is_ascii_whitespace() {
-            end = behind(bytes, at);
-            let piece = Piece { from: at, to: end };
-            add_use(bytes, &mut uses, before, piece)?;
-            before = Before {
-                last: piece,
-                last_but_one: before.last,
-                last_but_two: before.last_but_one,
-            };
-        }
+    if from == cx.place.from as usize {
+        None
+    } else {
+        Some(from)
     }
-    Ok(uses)
+}
+
+// What stands before a use.
+fn before_use(count: u32) -> &'static str {
+    match count {
+        0 => "other uses of real numbers: ",
+        _ => ", ",
+    }
 }
 
 // Puts one use: a second width with a space behind its colon.
-fn put_use(cx: &Context<'_>, out: &mut String, piece: Piece) -> Result<(), AllocError> {
-    match text_of(cx.bytes, piece) {
-        [b':', width @ ..] => put_all(out, &["`: ", shown(width.trim_ascii()), "` at "])?,
-        text => put_all(out, &["`", shown(text), "` at "])?,
+fn put_use(cx: &Context<'_>, out: &mut Text, found: Span) {
+    let (sign, text) = match cx.piece(found) {
+        [b':', width @ ..] => ("`: ", width.trim_ascii()),
+        text => ("`", text),
+    };
+    out.put(sign);
+    out.put(shown(text));
+    out.put("` at ");
+    out.put_place(cx, found.from);
+}
+
+// Puts the uses of real numbers that are not at the place.
+fn put_uses(cx: &Context<'_>, out: &mut Text) {
+    let mut before = [Piece { from: 0, text: &[] }; 3];
+    let mut end: usize = 0;
+    let mut count: u32 = 0;
+    for (at, byte) in cx.bytes.iter().enumerate() {
+        if at >= end && !byte.is_ascii_whitespace() {
+            end = behind(cx.bytes, at);
+            let text = cx.bytes.get(at..end).unwrap_or(&[]);
+            let piece = Piece { from: at, text };
+            if let Some(from) = use_at(cx, &before, piece)
+                && count < MOST
+            {
+                out.put(before_use(count));
+                put_use(cx, out, span_at(from, end));
+                count = count.saturating_add(1);
+            }
+            let [last, middle, _] = before;
+            before = [piece, last, middle];
+        }
     }
-    put_place(out, cx.bytes, u32::try_from(piece.from).unwrap_or(u32::MAX))
 }
 
 /// Tells the other uses of real numbers, if there are any.
-pub(crate) fn note_others(cx: &Context<'_>, draft: &mut Draft) -> Result<(), AllocError> {
-    let uses = uses_of(cx.alloc, cx.bytes)?;
-    let mut text = String::new(cx.alloc);
-    let mut count: usize = 0;
-    for piece in uses.iter() {
-        let is_here = piece.from == cx.place.from as usize;
-        if !is_here && count < MOST {
-            text.push_str(if count == 0 {
-                "other uses of real numbers: "
-            } else {
-                ", "
-            })?;
-            put_use(cx, &mut text, *piece)?;
-            count = count.saturating_add(1);
-        }
+pub(crate) fn note_others(cx: &Context<'_>, to: &mut Telling) {
+    let mut text = empty(cx.alloc);
+    put_uses(cx, &mut text);
+    if !text.string.is_empty() || text.has_failed {
+        to.note(text);
     }
-    if count > 0 {
-        note(draft, text)?;
-    }
-    Ok(())
 }

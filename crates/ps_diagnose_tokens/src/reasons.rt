@@ -4,166 +4,116 @@ ghost use Rattle.std.specs.Prelude.{◌↔◌, IsTrue, IsSome, IfOk};
 ghost use Rattle.ps_diagnose_tokens.specs.Numbers.{IsOfTokens};
 
 use crate::context::{Context, context_of};
+use crate::lists::rule_of_missing;
+use crate::other::{other_here, part_here, tell_row};
 use crate::rows::Part;
-use crate::tell::{nothing, refuse, say};
-use crate::{
-    assigned, bounds, compared, ended, left_out, lists, other, parts, scanned, signs, spelled,
-};
+use crate::rule::Piece::{Is, Token};
+use crate::rule::Place::Here;
+use crate::rule::{More, Rule, Told};
+use crate::scanned::{comment_of_line, rule_of_scanner};
+use crate::tell::{Telling, nothing, refusal};
+use crate::telling::tell_rule;
+use crate::{assigned, bounds, compared, ended, habits, left_out, lists, parts};
 use ps_diagnose::{Draft, Fault};
 use std::alloc::{AllocError, Global};
+use std::mem::replace;
 
-// What the scanner refuses.
-fn of_scanner(cx: &Context<'_>, draft: &mut Draft, number: u8) -> Result<(), AllocError> {
+// What is told of constructions that lie too deep.
+const TOO_DEEP: &Rule = &Rule {
+    when: &[],
+    told: &[Told::Says(&[Is("more than 500 constructions lie around this one")])],
+    also: &[],
+};
+
+// What is told where nothing is known.
+const PLAIN: &Rule = &Rule {
+    when: &[],
+    told: &[
+        Told::Expects(&[Is("`"), Token(Here), Is("` cannot stand here")]),
+        Told::More(More::Words),
+    ],
+    also: &[],
+};
+
+// The first rule that fits of those of what is written otherwise elsewhere.
+fn rule_of_habits(cx: &Context<'_>) -> Option<&'static Rule> {
+    habits::in_statements(cx).or(habits::in_declarations(cx))
+}
+
+// The first rule that fits of those of assignments, declarations and parts.
+fn rule_of_parts(cx: &Context<'_>) -> Option<&'static Rule> {
+    assigned::in_statements(cx)
+        .or(assigned::in_declarations(cx))
+        .or(parts::in_declarations(cx))
+        .or(parts::in_statements(cx))
+        .or(ended::of_routine_before(cx))
+        .or(parts::begin_missing(cx))
+}
+
+// The first rule that fits of those of statements and lists.
+fn rule_of_statements(cx: &Context<'_>) -> Option<&'static Rule> {
+    ended::at_the_end(cx)
+        .or(compared::compared(cx))
+        .or(lists::of_values(cx))
+        .or(lists::of_headings(cx))
+        .or(ended::missing(cx))
+}
+
+// The rule of a token that cannot stand where it does, behind those of the ends of the text and the table of other Pascals.
+fn rule_of_tables(cx: &Context<'_>) -> &'static Rule {
+    rule_of_habits(cx)
+        .or(rule_of_parts(cx))
+        .or(rule_of_statements(cx))
+        .or(habits::of_spaces(cx))
+        .unwrap_or(PLAIN)
+}
+
+// The rule of a refusal by the scanner or the parser; none where the table of other Pascals has a row for it.
+fn rule_of(cx: &Context<'_>, number: u8) -> Option<&'static Rule> {
     match number {
-        10 => signs::bad_byte(cx, draft)?,
-        11 => scanned::open_comment(cx, draft)?,
-        12 => scanned::open_string(cx, draft)?,
-        13 => scanned::empty_string(cx, draft)?,
-        14 => scanned::separator_missing(cx, draft)?,
-        15 => scanned::number_too_large(cx, draft)?,
-        _ => scanned::real_number(cx, draft)?,
+        20 => bounds::at_the_ends(cx),
+        21 => Some(TOO_DEEP),
+        22 => left_out::rule_of_left_out(cx),
+        _ => rule_of_scanner(cx, number),
     }
-    scanned::comment_of_line(cx, draft)
 }
 
-// The ends of the text, and the table.
-fn of_ends(cx: &Context<'_>, draft: &mut Draft) -> Result<bool, AllocError> {
-    Ok(
-        bounds::text_ends(cx, draft)?
-            || bounds::begins_otherwise(cx, draft)?
-            || bounds::behind_the_end(cx, draft)?
-            || lists::string_ended(cx, draft)?
-            || other::of_other_pascals(cx, draft)?
-            || assigned::torn_apart(cx, draft)?,
-    )
-}
-
-// What assigns, compares or defines.
-fn of_assignments(cx: &Context<'_>, draft: &mut Draft) -> Result<bool, AllocError> {
-    Ok(
-        assigned::for_begins(cx, draft)?
-            || assigned::for_goes(cx, draft)?
-            || assigned::condition_alone(cx, draft)?
-            || assigned::equal_assigns(cx, draft)?
-            || assigned::assign_compares(cx, draft)?
-            || assigned::assigns_twice(cx, draft)?
-            || assigned::assigned_behind(cx, draft)?,
-    )
-}
-
-// What stands among declarations.
-fn of_declarations(cx: &Context<'_>, draft: &mut Draft) -> Result<bool, AllocError> {
-    Ok(
-        assigned::equal_defines(cx, draft)?
-            || assigned::colon_declares(cx, draft)?
-            || assigned::value_in_declaration(cx, draft)?
-            || parts::part_behind(cx, draft)?
-            || parts::formula(cx, draft)?
-            || parts::record_open(cx, draft)?,
-    )
-}
-
-// Declarations and statements in the place of each other.
-fn of_parts(cx: &Context<'_>, draft: &mut Draft) -> Result<bool, AllocError> {
-    Ok(
-        parts::word_as_name(cx, draft)?
-            || parts::empty_part(cx, draft)?
-            || parts::among_statements(cx, draft)?
-            || ended::behind_routine(cx, draft)?
-            || parts::begin_missing(cx, draft)?,
-    )
-}
-
-// What begins and ends statements.
-fn of_statements(cx: &Context<'_>, draft: &mut Draft) -> Result<bool, AllocError> {
-    Ok(
-        ended::stray_else(cx, draft)?
-            || ended::stray_until(cx, draft)?
-            || ended::end_of_program(cx, draft)?
-            || ended::point_behind_end(cx, draft)?
-            || ended::end_in_repeat(cx, draft)?
-            || ended::word_of_another(cx, draft)?,
-    )
-}
-
-// What compares.
-fn of_comparisons(cx: &Context<'_>, draft: &mut Draft) -> Result<bool, AllocError> {
-    Ok(
-        compared::second_comparison(cx, draft)?
-            || compared::range_behind_in(cx, draft)?
-            || lists::empty_parentheses(cx, draft)?
-            || lists::stray_closing(cx, draft)?
-            || lists::value_missing(cx, draft)?,
-    )
-}
-
-// Headings and lists.
-fn of_lists(cx: &Context<'_>, draft: &mut Draft) -> Result<bool, AllocError> {
-    Ok(
-        lists::array_parentheses(cx, draft)?
-            || lists::array_bound(cx, draft)?
-            || lists::parameter_type(cx, draft)?
-            || lists::type_before_parameter(cx, draft)?
-            || lists::type_before_variable(cx, draft)?
-            || lists::result_type(cx, draft)?
-            || lists::result_of_procedure(cx, draft)?
-            || lists::parentheses_missing(cx, draft)?,
-    )
-}
-
-// What is missing.
-fn of_missing(cx: &Context<'_>, draft: &mut Draft) -> Result<bool, AllocError> {
-    Ok(
-        ended::until_missing(cx, draft)?
-            || ended::case_goes_on(cx, draft)?
-            || ended::operator_missing(cx, draft)?,
-    )
-}
-
-// A token that cannot stand where it does: the first reason that fits.
-fn not_a_program(cx: &Context<'_>, draft: &mut Draft) -> Result<(), AllocError> {
-    let is_told = of_ends(cx, draft)?
-        || of_assignments(cx, draft)?
-        || of_declarations(cx, draft)?
-        || of_parts(cx, draft)?
-        || of_statements(cx, draft)?
-        || of_comparisons(cx, draft)?
-        || of_lists(cx, draft)?
-        || of_missing(cx, draft)?;
-    if is_told {
-        return Ok(());
+// Tells a token that cannot stand where it does, which is none of the ends of the text.
+fn tell_not_a_program(cx: &Context<'_>, to: &mut Telling) {
+    match other_here(cx) {
+        Some((row, from)) => tell_row(cx, to, &row, from),
+        None => tell_rule(cx, to, rule_of_tables(cx)),
     }
-    say(draft, &["`", cx.told_here(), "` cannot stand here"])?;
-    draft.expects = true;
-    spelled::propose_words(cx, draft)
 }
 
-// What is left out of this compiler.
-fn not_in_profile(cx: &Context<'_>, draft: &mut Draft) -> Result<(), AllocError> {
-    let _ = left_out::slashes(cx, draft)?
-        || left_out::second_width(cx, draft)?
-        || left_out::label_of_statement(cx, draft)?
-        || left_out::variant_part(cx, draft)?
-        || left_out::program_parameter(cx, draft)?
-        || left_out::file_elsewhere(cx, draft)?
-        || left_out::left_out(cx, draft)?;
-    Ok(())
+// Tells a refusal by the scanner or the parser.
+fn tell(cx: &Context<'_>, to: &mut Telling, number: u8) {
+    match rule_of(cx, number) {
+        Some(rule) => tell_rule(cx, to, rule),
+        None => tell_not_a_program(cx, to),
+    }
+    if number < 20 {
+        comment_of_line(cx, to);
+    }
+}
+
+// What has been told, if no memory was refused for it.
+fn answer(to: Telling) -> Result<Draft, AllocError> {
+    if to.has_failed {
+        return Err(AllocError);
+    }
+    Ok(to.draft)
 }
 
 // What is told of a refusal by the scanner or the parser.
 fn told(alloc: Global, fault: &Fault<'_>) -> Result<Draft, AllocError> {
     let cx = context_of(alloc, fault)?;
-    let mut draft = nothing(alloc);
-    match fault.number {
-        20 => not_a_program(&cx, &mut draft)?,
-        21 => say(
-            &mut draft,
-            &["more than 500 constructions lie around this one"],
-        )?,
-        22 => not_in_profile(&cx, &mut draft)?,
-        number => of_scanner(&cx, &mut draft, number)?,
-    }
-    Ok(draft)
+    let mut to = Telling {
+        draft: nothing(alloc),
+        has_failed: false,
+    };
+    tell(&cx, &mut to, fault.number);
+    answer(to)
 }
 
 // Whether a refusal is one by the scanner or the parser.
@@ -188,6 +138,17 @@ pub fn drafted(alloc: Global, fault: &Fault<'_>) -> Result<Option<Draft>, AllocE
     Ok(Some(draft))
 }
 
+// Tells that a word or a sign is missing before the place.
+fn tell_missing(cx: &Context<'_>, to: &mut Telling, token: &str) {
+    let mut text = refusal(cx);
+    text.put_all(&["`", token, "` is missing before it"]);
+    to.draft.expects = true;
+    to.say(text);
+    if let Some(rule) = rule_of_missing(cx, token) {
+        tell_rule(cx, to, rule);
+    }
+}
+
 /// Tells that a word or a sign is missing before the place, with what begins the construction that it is of as a second place. It stands
 /// for the sentence of a draft that tells only that the token cannot stand there.
 pub fn missing_before(
@@ -197,12 +158,17 @@ pub fn missing_before(
     draft: &mut Draft,
 ) -> Result<(), AllocError> {
     let cx = context_of(alloc, fault)?;
-    refuse(&cx, draft, &["`", token, "` is missing before it"])?;
-    lists::label_construction(&cx, draft, token)
+    let mut to = Telling {
+        draft: replace(draft, nothing(alloc)),
+        has_failed: false,
+    };
+    tell_missing(&cx, &mut to, token);
+    *draft = answer(to)?;
+    Ok(())
 }
 
 /// The part of the table of other Pascals that is told at the place of a refusal.
 pub fn part_at(alloc: Global, fault: &Fault<'_>) -> Result<Part, AllocError> {
     let cx = context_of(alloc, fault)?;
-    Ok(other::part_here(&cx))
+    Ok(part_here(&cx))
 }

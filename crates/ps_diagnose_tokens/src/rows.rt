@@ -1,7 +1,6 @@
 //! The table of what other Pascals and other languages have, and what is told of a row.
 
 use crate::table::{numbers_of, text_at};
-use std::alloc::{AllocError, Global};
 
 /// Where a text is refused, as docs/OTHER_PASCALS.md parts its rows.
 #[derive(Clone, Copy, PartialEq, Eq)]
@@ -65,8 +64,8 @@ fn cell_of(line: &'static str) -> (&'static str, &'static str) {
     }
 }
 
-// The row of a line.
-fn row_of(line: &'static str) -> Row {
+/// The row of a line.
+pub(crate) fn row_of(line: &'static str) -> Row {
     let (word, rest) = cell_of(line);
     let (within, rest) = cell_of(rest);
     let (behind, rest) = cell_of(rest);
@@ -82,24 +81,6 @@ fn row_of(line: &'static str) -> Row {
         mend: mend.strip_prefix('='),
         advice,
     }
-}
-
-// Adds the rows of a text.
-fn add_rows(rows: &mut Vec<Row>, text: &'static str) -> Result<(), AllocError> {
-    for line in text.split('\n') {
-        rows.push(row_of(line))?;
-    }
-    Ok(())
-}
-
-/// The rows of a part.
-pub(crate) fn rows_of(alloc: Global, part: Part) -> Result<Vec<Row>, AllocError> {
-    let mut rows = Vec::new(alloc);
-    let (first, end) = numbers_of(part);
-    for number in first..end {
-        add_rows(&mut rows, text_at(number))?;
-    }
-    Ok(rows)
 }
 
 // The row of a word in a text, if it has one.

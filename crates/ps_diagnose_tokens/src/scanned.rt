@@ -1,89 +1,201 @@
 //! What is told where the scanner refuses a text.
 
 use crate::context::Context;
-use crate::letters::{byte_at, byte_before, end_of, is_of_name, line_start, start_of, trimmed_end};
-use crate::reals::note_others;
-use crate::rows::{Part, other_pascal};
+use crate::letters::{Class, byte_at, byte_before, end_of, is_in, span_at, start_of, trimmed_end};
+use crate::rows::Part;
+use crate::rule::Piece::{Found, Is, Run};
+use crate::rule::Place::Back;
+use crate::rule::{Also, More, Rule, Test, Told};
+use crate::signs::rule_of_byte;
 use crate::slashes::exchange_slashes;
-use crate::tell::{
-    add_trial, exchange, help, label, note, put_all, put_at, put_place, say, shown, take_away,
-};
-use ps_diagnose::Draft;
-use ps_diagnostic::Edit;
+use crate::tell::{Telling, exchange, joined, put_at, shown, take_away};
+use crate::telling::advise;
+use crate::tests::first_of;
 use ps_scan::Kind;
 use ps_text::Span;
-use std::alloc::AllocError;
 
-// The span of a piece of the text.
-pub(crate) fn span_of(from: usize, to: usize) -> Span {
-    Span {
-        from: u32::try_from(from).unwrap_or(u32::MAX),
-        to: u32::try_from(to).unwrap_or(u32::MAX),
+// A comment that is never closed.
+const COMMENT: &[Rule] = &[
+    Rule {
+        when: &[Test::Stands("{")],
+        told: &[
+            Told::Says(&[Is("this comment is never closed")]),
+            Told::CloseLine("}", " }"),
+            Told::More(More::InnerComment),
+        ],
+        also: &[],
+    },
+    Rule {
+        when: &[],
+        told: &[
+            Told::Says(&[Is("this comment is never closed")]),
+            Told::CloseLine("*)", " *)"),
+            Told::More(More::InnerComment),
+        ],
+        also: &[],
+    },
+];
+
+// A string that is not closed on its line.
+const STRING: &[Rule] = &[Rule {
+    when: &[],
+    told: &[
+        Told::Says(&[Is("this string is not closed on its line")]),
+        Told::More(More::InnerApostrophe),
+        Told::More(More::StringBefore),
+        Told::More(More::StringEnd),
+    ],
+    also: &[],
+}];
+
+// A string without a character.
+const EMPTY: &[Rule] = &[Rule {
+    when: &[],
+    told: &[
+        Told::Says(&[Is("a string has at least one character")]),
+        Told::More(More::EmptyString),
+    ],
+    also: &[],
+}];
+
+// What declares the name that stands behind it.
+const DECLARES: &[Kind] = &[
+    Kind::Program,
+    Kind::Procedure,
+    Kind::Function,
+    Kind::Var,
+    Kind::Const,
+    Kind::Type,
+];
+
+// A word that touches the number before it.
+const SEPARATOR: &[Rule] = &[
+    Rule {
+        when: &[Test::Stands("x"), Test::Spelled(Back(1), &["0"])],
+        told: &[
+            Told::Says(&[Is("`0"), Run(Class::Name), Is("` is no number of Pascal")]),
+            Told::Help(&[Is("numbers are decimal")]),
+        ],
+        also: &[],
+    },
+    Rule {
+        when: &[],
+        told: &[Told::Says(&[
+            Is("`"),
+            Run(Class::Name),
+            Is("` touches the number before it"),
+        ])],
+        also: &[
+            Also {
+                when: &[Test::Is(Back(2), DECLARES)],
+                told: &[Told::Help(&[Is("a name begins with a letter")])],
+            },
+            Also {
+                when: &[Test::IsNot(Back(2), DECLARES)],
+                told: &[Told::More(More::Separators)],
+            },
+        ],
+    },
+];
+
+// A number above the largest one.
+const NUMBER: &[Rule] = &[Rule {
+    when: &[],
+    told: &[Told::Says(&[
+        Is("`"),
+        Run(Class::Digit),
+        Is("` is above 2147483647, the largest integer"),
+    ])],
+    also: &[],
+}];
+
+// A real number.
+const REAL: &[Rule] = &[Rule {
+    when: &[],
+    told: &[
+        Told::Says(&[
+            Is("`"),
+            Found,
+            Is("` is a real number, and this compiler has none"),
+        ]),
+        Told::More(More::Reals),
+        Told::Advice(Part::StatementsLeftOut, "1 . 5"),
+    ],
+    also: &[],
+}];
+
+/// The rule of a refusal by the scanner.
+pub(crate) fn rule_of_scanner(cx: &Context<'_>, number: u8) -> Option<&'static Rule> {
+    match number {
+        10 => rule_of_byte(cx),
+        11 => first_of(cx, COMMENT),
+        12 => first_of(cx, STRING),
+        13 => first_of(cx, EMPTY),
+        14 => first_of(cx, SEPARATOR),
+        15 => first_of(cx, NUMBER),
+        _ => first_of(cx, REAL),
     }
 }
 
 // The word that ends before an offset, or the one sign there.
-fn word_before<'a>(cx: &Context<'a>, end: usize) -> &'a [u8] {
-    let start = start_of(cx.bytes, end, is_of_name);
+fn word_before<'a>(cx: &Context<'a>, end: usize) -> &'a str {
+    let start = start_of(cx.bytes, end, Class::Name);
     let start = start.min(end.saturating_sub(1));
-    cx.bytes.get(start..end).unwrap_or(&[])
+    shown(cx.bytes.get(start..end).unwrap_or(&[]))
+}
+
+/// The piece of the text from an offset on that is of a class, as it is told.
+pub(crate) fn shown_from<'a>(cx: &Context<'a>, from: usize, class: Class) -> &'a str {
+    let end = end_of(cx.bytes, from, class);
+    shown(cx.bytes.get(from..end).unwrap_or(&[]))
 }
 
 // Proposes to put something at an offset, behind the word there.
 fn put_behind_word(
     cx: &Context<'_>,
-    draft: &mut Draft,
+    to: &mut Telling,
     cost: u32,
     at: usize,
     told: &str,
     put: &str,
-) -> Result<(), AllocError> {
-    let word = shown(word_before(cx, at));
-    let from = span_of(at, at).from;
-    put_at(
-        cx,
-        draft,
-        cost,
-        from,
-        &["put `", told, "` behind `", word, "` at "],
-        put,
-    )
+) {
+    let words = ["put `", told, "` behind `", word_before(cx, at), "` at "];
+    put_at(cx, to, cost, span_at(at, at).from, &words, put);
 }
 
-// The offset at which a comment seems to begin within an open one.
-fn comment_within(bytes: &[u8], from: usize) -> Option<usize> {
-    let mut last = b' ';
-    for (at, byte) in bytes.iter().enumerate().skip(from) {
-        if *byte == b'{' {
-            return Some(at);
+// The span of what seems to begin a comment within an open one.
+fn comment_within(bytes: &[u8], from: usize) -> Option<Span> {
+    for at in from..bytes.len() {
+        let is_long = at > from && byte_before(bytes, at) == b'(';
+        match byte_at(bytes, at) {
+            b'{' => return Some(span_at(at, at.saturating_add(1))),
+            b'*' if is_long => {
+                return Some(span_at(at.saturating_sub(1), at.saturating_add(1)));
+            }
+            _ => {}
         }
-        if *byte == b'*' && last == b'(' {
-            return at.checked_sub(1);
-        }
-        last = *byte;
     }
     None
 }
 
-/// A comment that is never closed.
-pub(crate) fn open_comment(cx: &Context<'_>, draft: &mut Draft) -> Result<(), AllocError> {
-    say(draft, &["this comment is never closed"])?;
+/// Tells what seems to begin a comment within the open one at the place.
+pub(crate) fn label_comment(cx: &Context<'_>, to: &mut Telling) {
     let from = cx.place.from as usize;
-    let is_brace = byte_at(cx.bytes, from) == b'{';
-    let end = trimmed_end(cx.bytes, from);
-    let (told, put) = if is_brace { ("}", " }") } else { ("*)", " *)") };
-    put_behind_word(cx, draft, 0, end, told, put)?;
-    let inner = from.saturating_add(if is_brace { 1 } else { 2 });
-    if let Some(at) = comment_within(cx.bytes, inner) {
-        let length = if byte_at(cx.bytes, at) == b'{' { 1 } else { 2 };
-        label(
-            cx,
-            draft,
-            span_of(at, at.saturating_add(length)),
-            &["a comment seems to begin here"],
-        )?;
+    let length = if byte_at(cx.bytes, from) == b'{' {
+        1
+    } else {
+        2
+    };
+    match comment_within(cx.bytes, from.saturating_add(length)) {
+        Some(span) => to.label(span, joined(cx, &["a comment seems to begin here"])),
+        None => {}
     }
-    Ok(())
+}
+
+/// Proposes to put something behind the line of the place.
+pub(crate) fn close_line(cx: &Context<'_>, to: &mut Telling, told: &str, put: &str) {
+    let end = trimmed_end(cx.bytes, cx.place.from as usize);
+    put_behind_word(cx, to, 0, end, told, put);
 }
 
 // Whether an apostrophe stands between two letters.
@@ -95,7 +207,7 @@ fn is_between_letters(bytes: &[u8], at: usize) -> bool {
 
 // The first apostrophe of a line, before an offset, that stands between two letters.
 fn inner_apostrophe(bytes: &[u8], at: usize) -> Option<usize> {
-    for other in line_start(bytes, at)..at.saturating_add(1) {
+    for other in start_of(bytes, at, Class::Line)..at.saturating_add(1) {
         if is_between_letters(bytes, other) {
             return Some(other);
         }
@@ -103,183 +215,99 @@ fn inner_apostrophe(bytes: &[u8], at: usize) -> Option<usize> {
     None
 }
 
-// The offset before the signs that end a line: parentheses, commas, semicolons and spaces.
-pub(crate) fn before_signs(bytes: &[u8], from: usize, end: usize) -> usize {
-    let start = start_of(bytes, end, |byte| matches!(byte, b')' | b',' | b';' | b' '));
-    start.max(from.saturating_add(1))
+// The offset before the signs that end the line of an offset: parentheses, commas, semicolons and spaces.
+fn before_signs(bytes: &[u8], from: usize) -> usize {
+    let end = trimmed_end(bytes, from);
+    start_of(bytes, end, Class::Closing).max(from.saturating_add(1))
 }
 
-// Proposes to write an apostrophe within a string twice.
-fn double_apostrophe(cx: &Context<'_>, draft: &mut Draft, at: usize) -> Result<(), AllocError> {
-    let text = String::from_str(cx.alloc, "an apostrophe within a string is written twice")?;
-    note(draft, text)?;
-    exchange(cx, draft, 0, span_of(at, at.saturating_add(1)), "''")
-}
-
-/// Proposes to write the apostrophe at the end of a string twice, and one more at an offset.
-pub(crate) fn propose_closed(
-    cx: &Context<'_>,
-    draft: &mut Draft,
-    string: Span,
-    end: usize,
-) -> Result<(), AllocError> {
-    let last = string.to.saturating_sub(1);
-    let mut words = String::from_str(cx.alloc, "write `''` for `'` at ")?;
-    put_place(&mut words, cx.bytes, last)?;
-    put_all(
-        &mut words,
-        &[
-            ", and put `'` behind `",
-            shown(word_before(cx, end)),
-            "` at ",
-        ],
-    )?;
-    let mut edits = Vec::new(cx.alloc);
-    let to = span_of(end, end);
-    put_place(&mut words, cx.bytes, to.from)?;
-    let twice = Span {
-        from: last,
-        to: string.to,
+/// Proposes to write an apostrophe within a string twice, if there is one.
+pub(crate) fn double_apostrophe(cx: &Context<'_>, to: &mut Telling) {
+    let Some(at) = inner_apostrophe(cx.bytes, cx.place.from as usize) else {
+        return;
     };
-    edits.push(Edit {
-        span: twice,
-        put: String::from_str(cx.alloc, "''")?,
-    })?;
-    edits.push(Edit {
-        span: to,
-        put: String::from_str(cx.alloc, "'")?,
-    })?;
-    add_trial(draft, 0, words, edits)
+    to.note(joined(cx, &["an apostrophe within a string is written twice"]));
+    exchange(cx, to, 0, span_at(at, at.saturating_add(1)), "''");
 }
 
-// Proposes an apostrophe before what a string that seems to begin too late has before it.
-fn open_earlier(cx: &Context<'_>, draft: &mut Draft) -> Result<(), AllocError> {
+/// Proposes to write the apostrophe twice that ended the string before the place, and one more behind what follows.
+pub(crate) fn propose_closed(cx: &Context<'_>, to: &mut Telling) {
+    let last = cx.span(cx.at.saturating_sub(1)).to;
+    let from = last.saturating_sub(1);
+    let end = before_signs(cx.bytes, cx.place.from as usize);
+    let at = span_at(end, end);
+    let mut words = joined(cx, &["write `''` for `'` at "]);
+    words.put_place(cx, from);
+    words.put_all(&[", and put `'` behind `", word_before(cx, end), "` at "]);
+    words.put_place(cx, at.from);
+    to.propose(cx, 0, words);
+    to.change(Span { from, to: last }, joined(cx, &["''"]));
+    to.change(at, joined(cx, &["'"]));
+}
+
+/// Proposes an apostrophe before what a string that seems to begin too late has before it.
+pub(crate) fn open_earlier(cx: &Context<'_>, to: &mut Telling) {
     let from = cx.place.from as usize;
-    let start = start_of(
-        cx.bytes,
-        from,
-        |byte| !matches!(byte, b'(' | b',' | b'\'' | b'\n'),
-    );
+    let start = start_of(cx.bytes, from, Class::Item);
     let is_listed = matches!(byte_before(cx.bytes, start), b'(' | b',');
-    if !byte_before(cx.bytes, from).is_ascii_alphanumeric() || !is_listed {
-        return Ok(());
+    if !is_in(Class::Name, byte_before(cx.bytes, from)) || !is_listed {
+        return;
     }
-    let end = end_of(cx.bytes, start, is_of_name);
-    let word = shown(cx.bytes.get(start..end).unwrap_or(&[]));
-    put_at(
-        cx,
-        draft,
-        0,
-        span_of(start, start).from,
-        &["put `'` before `", word, "` at "],
-        "'",
-    )
+    let word = shown_from(cx, start, Class::Name);
+    let words = ["put `'` before `", word, "` at "];
+    put_at(cx, to, 0, span_at(start, start).from, &words, "'");
 }
 
-/// A string that is not closed on its line.
-pub(crate) fn open_string(cx: &Context<'_>, draft: &mut Draft) -> Result<(), AllocError> {
-    say(draft, &["this string is not closed on its line"])?;
-    let from = cx.place.from as usize;
-    if let Some(at) = inner_apostrophe(cx.bytes, from) {
-        double_apostrophe(cx, draft, at)?;
-    }
-    open_earlier(cx, draft)?;
-    let end = trimmed_end(cx.bytes, from);
-    let before = before_signs(cx.bytes, from, end);
-    put_behind_word(cx, draft, 1, before, "'", "'")
+/// Proposes an apostrophe before the signs that end the line of an open string.
+pub(crate) fn close_string(cx: &Context<'_>, to: &mut Telling) {
+    let end = before_signs(cx.bytes, cx.place.from as usize);
+    put_behind_word(cx, to, 1, end, "'", "'");
 }
 
 // The parentheses round an empty string that is all that `writeln` is given.
 fn alone_in_line(cx: &Context<'_>, end: usize) -> Option<Span> {
-    let paren = cx.back(1)?;
-    let name = cx.back(2)?;
-    let is_alone = cx.is(paren, Kind::LeftParen) && byte_at(cx.bytes, end) == b')';
+    let paren = cx.at.checked_sub(1)?;
+    let name = cx.at.checked_sub(2)?;
+    let is_alone = cx.is_of(paren, &[Kind::LeftParen]) && byte_at(cx.bytes, end) == b')';
     if !is_alone || !cx.is_spelled(name, "writeln") {
         return None;
     }
     Some(Span {
         from: cx.span(paren).from,
-        to: span_of(end, end.saturating_add(1)).to,
+        to: span_at(end, end.saturating_add(1)).to,
     })
 }
 
-/// A string without a character.
-pub(crate) fn empty_string(cx: &Context<'_>, draft: &mut Draft) -> Result<(), AllocError> {
-    say(draft, &["a string has at least one character"])?;
+/// Proposes to take a string without a character away, or a space in it.
+pub(crate) fn fill_string(cx: &Context<'_>, to: &mut Telling) {
     let from = cx.place.from as usize;
     let end = from.saturating_add(2);
     if let Some(span) = alone_in_line(cx, end) {
-        take_away(cx, draft, 0, span)?;
+        take_away(cx, to, 0, span);
     }
-    exchange(cx, draft, 1, span_of(from, end), "' '")
+    exchange(cx, to, 1, span_at(from, end), "' '");
 }
 
-// Whether a name is declared where a number stands.
-fn is_declared_before(cx: &Context<'_>) -> bool {
-    match cx.kind_back(2) {
-        Some(kind) => matches!(
-            kind,
-            Kind::Program | Kind::Procedure | Kind::Function | Kind::Var | Kind::Const | Kind::Type
-        ),
-        None => false,
-    }
-}
-
-/// A word that touches the number before it.
-pub(crate) fn separator_missing(cx: &Context<'_>, draft: &mut Draft) -> Result<(), AllocError> {
-    let from = cx.place.from as usize;
-    let end = end_of(cx.bytes, from, is_of_name);
-    let word = shown(cx.bytes.get(from..end).unwrap_or(&[]));
-    say(draft, &["`", word, "` touches the number before it"])?;
-    if is_declared_before(cx) {
-        return help(cx, draft, &["a name begins with a letter"]);
-    }
+/// Proposes what separates the word at the place from the number before it.
+pub(crate) fn separate(cx: &Context<'_>, to: &mut Telling) {
+    let from = cx.place.from;
+    let word = shown_from(cx, from as usize, Class::Name);
     let words = ["put `*` before `", word, "` at "];
-    put_at(cx, draft, 1, cx.place.from, &words, "*")?;
+    put_at(cx, to, 1, from, &words, "*");
     let words = ["put a space before `", word, "` at "];
-    put_at(cx, draft, 0, cx.place.from, &words, " ")
-}
-
-/// A number above the largest one.
-pub(crate) fn number_too_large(cx: &Context<'_>, draft: &mut Draft) -> Result<(), AllocError> {
-    let from = cx.place.from as usize;
-    let end = end_of(cx.bytes, from, |byte| byte.is_ascii_digit());
-    let digits = shown(cx.bytes.get(from..end).unwrap_or(&[]));
-    say(
-        draft,
-        &["`", digits, "` is above 2147483647, the largest integer"],
-    )
-}
-
-/// A real number.
-pub(crate) fn real_number(cx: &Context<'_>, draft: &mut Draft) -> Result<(), AllocError> {
-    let number = shown(cx.piece(cx.place));
-    say(
-        draft,
-        &[
-            "`",
-            number,
-            "` is a real number, and this compiler has none",
-        ],
-    )?;
-    note_others(cx, draft)?;
-    if let Some(row) = other_pascal(Part::StatementsLeftOut, "1 . 5") {
-        help(cx, draft, &[row.advice])?;
-    }
-    Ok(())
+    put_at(cx, to, 0, from, &words, " ");
 }
 
 // The two slashes before the place in its line, behind which a comment of other languages stands.
 fn slashes_before(cx: &Context<'_>) -> Option<usize> {
-    let first = line_start(cx.bytes, cx.place.from as usize);
+    let first = start_of(cx.bytes, cx.place.from as usize, Class::Line);
     for at in (0..cx.at).rev() {
         if (cx.span(at).from as usize) < first {
             return None;
         }
-        if cx.is(at, Kind::Slash)
-            && cx.touches_next(at)
-            && cx.is(at.saturating_add(1), Kind::Slash)
-        {
+        let are_slashes = cx.is_of(at, &[Kind::Slash])
+            && cx.is_of(at.saturating_add(1), &[Kind::Slash]);
+        if are_slashes && cx.touches_next(at) {
             return Some(at);
         }
     }
@@ -287,16 +315,14 @@ fn slashes_before(cx: &Context<'_>) -> Option<usize> {
 }
 
 /// What is told beside, where two slashes stand before the place.
-pub(crate) fn comment_of_line(cx: &Context<'_>, draft: &mut Draft) -> Result<(), AllocError> {
+pub(crate) fn comment_of_line(cx: &Context<'_>, to: &mut Telling) {
     let Some(at) = slashes_before(cx) else {
-        return Ok(());
+        return;
     };
-    draft.trials.clear();
-    draft.notes.clear();
+    to.draft.trials.clear();
+    to.draft.notes.clear();
     let span = cx.span_of(at, at.saturating_add(1));
-    label(cx, draft, span, &["`//` begins no comment"])?;
-    if let Some(row) = other_pascal(Part::Statements, "/ /") {
-        help(cx, draft, &[row.advice])?;
-    }
-    exchange_slashes(cx, draft)
+    to.label(span, joined(cx, &["`//` begins no comment"]));
+    advise(cx, to, Part::Statements, "/ /");
+    exchange_slashes(cx, to);
 }

@@ -1,18 +1,18 @@
 //! What is told of a byte that begins no token.
 
 use crate::context::Context;
-use crate::letters::{byte_at, byte_before, end_of, is_of_name, letter_at, line_end};
-use crate::rows::{Part, Row, other_pascal, rows_of};
-use crate::tell::{add_trial, exchange, help, put_all, put_place, say};
-use crate::underscores::refuse_underscore;
-use ps_diagnose::Draft;
-use ps_diagnostic::Edit;
-use ps_text::Span;
-use std::alloc::AllocError;
+use crate::letters::{Class, byte_at, byte_before, end_of, is_in, letter_at, span_at};
+use crate::rows::Part;
+use crate::rule::Piece::{Byte, Code, Is, Letter, Origin};
+use crate::rule::Place::Back;
+use crate::rule::{Fact, More, Rule, Test, Told};
+use crate::table::{signs_of_programs, signs_of_statements};
+use crate::tell::{Telling, Text, empty, exchange, exchange_text, joined, shown};
+use crate::tests::first_of;
 
-// What a sign that begins no token is.
+/// What a sign that begins no token is.
 #[derive(Clone, Copy, PartialEq, Eq)]
-enum Sign {
+pub(crate) enum Sign {
     SlantedQuote,
     SlantedDouble,
     DoubleQuote,
@@ -41,60 +41,263 @@ fn sign_of(letter: char) -> Sign {
     }
 }
 
-// What the character of a text is.
-fn sign_of_text(text: &str) -> Sign {
+// The first character of a text.
+fn letter_of(text: &str) -> char {
     match text.chars().next() {
-        Some(letter) => sign_of(letter),
-        None => Sign::Control,
+        Some(letter) => letter,
+        None => '\0',
     }
 }
 
-// Puts the number of a character, as U+2018.
-fn put_code(out: &mut String, text: &str) -> Result<(), AllocError> {
-    let code = text.chars().next().map_or(0, |letter| letter as u32);
-    write!(out, "U+{code:04X}")
+/// The character at the place, as it is written; nothing where the bytes there are none.
+pub(crate) fn letter_here<'a>(cx: &Context<'a>) -> &'a str {
+    letter_at(cx.bytes, cx.place.from as usize).unwrap_or("")
 }
 
-// The span of a piece of the text.
-fn span_of(from: usize, to: usize) -> Span {
-    Span {
-        from: u32::try_from(from).unwrap_or(u32::MAX),
-        to: u32::try_from(to).unwrap_or(u32::MAX),
+/// What the sign at the place is.
+pub(crate) fn sign_here(cx: &Context<'_>) -> Sign {
+    sign_of(letter_of(letter_here(cx)))
+}
+
+// What is told of a typographic quote in the place of an apostrophe.
+const SLANTED: &[Told] = &[
+    Told::Says(&[
+        Is("the slanted quote `"),
+        Letter,
+        Is("` ("),
+        Code,
+        Is(") is no apostrophe"),
+    ]),
+    Told::More(More::Quotes),
+];
+
+// Quotes, underscores and spaces.
+const QUOTES: &[Rule] = &[
+    Rule {
+        when: &[Test::Sign(Sign::SlantedQuote)],
+        told: SLANTED,
+        also: &[],
+    },
+    Rule {
+        when: &[Test::Sign(Sign::SlantedDouble)],
+        told: SLANTED,
+        also: &[],
+    },
+    Rule {
+        when: &[Test::Sign(Sign::DoubleQuote)],
+        told: &[
+            Told::Says(&[
+                Is("`\"` is not used in standard Pascal: it comes from "),
+                Origin(Part::Statements, "\""),
+            ]),
+            Told::Advice(Part::Statements, "\""),
+            Told::More(More::Quotes),
+        ],
+        also: &[],
+    },
+    Rule {
+        when: &[Test::Sign(Sign::Underscore)],
+        told: &[
+            Told::Says(&[Is("a name has only letters and digits, and no `_`")]),
+            Told::Advice(Part::Statements, "_"),
+            Told::More(More::Underscores),
+        ],
+        also: &[],
+    },
+    Rule {
+        when: &[Test::Sign(Sign::Space)],
+        told: &[
+            Told::Says(&[Is("a space of another kind ("), Code, Is(") stands here")]),
+            Told::More(More::Spaces),
+        ],
+        also: &[],
+    },
+];
+
+// What is told of a comment behind `#`.
+const HASH_COMMENT: &[Told] = &[
+    Told::Says(&[Is("`#` is not used in standard Pascal: it comes from Python")]),
+    Told::Help(&[Is("A comment stands between `{` and `}`.")]),
+    Told::More(More::Hash),
+];
+
+// Comments behind `#`.
+const HASHES: &[Rule] = &[
+    Rule {
+        when: &[Test::Stands("# ")],
+        told: HASH_COMMENT,
+        also: &[],
+    },
+    Rule {
+        when: &[
+            Test::Stands("#"),
+            Test::Has(Back(1)),
+            Test::Fails(Fact::Digit),
+        ],
+        told: HASH_COMMENT,
+        also: &[],
+    },
+];
+
+// Dashes, letters and bytes that are no sign.
+const LETTERS: &[Rule] = &[
+    Rule {
+        when: &[Test::Sign(Sign::Dash)],
+        told: &[
+            Told::Says(&[
+                Is("the dash `"),
+                Letter,
+                Is("` ("),
+                Code,
+                Is(") is no minus sign"),
+            ]),
+            Told::More(More::Minus),
+        ],
+        also: &[],
+    },
+    Rule {
+        when: &[Test::Sign(Sign::Letter)],
+        told: &[
+            Told::Says(&[
+                Is("`"),
+                Letter,
+                Is("` ("),
+                Code,
+                Is(") is no letter of a name"),
+            ]),
+            Told::Help(&[Is("names are made of the letters a to z and of digits")]),
+        ],
+        also: &[],
+    },
+    Rule {
+        when: &[Test::Sign(Sign::Control)],
+        told: &[Told::Says(&[Is("the byte "), Byte, Is(" cannot stand here")])],
+        also: &[],
+    },
+];
+
+// What is told of a sign that nothing is known of.
+const UNKNOWN: &[Told] = &[Told::Says(&[Is("`"), Letter, Is("` is not used in standard Pascal")])];
+
+// Signs of mathematics, and the end of a comment.
+const MATHEMATICS: &[Rule] = &[
+    Rule {
+        when: &[Test::Stands("}")],
+        told: &[
+            Told::Says(&[Is("no comment is open that this `}` could end")]),
+            Told::Help(&[Is(
+                "a comment ends at its first `}` or `*)`, also where another one begins in it",
+            )]),
+        ],
+        also: &[],
+    },
+    Rule {
+        when: &[Test::Stands("\u{2264}")],
+        told: &[
+            Told::Says(&[Is("`\u{2264}` is not used in standard Pascal")]),
+            Told::ExchangeSign("\u{2264}", "<="),
+        ],
+        also: &[],
+    },
+    Rule {
+        when: &[Test::Stands("\u{2265}")],
+        told: &[
+            Told::Says(&[Is("`\u{2265}` is not used in standard Pascal")]),
+            Told::ExchangeSign("\u{2265}", ">="),
+        ],
+        also: &[],
+    },
+    Rule {
+        when: &[Test::Stands("\u{2260}")],
+        told: &[
+            Told::Says(&[Is("`\u{2260}` is not used in standard Pascal")]),
+            Told::ExchangeSign("\u{2260}", "<>"),
+        ],
+        also: &[],
+    },
+    Rule {
+        when: &[Test::Stands("\u{D7}")],
+        told: &[
+            Told::Says(&[Is("`\u{D7}` is not used in standard Pascal")]),
+            Told::ExchangeSign("\u{D7}", "*"),
+        ],
+        also: &[],
+    },
+    Rule {
+        when: &[Test::Stands("\u{F7}")],
+        told: &[
+            Told::Says(&[Is("`\u{F7}` is not used in standard Pascal")]),
+            Told::ExchangeSign("\u{F7}", "div"),
+        ],
+        also: &[],
+    },
+];
+
+// Signs that nothing is known of.
+const OTHERS: &[Rule] = &[Rule {
+    when: &[],
+    told: UNKNOWN,
+    also: &[],
+}];
+
+// The rule of a sign that the table of other Pascals has.
+fn rule_of_table(cx: &Context<'_>) -> Option<&'static Rule> {
+    if cx.tokens.is_empty() {
+        signs_of_programs(cx)
+    } else {
+        signs_of_statements(cx)
     }
 }
 
-// Puts a change of one sign in words.
-fn put_exchange(
-    cx: &Context<'_>,
-    out: &mut String,
-    put: &str,
-    text: &str,
-    at: usize,
-) -> Result<(), AllocError> {
-    put_all(out, &["write `", put, "` for `", text, "` at "])?;
-    put_place(out, cx.bytes, span_of(at, at).from)
+// The rule of a quote, an underscore or a space.
+fn rule_of_quote(cx: &Context<'_>) -> Option<&'static Rule> {
+    first_of(cx, QUOTES)
 }
 
-// Adds the exchange of a sign.
-fn add_exchange(
-    cx: &Context<'_>,
-    edits: &mut Vec<Edit>,
-    put: &str,
-    at: usize,
-    length: usize,
-) -> Result<(), AllocError> {
-    let put = String::from_str(cx.alloc, put)?;
-    let span = span_of(at, at.saturating_add(length));
-    edits.push(Edit { span, put })?;
-    Ok(())
+// The rule of a comment behind `#`.
+fn rule_of_hash(cx: &Context<'_>) -> Option<&'static Rule> {
+    first_of(cx, HASHES)
+}
+
+// The rule of a dash, a letter or a byte.
+fn rule_of_letter(cx: &Context<'_>) -> Option<&'static Rule> {
+    first_of(cx, LETTERS)
+}
+
+// The rule of a sign of mathematics.
+fn rule_of_mathematics(cx: &Context<'_>) -> Option<&'static Rule> {
+    first_of(cx, MATHEMATICS)
+}
+
+// The rule of any other sign.
+fn rule_of_other(cx: &Context<'_>) -> Option<&'static Rule> {
+    first_of(cx, OTHERS)
+}
+
+/// The rule of a byte that begins no token.
+pub(crate) fn rule_of_byte(cx: &Context<'_>) -> Option<&'static Rule> {
+    rule_of_quote(cx)
+        .or(rule_of_letter(cx))
+        .or(rule_of_hash(cx))
+        .or(rule_of_table(cx))
+        .or(rule_of_mathematics(cx))
+        .or(rule_of_other(cx))
+}
+
+/// Puts the number of the character at the place, as U+2018.
+pub(crate) fn put_code(cx: &Context<'_>, out: &mut Text) {
+    let code = letter_of(letter_here(cx)) as u32;
+    if write!(out.string, "U+{code:04X}").is_err() {
+        out.has_failed = true;
+    }
 }
 
 // The offset of the next sign of a kind in the line, with the sign.
 fn next_like<'a>(bytes: &'a [u8], from: usize, sign: Sign) -> Option<(usize, &'a str)> {
-    let end = line_end(bytes, from);
+    let end = end_of(bytes, from, Class::Line);
     for at in from..end {
         if let Some(text) = letter_at(bytes, at)
-            && sign_of_text(text) == sign
+            && sign_of(letter_of(text)) == sign
         {
             return Some((at, text));
         }
@@ -102,285 +305,124 @@ fn next_like<'a>(bytes: &'a [u8], from: usize, sign: Sign) -> Option<(usize, &'a
     None
 }
 
-// Proposes apostrophes for a pair of quotes.
-fn exchange_quotes(
-    cx: &Context<'_>,
-    draft: &mut Draft,
-    sign: Sign,
-    text: &str,
-) -> Result<(), AllocError> {
+// Tells the exchange of a quote by an apostrophe.
+fn put_exchange(cx: &Context<'_>, out: &mut Text, quote: &str, at: usize) {
+    out.put_all(&["write `'` for `", quote, "` at "]);
+    out.put_place(cx, span_at(at, at).from);
+}
+
+// Adds the exchange of a quote by an apostrophe.
+fn change_quote(cx: &Context<'_>, to: &mut Telling, quote: &str, at: usize) {
+    let span = span_at(at, at.saturating_add(quote.len()));
+    to.change(span, joined(cx, &["'"]));
+}
+
+/// Proposes apostrophes for the quote at the place and the next of its kind in the line.
+pub(crate) fn exchange_quotes(cx: &Context<'_>, to: &mut Telling) {
     let at = cx.place.from as usize;
-    let mut words = String::new(cx.alloc);
-    let mut edits = Vec::new(cx.alloc);
-    put_exchange(cx, &mut words, "'", text, at)?;
-    add_exchange(cx, &mut edits, "'", at, text.len())?;
-    if let Some((next, other)) = next_like(cx.bytes, at.saturating_add(text.len()), sign) {
-        words.push_str(", and ")?;
-        put_exchange(cx, &mut words, "'", other, next)?;
-        add_exchange(cx, &mut edits, "'", next, other.len())?;
+    let quote = letter_here(cx);
+    let second = next_like(cx.bytes, at.saturating_add(quote.len()), sign_here(cx));
+    let mut words = empty(cx.alloc);
+    put_exchange(cx, &mut words, quote, at);
+    if let Some((next, other)) = second {
+        words.put(", and ");
+        put_exchange(cx, &mut words, other, next);
     }
-    add_trial(draft, 0, words, edits)
-}
-
-// Tells a sign with its number.
-fn say_coded(
-    cx: &Context<'_>,
-    draft: &mut Draft,
-    before: &str,
-    text: &str,
-    behind: &str,
-) -> Result<(), AllocError> {
-    let mut code = String::new(cx.alloc);
-    put_code(&mut code, text)?;
-    say(draft, &[before])?;
-    put_all(&mut draft.text, &["`", text, "` ("])?;
-    put_all(&mut draft.text, &[code.as_str(), ")"])?;
-    put_all(&mut draft.text, &[behind])
-}
-
-// A typographic quote in the place of an apostrophe.
-fn slanted_quote(
-    cx: &Context<'_>,
-    draft: &mut Draft,
-    sign: Sign,
-    text: &str,
-) -> Result<(), AllocError> {
-    say_coded(cx, draft, "the slanted quote ", text, " is no apostrophe")?;
-    exchange_quotes(cx, draft, sign, text)
-}
-
-// A double quote.
-fn double_quote(cx: &Context<'_>, draft: &mut Draft, text: &str) -> Result<(), AllocError> {
-    say(draft, &["`", text, "` begins nothing"])?;
-    if let Some(row) = other_pascal(Part::Statements, "\"") {
-        put_all(&mut draft.text, &[": it is of ", row.origin()])?;
-        help(cx, draft, &[row.advice])?;
+    to.propose(cx, 0, words);
+    change_quote(cx, to, quote, at);
+    if let Some((next, other)) = second {
+        change_quote(cx, to, other, next);
     }
-    exchange_quotes(cx, draft, Sign::DoubleQuote, text)
 }
 
-// A space that is none of the language: all of them are exchanged.
-fn space(cx: &Context<'_>, draft: &mut Draft, text: &str) -> Result<(), AllocError> {
-    let mut code = String::new(cx.alloc);
-    put_code(&mut code, text)?;
-    say(
-        draft,
-        &["a space of another kind (", code.as_str(), ") stands here"],
-    )?;
-    let mut edits = Vec::new(cx.alloc);
+// Whether a text stands at an offset.
+fn stands_at(bytes: &[u8], at: usize, text: &str) -> bool {
+    bytes.get(at..at.saturating_add(text.len())) == Some(text.as_bytes())
+}
+
+// How often a text stands from the place on.
+fn count_of(cx: &Context<'_>, text: &str) -> u32 {
+    let mut count: u32 = 0;
     for at in cx.place.from as usize..cx.bytes.len() {
-        if cx
-            .bytes
-            .get(at..)
-            .is_some_and(|rest| rest.starts_with(text.as_bytes()))
-        {
-            add_exchange(cx, &mut edits, " ", at, text.len())?;
+        if stands_at(cx.bytes, at, text) {
+            count = count.saturating_add(1);
         }
     }
-    let words = match edits.len() {
-        0 | 1 => String::from_str(cx.alloc, "write a plain space for it")?,
-        count => format!(in cx.alloc; "write plain spaces for it and the others, {count} in all")?,
-    };
-    add_trial(draft, 0, words, edits)
+    count
 }
 
-// A dash in the place of a minus sign.
-fn dash(cx: &Context<'_>, draft: &mut Draft, text: &str) -> Result<(), AllocError> {
-    say_coded(cx, draft, "the dash ", text, " is no minus sign")?;
+// What is told of the exchange of so many spaces.
+fn words_of_spaces(cx: &Context<'_>, count: u32) -> Text {
+    if count <= 1 {
+        return joined(cx, &["write a plain space for it"]);
+    }
+    let mut words = joined(cx, &["write plain spaces for it and the others, "]);
+    words.put_number(count);
+    words.put(" in all");
+    words
+}
+
+/// Proposes plain spaces for all of the kind at the place.
+pub(crate) fn exchange_spaces(cx: &Context<'_>, to: &mut Telling) {
+    let text = letter_here(cx);
+    to.propose(cx, 0, words_of_spaces(cx, count_of(cx, text)));
+    for at in cx.place.from as usize..cx.bytes.len() {
+        if stands_at(cx.bytes, at, text) {
+            let span = span_at(at, at.saturating_add(text.len()));
+            to.change(span, joined(cx, &[" "]));
+        }
+    }
+}
+
+/// Proposes a minus sign for the dash at the place.
+pub(crate) fn exchange_dash(cx: &Context<'_>, to: &mut Telling) {
     let at = cx.place.from as usize;
-    exchange(
-        cx,
-        draft,
-        0,
-        span_of(at, at.saturating_add(text.len())),
-        "-",
-    )
+    let end = at.saturating_add(letter_here(cx).len());
+    exchange(cx, to, 0, span_at(at, end), "-");
 }
 
-// A letter that stands in no name.
-fn foreign_letter(cx: &Context<'_>, draft: &mut Draft, text: &str) -> Result<(), AllocError> {
-    say_coded(cx, draft, "", text, " is no letter of a name")?;
-    help(
-        cx,
-        draft,
-        &["names are made of the letters a to z and of digits"],
-    )
+// A space where a sign would touch a name.
+fn space_beside(byte: u8) -> &'static str {
+    if is_in(Class::Name, byte) { " " } else { "" }
 }
 
-// Whether the pieces of a row stand at an offset, with nothing between.
-fn stands_at(bytes: &[u8], at: usize, row: &Row) -> bool {
-    let mut at = at;
-    for piece in row.word.split(' ') {
-        let end = at.saturating_add(piece.len());
-        if bytes.get(at..end) != Some(piece.as_bytes()) {
-            return false;
-        }
-        at = end;
-    }
-    row.number == Some(10)
-}
-
-// The row of the table that stands at the place.
-fn row_here(cx: &Context<'_>) -> Result<Option<Row>, AllocError> {
-    let at = cx.place.from as usize;
-    let begins = cx.tokens.is_empty();
-    let part = if begins {
-        Part::Program
-    } else {
-        Part::Statements
-    };
-    let rows = rows_of(cx.alloc, part)?;
-    for row in rows.iter() {
-        if stands_at(cx.bytes, at, row) {
-            return Ok(Some(*row));
-        }
-    }
-    Ok(None)
-}
-
-// What is put for a sign, with spaces where it would touch a name.
-fn put_for(cx: &Context<'_>, put: &str, from: usize, to: usize) -> Result<String, AllocError> {
-    let mut out = String::new(cx.alloc);
-    if is_of_name(byte_before(cx.bytes, from)) {
-        out.push(' ')?;
-    }
-    out.push_str(put)?;
-    if is_of_name(byte_at(cx.bytes, to)) {
-        out.push(' ')?;
-    }
-    Ok(out)
-}
-
-// Proposes what a row exchanges.
-fn exchange_sign(
-    cx: &Context<'_>,
-    draft: &mut Draft,
-    sign: &str,
-    put: &str,
-) -> Result<(), AllocError> {
+/// Proposes what stands for a sign, with spaces where it would touch a name.
+pub(crate) fn exchange_sign(cx: &Context<'_>, to: &mut Telling, sign: &str, put: &str) {
     let at = cx.place.from as usize;
     let end = at.saturating_add(sign.len());
-    let mut words = String::new(cx.alloc);
-    let mut edits = Vec::new(cx.alloc);
-    put_exchange(cx, &mut words, put, sign, at)?;
-    let put = put_for(cx, put, at, end)?;
-    add_exchange(cx, &mut edits, put.as_str(), at, sign.len())?;
-    add_trial(draft, 0, words, edits)
+    let before = space_beside(byte_before(cx.bytes, at));
+    let behind = space_beside(byte_at(cx.bytes, end));
+    let mut words = joined(cx, &["write `", put, "` for `", sign, "` at "]);
+    words.put_place(cx, cx.place.from);
+    to.propose(cx, 0, words);
+    let mut spaced = joined(cx, &[before]);
+    spaced.put(put);
+    spaced.put(behind);
+    to.change(span_at(at, end), spaced);
 }
 
-// Proposes `chr(65)` for `#65`.
-fn exchange_code(cx: &Context<'_>, draft: &mut Draft) -> Result<(), AllocError> {
+/// Proposes `chr(65)` for `#65`.
+pub(crate) fn exchange_code(cx: &Context<'_>, to: &mut Telling) {
     let at = cx.place.from as usize;
     let first = at.saturating_add(1);
-    let end = end_of(cx.bytes, first, |byte| byte.is_ascii_digit());
-    if byte_at(cx.bytes, at) != b'#' || first == end {
-        return Ok(());
+    let end = end_of(cx.bytes, first, Class::Digit);
+    if first == end {
+        return;
     }
-    let digits = cx.piece(span_of(first, end));
-    let put = format!(in cx.alloc; "chr({})", crate::tell::shown(digits))?;
-    exchange(cx, draft, 0, span_of(at, end), put.as_str())
+    let digits = shown(cx.piece(span_at(first, end)));
+    exchange_text(cx, to, span_at(at, end), joined(cx, &["chr(", digits, ")"]));
 }
 
-// Proposes the decimal number for `$FF`.
-fn exchange_hexadecimal(cx: &Context<'_>, draft: &mut Draft) -> Result<(), AllocError> {
+/// Proposes the decimal number for `$FF`.
+pub(crate) fn exchange_hexadecimal(cx: &Context<'_>, to: &mut Telling) {
     let at = cx.place.from as usize;
     let first = at.saturating_add(1);
-    let end = end_of(cx.bytes, first, |byte| byte.is_ascii_hexdigit());
-    if byte_at(cx.bytes, at) != b'$' {
-        return Ok(());
-    }
-    let digits = crate::tell::shown(cx.piece(span_of(first, end)));
-    if let Ok(number) = u32::from_str_radix(digits, 16) {
-        let put = format!(in cx.alloc; "{number}")?;
-        exchange(cx, draft, 0, span_of(at, end), put.as_str())?;
-    }
-    Ok(())
-}
-
-// A sign that the table has.
-fn sign_of_table(cx: &Context<'_>, draft: &mut Draft, row: Row) -> Result<(), AllocError> {
-    let mut sign = String::new(cx.alloc);
-    for piece in row.word.split(' ') {
-        sign.push_str(piece)?;
-    }
-    say(
-        draft,
-        &[
-            "`",
-            sign.as_str(),
-            "` begins nothing: it is of ",
-            row.origin(),
-        ],
-    )?;
-    help(cx, draft, &[row.advice])?;
-    if let Some(put) = row.mend {
-        exchange_sign(cx, draft, sign.as_str(), put)?;
-    }
-    exchange_code(cx, draft)?;
-    exchange_hexadecimal(cx, draft)
-}
-
-// What is written for a sign of mathematics.
-fn written_for(text: &str) -> Option<&'static str> {
-    match text {
-        "\u{2264}" => Some("<="),
-        "\u{2265}" => Some(">="),
-        "\u{2260}" => Some("<>"),
-        "\u{D7}" => Some("*"),
-        "\u{F7}" => Some("div"),
-        _ => None,
-    }
-}
-
-// A sign that the table doesn't have.
-fn unknown_sign(cx: &Context<'_>, draft: &mut Draft, text: &str) -> Result<(), AllocError> {
-    say(draft, &["`", text, "` begins nothing here"])?;
-    if text == "}" {
-        help(
-            cx,
-            draft,
-            &["a comment ends at its first `}` or `*)`, also where another one begins in it"],
-        )?;
-    }
-    match written_for(text) {
-        Some(put) => exchange_sign(cx, draft, text, put),
-        None => Ok(()),
-    }
-}
-
-// A sign of no other kind.
-fn another_sign(cx: &Context<'_>, draft: &mut Draft, text: &str) -> Result<(), AllocError> {
-    match row_here(cx)? {
-        Some(row) => sign_of_table(cx, draft, row),
-        None => unknown_sign(cx, draft, text),
-    }
-}
-
-// A byte that is no part of a sign which is shown.
-fn control(cx: &Context<'_>, draft: &mut Draft) -> Result<(), AllocError> {
-    let byte = byte_at(cx.bytes, cx.place.from as usize);
-    draft.text.clear();
-    write!(draft.text, "the byte {byte} begins nothing here")
-}
-
-// A character.
-fn letter(cx: &Context<'_>, draft: &mut Draft, text: &str) -> Result<(), AllocError> {
-    match sign_of_text(text) {
-        sign @ (Sign::SlantedQuote | Sign::SlantedDouble) => slanted_quote(cx, draft, sign, text),
-        Sign::DoubleQuote => double_quote(cx, draft, text),
-        Sign::Underscore => refuse_underscore(cx, draft),
-        Sign::Space => space(cx, draft, text),
-        Sign::Dash => dash(cx, draft, text),
-        Sign::Letter => foreign_letter(cx, draft, text),
-        Sign::Control => control(cx, draft),
-        Sign::Other => another_sign(cx, draft, text),
-    }
-}
-
-/// A byte that begins no token.
-pub(crate) fn bad_byte(cx: &Context<'_>, draft: &mut Draft) -> Result<(), AllocError> {
-    match letter_at(cx.bytes, cx.place.from as usize) {
-        Some(text) => letter(cx, draft, text),
-        None => control(cx, draft),
-    }
+    let end = end_of(cx.bytes, first, Class::Hexadecimal);
+    let digits = shown(cx.piece(span_at(first, end)));
+    let Ok(number) = u32::from_str_radix(digits, 16) else {
+        return;
+    };
+    let mut put = empty(cx.alloc);
+    put.put_number(number);
+    exchange_text(cx, to, span_at(at, end), put);
 }

@@ -1,72 +1,97 @@
 //! Comments of other languages, behind two slashes.
 
 use crate::context::Context;
-use crate::letters::trimmed_end;
+use crate::letters::{byte_at, span_at, trimmed_end};
 use crate::reals::behind;
-use crate::scanned::span_of;
-use crate::tell::{add_trial, put_place, shown};
-use ps_diagnose::Draft;
-use ps_diagnostic::Edit;
-use std::alloc::AllocError;
+use crate::tell::{Telling, Text, empty, exchange_text, joined, shown};
 
-// What stands for a comment that begins at an offset; none where it can't stand between braces.
-fn put_for(cx: &Context<'_>, from: usize) -> Result<Option<Edit>, AllocError> {
+// The text of a comment that may stand between braces.
+fn text_of(inner: &[u8]) -> Option<&str> {
+    let mut last = b' ';
+    for byte in inner.iter() {
+        if *byte == b'}' || *byte == b')' && last == b'*' {
+            return None;
+        }
+        last = *byte;
+    }
+    str::from_utf8(inner).ok()
+}
+
+// A comment that begins at an offset behind two slashes: where it ends, and its text, if that can stand between braces.
+fn comment_at<'a>(cx: &Context<'a>, from: usize) -> Option<(usize, &'a str)> {
     let end = trimmed_end(cx.bytes, from);
-    let inner = cx.bytes.get(from.saturating_add(2)..end).unwrap_or(&[]);
-    let Ok(text) = str::from_utf8(inner) else {
-        return Ok(None);
-    };
-    if inner.contains(&b'}') || inner.windows(2).any(|pair| pair == b"*)".as_slice()) {
-        return Ok(None);
-    }
-    let put = format!(in cx.alloc; "{{{text} }}")?;
-    let span = span_of(from, end);
-    Ok(Some(Edit { span, put }))
+    let inner = cx.bytes.get(from.saturating_add(2)..end)?;
+    let text = text_of(inner)?;
+    Some((end, text))
 }
 
-// Adds the change of a comment that begins at an offset.
-fn add_change(cx: &Context<'_>, edits: &mut Vec<Edit>, from: usize) -> Result<(), AllocError> {
-    if let Some(edit) = put_for(cx, from)? {
-        edits.push(edit)?;
-    }
-    Ok(())
-}
-
-// The changes of all comments behind two slashes.
-fn changes(cx: &Context<'_>) -> Result<Vec<Edit>, AllocError> {
-    let mut edits = Vec::new(cx.alloc);
-    let mut end: usize = 0;
-    for (at, byte) in cx.bytes.iter().enumerate() {
+// The offset of the next comment behind two slashes from one on, which is no part of something else.
+fn next_from(cx: &Context<'_>, from: usize) -> Option<usize> {
+    let mut end = from;
+    for at in from..cx.bytes.len() {
         if at >= end {
             end = behind(cx.bytes, at);
-            if *byte == b'/' && end > at.saturating_add(1) {
-                add_change(cx, &mut edits, at)?;
+            let is_slash = byte_at(cx.bytes, at) == b'/' && end > at.saturating_add(1);
+            if is_slash && comment_at(cx, at).is_some() {
+                return Some(at);
             }
         }
     }
-    Ok(edits)
+    None
 }
 
-// The changes in words.
-fn words_of(cx: &Context<'_>, edits: &[Edit]) -> Result<String, AllocError> {
-    let [first, others @ ..] = edits else {
-        return Ok(String::new(cx.alloc));
+// Tells the first comment that is changed.
+fn words_of(cx: &Context<'_>, from: usize, are_more: bool) -> Text {
+    let Some((end, text)) = comment_at(cx, from) else {
+        return empty(cx.alloc);
     };
-    let (put, text) = (shown(first.put.as_bytes()), shown(cx.piece(first.span)));
-    let mut words = format!(in cx.alloc; "write `{put}` for `{text}` at ")?;
-    put_place(&mut words, cx.bytes, first.span.from)?;
-    if !others.is_empty() {
-        words.push_str(", and so with all that stands behind `//`")?;
+    let span = span_at(from, end);
+    let put = joined(cx, &["{", text, " }"]);
+    let mut words = joined(cx, &["write `", shown(put.string.as_bytes())]);
+    words.put_all(&["` for `", shown(cx.piece(span)), "` at "]);
+    words.put_place(cx, span.from);
+    if are_more {
+        words.put(", and so with all that stands behind `//`");
     }
-    Ok(words)
+    words.has_failed = words.has_failed || put.has_failed;
+    words
+}
+
+// Adds the change of a comment.
+fn change_comment(cx: &Context<'_>, to: &mut Telling, from: usize) {
+    if let Some((end, text)) = comment_at(cx, from) {
+        to.change(span_at(from, end), joined(cx, &["{", text, " }"]));
+    }
+}
+
+// Adds the changes of all comments from one on.
+fn change_comments(cx: &Context<'_>, to: &mut Telling, first: usize) {
+    let mut at = first;
+    for _ in first..cx.bytes.len() {
+        change_comment(cx, to, at);
+        match next_from(cx, behind(cx.bytes, at)) {
+            Some(next) => at = next,
+            None => return,
+        }
+    }
 }
 
 /// Proposes braces for what stands behind two slashes, wherever it stands.
-pub(crate) fn exchange_slashes(cx: &Context<'_>, draft: &mut Draft) -> Result<(), AllocError> {
-    let edits = changes(cx)?;
-    if edits.is_empty() {
-        return Ok(());
+pub(crate) fn exchange_slashes(cx: &Context<'_>, to: &mut Telling) {
+    let Some(first) = next_from(cx, 0) else {
+        return;
+    };
+    let are_more = next_from(cx, behind(cx.bytes, first)).is_some();
+    to.propose(cx, 0, words_of(cx, first, are_more));
+    change_comments(cx, to, first);
+}
+
+/// Proposes braces for the comment behind `#` at the place.
+pub(crate) fn exchange_hash(cx: &Context<'_>, to: &mut Telling) {
+    let from = cx.place.from as usize;
+    let end = trimmed_end(cx.bytes, from);
+    let inner = cx.bytes.get(from.saturating_add(1)..end).unwrap_or(&[]);
+    if let Some(text) = text_of(inner) {
+        exchange_text(cx, to, span_at(from, end), joined(cx, &["{", text, " }"]));
     }
-    let words = words_of(cx, edits.as_slice())?;
-    add_trial(draft, 0, words, edits)
 }

@@ -1,11 +1,10 @@
 //! Words of the language that are spelled otherwise.
 
 use crate::context::Context;
-use crate::other::seems_declared;
-use crate::tell::exchange;
-use ps_diagnose::{Draft, nearest};
+use crate::tell::{Telling, empty, exchange};
+use ps_diagnose::nearest;
 use ps_scan::Kind;
-use std::alloc::{AllocError, Global};
+use std::alloc::AllocError;
 
 // The words that statements and declarations are made of.
 const WORDS: [&str; 27] = [
@@ -41,44 +40,44 @@ const WORDS: [&str; 27] = [
 // The most letters of a name that is compared with them.
 const MOST: usize = 12;
 
-// A name in small letters.
-fn in_small_letters(alloc: Global, name: &[u8]) -> Result<String, AllocError> {
-    let mut out = String::new(alloc);
-    for byte in name.iter() {
-        out.push(byte.to_ascii_lowercase() as char)?;
-    }
-    Ok(out)
-}
-
 // The word that a name is near by spelling, if there is one.
-fn word_near(cx: &Context<'_>, at: usize) -> Result<Option<&'static str>, AllocError> {
-    let name = cx.text(at);
-    if name.len() < 3 || name.len() > MOST {
-        return Ok(None);
+fn word_near(cx: &Context<'_>, name: &[u8]) -> Result<Option<&'static str>, AllocError> {
+    let mut small = empty(cx.alloc);
+    for byte in name.iter() {
+        small.put_byte(byte.to_ascii_lowercase());
     }
-    let name = in_small_letters(cx.alloc, name)?;
-    match nearest(cx.alloc, name.as_str(), WORDS.as_slice())? {
+    if small.has_failed {
+        return Err(AllocError);
+    }
+    match nearest(cx.alloc, small.string.as_str(), WORDS.as_slice())? {
         Some(number) => Ok(WORDS.get(number).copied()),
         None => Ok(None),
     }
 }
 
-// Proposes the word that a token is near by spelling, if it is a name that is declared nowhere.
-fn propose_word(cx: &Context<'_>, draft: &mut Draft, at: usize) -> Result<(), AllocError> {
-    if !cx.is(at, Kind::Name) || seems_declared(cx, at) {
-        return Ok(());
+// Whether a token may be a word that is spelled otherwise: a name that is declared nowhere.
+fn may_be_word(cx: &Context<'_>, at: usize) -> bool {
+    let length = cx.text(at).len();
+    let fits = length >= 3 && length <= MOST;
+    fits && cx.is_of(at, &[Kind::Name]) && !cx.seems_declared(at)
+}
+
+// Proposes the word that a token is near by spelling.
+fn propose_word(cx: &Context<'_>, to: &mut Telling, at: usize) {
+    if !may_be_word(cx, at) {
+        return;
     }
-    match word_near(cx, at)? {
-        Some(word) => exchange(cx, draft, 3, cx.span(at), word),
-        None => Ok(()),
+    match word_near(cx, cx.text(at)) {
+        Ok(Some(word)) => exchange(cx, to, 3, cx.span(at), word),
+        Ok(None) => {}
+        Err(AllocError) => to.has_failed = true,
     }
 }
 
 /// Proposes words of the language for the token at the place and the one before it.
-pub(crate) fn propose_words(cx: &Context<'_>, draft: &mut Draft) -> Result<(), AllocError> {
-    propose_word(cx, draft, cx.at)?;
-    match cx.back(1) {
-        Some(before) => propose_word(cx, draft, before),
-        None => Ok(()),
+pub(crate) fn propose_words(cx: &Context<'_>, to: &mut Telling) {
+    propose_word(cx, to, cx.at);
+    if let Some(before) = cx.at.checked_sub(1) {
+        propose_word(cx, to, before);
     }
 }

@@ -1,101 +1,103 @@
 //! How far expressions and statements go, by the tokens at one depth of parentheses and brackets.
 
 use crate::context::Context;
-use crate::kinds::{bounds_expression, ends_statement};
+use crate::kinds::{BOUNDS_EXPRESSION, ENDS_STATEMENT};
 use ps_scan::Kind;
 
-// Whether a token opens parentheses or brackets.
-fn opens(kind: Kind) -> bool {
-    matches!(kind, Kind::LeftParen | Kind::LeftBracket)
+// How much deeper what stands behind a token is.
+#[derive(Clone, Copy, PartialEq, Eq)]
+enum Turn {
+    Opens,
+    Closes,
+    Stays,
 }
 
-// Whether a token closes parentheses or brackets.
-fn closes(kind: Kind) -> bool {
-    matches!(kind, Kind::RightParen | Kind::RightBracket)
-}
-
-/// The first token of the expression that goes on before a token.
-pub(crate) fn expression_start(cx: &Context<'_>, before: usize) -> usize {
-    let mut depth: usize = 0;
-    let tokens = cx.tokens.get(..before).unwrap_or(&[]);
-    for (at, token) in tokens.iter().enumerate().rev() {
-        if closes(token.kind) {
-            depth = depth.saturating_add(1);
-        } else if depth == 0 && (opens(token.kind) || bounds_expression(token.kind)) {
-            return at.saturating_add(1);
-        } else if opens(token.kind) {
-            depth = depth.saturating_sub(1);
-        }
+// Whether a token opens or closes parentheses or brackets.
+fn turn_of(kind: Kind) -> Turn {
+    match kind {
+        Kind::LeftParen | Kind::LeftBracket => Turn::Opens,
+        Kind::RightParen | Kind::RightBracket => Turn::Closes,
+        _ => Turn::Stays,
     }
-    0
 }
 
-/// The first token from one on, at its depth, for which a question is answered by yes, or that closes what is around; the number of all
-/// tokens where there is none.
-pub(crate) fn next_that<F: Fn(Kind) -> bool>(cx: &Context<'_>, from: usize, is_one: F) -> usize
-    requires { F.IsAlwaysCallable is_one }
-{
+// The depth behind a token that goes deeper, or up.
+fn depth_behind(depth: usize, goes_deeper: bool, goes_up: bool) -> usize {
+    if goes_deeper {
+        depth.saturating_add(1)
+    } else if goes_up {
+        depth.saturating_sub(1)
+    } else {
+        depth
+    }
+}
+
+/// The first token from one on, at its depth, that is of one of some kinds, or that closes what is around; the number of all tokens where there is
+/// none.
+pub(crate) fn next_of(cx: &Context<'_>, from: usize, kinds: &[Kind]) -> usize {
     let mut depth: usize = 0;
     let tokens = cx.tokens.get(from..).unwrap_or(&[]);
     for (count, token) in tokens.iter().enumerate() {
-        if depth == 0 && (closes(token.kind) || is_one(token.kind)) {
+        let turn = turn_of(token.kind);
+        let ends = turn == Turn::Closes || kinds.contains(&token.kind);
+        if depth == 0 && ends {
             return from.saturating_add(count);
         }
-        if opens(token.kind) {
-            depth = depth.saturating_add(1);
-        } else if closes(token.kind) {
-            depth = depth.saturating_sub(1);
-        }
+        depth = depth_behind(depth, turn == Turn::Opens, turn == Turn::Closes);
     }
     cx.tokens.len()
 }
 
 /// The token behind an expression that goes on from a token on.
 pub(crate) fn expression_end(cx: &Context<'_>, from: usize) -> usize {
-    next_that(cx, from, bounds_expression)
+    next_of(cx, from, BOUNDS_EXPRESSION)
 }
 
 /// The token behind a statement that goes on from a token on.
 pub(crate) fn statement_end(cx: &Context<'_>, from: usize) -> usize {
-    next_that(cx, from, ends_statement)
+    next_of(cx, from, ENDS_STATEMENT)
 }
 
-/// The first token of a range, at its depth, for which a question is answered by yes.
-pub(crate) fn first_between<F: Fn(Kind) -> bool>(
+/// The first token of a range, at its depth, that is of one of some kinds.
+pub(crate) fn first_between(
     cx: &Context<'_>,
     from: usize,
     to: usize,
-    is_one: F,
-) -> Option<usize>
-    requires { F.IsAlwaysCallable is_one }
-{
-    let at = next_that(cx, from, is_one);
+    kinds: &[Kind],
+) -> Option<usize> {
+    let at = next_of(cx, from, kinds);
     if at < to { Some(at) } else { None }
 }
 
-/// The last token of a range, at its depth, for which a question is answered by yes.
-pub(crate) fn last_between<F: Fn(Kind) -> bool>(
+// The last token before one, at its depth, that is of one of some kinds, or that opens what is around.
+fn last_of(cx: &Context<'_>, before: usize, kinds: &[Kind]) -> Option<usize> {
+    let mut depth: usize = 0;
+    let tokens = cx.tokens.get(..before).unwrap_or(&[]);
+    for (at, token) in tokens.iter().enumerate().rev() {
+        let turn = turn_of(token.kind);
+        if depth == 0 && (turn == Turn::Opens || kinds.contains(&token.kind)) {
+            return Some(at);
+        }
+        depth = depth_behind(depth, turn == Turn::Closes, turn == Turn::Opens);
+    }
+    None
+}
+
+/// The first token of the expression that goes on before a token.
+pub(crate) fn expression_start(cx: &Context<'_>, before: usize) -> usize {
+    match last_of(cx, before, BOUNDS_EXPRESSION) {
+        Some(at) => at.saturating_add(1),
+        None => 0,
+    }
+}
+
+/// The last token of a range, at the depth of its end, that is of one of some kinds.
+pub(crate) fn last_between(
     cx: &Context<'_>,
     from: usize,
     to: usize,
-    is_one: F,
-) -> Option<usize>
-    requires { F.IsAlwaysCallable is_one }
-{
-    let mut depth: usize = 0;
-    let tokens = cx.tokens.get(..to).unwrap_or(&[]);
-    for (at, token) in tokens.iter().enumerate().rev() {
-        if at < from {
-            return None;
-        }
-        if depth == 0 && is_one(token.kind) {
-            return Some(at);
-        }
-        if closes(token.kind) {
-            depth = depth.saturating_add(1);
-        } else if opens(token.kind) {
-            depth = depth.saturating_sub(1);
-        }
-    }
-    None
+    kinds: &[Kind],
+) -> Option<usize> {
+    let at = last_of(cx, to, kinds)?;
+    if at < from { None } else { Some(at) }
 }

@@ -1,8 +1,12 @@
 //! The rows of docs/OTHER_PASCALS.md, a line each: its tokens, what the innermost open construction begins with, whether the token
 //! behind them counts too (`..`), where it comes from, its number, what it is exchanged for behind `=`, and what to do; a tab stands between two.
-//! Written by tools/others.
+//! Written by tools/others, and laid out by rt fmt. Signs that begin no token are rules.
 
+use crate::context::Context;
 use crate::rows::Part;
+use crate::rule::Piece::Is;
+use crate::rule::{More, Rule, Test, Told};
+use crate::tests::first_of;
 
 const PROGRAMS_1: &str =
     "unit\t\t\tTurbo\t20\t\tThere are no units: a program is one text.\nlibrary\t\t\tTurbo\t20\t\tThere are no libraries: a program is one text.\nmodule\t\t\tExtended\t20\t\tThere are no modules: a program is one text.\nbegin\t\t\tTurbo\t20\t\tA program begins with a heading: `program name(output);`.\nuses\t\t\tTurbo\t20\t\tThere are no units: leave the line out; required procedures need none.\nimport\t\t\tExtended\t20\t\tThere are no modules: leave the line out.\n#\t\t\tC\t10\t\tNothing is brought in from other files: leave the line out.\nint\t\t\tC\t20\t\tA program is `program name(output);`, declarations, `begin`, statements and `end.`";
@@ -11,22 +15,22 @@ const DECLARATIONS_1: &str =
     "string\t\t\tTurbo\t30\t\tA string has a fixed length: an array, and a count beside it.\nstring [\t\t\tTurbo\t20\t\tA string has a fixed length: an array, and a count beside it.\nansistring\t\t\tTurbo\t30\t\tA string has a fixed length: an array, and a count beside it.\nshortstring\t\t\tTurbo\t30\t\tA string has a fixed length: an array, and a count beside it.\nwidestring\t\t\tTurbo\t30\t\tA string has a fixed length: an array, and a count beside it.\nunicodestring\t\t\tTurbo\t30\t\tA string has a fixed length: an array, and a count beside it.\npchar\t\t\tTurbo\t30\t\tA string has a fixed length: an array, and a count beside it.\nstr\t\t\tPython\t30\t\tA string has a fixed length: an array, and a count beside it.\nwidechar\t\t\tTurbo\t30\t=char\tA `char` is one byte.\nansichar\t\t\tTurbo\t30\t=char\tA `char` is one byte.\nbyte\t\t\tTurbo\t30\t=0..255\tUse a range of integers.\nshortint\t\t\tTurbo\t30\t=-128..127\tUse a range of integers.\nsmallint\t\t\tTurbo\t30\t=-32768..32767\tUse a range of integers.\nword\t\t\tTurbo\t30\t=0..65535\tUse a range of integers.\nlongint\t\t\tTurbo\t30\t=integer\tAn `integer` has 32 bits.\nlongword\t\t\tTurbo\t30\t=0..maxint\tUse a range of integers, up to `maxint`.\ncardinal\t\t\tTurbo\t30\t=0..maxint\tUse a range of integers, up to `maxint`.\ndword\t\t\tTurbo\t30\t=0..maxint\tUse a range of integers, up to `maxint`.\nint64\t\t\tTurbo\t30\t=integer\tThere are 32 bits: `maxint` is 2147483647.\nqword\t\t\tTurbo\t30\t=integer\tThere are 32 bits: `maxint` is 2147483647.\nnativeint\t\t\tTurbo\t30\t=integer\tAn `integer` has 32 bits.\nint\t\t\tC\t30\t=integer\tThe type is called `integer`.\nbool\t\t\tC\t30\t=Boolean\tThe type is called `Boolean`.\nsingle\t\t\tTurbo\t30\t\tThere are no real numbers: count in a smaller unit, as hundredths.\ndouble\t\t\tTurbo\t30\t\tThere are no real numbers: count in a smaller unit, as hundredths.\nextended\t\t\tTurbo\t30\t\tThere are no real numbers: count in a smaller unit, as hundredths.\ncurrency\t\t\tTurbo\t30\t\tThere are no real numbers: count in cents.\nfloat\t\t\tC\t30\t\tThere are no real numbers: count in a smaller unit, as hundredths.\ncomplex\t\t\tExtended\t30\t\tUse a record with two fields.\npointer\t\t\tTurbo\t30\t\tA pointer points to a type that it names.\ntextfile\t\t\tTurbo\t30\t\tThe files are `input` and `output`.\ntstringlist\t\t\tTurbo\t30\t\tUse an array, and count in a variable how many are used.\nvariant\t\t\tTurbo\t30\t\tEach variable has one type.\narray of\t\t\tTurbo\t20\t\tAn array has fixed bounds: take the largest that is needed.\npacked string\t\t\tTurbo\t20\t\tA string has a fixed length: an array, and a count beside it.\nNAME =\t\t\tTurbo\t20\t\tA variable gets its value by a statement: `n := 5`.\nvalue\t\t\tExtended\t20\t\tA variable gets its value by a statement: `n := 5`.\nNAME :\t\t\tTurbo\t20\t\tA constant has the type of its value: leave the type out.\nresourcestring\t\t..\tTurbo\t20\t=const\tUse `const`.\nthreadvar\t\t..\tTurbo\t20\t=var\tUse `var`.";
 
 const DECLARATIONS_2: &str =
-    "class\t\t\tTurbo\t30\t\tThere are no classes: a record, and procedures that take it as a `var` parameter.\nclass\t\t..\tTurbo\t20\t\tThere are no classes: a record, and procedures that take it as a `var` parameter.\nclass (\t\t\tTurbo\t20\t\tThere are no classes: a record, and procedures that take it as a `var` parameter.\nobject\t\t..\tTurbo\t20\t\tThere are no objects: a record, and procedures that take it as a `var` parameter.\nstruct\t\t..\tC\t20\t=record\tThe type is called `record`.\nenum\t\t..\tC\t20\t=\tLeave the word out.\n= procedure\t\t\tTurbo\t20\t\tA procedure is passed as a parameter; no variable holds one.\n= function\t\t\tTurbo\t20\t\tA function is passed as a parameter; no variable holds one.\nexternal\t\t\tTurbo\t20\t\tA procedure has a block in this text.\ninline\t\t\tTurbo\t20\t\tLeave the word out.\noverload\t\t\tTurbo\t20\t\tEach routine has a name of its own.\ndef\t\t..\tPython\t20\t\tIt is a `procedure`, or a `function` where it gives a value.\nvoid\t\t..\tC\t20\t\tIt is a `procedure`.\nlet\t\t..\tPython\t20\t\tDeclare it: `const n = 5;` or `var n: integer;`.\nsub\t\t..\tBASIC\t20\t\tIt is a `procedure`.\ndim\t\t..\tBASIC\t20\t\tDeclare it: `var n: integer;`.";
+    "class\t\t\tTurbo\t30\t\tThere are no classes: a record, and procedures that take it as a `var` parameter.\nclass\t\t..\tTurbo\t20\t\tThere are no classes: a record, and procedures that take it as a `var` parameter.\nclass (\t\t\tTurbo\t20\t\tThere are no classes: a record, and procedures that take it as a `var` parameter.\nobject\t\t..\tTurbo\t20\t\tThere are no objects: a record, and procedures that take it as a `var` parameter.\nstruct\t\t..\tC\t20\t=record\tThe type is called `record`.\nenum\t\t..\tC\t20\t=\tLeave the word out.\n= procedure\t\t\tTurbo\t20\t\tA procedure is passed as a parameter; no variable holds one.\n= function\t\t\tTurbo\t20\t\tA function is passed as a parameter; no variable holds one.\nexternal\t\t\tTurbo\t20\t\tA procedure has a block in this text.\ninline\t\t\tTurbo\t20\t\tLeave the word out.\noverload\t\t\tTurbo\t20\t\tEach routine has a name of its own.\ndef\t\t..\tPython\t20\t\tIt is a `procedure`, or a `function` where it gives a value.\nvoid\t\t..\tC\t20\t\tIt is a `procedure`.\nint\t\t\tC\t20\t\tA variable is declared as `var n: integer;`, and a function begins with `function`.\nlet\t\t..\tPython\t20\t\tDeclare it: `const n = 5;` or `var n: integer;`.\nsub\t\t..\tBASIC\t20\t\tIt is a `procedure`.\ndim\t\t..\tBASIC\t20\t\tDeclare it: `var n: integer;`.";
 
 const PARAMETERS_1: &str =
     "const\t\t\tTurbo\t20\t=\tA value parameter, or `var` for a large array.\nout\t\t..\tTurbo\t20\t=var\tA parameter that gives a value back is `var`.\nprotected\t\t..\tExtended\t20\t=\tA value parameter, or `var` for a large array.\n: array\t\t\tTurbo\t20\t\tThe type of a parameter is a name: declare it in the `type` part.\n: packed\t\t\tstandard\t20\t\tThe type of a parameter is a name: declare it in the `type` part.\n: ^\t\t\tTurbo\t20\t\tThe type of a parameter is a name: declare it in the `type` part.\n: (\t\t\tTurbo\t20\t\tThe type of a parameter is a name: declare it in the `type` part.\nNAME =\t\t\tTurbo\t20\t\tEach call gives each parameter.\nstring\t\t\tTurbo\t30\t\tA string has a fixed length: the name of an array type.";
 
 const STATEMENTS_1: &str =
-    "inc\t\t\tTurbo\t30\t\tAssign what is one more: `n := n + 1`; of other types `c := succ(c)`.\ndec\t\t\tTurbo\t30\t\tAssign what is one less: `n := n - 1`; of other types `c := pred(c)`.\n+ =\t\t\tC\t20\t\tWrite it out: `n := n + 1`.\n- =\t\t\tC\t20\t\tWrite it out: `n := n - 1`.\n* =\t\t\tC\t20\t\tWrite it out: `n := n * 2`.\n/ =\t\t\tC\t22\t\tWrite it out: `n := n div 2`.\n+ +\t\t\tC\t20\t\tWrite it out: `n := n + 1`.\n- -\t\t\tC\t20\t\tWrite it out: `n := n - 1`.\n= =\t\t\tC\t20\t==\tEquality is `=`.\n! =\t\t\tC\t10\t=<>\tWhat is not equal is `<>`, and `not` turns a condition round.\n= >\t\t\tBASIC\t20\t=>=\tAt least is `>=`.\n= <\t\t\tBASIC\t20\t=<=\tAt most is `<=`.\n> <\t\t\tExtended\t20\t=<>\tWhat is not equal is `<>`.\n= :\t\t\tC\t20\t=:=\tAn assignment is `:=`.\n& &\t\t\tC\t10\t=and\tWrite `and`; both sides are always computed.\n| |\t\t\tC\t10\t=or\tWrite `or`; both sides are always computed.\n%\t\t\tC\t10\t=mod\tThe remainder is `mod`.\n\\\t\t\tBASIC\t10\t=div\tThe quotient is `div`.\n\"\t\t\tC\t10\t\tA string stands between apostrophes.\n_\t\t\tTurbo\t10\t\tNames are letters and digits: `firstOne`.\n#\t\t\tTurbo\t10\t\tThe character of a number is `chr(65)`.\n$\t\t\tTurbo\t10\t\tNumbers are decimal.\n/ /\t\t\tTurbo\t22\t\tA comment stands between `{` and `}`, or `(*` and `*)`.\n/ *\t\t\tC\t22\t\tA comment stands between `(*` and `*)`, or `{` and `}`.\n* *\t\t\tExtended\t20\t\tMultiply, in a loop if need be; the square is `sqr(i)`.\npow\t\t\tExtended\t20\t\tMultiply, in a loop if need be; the square is `sqr(i)`.\nxor\t\t\tTurbo\t20\t=<>\tOf two Booleans it is `<>`; of integers there is none.\nshl\t\t\tTurbo\t20\t\tMultiply by a power of two.\nshr\t\t\tTurbo\t20\t\tDivide by a power of two.\nand then\t\t\tExtended\t20\t\tBoth sides of `and` are computed: write one `if` within another.\nor else\t\t\tExtended\t20\t\tBoth sides of `or` are computed: write `else if`.\nexit\t\t\tTurbo\t30\t\tLet the rest stand in an `if`; a loop ends by its condition.\nbreak\t\t\tTurbo\t30\t\tA loop ends by its condition: set a Boolean.\ncontinue\t\t\tTurbo\t30\t\tLet the rest of the loop stand in an `if`.\nhalt\t\t\tTurbo\t30\t\tA program ends at its last `end`: let the rest stand in an `if`.\nquit\t\t\tPython\t30\t\tA program ends at its last `end`: let the rest stand in an `if`.\nelse\tcase\t\tTurbo\t20\t\tA `case` has no `else`: test before, as `if n in [1, 2] then`.\notherwise\tcase\t..\tExtended\t20\t\tA `case` has no `otherwise`: test before, as `if n in [1, 2] then`.\n..\tcase\t\tTurbo\t20\t\tList the constants of a `case`; or `if n in [1..3] then`.\nelseif\t\t\tBASIC\t20\t=else if\tThese are two words: `else if`.";
+    "inc\t\t\tTurbo\t30\t\tAssign what is one more: `n := n + 1`; of other types `c := succ(c)`.\ndec\t\t\tTurbo\t30\t\tAssign what is one less: `n := n - 1`; of other types `c := pred(c)`.\n+ =\t\t\tC\t20\t\tWrite it out: `n := n + 1`.\n- =\t\t\tC\t20\t\tWrite it out: `n := n - 1`.\n* =\t\t\tC\t20\t\tWrite it out: `n := n * 2`.\n/ =\t\t\tC\t22\t\tWrite it out: `n := n div 2`.\n+ +\t\t\tC\t20\t\tWrite it out: `n := n + 1`.\n- -\t\t\tC\t20\t\tWrite it out: `n := n - 1`.\n= =\t\t\tC\t20\t==\tEquality is `=`.\n! =\t\t\tC\t10\t=<>\tWhat is not equal is `<>`, and `not` turns a condition round.\n!\t\t\tC\t10\t=not\tWhat turns a condition round is `not`.\n?\t\t\tC\t10\t\tA choice is an `if`: `if i > j then n := 3 else n := 4`.\n= >\t\t\tBASIC\t20\t=>=\tAt least is `>=`.\n= <\t\t\tBASIC\t20\t=<=\tAt most is `<=`.\n> <\t\t\tExtended\t20\t=<>\tWhat is not equal is `<>`.\n= :\t\t\tC\t20\t=:=\tAn assignment is `:=`.\n< -\t\t\tR\t20\t=:=\tAn assignment is `:=`.\nlet\t\t..\tBASIC\t20\t\tAn assignment needs no word before it: `n := 4`.\n& &\t\t\tC\t10\t=and\tWrite `and`; both sides are always computed.\n| |\t\t\tC\t10\t=or\tWrite `or`; both sides are always computed.\n&\t\t\tC\t10\t=and\tWrite `and`; both sides are always computed.\n|\t\t\tC\t10\t=or\tWrite `or`; both sides are always computed.\n%\t\t\tC\t10\t=mod\tThe remainder is `mod`.\n\\\t\t\tBASIC\t10\t=div\tThe quotient is `div`.\n\"\t\t\tC\t10\t\tA string stands between apostrophes.\n_\t\t\tTurbo\t10\t\tNames are letters and digits: `firstOne`.\n#\t\t\tTurbo\t10\t\tThe character of a number is `chr(65)`.\n$\t\t\tTurbo\t10\t\tNumbers are decimal.\n/ /\t\t\tTurbo\t22\t\tA comment stands between `{` and `}`, or `(*` and `*)`.\n/ *\t\t\tC\t22\t\tA comment stands between `(*` and `*)`, or `{` and `}`.\n* *\t\t\tExtended\t20\t\tMultiply, in a loop if need be; the square is `sqr(i)`.\npow\t\t\tPython\t30\t\tMultiply, in a loop if need be; the square is `sqr(i)`.\npow\t\t\tExtended\t20\t\tMultiply, in a loop if need be; the square is `sqr(i)`.\nxor\t\t\tTurbo\t20\t=<>\tOf two Booleans it is `<>`; of integers there is none.\nshl\t\t\tTurbo\t20\t\tMultiply by a power of two.\nshr\t\t\tTurbo\t20\t\tDivide by a power of two.\nand then\t\t\tExtended\t20\t\tBoth sides of `and` are computed: write one `if` within another.\nor else\t\t\tExtended\t20\t\tBoth sides of `or` are computed: write `else if`.\nexit\t\t\tTurbo\t30\t\tLet the rest stand in an `if`; a loop ends by its condition.\nbreak\t\t\tTurbo\t30\t\tA loop ends by its condition: set a Boolean.";
 
 const STATEMENTS_2: &str =
-    "elsif\t\t\tAda\t20\t=else if\tThese are two words: `else if`.\nelif\t\t\tPython\t20\t=else if\tThese are two words: `else if`.\nend if\t\t\tBASIC\t20\t=end\tAn `if` has no end of its own: `begin` and `end` round its statements.\nendif\t\t\tBASIC\t20\t=\tAn `if` has no end of its own: `begin` and `end` round its statements.\nwend\t\t\tBASIC\t20\t=\tA loop has no end of its own: `begin` and `end` round its statements.\nendwhile\t\t\tBASIC\t20\t=\tA loop has no end of its own: `begin` and `end` round its statements.\nnext\t\t..\tBASIC\t20\t\tA loop has no end of its own: `begin` and `end` round its statements.\nstep\t\t\tBASIC\t20\t\tA `for` goes by one: compute the value, or use `while`.\nin\tfor\t\tTurbo\t20\t\tA `for` goes from a first to a last value: `:=` and `to`.\nfor var\t\t\tTurbo\t20\t=for\tDeclare the variable in the `var` part.\nfor (\t\t\tC\t20\t\tWrite `for i := 0 to 2 do`.\nvar\t\t\tTurbo\t20\t\tVariables are declared before `begin`, in the `var` part.\ntry\t\t..\tTurbo\t20\t\tAn error ends the program: test before.\nraise\t\t..\tTurbo\t20\t\tAn error ends the program: test before.\nreturn\t\t..\tC\t20\t\tA function's result is assigned to its name.\nreturn\t\t\tC\t30\t\tLet the rest stand in an `if`; a function's result is assigned to its name.\nasm\t\t..\tTurbo\t20\t\tThere is no other language within.\ncall\t\t..\tBASIC\t20\t\tA procedure is called by its name alone.\n; do\t\t\tC\t20\t\tUse `repeat` and `until`, whose condition ends the loop.\nloop\t\t..\tAda\t20\t\tUse `repeat` and `until`.\nnull\t\t\tC\t30\t=nil\tIt is called `nil`.\nnone\t\t\tPython\t30\t=nil\tIt is called `nil`.\nmaxlongint\t\t\tTurbo\t30\t=maxint\tIt is called `maxint`.\n- >\t\t\tC\t20\t=^.\tA field of what a pointer points to is `l^.value`.\n@\t\t\tTurbo\t20\t\tThere are no addresses of variables: `new` makes what a pointer points to.\nassigned\t\t\tTurbo\t30\t\tCompare with `nil`.\ngetmem\t\t\tTurbo\t30\t\tUse `new`.\nfreemem\t\t\tTurbo\t30\t\tNothing is given back: keep a list of what is free.\nmark\t\t\tTurbo\t30\t\tNothing is given back: keep a list of what is free.\nrelease\t\t\tTurbo\t30\t\tNothing is given back: keep a list of what is free.\nlength\t\t\tTurbo\t30\t\tThe length of an array is known: use a constant, and a count beside it.\nhigh\t\t\tTurbo\t30\t\tUse a constant for the bound, here and where the array is declared.\nlow\t\t\tTurbo\t30\t\tUse a constant for the bound, here and where the array is declared.\nsizeof\t\t\tTurbo\t30\t\tUse a constant for the bound, here and where the array is declared.\nsetlength\t\t\tTurbo\t30\t\tAn array has fixed bounds: count in a variable how many are used.\ncopy\t\t\tTurbo\t30\t\tGo over the characters in a loop.\nconcat\t\t\tTurbo\t30\t\tStrings aren't joined: write one after another.\npos\t\t\tTurbo\t30\t\tGo over the characters in a loop.\ndelete\t\t\tTurbo\t30\t\tMove the characters in a loop.\ninsert\t\t\tTurbo\t30\t\tMove the characters in a loop.";
+    "continue\t\t\tTurbo\t30\t\tLet the rest of the loop stand in an `if`.\nhalt\t\t\tTurbo\t30\t\tA program ends at its last `end`: let the rest stand in an `if`.\nquit\t\t\tPython\t30\t\tA program ends at its last `end`: let the rest stand in an `if`.\nswitch\t\t\tC\t30\t\tA choice by a value is `case n of 1: .. end`.\nswitch\t\t..\tC\t20\t=case\tA choice by a value is `case n of 1: .. end`.\ndefault\t\t\tC\t30\t\tA `case` has no `default`: test before, as `if n in [1, 2] then`.\nelse\tcase\t\tTurbo\t20\t\tA `case` has no `else`: test before, as `if n in [1, 2] then`.\notherwise\tcase\t..\tExtended\t20\t\tA `case` has no `otherwise`: test before, as `if n in [1, 2] then`.\n..\tcase\t\tTurbo\t20\t\tList the constants of a `case`; or `if n in [1..3] then`.\nelseif\t\t\tBASIC\t20\t=else if\tThese are two words: `else if`.\nelsif\t\t\tAda\t20\t=else if\tThese are two words: `else if`.\nelif\t\t\tPython\t20\t=else if\tThese are two words: `else if`.\nend if\t\t\tBASIC\t20\t=end\tAn `if` has no end of its own: `begin` and `end` round its statements.\nendif\t\t\tBASIC\t30\t\tAn `if` has no end of its own: `begin` and `end` round its statements.\nendif\t\t\tBASIC\t20\t=\tAn `if` has no end of its own: `begin` and `end` round its statements.\nwend\t\t\tBASIC\t30\t\tA loop has no end of its own: `begin` and `end` round its statements.\nwend\t\t\tBASIC\t20\t=\tA loop has no end of its own: `begin` and `end` round its statements.\nendwhile\t\t\tBASIC\t20\t=\tA loop has no end of its own: `begin` and `end` round its statements.\nnext\t\t..\tBASIC\t20\t\tA loop has no end of its own: `begin` and `end` round its statements.\nstep\t\t\tBASIC\t20\t\tA `for` goes by one: compute the value, or use `while`.\nin\tfor\t\tTurbo\t20\t\tA `for` goes from a first to a last value: `:=` and `to`.\nfor var\t\t\tTurbo\t20\t=for\tDeclare the variable in the `var` part.\nfor (\t\t\tC\t20\t\tWrite `for i := 0 to 2 do`.\nvar\t\t\tTurbo\t20\t\tVariables are declared before `begin`, in the `var` part.\ntry\t\t..\tTurbo\t20\t\tAn error ends the program: test before.\nraise\t\t..\tTurbo\t20\t\tAn error ends the program: test before.\nreturn\t\t..\tC\t20\t\tA program ends at its last `end`; a function's result is assigned to its name.\nreturn\t\t\tC\t30\t\tLet the rest stand in an `if`; a function's result is assigned to its name.\nasm\t\t..\tTurbo\t20\t\tThere is no other language within.\ncall\t\t..\tBASIC\t20\t\tA procedure is called by its name alone.\n; do\t\t\tC\t20\t\tUse `repeat` and `until`, whose condition ends the loop.\nloop\t\t..\tAda\t20\t\tUse `repeat` and `until`.\nnull\t\t\tC\t30\t=nil\tIt is called `nil`.\nnone\t\t\tPython\t30\t=nil\tIt is called `nil`.\nmaxlongint\t\t\tTurbo\t30\t=maxint\tIt is called `maxint`.\n- >\t\t\tC\t20\t=^.\tA field of what a pointer points to is `l^.value`.\n@\t\t\tTurbo\t20\t\tThere are no addresses of variables: `new` makes what a pointer points to.\nassigned\t\t\tTurbo\t30\t\tCompare with `nil`.\ngetmem\t\t\tTurbo\t30\t\tUse `new`.\nfreemem\t\t\tTurbo\t30\t\tNothing is given back: keep a list of what is free.";
 
 const STATEMENTS_3: &str =
-    "str\t\t\tTurbo\t30\t\tWrite the number where it is needed: `write(n:1)`.\nval\t\t\tTurbo\t30\t\tRead the number: `read(n)`.\ninttostr\t\t\tTurbo\t30\t\tWrite the number where it is needed: `write(n:1)`.\nstrtoint\t\t\tTurbo\t30\t\tRead the number: `read(n)`.\nformat\t\t\tTurbo\t30\t\tGive each value its width: `write(n:5)`.\nupcase\t\t\tTurbo\t30\t\tCompute it by `chr` and `ord`.\nlowercase\t\t\tTurbo\t30\t\tCompute it by `chr` and `ord`.\nuppercase\t\t\tTurbo\t30\t\tCompute it by `chr` and `ord`.\ntrim\t\t\tExtended\t30\t\tCount the characters that are used.\nsubstr\t\t\tExtended\t30\t\tGo over the characters in a loop.\nfillchar\t\t\tTurbo\t30\t\tAssign each in a loop.\ninclude\t\t\tTurbo\t30\t\tJoin sets by `+`.\nexclude\t\t\tTurbo\t30\t\tTake sets away by `-`.\ncard\t\t\tExtended\t30\t\tCount in a loop.\nrandom\t\t\tTurbo\t30\t\tCompute it: each from the one before, from a first one that is read.\nrandomize\t\t\tTurbo\t30\t\tRead a first number.\nmax\t\t\tTurbo\t30\t\tWrite it out.\nmin\t\t\tTurbo\t30\t\tWrite it out.\npower\t\t\tTurbo\t30\t\tMultiply, in a loop if need be.\npi\t\t\tTurbo\t30\t\tThere are no real numbers: count in hundredths.\nclrscr\t\t\tTurbo\t30\t\tOutput goes on line by line: write empty lines.\ngotoxy\t\t\tTurbo\t30\t\tOutput goes on line by line: write spaces.\ntextcolor\t\t\tTurbo\t30\t\tOutput has no colours.\ntextbackground\t\t\tTurbo\t30\t\tOutput has no colours.\ndelay\t\t\tTurbo\t30\t\tThere is no clock: leave it out.\nsound\t\t\tTurbo\t30\t\tThere is no sound: leave it out.\nreadkey\t\t\tTurbo\t30\t\tRead a character; a terminal hands it on at the end of its line.\nkeypressed\t\t\tTurbo\t30\t\tA program waits for what it reads; `eof` tells its end.\nassign\t\t\tTurbo\t30\t\tThe files are `input` and `output`: `pascal go p.pas < a.txt`.\nassignfile\t\t\tTurbo\t30\t\tThe files are `input` and `output`: `pascal go p.pas < a.txt`.\nclose\t\t\tTurbo\t30\t\t`input` and `output` need not be closed.\nclosefile\t\t\tTurbo\t30\t\t`input` and `output` need not be closed.\nappend\t\t\tTurbo\t30\t\t`input` and `output` need not be opened.\nioresult\t\t\tTurbo\t30\t\tAn error ends the program: ask `eof` before.\nseekeof\t\t\tTurbo\t30\t=eof\tAsk `eof`.\nparamstr\t\t\tTurbo\t30\t\tA program has no words: read from `input`.\nparamcount\t\t\tTurbo\t30\t\tA program has no words: read from `input`.\nprint\t\t\tPython\t30\t=writeln\tUse `writeln`.\nprintln\t\t\tother\t30\t=writeln\tUse `writeln`.\nprintf\t\t\tC\t30\t=writeln\tUse `writeln`.";
+    "mark\t\t\tTurbo\t30\t\tNothing is given back: keep a list of what is free.\nrelease\t\t\tTurbo\t30\t\tNothing is given back: keep a list of what is free.\nlength\t\t\tTurbo\t30\t\tThe length of an array is known: use a constant, and a count beside it.\nhigh\t\t\tTurbo\t30\t\tUse a constant for the bound, here and where the array is declared.\nlow\t\t\tTurbo\t30\t\tUse a constant for the bound, here and where the array is declared.\nsizeof\t\t\tTurbo\t30\t\tUse a constant for the bound, here and where the array is declared.\nsetlength\t\t\tTurbo\t30\t\tAn array has fixed bounds: count in a variable how many are used.\ncopy\t\t\tTurbo\t30\t\tGo over the characters in a loop.\nconcat\t\t\tTurbo\t30\t\tStrings aren't joined: write one after another.\npos\t\t\tTurbo\t30\t\tGo over the characters in a loop.\ndelete\t\t\tTurbo\t30\t\tMove the characters in a loop.\ninsert\t\t\tTurbo\t30\t\tMove the characters in a loop.\nstr\t\t\tTurbo\t30\t\tWrite the number where it is needed: `write(n:1)`.\nval\t\t\tTurbo\t30\t\tRead the number: `read(n)`.\ninttostr\t\t\tTurbo\t30\t\tWrite the number where it is needed: `write(n:1)`.\nstrtoint\t\t\tTurbo\t30\t\tRead the number: `read(n)`.\nformat\t\t\tTurbo\t30\t\tGive each value its width: `write(n:5)`.\nupcase\t\t\tTurbo\t30\t\tCompute it by `chr` and `ord`.\nlowercase\t\t\tTurbo\t30\t\tCompute it by `chr` and `ord`.\nuppercase\t\t\tTurbo\t30\t\tCompute it by `chr` and `ord`.\ntrim\t\t\tExtended\t30\t\tCount the characters that are used.\nsubstr\t\t\tExtended\t30\t\tGo over the characters in a loop.\nfillchar\t\t\tTurbo\t30\t\tAssign each in a loop.\ninclude\t\t\tTurbo\t30\t\tJoin sets by `+`.\nexclude\t\t\tTurbo\t30\t\tTake sets away by `-`.\ncard\t\t\tExtended\t30\t\tCount in a loop.\nrandom\t\t\tTurbo\t30\t\tCompute it: each from the one before, from a first one that is read.\nrandomize\t\t\tTurbo\t30\t\tRead a first number.\nmax\t\t\tTurbo\t30\t\tWrite it out.\nmin\t\t\tTurbo\t30\t\tWrite it out.\npower\t\t\tTurbo\t30\t\tMultiply, in a loop if need be.\npi\t\t\tTurbo\t30\t\tThere are no real numbers: count in hundredths.\nclrscr\t\t\tTurbo\t30\t\tOutput goes on line by line: write empty lines.\ngotoxy\t\t\tTurbo\t30\t\tOutput goes on line by line: write spaces.\ntextcolor\t\t\tTurbo\t30\t\tOutput has no colours.\ntextbackground\t\t\tTurbo\t30\t\tOutput has no colours.\ndelay\t\t\tTurbo\t30\t\tThere is no clock: leave it out.\nsound\t\t\tTurbo\t30\t\tThere is no sound: leave it out.\nreadkey\t\t\tTurbo\t30\t\tRead a character; a terminal hands it on at the end of its line.\nkeypressed\t\t\tTurbo\t30\t\tA program waits for what it reads; `eof` tells its end.";
 
 const STATEMENTS_4: &str =
-    "scanf\t\t\tC\t30\t=read\tUse `read`.\ncout\t\t..\tC\t20\t\tUse `writeln`.\nwritestr\t\t\tExtended\t30\t\tWrite the number where it is needed: `write(n:1)`.\nshowmessage\t\t\tTurbo\t30\t=writeln\tUse `writeln`.";
+    "assign\t\t\tTurbo\t30\t\tThe files are `input` and `output`: `pascal go p.pas < a.txt`.\nassignfile\t\t\tTurbo\t30\t\tThe files are `input` and `output`: `pascal go p.pas < a.txt`.\nclose\t\t\tTurbo\t30\t\t`input` and `output` need not be closed.\nclosefile\t\t\tTurbo\t30\t\t`input` and `output` need not be closed.\nappend\t\t\tTurbo\t30\t\t`input` and `output` need not be opened.\nioresult\t\t\tTurbo\t30\t\tAn error ends the program: ask `eof` before.\nseekeof\t\t\tTurbo\t30\t=eof\tAsk `eof`.\nparamstr\t\t\tTurbo\t30\t\tA program has no words: read from `input`.\nparamcount\t\t\tTurbo\t30\t\tA program has no words: read from `input`.\nprint\t\t\tPython\t30\t=writeln\tUse `writeln`.\nprint\t\t..\tBASIC\t20\t\tUse `writeln`, with parentheses: `writeln(n)`.\nprintln\t\t\tother\t30\t=writeln\tUse `writeln`.\nprintf\t\t\tC\t30\t=writeln\tUse `writeln`.\nscanf\t\t\tC\t30\t=read\tUse `read`.\ncout\t\t..\tC\t20\t\tUse `writeln`.\nwritestr\t\t\tExtended\t30\t\tWrite the number where it is needed: `write(n:1)`.\nshowmessage\t\t\tTurbo\t30\t=writeln\tUse `writeln`.";
 
 const IN_A_FUNCTION_1: &str =
     "result\t\t\tTurbo\t30\t=f\tA function's result is assigned to its name.\nexit (\t\t\tTurbo\t30\t\tA function's result is assigned to its name; let the rest stand in an `if`.\nreturn\t\t..\tC\t20\t\tA function's result is assigned to its name.\nreturn (\t\t\tC\t30\t\tA function's result is assigned to its name.";
@@ -71,4 +75,157 @@ pub(crate) fn text_at(number: usize) -> &'static str {
         11 => COMMENTS_1,
         _ => "",
     }
+}
+
+const PROGRAMS_SIGNS_1: &[Rule] = &[Rule {
+    when: &[Test::Stands("#")],
+    told: &[
+        Told::Says(&[Is("`#` is not used in standard Pascal: it comes from C")]),
+        Told::Help(&[Is("Nothing is brought in from other files: leave the line out.")]),
+        Told::More(More::Character),
+    ],
+    also: &[],
+}];
+
+/// The rule of a sign that begins no token, of the part Programs.
+pub(crate) fn signs_of_programs(cx: &Context<'_>) -> Option<&'static Rule> {
+    first_of(cx, PROGRAMS_SIGNS_1)
+}
+
+const STATEMENTS_SIGNS_1: &[Rule] = &[
+    Rule {
+        when: &[Test::Stands("!=")],
+        told: &[
+            Told::Says(&[Is("`!=` is not used in standard Pascal: it comes from C")]),
+            Told::Help(&[Is("What is not equal is `<>`, and `not` turns a condition round.")]),
+            Told::ExchangeSign("!=", "<>"),
+        ],
+        also: &[],
+    },
+    Rule {
+        when: &[Test::Stands("!")],
+        told: &[
+            Told::Says(&[Is("`!` is not used in standard Pascal: it comes from C")]),
+            Told::Help(&[Is("What turns a condition round is `not`.")]),
+            Told::ExchangeSign("!", "not"),
+        ],
+        also: &[],
+    },
+    Rule {
+        when: &[Test::Stands("?")],
+        told: &[
+            Told::Says(&[Is("`?` is not used in standard Pascal: it comes from C")]),
+            Told::Help(&[Is("A choice is an `if`: `if i > j then n := 3 else n := 4`.")]),
+        ],
+        also: &[],
+    },
+    Rule {
+        when: &[Test::Stands("&&")],
+        told: &[
+            Told::Says(&[Is("`&&` is not used in standard Pascal: it comes from C")]),
+            Told::Help(&[Is("Write `and`; both sides are always computed.")]),
+            Told::ExchangeSign("&&", "and"),
+        ],
+        also: &[],
+    },
+    Rule {
+        when: &[Test::Stands("||")],
+        told: &[
+            Told::Says(&[Is("`||` is not used in standard Pascal: it comes from C")]),
+            Told::Help(&[Is("Write `or`; both sides are always computed.")]),
+            Told::ExchangeSign("||", "or"),
+        ],
+        also: &[],
+    },
+];
+
+/// The rule of a sign that begins no token, of the part Statements.
+pub(crate) fn signs_of_statements(cx: &Context<'_>) -> Option<&'static Rule> {
+    first_of(cx, STATEMENTS_SIGNS_1).or(more_of_statements_2(cx))
+}
+
+const STATEMENTS_SIGNS_2: &[Rule] = &[
+    Rule {
+        when: &[Test::Stands("&")],
+        told: &[
+            Told::Says(&[Is("`&` is not used in standard Pascal: it comes from C")]),
+            Told::Help(&[Is("Write `and`; both sides are always computed.")]),
+            Told::ExchangeSign("&", "and"),
+        ],
+        also: &[],
+    },
+    Rule {
+        when: &[Test::Stands("|")],
+        told: &[
+            Told::Says(&[Is("`|` is not used in standard Pascal: it comes from C")]),
+            Told::Help(&[Is("Write `or`; both sides are always computed.")]),
+            Told::ExchangeSign("|", "or"),
+        ],
+        also: &[],
+    },
+    Rule {
+        when: &[Test::Stands("%")],
+        told: &[
+            Told::Says(&[Is("`%` is not used in standard Pascal: it comes from C")]),
+            Told::Help(&[Is("The remainder is `mod`.")]),
+            Told::ExchangeSign("%", "mod"),
+        ],
+        also: &[],
+    },
+    Rule {
+        when: &[Test::Stands("\\")],
+        told: &[
+            Told::Says(&[Is("`\\` is not used in standard Pascal: it comes from BASIC")]),
+            Told::Help(&[Is("The quotient is `div`.")]),
+            Told::ExchangeSign("\\", "div"),
+        ],
+        also: &[],
+    },
+    Rule {
+        when: &[Test::Stands("\"")],
+        told: &[
+            Told::Says(&[Is("`\"` is not used in standard Pascal: it comes from C")]),
+            Told::Help(&[Is("A string stands between apostrophes.")]),
+        ],
+        also: &[],
+    },
+];
+
+// The same of further signs of the part Statements.
+fn more_of_statements_2(cx: &Context<'_>) -> Option<&'static Rule> {
+    first_of(cx, STATEMENTS_SIGNS_2).or(more_of_statements_3(cx))
+}
+
+const STATEMENTS_SIGNS_3: &[Rule] = &[
+    Rule {
+        when: &[Test::Stands("_")],
+        told: &[
+            Told::Says(&[Is("`_` is not used in standard Pascal: it comes from Turbo Pascal")]),
+            Told::Help(&[Is("Names are letters and digits: `firstOne`.")]),
+        ],
+        also: &[],
+    },
+    Rule {
+        when: &[Test::Stands("#")],
+        told: &[
+            Told::Says(&[Is("`#` is not used in standard Pascal: it comes from Turbo Pascal")]),
+            Told::Help(&[Is("The character of a number is `chr(65)`.")]),
+            Told::More(More::Character),
+        ],
+        also: &[],
+    },
+    Rule {
+        when: &[Test::Stands("$")],
+        told: &[
+            Told::Says(&[Is("`$` is not used in standard Pascal: it comes from Turbo Pascal")]),
+            Told::Help(&[Is("Numbers are decimal.")]),
+            Told::More(More::Decimal),
+        ],
+        also: &[],
+    },
+];
+
+// The same of further signs of the part Statements.
+fn more_of_statements_3(cx: &Context<'_>) -> Option<&'static Rule> {
+    first_of(cx, STATEMENTS_SIGNS_3)
 }

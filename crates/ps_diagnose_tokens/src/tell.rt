@@ -1,13 +1,76 @@
-//! Putting a draft together: its sentence, second places, helps and changes that are worth a trial.
+//! Putting a draft together: its sentence, second places, helps and changes that are worth a trial. Where memory is refused, that is remembered to
+//! the end, and what would have been told is left out.
 
-use crate::context::{Context, slice};
+use crate::context::Context;
 use ps_diagnose::{Draft, Trial};
 use ps_diagnostic::{Edit, Label};
 use ps_text::Span;
-use std::alloc::{AllocError, Global};
+use std::alloc::Global;
 
 // The most signs of a piece of the text that are told.
 const MOST: usize = 40;
+
+/// A text that is being told.
+#[derive(Drop)]
+pub(crate) struct Text {
+    pub(crate) string: String,
+    /// Whether memory was refused for it.
+    pub(crate) has_failed: bool,
+}
+
+/// A text without anything.
+pub(crate) fn empty(alloc: Global) -> Text {
+    Text {
+        string: String::new(alloc),
+        has_failed: false,
+    }
+}
+
+impl Text {
+    /// Puts a piece behind the others.
+    pub(crate) fn put(&mut self, piece: &str) {
+        if self.string.push_str(piece).is_err() {
+            self.has_failed = true;
+        }
+    }
+
+    /// Puts pieces behind one another.
+    pub(crate) fn put_all(&mut self, pieces: &[&str]) {
+        for piece in pieces.iter() {
+            self.put(piece);
+        }
+    }
+
+    /// Puts a number.
+    pub(crate) fn put_number(&mut self, number: u32) {
+        if write!(self.string, "{number}").is_err() {
+            self.has_failed = true;
+        }
+    }
+
+    /// Puts a character of one byte.
+    pub(crate) fn put_byte(&mut self, byte: u8) {
+        if self.string.push(byte as char).is_err() {
+            self.has_failed = true;
+        }
+    }
+
+    /// Puts the line and the column of an offset, from 1 on.
+    pub(crate) fn put_place(&mut self, cx: &Context<'_>, offset: u32) {
+        let (line, column) = place_of(cx.bytes, offset);
+        self.put_number(line);
+        self.put(":");
+        self.put_number(column);
+    }
+}
+
+/// A draft that is being told.
+#[derive(Drop)]
+pub(crate) struct Telling {
+    pub(crate) draft: Draft,
+    /// Whether memory was refused for it.
+    pub(crate) has_failed: bool,
+}
 
 /// What is told of nothing yet.
 pub(crate) fn nothing(alloc: Global) -> Draft {
@@ -21,19 +84,67 @@ pub(crate) fn nothing(alloc: Global) -> Draft {
     }
 }
 
-/// Puts pieces behind one another.
-pub(crate) fn put_all(out: &mut String, pieces: &[&str]) -> Result<(), AllocError> {
-    for piece in pieces.iter() {
-        out.push_str(piece)?;
+impl Telling {
+    // Remembers whether memory was refused for a text, and gives it back.
+    fn taken(&mut self, text: Text) -> String {
+        self.has_failed = self.has_failed || text.has_failed;
+        text.string
     }
-    Ok(())
+
+    /// Tells the sentence.
+    pub(crate) fn say(&mut self, text: Text) {
+        self.draft.text = self.taken(text);
+    }
+
+    /// Tells a second place.
+    pub(crate) fn label(&mut self, span: Span, text: Text) {
+        let text = self.taken(text);
+        if self.draft.labels.push(Label { span, text }).is_err() {
+            self.has_failed = true;
+        }
+    }
+
+    /// Tells something beside.
+    pub(crate) fn note(&mut self, text: Text) {
+        let text = self.taken(text);
+        if self.draft.notes.push(text).is_err() {
+            self.has_failed = true;
+        }
+    }
+
+    /// Tells what to do.
+    pub(crate) fn help(&mut self, text: Text) {
+        let text = self.taken(text);
+        if self.draft.helps.push(text).is_err() {
+            self.has_failed = true;
+        }
+    }
+
+    /// Proposes changes, which are put behind, in words.
+    pub(crate) fn propose(&mut self, cx: &Context<'_>, cost: u32, words: Text) {
+        let text = self.taken(words);
+        let edits = Vec::new(cx.alloc);
+        if self.draft.trials.push(Trial { text, edits, cost }).is_err() {
+            self.has_failed = true;
+        }
+    }
+
+    /// Adds to the last changes that something stands in the place of a span.
+    pub(crate) fn change(&mut self, span: Span, put: Text) {
+        let put = self.taken(put);
+        if let Some(trial) = self.draft.trials.last_mut()
+            && trial.edits.push(Edit { span, put }).is_err()
+        {
+            self.has_failed = true;
+        }
+    }
 }
 
-// The pieces as one text.
-fn joined(alloc: Global, pieces: &[&str]) -> Result<String, AllocError> {
-    let mut out = String::new(alloc);
-    put_all(&mut out, pieces)?;
-    Ok(out)
+/// Pieces as one text.
+pub(crate) fn joined(cx: &Context<'_>, pieces: &[&str]) -> Text {
+    let mut text = empty(cx.alloc);
+    text.put_all(pieces);
+    text
 }
 
 // Whether a character is told as it is: controls and signs that turn the direction of what is shown are not.
@@ -44,39 +155,29 @@ fn is_told(letter: char) -> bool {
     )
 }
 
+// Whether all characters of a text are told as they are.
+fn is_all_told(text: &str) -> bool {
+    for letter in text.chars() {
+        if !is_told(letter) {
+            return false;
+        }
+    }
+    true
+}
+
 /// A piece of the text as it is told: dots for one that is too long, has more than one line, or is no text.
 pub(crate) fn shown(bytes: &[u8]) -> &str {
-    if bytes.len() > MOST {
-        return "..";
-    }
     match str::from_utf8(bytes) {
-        Ok(text) if text.chars().all(is_told) => text,
+        Ok(text) if text.len() <= MOST && is_all_told(text) => text,
         _ => "..",
     }
 }
 
-impl<'a> Context<'a> {
-    /// A token as it is told.
-    pub(crate) fn told(&self, at: usize) -> &'a str {
-        shown(self.text(at))
-    }
-
-    /// The token at the place as it is told.
-    pub(crate) fn told_here(&self) -> &'a str {
-        self.told(self.at)
-    }
-
-    /// The piece of the text that a span has.
-    pub(crate) fn piece(&self, span: Span) -> &'a [u8] {
-        slice(self.bytes, span.from, span.to)
-    }
-}
-
-/// Puts the line and the column of an offset, from 1 on.
-pub(crate) fn put_place(out: &mut String, bytes: &[u8], offset: u32) -> Result<(), AllocError> {
+/// The line and the column of an offset, from 1 on.
+pub(crate) fn place_of(bytes: &[u8], offset: u32) -> (u32, u32) {
     let mut line: u32 = 1;
     let mut column: u32 = 1;
-    for byte in bytes.iter().take(offset as usize) {
+    for byte in bytes.get(..offset as usize).unwrap_or(bytes).iter() {
         if *byte == b'\n' {
             line = line.saturating_add(1);
             column = 1;
@@ -84,170 +185,89 @@ pub(crate) fn put_place(out: &mut String, bytes: &[u8], offset: u32) -> Result<(
             column = column.saturating_add(1);
         }
     }
-    write!(out, "{line}:{column}")
+    (line, column)
 }
 
-/// Tells the sentence.
-pub(crate) fn say(draft: &mut Draft, pieces: &[&str]) -> Result<(), AllocError> {
-    draft.text.clear();
-    put_all(&mut draft.text, pieces)
+/// Begins the sentence that the token cannot stand at the place; why is put behind it.
+pub(crate) fn refusal(cx: &Context<'_>) -> Text {
+    joined(cx, &["`", cx.told(cx.at), "` cannot stand here: "])
 }
 
-/// Tells that the token cannot stand at the place, and why.
-pub(crate) fn refuse(cx: &Context<'_>, draft: &mut Draft, why: &[&str]) -> Result<(), AllocError> {
-    say(draft, &["`", cx.told_here(), "` cannot stand here: "])?;
-    draft.expects = true;
-    put_all(&mut draft.text, why)
-}
-
-/// Tells a second place.
-pub(crate) fn label(
+/// Proposes a change in words, behind which its place is told.
+pub(crate) fn add_change(
     cx: &Context<'_>,
-    draft: &mut Draft,
-    span: Span,
-    pieces: &[&str],
-) -> Result<(), AllocError> {
-    let text = joined(cx.alloc, pieces)?;
-    draft.labels.push(Label { span, text })?;
-    Ok(())
-}
-
-/// Tells what to do.
-pub(crate) fn help(cx: &Context<'_>, draft: &mut Draft, pieces: &[&str]) -> Result<(), AllocError> {
-    let text = joined(cx.alloc, pieces)?;
-    draft.helps.push(text)?;
-    Ok(())
-}
-
-/// Tells something beside.
-pub(crate) fn note(draft: &mut Draft, text: String) -> Result<(), AllocError> {
-    draft.notes.push(text)?;
-    Ok(())
-}
-
-// A change as a list of one.
-fn one_edit(alloc: Global, span: Span, put: &str) -> Result<Vec<Edit>, AllocError> {
-    let mut edits = Vec::new(alloc);
-    let put = String::from_str(alloc, put)?;
-    edits.push(Edit { span, put })?;
-    Ok(edits)
-}
-
-/// Adds changes that are worth a trial.
-pub(crate) fn add_trial(
-    draft: &mut Draft,
-    cost: u32,
-    text: String,
-    edits: Vec<Edit>,
-) -> Result<(), AllocError> {
-    draft.trials.push(Trial { text, edits, cost })?;
-    Ok(())
-}
-
-// Adds a change in words, behind which its place is told.
-fn add_change(
-    cx: &Context<'_>,
-    draft: &mut Draft,
+    to: &mut Telling,
     cost: u32,
     span: Span,
     put: &str,
     words: &[&str],
-) -> Result<(), AllocError> {
-    let mut text = joined(cx.alloc, words)?;
-    put_place(&mut text, cx.bytes, span.from)?;
-    let edits = one_edit(cx.alloc, span, put)?;
-    add_trial(draft, cost, text, edits)
+) {
+    let mut text = joined(cx, words);
+    text.put_place(cx, span.from);
+    to.propose(cx, cost, text);
+    to.change(span, joined(cx, &[put]));
 }
 
 /// Proposes to put something at an offset.
 pub(crate) fn put_at(
     cx: &Context<'_>,
-    draft: &mut Draft,
+    to: &mut Telling,
     cost: u32,
     from: u32,
     words: &[&str],
     put: &str,
-) -> Result<(), AllocError> {
-    add_change(cx, draft, cost, Span { from, to: from }, put, words)
+) {
+    add_change(cx, to, cost, Span { from, to: from }, put, words);
 }
 
 /// Proposes to put something behind a token.
 pub(crate) fn put_behind(
     cx: &Context<'_>,
-    draft: &mut Draft,
+    to: &mut Telling,
     cost: u32,
     at: usize,
     told: &str,
     put: &str,
-) -> Result<(), AllocError> {
-    let to = cx.span(at).to;
-    let span = Span { from: to, to };
+) {
     let words = ["put `", told, "` behind `", cx.told(at), "` at "];
-    add_change(cx, draft, cost, span, put, &words)
+    put_at(cx, to, cost, cx.span(at).to, &words, put);
 }
 
 /// Proposes to put something before a token.
-pub(crate) fn put_before(
-    cx: &Context<'_>,
-    draft: &mut Draft,
-    cost: u32,
-    at: usize,
-    told: &str,
-    put: &str,
-) -> Result<(), AllocError> {
-    let from = cx.span(at).from;
-    let span = Span { from, to: from };
+pub(crate) fn put_before(cx: &Context<'_>, to: &mut Telling, at: usize, told: &str, put: &str) {
     let words = ["put `", told, "` before `", cx.told(at), "` at "];
-    add_change(cx, draft, cost, span, put, &words)
+    put_at(cx, to, 0, cx.span(at).from, &words, put);
 }
 
 /// Proposes to exchange what a span has.
-pub(crate) fn exchange(
-    cx: &Context<'_>,
-    draft: &mut Draft,
-    cost: u32,
-    span: Span,
-    put: &str,
-) -> Result<(), AllocError> {
+pub(crate) fn exchange(cx: &Context<'_>, to: &mut Telling, cost: u32, span: Span, put: &str) {
     let words = ["write `", put, "` for `", shown(cx.piece(span)), "` at "];
-    add_change(cx, draft, cost, span, put, &words)
+    add_change(cx, to, cost, span, put, &words);
+}
+
+/// Proposes to exchange what a span has for a text.
+pub(crate) fn exchange_text(cx: &Context<'_>, to: &mut Telling, span: Span, put: Text) {
+    exchange(cx, to, 0, span, put.string.as_str());
+    to.has_failed = to.has_failed || put.has_failed;
 }
 
 /// Proposes to take away what a span has.
-pub(crate) fn take_away(
-    cx: &Context<'_>,
-    draft: &mut Draft,
-    cost: u32,
-    span: Span,
-) -> Result<(), AllocError> {
+pub(crate) fn take_away(cx: &Context<'_>, to: &mut Telling, cost: u32, span: Span) {
     let words = ["take away `", shown(cx.piece(span)), "` at "];
-    add_change(cx, draft, cost, span, "", &words)
+    add_change(cx, to, cost, span, "", &words);
 }
 
-/// Proposes to move what a span has before a token above; `put` is what is put there, and told in words.
-pub(crate) fn move_up(
-    cx: &Context<'_>,
-    draft: &mut Draft,
-    cost: u32,
-    span: Span,
-    before: usize,
-    put: &str,
-) -> Result<(), AllocError> {
+/// Proposes to move what a span has before a token above; a piece of it is what is put there, as a line.
+pub(crate) fn move_up(cx: &Context<'_>, to: &mut Telling, span: Span, before: usize, piece: Span) {
     let from = cx.span(before).from;
-    let words = [
-        "move `",
-        shown(cx.piece(span)),
-        "` before `",
-        cx.told(before),
-        "` at ",
-    ];
-    let mut text = joined(cx.alloc, &words)?;
-    put_place(&mut text, cx.bytes, from)?;
-    let line = joined(cx.alloc, &[put, "\n"])?;
-    let mut edits = one_edit(cx.alloc, Span { from, to: from }, line.as_str())?;
-    edits.push(Edit {
-        span,
-        put: String::new(cx.alloc),
-    })?;
-    add_trial(draft, cost, text, edits)
+    let moved = shown(cx.piece(span));
+    let mut words = joined(
+        cx,
+        &["move `", moved, "` before `", cx.told(before), "` at "],
+    );
+    words.put_place(cx, from);
+    to.propose(cx, 0, words);
+    let line = str::from_utf8(cx.piece(piece)).unwrap_or("");
+    to.change(Span { from, to: from }, joined(cx, &[line, "\n"]));
+    to.change(span, empty(cx.alloc));
 }

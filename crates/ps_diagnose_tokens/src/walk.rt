@@ -1,11 +1,12 @@
 //! What is open at a place of a text: constructions and blocks, found in one walk over the tokens before it.
 
-use crate::context::{kind_at, token_text};
+use crate::context::slice;
 use ps_scan::{Kind, Token};
+use ps_text::Span;
 use std::alloc::{AllocError, Global};
 
 /// How far a construction has come.
-#[derive(Clone, Copy, PartialEq, Eq)]
+#[derive(Clone, Copy)]
 pub(crate) enum Stage {
     /// Before its `then`, `do` or `of`.
     Head,
@@ -28,6 +29,11 @@ pub(crate) struct Open {
 }
 
 impl Open {
+    /// Whether it is an `if` without an `else`, behind its `then`.
+    pub(crate) fn waits_for_else(&self) -> bool {
+        matches!(self.kind, Kind::If) && matches!(self.stage, Stage::Body)
+    }
+
     /// Whether it has an end of its own.
     pub(crate) fn has_end(&self) -> bool {
         matches!(
@@ -81,14 +87,16 @@ pub(crate) struct Opened {
     pub(crate) past_if: Option<(usize, usize)>,
     /// The last construction that took one statement, and no `begin`.
     pub(crate) bare: Option<Open>,
+    /// Whether memory was refused for it.
+    pub(crate) has_failed: bool,
 }
 
 // The block of a heading.
 fn block_at(head: usize, kind: Kind) -> Block {
     Block {
         head,
-        is_routine: kind != Kind::Program,
-        is_function: kind == Kind::Function,
+        is_routine: !matches!(kind, Kind::Program),
+        is_function: matches!(kind, Kind::Function),
         is_told: false,
         constants: None,
         types: None,
@@ -100,17 +108,29 @@ fn block_at(head: usize, kind: Kind) -> Block {
 }
 
 impl Block {
-    // The block, with a part that begins at a token.
-    fn with_part(mut self, kind: Kind, at: usize) -> Block {
+    // Notes a part that begins at a token.
+    fn note_part(&mut self, kind: Kind, at: usize) {
+        self.part = Some(kind);
         match kind {
             Kind::Const => self.constants = self.constants.or(Some(at)),
             Kind::Type => self.types = self.types.or(Some(at)),
             Kind::Var => self.variables = self.variables.or(Some(at)),
             _ => self.routines = self.routines.or(Some(at)),
         }
-        self.part = Some(kind);
-        self
     }
+}
+
+// Whether a token is a `begin`.
+fn is_begin(tokens: &[Token], at: usize) -> bool {
+    match tokens.get(at) {
+        Some(token) => matches!(token.kind, Kind::Begin),
+        None => false,
+    }
+}
+
+// Whether a token is the directive that stands for a block.
+fn is_forward(bytes: &[u8], span: Span) -> bool {
+    slice(bytes, span.from, span.to).eq_ignore_ascii_case(b"forward")
 }
 
 impl Opened {
@@ -122,35 +142,47 @@ impl Opened {
         }
     }
 
-    // Writes the innermost block anew.
-    fn set_block(&mut self, block: Block) {
-        if let Some(last) = self.blocks.last_mut() {
-            *last = block;
+    /// The innermost construction.
+    pub(crate) fn top(&self) -> Option<Open> {
+        match self.opens.last() {
+            Some(open) => Some(*open),
+            None => None,
         }
     }
 
-    // The kind of the innermost construction.
-    fn top_kind(&self) -> Option<Kind> {
-        self.opens.last().map(|open| open.kind)
+    // Whether the innermost construction is a `case`.
+    fn is_in_case(&self) -> bool {
+        match self.opens.last() {
+            Some(open) => matches!(open.kind, Kind::Case),
+            None => false,
+        }
     }
 
     // Opens a construction.
-    fn open(&mut self, kind: Kind, at: usize) -> Result<(), AllocError> {
-        self.opens.push(Open {
+    fn open(&mut self, kind: Kind, at: usize) {
+        let open = Open {
             kind,
             at,
             stage: Stage::Head,
             body: at.saturating_add(1),
-        })?;
-        Ok(())
+        };
+        if self.opens.push(open).is_err() {
+            self.has_failed = true;
+        }
+    }
+
+    // Opens a block.
+    fn open_block(&mut self, kind: Kind, at: usize) {
+        if self.blocks.push(block_at(at, kind)).is_err() {
+            self.has_failed = true;
+        }
     }
 
     // Opens a construction of statements, if the block has them.
-    fn open_statement(&mut self, kind: Kind, at: usize) -> Result<(), AllocError> {
+    fn open_statement(&mut self, kind: Kind, at: usize) {
         if self.block().begun.is_some() {
-            self.open(kind, at)?;
+            self.open(kind, at);
         }
-        Ok(())
     }
 
     // A statement begins at a token.
@@ -161,9 +193,8 @@ impl Opened {
 
     // Takes the constructions away that end with a statement.
     fn end_statements(&mut self, tokens: &[Token]) {
-        let count = self.opens.len();
-        for _ in 0..count {
-            let Some(open) = self.opens.last().copied() else {
+        for _ in 0..self.opens.len() {
+            let Some(open) = self.top() else {
                 return;
             };
             if open.has_end() {
@@ -171,36 +202,30 @@ impl Opened {
             }
             self.note_bare(tokens, open);
             let _ = self.opens.pop();
-            self.note_past(open);
-        }
-    }
-
-    // Remembers an `if` without an `else` that is ended and taken away.
-    fn note_past(&mut self, open: Open) {
-        if open.kind == Kind::If && open.stage == Stage::Body {
-            self.past_if = Some((open.at, self.opens.len()));
+            if open.waits_for_else() {
+                self.past_if = Some((open.at, self.opens.len()));
+            }
         }
     }
 
     // Remembers what ends here with a statement that is no compound one.
     fn note_bare(&mut self, tokens: &[Token], open: Open) {
-        if open.stage == Stage::Head {
+        if matches!(open.stage, Stage::Head) {
             return;
         }
-        if open.kind == Kind::If && open.stage == Stage::Body {
+        if open.waits_for_else() {
             self.last_if = self.last_if.or(Some(open.at));
         }
-        if kind_at(tokens, open.body) != Some(Kind::Begin) {
+        if !is_begin(tokens, open.body) {
             self.bare = Some(open);
         }
     }
 
-    // Takes a construction away with all that is open in it.
-    fn close(&mut self, tokens: &[Token], a: Kind, b: Kind, c: Kind) -> Option<Open> {
-        let count = self.opens.len();
-        for _ in 0..count {
+    // Takes a construction away that begins with one of some kinds, with all that is open in it.
+    fn close(&mut self, tokens: &[Token], kinds: &[Kind]) -> Option<Open> {
+        for _ in 0..self.opens.len() {
             let open = self.opens.pop()?;
-            if open.kind == a || open.kind == b || open.kind == c {
+            if kinds.contains(&open.kind) {
                 return Some(open);
             }
             self.note_bare(tokens, open);
@@ -210,11 +235,11 @@ impl Opened {
 
     // An `end`.
     fn end(&mut self, tokens: &[Token], at: usize) {
-        self.closed = self.close(tokens, Kind::Begin, Kind::Case, Kind::Record);
+        self.closed = self.close(tokens, &[Kind::Begin, Kind::Case, Kind::Record]);
         self.closed_block = None;
         let block = self.block();
-        if let Some(open) = self.closed
-            && block.begun == Some(open.at)
+        if let (Some(open), Some(begun)) = (self.closed, block.begun)
+            && begun == open.at
         {
             self.end_block(block, at);
         }
@@ -231,15 +256,12 @@ impl Opened {
     }
 
     // A `begin`.
-    fn begin(&mut self, at: usize) -> Result<(), AllocError> {
-        let mut block = self.block();
-        if block.begun.is_none() {
-            block.begun = Some(at);
-            self.set_block(block);
+    fn begin(&mut self, at: usize) {
+        if let Some(block) = self.blocks.last_mut() {
+            block.begun = block.begun.or(Some(at));
         }
-        self.open(Kind::Begin, at)?;
+        self.open(Kind::Begin, at);
         self.begin_statement(at.saturating_add(1));
-        Ok(())
     }
 
     // The innermost construction goes on behind a token.
@@ -254,12 +276,11 @@ impl Opened {
 
     // An `else`: it belongs to the innermost `if` without one.
     fn go_on_else(&mut self, tokens: &[Token], at: usize) {
-        let count = self.opens.len();
-        for _ in 0..count {
-            let Some(open) = self.opens.last().copied() else {
+        for _ in 0..self.opens.len() {
+            let Some(open) = self.top() else {
                 return;
             };
-            if open.kind == Kind::If && open.stage == Stage::Body {
+            if open.waits_for_else() {
                 return self.go_on(Stage::Else, at);
             }
             if open.has_end() {
@@ -271,134 +292,95 @@ impl Opened {
     }
 
     // A `procedure` or `function`, which begins a block where it stands in no list of parameters.
-    fn routine(&mut self, kind: Kind, at: usize) -> Result<(), AllocError> {
-        if self.top_kind().is_none() {
-            let block = self.block().with_part(kind, at);
-            self.set_block(block);
-            self.blocks.push(block_at(at, kind))?;
+    fn routine(&mut self, kind: Kind, at: usize) {
+        if !self.opens.is_empty() {
+            return;
         }
-        Ok(())
+        if let Some(block) = self.blocks.last_mut() {
+            block.note_part(kind, at);
+        }
+        self.open_block(kind, at);
     }
 
     // A part of declarations.
     fn part(&mut self, kind: Kind, at: usize) {
-        let block = self.block();
-        if block.is_told && block.begun.is_none() {
-            self.set_block(block.with_part(kind, at));
+        if let Some(block) = self.blocks.last_mut()
+            && block.is_told
+            && block.begun.is_none()
+        {
+            block.note_part(kind, at);
         }
     }
 
     // A `;`, which ends a heading, a statement or a declaration.
     fn semicolon(&mut self, tokens: &[Token], at: usize) {
-        let mut block = self.block();
         self.last_if = None;
-        if !block.is_told && self.top_kind().is_none() {
+        if let Some(block) = self.blocks.last_mut()
+            && self.opens.is_empty()
+        {
             block.is_told = true;
-            self.set_block(block);
         }
         self.end_statements(tokens);
         self.begin_statement(at.saturating_add(1));
     }
 
-    // A `:`, behind which a statement of a `case` begins.
-    fn colon(&mut self, at: usize) {
-        if self.top_kind() == Some(Kind::Case) {
-            self.begin_statement(at.saturating_add(1));
-        }
-    }
-
     // A name: the directive `forward` stands for a block.
-    fn name(&mut self, bytes: &[u8], tokens: &[Token], at: usize) {
+    fn name(&mut self, bytes: &[u8], span: Span) {
         let block = self.block();
         let is_alone = block.is_routine && block.is_told && block.begun.is_none();
-        if is_alone
-            && block.part.is_none()
-            && token_text(bytes, tokens, at).eq_ignore_ascii_case(b"forward")
-        {
+        if is_alone && block.part.is_none() && is_forward(bytes, span) {
             let _ = self.blocks.pop();
         }
     }
 
-    // A token that opens or closes what stands in parentheses or brackets.
-    fn sign(&mut self, tokens: &[Token], kind: Kind, at: usize) -> Result<(), AllocError> {
+    // A sign.
+    fn sign(&mut self, tokens: &[Token], kind: Kind, at: usize) {
         match kind {
-            Kind::LeftParen | Kind::LeftBracket => self.open(kind, at)?,
             Kind::RightParen => {
-                let _ = self.close(tokens, Kind::LeftParen, Kind::LeftParen, Kind::LeftParen);
+                let _ = self.close(tokens, &[Kind::LeftParen]);
             }
             Kind::RightBracket => {
-                let _ = self.close(
-                    tokens,
-                    Kind::LeftBracket,
-                    Kind::LeftBracket,
-                    Kind::LeftBracket,
-                );
+                let _ = self.close(tokens, &[Kind::LeftBracket]);
             }
             Kind::Semicolon => self.semicolon(tokens, at),
-            Kind::Colon => self.colon(at),
+            Kind::Colon if self.is_in_case() => self.begin_statement(at.saturating_add(1)),
             Kind::Assign => self.assigned = self.assigned.or(Some(at)),
             _ => {}
         }
-        Ok(())
     }
 
     // A word within statements.
-    fn word(&mut self, tokens: &[Token], kind: Kind, at: usize) -> Result<(), AllocError> {
+    fn word(&mut self, tokens: &[Token], kind: Kind, at: usize) {
         match kind {
-            Kind::If | Kind::While | Kind::For | Kind::With | Kind::Case => {
-                self.open_statement(kind, at)?;
-            }
-            Kind::Repeat => {
-                self.open(kind, at)?;
-                self.begin_statement(at.saturating_add(1));
-            }
             Kind::Until => {
-                let _ = self.close(tokens, Kind::Repeat, Kind::Repeat, Kind::Repeat);
+                let _ = self.close(tokens, &[Kind::Repeat]);
                 self.begin_statement(at);
             }
             Kind::Then | Kind::Do => self.go_on(Stage::Body, at),
-            Kind::Of if self.top_kind() == Some(Kind::Case) => self.go_on(Stage::Body, at),
+            Kind::Of if self.is_in_case() => self.go_on(Stage::Body, at),
             Kind::Else => self.go_on_else(tokens, at),
-            _ => {}
-        }
-        Ok(())
-    }
-
-    // A word of blocks and declarations.
-    fn block_word(&mut self, tokens: &[Token], kind: Kind, at: usize) -> Result<(), AllocError> {
-        match kind {
-            Kind::Program => self.blocks.push(block_at(at, kind))?,
-            Kind::Procedure | Kind::Function => self.routine(kind, at)?,
-            Kind::Const | Kind::Type | Kind::Var => self.part(kind, at),
-            Kind::Record => self.open(kind, at)?,
-            Kind::Begin => self.begin(at)?,
             Kind::End => self.end(tokens, at),
-            _ => self.word(tokens, kind, at)?,
+            Kind::Const | Kind::Type | Kind::Var => self.part(kind, at),
+            _ => self.sign(tokens, kind, at),
         }
-        Ok(())
     }
 
-    // A token.
-    fn step(
-        &mut self,
-        bytes: &[u8],
-        tokens: &[Token],
-        kind: Kind,
-        at: usize,
-    ) -> Result<(), AllocError> {
+    // A token that may open something.
+    fn step(&mut self, tokens: &[Token], kind: Kind, at: usize) {
         match kind {
-            Kind::Name => self.name(bytes, tokens, at),
-            Kind::Number | Kind::Text => {}
-            Kind::LeftParen
-            | Kind::LeftBracket
-            | Kind::RightParen
-            | Kind::RightBracket
-            | Kind::Semicolon
-            | Kind::Colon
-            | Kind::Assign => self.sign(tokens, kind, at)?,
-            _ => self.block_word(tokens, kind, at)?,
+            Kind::LeftParen | Kind::LeftBracket | Kind::Record => self.open(kind, at),
+            Kind::If | Kind::While | Kind::For | Kind::With | Kind::Case => {
+                self.open_statement(kind, at);
+            }
+            Kind::Begin => self.begin(at),
+            Kind::Repeat => {
+                self.open(kind, at);
+                self.begin_statement(at.saturating_add(1));
+            }
+            Kind::Program => self.open_block(kind, at),
+            Kind::Procedure | Kind::Function => self.routine(kind, at),
+            _ => self.word(tokens, kind, at),
         }
-        Ok(())
     }
 }
 
@@ -415,6 +397,7 @@ fn nothing_opened(alloc: Global) -> Opened {
         last_if: None,
         past_if: None,
         bare: None,
+        has_failed: false,
     }
 }
 
@@ -427,7 +410,13 @@ pub(crate) fn opened_before(
 ) -> Result<Opened, AllocError> {
     let mut opened = nothing_opened(alloc);
     for (at, token) in tokens.iter().enumerate().take(end) {
-        opened.step(bytes, tokens, token.kind, at)?;
+        match token.kind {
+            Kind::Name => opened.name(bytes, token.span),
+            kind => opened.step(tokens, kind, at),
+        }
+    }
+    if opened.has_failed {
+        return Err(AllocError);
     }
     Ok(opened)
 }

@@ -118,14 +118,17 @@ impl Findings {
     }
 
     // What is told of names.
-    fn find_of_names(&mut self, alloc: Global, text: &Text<'_>) -> Result<(), AllocError> {
+    fn find_of_names(&mut self, alloc: Global, text: &Text<'_>) {
         if text.outline.most_opened() > MOST_OPENED {
-            return Ok(());
+            return;
         }
-        let uses = uses_of(alloc, text)?;
-        self.find_constructions(text, &uses);
-        self.find_variables(text, &uses);
-        Ok(())
+        match uses_of(alloc, text) {
+            Ok(uses) => {
+                self.find_constructions(text, &uses);
+                self.find_variables(text, &uses);
+            }
+            Err(_) => self.has_failed = true,
+        }
     }
 
     // Puts it in its order.
@@ -137,22 +140,17 @@ impl Findings {
     }
 
     // Tells it, if it is in its order.
-    fn tell(&self, teller: Teller<'_>, warnings: &mut Vec<Warning>) -> Result<(), AllocError> {
+    fn tell(&self, teller: &mut Teller<'_>) {
         for key in self.keys.iter() {
             if let Some(found) = self.found.get((*key % 67_108_864) as usize) {
-                teller.add(warnings, found)?;
+                teller.add(found);
             }
         }
-        Ok(())
     }
 }
 
-// Adds the warnings of a text.
-fn add_warnings(
-    alloc: Global,
-    text: &Text<'_>,
-    warnings: &mut Vec<Warning>,
-) -> Result<(), AllocError> {
+// What is found in a text, in its order.
+fn found_in(alloc: Global, text: &Text<'_>) -> Result<Findings, AllocError> {
     let mut findings = Findings {
         found: Vec::new(alloc),
         keys: Vec::new(alloc),
@@ -160,10 +158,27 @@ fn add_warnings(
     };
     findings.find_directives(text);
     findings.find_indented(text);
-    findings.find_of_names(alloc, text)?;
+    findings.find_of_names(alloc, text);
     findings.sort()?;
-    let text = &*text;
-    findings.tell(Teller { alloc, text }, warnings)
+    Ok(findings)
+}
+
+// The warnings of a text.
+fn warnings_of(alloc: Global, text: &Text<'_>) -> Result<Vec<Warning>, AllocError> {
+    let findings = found_in(alloc, text)?;
+    let mut teller = Teller::new(alloc, &*text);
+    findings.tell(&mut teller);
+    teller.told()
+}
+
+// The warnings of a text with its outline.
+fn outlined(
+    alloc: Global,
+    bytes: &[u8],
+    outline: &Outline<'_>,
+) -> Result<Vec<Warning>, AllocError> {
+    let text = Text::new(alloc, bytes, &*outline)?;
+    warnings_of(alloc, &text)
 }
 
 /// What is told of an accepted text, in the order of the text: a warning of a statement by the word that the statement begins with. Where
@@ -175,8 +190,5 @@ pub fn warnings(
     program: &Program,
 ) -> Result<Vec<Warning>, AllocError> {
     let outline = Outline::new(alloc, &*source, tokens, program)?;
-    let text = Text::new(alloc, source.bytes(), &outline)?;
-    let mut warnings = Vec::new(alloc);
-    add_warnings(alloc, &text, &mut warnings)?;
-    Ok(warnings)
+    outlined(alloc, source.bytes(), &outline)
 }

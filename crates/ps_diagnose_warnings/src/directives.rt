@@ -1,6 +1,5 @@
 //! Comments that look like directives to the compiler.
 
-use crate::comments::comment_in;
 use crate::finding::Finding;
 use crate::rows::{DIRECTIVE, OPERANDS};
 use crate::text::Text;
@@ -11,11 +10,13 @@ const MOST: u32 = 40;
 
 // The row of a comment that begins with `$`.
 fn row_of(comment: &[u8]) -> Option<usize> {
-    match comment {
-        [b'{', b'$', b'b' | b'B', b'+' | b'-', ..]
-        | [b'(', b'*', b'$', b'b' | b'B', b'+' | b'-', ..] => Some(OPERANDS),
-        [b'{', b'$', ..] | [b'(', b'*', b'$', ..] => Some(DIRECTIVE),
-        _ => None,
+    let mark = if comment.starts_with(b"{") { 1 } else { 2 };
+    if comment.get(mark) != Some(&b'$') {
+        return None;
+    }
+    match comment.get(mark + 1..mark + 3) {
+        Some([b'b' | b'B', b'+' | b'-']) => Some(OPERANDS),
+        _ => Some(DIRECTIVE),
     }
 }
 

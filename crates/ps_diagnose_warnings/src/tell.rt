@@ -5,16 +5,19 @@ use crate::rows::{ALL_LOST, ONE_LOST, ROWS, Row};
 use crate::text::Text;
 use crate::values::{Value, first_value};
 use ps_diagnose::{Draft, Trial};
+use ps_diagnose_outline::count_of;
 use ps_diagnostic::{Edit, Label};
 use ps_scan::Kind;
 use ps_text::Span;
 use std::alloc::{AllocError, Global};
 
-/// What tells.
-#[derive(Clone, Copy)]
+/// What tells. Where memory runs out this is noted, and what was told till then is thrown away in the end.
+#[derive(Drop)]
 pub(crate) struct Teller<'a> {
-    pub(crate) alloc: Global,
-    pub(crate) text: &'a Text<'a>,
+    alloc: Global,
+    text: &'a Text<'a>,
+    warnings: Vec<Warning>,
+    has_failed: bool,
 }
 
 // What stands before one of several names.
@@ -26,32 +29,6 @@ fn between(at: usize, count: usize) -> &'static str {
     } else {
         ", "
     }
-}
-
-// Puts a number between words.
-fn put_number(
-    alloc: Global,
-    out: &mut String,
-    before: &str,
-    number: i64,
-    behind: &str,
-) -> Result<(), AllocError> {
-    let words = format!(in alloc; "{before}{number}{behind}")?;
-    out.push_str(words.as_str())
-}
-
-// Puts text between signs.
-fn put_quoted(out: &mut String, before: &str, text: &str, behind: &str) -> Result<(), AllocError> {
-    out.push_str(before)?;
-    out.push_str(text)?;
-    out.push_str(behind)
-}
-
-// Puts a character as it is written in a program.
-fn put_sign(out: &mut String, sign: char) -> Result<(), AllocError> {
-    out.push_str("`'")?;
-    out.push(sign)?;
-    out.push_str("'`")
 }
 
 // Whether all parameters of the section that begins at a token are among some.
@@ -87,207 +64,228 @@ fn are_sections_among(text: &Text<'_>, names: &Names) -> bool {
 }
 
 impl<'a> Teller<'a> {
+    /// Nothing is told yet.
+    pub(crate) fn new(alloc: Global, text: &'a Text<'a>) -> Teller<'a> {
+        Teller {
+            alloc,
+            text,
+            warnings: Vec::new(alloc),
+            has_failed: false,
+        }
+    }
+
+    /// What was told, if all of it was kept.
+    pub(crate) fn told(self) -> Result<Vec<Warning>, AllocError> {
+        let Teller {
+            alloc: _,
+            text: _,
+            warnings,
+            has_failed,
+        } = self;
+        if has_failed {
+            Err(AllocError)
+        } else {
+            Ok(warnings)
+        }
+    }
+
+    // Puts words.
+    fn push(&mut self, out: &mut String, words: &str) {
+        self.has_failed |= out.push_str(words).is_err();
+    }
+
+    // Puts a part of the text as it is written, between signs.
+    fn push_span(&mut self, out: &mut String, before: &str, span: Span, behind: &str) {
+        let written = self.text.written(span);
+        self.push(out, before);
+        self.push(out, written);
+        self.push(out, behind);
+    }
+
+    // Puts a number.
+    fn push_number(&mut self, out: &mut String, number: i64) {
+        let alloc = self.alloc;
+        match format!(in alloc; "{number}") {
+            Ok(digits) => self.push(out, digits.as_str()),
+            Err(_) => self.has_failed = true,
+        }
+    }
+
     // Puts a line and a column, both from 1 on.
-    fn put_place(&self, out: &mut String, offset: u32) -> Result<(), AllocError> {
-        let line = self.text.line(offset);
-        let column = offset
-            .saturating_sub(self.text.start_of(offset))
-            .saturating_add(1);
-        let words = format!(in self.alloc; "{line}:{column}")?;
-        out.push_str(words.as_str())
+    fn push_place(&mut self, out: &mut String, offset: u32) {
+        let line = count_of(self.text.line(offset));
+        let column = offset.saturating_sub(self.text.start_of(offset));
+        self.push_number(out, i64::from(line));
+        self.push(out, ":");
+        self.push_number(out, i64::from(column.saturating_add(1)));
     }
 
     // Puts names as a list in words.
-    fn put_names(&self, out: &mut String, names: &Names) -> Result<(), AllocError> {
+    fn push_names(&mut self, out: &mut String, names: &Names) {
         for (at, token) in names.tokens().iter().enumerate() {
-            out.push_str(between(at, names.count))?;
-            put_quoted(out, "`", self.text.written(self.text.span(*token)), "`")?;
+            self.push(out, between(at, names.count));
+            let span = self.text.span(*token);
+            self.push_span(out, "`", span, "`");
         }
-        Ok(())
     }
 
     // Puts a value in words.
-    fn put_value(&self, out: &mut String, value: Value) -> Result<(), AllocError> {
+    fn push_value(&mut self, out: &mut String, value: Value) {
         match value {
-            Value::Is(words) => out.push_str(words),
-            Value::Number(number) => put_number(self.alloc, out, "", number, ""),
-            Value::Character(number) => put_number(self.alloc, out, "`chr(", number, ")`"),
-            Value::Sign(byte) => put_sign(out, char::from(byte)),
-            Value::Name(name) => put_quoted(out, "`", self.text.written(name), "`"),
+            Value::Is(words) => self.push(out, words),
+            Value::Number(number) => self.push_number(out, number),
+            Value::Character(number) => {
+                self.push(out, "`chr(");
+                self.push_number(out, number);
+                self.push(out, ")`");
+            }
+            Value::Sign(byte) => {
+                self.push(out, "`'");
+                self.has_failed |= out.push(char::from(byte)).is_err();
+                self.push(out, "'`");
+            }
+            Value::Name(name) => self.push_span(out, "`", name, "`"),
         }
     }
 
     // Puts the names that are told, or the first value of a variable.
-    fn put_more(&self, out: &mut String, found: &Finding) -> Result<(), AllocError> {
+    fn push_more(&mut self, out: &mut String, found: &Finding) {
         if found.names.count > 0 {
-            return self.put_names(out, &found.names);
+            self.push_names(out, &found.names);
+        } else if let Some(point) = self.text.outline.point(found.point) {
+            let value = first_value(self.text, point.ty);
+            self.push_value(out, value);
         }
-        let ty = match self.text.outline.point(found.point) {
-            Some(point) => point.ty,
-            None => None,
-        };
-        self.put_value(out, first_value(self.text, ty))
     }
 
     // Puts a part of what is said.
-    fn put_part(&self, out: &mut String, found: &Finding, part: &str) -> Result<(), AllocError> {
+    fn push_part(&mut self, out: &mut String, found: &Finding, part: &str) {
         match part {
-            "@" => out.push_str(self.text.written(found.word)),
-            "%" => self.put_more(out, found),
-            "#" => self.put_place(out, found.at),
-            _ => out.push_str(part),
+            "@" => self.push_span(out, "", found.word, ""),
+            "%" => self.push_more(out, found),
+            "#" => self.push_place(out, found.at),
+            _ => self.push(out, part),
         }
-    }
-
-    // Puts what is said.
-    fn put(&self, out: &mut String, found: &Finding, words: &str) -> Result<(), AllocError> {
-        for part in words.split('|') {
-            self.put_part(out, found, part)?;
-        }
-        Ok(())
     }
 
     // What is said.
-    fn words(&self, found: &Finding, words: &str) -> Result<String, AllocError> {
+    fn words(&mut self, found: &Finding, words: &str) -> String {
         let mut out = String::new(self.alloc);
-        self.put(&mut out, found, words)?;
-        Ok(out)
+        for part in words.split('|') {
+            self.push_part(&mut out, found, part);
+        }
+        out
     }
 
-    // Tells the second place.
-    fn add_label(&self, draft: &mut Draft, found: &Finding, words: &str) -> Result<(), AllocError> {
+    // The second place.
+    fn labels(&mut self, found: &Finding, words: &str) -> Vec<Label> {
+        let mut labels = Vec::new(self.alloc);
         if !words.is_empty() {
-            let text = self.words(found, words)?;
+            let text = self.words(found, words);
             let span = found.label;
-            draft.labels.push(Label { span, text })?;
+            self.has_failed |= labels.push(Label { span, text }).is_err();
         }
-        Ok(())
+        labels
     }
 
-    // Tells what to do.
-    fn add_help(&self, draft: &mut Draft, found: &Finding, words: &str) -> Result<(), AllocError> {
+    // What to do.
+    fn helps(&mut self, found: &Finding, words: &str) -> Vec<String> {
+        let mut helps = Vec::new(self.alloc);
         if !words.is_empty() {
-            draft.helps.push(self.words(found, words)?)?;
+            let text = self.words(found, words);
+            self.has_failed |= helps.push(text).is_err();
         }
-        Ok(())
+        helps
     }
 
-    // A change of the text that is to be tried.
-    fn add_trial(&self, draft: &mut Draft, found: &Finding, words: &str) -> Result<(), AllocError> {
-        let text = self.words(found, words)?;
-        draft.trials.push(Trial {
+    // Adds an edit.
+    fn add_edit(&mut self, edits: &mut Vec<Edit>, span: Span, words: &str) {
+        let mut put = String::new(self.alloc);
+        self.push(&mut put, words);
+        self.has_failed |= edits.push(Edit { span, put }).is_err();
+    }
+
+    // Adds a change of the text that is to be tried.
+    fn add_trial(&mut self, trials: &mut Vec<Trial>, text: String, edits: Vec<Edit>) {
+        let trial = Trial {
             text,
-            edits: Vec::new(self.alloc),
+            edits,
             cost: 1,
-        })?;
-        Ok(())
+        };
+        self.has_failed |= trials.push(trial).is_err();
     }
 
-    // A part of the change that was added last.
-    fn add_edit(&self, trial: &mut Trial, span: Span, put: &str) -> Result<(), AllocError> {
-        let put = String::from_str(self.alloc, put)?;
-        trial.edits.push(Edit { span, put })?;
-        Ok(())
-    }
-
-    // Makes a variable parameter of one that begins its section.
-    fn add_var(&self, trial: &mut Trial, at: usize) -> Result<(), AllocError> {
-        if !trial.text.is_empty() {
-            trial.text.push_str(", and ")?;
+    // Puts what is said of a `var` before a parameter.
+    fn push_var(&mut self, out: &mut String, name: Span) {
+        if !out.is_empty() {
+            self.push(out, ", and ");
         }
-        let name = self.text.span(at);
-        put_quoted(
-            &mut trial.text,
-            "put `var` before `",
-            self.text.written(name),
-            "` at ",
-        )?;
-        self.put_place(&mut trial.text, name.from)?;
-        let from = name.from;
-        self.add_edit(trial, Span { from, to: from }, "var ")
+        self.push_span(out, "put `var` before `", name, "` at ");
+        self.push_place(out, name.from);
     }
 
-    // Makes variable parameters of those that begin their sections.
-    fn add_vars(&self, trial: &mut Trial, names: &Names) -> Result<(), AllocError> {
+    // Has it tried to make variable parameters of those that begin their sections.
+    fn try_vars(&mut self, trials: &mut Vec<Trial>, names: &Names) {
+        let mut words = String::new(self.alloc);
+        let mut edits = Vec::new(self.alloc);
         for at in names.tokens() {
             if begins_section(self.text, *at) {
-                self.add_var(trial, *at)?;
+                let name = self.text.span(*at);
+                self.push_var(&mut words, name);
+                let from = name.from;
+                self.add_edit(&mut edits, Span { from, to: from }, "var ");
             }
         }
-        Ok(())
-    }
-
-    // Has it tried to make variable parameters of all whose values are lost.
-    fn try_vars(&self, draft: &mut Draft, found: &Finding) -> Result<(), AllocError> {
-        if !are_sections_among(self.text, &found.names) {
-            return Ok(());
-        }
-        self.add_trial(draft, found, "")?;
-        if let Some(trial) = draft.trials.last_mut() {
-            self.add_vars(trial, &found.names)?;
-        }
-        Ok(())
+        self.add_trial(trials, words, edits);
     }
 
     // Has it tried to take away what is told.
-    fn try_without(
-        &self,
-        draft: &mut Draft,
-        found: &Finding,
-        words: &str,
-    ) -> Result<(), AllocError> {
-        self.add_trial(draft, found, words)?;
-        if let Some(trial) = draft.trials.last_mut() {
-            self.add_edit(trial, found.place, "")?;
-        }
-        Ok(())
+    fn try_without(&mut self, trials: &mut Vec<Trial>, found: &Finding, words: &str) {
+        let mut edits = Vec::new(self.alloc);
+        self.add_edit(&mut edits, found.place, "");
+        let text = self.words(found, words);
+        self.add_trial(trials, text, edits);
     }
 
-    // Tells what is found.
-    fn tell(&self, warning: &mut Warning, found: &Finding, row: &Row) -> Result<(), AllocError> {
-        let draft = &mut warning.draft;
-        self.put(&mut draft.text, found, row.sentence)?;
-        self.add_label(draft, found, row.label)?;
-        self.add_help(draft, found, row.help)?;
-        if matches!(found.row, ONE_LOST | ALL_LOST) {
-            self.try_vars(draft, found)
-        } else if row.trial.is_empty() {
-            Ok(())
-        } else {
-            self.try_without(draft, found, row.trial)
+    // The changes that are to be tried.
+    fn trials(&mut self, found: &Finding, words: &str) -> Vec<Trial> {
+        let mut trials = Vec::new(self.alloc);
+        if !words.is_empty() {
+            self.try_without(&mut trials, found, words);
+        } else if matches!(found.row, ONE_LOST | ALL_LOST)
+            && are_sections_among(self.text, &found.names)
+        {
+            self.try_vars(&mut trials, &found.names);
         }
+        trials
     }
 
-    // A warning of which nothing is told yet.
-    fn untold(&self, place: Span, row: &Row) -> Warning {
-        Warning {
-            number: row.number,
-            name: row.name,
-            place,
-            draft: Draft {
-                text: String::new(self.alloc),
-                labels: Vec::new(self.alloc),
-                expects: false,
-                trials: Vec::new(self.alloc),
-                notes: Vec::new(self.alloc),
-                helps: Vec::new(self.alloc),
-            },
+    // What is told of what is found.
+    fn draft(&mut self, found: &Finding, row: &Row) -> Draft {
+        let text = self.words(found, row.sentence);
+        let labels = self.labels(found, row.label);
+        let trials = self.trials(found, row.trial);
+        let helps = self.helps(found, row.help);
+        Draft {
+            text,
+            labels,
+            expects: false,
+            trials,
+            notes: Vec::new(self.alloc),
+            helps,
         }
     }
 
     /// Adds the warning of what is found.
-    pub(crate) fn add(
-        &self,
-        warnings: &mut Vec<Warning>,
-        found: &Finding,
-    ) -> Result<(), AllocError> {
-        let Some(row) = ROWS.get(found.row) else {
-            return Ok(());
-        };
-        warnings.push(self.untold(found.place, row))?;
-        match warnings.last_mut() {
-            Some(warning) => self.tell(warning, found, row),
-            None => Ok(()),
+    pub(crate) fn add(&mut self, found: &Finding) {
+        if let Some(row) = ROWS.get(found.row) {
+            let warning = Warning {
+                number: row.number,
+                name: row.name,
+                place: found.place,
+                draft: self.draft(found, row),
+            };
+            self.has_failed |= self.warnings.push(warning).is_err();
         }
     }
 }

@@ -1,5 +1,6 @@
 -- The first line of what is told to people.
-use Rattle.std.specs.Prelude.{ℕ, ◌+◌, ◌==◌, if◌then◌else◌, min, List, [], ◌∷◌, ◌++◌, length, take, Option, Some, None, codes, decimal, string_bytes}
+use Rattle.std.specs.Prelude.{ℕ, ◌+◌, ◌==◌, if◌then◌else◌, min, List, [], ◌∷◌, ◌++◌, length, take, Option, Some, None}
+use Rattle.std.specs.Prelude.{codes, decimal, string_bytes}
 use Rattle.ps_text.specs.declared.Span.{Span}
 use Rattle.ps_text.specs.Lines.{line_at}
 use Rattle.ps_diagnostic.specs.declared.Severity.{Severity}
@@ -30,7 +31,8 @@ word Warning = codes "warning"
 -- the place, if there is one, as editors read it
 abbrev pub place_text : List ℕ → Option Span → List ℕ
 place_text text None = []
-place_text text (Some span) = codes ":" ++ decimal (line_at text (within text span.from)) ++ codes ":" ++ decimal (column_at text (within text span.from))
+place_text text (Some span) = codes ":" ++ decimal (line_at text (within text span.from)) ++ codes ":" ++ decimal
+    (column_at text (within text span.from))
 
 -- what it is: error NUMBER NAME
 abbrev pub kind_text : Diagnostic → List ℕ
@@ -38,4 +40,5 @@ kind_text d = word d.severity ++ codes " " ++ decimal d.number ++ codes " " ++ d
 
 -- FILE:LINE:COLUMN: error NUMBER NAME: TEXT
 abbrev pub head : List ℕ → List ℕ → Diagnostic → List ℕ
-head file text d = file ++ place_text text d.place ++ codes ": " ++ kind_text d ++ codes ": " ++ string_bytes d.text ++ codes "\n"
+head file text d = file ++ place_text text d.place ++ codes ": " ++ kind_text d ++ codes ": " ++ string_bytes d.text
+    ++ codes "\n"

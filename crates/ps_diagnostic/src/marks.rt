@@ -1,27 +1,107 @@
 //! The lines of a text that are shown with a diagnostic, and the marks below them.
+//!
+//! A line of at most 120 bytes is shown whole. Of a longer one pieces of at most 100 bytes are shown, each round
+//! something that is marked or changed, with `...` where the line goes on; what lies in the piece that was shown last
+//! needs no further one. So what is shown doesn't grow with the length of a line.
 
 use crate::shown::{put, put_space, put_times, width};
-use crate::view::View;
-use crate::{Diagnostic, Label, Mend};
+use crate::view::{Reach, View};
+use crate::{Diagnostic, Edit, Label, Mend};
 use ps_text::Span;
 use std::alloc::{AllocError, Global};
 
 // The least columns of a line's number.
 const LEAST: usize = 3;
 
-// Adds the lines of what the first mend changes.
-fn add_lines_of_mend(
-    lines: &mut Vec<usize>,
-    view: &View<'_>,
-    mends: &[Mend],
-) -> Result<(), AllocError> {
-    let Some(mend) = mends.first() else {
-        return Ok(());
-    };
-    for edit in mend.edits.iter() {
-        lines.push(view.line_of(edit.span.from))?;
+// The most bytes of a line that is shown whole.
+const WHOLE: usize = 120;
+
+// The most bytes of a piece of a longer line.
+const MOST: usize = 100;
+
+// How many of them stand before what is marked, where the line has so many.
+const BEFORE: usize = 40;
+
+// The most bytes of a character.
+const LONGEST: usize = 4;
+
+// The most changes of the first mend whose lines are shown.
+const MOST_EDITS: usize = 8;
+
+// What stands for the rest of a line.
+const CUT: &str = "...";
+
+/// A piece of a line that is shown: bytes of it, counted from the line's first.
+#[derive(Clone, Copy)]
+struct Piece {
+    line: usize,
+    from: usize,
+    to: usize,
+    /// How many bytes the line has.
+    end: usize,
+}
+
+// What is shown before anything is.
+const NOTHING: Piece = Piece {
+    line: 0,
+    from: 0,
+    to: 0,
+    end: 0,
+};
+
+// Whether a byte of a line goes on with a character that began before it.
+fn goes_on(text: &[u8], at: usize) -> bool {
+    match text.get(at) {
+        Some(byte) => *byte & 0xC0 == 0x80,
+        None => false,
     }
-    Ok(())
+}
+
+// The first byte from one on that begins a character; the byte itself, where it is of none.
+fn character_from(text: &[u8], at: usize) -> usize {
+    for count in 0..LONGEST {
+        let next = at.saturating_add(count);
+        if !goes_on(text, next) {
+            return next;
+        }
+    }
+    at
+}
+
+// The piece of a line that is shown round a byte of it.
+fn piece_round(text: &[u8], line: usize, at: usize) -> Piece {
+    let end = text.len();
+    if end <= WHOLE {
+        return Piece {
+            line,
+            from: 0,
+            to: end,
+            end,
+        };
+    }
+    let first = at.saturating_sub(BEFORE).min(end.saturating_sub(MOST));
+    let from = character_from(text, first);
+    let to = character_from(text, from.saturating_add(MOST)).min(end);
+    Piece {
+        line,
+        from,
+        to,
+        end,
+    }
+}
+
+// Whether a piece has a byte of a line, or ends with the line before it.
+fn has(piece: Piece, reach: Reach) -> bool {
+    let is_before_end = reach.from < piece.to || piece.to == piece.end;
+    piece.line == reach.line && piece.from <= reach.from && is_before_end
+}
+
+// The changes of the first mend.
+fn edits_of(mends: &[Mend]) -> &[Edit] {
+    match mends.first() {
+        Some(mend) => mend.edits.as_slice(),
+        None => &[],
+    }
 }
 
 // The lines that are shown, in their order; some may stand there twice.
@@ -36,7 +116,10 @@ fn lines_of(
     for label in diagnostic.labels.iter() {
         lines.push(view.line_of(label.span.from))?;
     }
-    add_lines_of_mend(&mut lines, view, diagnostic.mends.as_slice())?;
+    let edits = edits_of(diagnostic.mends.as_slice());
+    for edit in edits.iter().take(MOST_EDITS) {
+        lines.push(view.line_of(edit.span.from))?;
+    }
     lines.sort()?;
     Ok(lines)
 }
@@ -48,39 +131,67 @@ fn room_of(alloc: Global, lines: &[usize]) -> Result<usize, AllocError> {
     Ok(number.len().max(LEAST))
 }
 
-// Puts a line of the source with its number.
-fn put_line(
-    alloc: Global,
-    out: &mut String,
-    view: &View<'_>,
-    room: usize,
-    line: usize,
-) -> Result<(), AllocError> {
+// Puts a line's number, and what stands between it and the line.
+fn put_number(alloc: Global, out: &mut String, room: usize, line: usize) -> Result<(), AllocError> {
     let number = format!(in alloc; "{line}")?;
     put_times(out, ' ', room.saturating_sub(number.len()))?;
     out.push_str(number.as_str())?;
-    out.push_str(" |")?;
-    let text = view.line(line);
+    out.push_str(" |")
+}
+
+// Puts a piece of a line, with what stands for the rest of the line.
+fn put_piece(out: &mut String, text: &[u8], piece: Piece) -> Result<(), AllocError> {
     if !text.is_empty() {
         out.push(' ')?;
-        put(out, text)?;
+        out.push_str(if piece.from > 0 { CUT } else { "" })?;
+        put(out, text.get(piece.from..piece.to).unwrap_or(&[]))?;
+        out.push_str(if piece.to < piece.end { CUT } else { "" })?;
     }
     out.push('\n')
 }
 
-// Puts a line with a mark below a span, and a text behind it.
-fn put_mark(
+// Puts the piece of a line round what is marked or changed there, if the piece that was put last doesn't have it.
+fn put_round(
+    alloc: Global,
     out: &mut String,
     view: &View<'_>,
     room: usize,
-    span: Span,
+    last: Piece,
+    reach: Reach,
+) -> Result<Piece, AllocError> {
+    if has(last, reach) {
+        return Ok(last);
+    }
+    let text = view.line(reach.line);
+    let piece = piece_round(text, reach.line, reach.from);
+    put_number(alloc, out, room, reach.line)?;
+    put_piece(out, text, piece)?;
+    Ok(piece)
+}
+
+// Puts spaces as wide as what is shown before a mark.
+fn put_lead(out: &mut String, lead: &[u8], is_cut: bool) -> Result<(), AllocError> {
+    if is_cut {
+        put_times(out, ' ', CUT.len())?;
+    }
+    put_space(out, lead)
+}
+
+// Puts a line with a mark below what a span has of a piece, and a text behind it.
+fn put_mark(
+    out: &mut String,
+    line: &[u8],
+    room: usize,
+    piece: Piece,
+    reach: Reach,
     sign: char,
     text: &str,
 ) -> Result<(), AllocError> {
-    let (lead, marked) = view.parts_of(span);
+    let lead = line.get(piece.from..reach.from).unwrap_or(&[]);
+    let marked = line.get(reach.from..reach.to.min(piece.to)).unwrap_or(&[]);
     put_times(out, ' ', room)?;
     out.push_str(" | ")?;
-    put_space(out, lead)?;
+    put_lead(out, lead, piece.from > 0)?;
     put_times(out, sign, width(marked).max(1))?;
     if !text.is_empty() {
         out.push(' ')?;
@@ -89,23 +200,74 @@ fn put_mark(
     out.push('\n')
 }
 
-// Puts the marks of the labels that belong to a line.
+// Puts the marks of the labels that belong to a line, with what is shown of it for them.
 fn put_labels(
+    alloc: Global,
     out: &mut String,
     view: &View<'_>,
     room: usize,
+    first: Piece,
     line: usize,
     labels: &[Label],
-) -> Result<(), AllocError> {
+) -> Result<Piece, AllocError> {
+    let mut piece = first;
     for label in labels.iter() {
         if view.line_of(label.span.from) == line {
-            put_mark(out, view, room, label.span, '-', label.text.as_str())?;
+            let reach = view.reach_of(label.span);
+            piece = put_round(alloc, out, view, room, piece, reach)?;
+            let text = label.text.as_str();
+            put_mark(out, view.line(line), room, piece, reach, '-', text)?;
+        }
+    }
+    Ok(piece)
+}
+
+// Puts what is shown of a line for the first changes of a mend, beside the piece of the place and the one that was put last.
+fn put_edits(
+    alloc: Global,
+    out: &mut String,
+    view: &View<'_>,
+    room: usize,
+    main: Piece,
+    last: Piece,
+    line: usize,
+    edits: &[Edit],
+) -> Result<(), AllocError> {
+    let mut piece = last;
+    for edit in edits.iter().take(MOST_EDITS) {
+        let reach = view.reach_of(edit.span);
+        if reach.line == line && !has(main, reach) {
+            piece = put_round(alloc, out, view, room, piece, reach)?;
         }
     }
     Ok(())
 }
 
-/// Puts the lines of the source that are shown with a diagnostic, with the marks below them.
+// Puts what is shown of a line, with all its marks.
+fn put_line(
+    alloc: Global,
+    out: &mut String,
+    view: &View<'_>,
+    diagnostic: &Diagnostic,
+    room: usize,
+    line: usize,
+    place: Span,
+) -> Result<(), AllocError> {
+    let mut main = NOTHING;
+    if line == view.line_of(place.from) {
+        let reach = view.reach_of(place);
+        main = put_round(alloc, out, view, room, main, reach)?;
+        put_mark(out, view.line(line), room, main, reach, '^', "")?;
+    }
+    let labels = diagnostic.labels.as_slice();
+    let last = put_labels(alloc, out, view, room, main, line, labels)?;
+    let edits = edits_of(diagnostic.mends.as_slice());
+    put_edits(alloc, out, view, room, main, last, line, edits)
+}
+
+/// Puts the lines of the source that are shown with a diagnostic, with the marks below them: those of its place, of its
+/// second places, and of the first eight changes of its first mend, in their order. Of a line of more than 120 bytes
+/// pieces of at most 100 stand there, each round what is marked or changed in it, with `...` at a side where it is cut.
 pub(crate) fn put_source(
     alloc: Global,
     out: &mut String,
@@ -120,11 +282,7 @@ pub(crate) fn put_source(
     let mut last = 0;
     for line in lines.iter().copied() {
         if line != last {
-            put_line(alloc, out, view, room, line)?;
-            if line == view.line_of(place.from) {
-                put_mark(out, view, room, place, '^', "")?;
-            }
-            put_labels(out, view, room, line, diagnostic.labels.as_slice())?;
+            put_line(alloc, out, view, diagnostic, room, line, place)?;
             last = line;
         }
     }

@@ -32,6 +32,14 @@ pub(crate) struct Place {
     pub(crate) column: usize,
 }
 
+/// A part of a line: its bytes from one on up to before another one, counted from the line's first.
+#[derive(Clone, Copy)]
+pub(crate) struct Reach {
+    pub(crate) line: usize,
+    pub(crate) from: usize,
+    pub(crate) to: usize,
+}
+
 // The offsets behind the line ends of a text.
 fn starts_of(alloc: Global, bytes: &[u8]) -> Result<Vec<usize>, AllocError> {
     let mut starts = Vec::new(alloc);
@@ -136,14 +144,16 @@ impl<'a> View<'a> {
         text.strip_suffix(b"\r").unwrap_or(text)
     }
 
-    /// The part of a line that a span has: what stands before it there, and what it has of the line.
-    pub(crate) fn parts_of(&self, span: Span) -> (&'a [u8], &'a [u8]) {
+    /// The part of its first line that a span has.
+    pub(crate) fn reach_of(&self, span: Span) -> Reach {
         let Place { line, column } = self.place_of(span.from);
-        let text = self.line(line);
-        let before = column.saturating_sub(1).min(text.len());
-        let (lead, rest) = text.split_at(before);
-        let length = (span.to.saturating_sub(span.from) as usize).min(rest.len());
-        let (marked, _) = rest.split_at(length);
-        (lead, marked)
+        let end = self.line(line).len();
+        let from = column.saturating_sub(1).min(end);
+        let length = (span.to.saturating_sub(span.from) as usize).min(end.saturating_sub(from));
+        Reach {
+            line,
+            from,
+            to: from.saturating_add(length),
+        }
     }
 }

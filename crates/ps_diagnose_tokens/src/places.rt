@@ -1,0 +1,298 @@
+//! Which tokens the places of the rules are.
+
+use crate::context::Context;
+use crate::kinds::{COMPARES, COMPARES_OR_ADDS, ENDS_PART, JOINS, OPERATORS};
+use crate::layout::outside;
+use crate::rule::{Place, Reach};
+use crate::spread::{
+    expression_end, expression_start, first_between, last_between, next_of, statement_end,
+};
+use crate::walk::{Block, Open};
+use ps_scan::Kind;
+use ps_text::Span;
+
+/// The number of the token at a place of a rule, if there is one.
+pub(crate) fn number_of(cx: &Context<'_>, place: Place) -> Option<usize> {
+    match place {
+        Place::Here => Some(cx.at),
+        Place::Ahead(count) => cx.at.checked_add(count),
+        Place::Back(count) => cx.at.checked_sub(count),
+        Place::TextEnd => Some(cx.tokens.len()),
+        Place::Start => Some(cx.opened.start),
+        Place::Assigned => cx.opened.assigned,
+        Place::Ended => cx.opened.ended,
+        Place::Point => behind(cx.opened.ended),
+        Place::EndedIf => cx.opened.last_if,
+        Place::PastIf => past_if(cx),
+        _ => number_of_open(cx, place),
+    }
+}
+
+// The number of the token behind one.
+fn behind(at: Option<usize>) -> Option<usize> {
+    at?.checked_add(1)
+}
+
+// The number of the token that a construction begins with.
+fn begin_of(open: Option<Open>) -> Option<usize> {
+    match open {
+        Some(open) => Some(open.at),
+        None => None,
+    }
+}
+
+// The number of a token of what is open, or has ended.
+fn number_of_open(cx: &Context<'_>, place: Place) -> Option<usize> {
+    match place {
+        Place::Top => begin_of(cx.top()),
+        Place::BeforeTop => begin_of(cx.top())?.checked_sub(1),
+        Place::TopEnd => Some(next_of(cx, cx.at, &[])),
+        Place::List => Some(list(cx)),
+        Place::Innermost(kind) => innermost(cx, Wanted::Begins(kind)),
+        Place::WaitingIf => innermost(cx, Wanted::WaitingIf),
+        Place::Closed => begin_of(cx.opened.closed),
+        Place::Bare => begin_of(cx.opened.bare),
+        Place::ClosedHead => closed_head(cx),
+        Place::ClosedName => behind(closed_head(cx)),
+        _ => number_in_block(cx, place),
+    }
+}
+
+// The past `if` at the depth of the place.
+fn past_if(cx: &Context<'_>) -> Option<usize> {
+    match cx.opened.past_if {
+        Some((at, depth)) if depth == cx.opened.opens.len() => Some(at),
+        _ => None,
+    }
+}
+
+// Which construction is looked for.
+#[derive(Clone, Copy)]
+enum Wanted {
+    /// One with an end of its own.
+    Ends,
+    /// An `if` that waits for its `else`.
+    WaitingIf,
+    /// One that begins with a token of a kind.
+    Begins(Kind),
+}
+
+// Whether a construction is one of those.
+fn is_wanted(open: &Open, wanted: Wanted) -> bool {
+    match wanted {
+        Wanted::Ends => open.has_end(),
+        Wanted::WaitingIf => open.waits_for_else(),
+        Wanted::Begins(kind) => open.kind == kind,
+    }
+}
+
+// The innermost construction that is open and wanted.
+fn innermost(cx: &Context<'_>, wanted: Wanted) -> Option<usize> {
+    for open in cx.opened.opens.iter().rev() {
+        if is_wanted(open, wanted) {
+            return Some(open.at);
+        }
+    }
+    None
+}
+
+// The innermost construction that is open with an end of its own, or else the block.
+fn list(cx: &Context<'_>) -> usize {
+    let block = cx.block();
+    let at = block.begun.unwrap_or(block.head);
+    innermost(cx, Wanted::Ends).unwrap_or(at)
+}
+
+// The heading of the routine that the last `end` ended.
+fn closed_head(cx: &Context<'_>) -> Option<usize> {
+    match cx.opened.closed_block {
+        Some(block) => Some(block.head),
+        None => None,
+    }
+}
+
+// The number of a token of the block.
+fn number_in_block(cx: &Context<'_>, place: Place) -> Option<usize> {
+    let block = cx.block();
+    match place {
+        Place::Head => Some(block.head),
+        Place::HeadName => behind(Some(block.head)),
+        Place::Begun => block.begun,
+        Place::Routines => block.routines,
+        Place::Later => later_part(block, cx.kind(cx.at))
+            .or(block.routines)
+            .or(block.begun),
+        Place::SamePart => part_of(block, cx.kind(cx.at)),
+        _ => number_further(cx, place),
+    }
+}
+
+/// The token that the part of a kind begins with.
+pub(crate) fn part_of(block: Block, kind: Option<Kind>) -> Option<usize> {
+    match kind {
+        Some(Kind::Const) => block.constants,
+        Some(Kind::Type) => block.types,
+        Some(Kind::Var) => block.variables,
+        _ => None,
+    }
+}
+
+// The first part of a block that stands behind one of a kind.
+fn later_part(block: Block, kind: Option<Kind>) -> Option<usize> {
+    match kind {
+        Some(Kind::Const) => block.types.or(block.variables),
+        Some(Kind::Type) => block.variables,
+        _ => None,
+    }
+}
+
+// The number of a token further on, or further back.
+fn number_further(cx: &Context<'_>, place: Place) -> Option<usize> {
+    let at = cx.at;
+    match place {
+        Place::StatementEnd => Some(statement_end(cx, at)),
+        Place::Last(count) => statement_end(cx, at).checked_sub(count),
+        Place::NextAssign => first_between(cx, at, statement_end(cx, at), &[Kind::Assign]),
+        Place::NextEnd => Some(next_end(cx)),
+        Place::BehindThen => behind_then(cx),
+        Place::BehindNames => Some(behind_names(cx)),
+        Place::BehindEnd => next_end(cx).checked_add(1),
+        Place::NextUntil => Some(next_of(cx, at, &[Kind::Until, Kind::Repeat])),
+        Place::Closing => Some(next_of(cx, at.saturating_add(1), &[])),
+        Place::LastOfPart => last_of_part(cx),
+        Place::LastDeclared => last_declared(cx),
+        Place::Outside => outside(cx),
+        Place::BeforeOutside => outside(cx)?.checked_sub(1),
+        _ => number_in_expression(cx, place),
+    }
+}
+
+// The token behind the `then` of the past `if`.
+fn behind_then(cx: &Context<'_>) -> Option<usize> {
+    let first = behind(past_if(cx))?;
+    behind(first_between(cx, first, cx.at, &[Kind::Then]))
+}
+
+// The token behind the names, with commas between, that stand from the place on.
+fn behind_names(cx: &Context<'_>) -> usize {
+    let mut at = cx.at;
+    for token in cx.tokens.get(cx.at..).unwrap_or(&[]).iter() {
+        if !matches!(token.kind, Kind::Name | Kind::Comma) {
+            break;
+        }
+        at = at.saturating_add(1);
+    }
+    at
+}
+
+// How deep what stands behind a token is; none where it ends what began before.
+fn depth_behind(depth: usize, kind: Kind) -> Option<usize> {
+    match kind {
+        Kind::Begin | Kind::Case | Kind::Record => Some(depth.saturating_add(1)),
+        Kind::End => depth.checked_sub(1),
+        _ => Some(depth),
+    }
+}
+
+// The first `end` from the place on that ends nothing which begins there, or the end of the text.
+fn next_end(cx: &Context<'_>) -> usize {
+    let mut depth = 0;
+    let tokens = cx.tokens.get(cx.at..).unwrap_or(&[]);
+    for (count, token) in tokens.iter().enumerate() {
+        match depth_behind(depth, token.kind) {
+            Some(next) => depth = next,
+            None => return cx.at.saturating_add(count),
+        }
+    }
+    cx.tokens.len()
+}
+
+// The last token of the part that begins at the place, if it ends in the text.
+fn last_of_part(cx: &Context<'_>) -> Option<usize> {
+    let first = cx.at.saturating_add(1);
+    let tokens = cx.tokens.get(first..).unwrap_or(&[]);
+    for (count, token) in tokens.iter().enumerate() {
+        if ENDS_PART.contains(&token.kind) {
+            return cx.at.checked_add(count);
+        }
+    }
+    None
+}
+
+// The last token of the declaration at the place, among statements: its `;`.
+fn last_declared(cx: &Context<'_>) -> Option<usize> {
+    let end = statement_end(cx, cx.at);
+    match cx.kind(end) {
+        Some(Kind::Semicolon) => Some(end),
+        _ => None,
+    }
+}
+
+// The number of a token of the expression at the place.
+fn number_in_expression(cx: &Context<'_>, place: Place) -> Option<usize> {
+    let at = cx.at;
+    match place {
+        Place::ExpressionStart => Some(expression_start(cx, at)),
+        Place::ExpressionEnd => Some(expression_end(cx, at)),
+        Place::NextExpressionEnd => Some(expression_end(cx, at.saturating_add(1))),
+        Place::First(kinds) => first_between(cx, expression_start(cx, at), at, kinds),
+        Place::Joint => joint(cx),
+        Place::JointLeft => joint_left(cx),
+        Place::JointRight => joint_right(cx),
+        _ => None,
+    }
+}
+
+// The first comparison of the expression before the place.
+fn first_comparison(cx: &Context<'_>) -> Option<usize> {
+    first_between(cx, expression_start(cx, cx.at), cx.at, COMPARES)
+}
+
+// The `and` or `or` behind the first comparison.
+fn joint(cx: &Context<'_>) -> Option<usize> {
+    let first = first_comparison(cx)?;
+    first_between(cx, first.saturating_add(1), cx.at, JOINS)
+}
+
+// The operator before the left operand of that.
+fn joint_left(cx: &Context<'_>) -> Option<usize> {
+    let first = first_comparison(cx)?;
+    let joint = joint(cx)?;
+    let bounds = match cx.kind(joint) {
+        Some(Kind::Or) => COMPARES,
+        _ => COMPARES_OR_ADDS,
+    };
+    Some(last_between(cx, first, joint, bounds).unwrap_or(first))
+}
+
+// The operator behind its right operand.
+fn joint_right(cx: &Context<'_>) -> Option<usize> {
+    let next = joint(cx)?.saturating_add(1);
+    Some(first_between(cx, next, cx.at, OPERATORS).unwrap_or(cx.at))
+}
+
+// The numbers of the first and of the last one of several tokens.
+fn ends_of(cx: &Context<'_>, reach: &Reach) -> (Option<usize>, Option<usize>) {
+    match reach {
+        Reach::One(place) => (number_of(cx, *place), number_of(cx, *place)),
+        Reach::To(first, last) => (number_of(cx, *first), number_of(cx, *last)),
+        Reach::UpTo(first, end) => (number_of(cx, *first), before(number_of(cx, *end))),
+        Reach::Between(start, end) => {
+            let first = behind(number_of(cx, *start));
+            (first, before(number_of(cx, *end)))
+        }
+    }
+}
+
+// The number of the token before one.
+fn before(at: Option<usize>) -> Option<usize> {
+    Some(at?.saturating_sub(1))
+}
+
+/// The span of tokens; that of the place, where there are none.
+pub(crate) fn span_of(cx: &Context<'_>, reach: &Reach) -> Span {
+    match ends_of(cx, reach) {
+        (Some(first), Some(last)) => cx.span_of(first, last),
+        _ => cx.place,
+    }
+}
