@@ -38,9 +38,6 @@ def replace_parts(folder: str, progress: report.Report) -> None:
     rt = kit.rt()
     rt.in_lanes = places.Places(folder, progress).run
     verdicts.replace_ci()
-    if kit.is_before_keeping():
-        rt.must_fail_all = edits.try_all
-        return
     rt.add_edits, rt.Kept, rt.say = edits.add_all, kit.NothingKept, kit.say_less(rt.say)
     rt.sweep()
 
@@ -55,7 +52,7 @@ def prove(folder: str, progress: report.Report) -> Tuple[int, int]:
     sys.stdout = Tee(sys.__stdout__)
     try:
         with tempfile.TemporaryDirectory(prefix="aside-", dir=folder) as aside:
-            status = kit.rt().ci_from_nothing(aside) if kit.is_before_keeping() else kit.rt().ci_over(aside, True)
+            status = kit.rt().ci_over(aside, True)
         passed, failed = ends.count_in(sys.stdout.said)
     finally:
         sys.stdout = sys.__stdout__

@@ -314,7 +314,7 @@ def tried(crate: Any, edit: Edit, flags: List[str]) -> Trial:
     counts as not refused."""
     rt = kit.rt()
     kind, said = rt.must_fail(crate, edit.path, flags, None)
-    return kind if kit.is_before_keeping() else kind in (rt.REFUSED, rt.AT_LIMIT), said
+    return kind in (rt.REFUSED, rt.AT_LIMIT), said
 
 
 def names_in(edit: Edit) -> List[str]:
@@ -349,16 +349,6 @@ def refused_for(ran: Ran, texts: Texts, otherwise: List[str]) -> Optional[str]:
 
 def key_of(crate: Any, edit: Edit) -> str:
     return kit.sum_of("edit", verdicts.FORM, verdicts.facts_of(crate)["key"], edit.name, edit.text)
-
-
-def told_of(given: Any) -> List[Any]:
-    """What a task of edits gave: for each edit whether it is refused and what to say. Kits that keep nothing give what else stands in the folder before it."""
-    return given[2] if isinstance(given, tuple) else given
-
-
-def broken_off(name: str) -> Any:
-    """What a task of edits that broke off counts as in kits that keep nothing."""
-    return ([], [f"{name}/must-fail"], [(False, f"{name}: trying its must-fail edits broke off")])
 
 
 def add_all(tasks: Dict[Any, Any], crate: Any, paths: List[str], *_: Any) -> Any:

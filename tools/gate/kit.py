@@ -1,8 +1,8 @@
 """The Rattle kit: its command `rt` as a library, and its sum.
 
-The gate is `rt ci` with some of its parts replaced: who works when (`in_lanes`), what proves a crate (`Crate.ci`), how edits are tried (`add_edits`, or
-`must_fail_all` in kits before 13f), and what is kept of earlier runs (`Kept`, which those kits have not). All else that `rt ci` rules about a tree, a crate, a
-program and a test is done by `rt` itself. Where a kit's `rt` has other parts, the gate runs its `rt ci` as it is, which takes longer and rules the same.
+The gate is `rt ci` with some of its parts replaced: who works when (`in_lanes`), what proves a crate (`Crate.ci`), how edits are tried (`add_edits`), and
+what is kept of earlier runs (`Kept`). All else that `rt ci` rules about a tree, a crate, a program and a test is done by `rt` itself. Where a kit's `rt`
+has other parts, the gate runs its `rt ci` as it is, which takes longer and rules the same.
 """
 
 import contextlib
@@ -16,9 +16,8 @@ import sys
 from types import ModuleType
 from typing import Any, Callable, ContextManager, List
 
-PARTS = ("in_lanes", "must_fail", "checked", "edits_of", "read_edit", "processors", "free", "say", "Crate", "unread")
-# What runs the whole, and what is replaced of it: in kits from 13f on, which keep what they have proved, and in those before, which keep nothing.
-PARTS_KEEPING, PARTS_BEFORE = ("ci_over", "add_edits", "sweep", "Kept"), ("ci_from_nothing", "must_fail_all")
+# What the gate calls of `rt`, what runs the whole, and what is replaced of it.
+PARTS = ("in_lanes", "must_fail", "checked", "edits_of", "read_edit", "processors", "free", "say", "Crate", "unread", "ci_over", "add_edits", "sweep", "Kept")
 # What decides a verdict: the program that proves, the two scripts that hold it to their rules, and what tells the versions of all the rest.
 SUMMED = ("KIT-ID", "WHAT", "bin/rattle", "bin/rattle-link", "bin/rt", "bin/rtlib.py")
 
@@ -36,15 +35,9 @@ def rt() -> ModuleType:
     return made
 
 
-def is_before_keeping() -> bool:
-    """Whether the kit's command keeps nothing of what it has proved."""
-    return not any(hasattr(rt(), part) for part in PARTS_KEEPING)
-
-
 def lacking() -> List[str]:
     """The parts that the gate replaces or calls and that this kit's command has not."""
-    wanted = (*PARTS, *(PARTS_BEFORE if is_before_keeping() else PARTS_KEEPING))
-    return [part for part in wanted if not hasattr(rt(), part)]
+    return [part for part in PARTS if not hasattr(rt(), part)]
 
 
 class NothingKept:

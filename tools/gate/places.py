@@ -14,7 +14,6 @@ import time
 import traceback
 from typing import Any, Callable, Dict, Iterable, List
 
-import edits
 import kit
 
 PR_SET_PDEATHSIG = 1
@@ -172,8 +171,6 @@ class Places:
         if status == 0:
             with open(self.path(task, "given"), "rb") as file:
                 given = pickle.load(file)
-        elif task.is_edits and kit.is_before_keeping():
-            given = edits.broken_off(task.name)
         self.given[task.key] = given
         with open(self.path(task, "log"), encoding="utf-8", errors="replace") as file:
             said = file.read()

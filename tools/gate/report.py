@@ -5,7 +5,6 @@ import re
 import time
 from typing import Any, Dict, List
 
-import edits
 
 
 def seconds(usage: Any) -> float:
@@ -34,7 +33,7 @@ class Report:
         part = "edits" if task.is_edits else "proof"
         self.took[task.name, part] = self.took.get((task.name, part), 0) + seconds(usage)
         self.most[task.name] = max(self.most.get(task.name, 0), usage.ru_maxrss)
-        tries = edits.told_of(given) if task.is_edits and given else []
+        tries = given if task.is_edits and given else []
         is_well = not status and bool(given) and all(trial[0] for trial in tries)
         for match in re.findall("(?m)^gate: .*", said if is_well else ""):
             self.say(f"{task.name}: {match[6:]}")

@@ -315,10 +315,17 @@ function listen() {
   addEventListener('keydown', key);
 }
 
+/** The bytes of a text in base64. A loop takes a twentieth of the time of `Uint8Array.from` with a function. */
+function bytesOf(letters) {
+  const text = atob(letters);
+  const bytes = new Uint8Array(text.length);
+  for (let at = 0; at < bytes.length; at += 1) bytes[at] = text.charCodeAt(at);
+  return bytes;
+}
+
 async function load() {
   try {
-    const bytes = Uint8Array.from(atob(held('module')), (letter) => letter.charCodeAt(0));
-    process.load(await WebAssembly.compile(bytes));
+    process.load(await WebAssembly.compile(bytesOf(held('module'))));
     say('ready');
   } catch (error) {
     say(`This browser can't load the compiler: ${error}`, 'badly');
