@@ -50,6 +50,7 @@ class Case:
     talk: List[Tuple[str, bytes]] = field(default_factory=list)
     left: Optional[bytes] = None
     error: bytes = b""
+    error_holds: bytes = b""
     status: int = 0
     writes_to: Optional[str] = None
     room: Optional[int] = None
@@ -151,6 +152,8 @@ def begun_part(cases: List[Case], line: str, place: str) -> Optional[Taker]:
         return grown(case, "left")
     if head == "messages":
         return grown(case, "error")
+    if head == "messages hold":
+        return grown(case, "error_holds")
     if head == "program":
         return kept(case.files, "program.pas")
     if head.startswith("file "):

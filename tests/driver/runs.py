@@ -307,6 +307,11 @@ def difference(what: str, got: object, wanted: object) -> str:
     return f"{what}: wanted {shown(wanted)}, came {shown(got)}"
 
 
+def with_lines(got: bytes, wanted: bytes) -> bytes:
+    """What came, where it has these lines; else the lines."""
+    return got if set(wanted.splitlines()) <= set(got.splitlines()) else wanted
+
+
 def wanted_output(case: Case, got: bytes, program: str, folder: str) -> Optional[bytes]:
     """What standard output must be: of a text that is repeated, as much as there is of it, and at least one byte."""
     if case.lists:
@@ -315,7 +320,7 @@ def wanted_output(case: Case, got: bytes, program: str, folder: str) -> Optional
     if case.is_as:
         return content_of(folder, case.is_as)
     if case.holds:
-        return got if set(case.holds.splitlines()) <= set(got.splitlines()) else case.holds
+        return with_lines(got, case.holds)
     if case.talk:
         return b"".join(text for kind, text in case.talk if kind.startswith("says"))
     if not case.repeats:
@@ -330,7 +335,7 @@ def differences(case: Case, ran: Ran, program: str, folder: str) -> List[str]:
     for what, got, wanted in (
         ("status", ran.status, case.status),
         ("standard output", ran.output, wanted_output(case, ran.output, program, folder)),
-        ("standard error", ran.error, case.error),
+        ("standard error", ran.error, with_lines(ran.error, case.error_holds) if case.error_holds else case.error),
     ):
         if got != wanted:
             wrong.append(difference(what, got, wanted))
@@ -377,10 +382,14 @@ def lay(case: Case, folder: str) -> None:
 def run_in(folder: str, case: Case, program: str, on_a_terminal: bool) -> List[str]:
     """Runs a case in a folder that is empty, and returns what was otherwise than wanted."""
     lay(case, folder)
-    for words in case.before:
+    for line in case.before:
+        words, _, name = line.partition(" > ")
         ran = finished([program, *shlex.split(words)], folder)
-        if ran.returncode or ran.stdout or ran.stderr:
-            return [f"before: {words}: status {ran.returncode}, {shown(ran.stdout + ran.stderr)}"]
+        if ran.returncode or (ran.stdout and not name) or ran.stderr:
+            return [f"before: {line}: status {ran.returncode}, {shown(ran.stdout + ran.stderr)}"]
+        if name:
+            with open(os.path.join(folder, name), "wb") as file:
+                file.write(ran.stdout)
     words, said = words_of(case, program, folder)
     if words is None:
         return [f"there is no image: {shown(said)}"]

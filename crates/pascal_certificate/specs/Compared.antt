@@ -1,7 +1,7 @@
 -- What comes of a source and an image beside the values of a certificate.
-use Rattle.std.specs.Prelude.{◌≡◌, ◌==◌, ◌&&◌, ℕ, Bool, List, length, map, true}
+use Rattle.std.specs.Prelude.{◌≡◌, ◌==◌, ◌&&◌, ℕ, Bool, List, ◌∷◌, length, map, true}
 use Rattle.pascal_certificate.specs.Facts.{Text, facts}
-use Rattle.pascal_certificate.specs.Form.{Certifies, IsCertificate}
+use Rattle.pascal_certificate.specs.Form.{CertifiesWith, IsCertificate}
 use Rattle.pascal_certificate.specs.Sealed.{IsSeal, sealed_values}
 use Rattle.pascal_certificate.specs.Differences.{Difference, differences}
 use Rattle.pascal_certificate.specs.Verdict.{verdict_text}
@@ -11,7 +11,8 @@ use Rattle.pascal_certificate.specs.declared.verdict.Names.{Names}
 
 -- the facts that are not as these values have them
 abbrev pub differing : List Text → Found → List Difference
-differing olds found = differences facts olds (sealed_values found.source.now found.image.now (map (λ value. value.now) found.maker.now))
+differing olds found = differences facts olds
+    (sealed_values found.source.now found.image.now (map (λ value. value.now) found.maker.now))
 
 -- each fact that differs is told
 abbrev pub IsTold : Names → List Text → Found → Comparison → Type 0
@@ -21,8 +22,11 @@ IsTold names olds found comparison = comparison.told.items ≡ verdict_text name
 abbrev pub holds : List Text → Found → Bool
 holds olds found = found.is_built && (length (differing olds found) == 0)
 
--- the certificate that holds is that of the source and the image
+-- the certificate that holds is that of the source and the image, and tells of the stack what the program tells
 abbrev pub CertifiesFound : List Text → Found → Comparison → Type 0
 CertifiesFound olds found comparison =
-    (source image : List ℕ) (text : Text) → IsSeal source found.source.now → IsSeal image found.image.now → IsCertificate text olds → comparison.holds ≡ true
-    → Certifies source image text
+    (source image : List ℕ) (text target stack : Text) (rest : List Text)
+    → map (λ value. value.now) found.maker.now ≡ target ∷ stack ∷ rest
+    → IsSeal source found.source.now → IsSeal image found.image.now
+    → IsCertificate text olds → comparison.holds ≡ true
+    → CertifiesWith source image stack text

@@ -1,13 +1,13 @@
 -- The facts whose values differ.
 use Rattle.std.specs.Prelude.{Bool, not, ◌&&◌, ◌||◌, List, [], ◌∷◌, if◌then◌else◌}
 use Rattle.std.specs.Str.{bytes_eq}
-use Rattle.pascal_certificate.specs.Facts.{Text, is_not_known, may_lack}
+use Rattle.pascal_certificate.specs.Facts.{Text, is_not_known, may_be_untold}
 use Rattle.pascal_certificate.specs.declared.compare.Change.{Change}
 use Rattle.pascal_certificate.specs.declared.fact.Fact.{Fact}
 
--- The values are not the same, and both are known.
+-- The values are not the same, and both are known where one may be untold.
 abbrev pub differ : Fact → Text → Text → Bool
-differ fact old new = not (bytes_eq old new) && not (may_lack fact && (is_not_known old || is_not_known new))
+differ fact old new = not (bytes_eq old new) && not (may_be_untold fact && (is_not_known old || is_not_known new))
 
 -- a fact with its two values
 pub record Difference : Type 0 where

@@ -4,7 +4,9 @@ use Rattle.std.specs.Char.{is_ascii_digit}
 use Rattle.std.specs.List.{list_all}
 use Rattle.std.specs.Str.{bytes_eq}
 use Rattle.pascal_certificate.specs.declared.fact.Fact.{Fact}
-use Rattle.pascal_certificate.specs.declared.fact.Fact.TheVariants.{SourceSum, SourceBytes, ImageSum, ImageBytes, Target, StackEnough, Version, Kit, Sources, ProgramSum, ProgramBytes, Believed}
+use Rattle.pascal_certificate.specs.declared.fact.Fact.TheVariants.{SourceSum, SourceBytes, ImageSum, ImageBytes}
+use Rattle.pascal_certificate.specs.declared.fact.Fact.TheVariants.{Target, StackEnough, Version, Kit, Sources}
+use Rattle.pascal_certificate.specs.declared.fact.Fact.TheVariants.{ProgramSum, ProgramBytes, Believed}
 use Rattle.pascal_certificate.specs.declared.fact.Kind.{Kind}
 use Rattle.pascal_certificate.specs.declared.fact.Kind.TheVariants.{Sum, Count, Words}
 
@@ -14,7 +16,8 @@ Text = List ℕ
 -- the facts, in the order of their lines
 abbrev pub facts : List Fact
 facts =
-    SourceSum ∷ SourceBytes ∷ ImageSum ∷ ImageBytes ∷ Target ∷ StackEnough ∷ Version ∷ Kit ∷ Sources ∷ ProgramSum ∷ ProgramBytes ∷ Believed ∷ []
+    SourceSum ∷ SourceBytes ∷ ImageSum ∷ ImageBytes ∷ Target ∷ StackEnough ∷ Version ∷ Kit ∷ Sources ∷ ProgramSum
+    ∷ ProgramBytes ∷ Believed ∷ []
 
 -- what the line of a fact begins with
 abbrev pub label : Fact → Text
@@ -53,6 +56,13 @@ may_lack Sources = true
 may_lack ProgramSum = true
 may_lack ProgramBytes = true
 may_lack _ = false
+
+-- where it is not known on one side, it is passed over
+abbrev pub may_be_untold : Fact → Bool
+may_be_untold Sources = true
+may_be_untold ProgramSum = true
+may_be_untold ProgramBytes = true
+may_be_untold _ = false
 
 abbrev pub tells_source : Fact → Bool
 tells_source SourceSum = true

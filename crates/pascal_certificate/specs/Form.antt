@@ -54,3 +54,8 @@ values_of source image maker = sum_text source ∷ size_text source ∷ sum_text
 -- the text is a certificate of this source and this image
 abbrev pub Certifies : (source image : List ℕ) → Text → Type 0
 Certifies source image text = (maker : List Text) × (text ≡ certificate_text (values_of source image maker))
+
+-- it is one, and tells this of the stack
+abbrev pub CertifiesWith : (source image : List ℕ) → (stack : Text) → Text → Type 0
+CertifiesWith source image stack text =
+    (target : Text) × (rest : List Text) × (text ≡ certificate_text (values_of source image (target ∷ stack ∷ rest)))

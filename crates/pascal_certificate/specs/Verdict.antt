@@ -31,12 +31,14 @@ file_line name differs = name ++ either_text differs (codes " is not what it was
 -- whether the image is that of the source
 abbrev pub built_line : Names → Bool → Text
 built_line names is_built =
-    (names.image.now ++ either_text is_built (codes " is what this program builds of ") (codes " is not what this program builds of "))
+    (names.image.now ++ either_text is_built (codes " is what this program builds of ")
+    (codes " is not what this program builds of "))
     ++ (names.source.now ++ codes "\n")
 
 -- whether the certificate is of this program
 abbrev pub program_line : Names → Bool → Text
-program_line names differs = names.certificate.now ++ either_text differs (codes " names another program\n") (codes " names this program\n")
+program_line names differs = names.certificate.now ++ either_text differs (codes " names another program\n")
+    (codes " names this program\n")
 
 -- a line for each fact that differs, and then what each file is
 abbrev pub verdict_text : Names → List Difference → Bool → Text

@@ -4,7 +4,7 @@ ghost use Rattle.std.specs.Prelude.{◌≡◌, ◌++◌, ◌∷◌, [], IfOk, On
 ghost use Rattle.pascal_certificate.specs.Facts.{facts};
 ghost use Rattle.pascal_certificate.specs.Differences.{differ, difference_of, differences};
 
-use crate::fact::{FACTS, Fact, is_not_known, may_lack};
+use crate::fact::{FACTS, Fact, is_not_known, may_be_untold};
 use std::alloc::{AllocError, Global};
 
 /// A fact whose value is not what it was.
@@ -17,11 +17,11 @@ pub struct Change<'a, 'b> {
     pub new: &'b [u8],
 }
 
-// Whether two values of a fact differ: they are not the same, and both are known.
+// Whether two values of a fact differ: they are not the same, and both are known where one may be untold.
 fn differ(fact: Fact, old: &[u8], new: &[u8]) -> bool
     ensures { result ≡ differ fact old.now new.now }
 {
-    old != new && !(may_lack(fact) && (is_not_known(old) || is_not_known(new)))
+    old != new && !(may_be_untold(fact) && (is_not_known(old) || is_not_known(new)))
 }
 
 // Puts a fact, if its values differ.

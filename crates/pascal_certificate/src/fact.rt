@@ -2,7 +2,9 @@
 
 ghost use Rattle.std.specs.Prelude.{◌≡◌};
 ghost use Rattle.std.specs.List.{list_all};
-ghost use Rattle.pascal_certificate.specs.Facts.{fits, has_kind, is_count, is_line, is_not_known, is_printed, is_sum, is_sum_digit, kind_of, label, may_lack, tells_image, tells_source};
+ghost use Rattle.pascal_certificate.specs.Facts.{fits, has_kind, is_count, is_line, is_not_known, is_printed, is_sum};
+ghost use Rattle.pascal_certificate.specs.Facts.{is_sum_digit, kind_of, label, may_be_untold, may_lack};
+ghost use Rattle.pascal_certificate.specs.Facts.{tells_image, tells_source};
 
 /// A fact that a certificate tells, in a line of its own.
 #[derive(Clone, Copy)]
@@ -109,6 +111,18 @@ pub(crate) fn may_lack(fact: Fact) -> bool
 {
     match fact {
         Fact::StackEnough => true,
+        Fact::Sources => true,
+        Fact::ProgramSum => true,
+        Fact::ProgramBytes => true,
+        _ => false,
+    }
+}
+
+/// Whether a fact that is not known on one side is passed over: the program may not have been told it, or not have been able to read it.
+pub(crate) fn may_be_untold(fact: Fact) -> bool
+    ensures { result ≡ may_be_untold fact }
+{
+    match fact {
         Fact::Sources => true,
         Fact::ProgramSum => true,
         Fact::ProgramBytes => true,

@@ -47,7 +47,8 @@ pub(crate) fn values_of<'a>(
     image: &'a Seal,
     maker: &[&'a [u8]],
 ) -> Result<Vec<&'a [u8]>, AllocError>
-    ensures { IfOk result (λ values. map (λ value. value.now) values.items ≡ sealed_values source.entry.now image.entry.now (map (λ value. value.now) maker.now)) }
+    ensures { IfOk result (λ values. map (λ value. value.now) values.items
+        ≡ sealed_values source.entry.now image.entry.now (map (λ value. value.now) maker.now)) }
 {
     let mut values = Vec::new(alloc);
     values.push(source.sum.as_bytes())?;
@@ -65,7 +66,8 @@ pub fn certificate_of<'a>(
     image: &'a Seal,
     maker: &[&'a [u8]],
 ) -> Result<Vec<u8>, AllocError>
-    ensures { IfOk result (λ text. text.items ≡ certificate_text (sealed_values source.entry.now image.entry.now (map (λ value. value.now) maker.now))) }
+    ensures { IfOk result (λ text. text.items ≡ certificate_text
+        (sealed_values source.entry.now image.entry.now (map (λ value. value.now) maker.now))) }
 {
     let values = values_of(alloc, source, image, maker)?;
     render(alloc, &values)

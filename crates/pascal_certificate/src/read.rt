@@ -1,6 +1,7 @@
 //! Certificates as they are read: exactly what is of the form.
 
-ghost use Rattle.std.specs.Prelude.{◌≡◌, ◌≢◌, ◌<◌, ◌≤◌, ◌++◌, ◌∷◌, [], List, IfNone, IfOk, IfSome, codes, get_or, length, map, take, true};
+ghost use Rattle.std.specs.Prelude.{◌≡◌, ◌≢◌, ◌<◌, ◌≤◌, ◌++◌, ◌∷◌, [], List, IfNone, IfOk, IfSome, codes, get_or};
+ghost use Rattle.std.specs.Prelude.{length, map, take, true};
 ghost use Rattle.pascal_certificate.specs.Facts.{Text, fits, unbroken};
 ghost use Rattle.pascal_certificate.specs.Form.{IsCertificate, are_values, line_of, lines_of};
 
@@ -35,7 +36,8 @@ fn line_end(text: &[u8]) -> usize
 
 /// The first line of a text, and what stands behind its end.
 pub(crate) fn first_line<'a>(text: &'a [u8]) -> Option<(&'a [u8], &'a [u8])>
-    ensures some { IfSome result (λ parts. (unbroken parts.0.now ≡ true) × (text.entry.now ≡ parts.0.now ++ 10 ∷ parts.1.now)) }
+    ensures some { IfSome result (λ parts. (unbroken parts.0.now ≡ true)
+        × (text.entry.now ≡ parts.0.now ++ 10 ∷ parts.1.now)) }
     ensures none { IfNone result ((line rest : Text) → text.entry.now ≢ line ++ 10 ∷ rest) }
 {
     let (line, rest) = text.split_at(line_end(text));
@@ -47,8 +49,10 @@ pub(crate) fn first_line<'a>(text: &'a [u8]) -> Option<(&'a [u8], &'a [u8])>
 
 // The value of a fact, and what stands behind its line, if a text begins with that.
 pub(crate) fn value_line<'a>(text: &'a [u8], fact: Fact) -> Option<(&'a [u8], &'a [u8])>
-    ensures some { IfSome result (λ found. (fits fact found.0.now ≡ true) × (text.entry.now ≡ line_of fact found.0.now ++ found.1.now)) }
-    ensures none { IfNone result ((value rest : Text) → fits fact value ≡ true → text.entry.now ≢ line_of fact value ++ rest) }
+    ensures some { IfSome result (λ found. (fits fact found.0.now ≡ true)
+        × (text.entry.now ≡ line_of fact found.0.now ++ found.1.now)) }
+    ensures none { IfNone result ((value rest : Text) → fits fact value ≡ true → text.entry.now ≢ line_of fact value
+        ++ rest) }
 {
     let rest = behind(text, label(fact).as_bytes())?;
     let rest = behind(rest, b": ")?;
@@ -80,7 +84,8 @@ fn read_lines<'a>(
     ensures some { IfOk result (λ found. IfSome found (λ rest. (more : List Text)
         × (map (λ value. value.now) values.new.items ≡ map (λ value. value.now) values.old.items ++ more)
         × (are_values facts.now more ≡ true) × (text.entry.now ≡ lines_of facts.now more ++ rest.now))) }
-    ensures none { IfOk result (λ found. IfNone found ((more : List Text) (rest : Text) → are_values facts.now more ≡ true
+    ensures none { IfOk result (λ found. IfNone found
+        ((more : List Text) (rest : Text) → are_values facts.now more ≡ true
         → text.entry.now ≢ lines_of facts.now more ++ rest)) }
 {
     let Some((fact, facts_behind)) = parted(facts) else {
@@ -95,8 +100,10 @@ fn read_lines<'a>(
 
 /// The values of a certificate, one for each fact; none where the text is not of the form. What is of the form has one reading.
 pub fn parse<'a>(alloc: Global, text: &'a [u8]) -> Result<Option<Vec<&'a [u8]>>, AllocError>
-    ensures some { IfOk result (λ found. IfSome found (λ values. IsCertificate text.entry.now (map (λ value. value.now) values.items))) }
-    ensures only { IfOk result (λ found. IfSome found (λ values. (others : List Text) → IsCertificate text.entry.now others
+    ensures some { IfOk result (λ found. IfSome found
+        (λ values. IsCertificate text.entry.now (map (λ value. value.now) values.items))) }
+    ensures only { IfOk result (λ found. IfSome found
+        (λ values. (others : List Text) → IsCertificate text.entry.now others
         → map (λ value. value.now) values.items ≡ others)) }
     ensures none { IfOk result (λ found. IfNone found ((values : List Text) → IsCertificate text.entry.now values → ⊥)) }
 {

@@ -3,7 +3,8 @@
 ghost use Rattle.std.specs.Prelude.{◌≡◌, ◌++◌, IfOk, OnOk, flat_map, map};
 ghost use Rattle.std.specs.List.{list_any};
 ghost use Rattle.pascal_certificate.specs.Differences.{difference_of};
-ghost use Rattle.pascal_certificate.specs.Verdict.{built_line, difference_line, either_text, file_line, is_of_image, is_of_program, is_of_source, program_line, verdict_text};
+ghost use Rattle.pascal_certificate.specs.Verdict.{built_line, difference_line, either_text, file_line, is_of_image};
+ghost use Rattle.pascal_certificate.specs.Verdict.{is_of_program, is_of_source, program_line, verdict_text};
 
 use crate::compare::Change;
 use crate::fact::{label, tells_image, tells_source};

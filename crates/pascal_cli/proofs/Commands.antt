@@ -25,7 +25,12 @@ module _ {E : Type 0} where
       → (app below : App) → IsCommand app old → IsCommand below sub → Makes (with_subcommand app below.top) added
   subcommand_added old sub added adds app below had has =
       IfOk-weaker added (AddsSubcommand old sub) (IsCommand (with_subcommand app below.top))
-      (λ new h. (h.shape has.1 ∙ ap₂ with_subcommand had.0 (ap (λ (a : App). a.top) has.0), or_same _ _ _ h.globals has.1 ∙ had.1)) adds
+      (λ new h. (
+        h.shape has.1 ∙ ap₂ with_subcommand had.0
+            (ap (λ (a : App). a.top) has.0),
+        or_same _ _ _ h.globals has.1 ∙ had.1,
+      )) adds
 
-  pub taken : (app : App) (made : Result Command E) (command : Command) → made ≡ Ok command → Makes app made → IsCommand app command
+  pub taken : (app : App) (made : Result Command E) (command : Command) → made ≡ Ok command → Makes app made
+      → IsCommand app command
   taken app made command is was = subst (Makes app) is was

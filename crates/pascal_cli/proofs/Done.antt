@@ -1,5 +1,6 @@
 -- The statuses of jobs.
-use Rattle.std.proofs.Common.{◌≡◌, ◌⊎◌, ◌≤◌, ◌||◌, ◌∙◌, ◌+◌, ap, refl, sym, subst, ℕ, Bool, true, false, zero, suc, List, [], ◌∷◌, Some, None, inl, inr, arith, cond, map}
+use Rattle.std.proofs.Common.{◌≡◌, ◌⊎◌, ◌≤◌, ◌||◌, ◌∙◌, ◌+◌, ap, refl, sym, subst, ℕ, Bool, true, false, zero, suc}
+use Rattle.std.proofs.Common.{List, [], ◌∷◌, Some, None, inl, inr, arith, cond, map}
 use Rattle.std.specs.Prelude.{All, codes}
 use Rattle.std.specs.List.{list_any}
 use Rattle.std.specs.Str.{bytes_eq}
@@ -13,7 +14,8 @@ use Rattle.pascal_cli.specs.Session.{asks_version}
 use Rattle.pascal_cli.proofs.GivenRows.{same_text}
 
 -- a job that failed, or did its work
-pub did : (request : Request) (work : Work) (status : ℕ) → request.work ≡ work → (status ≡ 1) ⊎ IsDone work request.limits status → IsStatus request status
+pub did : (request : Request) (work : Work) (status : ℕ) → request.work ≡ work → (status ≡ 1)
+    ⊎ IsDone work request.limits status → IsStatus request status
 did request work status e done = subst (λ w. (status ≡ 1) ⊎ IsDone w request.limits status) (sym e) done
 
 pub one_of_two : (status : ℕ) (fact : Type 0) → status ≤ 1 → (status ≡ 0 → fact) → (status ≡ 1) ⊎ ((status ≡ 0) × fact)
@@ -22,7 +24,8 @@ one_of_two (suc zero) fact most known = inl refl
 one_of_two (suc (suc n)) fact most known = absurd (omega (arith, most))
 
 -- where something is shown, a page is asked for
-asked_somewhere : (topic : List ℕ) (all : List Page) → (shown (asked_pages topic all) ≡ [] → ⊥) → list_any (λ names. asks names topic) (map names_of all) ≡ true
+asked_somewhere : (topic : List ℕ) (all : List Page) → (shown (asked_pages topic all) ≡ [] → ⊥) → list_any
+    (λ names. asks names topic) (map names_of all) ≡ true
 asked_somewhere topic [] some = absurd (some refl)
 asked_somewhere topic (page ∷ rest) some = go (asks (names_of page) topic) some (asked_somewhere topic rest)
   where
@@ -32,21 +35,25 @@ asked_somewhere topic (page ∷ rest) some = go (asks (names_of page) topic) som
     go true some later = refl
     go false some later = later some
 
-pub page_is_there : (topic : List ℕ) (all : List Page) → AreThePages all → (shown (asked_pages topic all) ≡ [] → ⊥) → has_page topic ≡ true
+pub page_is_there : (topic : List ℕ) (all : List Page) → AreThePages all → (shown (asked_pages topic all) ≡ [] → ⊥)
+    → has_page topic ≡ true
 unfolding has_page
-page_is_there topic all are some = subst (λ names. list_any (λ n. asks n topic) names ≡ true) are (asked_somewhere topic all some)
+page_is_there topic all are some = subst (λ names. list_any (λ n. asks n topic) names ≡ true) are
+    (asked_somewhere topic all some)
 
 -- ---- words
 
 -- words that ask for nothing fail, or end well
-pub ended : (words : List Text) (request : Request) (status : ℕ) → status ≤ 1 → (status ≡ 0 → request_of words ≡ None) → request_of words ≡ Some request
+pub ended : (words : List Text) (request : Request) (status : ℕ) → status ≤ 1 → (status ≡ 0 → request_of words ≡ None)
+    → request_of words ≡ Some request
     → IsStatus request status
 ended words request zero most none some = absurd (let e = sym (none refl) ∙ some in cc)
 ended words request (suc zero) most none some = inl refl
 ended words request (suc (suc n)) most none some = absurd (omega (arith, most))
 
 -- a request is that of its words
-pub of_words : (words : List Text) (asked request : Request) (status : ℕ) → request_of words ≡ Some asked → request_of words ≡ Some request
+pub of_words : (words : List Text) (asked request : Request) (status : ℕ) → request_of words ≡ Some asked
+    → request_of words ≡ Some request
     → IsStatus asked status → IsStatus request status
 of_words words asked request status one other done = subst (λ r. IsStatus r status) (same (sym one ∙ other)) done
   where
@@ -59,8 +66,10 @@ version_words [] e = absurd (cc)
 version_words (word ∷ other ∷ rest) e = absurd (cc)
 version_words (word ∷ []) e = go (bytes_eq word (codes "--version")) refl (bytes_eq word (codes "-V")) refl e
   where
-    go : (a : Bool) → bytes_eq word (codes "--version") ≡ a → (b : Bool) → bytes_eq word (codes "-V") ≡ b → (a || b) ≡ true → request_of (word ∷ []) ≡ None
-    go true long b short e = subst (λ w. request_of (w ∷ []) ≡ None) (sym (same_text word (codes "--version") long)) refl
+    go : (a : Bool) → bytes_eq word (codes "--version") ≡ a → (b : Bool) → bytes_eq word (codes "-V") ≡ b → (a || b)
+        ≡ true → request_of (word ∷ []) ≡ None
+    go true long b short e = subst (λ w. request_of (w ∷ []) ≡ None)
+        (sym (same_text word (codes "--version") long)) refl
     go false long true short e = subst (λ w. request_of (w ∷ []) ≡ None) (sym (same_text word (codes "-V") short)) refl
     go false long false short e = absurd (cc)
 
@@ -75,10 +84,12 @@ plain_one word = go (bytes_eq word (codes "check"))
 pub version_alone : (words : List Text) → asks_version words ≡ true → request_of (plain_words words) ≡ None
 version_alone [] e = absurd (cc)
 version_alone (word ∷ other ∷ rest) e = absurd (cc)
-version_alone (word ∷ []) e = subst (λ words. request_of words ≡ None) (sym (plain_one word)) (version_words (word ∷ []) e)
+version_alone (word ∷ []) e = subst (λ words. request_of words ≡ None) (sym (plain_one word))
+    (version_words (word ∷ []) e)
 
 -- one text more that is accepted
-more_accepted : (text : List ℕ) (texts : List (List ℕ)) → IsAccepted text → All IsAccepted texts → All IsAccepted (text ∷ texts)
+more_accepted : (text : List ℕ) (texts : List (List ℕ)) → IsAccepted text → All IsAccepted texts → All IsAccepted
+    (text ∷ texts)
 more_accepted text texts one others zero none within = one
 more_accepted text texts one others (suc k) none within = others k none (omega (arith, within))
 

@@ -1,5 +1,6 @@
 -- What the words give, as the rows of a parse.
-use Rattle.std.proofs.Common.{◌≡◌, ◌∙◌, ap, ap₂, refl, sym, subst, ◌++◌, ◌||◌, ◌&&◌, ℕ, Bool, cond, true, false, not, List, [], ◌∷◌, map, Option, Some, None}
+use Rattle.std.proofs.Common.{◌≡◌, ◌∙◌, ap, ap₂, refl, sym, subst, ◌++◌, ◌||◌, ◌&&◌, ℕ, Bool, cond, true, false, not}
+use Rattle.std.proofs.Common.{List, [], ◌∷◌, map, Option, Some, None}
 use Rattle.std.specs.Prelude.{if◌then◌else◌, codes, find, is_some, option_map, unwrap_or}
 use Rattle.std.specs.Str.{bytes_eq}
 use Rattle.std.proofs.lemmas.Slice.Eq.{bytes_eq-Decides}
@@ -38,12 +39,14 @@ has_given name [] = refl
 has_given name (g ∷ gs) = ap (λ b. bytes_eq g.0 name || b) (has_given name gs)
 
 -- where no row has the id, the row is added at the end
-pub appended : (name : Text) (change : Row → List Row) (missing : List Row) (rows : List Row) → has_row name rows ≡ false
+pub appended : (name : Text) (change : Row → List Row) (missing : List Row) (rows : List Row) → has_row name rows
+    ≡ false
     → at_row name change missing rows ≡ rows ++ missing
 appended name change missing [] none = refl
 appended name change missing (r ∷ rs) none = go (bytes_eq r.id name) none (λ e. appended name change missing rs e)
   where
-    go : (b : Bool) → (b || has_row name rs) ≡ false → (has_row name rs ≡ false → at_row name change missing rs ≡ rs ++ missing)
+    go : (b : Bool) → (b || has_row name rs) ≡ false
+        → (has_row name rs ≡ false → at_row name change missing rs ≡ rs ++ missing)
         → (if b then change r ++ rs else r ∷ at_row name change missing rs) ≡ r ∷ (rs ++ missing)
     go true e more = cc
     go false e more = ap (λ rest. r ∷ rest) (more e)
@@ -107,17 +110,21 @@ abbrev pub AllFit : List Rule → Given → Type 0
 AllFit rules [] = Unit {0}
 AllFit rules (g ∷ gs) = (fits g.0 g.1 ≡ true) × (is_some (arg_by_id rules g.0) ≡ true) × AllFit rules gs
 
-pub one_more_fits : (rules : List Rule) (o : One) (given : Given) (text : Text) → Known rules o → AllFit rules given → fits o.name text ≡ true
+pub one_more_fits : (rules : List Rule) (o : One) (given : Given) (text : Text) → Known rules o → AllFit rules given
+    → fits o.name text ≡ true
     → AllFit rules (given ++ (o.name, text) ∷ [])
 one_more_fits rules o [] text known all fit = (fit, ap (λ found. is_some found) known.by_id, tt)
 one_more_fits rules o (g ∷ gs) text known all fit = (all.0, all.1, one_more_fits rules o gs text known all.2 fit)
 
-pub value_fits : (rules : List Rule) (name text : Text) (given : Given) → AllFit rules given → value_of name given ≡ Some text
+pub value_fits : (rules : List Rule) (name text : Text) (given : Given) → AllFit rules given → value_of name given
+    ≡ Some text
     → (fits name text ≡ true) × (is_some (arg_by_id rules name) ≡ true)
 value_fits rules name text [] all e = cc
-value_fits rules name text (g ∷ gs) all e = go (bytes_eq g.0 name) refl e (λ later. value_fits rules name text gs all.2 later)
+value_fits rules name text (g ∷ gs) all e = go (bytes_eq g.0 name) refl e
+    (λ later. value_fits rules name text gs all.2 later)
   where
-    go : (b : Bool) → bytes_eq g.0 name ≡ b → option_map (λ x. x.1) (cond b (Some g) (find (λ x. bytes_eq x.0 name) gs)) ≡ Some text
+    go : (b : Bool) → bytes_eq g.0 name ≡ b → option_map (λ x. x.1) (cond b (Some g) (find (λ x. bytes_eq x.0 name) gs))
+        ≡ Some text
         → (value_of name gs ≡ Some text → (fits name text ≡ true) × (is_some (arg_by_id rules name) ≡ true))
         → (fits name text ≡ true) × (is_some (arg_by_id rules name) ≡ true)
     go true same found later =
@@ -134,24 +141,29 @@ use_kinds parser again passes = or_else (if again && true then kind.ArgumentConf
     (or_else (if passes then [] else refused_kind parser ∷ []) [])
 
 use_is : (rules : List Rule) (o : One) (given : Given) (text : Text) → Known rules o
-    → use_fault false (rule o) (text ∷ []) (given_rows given) ≡ use_kinds o.parser (is_given o.name given) (fits o.name text)
+    → use_fault false (rule o) (text ∷ []) (given_rows given) ≡ use_kinds o.parser (is_given o.name given)
+    (fits o.name text)
 use_is rules o given text known = ap₂ (use_kinds o.parser) (has_given o.name given) (known.fitting text)
 
 abbrev pub is_refused : Text → Text → Given → Bool
 is_refused name text given = is_given name given || not (fits name text)
 
-pub use_bad : (rules : List Rule) (o : One) (given : Given) (text : Text) → Known rules o → is_refused o.name text given ≡ true
+pub use_bad : (rules : List Rule) (o : One) (given : Given) (text : Text) → Known rules o → is_refused o.name text given
+    ≡ true
     → Fails (use_fault false (rule o) (text ∷ []) (given_rows given))
-use_bad rules o given text known bad = subst Fails (sym (use_is rules o given text known)) (go (is_given o.name given) (fits o.name text) bad)
+use_bad rules o given text known bad = subst Fails (sym (use_is rules o given text known))
+    (go (is_given o.name given) (fits o.name text) bad)
   where
     go : (again passes : Bool) → (again || not passes) ≡ true → Fails (use_kinds o.parser again passes)
     go true passes e = tt
     go false false e = tt
     go false true e = cc
 
-pub use_good : (rules : List Rule) (o : One) (given : Given) (text : Text) → Known rules o → is_refused o.name text given ≡ false
+pub use_good : (rules : List Rule) (o : One) (given : Given) (text : Text) → Known rules o
+    → is_refused o.name text given ≡ false
     → use_fault false (rule o) (text ∷ []) (given_rows given) ≡ []
-use_good rules o given text known good = use_is rules o given text known ∙ go (is_given o.name given) (fits o.name text) good
+use_good rules o given text known good = use_is rules o given text known ∙ go (is_given o.name given)
+    (fits o.name text) good
   where
     go : (again passes : Bool) → (again || not passes) ≡ false → use_kinds o.parser again passes ≡ []
     go true passes e = cc
@@ -163,11 +175,13 @@ not_given true passes e = cc
 not_given false false e = cc
 not_given false true e = (refl, refl)
 
-pub used_good : (rules : List Rule) (o : One) (given : Given) (text : Text) → Known rules o → is_given o.name given ≡ false
+pub used_good : (rules : List Rule) (o : One) (given : Given) (text : Text) → Known rules o → is_given o.name given
+    ≡ false
     → used (rule o) (text ∷ []) (given_rows given) ≡ given_rows (given ++ (o.name, text) ∷ [])
 used_good rules o given text known new =
     let none = has_given o.name given ∙ new in
-    let cleared : without o.name (given_rows given) ≡ given_rows given = appended o.name (λ _. []) [] (given_rows given) none ∙ append-nil _ in
+    let cleared : without o.name (given_rows given) ≡ given_rows given = appended o.name (λ _. []) []
+    (given_rows given) none ∙ append-nil _ in
     ap (with_values o.name (reading_of o.parser) CommandLine (text ∷ [])) cleared
     ∙ (appended o.name (more_values CommandLine (text ∷ [])) _ (given_rows given) none
     ∙ (ap (λ r. given_rows given ++ record (row o.name text) { reading = r } ∷ []) known.reads

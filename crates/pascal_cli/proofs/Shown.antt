@@ -1,5 +1,6 @@
 -- Pages that are gone through one after the other.
-use Rattle.std.proofs.Common.{◌≡◌, ◌∙◌, ◌+◌, ◌<◌, ◌++◌, ap, sym, ℕ, zero, suc, List, [], ◌∷◌, Some, None, codes, flat_map, fold, length, map, take, arith}
+use Rattle.std.proofs.Common.{◌≡◌, ◌∙◌, ◌+◌, ◌<◌, ◌++◌, ap, sym, ℕ, zero, suc, List, [], ◌∷◌, Some, None, codes}
+use Rattle.std.proofs.Common.{flat_map, fold, length, map, take, arith}
 use Rattle.std.proofs.lemmas.Grind.{flat_map-append}
 use Rattle.std.proofs.lemmas.List.{append-nil, map-append}
 use Rattle.std.proofs.lemmas.List.Elements.{filter-append}
@@ -31,17 +32,21 @@ past_all (y ∷ ys) zero e within = no_some y (sym e)
 past_all (y ∷ ys) (suc k) e within = past_all ys k e (omega (arith, within))
 
 -- the names of the pages so far, and of one more
-pub named_more : (k : ℕ) (all : List Page) (page : Page) → map names_of all ≡ take k pages → Some (names_of page) ≡ slice_get pages k
+pub named_more : (k : ℕ) (all : List Page) (page : Page) → map names_of all ≡ take k pages → Some (names_of page)
+    ≡ slice_get pages k
     → map names_of (all ++ page ∷ []) ≡ take (k + 1) pages
 named_more k all page so_far here =
-    map-append names_of all (page ∷ []) ∙ (ap (λ names. names ++ names_of page ∷ []) so_far ∙ sym (take_next pages k (names_of page) here))
+    map-append names_of all (page ∷ []) ∙ (ap (λ names. names ++ names_of page ∷ []) so_far ∙ sym
+    (take_next pages k (names_of page) here))
 
 -- what is shown of the pages so far, and of one more
-pub shown_more : (topic : List ℕ) (all : List Page) (page : Page) (old new : List ℕ) → old ≡ shown (asked_pages topic all)
+pub shown_more : (topic : List ℕ) (all : List Page) (page : Page) (old new : List ℕ) → old ≡ shown
+    (asked_pages topic all)
     → new ≡ fold with_page old (asked_pages topic (page ∷ [])) → new ≡ shown (asked_pages topic (all ++ page ∷ []))
 shown_more topic all page old new so_far added =
     added ∙ (ap (λ text. fold with_page text (asked_pages topic (page ∷ []))) so_far
-    ∙ sym (ap shown (filter-append (λ p. asks (names_of p) topic) all (page ∷ [])) ∙ fold-append with_page [] (asked_pages topic all) (asked_pages topic (page ∷ []))))
+    ∙ sym (ap shown (filter-append (λ p. asks (names_of p) topic) all (page ∷ [])) ∙ fold-append with_page []
+    (asked_pages topic all) (asked_pages topic (page ∷ []))))
 
 -- each place before the last has a page
 pub is_there : (k : ℕ) → None ≡ slice_get pages k → k < 66 → ⊥
@@ -51,7 +56,8 @@ abbrev title_line : Names → List ℕ
 title_line names = names.title ++ codes "\n"
 
 -- the titles so far, and one more
-pub titles_more : (k : ℕ) (page : Page) (old new : List ℕ) → old ≡ flat_map title_line (take k pages) → Some (names_of page) ≡ slice_get pages k
+pub titles_more : (k : ℕ) (page : Page) (old new : List ℕ) → old ≡ flat_map title_line (take k pages) → Some
+    (names_of page) ≡ slice_get pages k
     → new ≡ old ++ (page.title.now ++ codes "\n") → new ≡ flat_map title_line (take (k + 1) pages)
 titles_more k page old new so_far here added =
     added ∙ (ap (λ text. text ++ title_line (names_of page)) so_far
@@ -60,5 +66,6 @@ titles_more k page old new so_far here added =
     ∙ ap (λ rest. flat_map title_line (take k pages) ++ rest) (append-nil (title_line (names_of page))))))
 
 -- all titles are there behind the last
-pub titles_whole : (k : ℕ) (text : List ℕ) → text ≡ flat_map title_line (take k pages) → k ≡ 66 → text ≡ flat_map title_line pages
+pub titles_whole : (k : ℕ) (text : List ℕ) → text ≡ flat_map title_line (take k pages) → k ≡ 66 → text
+    ≡ flat_map title_line pages
 titles_whole k text so_far e = so_far ∙ ap (λ n. flat_map title_line (take n pages)) e

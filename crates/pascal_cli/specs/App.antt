@@ -1,5 +1,6 @@
 -- The commands as `clap` has them.
-use Rattle.std.specs.Prelude.{◌≡◌, ⊤, ◌≤◌, ◌&&◌, ℕ, Bool, pos, true, false, List, [], ◌∷◌, Option, Some, None, IfSome, Result, IfOk, codes, unwrap_or, if◌then◌else◌}
+use Rattle.std.specs.Prelude.{◌≡◌, ⊤, ◌≤◌, ◌&&◌, ℕ, Bool, pos, true, false, List, [], ◌∷◌, Option, Some, None, IfSome}
+use Rattle.std.specs.Prelude.{Result, IfOk, codes, unwrap_or, if◌then◌else◌}
 use Rattle.std.specs.Option.{option_map_or}
 use Rattle.std.specs.Str.{bytes_eq}
 use Rattle.std.specs.Str.Parse.{IsNumeral, digits_value, without_leading_plus}
@@ -15,7 +16,9 @@ use Rattle.clap.specs.declared.builder.value_parser.ValueParser.TheVariants as v
 use Rattle.clap.specs.declared.error.Error.{Error}
 use Rattle.clap.specs.declared.error.kind.ErrorKind.{ErrorKind}
 use Rattle.clap.specs.declared.error.kind.ErrorKind.TheVariants as kind
-use Rattle.pascal_cli.specs.Command.{Limits, Request, Work, are_digits, check, compile, default_limits, explain, go, go_standard_input, image_name, list, run, source_name, topic_of}
+use Rattle.pascal_cli.specs.Command.{Limits, Request, Work, are_digits, certificate_name, certify, check, compile}
+use Rattle.pascal_cli.specs.Command.{default_limits, explain, go, go_standard_input, image_name, list, run}
+use Rattle.pascal_cli.specs.Command.{source_name, topic_of, verify}
 use Rattle.pascal_cli.specs.declared.job.CommandFault.{CommandFault}
 use Rattle.pascal_cli.specs.declared.job.CommandFault.TheVariants as fault
 
@@ -86,11 +89,20 @@ explain_app = with_rule (new_app (codes "explain")) words_rule
 abbrev pub check_app : App
 check_app = with_rule (new_app (codes "check")) files_rule
 
+abbrev pub certify_app : App
+certify_app = with_rule (with_rule (new_app (codes "certify")) (path_rule (codes "SRC"))) (path_rule (codes "IMG"))
+
+abbrev pub verify_app : App
+verify_app = with_rule (with_rule (with_rule (new_app (codes "verify")) (path_rule (codes "CERT")))
+    (path_rule (codes "SRC"))) (path_rule (codes "IMG"))
+
 -- the program, whose words begin after its name
 abbrev pub pascal_app : App
-pascal_app = with_subcommand (with_subcommand (with_subcommand (with_subcommand (with_subcommand (with_subcommand
+pascal_app = with_subcommand (with_subcommand
+    (with_subcommand (with_subcommand (with_subcommand (with_subcommand (with_subcommand (with_subcommand
     (on_top (λ shape. record shape { no_binary_name = true }) (new_app (codes "pascal")))
-    compile_app.top) list_app.top) run_app.top) go_app.top) explain_app.top) check_app.top
+    compile_app.top) list_app.top) run_app.top) go_app.top) explain_app.top) check_app.top) certify_app.top)
+    verify_app.top
 
 -- ---- what the rows of a parse ask for
 
@@ -113,6 +125,9 @@ row_work name rows =
     else if bytes_eq name (codes "run") then run (row_path image_name rows)
     else if bytes_eq name (codes "explain") then explain (topic_of (row_words rows))
     else if bytes_eq name (codes "check") then check (row_files rows)
+    else if bytes_eq name (codes "certify") then certify (row_path source_name rows) (row_path image_name rows)
+    else if bytes_eq name (codes "verify") then verify (row_path certificate_name rows) (row_path source_name rows)
+    (row_path image_name rows)
     else go (row_path source_name rows)
 
 abbrev pub whole : Text → ℕ
@@ -148,7 +163,8 @@ HasLimits rows = IfSome (one_of (codes "stack") rows) (IsWithin 0 16777152)
 
 -- the numbers of the rows are digits alone
 abbrev pub row_digits : List Row → Bool
-row_digits rows = are_digits (first_of (codes "stack") rows) && (are_digits (first_of (codes "heap") rows) && are_digits (first_of (codes "steps") rows))
+row_digits rows = are_digits (first_of (codes "stack") rows)
+    && (are_digits (first_of (codes "heap") rows) && are_digits (first_of (codes "steps") rows))
 
 abbrev pub found_digits : Option (Text × List Row) → Bool
 found_digits None = true

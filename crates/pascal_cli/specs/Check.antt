@@ -4,9 +4,11 @@ use Rattle.std.specs.Str.{bytes_eq}
 use Rattle.pascal_cli.specs.Command.{Text}
 
 abbrev pub is_option : Text → Bool
-is_option word = bytes_eq word (codes "--json") || (bytes_eq word (codes "--first") || bytes_eq word (codes "--no-warnings"))
+is_option word = bytes_eq word (codes "--json")
+    || (bytes_eq word (codes "--first") || bytes_eq word (codes "--no-warnings"))
 
--- The words without the options among them. Those behind `--`, and that itself, stay; `are_open` tells that it was not met before.
+-- The words without the options among them. Those behind `--`, and that itself, stay; `are_open` tells that it was not
+-- met before.
 abbrev pub without_options : Bool → List Text → List Text
 without_options are_open [] = []
 without_options are_open (word ∷ rest) =

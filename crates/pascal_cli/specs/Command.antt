@@ -1,5 +1,6 @@
 -- What the words of the command line ask for, and which words ask for nothing.
-use Rattle.std.specs.Prelude.{◌++◌, ◌&&◌, ◌||◌, ℕ, Bool, true, false, not, pos, List, [], ◌∷◌, Option, Some, None, is_some, if◌then◌else◌}
+use Rattle.std.specs.Prelude.{◌++◌, ◌&&◌, ◌||◌, ℕ, Bool, true, false, not, pos, List, [], ◌∷◌, Option, Some, None}
+use Rattle.std.specs.Prelude.{is_some, if◌then◌else◌}
 use Rattle.std.specs.Prelude.{codes, find, map, slice_get, option_map, option_and_then, string_bytes}
 use Rattle.std.specs.Option.{option_map_or}
 use Rattle.std.specs.Char.{is_ascii_digit}
@@ -17,8 +18,9 @@ use Rattle.pascal_cli.specs.declared.job.Task.TheVariants as task
 abbrev pub Text : Type 0
 Text = List ℕ
 
--- to compile a source to an image, to compile a source and list its image, to run an image, to compile a source and run it, to do so with standard input,
--- to show the pages that a text asks for, or to check sources
+-- to compile a source to an image, to compile a source and list its image, to run an image, to compile a source and run
+-- it, to do so with standard input, to show the pages that a text asks for, to check sources, to write the certificate
+-- of a source and an image, or to compare a certificate with these
 pub data Work : Type 0 where
   compile : Text → Text → Work
   list : Text → Work
@@ -27,6 +29,8 @@ pub data Work : Type 0 where
   go_standard_input : Work
   explain : Text → Work
   check : List Text → Work
+  certify : Text → Text → Work
+  verify : Text → Text → Text → Work
 
 -- the bytes of the stack and of the heap, and the steps that a run may make
 pub record Limits : Type 0 where
@@ -49,8 +53,8 @@ is_given name given = list_any (λ g. bytes_eq g.0 name) given
 abbrev pub value_of : Text → Given → Option Text
 value_of name given = option_map (λ g. g.1) (find (λ g. bytes_eq g.0 name) given)
 
--- The text may be the value of the name. A number is decimal: bytes of the stack and of the heap from 0 to 16777152, steps from 1 to
--- 1000000000000. A sign passes here; `has_digits` is asked of all that was given. A path is any text.
+-- The text may be the value of the name. A number is decimal: bytes of the stack and of the heap from 0 to 16777152,
+-- steps from 1 to 1000000000000. A sign passes here; `has_digits` is asked of all that was given. A path is any text.
 abbrev pub fits : Text → Text → Bool
 fits name text =
     if bytes_eq name (codes "stack") || bytes_eq name (codes "heap")
@@ -128,7 +132,8 @@ are_digits (Some text) = is_digits text
 -- the numbers among what was given have no sign
 abbrev pub has_digits : Given → Bool
 has_digits given =
-    are_digits (value_of (codes "stack") given) && (are_digits (value_of (codes "heap") given) && are_digits (value_of (codes "steps") given))
+    are_digits (value_of (codes "stack") given)
+    && (are_digits (value_of (codes "heap") given) && are_digits (value_of (codes "steps") given))
 
 -- the number given for the name, or its default
 abbrev pub number_or : ℕ → Text → Given → ℕ
@@ -150,6 +155,9 @@ source_name = codes "SRC"
 abbrev pub image_name : Text
 image_name = codes "IMG"
 
+abbrev pub certificate_name : Text
+certificate_name = codes "CERT"
+
 abbrev pub limit_names : List Text
 limit_names = codes "stack" ∷ codes "heap" ∷ codes "steps" ∷ []
 
@@ -164,6 +172,18 @@ list_given given = option_map (λ source. record {
   work = list source;
   limits = default_limits;
 }) (value_of source_name given)
+
+abbrev pub certify_given : Given → Option Request
+certify_given given = option_and_then (λ source. option_map (λ image. record {
+  work = certify source image;
+  limits = default_limits;
+}) (value_of image_name given)) (value_of source_name given)
+
+abbrev pub verify_given : Given → Option Request
+verify_given given = option_and_then (λ certificate. option_and_then (λ source. option_map (λ image. record {
+  work = verify certificate source image;
+  limits = default_limits;
+}) (value_of image_name given)) (value_of source_name given)) (value_of certificate_name given)
 
 abbrev pub run_given : Given → Option Request
 run_given given = if has_digits given then option_map (λ image. record {
@@ -221,6 +241,14 @@ check_given (file ∷ files) = Some (record {
 abbrev pub check_request : List Text → Option Request
 check_request words = option_and_then check_given (topic_words words)
 
+-- `certify SRC IMG` and `verify CERT SRC IMG`
+abbrev pub certify_request : List Text → Option Request
+certify_request words = option_and_then certify_given (read [] (source_name ∷ image_name ∷ []) None [] words)
+
+abbrev pub verify_request : List Text → Option Request
+verify_request words = option_and_then verify_given
+    (read [] (certificate_name ∷ source_name ∷ image_name ∷ []) None [] words)
+
 -- the run of standard input
 abbrev pub standard_request : List Text → Option Request
 standard_request [] = Some (record { work = go_standard_input; limits = default_limits })
@@ -237,6 +265,8 @@ request_of (word ∷ rest) =
     else if bytes_eq (codes "go") word then go_request rest
     else if bytes_eq (codes "explain") word then explain_request rest
     else if bytes_eq (codes "check") word then check_request rest
+    else if bytes_eq (codes "certify") word then certify_request rest
+    else if bytes_eq (codes "verify") word then verify_request rest
     else if bytes_eq word (codes "--") then standard_request rest
     else None
 
@@ -250,6 +280,8 @@ work_of (task.Go source) = go source.now
 work_of task.GoStandardInput = go_standard_input
 work_of (task.Explain topic) = explain (string_bytes topic)
 work_of (task.Check files) = check (map (λ file. file.now) files.items)
+work_of (task.Certify source image) = certify source.now image.now
+work_of (task.Verify certificate source image) = verify certificate.now source.now image.now
 
 -- the request that a job answers
 abbrev pub request_in : Job → Request

@@ -1,5 +1,5 @@
 -- What is done where an image is to be written and something is there.
-use Rattle.std.specs.Prelude.{ℕ, Bool, true, false, ◌==◌, ◌&&◌, Option, Some, None, if◌then◌else◌}
+use Rattle.std.specs.Prelude.{Bool, ◌==◌, ◌&&◌, Option, Some, None, if◌then◌else◌}
 use Rattle.pascal_cli.specs.declared.image_file.FileNumber.{FileNumber}
 use Rattle.pascal_cli.specs.declared.image_file.Way.{Way}
 use Rattle.pascal_cli.specs.declared.image_file.Way.TheVariants.{Refused, Exchanged, Written}

@@ -2,13 +2,16 @@
 use Rattle.std.specs.Prelude.{◌≡◌, ◌⊎◌, ℕ, Bool, true, List, [], Result, Ok, Err, All, length}
 use Rattle.risc_machine.specs.Console.{World, one_more}
 use Rattle.risc_load.specs.declared.budget.Budget.{Budget}
+use Rattle.ps_build.specs.Accepts.{IsRefused}
 use Rattle.ps_build.specs.Goes.{IsGoRefused}
 use Rattle.ps_build.specs.Headline.{Compiles}
 use Rattle.ps_build.specs.Listed.{IsListed}
 use Rattle.ps_build.specs.Runs.{IsRunRefused}
 use Rattle.ps_build.specs.declared.outcome.Outcome.{Outcome}
 use Rattle.ps_build.specs.declared.refusal.Refusal.{Refusal}
-use Rattle.pascal_cli.specs.Command.{Limits, Request, Work, check, compile, explain, go, go_standard_input, list, request_in, run}
+use Rattle.pascal_cli.specs.Certificates.{SomeCertificate, SomeHolding}
+use Rattle.pascal_cli.specs.Command.{Limits, Request, Work, certify, check, compile, explain, go, go_standard_input}
+use Rattle.pascal_cli.specs.Command.{list, request_in, run, verify}
 use Rattle.pascal_cli.specs.Explain.{has_page}
 use Rattle.pascal_cli.specs.Report.{status_of}
 use Rattle.pascal_cli.specs.Runs.{GoesThrough, RunsThrough}
@@ -32,14 +35,30 @@ IsAccepted text = (bytes : List ℕ) × Compiles text bytes
 abbrev pub AreAccepted : ℕ → Type 0
 AreAccepted count = (texts : List (List ℕ)) × (length texts ≡ count) × All IsAccepted texts
 
+-- the text is refused
+abbrev pub IsRefusedText : List ℕ → Type 0
+IsRefusedText text = (refusal : Refusal) × IsRefused text refusal
+
+-- a text is accepted, or refused
+abbrev pub SomeAccepted : Type 0
+SomeAccepted = (text : List ℕ) × IsAccepted text
+
+abbrev pub SomeRefused : Type 0
+SomeRefused = (text : List ℕ) × IsRefusedText text
+
 -- ---- runs within limits: the end that is told, or why there was no run
 
-abbrev pub EndsImage : (image : List ℕ) → Limits → (old new : World) → (held : List ℕ) → (has_failed : Bool) → Result Outcome Refusal → Type 0
-EndsImage image limits old new held has_failed (Ok outcome) = RunsThrough image (budget_of limits) limits.steps old new held has_failed outcome
-EndsImage image limits old new held has_failed (Err refusal) = IsRunRefused image (budget_of limits) refusal × (new ≡ old)
+abbrev pub EndsImage : (image : List ℕ) → Limits → (old new : World) → (held : List ℕ) → (has_failed : Bool)
+    → Result Outcome Refusal → Type 0
+EndsImage image limits old new held has_failed (Ok outcome) = RunsThrough image
+    (budget_of limits) limits.steps old new held has_failed outcome
+EndsImage image limits old new held has_failed (Err refusal) = IsRunRefused image (budget_of limits) refusal
+    × (new ≡ old)
 
-abbrev pub EndsText : (text : List ℕ) → Limits → (old new : World) → (held : List ℕ) → (has_failed : Bool) → Result Outcome Refusal → Type 0
-EndsText text limits old new held has_failed (Ok outcome) = GoesThrough text (budget_of limits) limits.steps old new held has_failed outcome
+abbrev pub EndsText : (text : List ℕ) → Limits → (old new : World) → (held : List ℕ) → (has_failed : Bool)
+    → Result Outcome Refusal → Type 0
+EndsText text limits old new held has_failed (Ok outcome) = GoesThrough text
+    (budget_of limits) limits.steps old new held has_failed outcome
 EndsText text limits old new held has_failed (Err refusal) = IsGoRefused text (budget_of limits) refusal × (new ≡ old)
 
 -- the status is that of the run of an image, and of that of a text
@@ -72,12 +91,15 @@ pub record RanSomeText (limits : Limits) (status : ℕ) : Type 0 where
 -- The work was done, and this is its status. What a path leads to isn't told here.
 abbrev pub IsDone : Work → Limits → ℕ → Type 0
 IsDone (compile source image) limits status = (status ≡ 0) × ((bytes : List ℕ) × IsBuilt bytes)
-IsDone (list source) limits status = (status ≡ 0) × ((bytes : List ℕ) × (text : List ℕ) × IsBuilt bytes × IsListed bytes text)
+IsDone (list source) limits status = (status ≡ 0)
+    × ((bytes : List ℕ) × (text : List ℕ) × IsBuilt bytes × IsListed bytes text)
 IsDone (run image) limits status = RanSomeImage limits status
 IsDone (go source) limits status = RanSomeText limits status
 IsDone go_standard_input limits status = RanSomeText limits status
 IsDone (explain topic) limits status = (status ≡ 0) × ((topic ≡ []) ⊎ (has_page topic ≡ true))
 IsDone (check files) limits status = (status ≡ 0) × AreAccepted (length files)
+IsDone (certify source image) limits status = (status ≡ 0) × SomeCertificate
+IsDone (verify certificate source image) limits status = (status ≡ 0) × SomeHolding
 
 -- the request was done, or it failed
 abbrev pub IsStatus : Request → ℕ → Type 0

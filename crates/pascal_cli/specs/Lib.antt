@@ -2,8 +2,10 @@ pub mod Ahead
 pub mod App
 pub mod Check
 pub mod Command
+pub mod Certificates
 pub mod Console
 pub mod Explain
+pub mod Failures
 pub mod Files
 pub mod Jobs
 pub mod Report

@@ -1,10 +1,12 @@
 -- The statuses of the program, and the lines that it writes to standard error (docs/REFUSALS.md).
-use Rattle.std.specs.Prelude.{ℕ, nat_eq, if◌then◌else◌, List, [], ◌∷◌, ◌++◌, Option, Some, None, Result, Ok, Err, codes, decimal}
+use Rattle.std.specs.Prelude.{ℕ, nat_eq, if◌then◌else◌, List, [], ◌∷◌, ◌++◌, Option, Some, None, Result, Ok, Err}
+use Rattle.std.specs.Prelude.{codes, decimal}
 use Rattle.ps_build.specs.Refusals.{number_of, name_of, line_of}
 use Rattle.ps_build.specs.declared.outcome.FaultKind.{FaultKind}
 use Rattle.ps_build.specs.declared.outcome.FaultKind.TheVariants.{BadWord, BadAddress, BadDivisor, BadJump, UnknownTrap}
 use Rattle.ps_build.specs.declared.outcome.Outcome.{Outcome}
-use Rattle.ps_build.specs.declared.outcome.Outcome.TheVariants.{Normal, Error, Stack, Heap, Steps, InputFault, OutputFault, Fault}
+use Rattle.ps_build.specs.declared.outcome.Outcome.TheVariants.{Normal, Error, Stack, Heap, Steps, InputFault}
+use Rattle.ps_build.specs.declared.outcome.Outcome.TheVariants.{OutputFault, Fault}
 use Rattle.ps_build.specs.declared.refusal.Refusal.{Refusal}
 use Rattle.pascal_cli.specs.declared.report.Lines.{Lines}
 
@@ -63,7 +65,8 @@ trail_text None = []
 trail_text (Some lines) = calls_text lines
 
 abbrev pub refusal_text : Option ℕ → ℕ → List ℕ → List ℕ
-refusal_text (Some line) number name = codes "refused at line " ++ (decimal line ++ (codes ": " ++ (decimal number ++ (codes " " ++ (name ++ codes "\n")))))
+refusal_text (Some line) number name = codes "refused at line "
+    ++ (decimal line ++ (codes ": " ++ (decimal number ++ (codes " " ++ (name ++ codes "\n")))))
 refusal_text None number name = codes "refused: " ++ (decimal number ++ (codes " " ++ (name ++ codes "\n")))
 
 -- the lines of standard error, each ended by byte 10; none after a normal end

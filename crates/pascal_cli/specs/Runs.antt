@@ -13,15 +13,19 @@ abbrev pub IsSettled : Option Outcome → Outcome → (held : List ℕ) → (has
 IsSettled end told held false = (end ≡ Some told) × (held ≡ [])
 IsSettled end told held true = told ≡ OutputFault
 
--- Without a failure all output was handed on, and the run ended as it is told. With one, the output is that of the run as far as it came,
--- and of that what is held was not handed on.
-abbrev pub GoesThrough : (text : List ℕ) → Budget → (steps : ℕ) → (old new : World) → (held : List ℕ) → (has_failed : Bool) → Outcome → Type 0
+-- Without a failure all output was handed on, and the run ended as it is told. With one, the output is that of the run
+-- as far as it came, and of that what is held was not handed on.
+abbrev pub GoesThrough : (text : List ℕ) → Budget → (steps : ℕ) → (old new : World) → (held : List ℕ)
+    → (has_failed : Bool) → Outcome → Type 0
 GoesThrough text budget steps old new held false outcome = Goes text budget steps old new outcome × (held ≡ [])
 GoesThrough text budget steps old new held true outcome =
-    (outcome ≡ OutputFault) × (IsGoLeft text budget steps old new ⊎ ((end : Outcome) × Goes text budget steps old new end))
+    (outcome ≡ OutputFault) × (IsGoLeft text budget steps old new
+    ⊎ ((end : Outcome) × Goes text budget steps old new end))
 
 -- the same of an image
-abbrev pub RunsThrough : (image : List ℕ) → Budget → (steps : ℕ) → (old new : World) → (held : List ℕ) → (has_failed : Bool) → Outcome → Type 0
+abbrev pub RunsThrough : (image : List ℕ) → Budget → (steps : ℕ) → (old new : World) → (held : List ℕ)
+    → (has_failed : Bool) → Outcome → Type 0
 RunsThrough image budget steps old new held false outcome = RunsImage image budget steps old new outcome × (held ≡ [])
 RunsThrough image budget steps old new held true outcome =
-    (outcome ≡ OutputFault) × (IsImageLeft image budget steps old new ⊎ ((end : Outcome) × RunsImage image budget steps old new end))
+    (outcome ≡ OutputFault) × (IsImageLeft image budget steps old new
+    ⊎ ((end : Outcome) × RunsImage image budget steps old new end))

@@ -5,7 +5,8 @@ use Rattle.clap.specs.Kinds.{IsAmong, Kinds}
 use Rattle.clap.specs.declared.error.kind.ErrorKind.{ErrorKind}
 use Rattle.clap.specs.declared.error.kind.ErrorKind.TheVariants as kind
 
--- the first bytes of a reader, so many, or all where there are no more; of a reader whose bytes are not known nothing is said
+-- the first bytes of a reader, so many, or all where there are no more; of a reader whose bytes are not known nothing
+-- is said
 abbrev pub IsFrontOf : ℕ → Option (List ℕ) → List ℕ → Type 0
 IsFrontOf limit None bytes = Unit {0}
 IsFrontOf limit (Some all) bytes = bytes ≡ take limit all

@@ -67,7 +67,8 @@ impl<R> Ahead<R> {
 
 // The next byte that a reader shows, with how many it shows.
 fn shown_byte<R: BufRead>(reader: &mut R) -> Result<Option<(u8, usize)>, DeviceFault>
-    ensures { MatchResult result (λ shown. Gives (option_map (λ s. s.0) shown) (R.remaining reader.old) (R.remaining reader.new)) (λ _. Keeps (R.remaining reader.old) (R.remaining reader.new)) }
+    ensures { MatchResult result (λ shown. Gives (option_map (λ s. s.0) shown) (R.remaining reader.old)
+        (R.remaining reader.new)) (λ _. Keeps (R.remaining reader.old) (R.remaining reader.new)) }
 {
     let Ok(shown) = reader.fill_buf() else {
         return Err(DeviceFault);
@@ -99,7 +100,9 @@ impl<R: BufRead> Ahead<R> {
     // The next byte, by a block of its own.
     fn next_of_block(&mut self) -> Result<Option<u8>, DeviceFault>
         requires { unread_of self.old ≡ [] }
-        ensures { MatchResult result (λ byte. Gives byte (ahead_bytes R.remaining self.old) (ahead_bytes R.remaining self.new)) (λ _. Keeps (ahead_bytes R.remaining self.old) (ahead_bytes R.remaining self.new)) }
+        ensures { MatchResult result (λ byte. Gives byte (ahead_bytes R.remaining self.old)
+            (ahead_bytes R.remaining self.new)) (λ _. Keeps (ahead_bytes R.remaining self.old)
+            (ahead_bytes R.remaining self.new)) }
     {
         self.fill()?;
         Ok(self.pop())
@@ -108,7 +111,9 @@ impl<R: BufRead> Ahead<R> {
     // The next byte that the reader shows. At the first, it is seen how bytes are to be read ahead.
     fn next_shown(&mut self) -> Result<Option<u8>, DeviceFault>
         requires { unread_of self.old ≡ [] }
-        ensures { MatchResult result (λ byte. Gives byte (ahead_bytes R.remaining self.old) (ahead_bytes R.remaining self.new)) (λ _. Keeps (ahead_bytes R.remaining self.old) (ahead_bytes R.remaining self.new)) }
+        ensures { MatchResult result (λ byte. Gives byte (ahead_bytes R.remaining self.old)
+            (ahead_bytes R.remaining self.new)) (λ _. Keeps (ahead_bytes R.remaining self.old)
+            (ahead_bytes R.remaining self.new)) }
     {
         let Some((byte, count)) = shown_byte(&mut self.reader)? else {
             return Ok(None);
@@ -121,7 +126,9 @@ impl<R: BufRead> Ahead<R> {
 
     /// The next byte, or none at the end.
     pub fn take(&mut self) -> Result<Option<u8>, DeviceFault>
-        ensures { MatchResult result (λ byte. Gives byte (ahead_bytes R.remaining self.old) (ahead_bytes R.remaining self.new)) (λ _. Keeps (ahead_bytes R.remaining self.old) (ahead_bytes R.remaining self.new)) }
+        ensures { MatchResult result (λ byte. Gives byte (ahead_bytes R.remaining self.old)
+            (ahead_bytes R.remaining self.new)) (λ _. Keeps (ahead_bytes R.remaining self.old)
+            (ahead_bytes R.remaining self.new)) }
     {
         if let Some(byte) = self.pop() {
             return Ok(Some(byte));

@@ -60,7 +60,8 @@ pub(crate) fn telling_of(words: &[&str]) -> Telling {
 
 // Puts a word, unless it is an option that is taken out.
 fn put_word<'a>(plain: &mut Vec<&'a str>, are_open: bool, word: &'a str) -> Result<(), AllocError>
-    ensures { OnOk result (map (λ word. word.now) plain.new.items ≡ map (λ word. word.now) plain.old.items ++ (if are_open && is_option word.now then [] else word.now ∷ [])) }
+    ensures { OnOk result (map (λ word. word.now) plain.new.items ≡ map (λ word. word.now) plain.old.items
+        ++ (if are_open && is_option word.now then [] else word.now ∷ [])) }
 {
     if !(are_open && is_option(word)) {
         plain.push(word)?;
@@ -70,7 +71,8 @@ fn put_word<'a>(plain: &mut Vec<&'a str>, are_open: bool, word: &'a str) -> Resu
 
 // Puts the words behind `check` without its options.
 fn put_plain<'a>(plain: &mut Vec<&'a str>, words: &[&'a str]) -> Result<(), AllocError>
-    ensures { OnOk result (map (λ word. word.now) plain.new.items ≡ map (λ word. word.now) plain.old.items ++ without_options true (map (λ word. word.now) words.now)) }
+    ensures { OnOk result (map (λ word. word.now) plain.new.items ≡ map (λ word. word.now) plain.old.items
+        ++ without_options true (map (λ word. word.now) words.now)) }
 {
     let mut rest = words;
     let mut are_open = true;

@@ -1,14 +1,15 @@
 //! Checks of texts: what is told of each, and the status.
 
-ghost use Rattle.std.specs.Prelude.{◌≡◌, ◌≤◌, ℕ, List, length, map};
+ghost use Rattle.std.specs.Prelude.{◌≡◌, ◌&&◌, length, map};
 ghost use Rattle.pascal_cli.specs.Command as work;
 ghost use Rattle.pascal_cli.specs.Command.{request_in, work_of};
-ghost use Rattle.pascal_cli.specs.Jobs.{AreAccepted, IsAccepted, IsStatus};
+ghost use Rattle.pascal_cli.specs.Failures.{Answers, Keeps, Tells, has_failed};
+ghost use Rattle.pascal_cli.specs.Jobs.{AreAccepted, IsAccepted, IsRefusedText, IsStatus, SomeAccepted, SomeRefused};
 
 use crate::check::Telling;
+use crate::failures::Failures;
 use crate::job::Job;
-use crate::jobs::print_all;
-use crate::session::{FAILED, out_of_memory, read_text};
+use crate::session::TEXT_LIMIT;
 use ps_advise::{Advice, Wants, advised};
 use ps_diagnostic::{Diagnostic, View, object_of, told};
 use ps_text::Source;
@@ -98,63 +99,67 @@ fn written(
 }
 
 // Writes what is told of a text: objects to standard output, lines to standard error.
-fn write_told<R: Print + Eprint>(rt: &R, told: &str, manner: Manner) -> u8
-    ensures { result ≤ FAILED }
+fn write_told<R: Print + Eprint>(rt: &R, failures: &mut Failures, told: &str, manner: Manner)
+    ensures { Keeps (has_failed failures.old) (has_failed failures.new) }
 {
     if manner.telling.json {
-        return print_all(rt, told.as_bytes());
+        failures.print(rt, told.as_bytes());
+    } else {
+        let _ = rt.eprint(told);
     }
-    let _ = rt.eprint(told);
-    0
 }
 
-// Tells what there is of a text, and gives the status of that.
+// Tells what there is of a text.
 fn tell_advice<R: Print + Eprint + AllocGlobal>(
     rt: &R,
+    failures: &mut Failures,
     path: &str,
     text: &[u8],
     all: &[Diagnostic],
     manner: Manner,
-) -> u8
-    ensures { result ≤ FAILED }
+)
+    ensures { Keeps (has_failed failures.old) (has_failed failures.new) }
 {
-    match written(rt.alloc(), path, text, all, manner) {
-        Ok(told) => write_told(rt, told.as_str(), manner),
-        Err(_) => out_of_memory(rt),
+    if let Some(told) = failures.made(rt, written(rt.alloc(), path, text, all, manner)) {
+        write_told(rt, failures, told.as_str(), manner);
     }
 }
 
-// A text that was checked: its status, and whether something was told of it.
+// A text that was checked: whether it is accepted, and whether something was told of it.
 #[derive(Clone, Copy)]
 struct Checked {
-    status: u8,
+    is_accepted: bool,
     has_told: bool,
 }
+
+// A text that was not checked.
+const UNCHECKED: Checked = Checked {
+    is_accepted: false,
+    has_told: false,
+};
 
 // Checks a text, and tells what there is.
 fn check_text<R: Print + Eprint + AllocGlobal>(
     rt: &R,
+    failures: &mut Failures,
     path: &str,
     text: &[u8],
     manner: Manner,
 ) -> Checked
-    ensures most { result.status ≤ FAILED }
-    ensures accepted { result.status ≡ 0 → IsAccepted text.now }
+    ensures kept { Keeps (has_failed failures.old) (has_failed failures.new) }
+    ensures told { Tells result.is_accepted (has_failed failures.new) (IsAccepted text.now) (IsRefusedText text.now) }
 {
     let wants = Wants {
         first: manner.telling.first,
         warnings: manner.telling.warnings,
     };
-    let Ok(advice) = advised(rt.alloc(), text, wants) else {
-        return Checked {
-            status: out_of_memory(rt),
-            has_told: false,
-        };
+    let Some(advice) = failures.made(rt, advised(rt.alloc(), text, wants)) else {
+        return UNCHECKED;
     };
     let Advice { is_accepted, told } = advice;
-    let status = tell_advice(rt, path, text, told.as_slice(), manner);
+    tell_advice(rt, failures, path, text, told.as_slice(), manner);
     Checked {
-        status: if is_accepted { status } else { FAILED },
+        is_accepted,
         has_told: !told.is_empty(),
     }
 }
@@ -162,60 +167,58 @@ fn check_text<R: Print + Eprint + AllocGlobal>(
 // Checks the text at a path, and tells what there is.
 fn check_file<R: Files + Print + Eprint + Input + AllocGlobal>(
     rt: &R,
+    failures: &mut Failures,
     path: &str,
     manner: Manner,
 ) -> Checked
-    ensures most { result.status ≤ FAILED }
-    ensures accepted { result.status ≡ 0 → (text : List ℕ) × IsAccepted text }
+    ensures kept { Keeps (has_failed failures.old) (has_failed failures.new) }
+    ensures told { Tells result.is_accepted (has_failed failures.new) SomeAccepted SomeRefused }
 {
-    match read_text(rt, path) {
-        Ok(text) => check_text(rt, path, &text, manner),
-        Err(status) => Checked {
-            status,
-            has_told: false,
-        },
+    match failures.read(rt, path, TEXT_LIMIT) {
+        Some(text) => check_text(rt, failures, path, &text, manner),
+        None => UNCHECKED,
     }
 }
 
-// The status of texts and of one more.
-fn status_with(status: u8, more: u8) -> u8
-    requires all { status ≤ FAILED }
-    requires one { more ≤ FAILED }
-    ensures most { result ≤ FAILED }
-    ensures zero { result ≡ 0 → (status ≡ 0) × (more ≡ 0) }
+// Whether both are so.
+fn are_both(one: bool, other: bool) -> bool
+    ensures { result ≡ (one && other) }
 {
-    if more != 0 { FAILED } else { status }
+    one && other
 }
 
-// Checks the texts at paths, one after another, and gives the status of all.
+// Checks the texts at paths, one after another, and tells whether each is accepted.
 fn check_files<R: Files + Print + Eprint + Input + AllocGlobal>(
     rt: &R,
+    failures: &mut Failures,
     files: &[&str],
     telling: Telling,
-) -> u8
-    ensures most { result ≤ FAILED }
-    ensures accepted { result ≡ 0 → AreAccepted (length files.now) }
+) -> bool
+    ensures { Tells result (has_failed failures.new) (AreAccepted (length files.now)) SomeRefused }
 {
-    let mut status = 0;
+    let mut are_accepted = true;
     let mut is_behind = false;
     for path in files.iter() {
-        let checked = check_file(rt, path, Manner { telling, is_behind });
-        status = status_with(status, checked.status);
+        let checked = check_file(rt, failures, path, Manner { telling, is_behind });
+        are_accepted = are_both(are_accepted, checked.is_accepted);
         is_behind = is_behind || checked.has_told;
     }
-    status
+    are_accepted
 }
 
 /// Checks the texts at the paths of a job.
 pub(crate) fn check<R: Files + Print + Eprint + Input + AllocGlobal>(
     rt: &R,
+    failures: &mut Failures,
     job: &Job<'_>,
     files: &[&str],
     telling: Telling,
 ) -> u8
     requires { work_of job.now.task ≡ work.check (map (λ file. file.now) files.now) }
-    ensures { IsStatus (request_in job.now) result }
+    ensures answer { Answers result (has_failed failures.new) (AreAccepted (length files.now)) SomeRefused }
+    ensures status { IsStatus (request_in job.now) result }
 {
     let _ = job;
-    check_files(rt, files, telling)
+    let are_accepted = check_files(rt, failures, files, telling);
+    failures.status(are_accepted)
 }

@@ -6,7 +6,8 @@ ghost use Rattle.risc_machine.specs.Console.{Gives, one_more};
 ghost use Rattle.risc_machine.specs.Console as devices;
 ghost use Rattle.pascal_cli.specs.Ahead as ahead;
 ghost use Rattle.pascal_cli.specs.Transfers as transfer;
-ghost use Rattle.pascal_cli.specs.Console.{input_of, writer_of, held_of, has_failed, faults_of, output_of, console_world};
+ghost use Rattle.pascal_cli.specs.Console.{input_of, writer_of, held_of, has_failed, faults_of, output_of};
+ghost use Rattle.pascal_cli.specs.Console.{console_world};
 
 use crate::ahead::Ahead;
 use crate::counted::Counted;
@@ -77,10 +78,14 @@ impl<R: BufRead, W> BlockConsole<R, W> {
     // Takes a byte of the input. Nothing is held.
     fn look(&mut self) -> Result<Option<u8>, DeviceFault>
         requires { held_of self.old ≡ [] }
-        ensures input { MatchResult result (λ byte. Gives byte (ahead.ahead_bytes R.remaining (input_of self.old)) (ahead.ahead_bytes R.remaining (input_of self.new))) (λ _. Keeps (ahead.ahead_bytes R.remaining (input_of self.old)) (ahead.ahead_bytes R.remaining (input_of self.new))) }
+        ensures input { MatchResult result (λ byte. Gives byte (ahead.ahead_bytes R.remaining (input_of self.old))
+            (ahead.ahead_bytes R.remaining (input_of self.new)))
+            (λ _. Keeps (ahead.ahead_bytes R.remaining (input_of self.old))
+            (ahead.ahead_bytes R.remaining (input_of self.new))) }
         ensures writer { writer_of self.new ≡ writer_of self.old }
         ensures held { held_of self.new ≡ [] }
-        ensures faults { MatchResult result (λ _. faults_of self.new ≡ faults_of self.old) (λ _. faults_of self.new ≡ one_more (faults_of self.old)) }
+        ensures faults { MatchResult result (λ _. faults_of self.new ≡ faults_of self.old)
+            (λ _. faults_of self.new ≡ one_more (faults_of self.old)) }
     {
         match self.input.take() {
             Ok(byte) => Ok(byte),
@@ -96,7 +101,8 @@ impl<R, W: Write> BlockConsole<R, W> {
         ensures output { Keeps (output_of W.contents self.old) (output_of W.contents self.new) }
         ensures all { OnOk result (held_of self.new ≡ []) }
         ensures failed { MatchResult result (λ _. has_failed self.new ≡ false) (λ _. has_failed self.new ≡ true) }
-        ensures once { has_failed self.old ≡ true → (writer_of self.new ≡ writer_of self.old) × (has_failed self.new ≡ true) }
+        ensures once { has_failed self.old ≡ true → (writer_of self.new ≡ writer_of self.old)
+            × (has_failed self.new ≡ true) }
         ensures faults { faults_of self.new ≡ faults_of self.old }
     {
         if self.has_failed {
@@ -119,7 +125,9 @@ impl<R, W: Write> BlockConsole<R, W> {
     fn write_through(&mut self, byte: u8) -> Result<(), DeviceFault>
         requires { held_of self.old ≡ [] }
         ensures input { input_of self.new ≡ input_of self.old }
-        ensures output { MatchResult result (λ _. Appends (output_of W.contents self.old) (output_of W.contents self.new) (byte ∷ [])) (λ _. Keeps (output_of W.contents self.old) (output_of W.contents self.new)) }
+        ensures output { MatchResult result (λ _. Appends (output_of W.contents self.old)
+            (output_of W.contents self.new) (byte ∷ []))
+            (λ _. Keeps (output_of W.contents self.old) (output_of W.contents self.new)) }
         ensures faults { faults_of self.new ≡ faults_of self.old }
     {
         match put_all(&mut self.writer, &[byte]) {
@@ -135,7 +143,9 @@ impl<R, W: Write> BlockConsole<R, W> {
     fn put_first(&mut self, byte: u8) -> Result<(), DeviceFault>
         requires { held_of self.old ≡ [] }
         ensures input { input_of self.new ≡ input_of self.old }
-        ensures output { MatchResult result (λ _. Appends (output_of W.contents self.old) (output_of W.contents self.new) (byte ∷ [])) (λ _. Keeps (output_of W.contents self.old) (output_of W.contents self.new)) }
+        ensures output { MatchResult result (λ _. Appends (output_of W.contents self.old)
+            (output_of W.contents self.new) (byte ∷ []))
+            (λ _. Keeps (output_of W.contents self.old) (output_of W.contents self.new)) }
         ensures faults { faults_of self.new ≡ faults_of self.old }
     {
         match self.held.push(byte) {
@@ -148,8 +158,11 @@ impl<R, W: Write> BlockConsole<R, W> {
     #[cold]
     fn put_behind(&mut self, byte: u8) -> Result<(), DeviceFault>
         ensures input { input_of self.new ≡ input_of self.old }
-        ensures output { MatchResult result (λ _. Appends (output_of W.contents self.old) (output_of W.contents self.new) (byte ∷ [])) (λ _. Keeps (output_of W.contents self.old) (output_of W.contents self.new)) }
-        ensures faults { MatchResult result (λ _. faults_of self.new ≡ faults_of self.old) (λ _. faults_of self.new ≡ one_more (faults_of self.old)) }
+        ensures output { MatchResult result (λ _. Appends (output_of W.contents self.old)
+            (output_of W.contents self.new) (byte ∷ []))
+            (λ _. Keeps (output_of W.contents self.old) (output_of W.contents self.new)) }
+        ensures faults { MatchResult result (λ _. faults_of self.new ≡ faults_of self.old)
+            (λ _. faults_of self.new ≡ one_more (faults_of self.old)) }
     {
         if self.write_out().is_err() {
             return Err(self.fault());

@@ -39,7 +39,8 @@ impl<R: Read> Counted<R> {
     /// One read.
     pub(crate) fn read(&mut self, buffer: &mut [u8]) -> Result<usize, DeviceFault>
         ensures bound { ReadsAtMost result buffer.new }
-        ensures bytes { ReadConsumes (R.remaining (device_of self.old)) (R.remaining (device_of self.new)) result buffer.new }
+        ensures bytes { ReadConsumes (R.remaining (device_of self.old))
+            (R.remaining (device_of self.new)) result buffer.new }
         ensures counted { Counts result (faults_of self.old) (faults_of self.new) }
     {
         match self.device.read(buffer) {
@@ -55,7 +56,8 @@ impl<W: Write> Counted<W> {
         requires { 0 < length bytes.now }
         ensures bound { WritesAtMost result bytes.now }
         ensures some { IfOk result (λ count. 0 < count) }
-        ensures bytes { WriteAppends (W.contents (device_of self.old)) (W.contents (device_of self.new)) result bytes.now }
+        ensures bytes { WriteAppends (W.contents (device_of self.old))
+            (W.contents (device_of self.new)) result bytes.now }
         ensures counted { Counts result (faults_of self.old) (faults_of self.new) }
     {
         match self.device.write(bytes) {

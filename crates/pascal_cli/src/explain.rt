@@ -29,7 +29,8 @@ fn add_page(text: &mut String, page: &Page) -> Result<(), AllocError>
 
 // Adds a page, if the topic asks for it.
 fn add_asked(text: &mut String, page: &Page, topic: &str) -> Result<(), AllocError>
-    ensures { OnOk result (string_bytes text.new ≡ fold with_page (string_bytes text.old) (asked_pages topic.now (page.now ∷ []))) }
+    ensures { OnOk result (string_bytes text.new ≡ fold with_page (string_bytes text.old)
+        (asked_pages topic.now (page.now ∷ []))) }
 {
     if asks_for(page, topic) {
         add_page(text, page)
@@ -40,7 +41,8 @@ fn add_asked(text: &mut String, page: &Page, topic: &str) -> Result<(), AllocErr
 
 /// The pages that a topic asks for, with an empty line between two; no byte where it asks for none.
 pub fn pages_on(alloc: Global, topic: &str) -> Result<String, AllocError>
-    ensures { IfOk result (λ text. (all : List Page) × AreThePages all × (string_bytes text ≡ shown (asked_pages topic.now all))) }
+    ensures { IfOk result (λ text. (all : List Page) × AreThePages all
+        × (string_bytes text ≡ shown (asked_pages topic.now all))) }
 {
     let mut text = String::new(alloc);
     for at in 0..COUNT {

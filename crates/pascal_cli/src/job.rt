@@ -1,12 +1,18 @@
 // The words of the command line.
 
-ghost use Rattle.std.specs.Prelude.{◌≡◌, ◌≤◌, IfOk, IfErr, IfSome, List, None, Some, codes, is_some, not, option_map, string_bytes, ℕ, true, false, map};
+ghost use Rattle.std.specs.Prelude.{◌≡◌, ◌≤◌, IfOk, IfErr, IfSome, List, None, Some, codes, is_some, not, option_map};
+ghost use Rattle.std.specs.Prelude.{string_bytes, ℕ, true, false, map};
 ghost use Rattle.clap.specs.Kinds.{Kinds};
 ghost use Rattle.clap.specs.Simple.{App, new_app, with_rule, with_subcommand};
 ghost use Rattle.clap.specs.Walk.{Rule, first_of};
 ghost use Rattle.clap.specs.Words.{app_of, fault_of, found_of, one_of, rows_of, rule_of, subcommand_rows_of};
-ghost use Rattle.pascal_cli.specs.App.{HasLimits, IsArgument, IsCommand, IsLineOf, IsWithin, Makes, check_app, compile_app, explain_app, fault_in, files_rule, found_digits, go_app, limit_rule, limited, list_app, pascal_app, path_rule, row_digits, row_files, row_path, row_request, row_words, row_work, budget_rule, run_app, steps_rule, whole, words_rule};
-ghost use Rattle.pascal_cli.specs.Command.{are_digits, is_digits, is_line_fault, request_in, request_of, topic_of, work_of};
+ghost use Rattle.pascal_cli.specs.App.{HasLimits, IsArgument, IsCommand, IsLineOf, IsWithin, Makes, certify_app};
+ghost use Rattle.pascal_cli.specs.App.{check_app, compile_app, explain_app, fault_in, files_rule, found_digits, go_app};
+ghost use Rattle.pascal_cli.specs.App.{limit_rule, limited, list_app, pascal_app, path_rule, row_digits, row_files};
+ghost use Rattle.pascal_cli.specs.App.{row_path, row_request, row_words, row_work, budget_rule, run_app, steps_rule};
+ghost use Rattle.pascal_cli.specs.App.{verify_app, whole, words_rule};
+ghost use Rattle.pascal_cli.specs.Command.{are_digits, is_digits, is_line_fault, request_in, request_of, topic_of};
+ghost use Rattle.pascal_cli.specs.Command.{work_of};
 ghost use Rattle.pascal_cli.specs.declared.job.CommandFault.TheVariants.{OutOfMemory};
 
 use clap::error::ErrorKind;
@@ -37,19 +43,43 @@ Example: pascal check hello.pas";
 #[derive(Drop)]
 pub enum Task<'a> {
     /// Compiles a source and writes its image.
-    Compile { source: &'a str, image: &'a str },
+    Compile {
+        source: &'a str,
+        image: &'a str,
+    },
     /// Compiles a source and lists its image.
-    List { source: &'a str },
+    List {
+        source: &'a str,
+    },
     /// Runs an image.
-    Run { image: &'a str },
+    Run {
+        image: &'a str,
+    },
     /// Compiles a source and runs it.
-    Go { source: &'a str },
+    Go {
+        source: &'a str,
+    },
     /// Without words: compiles standard input and runs it on empty input.
     GoStandardInput,
     /// Shows the pages that a text asks for, or their titles where it is empty.
-    Explain { topic: String },
+    Explain {
+        topic: String,
+    },
     /// Tells of each of some sources whether it is accepted, and why it is not.
-    Check { files: Vec<&'a str> },
+    Check {
+        files: Vec<&'a str>,
+    },
+    /// Writes the certificate of a source and its image.
+    Certify {
+        source: &'a str,
+        image: &'a str,
+    },
+    /// Compares a certificate with a source and an image.
+    Verify {
+        certificate: &'a str,
+        source: &'a str,
+        image: &'a str,
+    },
 }
 
 /// What the words of the command line ask for.
@@ -271,6 +301,29 @@ fn check_command<'a>(alloc: Global) -> Result<Command<'a>, AllocError>
     command_with(alloc, "check", about, CHECK_NOTES, files(alloc))
 }
 
+fn certify_command<'a>(alloc: Global) -> Result<Command<'a>, AllocError>
+    ensures { Makes certify_app result }
+{
+    let about = "Writes the certificate of a text and its image to standard output";
+    let example = "Example: pascal certify hello.pas hello.img > hello.cert";
+    let source = path(alloc, "SRC", "The Pascal text, or - for standard input");
+    let image = path(alloc, "IMG", "The image of it, or - for standard input");
+    let certify = command_with(alloc, "certify", about, example, source);
+    with_arg(certify, image)
+}
+
+fn verify_command<'a>(alloc: Global) -> Result<Command<'a>, AllocError>
+    ensures { Makes verify_app result }
+{
+    let about = "Builds a text again, and compares it and an image with a certificate";
+    let example = "Example: pascal verify hello.cert hello.pas hello.img";
+    let certificate = path(alloc, "CERT", "The certificate, or - for standard input");
+    let source = path(alloc, "SRC", "The Pascal text, or - for standard input");
+    let image = path(alloc, "IMG", "The image, or - for standard input");
+    let verify = command_with(alloc, "verify", about, example, certificate);
+    with_arg(with_arg(verify, source), image)
+}
+
 // Adds a subcommand, if there is one, to a command.
 fn add_subcommand<'a>(
     command: Command<'a>,
@@ -317,7 +370,9 @@ fn pascal<'a>(alloc: Global) -> Result<Command<'a>, AllocError>
     let pascal = with_subcommand(pascal, run_command(alloc));
     let pascal = with_subcommand(pascal, go_command(alloc));
     let pascal = with_subcommand(pascal, explain_command(alloc));
-    with_subcommand(pascal, check_command(alloc))
+    let pascal = with_subcommand(pascal, check_command(alloc));
+    let pascal = with_subcommand(pascal, certify_command(alloc));
+    with_subcommand(pascal, verify_command(alloc))
 }
 
 // A budget as it was given. `clap` has refused what lies outside the range.
@@ -393,6 +448,15 @@ fn task_of<'a>(alloc: Global, name: &str, matches: &ArgMatches<'a>) -> Result<Ta
         },
         "check" => Task::Check {
             files: files_of(alloc, matches)?,
+        },
+        "certify" => Task::Certify {
+            source: path_of(matches, "SRC"),
+            image: path_of(matches, "IMG"),
+        },
+        "verify" => Task::Verify {
+            certificate: path_of(matches, "CERT"),
+            source: path_of(matches, "SRC"),
+            image: path_of(matches, "IMG"),
         },
         _ => Task::Go {
             source: path_of(matches, "SRC"),
@@ -487,7 +551,8 @@ fn checked_job<'a>(alloc: Global, matches: &ArgMatches<'a>) -> Result<Job<'a>, C
     ensures request { IfOk result (λ job. IfSome (subcommand_rows_of matches.now) (λ entered. HasLimits entered.1)
         → request_in job ≡ row_request (subcommand_rows_of matches.now)) }
     ensures digits { IfOk result (λ _. found_digits (subcommand_rows_of matches.now) ≡ true) }
-    ensures odd { IfErr result (λ fault. is_line_fault fault ≡ true → found_digits (subcommand_rows_of matches.now) ≡ false) }
+    ensures odd { IfErr result (λ fault. is_line_fault fault ≡ true → found_digits (subcommand_rows_of matches.now)
+        ≡ false) }
     ensures kind { IfErr result (λ fault. (kinds : Kinds) → IsLineOf kinds fault) }
     ensures stack { IfOk result (λ job. job.stack ≤ MAX_BUDGET) }
     ensures heap { IfOk result (λ job. job.heap ≤ MAX_BUDGET) }
@@ -508,7 +573,8 @@ fn job_of<'a>(alloc: Global, matches: ArgMatches<'a>) -> Result<Job<'a>, Command
     ensures request { IfOk result (λ job. IfSome (subcommand_rows_of matches.entry) (λ entered. HasLimits entered.1)
         → request_in job ≡ row_request (subcommand_rows_of matches.entry)) }
     ensures digits { IfOk result (λ _. found_digits (subcommand_rows_of matches.entry) ≡ true) }
-    ensures odd { IfErr result (λ fault. is_line_fault fault ≡ true → found_digits (subcommand_rows_of matches.entry) ≡ false) }
+    ensures odd { IfErr result (λ fault. is_line_fault fault ≡ true → found_digits (subcommand_rows_of matches.entry)
+        ≡ false) }
     ensures kind { IfErr result (λ fault. (kinds : Kinds) → IsLineOf kinds fault) }
     ensures stack { IfOk result (λ job. job.stack ≤ MAX_BUDGET) }
     ensures heap { IfOk result (λ job. job.heap ≤ MAX_BUDGET) }

@@ -10,13 +10,16 @@ ghost use Rattle.pascal_cli.specs.Command as work;
 ghost use Rattle.pascal_cli.specs.Command.{request_in, work_of};
 ghost use Rattle.pascal_cli.specs.Console.{console_world, has_failed, held_of};
 ghost use Rattle.pascal_cli.specs.Explain.{has_page};
-ghost use Rattle.pascal_cli.specs.Jobs.{IsBuilt, IsStatus, IsWritten, RanImage, RanText, budget_of, limits_in, status_of_write};
+ghost use Rattle.pascal_cli.specs.Jobs.{IsBuilt, IsStatus, IsWritten, RanImage, RanText, budget_of, limits_in};
+ghost use Rattle.pascal_cli.specs.Jobs.{status_of_write};
 ghost use Rattle.pascal_cli.specs.Transfers.{device_of, faults_of};
 
+use crate::certificates::{certify, verify};
 use crate::check::Telling;
 use crate::checks::check;
 use crate::console::BlockConsole;
 use crate::explain::{pages_on, titles};
+use crate::failures::Failures;
 use crate::image_file::{WriteFault, write_image};
 use crate::job::{Job, Task};
 use crate::runs::{go_through, run_through};
@@ -27,7 +30,7 @@ use crate::session::{
 use crate::transfer::{Counted, put_all};
 use ps_build::{Budget, Built, build, list};
 use std::io::{self, BufRead, Write};
-use std::rt::Files;
+use std::rt::{Env, Files};
 
 // The most words that an image has, and rows that each of its tables has.
 const MOST_WORDS: usize = 1_048_576;
@@ -36,13 +39,13 @@ const MOST_WORDS: usize = 1_048_576;
 const LONGEST_IMAGE: usize = 28 + (4 + 8 + 8 + 12 + 8) * MOST_WORDS;
 
 // One byte more than the longest image.
-const IMAGE_LIMIT: usize = LONGEST_IMAGE + 1;
+pub(crate) const IMAGE_LIMIT: usize = LONGEST_IMAGE + 1;
 
 // The path at which the system shows the file that standard input is.
 const STANDARD_INPUT_FILE: &str = "/dev/stdin";
 
 /// Does a job, and gives the program's status.
-pub(crate) fn do_job<R: Files + Print + Eprint + Input + AllocGlobal>(
+pub(crate) fn do_job<R: Files + Print + Eprint + Input + Env + AllocGlobal>(
     rt: &R,
     job: &Job<'_>,
     telling: Telling,
@@ -56,7 +59,13 @@ pub(crate) fn do_job<R: Files + Print + Eprint + Input + AllocGlobal>(
         Task::Go { source } => go_file(rt, job, source),
         Task::GoStandardInput => go_standard_input(rt, job),
         Task::Explain { topic } => explain(rt, job, topic.as_str()),
-        Task::Check { files } => check(rt, job, files.as_slice(), telling),
+        Task::Check { files } => check(rt, &mut Failures::new(), job, files.as_slice(), telling),
+        Task::Certify { source, image } => certify(rt, &mut Failures::new(), job, source, image),
+        Task::Verify {
+            certificate,
+            source,
+            image,
+        } => verify(rt, &mut Failures::new(), job, certificate, source, image),
     }
 }
 
@@ -194,7 +203,8 @@ pub(crate) fn print_all<R: Print + Eprint>(rt: &R, bytes: &[u8]) -> u8
 
 // Writes to a writer that messages name so, and gives the status of that.
 fn put_told<W: Write, R: Eprint>(rt: &R, writer: &mut Counted<W>, bytes: &[u8], name: &str) -> u8
-    ensures { IsWritten result (Appends (W.contents (device_of writer.old)) (W.contents (device_of writer.new)) bytes.now) (faults_of writer.old) (faults_of writer.new) }
+    ensures { IsWritten result (Appends (W.contents (device_of writer.old))
+        (W.contents (device_of writer.new)) bytes.now) (faults_of writer.old) (faults_of writer.new) }
 {
     match put_all(writer, bytes) {
         Ok(()) => 0,
@@ -216,7 +226,8 @@ fn run_image<R: Eprint + AllocGlobal, I: BufRead, O: Write>(
     image: &[u8],
     console: &mut BlockConsole<I, O>,
 ) -> u8
-    ensures { RanImage image.now (limits_in job.now) (console_world I.remaining O.contents console.old) (console_world I.remaining O.contents console.new) (held_of console.new) (has_failed console.new) result }
+    ensures { RanImage image.now (limits_in job.now) (console_world I.remaining O.contents console.old)
+        (console_world I.remaining O.contents console.new) (held_of console.new) (has_failed console.new) result }
 {
     let end = run_through(rt.alloc(), image, budget_of(job), console, job.steps);
     tell(rt, &end)
@@ -229,7 +240,8 @@ fn go_text<R: Eprint + AllocGlobal, I: BufRead, O: Write>(
     text: &[u8],
     console: &mut BlockConsole<I, O>,
 ) -> u8
-    ensures { RanText text.now (limits_in job.now) (console_world I.remaining O.contents console.old) (console_world I.remaining O.contents console.new) (held_of console.new) (has_failed console.new) result }
+    ensures { RanText text.now (limits_in job.now) (console_world I.remaining O.contents console.old)
+        (console_world I.remaining O.contents console.new) (held_of console.new) (has_failed console.new) result }
 {
     let end = go_through(rt.alloc(), text, budget_of(job), console, job.steps);
     tell(rt, &end)

@@ -2,11 +2,14 @@
 #![tactic(auto)]
 
 mod ahead;
+mod believed;
+mod certificates;
 mod check;
 mod checks;
 mod console;
 mod counted;
 mod explain;
+mod failures;
 mod image_file;
 mod job;
 mod jobs;

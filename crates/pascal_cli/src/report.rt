@@ -3,7 +3,8 @@
 ghost use Rattle.std.specs.Prelude.{◌≡◌, ◌++◌, IfOk, Some, string_bytes};
 ghost use Rattle.std.specs.Fmt.{DisplaysOnOk};
 ghost use Rattle.ps_build.specs.Refusals.{number_of, name_of, line_of};
-ghost use Rattle.pascal_cli.specs.Report.{status_of, end_of, message_of, words_of, fault_name, error_text, calls_text, trail_text, refusal_text};
+ghost use Rattle.pascal_cli.specs.Report.{status_of, end_of, message_of, words_of, fault_name, error_text, calls_text};
+ghost use Rattle.pascal_cli.specs.Report.{trail_text, refusal_text};
 
 use ps_build::{FaultKind, Outcome, Refusal, Trail};
 use std::alloc::{AllocError, Global};
@@ -61,7 +62,8 @@ fn fault_name(kind: FaultKind) -> &'static str
 
 // Writes the line of a refusal.
 fn write_refusal<W: fmt::Write>(refusal: Refusal, f: &mut fmt::Formatter<W>) -> fmt::Result
-    ensures { DisplaysOnOk W.write_str_gives f.old result (Some (refusal_text (line_of refusal) (number_of refusal) (name_of refusal))) f.new }
+    ensures { DisplaysOnOk W.write_str_gives f.old result
+        (Some (refusal_text (line_of refusal) (number_of refusal) (name_of refusal))) f.new }
 {
     let number = refusal.number();
     let name = refusal.name();

@@ -37,9 +37,12 @@ pub fn go_through<R: BufRead, W: Write>(
     console: &mut BlockConsole<R, W>,
     steps: u64,
 ) -> Result<Outcome, Refusal>
-    ensures goes { IfOk result (λ outcome. GoesThrough text.now budget steps (console_world R.remaining W.contents console.old) (console_world R.remaining W.contents console.new) (held_of console.new) (has_failed console.new) outcome) }
+    ensures goes { IfOk result (λ outcome. GoesThrough text.now budget steps
+        (console_world R.remaining W.contents console.old) (console_world R.remaining W.contents console.new)
+        (held_of console.new) (has_failed console.new) outcome) }
     ensures refused { IfErr result (IsGoRefused text.now budget) }
-    ensures unchanged { OnErr result (console_world R.remaining W.contents console.new ≡ console_world R.remaining W.contents console.old) }
+    ensures unchanged { OnErr result (console_world R.remaining W.contents console.new
+        ≡ console_world R.remaining W.contents console.old) }
 {
     match go_in_slices(alloc, text, budget, console, steps) {
         Ok(end) => Ok(settled(console, end)),
@@ -55,9 +58,12 @@ pub fn run_through<R: BufRead, W: Write>(
     console: &mut BlockConsole<R, W>,
     steps: u64,
 ) -> Result<Outcome, Refusal>
-    ensures runs { IfOk result (λ outcome. RunsThrough image.now budget steps (console_world R.remaining W.contents console.old) (console_world R.remaining W.contents console.new) (held_of console.new) (has_failed console.new) outcome) }
+    ensures runs { IfOk result (λ outcome. RunsThrough image.now budget steps
+        (console_world R.remaining W.contents console.old) (console_world R.remaining W.contents console.new)
+        (held_of console.new) (has_failed console.new) outcome) }
     ensures refused { IfErr result (IsRunRefused image.now budget) }
-    ensures unchanged { OnErr result (console_world R.remaining W.contents console.new ≡ console_world R.remaining W.contents console.old) }
+    ensures unchanged { OnErr result (console_world R.remaining W.contents console.new
+        ≡ console_world R.remaining W.contents console.old) }
 {
     match run_image_in_slices(alloc, image, budget, console, steps) {
         Ok(end) => Ok(settled(console, end)),

@@ -3,7 +3,8 @@
 //! Contracts tell what is made of what a reader gives, and the status. What a runtime's files and streams give and take, no contract
 //! can tell, nor what reaches standard error.
 
-ghost use Rattle.std.specs.Prelude.{◌≡◌, ◌≤◌, ◌<◌, ◌^◌, IfOk, IfErr, Some, None, codes, map, string_bytes, true, vec_len};
+ghost use Rattle.std.specs.Prelude.{◌≡◌, ◌≤◌, ◌<◌, ◌^◌, IfOk, IfErr, Some, None, codes, map, string_bytes, true};
+ghost use Rattle.std.specs.Prelude.{vec_len};
 ghost use Rattle.std.specs.Str.{bytes_eq};
 ghost use Rattle.clap.specs.Faults.{fault_of};
 ghost use Rattle.clap.specs.Values.{kind_of};
@@ -32,8 +33,8 @@ pub const TEXT_LIMIT: usize = 1_048_577;
 // The program's words as messages name them.
 const COMMAND_LINE: &str = "the command line";
 
-// Standard input as messages name it.
-const STANDARD_INPUT: &str = "standard input";
+/// Standard input as messages name it.
+pub(crate) const STANDARD_INPUT: &str = "standard input";
 
 /// Standard output as messages name it.
 pub(crate) const STANDARD_OUTPUT: &str = "standard output";
@@ -78,7 +79,8 @@ fn words_of<R: Env + AllocGlobal>(rt: &R) -> io::Result<Vec<String>> {
 
 // Does what words ask for.
 fn run_words<R: Files + Print + Eprint + Input + Env + AllocGlobal>(rt: &R, words: &[String]) -> u8
-    ensures { (request : Request) → request_of (plain_words (map string_bytes words.now)) ≡ Some request → IsStatus request result }
+    ensures { (request : Request) → request_of (plain_words (map string_bytes words.now)) ≡ Some request
+        → IsStatus request result }
 {
     match texts(rt, words) {
         Ok(texts) => run_texts(rt, &texts),
@@ -105,7 +107,8 @@ fn texts_of<'a>(alloc: Global, words: &'a [String]) -> Result<Vec<&'a str>, Allo
 
 // Does what texts ask for.
 fn run_texts<R: Files + Print + Eprint + Input + Env + AllocGlobal>(rt: &R, texts: &[&str]) -> u8
-    ensures { (request : Request) → request_of (plain_words (map (λ text. text.now) texts.now)) ≡ Some request → IsStatus request result }
+    ensures { (request : Request) → request_of (plain_words (map (λ text. text.now) texts.now)) ≡ Some request
+        → IsStatus request result }
 {
     if asks_version(texts) {
         return tell_version(rt);
@@ -122,7 +125,8 @@ fn run_plain<R: Files + Print + Eprint + Input + Env + AllocGlobal>(
     texts: &[&str],
     telling: Telling,
 ) -> u8
-    ensures { (request : Request) → request_of (map (λ text. text.now) texts.now) ≡ Some request → IsStatus request result }
+    ensures { (request : Request) → request_of (map (λ text. text.now) texts.now) ≡ Some request
+        → IsStatus request result }
 {
     match asked(rt, texts) {
         Ok(job) => do_job(rt, &job, telling),
@@ -163,7 +167,8 @@ pub fn asked<'a, R: Print + Eprint + AllocGlobal>(
     ensures most { IfOk result (λ job. job.steps ≤ MAX_STEPS) }
     ensures status { IfErr result (λ status. status ≤ FAILED) }
     ensures none { IfErr result (λ status. status ≡ 0 → request_of (map (λ word. word.now) words.entry.now) ≡ None) }
-    ensures help { IfErr result (λ status. status ≡ 0 → IsHelp (fault_of pascal_app (map (λ word. word.now) words.entry.now))) }
+    ensures help { IfErr result (λ status. status ≡ 0 → IsHelp
+        (fault_of pascal_app (map (λ word. word.now) words.entry.now))) }
 {
     match command(rt.alloc(), words) {
         Ok(job) => Ok(job),
@@ -282,7 +287,24 @@ pub fn is_standard(path: &str) -> bool
     path == "-"
 }
 
-/// The bytes of the text at a path, which may stand for standard input, as `read_file` gives those of a file.
+/// The bytes at a path, which may stand for standard input, as `read_file` gives those of a file.
+pub(crate) fn read_at<R: Files + Eprint + Input + AllocGlobal>(
+    rt: &R,
+    path: &str,
+    limit: usize,
+) -> Result<Vec<u8>, u8>
+    requires { limit < 2 ^ 32 }
+    ensures bound { IfOk result (λ bytes. vec_len bytes ≤ limit) }
+    ensures err { IfErr result (λ status. status ≡ FAILED) }
+{
+    if is_standard(path) {
+        read_standard_input(rt, limit)
+    } else {
+        read_file(rt, path, limit)
+    }
+}
+
+/// The bytes of the text at a path.
 pub(crate) fn read_text<R: Files + Eprint + Input + AllocGlobal>(
     rt: &R,
     path: &str,
@@ -290,9 +312,5 @@ pub(crate) fn read_text<R: Files + Eprint + Input + AllocGlobal>(
     ensures bound { IfOk result (λ bytes. vec_len bytes ≤ TEXT_LIMIT) }
     ensures err { IfErr result (λ status. status ≡ FAILED) }
 {
-    if is_standard(path) {
-        read_standard_input(rt, TEXT_LIMIT)
-    } else {
-        read_file(rt, path, TEXT_LIMIT)
-    }
+    read_at(rt, path, TEXT_LIMIT)
 }

@@ -47,7 +47,8 @@ pub fn read_up_to<R: Read>(
     ensures taken { IfOk result (λ bytes.
         Consumes (R.remaining (device_of reader.old)) (R.remaining (device_of reader.new)) bytes.items) }
     ensures whole { IfOk result (λ bytes. vec_len bytes < limit → IsAtEnd (R.remaining (device_of reader.new))) }
-    ensures failed { IfErr result (λ fault. TakesUpTo fault limit (R.remaining (device_of reader.old)) (R.remaining (device_of reader.new))) }
+    ensures failed { IfErr result (λ fault. TakesUpTo fault limit (R.remaining (device_of reader.old))
+        (R.remaining (device_of reader.new))) }
     ensures counted { CountsRead result (faults_of reader.old) (faults_of reader.new) }
 {
     let mut bytes = Vec::new(alloc);
@@ -70,7 +71,8 @@ pub fn read_up_to<R: Read>(
 /// Each turn writes at least one byte.
 pub fn put_all<W: Write>(writer: &mut Counted<W>, bytes: &[u8]) -> Result<(), usize>
     ensures ok { OnOk result (Appends (W.contents (device_of writer.old)) (W.contents (device_of writer.new)) bytes.now) }
-    ensures err { IfErr result (λ k. Appends (W.contents (device_of writer.old)) (W.contents (device_of writer.new)) (take k bytes.now)) }
+    ensures err { IfErr result (λ k. Appends (W.contents (device_of writer.old)) (W.contents (device_of writer.new))
+        (take k bytes.now)) }
     ensures short { IfErr result (λ k. k < length bytes.now) }
     ensures counted { Counts result (faults_of writer.old) (faults_of writer.new) }
 {

@@ -4,16 +4,16 @@ use std::rt::Env;
 use std::{env, io};
 
 /// The version of the program.
-pub const VERSION: &str = "0.19.0";
+pub const VERSION: &str = "0.20.0";
 
-// The kit that it is proved and built with.
-const KIT: &str = "rattle-kit-13f";
+/// The kit that it is proved and built with.
+pub(crate) const KIT: &str = "rattle-kit-13f";
 
-// What its images run on.
-const TARGET: &str = "Project Oberon RISC, image version 2";
+/// What its images run on.
+pub(crate) const TARGET: &str = "Project Oberon RISC, image version 2";
 
-// The variable by which the launcher tells the sum of the sources: no program can hold the sum of what it is itself a part of.
-const SOURCES: &str = "FONKJULD_SOURCES";
+/// The variable by which the launcher tells the sum of the sources: no program can hold the sum of what it is itself a part of.
+pub(crate) const SOURCES: &str = "FONKJULD_SOURCES";
 
 /// Prints the version, the kit, the sum of the sources and the target, a line for each.
 pub fn print_version<R: Print + Env + AllocGlobal>(rt: &R) -> io::Result<()> {

@@ -24,4 +24,5 @@ is_spelled a b = bytes_eq (map to_ascii_lowercase a) (map to_ascii_lowercase b)
 -- words ask for a page by one of its names
 abbrev pub asks : Names → List ℕ → Bool
 asks names words =
-    is_spelled words names.title || (is_spelled words names.words || (is_spelled words names.number || is_spelled words names.named))
+    is_spelled words names.title || (is_spelled words names.words
+    || (is_spelled words names.number || is_spelled words names.named))

@@ -91,7 +91,9 @@ fn read_task<R: Files + Eprint + Input + AllocGlobal>(
         | Task::List { .. }
         | Task::Run { .. }
         | Task::Explain { .. }
-        | Task::Check { .. } => {
+        | Task::Check { .. }
+        | Task::Certify { .. }
+        | Task::Verify { .. } => {
             let _ = eprintln!(rt; "pascal_reference has no images: it runs a text by `go`");
             Err(FAILED)
         }

@@ -11,4 +11,5 @@ returns-clause-certifies c =
     let olds = map (λ (value : Bor (List ℕ)). value.now) c.args.olds.now in
     IfOk-weaker c.compared_values.result _ _ (λ comparison holds. certifies_found olds c.args.found.now comparison
     (holds ∙ ap (λ news. c.args.found.now.is_built && (length (differences facts olds news) == 0))
-    (ap (map (λ (value : Bor (List ℕ)). value.now)) c.deref.ensures.value ∙ c.in_ok-news.ensures))) c.compared_values.ensures.holds
+    (ap (map (λ (value : Bor (List ℕ)). value.now)) c.deref.ensures.value ∙ c.in_ok-news.ensures)))
+    c.compared_values.ensures.holds

@@ -11,7 +11,8 @@ loop-at-preserved c =
         so_far.0 ++ w.in-Some.page ∷ [],
         named_more c.loop-at.at so_far.0 w.in-Some.page so_far.1 w.in-Some.ensures,
         ap string_bytes w.text-is
-            ∙ shown_more c.args.topic.now so_far.0 w.in-Some.page (string_bytes c.loop-at.text) (string_bytes w.add_asked.new.text) so_far.2 w.in_ok-add_asked.ensures,
+            ∙ shown_more c.args.topic.now so_far.0 w.in-Some.page (string_bytes c.loop-at.text)
+            (string_bytes w.add_asked.new.text) so_far.2 w.in_ok-add_asked.ensures,
       )
       | in_default w ↦ absurd (is_there c.loop-at.at w.in_default.ensures c.loop-at-test.true)
     ]

@@ -5,4 +5,5 @@ use Rattle.pascal_cli.specs.Command.{are_digits}
 use Rattle.pascal_cli.proofs.job.odd_text.Goals as goal
 
 pub returns : goal.returns
-returns c = c.odd_of.ensures ∙ ap (λ o. not (are_digits o)) (c.get_str.ensures ∙ first_value-rows (found_of c.args.matches.now) c.args.name.now)
+returns c = c.odd_of.ensures ∙ ap (λ o. not (are_digits o))
+    (c.get_str.ensures ∙ first_value-rows (found_of c.args.matches.now) c.args.name.now)

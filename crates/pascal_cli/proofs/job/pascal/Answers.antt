@@ -1,7 +1,8 @@
 use Rattle.std.proofs.Common.{◌∙◌, ap, codes, true}
 use Rattle.std.proofs.lemmas.Result.{IfOk-weaker}
 use Rattle.clap.specs.Simple.{App, app_of_fields, new_app, on_top}
-use Rattle.pascal_cli.specs.App.{IsCommand, check_app, compile_app, explain_app, go_app, list_app, run_app}
+use Rattle.pascal_cli.specs.App.{IsCommand, certify_app, check_app, compile_app, explain_app, go_app, list_app}
+use Rattle.pascal_cli.specs.App.{run_app, verify_app}
 use Rattle.pascal_cli.proofs.job.pascal.Goals as goal
 
 abbrev nameless : App → App
@@ -10,12 +11,18 @@ nameless = on_top (λ shape. record shape { no_binary_name = true })
 pub returns : goal.returns
 returns c =
     let begun = IfOk-weaker c.bin_name-pascal.result _ (IsCommand (nameless (new_app (codes "pascal")))) (λ r h. (
-      ap app_of_fields h.0 ∙ (ap (λ fields. app_of_fields fields) c.no_binary_name.ensures ∙ (ap (λ fields. app_of_fields (record fields { no_binary_name = true })) c.about.ensures ∙ ap nameless c.new.ensures.app)),
-      ap (λ fields. fields.has_globals) h.0 ∙ (ap (λ fields. fields.has_globals) c.no_binary_name.ensures ∙ (ap (λ fields. fields.has_globals) c.about.ensures ∙ c.new.ensures.local)),
+      ap app_of_fields h.0 ∙ (ap (λ fields. app_of_fields fields) c.no_binary_name.ensures
+          ∙ (ap (λ fields. app_of_fields (record fields { no_binary_name = true })) c.about.ensures
+          ∙ ap nameless c.new.ensures.app)),
+      ap (λ fields. fields.has_globals) h.0 ∙ (ap (λ fields. fields.has_globals) c.no_binary_name.ensures
+          ∙ (ap (λ fields. fields.has_globals) c.about.ensures ∙ c.new.ensures.local)),
     )) c.bin_name-pascal.ensures in
     let with_compile = c.with_subcommand-pascal.ensures _ compile_app begun c.compile_command.ensures in
     let with_list = c.with_subcommand-pascal-2.ensures _ list_app with_compile c.list_command.ensures in
     let with_run = c.with_subcommand-pascal-3.ensures _ run_app with_list c.run_command.ensures in
     let with_go = c.with_subcommand-pascal-4.ensures _ go_app with_run c.go_command.ensures in
     let with_explain = c.with_subcommand-pascal-5.ensures _ explain_app with_go c.explain_command.ensures in
-    IfOk-weaker c.with_subcommand.result _ _ (λ r h. h.0) (c.with_subcommand.ensures _ check_app with_explain c.check_command.ensures)
+    let with_check = c.with_subcommand-pascal-6.ensures _ check_app with_explain c.check_command.ensures in
+    let with_certify = c.with_subcommand-pascal-7.ensures _ certify_app with_check c.certify_command.ensures in
+    IfOk-weaker c.with_subcommand.result _ _ (λ r h. h.0)
+    (c.with_subcommand.ensures _ verify_app with_certify c.verify_command.ensures)

@@ -15,6 +15,8 @@ returns-clause-none c = λ e.
 pub returns-clause-some : goal.returns-clause-some
 returns-clause-some c = λ text e within.
     let one = c.get_one.ensures.value text (one_text-rows (found_of c.args.matches.now) (codes "steps") ∙ e) in
-    let some : c.get_one.result ≡ Some (whole text) = reads_whole _ (λ bs r. ParsesUnsigned 64 10 bs r × ExplainsUnsignedError 10 bs r × HasUnsignedDigitsIfOk bs r) 64 1000000000000 text c.get_one.result one (λ u x g. g.0) (omega arith) within.0 within.2 in
+    let some : c.get_one.result ≡ Some (whole text) = reads_whole _
+    (λ bs r. ParsesUnsigned 64 10 bs r × ExplainsUnsignedError 10 bs r × HasUnsignedDigitsIfOk bs r) 64
+    1000000000000 text c.get_one.result one (λ u x g. g.0) (omega arith) within.0 within.2 in
     let kept : c.unwrap_or.result ≡ whole text = rw some at c.unwrap_or.ensures in
     grind (arith, kept)

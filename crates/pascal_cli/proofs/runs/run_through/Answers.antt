@@ -1,4 +1,4 @@
-use Rattle.std.proofs.Common.{◌≡◌, ap}
+use Rattle.std.proofs.Common.{ap}
 use Rattle.pascal_cli.specs.Ahead.{ahead_bytes}
 use Rattle.pascal_cli.specs.Console.{held_of, has_failed, console_world}
 use Rattle.ps_build.proofs.Kept.{Same}
@@ -13,4 +13,7 @@ returns-in-Ok-clause-runs g c =
       output = c.settled.ensures.output;
       faults = c.settled.ensures.faults;
     } in
-    runs_through c.args.image.now c.args.budget c.args.steps (world c.args.console.now) (world c.run_image_in_slices.new.console) (world c.settled.new.console) c.in-Ok.end c.settled.result (held_of c.settled.new.console) (has_failed c.settled.new.console) same c.in-Ok.ensures.runs c.in-Ok.ensures.left c.settled.ensures.end
+    runs_through c.args.image.now c.args.budget c.args.steps (world c.args.console.now)
+    (world c.run_image_in_slices.new.console) (world c.settled.new.console) c.in-Ok.end c.settled.result
+    (held_of c.settled.new.console) (has_failed c.settled.new.console) same c.in-Ok.ensures.runs
+    c.in-Ok.ensures.left c.settled.ensures.end

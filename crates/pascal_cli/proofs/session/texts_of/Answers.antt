@@ -6,4 +6,5 @@ use Rattle.pascal_cli.proofs.session.texts_of.Goals as goal
 pub returns : goal.returns
 returns c =
     map_from_collect _ c.collect.ensures.ran
-    (YieldsList-from_map_by _ (λ text. text.now) string_bytes (YieldsList-from_slice c.args.words.now cc) c.map.ensures.closure (λ x r q k. search (rules, tests)))
+    (YieldsList-from_map_by _ (λ text. text.now) string_bytes
+    (YieldsList-from_slice c.args.words.now cc) c.map.ensures.closure (λ x r q k. search (rules, tests)))

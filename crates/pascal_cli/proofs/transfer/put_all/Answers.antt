@@ -5,7 +5,8 @@ use Rattle.std.proofs.lemmas.List.{take_rest}
 use Rattle.pascal_cli.proofs.transfer.put_all.Goals as goal
 
 -- the front of what was asked to be written is the front of the bytes left
-front : (done count : ℕ) (bytes : List ℕ) → take (done + count) bytes ≡ take done bytes ++ take count (take (length bytes - done) (drop done bytes))
+front : (done count : ℕ) (bytes : List ℕ) → take (done + count) bytes ≡ take done bytes ++ take count
+    (take (length bytes - done) (drop done bytes))
 front done count bytes = rw (take_rest bytes done) (take-add done count bytes)
 
 pub loop-turn-preserved : goal.loop-turn-preserved

@@ -8,6 +8,7 @@ invariant-loop-turn g l =
     record {
       turns : l._turn ≤ l.done;
       bound : l.done ≤ length l.bytes;
-      written : Appends (g.W.Write.contents (device_of l.initial.writer)) (g.W.Write.contents (device_of l.writer)) (take l.done l.bytes);
+      written : Appends (g.W.Write.contents (device_of l.initial.writer)) (g.W.Write.contents (device_of l.writer))
+          (take l.done l.bytes);
       counted : faults_of l.writer ≡ faults_of l.initial.writer;
     }

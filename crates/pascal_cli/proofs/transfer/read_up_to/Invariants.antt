@@ -8,6 +8,7 @@ invariant-loop-turn g l =
     record {
       turns : l._turn ≤ vec_len l.bytes;
       bound : vec_len l.bytes ≤ l.limit;
-      taken : Consumes (g.R.Read.remaining (device_of l.initial.reader)) (g.R.Read.remaining (device_of l.reader)) l.bytes.items;
+      taken : Consumes (g.R.Read.remaining (device_of l.initial.reader))
+          (g.R.Read.remaining (device_of l.reader)) l.bytes.items;
       counted : faults_of l.reader ≡ faults_of l.initial.reader;
     }

@@ -20,6 +20,18 @@ fn put_task(line: &mut Line, task: &Task<'_>) {
             line.word("check");
             put_files(line, files.as_slice());
         }
+        Task::Certify { source, image } => {
+            line.word("certify");
+            put_files(line, &[*source, *image]);
+        }
+        Task::Verify {
+            certificate,
+            source,
+            image,
+        } => {
+            line.word("verify");
+            put_files(line, &[*certificate, *source, *image]);
+        }
     }
 }
 

@@ -1,0 +1,15 @@
+use Rattle.pascal_cli.specs.Certificates.{NoCertificate, SomeCertificate}
+use Rattle.pascal_cli.specs.Command as work
+use Rattle.pascal_cli.specs.Command.{request_in}
+use Rattle.pascal_cli.proofs.Done.{did}
+use Rattle.pascal_cli.proofs.Failed.{answered_by, done_by}
+use Rattle.pascal_cli.proofs.certificates.certify.Goals as goal
+
+pub returns-clause-answer : goal.returns-clause-answer
+returns-clause-answer g c = answered_by SomeCertificate NoCertificate _ _ _ c.status.ensures
+    c.certify_files-is_certified.ensures
+
+pub returns-clause-status : goal.returns-clause-status
+returns-clause-status g c =
+    did (request_in c.args.job.now) (work.certify c.args.source.now c.args.image.now) _ c.requires
+    (done_by SomeCertificate NoCertificate _ _ _ c.status.ensures c.certify_files-is_certified.ensures)

@@ -1,0 +1,509 @@
+//! Certificates: what is told of a text and its image, and what it is compared with.
+
+ghost use Rattle.std.specs.Prelude.{◌≡◌, ◌⊎◌, IfOk, IfSome, codes, map, true};
+ghost use Rattle.pascal_certificate.specs.Form.{Certifies};
+ghost use Rattle.ps_build.specs.Headline.{Compiles};
+ghost use Rattle.pascal_cli.specs.Command as work;
+ghost use Rattle.pascal_cli.specs.Command.{request_in, work_of};
+ghost use Rattle.pascal_cli.specs.Certificates.{AreCertified, AreOthers, CertifiesSome, HasCertificate, HoldsNot};
+ghost use Rattle.pascal_cli.specs.Certificates.{IsBeside, IsBuiltOf, IsComparison, IsFound, IsNotBuilt};
+ghost use Rattle.pascal_cli.specs.Certificates.{NoCertificate, NoneHolding, SomeCertificate, SomeCertified, SomeHolding, SomeOthers};
+ghost use Rattle.pascal_cli.specs.Certificates.{TellsOfStack, is_same};
+ghost use Rattle.pascal_cli.specs.Failures.{Answers, Keeps, Notes, Tells, has_failed};
+ghost use Rattle.pascal_cli.specs.Jobs.{IsStatus};
+
+use crate::believed::BELIEVED;
+use crate::failures::Failures;
+use crate::job::Job;
+use crate::jobs::IMAGE_LIMIT;
+use crate::session::TEXT_LIMIT;
+use crate::transfer::{Counted, read_up_to};
+use crate::version::{KIT, SOURCES, TARGET, VERSION};
+use pascal_certificate::{
+    Comparison, Damage, Fact, Found, NOT_KNOWN, Names, Seal, certificate_of, compared, damage_of,
+    fits, parse, seal_of,
+};
+use ps_build::{Built, build};
+use std::alloc::{AllocError, Global};
+use std::rt::{Env, Files};
+use std::{env, fs, str};
+
+// Where the system shows the file of the program that runs.
+const PROGRAM_FILE: &str = "/proc/self/exe";
+
+// One byte more than the longest file of a program that is summed.
+const PROGRAM_LIMIT: usize = 268_435_457;
+
+// More bytes than a certificate has.
+const CERTIFICATE_LIMIT: usize = 65_536;
+
+// ---- what the program tells of itself
+
+// What the program knows of itself.
+#[derive(Drop)]
+struct Known {
+    // The sum of its sources.
+    sources: Option<String>,
+    // The sum and the size of its file.
+    file: Option<Seal>,
+}
+
+// The sum of the program's sources, if the launcher told one.
+fn sources_sum<R: Env + AllocGlobal>(rt: &R) -> Option<String> {
+    let Ok(sum) = env::var(rt, SOURCES) else {
+        return None;
+    };
+    if fits(Fact::Sources, sum.as_bytes()) {
+        Some(sum)
+    } else {
+        None
+    }
+}
+
+// The bytes of the program's file, if it can be read whole.
+fn program_bytes<R: Files + AllocGlobal>(rt: &R) -> Option<Vec<u8>> {
+    let Ok(file) = fs::open(rt, PROGRAM_FILE) else {
+        return None;
+    };
+    let Ok(bytes) = read_up_to(rt.alloc(), &mut Counted::new(file), PROGRAM_LIMIT) else {
+        return None;
+    };
+    if bytes.len() < PROGRAM_LIMIT {
+        Some(bytes)
+    } else {
+        None
+    }
+}
+
+// The sum and the size of the program's file, if it can be read.
+fn program_seal<R: Files + AllocGlobal>(rt: &R) -> Result<Option<Seal>, AllocError> {
+    match program_bytes(rt) {
+        Some(bytes) => Ok(Some(seal_of(rt.alloc(), &bytes)?)),
+        None => Ok(None),
+    }
+}
+
+fn known_of_program<R: Files + Env + AllocGlobal>(rt: &R) -> Result<Known, AllocError> {
+    let file = program_seal(rt)?;
+    let sources = sources_sum(rt);
+    Ok(Known { sources, file })
+}
+
+// A text that is known, or what stands for one that is not.
+fn known_text<'a>(text: &'a Option<String>) -> &'a [u8] {
+    match text {
+        Some(text) => text.as_bytes(),
+        None => NOT_KNOWN,
+    }
+}
+
+// The sum of a file that is known.
+fn known_sum<'a>(seal: &'a Option<Seal>) -> &'a [u8] {
+    match seal {
+        Some(seal) => seal.sum.as_bytes(),
+        None => NOT_KNOWN,
+    }
+}
+
+// The size of a file that is known.
+fn known_size<'a>(seal: &'a Option<Seal>) -> &'a [u8] {
+    match seal {
+        Some(seal) => seal.size.as_bytes(),
+        None => NOT_KNOWN,
+    }
+}
+
+// What the program tells of itself: the values of the facts behind those of the source and the image.
+fn maker<'a>(known: &'a Known) -> [&'a [u8]; 8]
+    ensures { TellsOfStack (map (λ value. value.now) result) (codes "not known") }
+{
+    [
+        TARGET.as_bytes(),
+        // the bytes of stack that are enough
+        NOT_KNOWN,
+        VERSION.as_bytes(),
+        KIT.as_bytes(),
+        known_text(&known.sources),
+        known_sum(&known.file),
+        known_size(&known.file),
+        BELIEVED.as_bytes(),
+    ]
+}
+
+// ---- what is read and built
+
+// A source and an image as they were read.
+#[derive(Drop)]
+struct Pair {
+    source: Vec<u8>,
+    image: Vec<u8>,
+}
+
+fn read_pair<R: Files + Eprint + Input + AllocGlobal>(
+    rt: &R,
+    failures: &mut Failures,
+    source: &str,
+    image: &str,
+) -> Option<Pair>
+    ensures { Notes result (has_failed failures.old) (has_failed failures.new) }
+{
+    let source = failures.read(rt, source, TEXT_LIMIT)?;
+    let image = failures.read(rt, image, IMAGE_LIMIT)?;
+    Some(Pair { source, image })
+}
+
+// What comes of a source beside an image.
+#[derive(Clone, Copy)]
+enum Beside {
+    // It is built as this image.
+    Same,
+    // It is built as another one.
+    Other,
+    // It is refused.
+    Refused,
+}
+
+// What was built of a source, beside an image.
+fn whether_same(built: &Built, source: &[u8], image: &[u8]) -> Beside
+    requires { Compiles source.now built.now }
+    ensures { IsBeside source.now image.now result }
+{
+    let _ = source;
+    if built.bytes() == image {
+        Beside::Same
+    } else {
+        Beside::Other
+    }
+}
+
+// Builds a source, beside an image. Where the source is refused, that is told.
+fn built_beside<R: Eprint + AllocGlobal>(
+    rt: &R,
+    failures: &mut Failures,
+    source: &[u8],
+    image: &[u8],
+) -> Option<Beside>
+    ensures beside { IfSome result (IsBeside source.now image.now) }
+    ensures noted { Notes result (has_failed failures.old) (has_failed failures.new) }
+{
+    match build(rt.alloc(), source) {
+        Ok(built) => Some(whether_same(&built, source, image)),
+        Err(refusal) => {
+            if failures.is_of_text(rt, refusal) {
+                Some(Beside::Refused)
+            } else {
+                None
+            }
+        }
+    }
+}
+
+// ---- certify
+
+// The certificate of a source and an image.
+fn certificate<R: Files + Env + AllocGlobal>(
+    rt: &R,
+    source: &[u8],
+    image: &[u8],
+) -> Result<Vec<u8>, AllocError>
+    ensures { IfOk result (λ text. Certifies source.now image.now text.items) }
+{
+    let known = known_of_program(rt)?;
+    let source = seal_of(rt.alloc(), source)?;
+    let image = seal_of(rt.alloc(), image)?;
+    let told = maker(&known);
+    certificate_of(rt.alloc(), &source, &image, &told)
+}
+
+// Writes a certificate to standard output.
+fn print_certificate<R: Print + Eprint>(
+    rt: &R,
+    failures: &mut Failures,
+    source: &[u8],
+    image: &[u8],
+    text: &[u8],
+)
+    requires { Certifies source.now image.now text.now }
+    ensures { Keeps (has_failed failures.old) (has_failed failures.new) }
+{
+    let _ = source;
+    let _ = image;
+    failures.print(rt, text);
+}
+
+// Writes the certificate of a source and the image that was built of it.
+fn put_certificate<R: Files + Print + Eprint + Env + AllocGlobal>(
+    rt: &R,
+    failures: &mut Failures,
+    source: &[u8],
+    image: &[u8],
+)
+    requires { Compiles source.now image.now }
+    ensures { (has_failed failures.new ≡ true) ⊎ HasCertificate source.now image.now }
+{
+    if let Some(text) = failures.made(rt, certificate(rt, source, image)) {
+        print_certificate(rt, failures, source, image, &text);
+    }
+}
+
+// Tells that an image is not the one that is built of a source.
+fn tell_other<R: Eprint>(rt: &R, source: &str, image: &str) {
+    let _ = eprintln!(rt; "cannot certify {image}: it is not what this program builds of {source}");
+}
+
+// The paths of a source and an image.
+#[derive(Clone, Copy)]
+struct Paths<'a> {
+    source: &'a str,
+    image: &'a str,
+}
+
+// Writes the certificate of a source and an image that were read, if the one is built as the other, and tells whether
+// it is.
+fn certify_pair<R: Files + Print + Eprint + Env + AllocGlobal>(
+    rt: &R,
+    failures: &mut Failures,
+    paths: Paths<'_>,
+    pair: &Pair,
+) -> bool
+    ensures { Tells result (has_failed failures.new) (HasCertificate pair.now.source.items pair.now.image.items)
+        (IsNotBuilt pair.now.source.items pair.now.image.items) }
+{
+    match built_beside(rt, failures, &pair.source, &pair.image) {
+        Some(Beside::Same) => {
+            put_certificate(rt, failures, &pair.source, &pair.image);
+            true
+        }
+        Some(Beside::Other) => {
+            tell_other(rt, paths.source, paths.image);
+            false
+        }
+        Some(Beside::Refused) => false,
+        None => false,
+    }
+}
+
+// Reads a source and an image, writes their certificate, if there is one, and tells whether there is.
+fn certify_files<R: Files + Print + Eprint + Input + Env + AllocGlobal>(
+    rt: &R,
+    failures: &mut Failures,
+    paths: Paths<'_>,
+) -> bool
+    ensures { Tells result (has_failed failures.new) SomeCertificate NoCertificate }
+{
+    if !failures.are_apart(rt, &[paths.source, paths.image]) {
+        return false;
+    }
+    match read_pair(rt, failures, paths.source, paths.image) {
+        Some(pair) => certify_pair(rt, failures, paths, &pair),
+        None => false,
+    }
+}
+
+/// Writes the certificate of the text at a path and the image at another one.
+pub(crate) fn certify<R: Files + Print + Eprint + Input + Env + AllocGlobal>(
+    rt: &R,
+    failures: &mut Failures,
+    job: &Job<'_>,
+    source: &str,
+    image: &str,
+) -> u8
+    requires { work_of job.now.task ≡ work.certify source.now image.now }
+    ensures answer { Answers result (has_failed failures.new) SomeCertificate NoCertificate }
+    ensures status { IsStatus (request_in job.now) result }
+{
+    let _ = job;
+    let is_certified = certify_files(rt, failures, Paths { source, image });
+    failures.status(is_certified)
+}
+
+// ---- verify
+
+// Tells what is wrong with a certificate that is none.
+fn tell_damage<R: Eprint>(rt: &R, path: &str, damage: Damage) {
+    let _ = match damage {
+        Damage::NoCertificate => eprintln!(rt; "cannot verify {path}: it is no certificate"),
+        Damage::OtherForm => eprintln!(rt; "cannot verify {path}: it has another form"),
+        Damage::CarriageReturn(line) => {
+            eprintln!(rt; "cannot verify {path}: line {line} has a carriage return")
+        }
+        Damage::Line(line) => eprintln!(rt; "cannot verify {path}: line {line} is damaged"),
+        Damage::Cut(line) => eprintln!(rt; "cannot verify {path}: it is cut in line {line}"),
+        Damage::Behind => eprintln!(rt; "cannot verify {path}: it goes on behind its end"),
+    };
+}
+
+// Tells what was found: on standard output where all holds, else on standard error.
+fn tell_comparison<R: Print + Eprint>(rt: &R, failures: &mut Failures, comparison: &Comparison)
+    ensures { Keeps (has_failed failures.old) (has_failed failures.new) }
+{
+    if comparison.holds {
+        failures.print(rt, &comparison.told);
+    } else if let Ok(text) = str::from_utf8(&comparison.told) {
+        let _ = rt.eprint(text);
+    }
+}
+
+// Compares the values of a certificate with what was found of a source and an image.
+fn compared_found(
+    alloc: Global,
+    names: &Names<'_>,
+    values: &[&[u8]],
+    pair: &Pair,
+    found: &Found<'_, '_>,
+) -> Result<Comparison, AllocError>
+    requires found { IsFound pair.now.source.items pair.now.image.items found.now }
+    requires stack { TellsOfStack (map (λ value. value.now) found.now.maker.now) (codes "not known") }
+    ensures { IfOk result (IsComparison pair.now.source.items pair.now.image.items
+        (map (λ value. value.now) values.now)) }
+{
+    let _ = pair;
+    compared(alloc, names, values, found)
+}
+
+// Compares the values of a certificate with a source and an image, of which it is known whether the one is built as
+// the other.
+fn comparison<R: Files + Env + AllocGlobal>(
+    rt: &R,
+    names: &Names<'_>,
+    values: &[&[u8]],
+    pair: &Pair,
+    is_built: bool,
+) -> Result<Comparison, AllocError>
+    requires { IsBuiltOf pair.now.source.items pair.now.image.items is_built }
+    ensures { IfOk result (IsComparison pair.now.source.items pair.now.image.items
+        (map (λ value. value.now) values.now)) }
+{
+    let known = known_of_program(rt)?;
+    let source = seal_of(rt.alloc(), &pair.source)?;
+    let image = seal_of(rt.alloc(), &pair.image)?;
+    let told = maker(&known);
+    let found = Found {
+        source: &source,
+        image: &image,
+        maker: &told,
+        is_built,
+    };
+    compared_found(rt.alloc(), names, values, pair, &found)
+}
+
+// Whether a source is built as the image.
+fn is_same(beside: Beside) -> bool
+    ensures { result ≡ is_same beside }
+{
+    match beside {
+        Beside::Same => true,
+        Beside::Other => false,
+        Beside::Refused => false,
+    }
+}
+
+// Compares the values of a certificate with a source and an image that were read.
+fn compare_pair<R: Files + Eprint + Env + AllocGlobal>(
+    rt: &R,
+    failures: &mut Failures,
+    names: &Names<'_>,
+    values: &[&[u8]],
+    pair: &Pair,
+) -> Option<Comparison>
+    ensures compared { IfSome result (IsComparison pair.now.source.items pair.now.image.items
+        (map (λ value. value.now) values.now)) }
+    ensures noted { Notes result (has_failed failures.old) (has_failed failures.new) }
+{
+    let beside = built_beside(rt, failures, &pair.source, &pair.image)?;
+    failures.made(rt, comparison(rt, names, values, pair, is_same(beside)))
+}
+
+// Compares the values of a certificate with a source and an image that were read, and tells what was found.
+fn verify_pair<R: Files + Print + Eprint + Env + AllocGlobal>(
+    rt: &R,
+    failures: &mut Failures,
+    names: &Names<'_>,
+    values: &[&[u8]],
+    pair: &Pair,
+) -> bool
+    ensures { Tells result (has_failed failures.new)
+        (AreCertified pair.now.source.items pair.now.image.items (map (λ value. value.now) values.now))
+        (AreOthers pair.now.source.items pair.now.image.items (map (λ value. value.now) values.now)) }
+{
+    let Some(comparison) = compare_pair(rt, failures, names, values, pair) else {
+        return false;
+    };
+    tell_comparison(rt, failures, &comparison);
+    comparison.holds
+}
+
+// Reads a source and an image, and compares them with the values of a certificate.
+fn verify_files<R: Files + Print + Eprint + Input + Env + AllocGlobal>(
+    rt: &R,
+    failures: &mut Failures,
+    names: &Names<'_>,
+    values: &[&[u8]],
+) -> bool
+    ensures { Tells result (has_failed failures.new) (SomeCertified (map (λ value. value.now) values.now))
+        (SomeOthers (map (λ value. value.now) values.now)) }
+{
+    match read_pair(rt, failures, names.source, names.image) {
+        Some(pair) => verify_pair(rt, failures, names, values, &pair),
+        None => false,
+    }
+}
+
+// Compares a certificate with a source and an image.
+fn verify_text<R: Files + Print + Eprint + Input + Env + AllocGlobal>(
+    rt: &R,
+    failures: &mut Failures,
+    names: &Names<'_>,
+    certificate: &[u8],
+) -> bool
+    ensures { Tells result (has_failed failures.new) (CertifiesSome certificate.now) (HoldsNot certificate.now) }
+{
+    match failures.made(rt, parse(rt.alloc(), certificate)) {
+        Some(Some(values)) => verify_files(rt, failures, names, &values),
+        Some(None) => {
+            tell_damage(rt, names.certificate, damage_of(certificate));
+            false
+        }
+        None => false,
+    }
+}
+
+// Reads a certificate, and compares it with a source and an image.
+fn verify_paths<R: Files + Print + Eprint + Input + Env + AllocGlobal>(
+    rt: &R,
+    failures: &mut Failures,
+    names: &Names<'_>,
+) -> bool
+    ensures { Tells result (has_failed failures.new) SomeHolding NoneHolding }
+{
+    if !failures.are_apart(rt, &[names.certificate, names.source, names.image]) {
+        return false;
+    }
+    match failures.read(rt, names.certificate, CERTIFICATE_LIMIT) {
+        Some(text) => verify_text(rt, failures, names, &text),
+        None => false,
+    }
+}
+
+/// Compares the certificate at a path with the text and the image at two others.
+pub(crate) fn verify<R: Files + Print + Eprint + Input + Env + AllocGlobal>(
+    rt: &R,
+    failures: &mut Failures,
+    job: &Job<'_>,
+    certificate: &str,
+    source: &str,
+    image: &str,
+) -> u8
+    requires { work_of job.now.task ≡ work.verify certificate.now source.now image.now }
+    ensures answer { Answers result (has_failed failures.new) SomeHolding NoneHolding }
+    ensures status { IsStatus (request_in job.now) result }
+{
+    let _ = job;
+    let names = Names {
+        certificate,
+        source,
+        image,
+    };
+    let holds = verify_paths(rt, failures, &names);
+    failures.status(holds)
+}

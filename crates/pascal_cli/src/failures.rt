@@ -1,0 +1,131 @@
+//! What fails while a command is done. Nothing outside this file tells of a failure but by one.
+
+ghost use Rattle.std.specs.Prelude.{◌≡◌, ◌<◌, ◌^◌, false, map, not};
+ghost use Rattle.pascal_cli.specs.Failures.{Keeps, Notes, NotesFault, TellsRefusal, has_failed, is_named};
+ghost use Rattle.pascal_cli.specs.Failures.{is_named_twice, made, status_after};
+
+use crate::jobs::print_all;
+use crate::session::{FAILED, STANDARD_INPUT, is_standard, out_of_memory, read_at, tell};
+use ps_build::Refusal;
+use std::alloc::AllocError;
+use std::rt::Files;
+
+// Whether standard input is one of these paths.
+fn is_named(paths: &[&str]) -> bool
+    ensures { result ≡ is_named (map (λ path. path.now) paths.now) }
+{
+    let [path, behind @ ..] = paths else {
+        return false;
+    };
+    is_standard(path) || is_named(behind)
+}
+
+// Whether standard input is two of these paths.
+fn is_named_twice(paths: &[&str]) -> bool
+    ensures { result ≡ is_named_twice (map (λ path. path.now) paths.now) }
+{
+    let [path, behind @ ..] = paths else {
+        return false;
+    };
+    (is_standard(path) && is_named(behind)) || is_named_twice(behind)
+}
+
+/// Whether something failed until now: a read, a write, or a growth of memory.
+#[derive(Drop)]
+pub(crate) struct Failures {
+    is_any: bool,
+}
+
+impl Failures {
+    /// Nothing failed yet.
+    pub(crate) fn new() -> Failures
+        ensures { has_failed result ≡ false }
+    {
+        Failures { is_any: false }
+    }
+
+    /// The bytes of the file at a path, or of standard input, or the first of them, so many. Where they can't be read,
+    /// that is told.
+    pub(crate) fn read<R: Files + Eprint + Input + AllocGlobal>(
+        &mut self,
+        rt: &R,
+        path: &str,
+        limit: usize,
+    ) -> Option<Vec<u8>>
+        requires { limit < 2 ^ 32 }
+        ensures { Notes result (has_failed self.old) (has_failed self.new) }
+    {
+        match read_at(rt, path, limit) {
+            Ok(bytes) => Some(bytes),
+            Err(_) => {
+                self.is_any = true;
+                None
+            }
+        }
+    }
+
+    /// Whether at most one of these paths is standard input. Where two are, that is told.
+    pub(crate) fn are_apart<R: Eprint>(&mut self, rt: &R, paths: &[&str]) -> bool
+        ensures value { result ≡ not (is_named_twice (map (λ path. path.now) paths.now)) }
+        ensures noted { NotesFault result (has_failed self.old) (has_failed self.new) }
+    {
+        if !is_named_twice(paths) {
+            return true;
+        }
+        let _ = eprintln!(rt; "cannot read {STANDARD_INPUT} twice");
+        self.is_any = true;
+        false
+    }
+
+    /// What was made. Where memory was refused for it, that is told.
+    pub(crate) fn made<T, R: Eprint + AllocGlobal>(
+        &mut self,
+        rt: &R,
+        value: Result<T, AllocError>,
+    ) -> Option<T>
+        ensures value { result ≡ made value }
+        ensures noted { Notes result (has_failed self.old) (has_failed self.new) }
+    {
+        match value {
+            Ok(value) => Some(value),
+            Err(_) => {
+                let _ = out_of_memory(rt);
+                self.is_any = true;
+                None
+            }
+        }
+    }
+
+    /// Tells why a text is refused, and whether it is for what it says, and not for want of memory.
+    pub(crate) fn is_of_text<R: Eprint + AllocGlobal>(&mut self, rt: &R, refusal: Refusal) -> bool
+        ensures { TellsRefusal result refusal (has_failed self.old) (has_failed self.new) }
+    {
+        match refusal {
+            Refusal::OutOfMemory => {
+                let _ = out_of_memory(rt);
+                self.is_any = true;
+                false
+            }
+            refusal => {
+                let _ = tell(rt, &Err(refusal));
+                true
+            }
+        }
+    }
+
+    /// Writes to standard output. Where that fails, it is told.
+    pub(crate) fn print<R: Print + Eprint>(&mut self, rt: &R, bytes: &[u8])
+        ensures { Keeps (has_failed self.old) (has_failed self.new) }
+    {
+        if print_all(rt, bytes) != 0 {
+            self.is_any = true;
+        }
+    }
+
+    /// The status of what was asked: 0 where the answer is yes and nothing failed.
+    pub(crate) fn status(&self, answer: bool) -> u8
+        ensures { result ≡ status_after answer (has_failed self.now) }
+    {
+        if answer && !self.is_any { 0 } else { FAILED }
+    }
+}
