@@ -1,6 +1,6 @@
 // Signed overflow of sums and differences of words.
 
-ghost use Rattle.std.specs.Prelude.{◌≡◌, ◌≤◌, unsigned_abs, pos, ◌+ℤ◌, ◌-ℤ◌};
+ghost use Rattle.std.specs.Prelude.{◌≡◌, ◌+◌, ◌%◌, ◌^◌, ◌≤◌, unsigned_abs, pos, ◌+ℤ◌, ◌-ℤ◌};
 ghost use Rattle.std.specs.Int.{from_bool};
 ghost use Rattle.risc_machine.specs.Step.{signed, overflows};
 
@@ -35,4 +35,28 @@ pub(crate) fn difference_overflows(left: u32, right: u32, borrow: bool) -> bool
     let difference = widened(left) - widened(right);
     let borrowed = difference - borrow as i64;
     leaves_word(borrowed)
+}
+
+// A number moved by 2^31. A function, since LLVM must see the sum of two words before it sees this one.
+fn moved(number: u64) -> u64
+    ensures { result ≡ (number + 2147483648) % 2 ^ 64 }
+{
+    number.wrapping_add(2147483648)
+}
+
+// Whether the signed sum of two words leaves 32 bits. Told so, it is the host's own overflow.
+pub(crate) fn words_overflow(left: u32, right: u32) -> bool
+    ensures { result ≡ overflows (signed left +ℤ signed right +ℤ pos 0) }
+{
+    let sum = widened(left) + widened(right);
+    moved(sum.cast_unsigned()) > 4294967295
+}
+
+// Whether the signed difference of two words leaves 32 bits: whether its sign is not that of its low 32 bits.
+pub(crate) fn words_underflow(left: u32, right: u32) -> bool
+    ensures { result ≡ overflows (signed left -ℤ signed right -ℤ pos 0) }
+{
+    let is_less = left.cast_signed() < right.cast_signed();
+    let difference = left.wrapping_sub(right);
+    is_less != (difference >= 2147483648)
 }
