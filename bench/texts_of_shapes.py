@@ -1,11 +1,13 @@
 """Pascal texts of a given length, each much of one thing: what a text can be long, wide or deep in.
 
 SHAPES gives them by their names. bench/shapes measures what they cost, tests/shapes tries some of them, made small.
-Names whose hashes are alike are not among them: which those are depends on the program's table of names, and where its
-hashes begin with a number that is drawn anew in each run, nobody can tell them.
+Names whose hashes are alike are not among them: the hashes begin with a number that is made of the whole text, so that
+none can be chosen.
 """
 
 import dataclasses
+import itertools
+import re
 from collections import deque
 from collections.abc import Callable
 
@@ -488,6 +490,16 @@ def congruity_quarter(length: int) -> str:
 
 
 @shape()
+def congruity_subranges(length: int) -> str:
+    """Calls that compare lists of a quarter of the text, of parameters of two subranges of enumerated types by turns."""
+    parameters = ";".join(f"b{k}:{'tu'[k % 2]}" for k in range(MOST_PARAMETERS))
+    children = formal_list(length // 4 * 15 // (15 + MOST_PARAMETERS * 5))
+    formals = re.sub(r"procedure (b\d+)(?=[;)])", rf"procedure \1({parameters})", children)
+    head = f"program p; type e=(m,n);f=(o,r);t=m..n;u=o..r; procedure q(procedure a{formals});begin end; "
+    return filled(f"{head}procedure s{formals};begin end; begin ", "q(s);", " end.\n", length)
+
+
+@shape()
 def congruity_eighth(length: int) -> str:
     """Calls that compare lists of an eighth of the text."""
     return congruous(length, 8)
@@ -687,6 +699,63 @@ def with_list_wide(length: int) -> str:
     """Records of 100 fields of one `with` list."""
     head = f"program p; type r={wide_record(100)}; var a:r; begin with "
     return filled(head, "a,", "a do a7:=1 end.\n", length)
+
+
+def fields(count: int) -> list[str]:
+    """As many short names, none a word symbol."""
+    digits = "0123456789abcdefghijklmnopqrstuvwxyz"
+    sizes = ("".join(end) for size in range(4) for end in itertools.product(digits, repeat=size))
+    ends = [digit + end for end in sizes for digit in digits[:10]][: count // 26 + 1]
+    return [letter + end for end in ends for letter in digits[10:]][:count]
+
+
+@shape()
+def with_list_129(length: int) -> str:
+    """Records of 129 fields of one `with` list."""
+    head = f"program p; type r=record {','.join(fields(129))}:char end; var b:r; begin with "
+    return filled(head, "b,", "b do a0:='a' end.\n", length)
+
+
+@shape()
+def with_list_129_fields(length: int) -> str:
+    """Assignments in a `with` of records of 129 fields that are half of the text."""
+    head = f"program p; type r=record {','.join(fields(129))}:char end; var b:r;y:integer; begin with "
+    return filled(head + ",".join("b" * (length // 4)) + " do begin ", "y:=1;", " end end.\n", length)
+
+
+@shape()
+def with_list_long(length: int) -> str:
+    """A record that is half of the text, and opened in the other half."""
+    count = min(length // 10, MOST_CELLS)
+    head = f"program p; type r=record {','.join(fields(count))}:char end; var b:r; begin with "
+    return filled(head, "b,", "b do a0:='a' end.\n", length)
+
+
+@shape()
+def with_list_long_fields(length: int) -> str:
+    """A record that is a third of the text, opened in a third, with assignments in it."""
+    names = ",".join(fields(min(length // 15, MOST_CELLS)))
+    head = f"program p; type r=record {names}:char end; var b:r;y:integer; begin with "
+    return filled(head + ",".join("b" * (length // 6)) + " do begin ", "y:=1;", " end end.\n", length)
+
+
+@shape()
+def with_list_types(length: int) -> str:
+    """Types of 129 fields that differ in the last letter, opened in turn in half of the text."""
+    first = ",".join(fields(128))
+    count = min(length // 1100, MOST_CELLS // 130)
+    types = ";".join(f"bb{k}:record {first},zz{k}:char end" for k in range(count))
+    return filled(f"program p; var {types}; begin with ", lambda k: f"bb{k % count},", "bb0 do a0:='a' end.\n", length)
+
+
+@shape()
+def with_list_types_fields(length: int) -> str:
+    """Types of 129 fields that are half of the text, each opened, with assignments in them."""
+    first = ",".join(fields(128))
+    count = min(length // 1100, MOST_CELLS // 130)
+    types = ";".join(f"bb{k}:record {first},zz{k}:char end" for k in range(count))
+    head = f"program p; var {types};y:integer; begin with {','.join(f'bb{k}' for k in range(count))} do begin "
+    return filled(head, "y:=1;", " end end.\n", length)
 
 
 @shape()

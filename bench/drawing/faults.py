@@ -421,7 +421,7 @@ def a_later_constant_as_a_domain(d: Drawing, b: Block) -> None:
     b.types_end += "!"
 
 
-@way(32)
+@way(33)
 def its_own_heading(d: Drawing, b: Block) -> None:
     name = d.fresh()
     heading = d.choice(f"function {name}(a: @{name}): integer", f"function {name}: @{name}", f"procedure {name}(procedure q(a: @{name}))")

@@ -12,7 +12,8 @@ use Rattle.ps_tree.specs.declared.tree.Formal.{Formal}
 use Rattle.ps_tree.specs.declared.tree.Formal as RustFormal
 use Rattle.ps_tree.proofs.FormalLemmas.{formal_of_Routine}
 use Rattle.ps_tree.specs.View as tree
-use Rattle.ps_check_names.specs.declared.meaning.Section as Rust
+use Rattle.ps_check_names.specs.declared.sections.Section as Rust
+use Rattle.ps_check_names.specs.declared.sections.Section.TheVariants as kind
 use Rattle.ps_check_names.specs.declared.meaning.Meaning as RustMeaning
 use Rattle.ps_check_names.specs.declared.meaning.Meaning.TheVariants as m
 use Rattle.ps_check_names.proofs.ViewLemmas.{section_of_Routine}
@@ -23,7 +24,8 @@ use Rattle.ps_check_judgement.specs.Judged.{Judged, Yes, No, Told, some_or, ◌>
 use Rattle.ps_check_names.specs.Regions.{Section, ValueSection, VariableSection, RoutineSection, Sections, no_section}
 use Rattle.ps_check_names.specs.Regions.{section_before, formals_before, formals_of, values_before, variables_before}
 use Rattle.ps_check_names.specs.Regions.{Meaning, ParameterMeaning, RoutineParameterMeaning, one_more}
-use Rattle.ps_check_names.specs.Views.{section_of, sections_of, meaning_of}
+use Rattle.ps_check_names.specs.SectionViews.{section_of, sections_of}
+use Rattle.ps_check_names.specs.Views.{meaning_of}
 use Rattle.ps_check.specs.Formals.{section_formals, formal_list}
 use Rattle.ps_check.specs.Views.{entries_of}
 use Rattle.ps_check.specs.Entries.{Entries, add_entry, add_parameters, add_section, add_sections}
@@ -222,9 +224,9 @@ pushed_end start n count f now p e = p.rest ∙ ap (λ k. map tree.formal_of sta
 
 -- a procedural or functional parameter
 pub routine_pushed : (start new : List Formal) (formals : Vec Formal Global) (result : Option Ty)
-    (sections : Rc (Vec Rust.Section Global) Global) (type : Option Ty) (s : Rust.Section) → new ≡ start
-    ++ RustFormal.Routine formals result ∷ [] → s ≡ Rust.Routine sections type → tree.formals_of formals.items
-    ≡ formals_of (sections_of sections.value.items) → option_map tree.type_of result ≡ option_map tree.type_of type
+    (sections : Rc Sections Global) (type : Option Ty) (s : Rust.Section) → new ≡ start
+    ++ RustFormal.Routine formals result ∷ [] → s ≡ kind.Routine sections type → tree.formals_of formals.items
+    ≡ formals_of sections.value → option_map tree.type_of result ≡ option_map tree.type_of type
     → map tree.formal_of new ≡ map tree.formal_of start ++ section_formals (section_of s)
 unfolding section_formals
 routine_pushed start new formals result sections type s e is inner same =
@@ -232,7 +234,7 @@ routine_pushed start new formals result sections type s e is inner same =
     ∙ map_push tree.formal_of start (RustFormal.Routine formals result)
     ∙ ap (λ y. map tree.formal_of start ++ y ∷ [])
     (formal_of_Routine formals result ∙ ap (λ l. Tree.RoutineFormal l (option_map tree.type_of result)) inner
-    ∙ ap (λ r. Tree.RoutineFormal (formals_of (sections_of sections.value.items)) r) same)
+    ∙ ap (λ r. Tree.RoutineFormal (formals_of sections.value) r) same)
     ∙ ap (λ x. map tree.formal_of start ++ section_formals x)
     (sym (section_of_Routine sections type) ∙ ap section_of (sym is))
 
@@ -241,8 +243,8 @@ as_entries next known = record { next = next; known = known }
 
 -- the entry of a procedural or functional parameter
 pub routine_entered : (whence entry next : ℕ) (known new : List RustMeaning.Meaning)
-    (made sections : Rc (Vec Rust.Section Global) Global) (result type : Option Ty) (s : Rust.Section) → s
-    ≡ Rust.Routine sections type → some_or Limit whence (one_more entry) ≡ Yes next → new ≡ known
+    (made sections : Rc Sections Global) (result type : Option Ty) (s : Rust.Section) → s
+    ≡ kind.Routine sections type → some_or Limit whence (one_more entry) ≡ Yes next → new ≡ known
     ++ m.RoutineParameter entry made result ∷ [] → made.value ≡ sections.value → option_map tree.type_of result
     ≡ option_map tree.type_of type → add_section whence (entries_of entry known) (section_of s) ≡ Yes
     (entries_of next new)
@@ -251,12 +253,12 @@ routine_entered whence entry next known new made sections result type s is n e c
     ap (λ x. add_section whence (entries_of entry known) (section_of x)) is
     ∙ ap (add_section whence (entries_of entry known)) (section_of_Routine sections type)
     ∙ ap (λ o. o >>= (λ k. Yes (as_entries k (map meaning_of known ++ RoutineParameterMeaning entry
-    (sections_of sections.value.items) (option_map tree.type_of type) ∷ [])))) n
-    ∙ ap (λ (v : Vec Rust.Section Global). Yes
-    (as_entries next (map meaning_of known ++ RoutineParameterMeaning entry (sections_of v.items)
+    sections.value (option_map tree.type_of type) ∷ [])))) n
+    ∙ ap (λ (v : Sections). Yes
+    (as_entries next (map meaning_of known ++ RoutineParameterMeaning entry v
     (option_map tree.type_of type) ∷ []))) (sym copy)
     ∙ ap (λ r. Yes (as_entries next (map meaning_of known ++ RoutineParameterMeaning entry
-    (sections_of made.value.items) r ∷ []))) (sym same)
+    made.value r ∷ []))) (sym same)
     ∙ ap (λ l. Yes (as_entries next l)) (sym (map_push meaning_of known (m.RoutineParameter entry made result))
     ∙ ap (map meaning_of) (sym e))
 

@@ -191,16 +191,16 @@ module _ (f : Frame) (known : List Meaning) where
   names_of_sections [] = refl
   names_of_sections (x ∷ xs) = ap (λ l. (section f known x).0 ++ l) (names_of_sections xs)
 
-  sections_fit : (xs : List syntax_section.Section) (at : ℕ) (ss : List Section) → sections_of f known
-      (map (section f known) xs) at [] ≡ Yes ss → length (add_names [] (map (spelled f.text) (points_of xs))) ≡ total
-      (section_list ss)
+  sections_fit : (xs : List syntax_section.Section) (at : ℕ) (hidden : Hidden) (ss : List Section) → sections_of f known
+      (map (section f known) xs) at hidden ≡ Yes ss → length (add_names [] (map (spelled f.text) (points_of xs)))
+      ≡ total (section_list ss)
   unfolding sections_of list_names
-  sections_fit xs at ss e =
+  sections_fit xs at hidden ss e =
       let names : List (List ℕ) = list_names f known (map (section f known) xs) in
       let m : List (List ℕ) = map (spelled f.text) (points_of xs) in
       let c = then_yes (few at (length names)) _ ss e in
-      let d = then_yes (steps (add_section f known names []) ([], 0) (map (section f known) xs)) _ ss c.2 in
-      let new = list_new names [] xs ([], 0) d.0 d.1 in
+      let d = then_yes (steps (add_section f known names hidden) ([], 0) (map (section f known) xs)) _ ss c.2 in
+      let new = list_new names hidden xs ([], 0) d.0 d.1 in
       let ahead : Ahead names [] (m ++ []) = record {
         behind = [];
         are = ap (add_points f.text []) (names_of_sections xs) ∙ points_names f.text [] (points_of xs)
@@ -211,27 +211,27 @@ module _ (f : Frame) (known : List Meaning) where
       ∙ (let q : length (points_of xs) ≡ counts d.0.0 = omega (arith, new.1) in q) ∙ sym (total_list d.0.0)
       ∙ ap (λ l. total (section_list l)) (inside_yes d.0.0 ss d.2)
 
-  heading_at : (x : syntax.Heading) (layer : HeadingLayer) → out-Heading x ≡ layer → (s : Signature)
-      → (heading f known x).1 [] ≡ Yes s → length (add_names [] (map (spelled f.text) (points_of (heading_list x))))
+  heading_at : (x : syntax.Heading) (layer : HeadingLayer) → out-Heading x ≡ layer → (hidden : Hidden) (s : Signature)
+      → (heading f known x).1 hidden ≡ Yes s → length (add_names [] (map (spelled f.text) (points_of (heading_list x))))
       ≡ total (section_list s.0)
-  heading_at x (Heading-F.Procedure name xs) o s e =
+  heading_at x (Heading-F.Procedure name xs) o hidden s e =
       let is : x ≡ h.Procedure name xs = sym (roll-out-Heading x) ∙ ap roll-Heading o ∙ h.rolls-Procedure name xs in
-      let ss = then_yes (sections_of f known (map (section f known) xs) name.from []) _ s
-      (sym (heading_Procedure f known name xs []) ∙ ap (λ y. (heading f known y).1 []) (sym is) ∙ e) in
+      let ss = then_yes (sections_of f known (map (section f known) xs) name.from hidden) _ s
+      (sym (heading_Procedure f known name xs hidden) ∙ ap (λ y. (heading f known y).1 hidden) (sym is) ∙ e) in
       ap (λ l. length (add_names [] (map (spelled f.text) (points_of l)))) (ap heading_list is ∙ list_Procedure name xs)
-      ∙ sections_fit xs name.from ss.0 ss.1 ∙ ap (λ (z : Signature). total (section_list z.0))
+      ∙ sections_fit xs name.from hidden ss.0 ss.1 ∙ ap (λ (z : Signature). total (section_list z.0))
       (inside_yes (ss.0, None) s ss.2)
-  heading_at x (Heading-F.Function name xs type) o s e =
+  heading_at x (Heading-F.Function name xs type) o hidden s e =
       let is : x ≡ h.Function name xs type = sym (roll-out-Heading x) ∙ ap roll-Heading o
       ∙ h.rolls-Function name xs type in
-      let ss = then_yes (sections_of f known (map (section f known) xs) name.from []) _ s
-      (sym (heading_Function f known name xs type []) ∙ ap (λ y. (heading f known y).1 []) (sym is) ∙ e) in
-      let t = then_yes (result_type f known [] type) _ s ss.2 in
+      let ss = then_yes (sections_of f known (map (section f known) xs) name.from hidden) _ s
+      (sym (heading_Function f known name xs type hidden) ∙ ap (λ y. (heading f known y).1 hidden) (sym is) ∙ e) in
+      let t = then_yes (result_type f known hidden type) _ s ss.2 in
       ap (λ l. length (add_names [] (map (spelled f.text) (points_of l))))
-      (ap heading_list is ∙ list_Function name xs type) ∙ sections_fit xs name.from ss.0 ss.1
+      (ap heading_list is ∙ list_Function name xs type) ∙ sections_fit xs name.from hidden ss.0 ss.1
       ∙ ap (λ (z : Signature). total (section_list z.0)) (inside_yes (ss.0, Some t.0) s t.2)
 
-  pub heading_fits : (x : syntax.Heading) (s : Signature) → (heading f known x).1 [] ≡ Yes s → length
-      (add_names [] (map (spelled f.text) (all (map (section_points f known) (heading_list x))))) ≡ total
+  pub heading_fits : (x : syntax.Heading) (hidden : Hidden) (s : Signature) → (heading f known x).1 hidden ≡ Yes s
+      → length (add_names [] (map (spelled f.text) (all (map (section_points f known) (heading_list x))))) ≡ total
       (section_list s.0)
-  heading_fits x s e = heading_at x (out-Heading x) refl s e
+  heading_fits x hidden s e = heading_at x (out-Heading x) refl hidden s e

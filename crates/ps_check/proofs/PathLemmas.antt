@@ -25,8 +25,8 @@ use Rattle.ps_check.specs.Readings.{Start, Gathered, Done, Routines, RoutineRead
 use Rattle.ps_check.specs.Readings.{heading_list}
 use Rattle.ps_check.specs.Forwards.{is_waiting}
 use Rattle.ps_check.specs.Entries.{add_names, add_sections, first_entry, start}
-use Rattle.ps_check.specs.Blocks.{known_as, heading_at, finished, new_heading, introduce, introduced, read_block}
-use Rattle.ps_check.specs.Blocks.{one_routine, block_step, block, routine, layer}
+use Rattle.ps_check.specs.Blocks.{known_as, heading_at, finished, hidden_in_heading, new_heading, introduce, introduced}
+use Rattle.ps_check.specs.Blocks.{read_block, one_routine, block_step, block, routine, layer}
 use Rattle.ps_check.specs.Programs.{Files, no_files, file_named, list_file, program, program_with, program_context}
 use Rattle.ps_check.specs.Programs.{program_start, nothing_gathered, required}
 use Rattle.ps_check.specs.RegionNames.{Each}
@@ -131,7 +131,7 @@ module _ (f : Frame) where
   new_fits is_forward r w h e a =
       let n = then_yes (provided (nat_lt (length r.gathered.routines) 1048576) Limit (heading_name h).from
       (length r.gathered.routines)) _ w e in
-      let s = then_yes ((heading f r.known h).1 []) _ w n.2 in
+      let s = then_yes ((heading f r.known h).1 (hidden_in_heading f h)) _ w n.2 in
       let new : Heading = record {
         number = n.0;
         at = (heading_name h).from;
@@ -140,7 +140,7 @@ module _ (f : Frame) where
         names = map (spelled f.text) (all (map (section_points f r.known) (heading_list h)));
         is_forward = is_forward;
       } in
-      let fitting : IsFitting new = heading_fits f r.known h s.0 s.1 in
+      let fitting : IsFitting new = heading_fits f r.known h (hidden_in_heading f h) s.0 s.1 in
       let known : r.known ++ RoutineMeaning new ∷ [] ≡ w.known = ap (λ (z : Routines). z.known) (inside_yes _ w s.2) in
       subst (Each Fits) known (each_both Fits r.known (RoutineMeaning new ∷ []) a (fitting, tt))
 

@@ -17,7 +17,7 @@ use Rattle.ps_check_judgement.specs.Judged.{Judged, Yes, No, ◌>>=◌, provided
 use Rattle.ps_check_names.specs.Spelling.{spelled, has, place, line_in}
 use Rattle.ps_check_names.specs.Regions.{BlockRegion, Meaning, RoutineMeaning, Heading, Context, formals_of}
 use Rattle.ps_check_declarations.specs.Points.{all}
-use Rattle.ps_check_declarations.specs.Denoters.{Frame}
+use Rattle.ps_check_declarations.specs.Denoters.{Frame, Hidden}
 use Rattle.ps_check_declarations.specs.Declarations.{declarations}
 use Rattle.ps_check_declarations.specs.Headings.{heading, section_list, section_points}
 use Rattle.ps_check_statements.specs.Statements.{statements}
@@ -75,11 +75,16 @@ of_statements c domains inner = record {
 abbrev pub known_as : Frame → List Meaning → List ℕ → Option Meaning
 known_as f known s = option_and_then (slice_get known) (place f.names s)
 
+-- A routine's name in its own heading: its defining point comes before the rest of the heading, where it hides others
+-- with its spelling.
+abbrev pub hidden_in_heading : Frame → syntax.Heading → Hidden
+hidden_in_heading f h = (spelled f.text (heading_name h) ∷ [], 1) ∷ []
+
 -- A new heading, with the next number, of at most 1,048,576 (this project's limit).
 unfoldable pub new_heading : Frame → Bool → Routines → syntax.Heading → Judged Routines
 new_heading f is_forward r h = do
   n ← provided (nat_lt (length r.gathered.routines) 1048576) Limit (heading_name h).from (length r.gathered.routines)
-  s ← (heading f r.known h).1 []
+  s ← (heading f r.known h).1 (hidden_in_heading f h)
   let new : Heading = record {
     number = n;
     at = (heading_name h).from;

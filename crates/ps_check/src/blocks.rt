@@ -47,6 +47,7 @@ fn reading_with<'a>(reading: &Reading<'a>, domains: &'a [Ty]) -> Reading<'a>
     Reading {
         source: reading.source,
         lines: reading.lines,
+        seed: reading.seed,
         domains,
         has_input: reading.has_input,
         has_output: reading.has_output,
@@ -192,7 +193,7 @@ pub fn block(
 {
     add_block_names(written, reading, alloc, &mut start.names)?;
     let known = mem::replace(&mut start.known, Vec::new(alloc));
-    let begun = Names::new(alloc);
+    let begun = Names::new(alloc, reading.seed);
     let frame = Frame {
         reading: &*reading,
         routine: chain.own_number(),
@@ -284,7 +285,7 @@ fn read_block(
         (Some (block (context_of frame.now.reading.now) written.now))) }
 {
     let heading = heading_of_routine(frame, alloc, &local.known, name)?;
-    let (inner, mut start) = start(heading, chain, alloc, name.from)?;
+    let (inner, mut start) = start(heading, chain, frame.reading.seed, alloc, name.from)?;
     let outer = scope_within(&*frame, &local.known);
     let done = block(
         written,

@@ -20,6 +20,7 @@ use ps_check_names::reading::Reading;
 use ps_check_names::scope::Scope;
 use ps_syntax::Program;
 use ps_text::{LineTable, Source};
+use ps_tree::names::Seed;
 use ps_tree::program::Checked;
 use std::alloc::{AllocError, Global};
 
@@ -62,7 +63,7 @@ fn check_block(
     ensures { Answers result (λ checked. program_in checked)
         (program_with reading.now.source.now written.now (files_of files)) }
 {
-    let around = required(alloc)?;
+    let around = required(alloc, reading.seed)?;
     let outer = Scope::Block {
         routine: 0,
         names: &around.names,
@@ -103,6 +104,7 @@ fn check_text(alloc: Global, heading: &Reading, written: &Program) -> Result<Che
     let reading = Reading {
         source: heading.source,
         lines: heading.lines,
+        seed: heading.seed,
         domains: &[],
         has_input: files.names.contains(b"input"),
         has_output: files.names.contains(b"output"),
@@ -124,6 +126,7 @@ pub fn check(alloc: Global, source: &Source, written: &Program) -> Result<Checke
     let heading = Reading {
         source: &*source,
         lines: &lines,
+        seed: Seed::of(source.bytes()),
         domains: &[],
         has_input: false,
         has_output: false,

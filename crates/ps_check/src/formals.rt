@@ -7,15 +7,16 @@ ghost use Rattle.ps_check_names.specs.Regions as regions;
 ghost use Rattle.ps_check_names.specs.Regions.{ParameterMeaning, one_more};
 ghost use Rattle.ps_check_judgement.specs.Judged.{Answers, some_or};
 ghost use Rattle.ps_check_judgement.specs.declared.refusal.Rule.TheVariants.{Limit};
-ghost use Rattle.ps_check_names.specs.Views.{section_of, sections_of};
+ghost use Rattle.ps_check_names.specs.SectionViews.{section_of, sections_of};
 ghost use Rattle.ps_check.specs.Entries.{add_entry, add_parameters, add_section, add_sections, first_entry};
 ghost use Rattle.ps_check.specs.Formals.{section_formals};
 ghost use Rattle.ps_check.specs.Views.{entries_of};
 
 use ps_check_judgement::answer::{broken, paired};
 use ps_check_judgement::refusal::{Fault, Rule};
-use ps_check_names::meaning::{Meaning, Section};
+use ps_check_names::meaning::Meaning;
 use ps_check_names::scope::one_more;
+use ps_check_names::sections::Section;
 use ps_tree::tree::Formal;
 use ps_tree::types::Ty;
 use std::alloc::{AllocError, Global};
@@ -55,7 +56,7 @@ fn add_variables(count: u32, ty: &Ty, formals: &mut Vec<Formal>) -> Result<(), A
 
 /// The formal parameters of one more section.
 #[cycle(formals)]
-#[tactic(auto, using(crate::proofs::FormalLemmas::routine_pushed), unfolding(crate::specs::Formals::section_formals, ps_check_names::specs::Views::section_of))]
+#[tactic(auto, using(crate::proofs::FormalLemmas::routine_pushed), unfolding(crate::specs::Formals::section_formals, ps_check_names::specs::SectionViews::section_of))]
 fn add_formals(
     section: &Section,
     alloc: Global,
@@ -133,7 +134,7 @@ fn add_parameters(
 }
 
 /// The entries of one more section.
-#[tactic(auto, using(crate::proofs::FormalLemmas::routine_entered), unfolding(crate::specs::Entries::add_section, ps_check_names::specs::Views::section_of, ps_check_names::specs::Views::meaning_of))]
+#[tactic(auto, using(crate::proofs::FormalLemmas::routine_entered), unfolding(crate::specs::Entries::add_section, ps_check_names::specs::SectionViews::section_of, ps_check_names::specs::Views::meaning_of))]
 fn add_section(
     section: &Section,
     entry: u32,

@@ -1,16 +1,16 @@
 //! New headings.
 
-ghost use Rattle.std.specs.Prelude.{◌≡◌, ◌++◌, IfOk, OnOk, length, map, nat_lt};
+ghost use Rattle.std.specs.Prelude.{◌≡◌, [], ◌∷◌, ◌++◌, IfOk, OnOk, length, map, nat_lt};
 ghost use Rattle.ps_check_judgement.specs.Judged.{Answers, provided};
 ghost use Rattle.ps_check_judgement.specs.declared.refusal.Rule.TheVariants.{Limit};
 ghost use Rattle.ps_check_names.specs.Regions.{RoutineMeaning};
 ghost use Rattle.ps_check_names.specs.Spelling.{spelled};
 ghost use Rattle.ps_check_names.specs.Views.{meaning_of};
 ghost use Rattle.ps_check_declarations.specs.Points.{all};
-ghost use Rattle.ps_check_declarations.specs.Headings.{section_list, section_points};
+ghost use Rattle.ps_check_declarations.specs.Headings.{heading, section_list, section_points};
 ghost use Rattle.ps_check_declarations.specs.Views.{frame_of, signature_of};
 ghost use Rattle.ps_check.specs.Readings.{heading_name, heading_list, is_bare};
-ghost use Rattle.ps_check.specs.Blocks.{new_heading};
+ghost use Rattle.ps_check.specs.Blocks.{hidden_in_heading, new_heading};
 ghost use Rattle.ps_check.specs.Views.{routines_of};
 
 use crate::state::{Gathered, Local};
@@ -20,10 +20,11 @@ use ps_check_judgement::answer::broken;
 use ps_check_judgement::refusal::{Fault, Rule};
 use ps_check_names::meaning::{Heading, Meaning};
 use ps_check_names::reading::Reading;
+use ps_check_names::sections::SectionList;
 use ps_syntax::{Heading as HeadingDenoter, Section};
 use ps_text::Span;
+use ps_tree::names::Names;
 use std::alloc::{AllocError, Global};
-use std::rc::Rc;
 
 /// The name of a heading's routine.
 #[tactic(auto, using(crate::proofs::Equations::name_Procedure, crate::proofs::Equations::name_Function))]
@@ -159,15 +160,49 @@ fn routine_meaning(
     Ok(Meaning::Routine(Heading {
         number,
         at: heading_name(written).from,
-        sections: Rc::new(alloc, sections)?,
+        sections: SectionList::shared(alloc, sections)?,
         result,
         names,
         is_forward,
     }))
 }
 
+/// The routine's name, which hides others in its own heading.
+fn own_name(written: &HeadingDenoter, frame: &Frame, alloc: Global) -> Result<Names, AllocError>
+    ensures { IfOk result (λ names. names ≡ spelled frame.now.reading.now.source.now (heading_name written.now) ∷ []) }
+{
+    let mut names = Names::new(alloc, frame.reading.seed);
+    names.add(frame.reading.name(alloc, heading_name(written))?)?;
+    Ok(names)
+}
+
+/// What a new heading says of its parameters and its result.
+#[tactic(auto, unfolding(ps_check_declarations::specs::Views::hidden_of))]
+fn own_signature(
+    written: &HeadingDenoter,
+    frame: &Frame,
+    alloc: Global,
+    known: &[Meaning],
+) -> Result<Signature, Fault>
+    ensures { Answers result (λ s. signature_of s)
+        ((heading (frame_of frame.now) (map meaning_of known.now) written.now).1
+        (hidden_in_heading (frame_of frame.now) written.now)) }
+{
+    let own = own_name(written, frame, alloc)?;
+    let place = Place {
+        alloc,
+        frame: *frame,
+        hidden: Hidden::Own {
+            names: &own,
+            defined: 1,
+            outer: &Hidden::Nothing,
+        },
+    };
+    heading(written, &place, known)
+}
+
 /// A new heading, with the next number.
-#[tactic(auto, unfolding(crate::specs::Blocks::new_heading, ps_check_declarations::specs::Views::hidden_of))]
+#[tactic(auto, unfolding(crate::specs::Blocks::new_heading))]
 pub fn new_heading(
     written: &HeadingDenoter,
     is_forward: bool,
@@ -180,13 +215,7 @@ pub fn new_heading(
         (new_heading (frame_of frame.now) is_forward (routines_of local.old gathered.old) written.now) }
 {
     let number = next_number(gathered, heading_name(written).from)?;
-    let hidden = Hidden::Nothing;
-    let place = Place {
-        alloc,
-        frame: *frame,
-        hidden,
-    };
-    let signature = heading(written, &place, local.known.as_slice())?;
+    let signature = own_signature(written, frame, alloc, local.known.as_slice())?;
     let meaning = routine_meaning(
         written,
         number,

@@ -22,7 +22,7 @@ use ps_check_names::constants::{BOOLEAN, CHAR, INTEGER};
 use ps_check_names::meaning::{File, Meaning, Required};
 use ps_check_names::reading::Reading;
 use ps_text::Span;
-use ps_tree::names::Names;
+use ps_tree::names::{Names, Seed};
 use ps_tree::program::Checked;
 use ps_tree::tree::Routine;
 use ps_tree::types::Ty;
@@ -134,11 +134,11 @@ fn add_all_required(
 }
 
 /// The names of the region around the program.
-pub fn required(alloc: Global) -> Result<Files, AllocError>
+pub fn required(alloc: Global, seed: Seed) -> Result<Files, AllocError>
     ensures { IfOk result (λ all. required ≡ BlockRegion 0 all.names (map meaning_of all.known.items)) }
 {
     let mut region = Files {
-        names: Names::new(alloc),
+        names: Names::new(alloc, seed),
         known: Vec::new(alloc),
     };
     add_all_required(alloc, &mut region, &REQUIRED)?;
@@ -193,7 +193,7 @@ pub fn list_files(reading: &Reading, alloc: Global, parameters: &[Span]) -> Resu
         (steps (list_file reading.now.source.now) no_files parameters.now) }
 {
     let mut files = Files {
-        names: Names::new(alloc),
+        names: Names::new(alloc, reading.seed),
         known: Vec::new(alloc),
     };
     for at in parameters {

@@ -28,7 +28,7 @@ use ps_check_names::meaning::{Heading, Meaning};
 use ps_check_names::reading::Reading;
 use ps_syntax::Routine;
 use ps_text::Span;
-use ps_tree::names::Names;
+use ps_tree::names::{Names, Seed};
 use ps_tree::tree::Routine as RoutineTree;
 use std::alloc::{AllocError, Global};
 
@@ -271,10 +271,10 @@ fn add_name(names: &mut Names, name: &[u8], alloc: Global) -> Result<(), AllocEr
 
 /// These names, each once.
 #[tactic(auto, using(crate::proofs::Lists::named_start, crate::proofs::Lists::named_next, crate::proofs::Lists::named_end))]
-fn names_of(list: &[Vec<u8>], alloc: Global) -> Result<Names, AllocError>
+fn names_of(list: &[Vec<u8>], seed: Seed, alloc: Global) -> Result<Names, AllocError>
     ensures { IfOk result (λ names. names ≡ add_names [] (map (λ name. name.items) list.now)) }
 {
-    let mut names = Names::new(alloc);
+    let mut names = Names::new(alloc, seed);
     for name in list {
         add_name(&mut names, name.as_slice(), alloc)?;
     }
@@ -283,16 +283,16 @@ fn names_of(list: &[Vec<u8>], alloc: Global) -> Result<Names, AllocError>
 
 /// The names of a heading's formal parameters with what they denote, and the entry after theirs. The routine's name is
 /// at `at`.
-fn parameters(heading: &Heading, alloc: Global, at: u32) -> Result<Start, Fault>
+fn parameters(heading: &Heading, seed: Seed, alloc: Global, at: u32) -> Result<Start, Fault>
     ensures names { IfOk result (λ s. s.names ≡ add_names [] (heading_of heading.now).names) }
     ensures entries { Answers result (λ s. entries_of s.first s.known.items)
         (add_sections at (entries_of (first_entry (heading_of heading.now).result) [])
         (heading_of heading.now).sections) }
 {
-    let names = names_of(&heading.names, alloc)?;
+    let names = names_of(&heading.names, seed, alloc)?;
     let mut known = Vec::new(alloc);
     let entry = first_entry(&heading.result);
-    let first = add_sections(&heading.sections, entry, &mut known, at)?;
+    let first = add_sections(heading.sections.as_slice(), entry, &mut known, at)?;
     Ok(Start {
         names,
         known,
@@ -305,13 +305,14 @@ fn parameters(heading: &Heading, alloc: Global, at: u32) -> Result<Start, Fault>
 pub fn start(
     heading: &Heading,
     chain: &Chain,
+    seed: Seed,
     alloc: Global,
     at: u32,
 ) -> Result<(Chain, Start), Fault>
     ensures { Answers result (λ s. start_of s.0 s.1) (start at chain.now (heading_of heading.now)) }
 {
     let inner = chain.inner(alloc, heading.number, at);
-    paired(inner, parameters(heading, alloc, at))
+    paired(inner, parameters(heading, seed, alloc, at))
 }
 
 /// Puts an item in its place, if there is one.
@@ -344,7 +345,7 @@ fn routine_tree(
         (heading_of heading.now) (done_of block g)) }
 {
     let (formals, result) = paired(
-        formals_of(&heading.sections, alloc),
+        formals_of(heading.sections.as_slice(), alloc),
         copy_result(&heading.result),
     )?;
     Ok(Finished {

@@ -1,5 +1,5 @@
 -- What a walk over a heading gives, construction by construction.
-use Rattle.std.proofs.Common.{◌≡◌, ℕ, ◌≤◌, List, [], ◌∷◌, ◌++◌, length, map, Option, Some, None, option_map, Vec}
+use Rattle.std.proofs.Common.{◌≡◌, ℕ, ◌≤◌, List, [], ◌∷◌, ◌++◌, length, map, Option, Some, None, option_map}
 use Rattle.std.proofs.Common.{Global, refl, sym, ap, ◌∙◌}
 use Rattle.std.specs.declared.rc.Rc.{Rc}
 use Rattle.ps_text.specs.declared.Span.{Span}
@@ -11,12 +11,11 @@ use Rattle.ps_syntax.specs.declared.program.Heading.TheOpen.{Heading-F, Section-
 use Rattle.ps_syntax.specs.declared.program.Heading.TheFolds.{fold-roll-Heading, fold-roll-Section}
 use Rattle.ps_tree.specs.View.{type_of}
 use Rattle.ps_tree.specs.declared.types.Ty.{Ty}
-use Rattle.ps_check_names.specs.declared.meaning.Section.{Routine}
-use Rattle.ps_check_names.proofs.ViewLemmas.{section_of_Routine}
 use Rattle.ps_check_judgement.specs.Judged.{Yes, ◌>>=◌}
-use Rattle.ps_check_names.specs.Regions.{Meaning, ValueSection, VariableSection, RoutineSection, section_before}
-use Rattle.ps_check_names.specs.Views as regions
-use Rattle.ps_check_names.specs.declared.meaning.Section as Rust
+use Rattle.ps_check_names.specs.Regions.{Meaning, ValueSection, VariableSection, RoutineSection, Sections, section_before}
+use Rattle.ps_check_names.specs.SectionViews as regions
+use Rattle.ps_check_names.specs.declared.sections.Section as Rust
+use Rattle.ps_check_names.specs.declared.sections.Section.TheVariants as kind
 use Rattle.ps_check_declarations.specs.Points.{Points, all, add_points}
 use Rattle.ps_check_declarations.specs.Denoters.{Frame, Hidden}
 use Rattle.ps_check_declarations.specs.Headings.{HeadingReading, SectionReading, few, formal_type, section_list}
@@ -131,7 +130,8 @@ module _ (f : Frame) (known : List Meaning) where
       (sym (names_of_sections xs))
 
 -- a procedural or functional parameter of the program as the definitions have it
-pub routine_made : (r : Rc (Vec Rust.Section Global) Global) (t : Option Ty) → regions.section_of (Routine r t)
-    ≡ RoutineSection (section_list (map regions.section_of r.value.items)) (option_map type_of t)
-routine_made r t = section_of_Routine r t ∙ ap (λ l. RoutineSection l (option_map type_of t))
-    (list_of_sections r.value.items)
+pub routine_made : (r : Rc Sections Global) (ss : List Rust.Section) (t : Option Ty) → r.value ≡ regions.sections_of ss
+    → regions.section_of (kind.Routine r t) ≡ RoutineSection (section_list (map regions.section_of ss))
+    (option_map type_of t)
+unfolding regions.section_of
+routine_made r ss t e = ap (λ l. RoutineSection l (option_map type_of t)) (e ∙ list_of_sections ss)

@@ -1,7 +1,8 @@
 -- What the values of the program denote in the definitions.
 use Rattle.std.specs.Prelude.{[], ◌∷◌, map, option_map}
 use Rattle.ps_tree.specs.View.{type_of}
-use Rattle.ps_check_names.specs.Views.{scope_of, meaning_of, section_of}
+use Rattle.ps_check_names.specs.SectionViews.{section_of}
+use Rattle.ps_check_names.specs.Views.{scope_of, meaning_of}
 use Rattle.ps_check_declarations.specs.declared.frame.Frame as RustFrame
 use Rattle.ps_check_declarations.specs.declared.frame.Declared as RustDeclared
 use Rattle.ps_check_declarations.specs.declared.frame.Hidden as RustHidden

@@ -70,7 +70,7 @@ fn begin_all(
     ensures { Answers result (λ begun. begun)
         (steps (begin (frame_of frame.now) (map meaning_of known.now)) [] names.now) }
 {
-    let mut begun = Names::new(alloc);
+    let mut begun = Names::new(alloc, frame.reading.seed);
     for name in names {
         begin(frame, alloc, known, &mut begun, *name)?;
     }
@@ -81,7 +81,7 @@ fn begin_all(
 fn begin_one(frame: &Frame, alloc: Global, known: &[Meaning], name: Span) -> Result<Names, Fault>
     ensures { Answers result (λ begun. begun) (begin (frame_of frame.now) (map meaning_of known.now) [] name) }
 {
-    let mut begun = Names::new(alloc);
+    let mut begun = Names::new(alloc, frame.reading.seed);
     begin(frame, alloc, known, &mut begun, name)?;
     Ok(begun)
 }

@@ -557,7 +557,7 @@ fn record_names(frame: &Frame, alloc: Global, sections: &[Fields]) -> Result<Nam
     ensures { IfOk result (λ names. names ≡ record_names (frame_of frame.now)
         (map (fields (frame_of frame.now)) sections.now)) }
 {
-    let mut names = Names::new(alloc);
+    let mut names = Names::new(alloc, frame.reading.seed);
     for section in sections {
         section_names(frame, alloc, &mut names, section)?;
     }
@@ -607,7 +607,7 @@ pub(crate) fn own_points(
 ) -> Result<usize, Fault>
     ensures { Answers result (λ n. n) (new_points place.now.frame.reading.now.source.now names.now [] count points.now) }
 {
-    let none = Names::new(place.alloc);
+    let none = Names::new(place.alloc, place.frame.reading.seed);
     new_points(
         place.frame.reading,
         place.alloc,

@@ -3,7 +3,8 @@
 ghost use Rattle.std.specs.Prelude.{◌≡◌, ◌++◌, ◌∷◌, [], IfOk, OnOk, map};
 ghost use Rattle.ps_tree.specs.View.{type_of};
 ghost use Rattle.ps_check_judgement.specs.Judged.{Answers, steps};
-ghost use Rattle.ps_check_names.specs.Views.{meaning_of, section_of};
+ghost use Rattle.ps_check_names.specs.SectionViews.{section_of};
+ghost use Rattle.ps_check_names.specs.Views.{meaning_of};
 ghost use Rattle.ps_check_declarations.specs.Points.{add_points, new_points};
 ghost use Rattle.ps_check_declarations.specs.Headings.{is_result, few, add_section, list_names, sections_of};
 ghost use Rattle.ps_check_declarations.specs.Headings.{result_type, section, heading, section_points};
@@ -14,13 +15,13 @@ use crate::frame::{Hidden, Place};
 use crate::points::add_points;
 use ps_check_judgement::answer::broken;
 use ps_check_judgement::refusal::{Fault, Rule};
-use ps_check_names::meaning::{Meaning, Section};
+use ps_check_names::meaning::Meaning;
+use ps_check_names::sections::{Section, SectionList};
 use ps_syntax::{Heading, Section as SectionDenoter};
 use ps_text::Span;
 use ps_tree::names::Names;
 use ps_tree::types::Ty;
 use std::alloc::AllocError;
-use std::rc::Rc;
 
 /// The content of a heading: its sections, and a function's result.
 #[derive(Drop)]
@@ -168,7 +169,7 @@ fn add_section(
 }
 
 #[cycle(heading)]
-#[tactic(auto, using(crate::proofs::HeadingLemmas::section_Value, crate::proofs::HeadingLemmas::section_Variable, crate::proofs::HeadingLemmas::section_Routine, crate::proofs::HeadingLemmas::routine_made), unfolding(ps_check_names::specs::Views::section_of))]
+#[tactic(auto, using(crate::proofs::HeadingLemmas::section_Value, crate::proofs::HeadingLemmas::section_Variable, crate::proofs::HeadingLemmas::section_Routine, crate::proofs::HeadingLemmas::routine_made), unfolding(ps_check_names::specs::SectionViews::section_of))]
 fn section(written: &SectionDenoter, place: &Place, known: &[Meaning]) -> Result<Section, Fault>
     ensures { Answers result (λ s. section_of s)
         ((section (frame_of place.now.frame) (map meaning_of known.now) written.now).1 (hidden_of place.now.hidden)) }
@@ -187,7 +188,7 @@ fn section(written: &SectionDenoter, place: &Place, known: &[Meaning]) -> Result
         SectionDenoter::Routine(inner) => {
             let Signature { sections, result } = heading(inner, place, known)?;
             Ok(Section::Routine {
-                sections: Rc::new(place.alloc, sections)?,
+                sections: SectionList::shared(place.alloc, sections)?,
                 result,
             })
         }
@@ -230,7 +231,7 @@ fn list_names(
     ensures { IfOk result (λ names. names ≡ list_names (frame_of place.now.frame) (map meaning_of known.now)
         (map (section (frame_of place.now.frame) (map meaning_of known.now)) list.now)) }
 {
-    let mut names = Names::new(place.alloc);
+    let mut names = Names::new(place.alloc, place.frame.reading.seed);
     for written in list {
         add_names(written, place, known, &mut names)?;
     }

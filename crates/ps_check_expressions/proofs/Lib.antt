@@ -8,3 +8,4 @@ pub mod Examples
 pub mod RoutineLemmas
 pub mod FirstLemmas
 pub mod RequiredLemmas
+pub mod CodeLemmas

@@ -1,17 +1,12 @@
 -- Lists of sections, and the formal parameters in them.
 use Rattle.std.proofs.Common.{◌≡◌, ℕ, zero, suc, ◌+◌, ◌<◌, ◌≤◌, Bool, true, false, ◌&&◌, List, [], ◌∷◌, ◌++◌, length}
-use Rattle.std.proofs.Common.{drop, get_or, map, Option, Vec, Global, refl, sym, ap, ◌∙◌, arith, append_assoc}
-use Rattle.std.specs.Prelude.{option_map}
+use Rattle.std.proofs.Common.{drop, get_or, map, refl, sym, ap, ◌∙◌, arith, append_assoc}
 use Rattle.std.proofs.Math.Seq.{drop-cons}
 use Rattle.std.proofs.lemmas.List.{drop_all, append-nil, map_push}
-use Rattle.std.specs.declared.rc.Rc.{Rc}
-use Rattle.ps_tree.specs.declared.types.Ty.{Ty}
-use Rattle.ps_tree.specs.View.{type_of}
-use Rattle.ps_check_names.specs.declared.meaning.Section as Rust
-use Rattle.ps_check_names.proofs.ViewLemmas.{section_of_Routine}
-use Rattle.ps_check_names.specs.Regions.{Section, RoutineSection}
-use Rattle.ps_check_names.specs.Views.{section_of, sections_of}
-use Rattle.ps_check_expressions.specs.Calls.{are_one_type, congruous, are_alike, times, with_parameters, parameters}
+use Rattle.ps_check_names.specs.declared.sections.Section as Rust
+use Rattle.ps_check_names.specs.Regions.{Section}
+use Rattle.ps_check_names.specs.SectionViews.{section_of, sections_of}
+use Rattle.ps_check_expressions.specs.Calls.{congruous, are_alike, times, with_parameters, parameters}
 
 -- ---- congruous lists
 
@@ -111,38 +106,6 @@ module _ (xs : List Rust.Section) (i : ℕ) where
   unfolding parameters sections_of
   listed_end done le r = sym (r.rest ∙ ap (λ l. done ++ parameters (sections_of l)) (drop_all i xs le)
       ∙ append-nil done)
-
--- ---- two procedural or functional parameters
-
-module _ (a b : Rust.Section) (s t : Rc (Vec Rust.Section Global) Global) (r q : Option Ty) (xs ys : List Rust.Section) where
-  both_routines : a ≡ Rust.Routine s r → b ≡ Rust.Routine t q → xs ≡ s.value.items → ys ≡ t.value.items → are_alike
-      (section_of a) (section_of b) ≡ (congruous (sections_of xs) (sections_of ys) && are_one_type
-      (option_map type_of r) (option_map type_of q))
-  unfolding are_alike
-  both_routines ea eb ex ey =
-      ap (λ x. are_alike (section_of x) (section_of b)) ea
-      ∙ ap (λ x. are_alike (section_of (Rust.Routine s r)) (section_of x)) eb
-      ∙ ap (λ x. are_alike x (section_of (Rust.Routine t q))) (section_of_Routine s r)
-      ∙ ap (λ x. are_alike (RoutineSection (sections_of s.value.items) (option_map type_of r)) x)
-      (section_of_Routine t q)
-      ∙ ap (λ l. congruous (sections_of l) (sections_of t.value.items) && are_one_type (option_map type_of r)
-      (option_map type_of q)) (sym ex)
-      ∙ ap (λ l. congruous (sections_of xs) (sections_of l) && are_one_type (option_map type_of r)
-      (option_map type_of q)) (sym ey)
-
-  pub routines_alike : (x y : Bool) → a ≡ Rust.Routine s r → b ≡ Rust.Routine t q → xs ≡ s.value.items → ys
-      ≡ t.value.items → x ≡ congruous (sections_of xs) (sections_of ys) → x ≡ true → y ≡ are_one_type
-      (option_map type_of r) (option_map type_of q) → y ≡ are_alike (section_of a) (section_of b)
-  routines_alike x y ea eb ex ey ec et eo =
-      eo ∙ sym (both_routines ea eb ex ey ∙ ap (λ z. z && are_one_type (option_map type_of r) (option_map type_of q))
-      (sym ec ∙ et))
-
-  pub routines_unlike : (x : Bool) → a ≡ Rust.Routine s r → b ≡ Rust.Routine t q → xs ≡ s.value.items → ys
-      ≡ t.value.items → x ≡ congruous (sections_of xs) (sections_of ys) → x ≡ false → x ≡ are_alike (section_of a)
-      (section_of b)
-  routines_unlike x ea eb ex ey ec ef =
-      ef ∙ sym (both_routines ea eb ex ey ∙ ap (λ z. z && are_one_type (option_map type_of r) (option_map type_of q))
-      (sym ec ∙ ef))
 
 -- a section that is listed once more
 pub pushed_time : {A : Type 0} (h : A → Section) (old new : List A) (x : A) (done : List Section) (n : ℕ) → new ≡ old

@@ -14,7 +14,8 @@ ghost use Rattle.ps_check_names.specs.Constants.{integer, number_at};
 ghost use Rattle.ps_check_judgement.specs.Changing.{through};
 ghost use Rattle.ps_check_names.specs.Regions.{Context, Region};
 ghost use Rattle.ps_check_names.specs.Spelling.{line_in};
-ghost use Rattle.ps_check_names.specs.Views.{point_of, section_of, sections_of};
+ghost use Rattle.ps_check_names.specs.SectionViews.{section_of};
+ghost use Rattle.ps_check_names.specs.Views.{point_of};
 ghost use Rattle.ps_tree.specs.Tree as Tree;
 ghost use Rattle.ps_check_expressions.specs.Values.{Value, SimpleValue, argument_list};
 ghost use Rattle.ps_check_expressions.specs.Calls.{passed_variable, actual, actuals, parameters, called, required_call};
@@ -39,8 +40,9 @@ use ps_check_judgement::answer::{broken, paired, push_answer};
 use ps_check_judgement::change::Change;
 use ps_check_judgement::refusal::{Fault, Rule};
 use ps_check_names::constants::{ConstantValue, INTEGER, misplacement, number_at};
-use ps_check_names::meaning::{Meaning, Required, Section};
+use ps_check_names::meaning::{Meaning, Required};
 use ps_check_names::scope::Found;
+use ps_check_names::sections::{Section, SectionList};
 use ps_syntax::{
     AddedTerm, Expr as Syntax, Factor, Member as SyntaxMember, MultipliedFactor, Selector, Sign,
     Simple, Term, Variable,
@@ -235,11 +237,11 @@ fn formal_call(up: u32, index: u32, line: Line, ty: Ty, arguments: Vec<Argument>
 /// No actual parameters, if there are no formal ones. The called name is at `at`.
 pub(crate) fn no_arguments(
     site: Site<'_>,
-    sections: &[Section],
+    sections: &SectionList,
     at: u32,
 ) -> Result<Vec<Argument>, Fault>
     ensures { (changes : List Change) → Answers result (λ list. (map argument_of list.items, changes))
-        (actuals (context_at site.entry) (regions_at site.entry) at (sections_of sections.now) [] changes) }
+        (actuals (context_at site.entry) (regions_at site.entry) at sections.now [] changes) }
 {
     let formals = parameters(site.alloc, sections)?;
     if formals.len() != 0 {
@@ -835,11 +837,11 @@ pub(crate) fn argument_all(
     operands: &[Syntax],
     site: Site<'_>,
     changes: &mut Vec<Change>,
-    sections: &[Section],
+    sections: &SectionList,
     at: u32,
 ) -> Result<Vec<Argument>, Fault>
     ensures { Answers result (λ list. (map argument_of list.items, changes.new.items))
-        (actuals (context_at site.entry) (regions_at site.entry) at (sections_of sections.now)
+        (actuals (context_at site.entry) (regions_at site.entry) at sections.now
         (map (operand (context_at site.entry) (regions_at site.entry)) operands.now) changes.old.items) }
 {
     let formals = parameters(site.alloc, sections)?;

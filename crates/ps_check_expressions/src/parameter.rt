@@ -4,7 +4,8 @@ ghost use Rattle.std.specs.Prelude.{◌≡◌, ◌&&◌, ◌++◌, [], List, map
 ghost use Rattle.ps_tree.specs.View.{type_of, set_of, argument_of};
 ghost use Rattle.ps_check_judgement.specs.Judged.{Answers};
 ghost use Rattle.ps_check_names.specs.Regions.{Section as SectionOf};
-ghost use Rattle.ps_check_names.specs.Views.{point_of, section_of, sections_of};
+ghost use Rattle.ps_check_names.specs.SectionViews.{section_of, sections_of};
+ghost use Rattle.ps_check_names.specs.Views.{point_of};
 ghost use Rattle.ps_check_expressions.specs.Values.{SetValue};
 ghost use Rattle.ps_check_expressions.specs.Calls.{are_one_type, congruous, are_alike, times, with_parameters};
 ghost use Rattle.ps_check_expressions.specs.Calls.{parameters, by_value, by_variable, unlike_routine, by_routine};
@@ -15,8 +16,9 @@ use crate::value::{TypedPlace, TypedValue, range_of};
 use ps_check_judgement::answer::broken;
 use ps_check_judgement::refusal::{Fault, Rule};
 use ps_check_names::constants::misplacement;
-use ps_check_names::meaning::{Meaning, Section};
+use ps_check_names::meaning::Meaning;
 use ps_check_names::scope::Found;
+use ps_check_names::sections::{Section, SectionList};
 use ps_tree::line::Line;
 use ps_tree::tree::{Argument, SetExpr};
 use ps_tree::types::{Ty, assignable, same_type};
@@ -32,10 +34,17 @@ fn are_one_type(a: &Option<Ty>, b: &Option<Ty>) -> bool
     }
 }
 
-/// Two lists of formal parameters are congruous (6.6.3.6).
+/// Two lists of formal parameters are congruous (6.6.3.6), found by a walk over both.
+#[cycle(congruity)]
+fn congruous(a: &SectionList, b: &SectionList) -> bool
+    ensures { result ≡ congruous a.now b.now }
+{
+    are_all_alike(a.as_slice(), b.as_slice())
+}
+
 #[cycle(congruity)]
 #[tactic(auto, using(crate::proofs::ParameterLemmas::congruous_uneven))]
-pub(crate) fn congruous(a: &[Section], b: &[Section]) -> bool
+fn are_all_alike(a: &[Section], b: &[Section]) -> bool
     ensures { result ≡ congruous (sections_of a.now) (sections_of b.now) }
 {
     if a.len() != b.len() {
@@ -50,7 +59,7 @@ pub(crate) fn congruous(a: &[Section], b: &[Section]) -> bool
 }
 
 #[cycle(congruity)]
-#[tactic(auto, using(ps_check_names::proofs::ViewLemmas::section_of_Routine), unfolding(crate::specs::Calls::are_alike, ps_check_names::specs::Views::section_of))]
+#[tactic(auto, using(ps_check_names::proofs::ViewLemmas::section_of_Routine), unfolding(crate::specs::Calls::are_alike, ps_check_names::specs::SectionViews::section_of))]
 fn are_alike(a: &Section, b: &Section) -> bool
     ensures { result ≡ are_alike (section_of a.now) (section_of b.now) }
 {
@@ -153,17 +162,26 @@ pub fn by_variable(ty: &Ty, variable: TypedPlace, at: u32) -> Result<Argument, F
     Ok(Argument::Variable(place))
 }
 
+/// Two lists of formal parameters are congruous (6.6.3.6). Of lists that are, nearly all have a code, and the same: so
+/// that a call which passes a routine with a long list takes no longer than to read some words.
+#[tactic(auto, using(crate::proofs::CodeLemmas::one_code_congruous))]
+fn are_congruous(a: &SectionList, b: &SectionList) -> bool
+    ensures { result ≡ congruous a.now b.now }
+{
+    a.has_code_of(b) || congruous(a, b)
+}
+
 /// Whether routines with these formal parameters and results may be passed for one another (6.6.3.4, 6.6.3.5).
 fn are_exchangeable(
-    sections: &[Section],
+    sections: &SectionList,
     result_type: &Option<Ty>,
-    others: &[Section],
+    others: &SectionList,
     other: &Option<Ty>,
 ) -> bool
-    ensures { result ≡ (congruous (sections_of sections.now) (sections_of others.now) && are_one_type
-        (option_map type_of result_type.now) (option_map type_of other.now)) }
+    ensures { result ≡ (congruous sections.now others.now && are_one_type (option_map type_of result_type.now)
+        (option_map type_of other.now)) }
 {
-    congruous(sections, others) && are_one_type(result_type, other)
+    are_congruous(sections, others) && are_one_type(result_type, other)
 }
 
 /// The rule broken by a routine that can't be passed for a parameter: a procedure is of another kind than a function.
@@ -179,13 +197,13 @@ fn unlike_routine(a: &Option<Ty>, b: &Option<Ty>) -> Rule
 /// An actual procedural or functional parameter; its name is at `at`.
 #[tactic(auto, unfolding(crate::specs::Calls::by_routine, ps_check_names::specs::Views::meaning_of, ps_tree::specs::View::argument_of))]
 pub fn by_routine(
-    sections: &[Section],
+    sections: &SectionList,
     result_type: &Option<Ty>,
     found: Found<'_>,
     at: u32,
 ) -> Result<Argument, Fault>
     ensures { Answers result (λ a. argument_of a)
-        (by_routine at (sections_of sections.now) (option_map type_of result_type.now) (point_of found.entry)) }
+        (by_routine at sections.now (option_map type_of result_type.now) (point_of found.entry)) }
 {
     match found {
         Found::Field { .. } => Err(broken(misplacement(&found), at)),
@@ -237,7 +255,7 @@ fn push_times<'a>(
 }
 
 /// The number of a section's formal parameters.
-#[tactic(auto, using(ps_check_names::proofs::ViewLemmas::section_of_Routine), unfolding(ps_check_names::specs::Views::section_of))]
+#[tactic(auto, using(ps_check_names::proofs::ViewLemmas::section_of_Routine), unfolding(ps_check_names::specs::SectionViews::section_of))]
 fn count_of(section: &Section) -> u32
     ensures { (rest : List SectionOf) → with_parameters (section_of section.now) rest ≡ times result
         (section_of section.now) rest }
@@ -248,11 +266,7 @@ fn count_of(section: &Section) -> u32
     }
 }
 
-/// The formal parameters of a list, each by its section.
-pub fn parameters<'a>(
-    alloc: Global,
-    sections: &'a [Section],
-) -> Result<Vec<&'a Section>, AllocError>
+fn listed<'a>(alloc: Global, sections: &'a [Section]) -> Result<Vec<&'a Section>, AllocError>
     ensures { IfOk result (λ list. map (λ s. section_of s.now) list.items ≡ parameters (sections_of sections.entry.now)) }
 {
     let mut list = Vec::new(alloc);
@@ -260,4 +274,14 @@ pub fn parameters<'a>(
         push_times(&mut list, section, count_of(section))?;
     }
     Ok(list)
+}
+
+/// The formal parameters of a list, each by its section.
+pub fn parameters<'a>(
+    alloc: Global,
+    sections: &'a SectionList,
+) -> Result<Vec<&'a Section>, AllocError>
+    ensures { IfOk result (λ list. map (λ s. section_of s.now) list.items ≡ parameters sections.entry.now) }
+{
+    listed(alloc, sections.as_slice())
 }

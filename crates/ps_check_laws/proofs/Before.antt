@@ -7,11 +7,12 @@ use Rattle.ps_syntax.specs.declared.program.Program as syntax
 use Rattle.ps_check_names.specs.Spelling.{spelled}
 use Rattle.ps_check_names.specs.Regions.{Region, BlockRegion, Meaning}
 use Rattle.ps_check_declarations.specs.Denoters.{Frame}
+use Rattle.ps_check.specs.Blocks.{hidden_in_heading}
 use Rattle.ps_check_laws.specs.Definitions.{OfRoutine, names_of, routine_heading}
 use Rattle.ps_check_laws.specs.Denoting.{headings_before}
 use Rattle.ps_check_laws.specs.Meanings.{Defines, IsRegion, AreAround}
 use Rattle.ps_check_laws.specs.InDeclarations.{Uses, behind, IsDenotedBefore, heading_part}
-use Rattle.ps_check_laws.proofs.Enclosed.{AllKnown, known_later}
+use Rattle.ps_check_laws.proofs.Enclosed.{own_names, AllKnown, known_later, known_unhidden}
 use Rattle.ps_check_laws.proofs.Parameters.{headings_found}
 use Rattle.ps_check_laws.proofs.Found.{uses_find_what_they_denote}
 use Rattle.ps_check_laws.proofs.Lists.{inside, get_below, get_stays, there_is, take_left, take_length, take_drop, Each}
@@ -72,9 +73,11 @@ module _ (text : List ℕ) (p : syntax.Program) (v : List ℕ) (n : ℕ) (region
       let same : d.1 ≡ h = inside d.1 h (sym d.4 ∙ is) in
       let length_is = take_length t.known i m.0 m.1 in
       let us = (heading_part d.1).1 in
+      let own = hidden_in_heading frame d.1 in
       let here : AllKnown frame [] (take i t.known) i us = subst
       (λ q. AllKnown frame [] (take i t.known) q us) length_is
-      ((headings_found frame (take i t.known) d.1).uses [] d.5.said d.5.reading) in
+      (known_unhidden frame (own_names own) (take i t.known) (length (take i t.known)) us
+      ((headings_found frame (take i t.known) d.1).uses own d.5.said d.5.reading)) in
       subst (λ q. Each (IsDenotedBefore text p v regions) (behind i (heading_part q).1)) same
       (denoted_before i us (known_later frame [] (take i t.known) t.known (drop i t.known) i us
       (sym (take_drop i t.known)) here))

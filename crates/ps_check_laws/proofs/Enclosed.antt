@@ -168,7 +168,7 @@ module _ (f : Frame) where
   )
 
   -- where less is hidden
-  known_unhidden : (hidden : List Names) (final : List Meaning) (n : ℕ) (us : Uses) → AllKnown hidden final n us
+  pub known_unhidden : (hidden : List Names) (final : List Meaning) (n : ℕ) (us : Uses) → AllKnown hidden final n us
       → AllKnown [] final n us
   known_unhidden hidden final n [] t = tt
   known_unhidden hidden final n (u ∷ us) t = (

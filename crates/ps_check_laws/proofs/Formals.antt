@@ -30,6 +30,7 @@ use Rattle.ps_check_declarations.specs.Headings.{section_count, formal_meanings}
 use Rattle.ps_check.specs.Readings.{layer_list, heading_name, heading_list, Start}
 use Rattle.ps_check.specs.Entries.{Entries, add_names, add_entry, add_parameters, add_section, add_sections}
 use Rattle.ps_check.specs.Entries.{first_entry, start}
+use Rattle.ps_check.specs.Blocks.{hidden_in_heading}
 use Rattle.ps_check.specs.Readings as readings
 use Rattle.ps_check.specs.Programs.{Files, file_named, list_file}
 use Rattle.ps_check_laws.specs.Definitions.{Declarations, OfFile, OfFormal, Definition, OfDeclaration, numbered}
@@ -237,53 +238,54 @@ module _ (f : Frame) (known : List Meaning) where
     -- a parameter's name has one defining point
     pub added : add_names [] (map (spelled f.text) (formal_points h)) ≡ map (spelled f.text) (formal_points h)
 
-  heading_at : (h : syntax.Heading) (x : Heading-F syntax.Heading syntax_section.Section) (said : Signature)
-      → out-Heading h ≡ x → (heading f known h).1 [] ≡ Yes said → HeadingTold h said
+  heading_at : (h : syntax.Heading) (x : Heading-F syntax.Heading syntax_section.Section) (hidden : Hidden)
+      (said : Signature) → out-Heading h ≡ x → (heading f known h).1 hidden ≡ Yes said → HeadingTold h said
   unfolding heading_step formal_points entries_before heading_list is_function
-  heading_at h (Heading-F.Procedure name xs) said o e =
-      let is = ap (λ y. (heading f known y).1 []) (sym (roll-out-Heading h) ∙ ap roll-Heading o)
-      ∙ ap (λ (r : HeadingReading). r.1 []) (fold-roll-Heading HeadingReading SectionReading (heading_step f known)
+  heading_at h (Heading-F.Procedure name xs) hidden said o e =
+      let is = ap (λ y. (heading f known y).1 hidden) (sym (roll-out-Heading h) ∙ ap roll-Heading o)
+      ∙ ap (λ (r : HeadingReading). r.1 hidden) (fold-roll-Heading HeadingReading SectionReading (heading_step f known)
       (section_step f known) (Heading-F.Procedure name xs)) in
-      let ss = then_yes (sections_of f known (map (section f known) xs) name.from []) _ said (sym is ∙ e) in
+      let ss = then_yes (sections_of f known (map (section f known) xs) name.from hidden) _ said (sym is ∙ e) in
       let same_said : (ss.0, None) ≡ said = inside_yes (ss.0, None) said ss.2 in
       let list : heading_list h ≡ xs = ap layer_list o in
       record {
-        count = ap (λ (r : Signature). total r.0) (sym same_said) ∙ list_count name.from [] xs ss.0 ss.1
+        count = ap (λ (r : Signature). total r.0) (sym same_said) ∙ list_count name.from hidden xs ss.0 ss.1
             ∙ ap (λ l. length (all (map section_points l))) (sym list);
         is_short = (let z = ap (λ l. length (all (map section_points l))) list
-            in let y = list_few name.from [] xs ss.0 ss.1 in omega (arith, z, y));
+            in let y = list_few name.from hidden xs ss.0 ss.1 in omega (arith, z, y));
         entries = ap (layer_entries (length (formal_points h))) o
             ∙ (let n = length (formal_points h) in let z : n ≡ 0 + n = omega arith in z)
             ∙ ap (λ (r : Signature). first_entry r.1 + length (formal_points h)) same_said;
         result = ap (λ (r : Signature). is_some r.1) (sym same_said) ∙ ap layer_is_function (sym o);
         added = ap (λ l. add_names [] (map (spelled f.text) (all (map section_points l)))) list
-            ∙ list_added name.from [] xs ss.0 ss.1 ∙ ap (λ l. map (spelled f.text) (all (map section_points l)))
+            ∙ list_added name.from hidden xs ss.0 ss.1 ∙ ap (λ l. map (spelled f.text) (all (map section_points l)))
             (sym list);
       }
-  heading_at h (Heading-F.Function name xs type) said o e =
-      let is = ap (λ y. (heading f known y).1 []) (sym (roll-out-Heading h) ∙ ap roll-Heading o)
-      ∙ ap (λ (r : HeadingReading). r.1 []) (fold-roll-Heading HeadingReading SectionReading (heading_step f known)
+  heading_at h (Heading-F.Function name xs type) hidden said o e =
+      let is = ap (λ y. (heading f known y).1 hidden) (sym (roll-out-Heading h) ∙ ap roll-Heading o)
+      ∙ ap (λ (r : HeadingReading). r.1 hidden) (fold-roll-Heading HeadingReading SectionReading (heading_step f known)
       (section_step f known) (Heading-F.Function name xs type)) in
-      let ss = then_yes (sections_of f known (map (section f known) xs) name.from []) _ said (sym is ∙ e) in
-      let t = then_yes (result_type f known [] type) _ said ss.2 in
+      let ss = then_yes (sections_of f known (map (section f known) xs) name.from hidden) _ said (sym is ∙ e) in
+      let t = then_yes (result_type f known hidden type) _ said ss.2 in
       let same_said : (ss.0, Some t.0) ≡ said = inside_yes (ss.0, Some t.0) said t.2 in
       let list : heading_list h ≡ xs = ap layer_list o in
       record {
-        count = ap (λ (r : Signature). total r.0) (sym same_said) ∙ list_count name.from [] xs ss.0 ss.1
+        count = ap (λ (r : Signature). total r.0) (sym same_said) ∙ list_count name.from hidden xs ss.0 ss.1
             ∙ ap (λ l. length (all (map section_points l))) (sym list);
         is_short = (let z = ap (λ l. length (all (map section_points l))) list
-            in let y = list_few name.from [] xs ss.0 ss.1 in omega (arith, z, y));
+            in let y = list_few name.from hidden xs ss.0 ss.1 in omega (arith, z, y));
         entries = ap (layer_entries (length (formal_points h))) o
             ∙ (let n = length (formal_points h) in let z : n + 1 ≡ 1 + n = omega arith in z)
             ∙ ap (λ (r : Signature). first_entry r.1 + length (formal_points h)) same_said;
         result = ap (λ (r : Signature). is_some r.1) (sym same_said) ∙ ap layer_is_function (sym o);
         added = ap (λ l. add_names [] (map (spelled f.text) (all (map section_points l)))) list
-            ∙ list_added name.from [] xs ss.0 ss.1 ∙ ap (λ l. map (spelled f.text) (all (map section_points l)))
+            ∙ list_added name.from hidden xs ss.0 ss.1 ∙ ap (λ l. map (spelled f.text) (all (map section_points l)))
             (sym list);
       }
 
-  pub heading_told : (h : syntax.Heading) (said : Signature) → (heading f known h).1 [] ≡ Yes said → HeadingTold h said
-  heading_told h said e = heading_at h (out-Heading h) said refl e
+  pub heading_told : (h : syntax.Heading) (hidden : Hidden) (said : Signature) → (heading f known h).1 hidden ≡ Yes said
+      → HeadingTold h said
+  heading_told h hidden said e = heading_at h (out-Heading h) hidden said refl e
 
 -- ---- the entries of the formal parameters
 
@@ -466,7 +468,8 @@ pub record Begins (chain : List ℕ) (h : Heading) (x : syntax.Heading) (s : Sta
 -- the names of a heading's formal parameters are added as they are
 heading_names : (f : Frame) (before : List Meaning) (x : syntax.Heading) (h : Heading) → IsHeading f before x h
     → add_names [] h.names ≡ h.names
-heading_names f before x h is = ap (add_names []) is.names ∙ (heading_told f before x is.said is.reading).added
+heading_names f before x h is = ap (add_names []) is.names
+    ∙ (heading_told f before x (hidden_in_heading f x) is.said is.reading).added
     ∙ sym is.names
 
 pub begun : (f : Frame) (before : List Meaning) (x : syntax.Heading) (h : Heading) (at : ℕ) (chain : List ℕ) (s : Start)
@@ -480,7 +483,7 @@ begun f before x h at chain s is e =
     let made : Start = record { chain = inner.0; names = add_names [] h.names; known = d.0.known; first = d.0.next } in
     let same_start : made ≡ s = inside_yes made s d.2 in
     let entered = sections_entered at is.said.0 begin d.0 (ap (add_sections at begin) (sym is.sections) ∙ d.1) in
-    let told = heading_told f before x is.said is.reading in
+    let told = heading_told f before x (hidden_in_heading f x) is.said is.reading in
     let known : d.0.known ≡ formal_meanings (first_entry h.result) h.sections = entered.known
     ∙ ap (formal_meanings (first_entry h.result)) (sym is.sections) in
     let count : length d.0.known ≡ length (formal_points x) = ap length entered.known ∙ formals_length
@@ -518,7 +521,7 @@ pub begins_so : (f : Frame) (before : List Meaning) (x : syntax.Heading) (h : He
     ≡ Yes s
 unfolding start
 begins_so f before x h at chain s is deep chained names known first =
-    let told = heading_told f before x is.said is.reading in
+    let told = heading_told f before x (hidden_in_heading f x) is.said is.reading in
     let begin : Entries = record { next = first_entry h.result; known = [] } in
     let entry = short_entry h.result in
     let count = told.count in

@@ -16,7 +16,7 @@ use Rattle.ps_check_names.specs.Regions.{Region, Meaning, RoutineMeaning, Headin
 use Rattle.ps_check.specs.Readings.{Gathered, Routines, is_bare, is_name_alone}
 use Rattle.ps_check.specs.Forwards.{may_complete, add_routine, add_routines, is_vacant, is_open, is_same_kind}
 use Rattle.ps_check.specs.Forwards.{one_complete, all_complete}
-use Rattle.ps_check.specs.Blocks.{one_routine, block, routine}
+use Rattle.ps_check.specs.Blocks.{hidden_in_heading, one_routine, block, routine}
 use Rattle.ps_check.specs.Paths.{layer_block, routine_block}
 use Rattle.ps_check_laws.specs.Definitions.{Declaration, Declarations, Definition, OfDeclaration, layer_heading}
 use Rattle.ps_check_laws.specs.Definitions.{routine_heading, introduced_from, names_of}
@@ -222,8 +222,9 @@ module _ (c : Context) (number : ℕ) (names : List (List ℕ)) (outer : List Re
     forward_new (completing here same_routines alike may) none = absurd (block_of c x may none)
     forward_new (introducing is last known numbered) none =
         let said : routine_heading x ≡ Some intro.said = ap routine_heading (sym is) ∙ intro.is_said in
-        let told = heading_told (f c number names outer first chain D base drawn all) intro.known intro.said
-        intro.is.said intro.is.reading in
+        let frame = f c number names outer first chain D base drawn all in
+        let told = heading_told frame intro.known intro.said (hidden_in_heading frame intro.said) intro.is.said
+        intro.is.reading in
         (intro.said, forward_is x (out-Routine x) intro.said refl none said, ap is_some intro.is.result ∙ told.result)
 
     named_new : Named w x

@@ -29,9 +29,9 @@ use Rattle.ps_check.specs.Readings.{Gathered, Start, Done, Routines, BlockReadin
 use Rattle.ps_check.specs.Forwards.{is_vacant, is_open, is_same_kind, is_waiting, one_complete, all_complete}
 use Rattle.ps_check.specs.Forwards.{block_names, add_routines}
 use Rattle.ps_check.specs.Entries.{first_entry, start}
-use Rattle.ps_check.specs.Blocks.{routine_tree, is_small_routine, finished, heading_at, known_as, new_heading, headed}
-use Rattle.ps_check.specs.Blocks.{introduce, read_block, one_routine, own_number, of_statements, declared, block_body}
-use Rattle.ps_check.specs.Blocks.{block_step, block, routine, layer}
+use Rattle.ps_check.specs.Blocks.{routine_tree, is_small_routine, finished, heading_at, known_as, hidden_in_heading}
+use Rattle.ps_check.specs.Blocks.{new_heading, headed, introduce, read_block, one_routine, own_number, of_statements}
+use Rattle.ps_check.specs.Blocks.{declared, block_body, block_step, block, routine, layer}
 use Rattle.ps_check.specs.Programs.{Files, program_context}
 use Rattle.ps_check.specs.Changes.{assigns, outward}
 use Rattle.ps_check.specs.RegionNames.{AreApart}
@@ -400,8 +400,8 @@ module _ (text : List ℕ) (p : syntax_program.Program) (files : Files) (made : 
           let in_limit : length r.gathered.routines < 1048576 =
           (let z = many_gathered in let y = inside_block in let w = one_more in let o = own_one text I x absent
           in omega (arith, z, y, w, o, few)) in
-          let reading : (heading f r.known m.said).1 [] ≡ Yes m.is.said = ap (λ l. (heading f l m.said).1 []) s.known
-          ∙ m.is.reading in
+          let reading : (heading f r.known m.said).1 (hidden_in_heading f m.said) ≡ Yes m.is.said =
+          ap (λ l. (heading f l m.said).1 (hidden_in_heading f m.said)) s.known ∙ m.is.reading in
           let as_routines : Heading → Routines = λ h. record {
             known = r.known ++ RoutineMeaning h ∷ [];
             changes = r.changes;
@@ -426,7 +426,8 @@ module _ (text : List ℕ) (p : syntax_program.Program) (files : Files) (made : 
           (ap (map (spelled text)) (points_told f r.known (heading_list m.said)) ∙ sym m.is.names)
           (ap is_none (read c x).block_is ∙ none_stays (block c) (routine_block x) ∙ sym m.forward) in
           ap (λ z. j.◌>>=◌ (provided z Limit (heading_name m.said).from (length r.gathered.routines))
-          (λ z. j.◌>>=◌ ((heading f r.known m.said).1 []) (λ said. Yes (as_routines (as_heading z said)))))
+          (λ z. j.◌>>=◌ ((heading f r.known m.said).1 (hidden_in_heading f m.said))
+          (λ said. Yes (as_routines (as_heading z said)))))
           (less_true (length r.gathered.routines) 1048576 in_limit)
           ∙ ap (λ o. j.◌>>=◌ o (λ said. Yes (as_routines (as_heading (length r.gathered.routines) said)))) reading
           ∙ ap (λ h. Yes (as_routines h)) same_heading
@@ -510,7 +511,7 @@ module _ (text : List ℕ) (p : syntax_program.Program) (files : Files) (made : 
           ∙ ap (λ b. Some (if b then None else Some tree.0))
           (is_open_there c D rs apart mine.completed mine.next done rest x split vacant q s.are j y in_done alike
           completes) in
-          let told = heading_told f (take i mine.known) m.said m.is.said m.is.reading in
+          let told = heading_told f (take i mine.known) m.said (hidden_in_heading f m.said) m.is.said m.is.reading in
           let same_said : m.said ≡ completes.heading = inside m.said completes.heading
           (sym m.is_said ∙ forward_heading y completes.heading completes.forward) in
           let kind : is_some m.heading.result ≡ is_function completes.heading = ap is_some m.is.result ∙ told.result

@@ -28,8 +28,9 @@ use Rattle.ps_check.specs.Readings.{Gathered, Start, Done, Routines, RoutineRead
 use Rattle.ps_check.specs.Forwards.{may_complete, add_routine, add_routines, is_vacant, is_open, is_same_kind}
 use Rattle.ps_check.specs.Forwards.{is_waiting}
 use Rattle.ps_check.specs.Entries.{first_entry, start}
-use Rattle.ps_check.specs.Blocks.{routine_tree, is_small_routine, finished, known_as, heading_at, new_heading, headed}
-use Rattle.ps_check.specs.Blocks.{introduce, introduced as introduced_to, read_block, one_routine, block, routine}
+use Rattle.ps_check.specs.Blocks.{routine_tree, is_small_routine, finished, known_as, heading_at, hidden_in_heading}
+use Rattle.ps_check.specs.Blocks.{new_heading, headed, introduce, introduced as introduced_to, read_block}
+use Rattle.ps_check.specs.Blocks.{one_routine, block, routine}
 use Rattle.ps_check.specs.Changes.{assigns, outward}
 use Rattle.ps_check.specs.Paths.{routine_block}
 use Rattle.ps_check_laws.specs.Option.{◌>>=◌}
@@ -442,7 +443,7 @@ module _ (c : Context) (number : ℕ) (names : List (List ℕ)) (outer : List Re
         (length r.gathered.routines)) _ s e in
         let next = provided_yes (nat_lt (length r.gathered.routines) 1048576) Limit (heading_name xh).from
         (length r.gathered.routines) n.0 n.1 in
-        let g = then_yes ((heading f r.known xh).1 []) _ s n.2 in
+        let g = then_yes ((heading f r.known xh).1 (hidden_in_heading f xh)) _ s n.2 in
         let h : Heading = record {
           number = n.0;
           at = (heading_name xh).from;

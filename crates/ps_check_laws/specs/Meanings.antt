@@ -18,6 +18,7 @@ use Rattle.ps_check_declarations.specs.Declarations.{meaning_of_constant}
 use Rattle.ps_check_declarations.specs.Headings.{Signature, heading, section_list, formal_meanings}
 use Rattle.ps_check.specs.Readings.{heading_name}
 use Rattle.ps_check.specs.Entries.{first_entry}
+use Rattle.ps_check.specs.Blocks.{hidden_in_heading}
 use Rattle.ps_check.specs.Programs.{file_named, required}
 use Rattle.ps_check.specs.Paths.{block_at, routine_block as block_of}
 use Rattle.ps_check_laws.specs.Definitions.{Declaration, OfFile, OfFormal, OfConstant, OfEnumeration, OfType}
@@ -63,10 +64,10 @@ Declares f first before (OfVariable v i name) m = (type : DataType) × (more : L
     × IsTypeOf (within f (variable_names f v)) (hidden_by f v) v.ty known type × (before ≡ known ++ more)
     × (m ≡ VariableMeaning (first + i) type)
 
--- a heading, as it is read in the block
+-- a heading, as it is read in the block: the routine's name hides others in it
 pub record IsHeading (f : Frame) (before : List Meaning) (x : syntax.Heading) (h : Heading) : Type 0 where
   pub said : Signature
-  pub reading : (heading f before x).1 [] ≡ Yes said
+  pub reading : (heading f before x).1 (hidden_in_heading f x) ≡ Yes said
   pub at : h.at ≡ (heading_name x).from
   pub sections : h.sections ≡ section_list said.0
   pub result : h.result ≡ said.1

@@ -1,3 +1,5 @@
 pub mod DenotesLemmas
 pub mod ViewLemmas
+pub mod CodeLemmas
 pub mod OpenedLemmas
+pub mod NoteLemmas

@@ -2,4 +2,9 @@ pub mod Spelling
 pub mod Regions
 pub mod Denotes
 pub mod Constants
+pub mod SectionViews
+pub mod SectionCode
+pub mod SectionDepth
+pub mod Codes
 pub mod Views
+pub mod Opened

@@ -2,7 +2,7 @@
 use Rattle.std.specs.Prelude.{ℕ, zero, suc, ◌+◌, ℤ, Bool, ◌||◌, List, [], ◌∷◌, Option, Some, None, slice_get, nat_lt}
 use Rattle.std.specs.Prelude.{codes, if◌then◌else◌}
 use Rattle.ps_tree.specs.declared.types.Ordinal.{Ordinal}
-use Rattle.ps_tree.specs.Types.{DataType, FieldList, field_in}
+use Rattle.ps_tree.specs.Types.{DataType, RecordType, FieldList, field_list, no_type, field_in}
 use Rattle.ps_tree.specs.Tree.{Formals, no_formal, formal_before, ValueFormal, VariableFormal, RoutineFormal}
 use Rattle.ps_check_names.specs.declared.meaning.File.{File}
 use Rattle.ps_check_names.specs.declared.meaning.Required.{Required}
@@ -86,6 +86,11 @@ pub data Region : Type 0 where
   -- A record within its own denoter, a formal parameter list, or the variables of a declaration: a name of it hides
   -- others of its spelling there, and can't be used. The first `defined` of them come before the place.
   OwnNames : (names : List (List ℕ)) (defined : ℕ) → Region
+
+-- the fields of a record type; no other type has any
+unfoldable pub fields_of : DataType → FieldList
+fields_of (RecordType at packed fields) = fields
+fields_of _ = field_list [] no_type
 
 -- a defining point that is denoted
 pub data Point : Type 0 where

@@ -1,11 +1,8 @@
 -- What the values of the program denote in the definitions.
+pub use Rattle.ps_check_names.specs.SectionViews.{section_of, sections_of}
 use Rattle.std.specs.Prelude.{ℕ, List, [], ◌∷◌, option_map, map}
 use Rattle.ps_tree.specs.declared.types.Ty.{Ty}
-use Rattle.ps_tree.specs.Types.{DataType, RecordType, FieldList, field_list, no_type}
 use Rattle.ps_tree.specs.View.{type_of}
-use Rattle.ps_check_names.specs.declared.meaning.Section as Rust
-use Rattle.ps_check_names.specs.declared.meaning.Section.{Value, Variable, Routine', Row_of-Section, end_of-Section}
-use Rattle.ps_check_names.specs.declared.meaning.Section.{more_of-Section}
 use Rattle.ps_check_names.specs.declared.meaning.Heading as RustHeading
 use Rattle.ps_check_names.specs.declared.meaning.Meaning as RustMeaning
 use Rattle.ps_check_names.specs.declared.meaning.Meaning.TheVariants as m
@@ -19,32 +16,16 @@ use Rattle.ps_check_names.specs.declared.constants.ConstantValue as RustConstant
 use Rattle.ps_check_names.specs.declared.constants.ConstantValue.TheVariants as c
 use Rattle.ps_check_judgement.specs.Judged.{Judged, Yes, No}
 use Rattle.ps_check_names.specs.Constants.{ConstantValue, OrdinalConstant, TextConstant}
-use Rattle.ps_check_names.specs.Regions.{Section, ValueSection, VariableSection, RoutineSection, Sections, no_section}
-use Rattle.ps_check_names.specs.Regions.{section_before, Heading, Meaning, ConstantMeaning, TextMeaning, TypeMeaning}
+use Rattle.ps_check_names.specs.Regions.{Heading, Meaning, ConstantMeaning, TextMeaning, TypeMeaning}
 use Rattle.ps_check_names.specs.Regions.{VariableMeaning, ParameterMeaning, RoutineParameterMeaning, RoutineMeaning}
 use Rattle.ps_check_names.specs.Regions.{FileMeaning, RequiredMeaning, LeftOutMeaning, Region, BlockRegion}
-use Rattle.ps_check_names.specs.Regions.{RecordRegion, OwnNames, Point, BlockPoint, FieldPoint, Context}
-
-unfoldable mutual
-  pub section_of : Rust.Section → Section
-  section_of (Value count ty) = ValueSection count (type_of ty)
-  section_of (Variable count ty) = VariableSection count (type_of ty)
-  section_of (Routine' p shape row result) = RoutineSection (sections_of_row row) (option_map type_of result)
-
-  pub sections_of_row : {m : _} → Row_of-Section m → Sections
-  sections_of_row end_of-Section = no_section
-  sections_of_row (more_of-Section s rest) = section_before (section_of s) (sections_of_row rest)
-
--- lists of sections
-unfoldable pub sections_of : List Rust.Section → Sections
-sections_of [] = no_section
-sections_of (s ∷ rest) = section_before (section_of s) (sections_of rest)
+use Rattle.ps_check_names.specs.Regions.{RecordRegion, OwnNames, fields_of, Point, BlockPoint, FieldPoint, Context}
 
 abbrev pub heading_of : RustHeading.Heading → Heading
 heading_of h = record {
   number = h.number;
   at = h.at;
-  sections = sections_of h.sections.value.items;
+  sections = h.sections.value;
   result = option_map type_of h.result;
   names = map (λ name. name.items) h.names.items;
   is_forward = h.is_forward;
@@ -56,17 +37,12 @@ meaning_of (m.Text characters) = TextMeaning characters
 meaning_of (m.«Type» ty) = TypeMeaning (type_of ty)
 meaning_of (m.Variable entry ty) = VariableMeaning entry (type_of ty)
 meaning_of (m.Parameter entry ty) = ParameterMeaning entry (type_of ty)
-meaning_of (m.RoutineParameter entry sections result) = RoutineParameterMeaning entry (sections_of sections.value.items)
+meaning_of (m.RoutineParameter entry sections result) = RoutineParameterMeaning entry sections.value
     (option_map type_of result)
 meaning_of (m.Routine heading) = RoutineMeaning (heading_of heading)
 meaning_of (m.File file) = FileMeaning file
 meaning_of (m.Required routine) = RequiredMeaning routine
 meaning_of m.LeftOut = LeftOutMeaning
-
--- the fields of a record type; no other type has any
-unfoldable pub fields_of : DataType → FieldList
-fields_of (RecordType at packed fields) = fields
-fields_of _ = field_list [] no_type
 
 -- the regions after records of these types were opened one after the other
 unfoldable pub opened_in : List Region → List Ty → List Region
@@ -77,7 +53,7 @@ unfoldable pub scope_of : Scope → List Region
 scope_of Outside = []
 scope_of (Block' routine names known p outer) = BlockRegion routine names.now (map meaning_of known.now)
     ∷ scope_of outer
-scope_of (Opened' records p outer) = opened_in (scope_of outer) records.now
+scope_of (Opened' records p outer) = opened_in (scope_of outer) records.now.records.items
 scope_of (Own' names defined p outer) = OwnNames names.now defined ∷ scope_of outer
 
 abbrev pub point_of : Found → Point

@@ -3,5 +3,7 @@
 
 pub mod constants;
 pub mod meaning;
+pub mod opened;
 pub mod reading;
 pub mod scope;
+pub mod sections;

@@ -1,5 +1,6 @@
 //! What names denote.
 
+use crate::sections::SectionList;
 use ps_tree::characters::Characters;
 use ps_tree::types::{Ordinal, Ty};
 use std::rc::Rc;
@@ -32,31 +33,13 @@ pub enum Required {
     Unpack,
 }
 
-/// A section of a formal parameter list (6.6.3.1); `count` is the number of its names.
-#[derive(Drop)]
-pub enum Section {
-    Value {
-        count: u32,
-        ty: Ty,
-    },
-    Variable {
-        count: u32,
-        ty: Ty,
-    },
-    /// A procedural parameter, or a functional one, which has a result.
-    Routine {
-        sections: Rc<Vec<Section>>,
-        result: Option<Ty>,
-    },
-}
-
 /// A routine's heading. `at` is the offset of the routine's name; `names` has the formal parameters' names in lower
 /// case, in order; a forward heading's block comes later.
 #[derive(Drop)]
 pub struct Heading {
     pub number: u32,
     pub at: u32,
-    pub sections: Rc<Vec<Section>>,
+    pub sections: Rc<SectionList>,
     pub result: Option<Ty>,
     pub names: Vec<Vec<u8>>,
     pub is_forward: bool,
@@ -86,7 +69,7 @@ pub enum Meaning {
     },
     RoutineParameter {
         entry: u32,
-        sections: Rc<Vec<Section>>,
+        sections: Rc<SectionList>,
         result: Option<Ty>,
     },
     Routine(Heading),

@@ -7,16 +7,18 @@ use ps_check_judgement::refusal::Fault;
 use ps_scan::name_spelling;
 use ps_text::{LineTable, Source, Span};
 use ps_tree::line::Line;
+use ps_tree::names::Seed;
 use ps_tree::types::Ty;
 use smallvec::SmallVec;
 use std::alloc::{AllocError, Global};
 
-/// The text that is read, with its lines, the domain types of the pointer types so far, by their numbers, and which of
-/// input and output the program heading lists.
+/// The text that is read, with its lines and the seed of its names' hashes, the domain types of the pointer types so
+/// far, by their numbers, and which of input and output the program heading lists.
 #[derive(Clone, Copy)]
 pub struct Reading<'a> {
     pub source: &'a Source<'a>,
     pub lines: &'a LineTable<'a>,
+    pub seed: Seed,
     pub domains: &'a [Ty],
     pub has_input: bool,
     pub has_output: bool,

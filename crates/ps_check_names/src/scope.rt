@@ -1,16 +1,15 @@
 //! The regions that enclose a place, and the search through them.
 
-ghost use Rattle.std.specs.Prelude.{◌≡◌, ℕ, List, ◌∷◌, map, option_map, IfOk, IfErr, None, Some};
+ghost use Rattle.std.specs.Prelude.{◌≡◌, ◌+◌, ◌<◌, ◌≤◌, ℕ, List, ◌∷◌, map, IfOk, IfErr, IfSome, IfNone};
 ghost use Rattle.std.specs.Prelude.{if◌then◌else◌, nat_lt};
 ghost use Rattle.ps_check_judgement.specs.Judged.{Answers};
 ghost use Rattle.ps_check_judgement.specs.declared.refusal.Rule.TheVariants.{WrongKind, UsedBefore};
-ghost use Rattle.ps_tree.specs.Types.{field_in};
-ghost use Rattle.ps_tree.specs.View.{type_of};
 ghost use Rattle.ps_check_names.specs.Regions.{Region, BlockRegion, one_more, missing, find_past, find};
-ghost use Rattle.ps_check_names.specs.Views.{meaning_of, fields_of, opened_in, scope_of, point_of, found};
+ghost use Rattle.ps_check_names.specs.Views.{meaning_of, opened_in, scope_of, point_of, found};
 ghost use Rattle.ps_check_names.specs.Denotes.{FindsWhatIsDenoted};
 
 use crate::meaning::Meaning;
+use crate::opened::{Opened, field_of};
 use ps_check_judgement::answer::broken;
 use ps_check_judgement::refusal::{Fault, Rule};
 use ps_tree::names::Names;
@@ -28,10 +27,10 @@ pub enum Scope<'a> {
         known: &'a [Meaning],
         outer: &'a Scope<'a>,
     },
-    /// The types of the records that a `with` opens one after the other, each within those before it. A type that is
-    /// not a record has no fields.
+    /// The records that a `with` opens one after the other, each within those before it. A type that is not a record
+    /// has no fields.
     Opened {
-        records: &'a [Ty],
+        records: &'a Opened,
         outer: &'a Scope<'a>,
     },
     /// A record within its own denoter, a list of formal parameters, or the variables of a declaration: their names,
@@ -101,19 +100,38 @@ fn past_block<'a>(
     }
 }
 
-/// The field of a record type with this name: its number and its type.
-#[tactic(auto, unfolding(crate::specs::Views::fields_of, ps_tree::specs::View::type_of))]
-fn field_of<'a>(ty: &'a Ty, name: &[u8]) -> Option<(u32, &'a Ty)>
-    ensures { option_map (λ f. (f.0, type_of f.1.now)) result ≡ field_in (fields_of (type_of ty.now)) name.now }
+/// So many more, where a count can tell it.
+fn more(count: u32, further: usize) -> Option<u32>
+    ensures some { IfSome result (λ all. all ≡ count + further) }
+    ensures small { IfSome result (λ all. all ≤ 4294967295) }
+    ensures none { IfNone result (4294967295 < count + further) }
 {
-    match ty {
-        Ty::Record { fields, .. } => fields.find(name),
-        _ => None,
+    let all = further.checked_add(count as usize)?;
+    if all <= u32::MAX as usize {
+        Some(all as u32)
+    } else {
+        None
     }
 }
 
 /// The number of opened records before what encloses these, the last of which is the innermost, if none of them has a
 /// field with this name; or else what ends the search.
+#[tactic(auto, using(crate::proofs::OpenedLemmas::behind_uncounted))]
+fn past_opened<'a>(opened: &'a Opened, which: u32, name: &[u8]) -> Result<u32, Lookup<'a>>
+    ensures ok { IfOk result (λ n. (up at : ℕ) (Γ : List Region) → find_past up which
+        (opened_in Γ opened.now.records.items) name.now at ≡ find_past up n Γ name.now at) }
+    ensures err { IfErr result (λ end. (up at : ℕ) (Γ : List Region) → find_past up which
+        (opened_in Γ opened.now.records.items) name.now at ≡ found at end) }
+{
+    let reach = opened.reach(name);
+    let behind = opened.records.len() - reach;
+    match more(which, behind) {
+        None => Err(Lookup::Broken(missing(name))),
+        Some(passed) => past_records(&opened.records[..reach], passed, name),
+    }
+}
+
+/// The same of records by their types, the last of which is the innermost.
 fn past_records<'a>(records: &'a [Ty], which: u32, name: &[u8]) -> Result<u32, Lookup<'a>>
     ensures ok { IfOk result (λ n. (up at : ℕ) (Γ : List Region) → find_past up which
         (opened_in Γ records.now) name.now at ≡ find_past up n Γ name.now at) }
@@ -164,7 +182,7 @@ pub fn find<'a>(scope: &'a Scope<'a>, name: &[u8]) -> Lookup<'a>
                 here = outer;
             }
             Scope::Opened { records, outer } => {
-                match past_records(records, which, name) {
+                match past_opened(records, which, name) {
                     Ok(further) => which = further,
                     Err(end) => return end,
                 }

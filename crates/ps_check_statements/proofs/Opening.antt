@@ -7,8 +7,8 @@ use Rattle.ps_tree.specs.declared.tree.Place.{Place}
 use Rattle.ps_tree.specs.View.{type_of, place_of}
 use Rattle.ps_check_judgement.specs.declared.change.Change.{Change}
 use Rattle.ps_check_judgement.specs.Judged.{Yes}
-use Rattle.ps_check_names.specs.Regions.{Context, Region, RecordRegion, Heading}
-use Rattle.ps_check_names.specs.Views.{fields_of, opened_in}
+use Rattle.ps_check_names.specs.Regions.{Context, Region, RecordRegion, fields_of, Heading}
+use Rattle.ps_check_names.specs.Views.{opened_in}
 use Rattle.ps_check_names.proofs.OpenedLemmas.{opened_region, opened_push}
 use Rattle.ps_check_statements.specs.Assignments.{result_in}
 use Rattle.ps_check_statements.specs.Structured.{open_next}

@@ -3,7 +3,7 @@
 ghost use Rattle.std.specs.Prelude.{◌≡◌, map, option_map};
 ghost use Rattle.ps_tree.specs.View.{argument_of, type_of};
 ghost use Rattle.ps_check_judgement.specs.Judged.{Answers};
-ghost use Rattle.ps_check_names.specs.Views.{section_of, sections_of};
+ghost use Rattle.ps_check_names.specs.SectionViews.{section_of};
 ghost use Rattle.ps_check_expressions.specs.View.{context_at, regions_at, variable_of};
 ghost use Rattle.ps_check_statements.specs.Procedures.{first_of_parameter, actual_parameter, procedure_parameters};
 ghost use Rattle.ps_check_statements.specs.Procedures.{parameter_variable};
@@ -15,7 +15,7 @@ use ps_check_expressions::value::TypedPlace;
 use ps_check_judgement::answer::{broken, push_answer};
 use ps_check_judgement::change::Change;
 use ps_check_judgement::refusal::{Fault, Rule};
-use ps_check_names::meaning::Section;
+use ps_check_names::sections::{Section, SectionList};
 use ps_syntax::Parameter;
 use ps_tree::tree::Argument;
 use ps_tree::types::Ty;
@@ -69,13 +69,13 @@ pub(crate) fn actual_parameters(
     list: &[Parameter],
     site: Site<'_>,
     changes: &mut Vec<Change>,
-    sections: &[Section],
+    sections: &SectionList,
     outcome: &Option<Ty>,
     at: u32,
 ) -> Result<Vec<Argument>, Fault>
     ensures { Answers result (λ arguments. (map argument_of arguments.items, changes.new.items))
         (procedure_parameters (context_at site.entry) (regions_at site.entry) at (option_map type_of outcome.now)
-        (sections_of sections.now) list.now changes.old.items) }
+        sections.now list.now changes.old.items) }
 {
     if outcome.is_some() {
         return Err(broken(Rule::WrongKind, at));

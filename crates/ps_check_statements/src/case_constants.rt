@@ -12,6 +12,7 @@ use ps_check_judgement::answer::broken;
 use ps_check_judgement::refusal::{Fault, Rule};
 use ps_check_names::constants::{ConstantValue, constant};
 use ps_syntax::Constant;
+use ps_tree::names::Seed;
 use ps_tree::types::{Ordinal, same_host};
 
 /// The value of a case constant; the index is of an ordinal type.
@@ -36,7 +37,7 @@ fn case_label(site: Site<'_>, index: Ordinal, label: Constant) -> Result<i32, Fa
 fn next_label(
     site: Site<'_>,
     index: Ordinal,
-    seen: &mut IndexSet<i32>,
+    seen: &mut IndexSet<i32, Seed>,
     own: &mut Vec<i32>,
     label: Constant,
 ) -> Result<(), Fault>
@@ -60,7 +61,7 @@ fn next_label(
 pub(crate) fn case_labels(
     site: Site<'_>,
     index: Ordinal,
-    seen: &mut IndexSet<i32>,
+    seen: &mut IndexSet<i32, Seed>,
     constants: &[Constant],
 ) -> Result<Vec<i32>, Fault>
     ensures labels { Answers result (λ own. own.items)

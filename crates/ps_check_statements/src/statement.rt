@@ -24,6 +24,7 @@ use ps_check_judgement::refusal::{Fault, Rule};
 use ps_check_names::scope::Scope;
 use ps_syntax::{Direction as Way, Element, Expr as SyntaxExpr, Statement as Syntax, Variable};
 use ps_text::Span;
+use ps_tree::names::Seed;
 use ps_tree::tree::{CaseElement, Expr, Statement};
 use ps_tree::types::Ordinal;
 
@@ -253,7 +254,7 @@ fn elements(
         (spec.elements (context_at site.entry) (regions_at site.entry) index
         (map spec.element list.now) changes.old.items) }
 {
-    let mut seen = IndexSet::new(site.alloc);
+    let mut seen = IndexSet::with_hasher(site.alloc, site.reading.seed);
     let mut typed = Vec::with_capacity(site.alloc, list.len())?;
     for x in list {
         push_answer(&mut typed, element(x, site, changes, index, &mut seen))?;
@@ -269,7 +270,7 @@ fn element(
     site: Site<'_>,
     changes: &mut Vec<Change>,
     index: Ordinal,
-    seen: &mut IndexSet<i32>,
+    seen: &mut IndexSet<i32, Seed>,
 ) -> Result<CaseElement, Fault>
     ensures element { Answers result (λ e. (element_of e, changes.new.items))
         (spec.element x.now (context_at site.entry) (regions_at site.entry) index seen.old.keys changes.old.items) }
@@ -319,9 +320,9 @@ fn with_statement(
         (spec.with_behind (context_at site.entry) ([], regions_at site.entry) records.now
         (spec.statement x.now) changes.old.items) }
 {
-    let (places, types) = open_all(records, site, changes)?;
+    let (places, opened) = open_all(records, site, changes)?;
     let scope = Scope::Opened {
-        records: types.as_slice(),
+        records: &opened,
         outer: site.scope,
     };
     let body = boxed(x, site.within(&scope), changes)?;

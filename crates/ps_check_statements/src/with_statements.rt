@@ -3,11 +3,11 @@
 ghost use Rattle.std.specs.Prelude.{◌≡◌, ◌++◌, [], ◌∷◌, List, map, IfOk, IfErr, Some, None};
 ghost use Rattle.ps_tree.specs.View.{type_of, place_of};
 ghost use Rattle.ps_tree.specs.Tree as Tree;
-ghost use Rattle.ps_check_names.specs.Regions.{RecordRegion};
+ghost use Rattle.ps_check_names.specs.Regions.{RecordRegion, fields_of};
 ghost use Rattle.ps_check_judgement.specs.declared.change.Change.{Change};
 ghost use Rattle.ps_check_judgement.specs.Judged.{Answers};
 ghost use Rattle.ps_check_judgement.specs.Changing.{through};
-ghost use Rattle.ps_check_names.specs.Views.{fields_of, opened_in};
+ghost use Rattle.ps_check_names.specs.Views.{opened_in};
 ghost use Rattle.ps_check_expressions.specs.View.{context_at, regions_at};
 ghost use Rattle.ps_check_statements.specs.Structured.{Opening, open_next};
 
@@ -17,13 +17,14 @@ use ps_check_expressions::value::TypedPlace;
 use ps_check_judgement::answer::broken;
 use ps_check_judgement::change::Change;
 use ps_check_judgement::refusal::{Fault, Rule};
+use ps_check_names::opened::Opened;
 use ps_check_names::scope::Scope;
 use ps_syntax::Variable;
 use ps_tree::tree::Place;
 use ps_tree::types::Ty;
 
 /// A record to be opened, and its type.
-#[tactic(auto, using(ps_check_expressions::proofs::Judgement::variable_first), unfolding(crate::specs::Structured::open_next, crate::specs::Structured::record_region, ps_check_names::specs::Views::fields_of, ps_tree::specs::View::type_of))]
+#[tactic(auto, using(ps_check_expressions::proofs::Judgement::variable_first), unfolding(crate::specs::Structured::open_next, crate::specs::Structured::record_region, ps_check_names::specs::Regions::fields_of, ps_tree::specs::View::type_of))]
 fn opened_record(
     x: &Variable,
     site: Site<'_>,
@@ -54,40 +55,47 @@ fn open_next(
     site: Site<'_>,
     changes: &mut Vec<Change>,
     places: &mut Vec<Place>,
-    types: &mut Vec<Ty>,
-) -> Result<(), Fault>
-    ensures { Answers result (λ _. (
-      (map place_of places.new.items, opened_in (regions_at site.entry) types.new.items),
+    opened: Opened,
+) -> Result<Opened, Fault>
+    ensures { Answers result (λ all. (
+      (
+        map place_of places.new.items,
+        opened_in
+            (regions_at site.entry) all.records.items,
+      ),
       changes.new.items,
-    )) (open_next (context_at site.entry)
-        (map place_of places.old.items, opened_in (regions_at site.entry) types.old.items) x.now changes.old.items) }
+    ))
+        (open_next (context_at site.entry) (
+          map place_of places.old.items,
+          opened_in
+              (regions_at site.entry) opened.records.items,
+        ) x.now changes.old.items) }
 {
     let scope = Scope::Opened {
-        records: types.as_slice(),
+        records: &opened,
         outer: site.scope,
     };
     let (place, ty) = opened_record(x, site.within(&scope), changes)?;
     places.push(place)?;
-    types.push(ty)?;
-    Ok(())
+    Ok(opened.with(site.alloc, ty)?)
 }
 
-/// Opens records one after the other, each within those before it: their places, and their types.
+/// Opens records one after the other, each within those before it: their places, and the records.
 pub(crate) fn open_all(
     records: &[Variable],
     site: Site<'_>,
     changes: &mut Vec<Change>,
-) -> Result<(Vec<Place>, Vec<Ty>), Fault>
+) -> Result<(Vec<Place>, Opened), Fault>
     ensures { Answers result (λ p. (
-      (map place_of p.0.items, opened_in (regions_at site.entry) p.1.items),
+      (map place_of p.0.items, opened_in (regions_at site.entry) p.1.records.items),
       changes.new.items,
     )) (through (open_next (context_at site.entry))
         ([], regions_at site.entry) records.now changes.old.items) }
 {
     let mut places = Vec::with_capacity(site.alloc, records.len())?;
-    let mut types = Vec::with_capacity(site.alloc, records.len())?;
+    let mut opened = Opened::new(site.alloc, site.reading.seed);
     for x in records {
-        open_next(x, site, changes, &mut places, &mut types)?;
+        opened = open_next(x, site, changes, &mut places, opened)?;
     }
-    Ok((places, types))
+    Ok((places, opened))
 }

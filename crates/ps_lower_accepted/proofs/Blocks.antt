@@ -32,8 +32,8 @@ use Rattle.ps_check_declarations.specs.Headings.{Signature, heading, section_lis
 use Rattle.ps_check.specs.Readings.{Gathered, Start, Done, Routines, RoutineReading, heading_name}
 use Rattle.ps_check.specs.Forwards.{is_vacant, is_open, is_same_kind, may_complete, is_waiting}
 use Rattle.ps_check.specs.Entries.{start}
-use Rattle.ps_check.specs.Blocks.{routine_tree, is_small_routine, finished, heading_at, new_heading, headed, introduce}
-use Rattle.ps_check.specs.Blocks.{read_block, one_routine, block, routine}
+use Rattle.ps_check.specs.Blocks.{routine_tree, is_small_routine, finished, heading_at, hidden_in_heading, new_heading}
+use Rattle.ps_check.specs.Blocks.{headed, introduce, read_block, one_routine, block, routine}
 use Rattle.ps_check.specs.Changes.{assigns, outward}
 use Rattle.ps_check.proofs.Equations.{routine_Whole, routine_Forward, routine_Completion}
 use Rattle.ps_lower_accepted.proofs.Lists.{Each, each_at, each_append, each_left, each_right, each_map, none_some}
@@ -322,8 +322,8 @@ module _ (own : ℕ) (rest : List ℕ) (f : Frame) (base : ℕ) (begun : List Me
   -- ---- what introduces a routine
 
   heading_new : (i : Option ℕ) (r s : Routines) (D : Table) (is_forward : Bool) (x : syntax.Heading) → f.text ≡ f.text
-      → ((q : Signature) → (heading f r.known x).1 [] ≡ Yes q → SectionsKnown D (length r.gathered.domains)
-      (section_list q.0) × ResultKnown D (length r.gathered.domains) q.1)
+      → ((q : Signature) → (heading f r.known x).1 (hidden_in_heading f x) ≡ Yes q → SectionsKnown D
+      (length r.gathered.domains) (section_list q.0) × ResultKnown D (length r.gathered.domains) q.1)
       → at_place i r.known ≡ None → Reading r D → new_heading f is_forward r x ≡ Yes s → Introduced i r s D
   unfolding new_heading
   heading_new i r s D is_forward x same tells nothing reading e =
@@ -331,7 +331,7 @@ module _ (own : ℕ) (rest : List ℕ) (f : Frame) (base : ℕ) (begun : List Me
       (length r.gathered.routines)) _ s e in
       let number = provided_yes (nat_lt (length r.gathered.routines) 1048576) _ _ (length r.gathered.routines) n.0 n.1
       in
-      let q = then_yes ((heading f r.known x).1 []) _ s n.2 in
+      let q = then_yes ((heading f r.known x).1 (hidden_in_heading f x)) _ s n.2 in
       subst (λ t. Introduced i r t D) (inside_yes _ s q.2)
       (heading_introduced i r D _ nothing (sym number.1) (tells q.0 q.1) reading)
 
@@ -358,7 +358,7 @@ module _ (own : ℕ) (rest : List ℕ) (f : Frame) (base : ℕ) (begun : List Me
 
   abbrev HeadingTold : Routines → Table → Option syntax.Heading → Type 0
   HeadingTold r D None = Unit {0}
-  HeadingTold r D (Some x) = (q : Signature) → (heading f r.known x).1 [] ≡ Yes q → SectionsKnown D
+  HeadingTold r D (Some x) = (q : Signature) → (heading f r.known x).1 (hidden_in_heading f x) ≡ Yes q → SectionsKnown D
       (length r.gathered.domains) (section_list q.0) × ResultKnown D (length r.gathered.domains) q.1
 
   introduced : (i : Option ℕ) (r s : Routines) (D : Table) (x : RoutineReading) → HeadingTold r D x.heading
@@ -722,7 +722,8 @@ module _ (own : ℕ) (rest : List ℕ) (f : Frame) (base : ℕ) (begun : List Me
           } in
           let parts = one_parts s t reading_of (ap (one_routine f (own ∷ rest) s) (sym (routine_Whole c h b)) ∙ e) in
           let new = introduced (place_of reading_of) s parts.0 D reading_of
-          (headings_told D (length s.gathered.domains) f s.known reading.outer reading.known n h ts _ heads [])
+          (headings_told D (length s.gathered.domains) f s.known reading.outer reading.known n h ts _ heads
+          (hidden_in_heading f h))
           reading parts.1 in
           let at = (then_later ts _ m (headings_go n h ts _ heads) (behind _ m m (same_place m))).on low high ordered in
           let step = block_read reading_of parts.0 t D new.reading new.vacant at.0 high b m _ inner at.2
@@ -733,7 +734,8 @@ module _ (own : ℕ) (rest : List ℕ) (f : Frame) (base : ℕ) (begun : List Me
           let reading_of : RoutineReading = record { name = heading_name h; heading = Some h; block = None } in
           let parts = one_parts s t reading_of (ap (one_routine f (own ∷ rest) s) (sym (routine_Forward c h)) ∙ e) in
           let new = introduced (place_of reading_of) s parts.0 D reading_of
-          (headings_told D (length s.gathered.domains) f s.known reading.outer reading.known n h ts _ heads [])
+          (headings_told D (length s.gathered.domains) f s.known reading.outer reading.known n h ts _ heads
+          (hidden_in_heading f h))
           reading parts.1 in
           let at = (then_later ts _ r (headings_go n h ts _ heads)
           (behind _ _ r (behind _ _ r (behind _ r r (same_place r))))).on low high ordered in

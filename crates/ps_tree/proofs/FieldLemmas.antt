@@ -1,10 +1,15 @@
 -- The fields of a record type, by their places.
 use Rattle.std.proofs.Common.{rules, ◌≤◌, ◌≡◌, ◌<◌, ℕ, zero, suc, Bool, true, false, List, [], ◌∷◌, Option, Some, None}
 use Rattle.std.proofs.Common.{option_map, slice_get, get_or, length, nat_le, cond, refl, sym, ap, ◌∙◌, arith}
+use Rattle.std.specs.Prelude.{IsTrue, ◌↔◌, nat_eq}
+use Rattle.std.specs.Cmp.Lexicographic.{pointwise, same_text, other_text}
 use Rattle.std.proofs.lemmas.Option.{slice_get_read, slice_get_past}
 use Rattle.ps_tree.specs.declared.types.Ty.{Ty}
-use Rattle.ps_tree.specs.Types.{DataType, type_at, field_at}
+use Rattle.ps_tree.specs.NameCode.{names_code}
+use Rattle.ps_tree.specs.Types.{DataType, FieldList, field_list, field_names, field_types, type_at, field_at, type_count}
+use Rattle.ps_tree.specs.Types.{HaveSameNames}
 use Rattle.ps_tree.specs.TypeView.{type_of, types_of}
+use Rattle.ps_tree.proofs.CodeLemmas.{names_told}
 
 type_at_items : (types : List Ty) (n : ℕ) → type_at (types_of types) n ≡ option_map type_of (slice_get types n)
 type_at_items [] n = refl
@@ -41,3 +46,37 @@ no_field_past types n h =
 pub no_field_above : (types : List Ty) (n : ℕ) → 4294967295 < n → None ≡ field_at (types_of types) n
 no_field_above types n h = let e : nat_le n 4294967295 ≡ false = grind (arith, rules) in sym
     (ap (λ b. told b n (type_at (types_of types) n)) e)
+
+pub count_is : (types : List Ty) → type_count (types_of types) ≡ length types
+count_is [] = refl
+count_is (t ∷ ts) = ap suc (count_is ts)
+
+-- ---- the same names, told by their codes
+
+module _ (names names' : List (List ℕ)) (types types' : List Ty) (code code' : List ℕ) (a b : FieldList) (is : field_list names (types_of types) ≡ a) (is' : field_list names' (types_of types') ≡ b) where
+  count_of : type_count (field_types a) ≡ length types
+  count_of = ap (λ f. type_count (field_types f)) (sym is) ∙ count_is types
+
+  count_of' : type_count (field_types b) ≡ length types'
+  count_of' = ap (λ f. type_count (field_types f)) (sym is') ∙ count_is types'
+
+  pub one_length : code ≡ names_code names → code' ≡ names_code names' → length types ≡ length types' → (r : Bool) → r
+      ≡ pointwise nat_eq code code' → IsTrue r ↔ HaveSameNames a b
+  one_length coded coded' even r e = (
+    λ t. (
+      ap field_names (sym is) ∙ names_told names names' (sym coded ∙ same_text code code' (sym t ∙ e) ∙ coded')
+          ∙ ap field_names is',
+      count_of ∙ even ∙ sym count_of',
+    ),
+    λ h. by (ap field_names is ∙ h.0 ∙ ap field_names (sym is')) r e,
+  )
+    where
+      by : names ≡ names' → (r : Bool) → r ≡ pointwise nat_eq code code' → r ≡ true
+      by n true e = refl
+      by n false e = absurd (other_text code code' e (coded ∙ ap names_code n ∙ sym coded'))
+
+  pub other_length : (r : Bool) → r ≡ false → (length types ≡ length types' → ⊥) → IsTrue r ↔ HaveSameNames a b
+  other_length r e uneven = (
+    λ t. absurd (let z = sym e ∙ t in cc),
+    λ h. absurd (uneven (sym count_of ∙ h.1 ∙ count_of')),
+  )

@@ -1,4 +1,5 @@
 pub mod NameLemmas
+pub mod CodeLemmas
 pub mod CharacterLemmas
 pub mod FieldLemmas
 pub mod TreeLemmas

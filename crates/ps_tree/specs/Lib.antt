@@ -1,4 +1,5 @@
 pub mod Names
+pub mod NameCode
 pub mod Characters
 pub mod Types
 pub mod Sizes

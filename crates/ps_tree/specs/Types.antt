@@ -40,6 +40,19 @@ mutual
 abbrev pub field_types : FieldList → DataTypes
 field_types (field_list names types) = types
 
+-- the names of the fields
+abbrev pub field_names : FieldList → List (List ℕ)
+field_names (field_list names types) = names
+
+-- the number of these types
+abbrev pub type_count : DataTypes → ℕ
+type_count no_type = 0
+type_count (type_before type rest) = suc (type_count rest)
+
+-- the fields have the same names, in the same order, and there are as many types
+abbrev pub HaveSameNames : FieldList → FieldList → Type 0
+HaveSameNames a b = (field_names a ≡ field_names b) × (type_count (field_types a) ≡ type_count (field_types b))
+
 abbrev pub is_same_host : Host → Host → Bool
 is_same_host Integer Integer = true
 is_same_host Char Char = true

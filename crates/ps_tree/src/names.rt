@@ -1,16 +1,48 @@
 //! The names of a region, and of the fields of a record.
 
 ghost use Rattle.std.specs.Prelude.{◌≡◌, ◌++◌, [], ◌∷◌, ℕ, List, map, IfOk, length, OnErr, not, if◌then◌else◌};
+ghost use Rattle.std.specs.Prelude.{OnOk};
 ghost use Rattle.ps_tree.specs.Names.{has, place};
+ghost use Rattle.ps_tree.specs.NameCode.{byte_code, name_code, names_code};
 
 use indexmap::IndexSet;
+use sha2::{Digest, Sha256};
 use std::alloc::{AllocError, Global};
+use std::hash::{BuildHasher, FoldHasher, Hasher};
 use std::marker::Model;
+
+/// What the hashes of a text's names and numbers begin with.
+///
+/// It is made of the whole text: names whose hashes are alike can't be chosen, since another name makes another seed.
+#[derive(Clone, Copy)]
+pub struct Seed {
+    initial: FoldHasher,
+}
+
+impl Seed {
+    /// The seed of a text.
+    pub fn of(text: &[u8]) -> Seed {
+        let [a, b, c, d, e, f, g, h, ..] = Sha256::digest(text);
+        let mut initial = FoldHasher::default();
+        initial.write_u64(u64::from_le_bytes([a, b, c, d, e, f, g, h]));
+        Seed { initial }
+    }
+}
+
+impl BuildHasher for Seed {
+    type Hasher = FoldHasher;
+
+    ghost build_hasher = { λ seed. seed.initial };
+
+    fn build_hasher(&self) -> FoldHasher {
+        self.initial
+    }
+}
 
 /// The spellings of a region's defining points, in lower case, in their order. Finding one takes as long as reading it.
 /// A contract sees the list of them.
 pub struct Names {
-    set: IndexSet<Vec<u8>>,
+    set: IndexSet<Vec<u8>, Seed>,
 }
 
 impl Drop for Names {
@@ -25,13 +57,53 @@ impl Model for Names {
     ghost view = { λ n. map (λ name. name.items) n.set.keys };
 }
 
+// In the code of a list of names: what is behind each name, and what is before a byte that is one of these two.
+const END: u8 = 0;
+
+const MARK: u8 = 1;
+
+/// Adds a byte of a name to a code.
+#[tactic(auto, using(crate::proofs::CodeLemmas::byte_marked, crate::proofs::CodeLemmas::byte_alone))]
+fn add_byte(code: &mut Vec<u8>, byte: u8) -> Result<(), AllocError>
+    ensures { OnOk result (code.new.items ≡ code.old.items ++ byte_code byte) }
+{
+    if byte <= MARK {
+        code.push(MARK)?;
+    }
+    code.push(byte)?;
+    Ok(())
+}
+
+/// Adds a name to a code.
+#[tactic(auto, using(crate::proofs::CodeLemmas::name_start, crate::proofs::CodeLemmas::name_next, crate::proofs::CodeLemmas::name_end))]
+fn add_name(code: &mut Vec<u8>, name: &[u8]) -> Result<(), AllocError>
+    ensures { OnOk result (code.new.items ≡ code.old.items ++ name_code name.now) }
+{
+    for byte in name {
+        add_byte(code, *byte)?;
+    }
+    code.push(END)?;
+    Ok(())
+}
+
+/// The code of these names.
+fn code_of(alloc: Global, names: &[Vec<u8>]) -> Result<Vec<u8>, AllocError>
+    ensures { IfOk result (λ code. code.items ≡ names_code (map (λ name. name.items) names.now)) }
+{
+    let mut code = Vec::new(alloc);
+    for name in names {
+        add_name(&mut code, name.as_slice())?;
+    }
+    Ok(code)
+}
+
 impl Names {
-    /// No names.
-    pub fn new(alloc: Global) -> Names
+    /// No names, of a text with this seed.
+    pub fn new(alloc: Global, seed: Seed) -> Names
         ensures { result ≡ [] }
     {
         Names {
-            set: IndexSet::new(alloc),
+            set: IndexSet::with_hasher(alloc, seed),
         }
     }
 
@@ -57,6 +129,20 @@ impl Names {
         ensures { result ≡ has self.now name.now }
     {
         self.find(name).is_some()
+    }
+
+    /// The names, in their order.
+    pub fn as_slice(&self) -> &[Vec<u8>]
+        ensures { map (λ name. name.items) result.now ≡ self.now }
+    {
+        self.set.as_slice()
+    }
+
+    /// A text by which two long lists of names are told apart fast.
+    pub(crate) fn code(&self, alloc: Global) -> Result<Vec<u8>, AllocError>
+        ensures { IfOk result (λ code. code.items ≡ names_code self.now) }
+    {
+        code_of(alloc, self.as_slice())
     }
 
     /// The number of names.

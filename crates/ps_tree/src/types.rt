@@ -4,7 +4,7 @@ ghost use Rattle.std.specs.Prelude.{◌≡◌, ◌↔◌, ◌+◌, ◌*◌, ◌-
 ghost use Rattle.std.specs.Prelude.{List};
 ghost use Rattle.ps_tree.specs.Types.{Compatible, Assignable, is_same_host, are_same, is_same_ordinal, is_same_type};
 ghost use Rattle.ps_tree.specs.Types.{is_char, is_string_index, string_length, goes_with, has_variables, is_compatible};
-ghost use Rattle.ps_tree.specs.Types.{is_assignable, field_list, field_types, field_at, field_in};
+ghost use Rattle.ps_tree.specs.Types.{is_assignable, field_list, field_types, field_at, field_in, HaveSameNames};
 ghost use Rattle.ps_tree.specs.Sizes.{depth, depth_of_fields, value_count, fits_byte, whole_words, cells, record_cells};
 ghost use Rattle.ps_tree.specs.Sizes.{bytes, record_bytes, field_bytes, bytes_before, beginnings};
 ghost use Rattle.ps_tree.specs.TypeDepth.{deepest};
@@ -90,10 +90,11 @@ pub struct Component {
 }
 
 /// The fields of a record type: their names, in lower case, their types, and where they begin, in the same order; with
-/// the sizes of a record.
+/// a code of the names, and the sizes of a record.
 #[cycle(types)]
 pub struct Fields {
     names: Names,
+    code: Vec<u8>,
     types: Vec<Ty>,
     offsets: Vec<u32>,
     cell_count: u64,
@@ -187,12 +188,14 @@ impl Drop for Fields {
     fn drop(self) {
         let Fields {
             names,
+            code,
             types,
             offsets,
             cell_count: _,
             byte_count: _,
         } = self;
         drop(names);
+        drop(code);
         drop(offsets);
         release_all(types);
     }
@@ -250,12 +253,13 @@ impl Model for Fields {
     ghost coded = { fields_code };
 
     ghost use Rattle.std.specs.Prelude.{◌≡◌, ◌^◌, ◌-◌, min};
+    ghost use Rattle.ps_tree.specs.NameCode.{names_code};
     ghost use Rattle.ps_tree.specs.Sizes.{record_cells, record_bytes, beginnings, depth_of_fields};
     ghost use Rattle.ps_tree.specs.TypeView.{types_of};
 
     ghost view = { λ f. field_list f.names (types_of f.types.items) };
 
-    ghost invariant = { λ f. (f.cell_count ≡ min (record_cells (field_list f.names (types_of f.types.items))) (2 ^ 64 - 1)) × (f.byte_count ≡ min (record_bytes (field_list f.names (types_of f.types.items))) (2 ^ 32 - 1)) × (f.offsets.items ≡ beginnings (2 ^ 32 - 1) 0 (types_of f.types.items)) };
+    ghost invariant = { λ f. (f.cell_count ≡ min (record_cells (field_list f.names (types_of f.types.items))) (2 ^ 64 - 1)) × (f.byte_count ≡ min (record_bytes (field_list f.names (types_of f.types.items))) (2 ^ 32 - 1)) × (f.offsets.items ≡ beginnings (2 ^ 32 - 1) 0 (types_of f.types.items)) × (f.code.items ≡ names_code f.names) };
 
     ghost size = { depth_of_fields };
 
@@ -713,11 +717,13 @@ impl Fields {
     pub fn new(alloc: Global, names: Names, types: Vec<Ty>) -> Result<Fields, AllocError>
         ensures { IfOk result (λ fields. fields ≡ field_list names (types_of types.items)) }
     {
+        let code = names.code(alloc)?;
         let offsets = offsets_of_all(alloc, types.as_slice())?;
         let cell_count = cells_of_all(types.as_slice());
         let byte_count = bytes_of_all(types.as_slice());
         Ok(Fields {
             names,
+            code,
             types,
             offsets,
             cell_count,
@@ -740,14 +746,31 @@ impl Fields {
     {
         let Fields {
             names,
+            code,
             types,
             offsets,
             cell_count: _,
             byte_count: _,
         } = self;
         drop(names);
+        drop(code);
         drop(offsets);
         types
+    }
+
+    /// The names of the fields, in their order.
+    pub fn names(&self) -> &Names
+        ensures { self.now ≡ field_list result.now (field_types self.now) }
+    {
+        &self.names
+    }
+
+    /// Whether both have the same names, in the same order, and as many types. It takes as long as to compare two texts of
+    /// the names' length.
+    pub fn has_names_of(&self, other: &Fields) -> bool
+        ensures { IsTrue result ↔ HaveSameNames self.now other.now }
+    {
+        self.types.len() == other.types.len() && self.code.as_slice() == other.code.as_slice()
     }
 
     /// The types of the fields, in their order.

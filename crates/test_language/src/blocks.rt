@@ -19,7 +19,7 @@ use ps_check_names::scope::Scope;
 use ps_check_statements::statement::statements;
 use ps_syntax::{Block, Expr, Statement, Variable};
 use ps_text::{LineTable, Source};
-use ps_tree::names::Names;
+use ps_tree::names::{Names, Seed};
 use ps_tree::tree::{Expr as Typed, Statement as Checked};
 use ps_tree::types::{Ordinal, Ty};
 use std::alloc::{AllocError, Global};
@@ -54,11 +54,11 @@ struct Known {
     declared: Declared,
 }
 
-fn nothing(alloc: Global) -> Known {
+fn nothing(alloc: Global, seed: Seed) -> Known {
     Known {
-        required: Names::new(alloc),
+        required: Names::new(alloc, seed),
         meanings: Vec::new(alloc),
-        names: Names::new(alloc),
+        names: Names::new(alloc, seed),
         declared: Declared {
             known: Vec::new(alloc),
             domains: Vec::new(alloc),
@@ -186,7 +186,7 @@ fn declare(
     names: &Names,
     declared: &mut Declared,
 ) -> Result<(), Fault> {
-    let begun = Names::new(around.alloc);
+    let begun = Names::new(around.alloc, around.reading.seed);
     let frame = Frame {
         reading: around.reading,
         routine: 0,
@@ -216,6 +216,7 @@ fn put_below(
     let reading = Reading {
         source: around.reading.source,
         lines: around.reading.lines,
+        seed: around.reading.seed,
         domains: &declared.domains,
         has_input: false,
         has_output: false,
@@ -284,11 +285,12 @@ pub(crate) fn answer(alloc: Global, line: &mut Line, source: &Source, block: &Bl
     let reading = Reading {
         source,
         lines: &lines,
+        seed: Seed::of(source.bytes()),
         domains: &[],
         has_input: false,
         has_output: false,
     };
-    let mut known = nothing(alloc);
+    let mut known = nothing(alloc, reading.seed);
     let end = put_within(line, &reading, alloc, block, asked, &mut known);
     drop(known);
     if let Err(fault) = end {

@@ -3,7 +3,7 @@
 use ps_check_names::meaning::Meaning;
 use ps_check_names::scope::{Found, Lookup, Scope, find};
 use ps_scan::name_spelling;
-use ps_tree::names::Names;
+use ps_tree::names::{Names, Seed};
 use std::alloc::{AllocError, Global};
 use test_tables::Line;
 use test_tables::words::letters;
@@ -45,7 +45,7 @@ fn add_names(alloc: Global, region: &mut Region, words: &str) -> Result<(), Allo
 /// The region of some words.
 fn region_of(alloc: Global, words: &str) -> Result<Region, AllocError> {
     let mut region = Region {
-        names: Names::new(alloc),
+        names: Names::new(alloc, Seed::of(b"")),
         known: Vec::new(alloc),
     };
     let end = add_names(alloc, &mut region, words);

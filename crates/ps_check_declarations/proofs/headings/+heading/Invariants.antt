@@ -1,6 +1,7 @@
 use Rattle.std.proofs.Common.{[], map}
 use Rattle.ps_check_judgement.proofs.Lists.{Stepped}
-use Rattle.ps_check_names.specs.Views.{meaning_of, section_of}
+use Rattle.ps_check_names.specs.SectionViews.{section_of}
+use Rattle.ps_check_names.specs.Views.{meaning_of}
 use Rattle.ps_check_declarations.specs.Headings.{add_section, section}
 use Rattle.ps_check_declarations.specs.Views.{frame_of, hidden_of}
 use Rattle.ps_check_declarations.proofs.headings.+heading.Given as goal

@@ -5,7 +5,8 @@ use Rattle.ps_tree.specs.TypeView.{type_of}
 use Rattle.ps_tree.specs.View.{expr_of, argument_of, member_of}
 use Rattle.ps_check_judgement.proofs.Lists.{told_bind, handed_on}
 use Rattle.ps_check_judgement.proofs.Pairs.{pair_told, next_told}
-use Rattle.ps_check_names.specs.Views.{meaning_of, section_of}
+use Rattle.ps_check_names.specs.SectionViews.{section_of}
+use Rattle.ps_check_names.specs.Views.{meaning_of}
 use Rattle.ps_check_names.proofs.ViewLemmas.{section_of_Routine}
 use Rattle.ps_check_expressions.specs.Values.{SimpleValue, argument_list}
 use Rattle.ps_check_expressions.specs.Calls.{actual, called}
@@ -297,8 +298,6 @@ argument-returns-in_ok-found-in-Some t c =
       c.in-Some.is,
       c.in_ok-found-in-Some.ensures,
       ← c.deref.ensures,
-      ←
-          c.deref-in-Some.ensures.value,
     ) (still_answers _ _ _ _ c.by_routine.ensures)
 
 pub argument_all-returns-in_err-push_answer : goal.argument_all-returns-in_err-push_answer
@@ -340,7 +339,6 @@ call_value-returns-in_err-ty-in-Routine t c =
       c.in-Name.is,
       c.in-Routine.is,
       ← c.deref.ensures,
-      ← c.deref-in-Routine.ensures.value,
       ←
           c.line-line.ensures,
     ) (call_told (λ t xs. SimpleValue
@@ -355,8 +353,6 @@ call_value-returns-in_err-ty-in-RoutineParameter t c =
       c.in-Name.is,
       c.in-RoutineParameter.is,
       ← c.deref-in-RoutineParameter.ensures,
-      ←
-          c.deref-in-RoutineParameter-2.ensures.value,
       ← c.line-line.ensures,
     )
     (call_told (λ t xs. SimpleValue (Tree.CallFormal c.in-Name.up c.in-RoutineParameter.entry

@@ -1,7 +1,7 @@
 use Rattle.std.proofs.Common.{map}
 use Rattle.ps_tree.specs.View.{argument_of}
 use Rattle.ps_check_judgement.proofs.Lists.{Stepped}
-use Rattle.ps_check_names.specs.Views.{section_of}
+use Rattle.ps_check_names.specs.SectionViews.{section_of}
 use Rattle.ps_check_expressions.specs.Calls.{actual}
 use Rattle.ps_check_expressions.specs.Expressions.{indexed, operand, select, add_term, multiply_factor}
 use Rattle.ps_check_expressions.specs.View.{context_at, regions_at, value_of, variable_of}

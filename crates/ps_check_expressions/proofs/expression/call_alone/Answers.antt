@@ -14,7 +14,6 @@ returns-in_err-ty-in-Routine c =
       c.in-Name.is,
       c.in-Routine.is,
       ← c.deref.ensures,
-      ← c.deref-in-Routine.ensures.value,
       ←
           c.line-line.ensures,
     ) (call_told (λ t xs. SimpleValue
@@ -29,8 +28,6 @@ returns-in_err-ty-in-RoutineParameter c =
       c.in-Name.is,
       c.in-RoutineParameter.is,
       ← c.deref-in-RoutineParameter.ensures,
-      ←
-          c.deref-in-RoutineParameter-2.ensures.value,
       ← c.line-line.ensures,
     )
     (call_told (λ t xs. SimpleValue (Tree.CallFormal c.in-Name.up c.in-RoutineParameter.entry
@@ -44,7 +41,6 @@ returns-in_ok-ty-in-Routine c =
       c.in-Name.is,
       c.in-Routine.is,
       ← c.deref.ensures,
-      ← c.deref-in-Routine.ensures.value,
       ←
           c.line-line.ensures,
       c.declared_call.ensures,
@@ -60,8 +56,6 @@ returns-in_ok-ty-in-RoutineParameter c =
       c.in-Name.is,
       c.in-RoutineParameter.is,
       ← c.deref-in-RoutineParameter.ensures,
-      ←
-          c.deref-in-RoutineParameter-2.ensures.value,
       ← c.line-line.ensures,
       c.formal_call.ensures,
     )

@@ -1,4 +1,4 @@
-use Rattle.ps_check_names.specs.Views.{section_of}
+use Rattle.ps_check_names.specs.SectionViews.{section_of}
 use Rattle.ps_check_expressions.proofs.ParameterLemmas.{pushed_time}
 use Rattle.ps_check_expressions.proofs.parameter.push_times.Goals as goal
 

@@ -1,5 +1,5 @@
 use Rattle.std.proofs.Common.{◌≡◌, [], ◌++◌, map}
-use Rattle.ps_check_names.specs.Views.{section_of}
+use Rattle.ps_check_names.specs.SectionViews.{section_of}
 use Rattle.ps_check_expressions.specs.Calls.{times}
 use Rattle.ps_check_expressions.proofs.parameter.push_times.Given as goal
 

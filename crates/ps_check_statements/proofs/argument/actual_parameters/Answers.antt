@@ -1,7 +1,7 @@
 use Rattle.std.proofs.Common.{refl, sym, ◌∙◌, arith}
 use Rattle.ps_tree.specs.View.{argument_of, type_of}
 use Rattle.ps_check_judgement.proofs.Lists.{handed_on}
-use Rattle.ps_check_names.specs.Views.{section_of, sections_of}
+use Rattle.ps_check_names.specs.SectionViews.{section_of}
 use Rattle.ps_check_expressions.specs.View.{context_at, regions_at}
 use Rattle.ps_check_expressions.specs.Calls.{parameters}
 use Rattle.ps_check_expressions.proofs.CallLemmas.{passed_start, passed_next, passed_fault}
@@ -24,7 +24,7 @@ returns-then-len-list c =
           (sym c.is_some.ensures ∙ c.if-is_some.false),
     )
     (actuals_uneven c.args.at (actual_parameter (context_at c.args.site) (regions_at c.args.site))
-    (λ s. section_of s.now) argument_of (parameters (sections_of c.args.sections.now)) c.in_ok-formals.formals.items
+    (λ s. section_of s.now) argument_of (parameters c.args.sections.now) c.in_ok-formals.formals.items
     c.args.list.now c.args.changes.now.items c.in_ok-formals.ensures (λ e. omega (arith, e)))
 
 pub loop-i-init : goal.loop-i-init
@@ -45,7 +45,7 @@ returns-in_err-push_answer c =
     handed_on _ _ _ _ c.from_residual-in_err-push_answer.ensures.1
     (rw (no_result type_of c.args.outcome.now (sym c.is_some.ensures ∙ c.if-is_some.false))
     (actuals_told c.args.at (actual_parameter (context_at c.args.site) (regions_at c.args.site))
-    (λ s. section_of s.now) argument_of (parameters (sections_of c.args.sections.now)) c.in_ok-formals.formals.items
+    (λ s. section_of s.now) argument_of (parameters c.args.sections.now) c.in_ok-formals.formals.items
     c.args.list.now c.args.changes.now.items _ c.in_ok-formals.ensures (omega arith)
     (passed_fault (actual_parameter (context_at c.args.site) (regions_at c.args.site)) (λ s. section_of s.now)
     (λ p. p) argument_of c.in_ok-formals.formals.items c.args.list.now _ c.loop-i.i c.loop-i.arguments.items _ _
@@ -57,6 +57,6 @@ pub returns : goal.returns
 returns c =
     rw (no_result type_of c.args.outcome.now (sym c.is_some.ensures ∙ c.if-is_some.false))
     (actuals_end c.args.at (actual_parameter (context_at c.args.site) (regions_at c.args.site))
-    (λ s. section_of s.now) argument_of (parameters (sections_of c.args.sections.now)) c.in_ok-formals.formals.items
+    (λ s. section_of s.now) argument_of (parameters c.args.sections.now) c.in_ok-formals.formals.items
     c.args.list.now c.args.changes.now.items c.loop-i.i c.loop-i.arguments.items c.loop-i.changes.items
     c.in_ok-formals.ensures (omega arith) (omega arith) c.loop-i.invariant)

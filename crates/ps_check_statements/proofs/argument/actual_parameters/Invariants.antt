@@ -1,5 +1,5 @@
 use Rattle.ps_tree.specs.View.{argument_of}
-use Rattle.ps_check_names.specs.Views.{section_of}
+use Rattle.ps_check_names.specs.SectionViews.{section_of}
 use Rattle.ps_check_expressions.specs.View.{context_at, regions_at}
 use Rattle.ps_check_expressions.proofs.CallLemmas.{Passed}
 use Rattle.ps_check_statements.specs.Procedures.{actual_parameter}

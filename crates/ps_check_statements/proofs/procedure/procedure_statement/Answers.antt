@@ -9,7 +9,7 @@ use Rattle.ps_check_statements.proofs.procedure.procedure_statement.Goals as goa
 pub returns-in_err-arguments-in-RoutineParameter : goal.returns-in_err-arguments-in-RoutineParameter
 unfolding spec.procedure_called meaning_of
 returns-in_err-arguments-in-RoutineParameter c =
-    let h = rw (c.deref-in-RoutineParameter-2.ensures.value, c.deref-in-RoutineParameter.ensures) at
+    let h = rw c.deref-in-RoutineParameter.ensures at
     c.in_err-arguments-in-RoutineParameter.ensures in
     handed_on _ _ _ _ c.from_residual-in_err-arguments-in-RoutineParameter.ensures.1
     (rw (c.in_ok-found.ensures, c.in-Name.is, c.in-RoutineParameter.is) (told_bind _ _ _ h))
@@ -17,7 +17,7 @@ returns-in_err-arguments-in-RoutineParameter c =
 pub returns-in_ok-arguments-in-RoutineParameter : goal.returns-in_ok-arguments-in-RoutineParameter
 unfolding spec.procedure_called meaning_of statement_of
 returns-in_ok-arguments-in-RoutineParameter c =
-    let h = rw (c.deref-in-RoutineParameter-2.ensures.value, c.deref-in-RoutineParameter.ensures) at
+    let h = rw c.deref-in-RoutineParameter.ensures at
     c.in_ok-arguments-in-RoutineParameter.ensures in
     rw (
       c.in_ok-found.ensures,

@@ -51,7 +51,7 @@ statements-returns t c =
 
 pub elements-loop-x-init : goal.elements-loop-x-init
 elements-loop-x-init t c =
-    rw (c.in_ok-typed.ensures.items, c.new-seen.ensures.empty)
+    rw (c.in_ok-typed.ensures.items, c.with_hasher-seen.ensures.empty)
     (collected_start (context_at c.args.site)
     (regions_at c.args.site) c.args.index c.args.list.now c.args.changes.now.items)
 

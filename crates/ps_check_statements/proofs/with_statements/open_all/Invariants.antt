@@ -10,4 +10,4 @@ use Rattle.ps_check_statements.proofs.with_statements.open_all.Given as goal
 abbrev pub invariant-loop-x : goal.invariant-loop-x
 invariant-loop-x l = Stepped (λ t x. open_next (context_at l.site) t.0 x t.1)
     (([], regions_at l.site), l.fn.changes.items) l.records l.x-index
-    ((map place_of l.places.items, opened_in (regions_at l.site) l.types.items), l.changes.items)
+    ((map place_of l.places.items, opened_in (regions_at l.site) l.opened.records.items), l.changes.items)

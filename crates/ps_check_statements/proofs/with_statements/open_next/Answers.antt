@@ -8,8 +8,8 @@ use Rattle.ps_check_statements.proofs.with_statements.open_next.Goals as goal
 pub returns : goal.returns
 unfolding scope_of
 returns c =
-    let h = rw (c.within.ensures.context, c.within.ensures.regions, c.as_slice.ensures.value) at
+    let h = rw (c.within.ensures.context, c.within.ensures.regions) at
     (c.in_ok-place.ensures (map place_of c.args.places.now.items)) in
     opened_next (context_at c.args.site) (regions_at c.args.site) c.args.x.now c.args.places.now.items
-    c.push.new.self.items c.args.types.now.items c.push-2.new.self.items c.in_ok-place.place c.in_ok-place.ty _ _ h
-    c.in_ok-push.ensures.items c.in_ok-push-2.ensures.items
+    c.push.new.self.items c.args.opened.records.items c.in_ok-with.field-0.records.items c.in_ok-place.place
+    c.in_ok-place.ty _ _ h c.in_ok-push.ensures.items c.in_ok-with.ensures

@@ -14,4 +14,5 @@ invariant_of-result c = (
       c.as_slice-3.ensures.value ∙ ap (λ n. min n 4294967295)
       (record_bytes_are c.args.names (types_of c.args.types.items)),
   c.in_ok-offsets.ensures ∙ ap (λ items. beginnings 4294967295 0 (types_of items)) c.as_slice.ensures.value,
+  c.in_ok-code.ensures,
 )

@@ -1,6 +1,6 @@
 use Rattle.std.proofs.Common.{rules}
 use Rattle.ps_check_expressions.proofs.ParameterLemmas.{listed_next, listed_end}
-use Rattle.ps_check_expressions.proofs.parameter.parameters.Goals as goal
+use Rattle.ps_check_expressions.proofs.parameter.listed.Goals as goal
 
 pub loop-section-preserved : goal.loop-section-preserved
 loop-section-preserved c =

@@ -1,0 +1,44 @@
+-- What is noted of the fields of opened records, so that a name needs not be looked for in each of them.
+use Rattle.std.specs.Prelude.{◌≡◌, ◌+◌, ◌<◌, ◌≤◌, ℕ, Bool, false, ◌&&◌, nat_le, List, Option, Some, None, is_some}
+use Rattle.std.specs.Prelude.{option_and_then, slice_get, get_or}
+use Rattle.std.specs.List.{list_any}
+use Rattle.ps_tree.specs.declared.types.Ty.{Ty}
+use Rattle.ps_tree.specs.Types.{DataType, field_in}
+use Rattle.ps_tree.specs.Names.{place}
+use Rattle.ps_tree.specs.View.{type_of}
+use Rattle.ps_check_names.specs.Regions.{fields_of}
+
+-- a record of this type has a field of this name
+abbrev pub HasField : Ty → List ℕ → Type 0
+HasField ty s = (f : ℕ × DataType) × (field_in (fields_of (type_of ty)) s ≡ Some f)
+
+-- the first type has each field that the second has, by their names
+abbrev pub HasFieldsOf : Ty → Ty → Type 0
+HasFieldsOf ty other = (s : List ℕ) → HasField other s → HasField ty s
+
+abbrev pub at_place : List ℕ → Option ℕ → ℕ
+at_place reaches None = 0
+at_place reaches (Some i) = get_or reaches i 0
+
+-- the number of records up to the last that has a field of the name, by what is noted
+abbrev pub reach_of : (names : List (List ℕ)) (reaches : List ℕ) → List ℕ → ℕ
+reach_of names reaches s = at_place reaches (place names s)
+
+-- record m is not before record k, and has a field of the name
+abbrev pub stands_for : List Ty → List ℕ → (k m : ℕ) → Bool
+stands_for records s k m = nat_le k m && is_some
+    (option_and_then (λ ty. field_in (fields_of (type_of ty)) s) (slice_get records m))
+
+-- record k is noted for the name of each of its fields, unless one of the records that are asked stands for it
+abbrev pub Covers : List Ty → (names : List (List ℕ)) (reaches asked : List ℕ) → Type 0
+Covers records names reaches asked = (s : List ℕ) (k : ℕ) (ty : Ty) → slice_get records k ≡ Some ty → HasField ty s
+    → list_any (stands_for records s k) asked ≡ false → k < reach_of names reaches s
+
+-- what is noted stays so
+abbrev pub Keeps : (names : List (List ℕ)) (reaches : List ℕ) (names' : List (List ℕ)) (reaches' : List ℕ) → Type 0
+Keeps names reaches names' reaches' = (s : List ℕ) → reach_of names reaches s ≤ reach_of names' reaches' s
+
+-- none of the records from a place on has a field of the name
+abbrev pub NoneBehind : List Ty → ℕ → List ℕ → Type 0
+NoneBehind records n s = (k : ℕ) (ty : Ty) → slice_get records (n + k) ≡ Some ty → field_in (fields_of (type_of ty)) s
+    ≡ None
