@@ -15,16 +15,17 @@ use Rattle.tac_code.specs.declared.code.Instruction.TheVariants.{End}
 use Rattle.tac_code.specs.declared.code.TacRoutine.{TacRoutine}
 use Rattle.tac_code.specs.Memory.{Words, Living, living, load, known}
 use Rattle.tac_code.specs.Meaning.{Code, State, Temporaries, Over, Goes, routines, body_at, unwritten, entered, enter}
-use Rattle.tac_code.specs.Meaning.{put, text_at}
+use Rattle.tac_code.specs.Meaning.{fetch, put, text_at}
 use Rattle.ps_meaning.specs.Text.{Input}
 use Rattle.ps_meaning.specs.Values.{Value, Spot, first}
 use Rattle.ps_meaning.specs.Worlds.{Env, Within, World, Answer, Done, stop}
 use Rattle.ps_meaning.specs.Expressions.{calling}
 use Rattle.ps_meaning.specs.Statements.{Block, Next, passes_stack}
 use Rattle.ps_meaning.specs.Calls.{Bound, bind_actuals, bind, call_routine}
+use Rattle.tac_code_steps.specs.Turns.{turns_aside}
 use Rattle.tac_code_steps.specs.Runs.{step_of, Stands, Comes}
 use Rattle.tac_code_steps.specs.Splices.{ArePlaced}
-use Rattle.tac_code_steps.proofs.Runs.{split, one_step, a_step, ◌>>◌, leads_comes, stops_now}
+use Rattle.tac_code_steps.proofs.Runs.{split, one_turn, a_step, ◌>>◌, leads_comes, stops_now}
 use Rattle.tac_code_steps.proofs.Temporaries.{eq_same, put_same, put_other}
 use Rattle.tac_code_steps.proofs.Instructions.{literal_step, load_step, return_step}
 use Rattle.ps_lower_layout.specs.Shapes.{Shape, NumberShape, PointerShape, SetShape, ByteShape, ArrayShape}
@@ -478,9 +479,10 @@ module _ (p : Setting) (c : Activated) (active : IsActive p c) (fit : RoutinesFi
   pub call_runs : (n d x : ℕ) (next : Next) (opened : List Spot) → NextRuns p n next → d ≤ t → step_of (machine_of p)
       (state p c w k pc) ≡ enter (code_in p) (machine_of p).frames (machine_of p).objects p.stack p.heap r
       (link ∷ passed_words ps) t line (activation c (suc pc) k.temporaries ∷ c.callers) (state p c w k pc)
+      → (one : Instruction) → fetch (code_in p) c.routine pc ≡ Some one → turns_aside (Some one) ≡ true
       → Runs p (suc n) c d x w k pc (suc pc) (call_routine p.program (costs_in p) next r parent (passed_actuals ps)
       (calling line (context c opened)) w) (λ u w' k'. ResultIn routine.result w.next t w' k')
-  call_runs n d x next opened nexts l h = go (passes_stack (costs_in p) (r ∷ c.active)) refl
+  call_runs n d x next opened nexts l h one at is = go (passes_stack (costs_in p) (r ∷ c.active)) refl
     where
       stepped : step_of (machine_of p) (state p c w k pc)
           ≡ (if passes_stack (costs_in p) (r ∷ c.active) then Over (Stack routine.line) else Goes entry_state)
@@ -490,10 +492,10 @@ module _ (p : Setting) (c : Activated) (active : IsActive p c) (fit : RoutinesFi
           ((if b then stop (Stack routine.line) else (λ w1. meant next
           (bind routine.result (passed_actuals ps) routine.variables w1))) w)
           (λ u w' k'. ResultIn routine.result w.next t w' k')
-      go true e = stops_now (suc n) (state p c w k pc) (Stack routine.line)
+      go true e = stops_now (suc n) (state p c w k pc) (Stack routine.line) (λ more. more)
           (stepped ∙ ap (λ q. if q then Over (Stack routine.line) else Goes entry_state) e)
       go false e =
-          let lead = one_step (state p c w k pc) entry_state
+          let lead = one_turn (state p c w k pc) entry_state one at is
           (stepped ∙ ap (λ q. if q then Over (Stack routine.line) else Goes entry_state) e) in
           subst (λ b. Outcome (machine_of p) (suc n) (state p c w k pc) (meant next b) (Called d x (state p c w k pc)))
           (sym (result_bound routine.result ps routine.variables w))

@@ -90,7 +90,8 @@ module _ (p : Setting) (n : ℕ) (call : Caller) (c : Activated) (active : IsAct
       (kinds_of (routine_at p.program r).formals)
       (result_shape (routine_at p.program r).result) lk.alive known_.known outside in_.kinds_are in_.at in_.last
       (all_passed_kept c.number k.scratch lk.work.scratch in_.last in_.last in_.passings
-      (omega arith) lk.keeps.scratch in_.are) n d x calls.next o.spots calls.nexts lt stepped in
+      (omega arith) lk.keeps.scratch in_.are) n d x calls.next o.spots calls.nexts lt stepped
+      (i.Call t r (a ∷ W) line) sc.0 refl in
       let called_ = call_routine p.program (costs_in p) calls.next in
       subst (λ f. Runs p (suc n) c d x w k pc pc' (f r env xs ctx w) (λ u w' k'. R w' k')) (sym calls.is)
       (subst (λ ys. Runs p (suc n) c d x w k pc pc' (called_ r env ys ctx w) (λ u w' k'. R w' k')) in_.actuals
@@ -138,7 +139,8 @@ module _ (p : Setting) (n : ℕ) (call : Caller) (c : Activated) (active : IsAct
       let ran = call_runs p c active calls.fit calls.does w fm.work mid t line r env link in_.passings kinds result
       fm.alive known_ fm.result.4 in_.kinds_are in_.at in_.last
       (all_passed_kept c.number k.scratch fm.work.scratch in_.last in_.last in_.passings
-      (omega arith) fm.keeps.scratch in_.are) n d x calls.next o.spots calls.nexts lt stepped in
+      (omega arith) fm.keeps.scratch in_.are) n d x calls.next o.spots calls.nexts lt stepped
+      (i.CallValue t a (beside a ∷ W) line) sc.0 refl in
       let called_ = call_routine p.program (costs_in p) calls.next in
       let told = runs_map p (suc n) c d x d x w fm.work mid (suc mid)
       (called_ r env (passed_actuals in_.passings) ctx w)

@@ -71,7 +71,7 @@ module _ (p : Setting) (n : ℕ) (c : Activated) (active : IsActive p c) where
   pub fails_so : (w : World) (k : Work) (pc : ℕ) (number line : ℕ) → number ≤ 11 → step_of (machine_of p)
       (state p c w k pc) ≡ fails (code_in p) number line (state p c w k pc) → Stops (machine_of p) n (state p c w k pc)
       (w.transcript, failed number line c.calls)
-  fails_so w k pc number line l h = stops_now n (state p c w k pc) (failed number line c.calls)
+  fails_so w k pc number line l h = stops_now n (state p c w k pc) (failed number line c.calls) (λ more. more)
       (h ∙ ap (λ calls. Over (ending_by number line calls)) (active.told pc k.temporaries) ∙ ap Over
       (ends_by number line c.calls l))
 

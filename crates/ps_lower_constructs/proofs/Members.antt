@@ -7,7 +7,6 @@ use Rattle.std.proofs.lemmas.Int.{ints}
 use Rattle.behavior.specs.Endings.{Stuck}
 use Rattle.ps_tree.specs.Tree.{Place, Expr, In, SetExpr, LoadSet, Constructor, Combine, SetSteps, Members}
 use Rattle.tac_code.specs.declared.code.Base.TheVariants as base
-use Rattle.tac_code.specs.declared.code.Block.{Block}
 use Rattle.tac_code.specs.declared.code.Block.TheVariants.{Scratch as ScratchBlock}
 use Rattle.tac_code.specs.declared.code.Value.TheVariants.{Number as Numeral, Address}
 use Rattle.tac_code.specs.declared.code.Operand.TheVariants as operand
@@ -40,7 +39,7 @@ use Rattle.ps_lower_code.proofs.Depths.{even_above, kept_above}
 use Rattle.ps_lower_relation.specs.Here.{Setting, machine_of, code_in, Work, Activated, IsActive, Alive, state}
 use Rattle.ps_lower_relation.specs.Here.{word_of as word_in, WordIn}
 use Rattle.ps_lower_relation.specs.Outcomes.{Reached, Runs}
-use Rattle.ps_lower_relation.specs.RunTime.{SetAt, WritesDo}
+use Rattle.ps_lower_relation.specs.RunTime.{WritesDo}
 use Rattle.ps_lower_relation.specs.Sets.{set_number}
 use Rattle.ps_lower_relation.proofs.Numbers.{truths, truth_integer}
 use Rattle.ps_lower_relation.proofs.Places.{place_end}

@@ -216,7 +216,7 @@ module _ (p : Setting) (n : ℕ) (call : Caller) (next : Next) (c : Activated) (
       e =
       let bytes = object_bytes (domain_at p.program pointer) in
       let st1 = state p c w1 k1 pc1 in
-      stops_now (suc n) st1 (Heap line)
+      stops_now (suc n) st1 (Heap line) (λ more. more)
       (made_step p (suc n) c active does w1 pointer k1 pc1 t line fits.1
       (new_step (machine_of p) st1 t pointer line bytes made_.0 (mapped p.program.domains pointer fits.1))
       ∙ ap (λ z. if z then Over (Heap line) else Goes

@@ -107,7 +107,7 @@ module _ (p : Setting) (c : Activated) (active : IsActive p c) where
       (i.CheckRange a low high number line) = ap (λ y. fetch (code_in p) y.routine y.place) here ∙ at in
       let told = ap (λ y. open_calls (length (code_in p).program) y s.callers) here
       ∙ ap (open_calls (length (code_in p).program) (activation c pc t)) callers ∙ active.told pc t in
-      stops_now n s (failed number line c.calls)
+      stops_now n s (failed number line c.calls) (λ more. more)
       (range_step (machine_of p) s a low high number line z fetched (ap (λ y. y.temporaries a) here ∙ word)
       ∙ ap (λ b. checks (code_in p) b number line s) out
       ∙ ap (λ calls. Over (ending_by number line calls)) told

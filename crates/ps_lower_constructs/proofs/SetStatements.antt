@@ -1,6 +1,6 @@
 -- Assignments of sets.
 use Rattle.ps_lower_constructs.proofs.Calling.{Callable}
-use Rattle.std.proofs.Common.{◌≡◌, ℕ, suc, ◌+◌, ◌*◌, ◌<◌, ◌≤◌, ℤ, pos, Bool, true, false, List, [], ◌∷◌, ◌++◌, length}
+use Rattle.std.proofs.Common.{◌≡◌, ℕ, suc, ◌+◌, ◌*◌, ◌<◌, ◌≤◌, ℤ, Bool, true, false, List, [], ◌∷◌, ◌++◌}
 use Rattle.std.proofs.Common.{refl, sym, ap, ◌∙◌, subst, arith, append-nil, lt-ltb}
 use Rattle.ps_tree.specs.Tree.{Place, Variable, SetExpr, AssignSet}
 use Rattle.tac_code.specs.declared.code.Base.TheVariants as base

@@ -29,12 +29,12 @@ use Rattle.tac_code_steps.proofs.Temporaries.{put_same, put_other}
 use Rattle.tac_code_steps.proofs.Instructions.{range_step, branch_step, compare_step, bits_step}
 use Rattle.ps_lower_layout.specs.Shapes.{SetShape, Whole}
 use Rattle.ps_lower_layout.specs.Paths.{NumberSort, HasSort}
-use Rattle.ps_lower_code.specs.Scopes.{even_from, held, beside, moved, run_time_number, words_code}
+use Rattle.ps_lower_code.specs.Scopes.{even_from, held, beside, moved, words_code}
 use Rattle.ps_lower_code.specs.Calling.{expr_calls}
 use Rattle.ps_lower_code.specs.Values.{place_temporary, place_site, place_code, sets_code, included_code}
 use Rattle.ps_lower_code.specs.Values.{same_sets_code, range_members, literal_of, known_member, one_code, adds}
 use Rattle.ps_lower_code.specs.Values.{joining_code, adding_code, asked_code, set_code, set_steps_code, member_code}
-use Rattle.ps_lower_code.specs.Values.{members_code, set_routine, clear_code}
+use Rattle.ps_lower_code.specs.Values.{members_code, clear_code}
 use Rattle.ps_lower_code.specs.Statements.{expr_code}
 use Rattle.ps_lower_code.specs.Fits.{SetFits, SetStepsFit, MembersFit, MemberFits}
 use Rattle.ps_lower_code.proofs.Depths.{even_above, held_above}

@@ -28,7 +28,7 @@ use Rattle.ps_meaning.specs.Worlds.{and_then, give, fault, put, with_contents, �
 use Rattle.ps_meaning.specs.Expressions.{Caller, value, fitting}
 use Rattle.ps_meaning.specs.Statements.{Again, Further, Next, succeeding, is_past, own_spot, act, acts, turn}
 use Rattle.tac_code_steps.specs.Runs.{step_of, Stands, Leads, Comes}
-use Rattle.tac_code_steps.proofs.Runs.{split, join, stands_length, a_step, one_step, leads_comes}
+use Rattle.tac_code_steps.proofs.Runs.{split, join, stands_length, a_step, one_turn, leads_comes}
 use Rattle.tac_code_steps.proofs.Pieces.{some_none}
 use Rattle.tac_code_steps.proofs.Instructions.{trap_step, bits_step, load_step, jump_step, branch_step}
 use Rattle.tac_code_steps.proofs.Instructions.{branch_back_step}
@@ -133,7 +133,7 @@ module _ (p : Setting) (n : ℕ) (call : Caller) (next : Next) (c : Activated) (
   test_back d w k pc pc' start m r left right true again h st e alive turn =
       let stepped = branch_back_step (machine_of p) (state p c w k pc) r left right m true st.0 h in
       let lead = subst (λ q. Leads (machine_of p) (state p c w k pc) (state p c w k q)) e
-      (one_step (state p c w k pc) (state p c w k (pc - m)) stepped) in
+      (one_turn (state p c w k pc) (state p c w k (pc - m)) (i.BranchBack r left right m) st.0 refl stepped) in
       outcome_after n (state p c w k pc) (state p c w k start) (again w)
       (λ v w'. Reached p c d 0 w k (state p c w k start) pc' (Nothing v) w')
       (λ v w'. Reached p c d 0 w k (state p c w k pc) pc' (Nothing v) w') lead turn
@@ -837,7 +837,7 @@ module _ (p : Setting) (n : ℕ) (call : Caller) (next : Next) (c : Activated) (
       (keeps_less d 0 (suc tb) 0 (omega (arith, la, lb)) (omega arith) r.keeps)
       (runs_after d 0 w5 r.work (suc q) (suc (suc (suc (suc q)))) pc' again Nothing
       (subst (λ z. Leads (machine_of p) (state p c w5 r.work (suc q)) (state p c w5 r.work z)) there
-      (one_step (state p c w5 r.work (suc q)) (state p c w5 r.work (suc (suc q) + 2))
+      (one_turn (state p c w5 r.work (suc q)) (state p c w5 r.work (suc (suc q) + 2)) (i.Jump 2) cutC.2.1.0 refl
       (jump_step (machine_of p) (state p c w5 r.work (suc q)) 2 cutC.2.1.0)))
       (further_run variable direction (number_of y) s rs d o w5 r.work body.0 pc' r.alive
       (opened_kept p c d 0 d w4 w5 k4 r.work o (omega arith)

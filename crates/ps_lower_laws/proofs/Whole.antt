@@ -5,7 +5,7 @@ use Rattle.std.proofs.Common.{Option, Some, None, sum_by, refl, sym, ap, ◌∙�
 use Rattle.std.proofs.Common.{lt-ltb}
 use Rattle.std.proofs.lemmas.List.Sums.{sum_by-cons}
 use Rattle.std.specs.List.{All}
-use Rattle.behavior.specs.Endings.{Normal, Stack, Stuck}
+use Rattle.behavior.specs.Endings.{Normal, Stack, Stuck, IsMore}
 use Rattle.behavior.specs.Transcripts.{Shown, AreBytes}
 use Rattle.ps_tree.specs.Types.{DataType}
 use Rattle.ps_tree.specs.Tree.{Program, Routine, routine_at, no_routine}
@@ -24,8 +24,10 @@ use Rattle.ps_meaning.specs.Worlds.{Outside, Within, World, Answer, Gives, Ends,
 use Rattle.ps_meaning.specs.Statements.{Block, passes_stack}
 use Rattle.ps_meaning.specs.Calls.{Bound, bind_variables, bind, execute}
 use Rattle.ps_meaning.specs.Run.{first_world, shown, run_within}
-use Rattle.tac_code_steps.specs.Runs.{runs, Stands, Stops}
+use Rattle.tac_code_steps.specs.Turns.{behind, tac_turns}
+use Rattle.tac_code_steps.specs.Runs.{runs, turns_by, Stands, Stops}
 use Rattle.tac_code_steps.specs.Splices.{ArePlaced}
+use Rattle.tac_code_steps.proofs.Counting.{in_turns_is_same}
 use Rattle.tac_code_steps.proofs.Runs.{split, stops_now, comes_stops}
 use Rattle.tac_code_steps.proofs.Instructions.{end_step}
 use Rattle.ps_lower_layout.specs.Shapes.{shape_of, word_count}
@@ -34,7 +36,7 @@ use Rattle.ps_lower_code.specs.Routines.{count_parameters, result_end, begin_cod
 use Rattle.ps_lower_code.specs.Routines.{parameter_total, scope_of}
 use Rattle.ps_lower_code.specs.Statements.{statements_code}
 use Rattle.ps_lower_code.specs.Fits.{StatementsFit}
-use Rattle.ps_lower_code.specs.Programs.{tac_of}
+use Rattle.ps_lower_code.specs.Programs.{tac_of, code_of}
 use Rattle.ps_lower_relation.specs.Ghosts.{Ghost, pieces, slot_kinds, tape_of, objects_of, ObjectsFit}
 use Rattle.ps_lower_relation.specs.Here.{Setting, costs_in, code_in, machine_of, Work, Activated, IsActive, Alive}
 use Rattle.ps_lower_relation.specs.Here.{activation, state}
@@ -53,7 +55,7 @@ use Rattle.ps_lower_constructs.proofs.Calls.{length_map}
 use Rattle.ps_lower_constructs.proofs.Execute.{execute_runs}
 use Rattle.ps_lower_layout.specs.Frames.{result_kinds, listed_kinds}
 use Rattle.ps_lower_laws.specs.Fits.{ProgramFits}
-use Rattle.ps_lower_laws.specs.Lowers.{AreRunTime, Lowers}
+use Rattle.ps_lower_laws.specs.Lowers.{AreRunTime, Lowers, LowersInTurns}
 
 -- ---- where the code of a routine is
 
@@ -299,7 +301,7 @@ module _ (p : Setting) (fits : ProgramFits p.program) (does : WritesDo p) (input
       let st' : Stands (code_in p) 0 mid (End ∷ []) pc' = subst
       (λ b. Stands (code_in p) 0 mid (if b then End ∷ [] else result_end block block.result) pc')
       fits.outermost.block st in
-      comes_stops r.comes (stops_now n (state p outermost w r.work mid) Normal
+      comes_stops r.comes (stops_now n (state p outermost w r.work mid) Normal (λ more. more)
       (end_step (machine_of p) (state p outermost w r.work mid) st'.0))
   ends n k pc mid pc' (Ends transcript ending) r st = r
 
@@ -356,30 +358,40 @@ module _ (p : Setting) (fits : ProgramFits p.program) (does : WritesDo p) (input
         calls = [];
       }) (bind result [] block.variables (first_world input)).world)) fits.outermost.result
 
-  same : (n : ℕ) → (m : ℕ) × (n ≤ m) × (tac_shows m ≡ program_shows n)
-  same n = go (passes_stack (costs_in p) (0 ∷ [])) refl
+  abbrev tac_turned : ℕ → ℕ
+  tac_turned n = tac_turns (code_in p) (machine_of p).frames (machine_of p).objects p.stack p.heap input n
+
+  -- behind the entry the turns are those of the entered state
+  turned : (n : ℕ) → passes_stack (costs_in p) (0 ∷ []) ≡ false → tac_turned (suc n) ≡ turns_by (machine_of p) n
+      first_state
+  turned n q = ap (λ (s : Step). behind s (turns_by (machine_of p) n))
+      (enters ∙ ap (λ b. if b then Over (Stack block.line) else Goes first_state) q)
+
+  in_turns : (n : ℕ) → (m : ℕ) × (tac_shows m ≡ program_shows n) × (IsMore (program_shows n).1 → n ≤ tac_turned m)
+  in_turns n = go (passes_stack (costs_in p) (0 ∷ [])) refl
     where
-      go : (b : Bool) → passes_stack (costs_in p) (0 ∷ []) ≡ b → (m : ℕ) × (n ≤ m) × (tac_shows m ≡ program_shows n)
-      go true q = (
-        suc n,
-        omega arith,
-        ap (λ s. after s (before input) (runs (machine_of p) n))
-            (enters ∙ ap (λ b. if b then Over (Stack block.line) else Goes first_state) q) ∙ sym
-            (meaning n ∙ ap (λ b. shown (if b then Ends [] (Stack block.line) else meant n)) q),
-      )
+      go : (b : Bool) → passes_stack (costs_in p) (0 ∷ []) ≡ b → (m : ℕ) × (tac_shows m ≡ program_shows n)
+          × (IsMore (program_shows n).1 → n ≤ tac_turned m)
+      go true q =
+          let told = meaning n ∙ ap (λ b. shown (if b then Ends [] (Stack block.line) else meant n)) q in (
+            1,
+            ap (λ s. after s (before input) (runs (machine_of p) 0))
+                (enters ∙ ap (λ b. if b then Over (Stack block.line) else Goes first_state) q) ∙ sym told,
+            λ more. absurd (subst (λ (x : Shown). IsMore x.1) told more),
+          )
       go false q =
           let r = block_runs n in
-          let far = r.by.1 in (
+          let told = meaning n ∙ ap (λ b. shown (if b then Ends [] (Stack block.line) else meant n)) q in (
             suc r.by.0,
-            omega (arith, far),
             ap (λ s. after s (before input) (runs (machine_of p) r.by.0))
-                (enters ∙ ap (λ b. if b then Over (Stack block.line) else Goes first_state) q) ∙ r.by.2 ∙ sym
-                (meaning n ∙ ap (λ b. shown (if b then Ends [] (Stack block.line) else meant n)) q),
+                (enters ∙ ap (λ b. if b then Over (Stack block.line) else Goes first_state) q) ∙ r.by.1 ∙ sym told,
+            λ more. subst (λ k. n ≤ k) (sym (turned r.by.0 q))
+                (r.by.2 (subst (λ (x : Shown). IsMore x.1) told more)),
           )
 
-pub lowers : (run_time : List TacRoutine) → AreRunTime run_time → (program : Program) → ProgramFits program
-    → Lowers run_time program
-lowers run_time does program fits F G S H input bytes n = same (record {
+pub lowers_in_turns : (run_time : List TacRoutine) → AreRunTime run_time → (program : Program) → ProgramFits program
+    → LowersInTurns run_time program
+lowers_in_turns run_time does program fits F G S H input bytes n = in_turns (record {
   program = program;
   run_time = run_time;
   frames = F;
@@ -387,3 +399,15 @@ lowers run_time does program fits F G S H input bytes n = same (record {
   stack = S;
   heap = H;
 }) fits (does program F G S H) input bytes n
+
+-- a turn is an instruction
+pub lowers : (run_time : List TacRoutine) → AreRunTime run_time → (program : Program) → ProgramFits program
+    → Lowers run_time program
+lowers run_time does program fits F G S H input bytes = in_turns_is_same (run_within program F G S H input)
+    (code_of run_time program) (record {
+      frames = λ r. get_or F r 0;
+      objects = λ t. get_or G t 0;
+      stack = S;
+      heap = H;
+      input = input;
+    }) (lowers_in_turns run_time does program fits F G S H input bytes)

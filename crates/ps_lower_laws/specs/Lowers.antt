@@ -5,6 +5,7 @@ use Rattle.behavior.specs.Transcripts.{AreBytes}
 use Rattle.behavior.specs.Same.{Same}
 use Rattle.tac_code.specs.declared.code.TacRoutine.{TacRoutine}
 use Rattle.tac_code.specs.Run.{tac_run}
+use Rattle.tac_code_steps.specs.InTurns.{Setting, ShowsInTurns}
 use Rattle.ps_tree.specs.Tree.{Program}
 use Rattle.ps_meaning.specs.Run.{run_within}
 use Rattle.ps_lower_code.specs.Programs.{code_of}
@@ -29,6 +30,18 @@ Lowers run_time program =
     → Same (run_within program F G S H input)
     (tac_run (code_of run_time program) (λ r. get_or F r 0) (λ t. get_or G t 0) S H input)
 
+-- So it does in turns: where the program has come to n without an end, the code has turned aside n times or more.
+abbrev pub LowersInTurns : List TacRoutine → Program → Type 0
+LowersInTurns run_time program =
+    (F G : List ℕ) (S H : ℕ) (input : List ℕ) → AreBytes input
+    → ShowsInTurns (run_within program F G S H input) (code_of run_time program) (record {
+      frames = λ r. get_or F r 0;
+      objects = λ t. get_or G t 0;
+      stack = S;
+      heap = H;
+      input = input;
+    })
+
 abbrev pub IsStuck : Ending → Type 0
 IsStuck Stuck = Unit {0}
 IsStuck _ = ⊥
@@ -42,6 +55,10 @@ NeverStuck run_time program =
 abbrev pub ProgramsLower : Type 0
 ProgramsLower = (run_time : List TacRoutine) → AreRunTime run_time → (program : Program) → ProgramFits program
     → Lowers run_time program
+
+abbrev pub ProgramsLowerInTurns : Type 0
+ProgramsLowerInTurns = (run_time : List TacRoutine) → AreRunTime run_time → (program : Program) → ProgramFits program
+    → LowersInTurns run_time program
 
 abbrev pub ProgramsGoOn : Type 0
 ProgramsGoOn = (run_time : List TacRoutine) → AreRunTime run_time → (program : Program) → ProgramFits program

@@ -1,3 +1,4 @@
+pub mod Counting
 pub mod Runs
 pub mod Temporaries
 pub mod Instructions

@@ -1,7 +1,15 @@
--- Laws on stretches of words.
+-- The laws of runs with their turns counted, and of stretches of words.
 use Rattle.std.specs.Prelude.{◌≡◌, ℕ, ◌+◌, ◌≤◌, length}
+use Rattle.behavior.specs.Transcripts.{Shown}
+use Rattle.behavior.specs.Same.{Same}
+use Rattle.tac_code.specs.Meaning.{Code}
 use Rattle.tac_code.specs.Memory.{Words}
 use Rattle.tac_code_steps.specs.Splices.{spliced}
+use Rattle.tac_code_steps.specs.InTurns.{Setting, shows, ShowsInTurns}
+
+-- a turn is an instruction
+abbrev pub InTurnsIsSame : Type 0
+InTurnsIsSame = (a : ℕ → Shown) (code : Code) (p : Setting) → ShowsInTurns a code p → Same a (shows code p)
 
 -- two disjoint stretches may be replaced in either order
 abbrev pub SplicesApart : Type 0

@@ -1,3 +1,5 @@
+pub mod Turns
+pub mod InTurns
 pub mod Runs
 pub mod Splices
 pub mod Laws

@@ -3,7 +3,13 @@
 //! For those who lower to the code. The functions do nothing when they run; each stands for its contract.
 #![tactic(auto)]
 
-ghost use Rattle.tac_code_steps.specs.Laws.{SplicesApart, SplicesWithin};
+ghost use Rattle.tac_code_steps.specs.Laws.{InTurnsIsSame, SplicesApart, SplicesWithin};
+
+/// Code that shows a family in turns runs as the family does.
+#[tactic(auto, using(crate::proofs::Counting::in_turns_is_same))]
+pub fn in_turns_is_same()
+    ensures { InTurnsIsSame }
+{}
 
 /// Two disjoint stretches of words may be replaced in either order.
 #[tactic(auto, using(crate::proofs::Splices::spliced_past))]

@@ -16,8 +16,8 @@ use Rattle.tac_code.specs.declared.code.TacRoutine.{TacRoutine}
 use Rattle.tac_code.specs.Memory.{Living}
 use Rattle.tac_code.specs.Meaning.{Code, Activation, State, Step, Goes, Over, fetch, with_some, with_routine, routines}
 use Rattle.tac_code.specs.Meaning.{calls, enter, entered, is_full, open_bytes, values_of, unwritten, onward}
-use Rattle.tac_pass.specs.Turns.{turns_aside}
-use Rattle.tac_pass.specs.Keeps.{Setting}
+use Rattle.tac_code_steps.specs.Turns.{turns_aside}
+use Rattle.tac_code_steps.specs.InTurns.{Setting}
 use Rattle.tac_pass.specs.Moved.{moved_word, moved_words, moved_living}
 use Rattle.tac_pass.specs.Claims.{Claim, Certificate}
 use Rattle.tac_pass.specs.Alike.{Inside, Memories, Wait, Alike, Matched}

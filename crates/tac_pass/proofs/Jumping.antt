@@ -15,8 +15,8 @@ use Rattle.tac_code.specs.Memory.{Living}
 use Rattle.tac_code.specs.Meaning.{Code, Activation, State, Step, fetch, put, with_some, operand_value, related}
 use Rattle.tac_code.specs.Meaning.{goes_on, goes_to, leave, without_first}
 use Rattle.tac_code_steps.proofs.Temporaries.{put_other}
-use Rattle.tac_pass.specs.Turns.{turns_aside}
-use Rattle.tac_pass.specs.Keeps.{Setting}
+use Rattle.tac_code_steps.specs.Turns.{turns_aside}
+use Rattle.tac_code_steps.specs.InTurns.{Setting}
 use Rattle.tac_pass.specs.Moved.{moved, moved_word, moved_words, moved_living}
 use Rattle.tac_pass.specs.Claims.{Claim, Certificate}
 use Rattle.tac_pass.specs.Alike.{Inside, Memories, Waits, Wait, Alike}

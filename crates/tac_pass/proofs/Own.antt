@@ -8,7 +8,7 @@ use Rattle.tac_code.specs.declared.code.Instruction.{Instruction}
 use Rattle.tac_code.specs.declared.code.Instruction.TheVariants.{Load, Store}
 use Rattle.tac_code.specs.Memory.{known, load, store}
 use Rattle.tac_code.specs.Meaning.{Code, State, Step, Goes, with_some, gives, stores, text_at, onward}
-use Rattle.tac_pass.specs.Keeps.{Setting}
+use Rattle.tac_code_steps.specs.InTurns.{Setting}
 use Rattle.tac_pass.specs.Moved.{moved, moved_word, moved_living}
 use Rattle.tac_pass.specs.Claims.{Claim, Certificate}
 use Rattle.tac_pass.specs.Alike.{Alike}

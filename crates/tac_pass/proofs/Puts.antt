@@ -10,8 +10,8 @@ use Rattle.tac_code.specs.declared.code.Instruction.TheVariants.{BranchBack, Cal
 use Rattle.tac_code.specs.declared.code.Instruction.TheVariants.{New, End}
 use Rattle.tac_code.specs.Memory.{known}
 use Rattle.tac_code.specs.Meaning.{Code, State, Step, Goes, Over, fetch, act, put, puts, onward}
-use Rattle.tac_pass.specs.Turns.{turns_aside}
-use Rattle.tac_pass.specs.Keeps.{Setting}
+use Rattle.tac_code_steps.specs.Turns.{turns_aside}
+use Rattle.tac_code_steps.specs.InTurns.{Setting}
 use Rattle.tac_pass.specs.Moved.{moved, moved_word, moved_living}
 use Rattle.tac_pass.specs.Claims.{Claim, Certificate}
 use Rattle.tac_pass.specs.Alike.{Alike}

@@ -5,8 +5,9 @@ use Rattle.behavior.specs.Endings.{Ending, More, Stuck}
 use Rattle.behavior.specs.Transcripts.{Shown}
 use Rattle.tac_code.specs.Meaning.{Code, State, Step, Goes, Over, fetch, enter, step}
 use Rattle.tac_code.specs.Run.{before, after, run}
-use Rattle.tac_pass.specs.Turns.{turns_aside, one_more_if, behind, turns}
-use Rattle.tac_pass.specs.Keeps.{Setting, shows, turns_in, Keeps}
+use Rattle.tac_code_steps.specs.Turns.{turns_aside, one_more_if, behind, turns}
+use Rattle.tac_code_steps.specs.InTurns.{Setting, shows, turns_in}
+use Rattle.tac_pass.specs.Keeps.{Keeps}
 
 module _ (code : Code) (p : Setting) where
   abbrev pub shown_from : ℕ → State → Shown

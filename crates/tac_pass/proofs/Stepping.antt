@@ -11,8 +11,8 @@ use Rattle.tac_code.specs.Memory.{known}
 use Rattle.tac_code.specs.Meaning.{Code, State, Step, Goes, Over, fetch, act, put, with_some, with_number}
 use Rattle.tac_code.specs.Meaning.{with_address, with_routine, with_byte_value, open_calls, fails, gives}
 use Rattle.tac_code.specs.Meaning.{gives_address, gives_computed, checks, goes_on}
-use Rattle.tac_pass.specs.Turns.{turns_aside}
-use Rattle.tac_pass.specs.Keeps.{Setting}
+use Rattle.tac_code_steps.specs.Turns.{turns_aside}
+use Rattle.tac_code_steps.specs.InTurns.{Setting}
 use Rattle.tac_pass.specs.Moved.{moved_block, moved}
 use Rattle.tac_pass.specs.Claims.{Claim, Certificate}
 use Rattle.tac_pass.specs.Alike.{Alike, Matched}

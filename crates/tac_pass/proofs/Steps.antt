@@ -26,8 +26,8 @@ use Rattle.tac_code.specs.Meaning.{with_address, with_byte_value, operand_value,
 use Rattle.tac_code.specs.Meaning.{related, gives, gives_address, gives_computed, gives_component, checks, stores}
 use Rattle.tac_code.specs.Meaning.{takes, made, makes, unwritten, giving, puts, told, end_taken, text_of, text_at}
 use Rattle.tac_code.specs.Meaning.{onward}
-use Rattle.tac_pass.specs.Turns.{turns_aside}
-use Rattle.tac_pass.specs.Keeps.{Setting}
+use Rattle.tac_code_steps.specs.Turns.{turns_aside}
+use Rattle.tac_code_steps.specs.InTurns.{Setting}
 use Rattle.tac_pass.specs.Moved.{moved_block, moved, moved_word, moved_words, moved_living}
 use Rattle.tac_pass.specs.Claims.{Claim, Certificate}
 use Rattle.tac_pass.specs.Alike.{Memories, Alike}

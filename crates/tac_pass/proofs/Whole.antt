@@ -9,8 +9,9 @@ use Rattle.tac_code.specs.declared.code.Instruction.{Instruction}
 use Rattle.tac_code.specs.declared.code.TacRoutine.{TacRoutine}
 use Rattle.tac_code.specs.Meaning.{Code, State, Step, Goes, Over, routines, fetch, act, with_some, unwritten}
 use Rattle.tac_code.specs.Run.{before}
-use Rattle.tac_pass.specs.Turns.{turns_aside}
-use Rattle.tac_pass.specs.Keeps.{Setting, Keeps}
+use Rattle.tac_code_steps.specs.Turns.{turns_aside}
+use Rattle.tac_code_steps.specs.InTurns.{Setting}
+use Rattle.tac_pass.specs.Keeps.{Keeps}
 use Rattle.tac_pass.specs.Moved.{moved_word}
 use Rattle.tac_pass.specs.Claims.{Claim, Certificate}
 use Rattle.tac_pass.specs.Alike.{Alike, Matched}

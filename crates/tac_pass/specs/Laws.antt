@@ -2,9 +2,9 @@
 use Rattle.std.specs.Prelude.{◌≡◌, ℕ}
 use Rattle.behavior.specs.Endings.{Stuck}
 use Rattle.behavior.specs.Transcripts.{Shown}
-use Rattle.behavior.specs.Same.{Same}
 use Rattle.tac_code.specs.Meaning.{Code}
-use Rattle.tac_pass.specs.Keeps.{Setting, shows, Keeps, ShowsInTurns}
+use Rattle.tac_code_steps.specs.InTurns.{Setting, ShowsInTurns}
+use Rattle.tac_pass.specs.Keeps.{Keeps}
 use Rattle.tac_pass.specs.Claims.{Certificate}
 use Rattle.tac_pass.specs.Follows.{Checked}
 use Rattle.tac_pass.specs.Certified.{Tested, Certified}
@@ -15,10 +15,6 @@ abbrev pub KeepingComposes : Type 0
 KeepingComposes =
     (a : ℕ → Shown) (old new : Code) (p : Setting) → ((n : ℕ) → (a n).1 ≡ Stuck → ⊥) → Keeps old new
     → ShowsInTurns a old p → ShowsInTurns a new p
-
--- a turn is an instruction
-abbrev pub KeptIsSame : Type 0
-KeptIsSame = (a : ℕ → Shown) (code : Code) (p : Setting) → ShowsInTurns a code p → Same a (shows code p)
 
 -- the test's yes is enough
 abbrev pub CheckedKeeps : Type 0

@@ -1,4 +1,3 @@
-pub mod Turns
 pub mod Keeps
 pub mod Laws
 pub mod Moved

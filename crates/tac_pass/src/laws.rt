@@ -1,15 +1,10 @@
 // Laws of the definitions. Each is the contract of a function that does nothing when it runs.
 
-ghost use Rattle.tac_pass.specs.Laws.{KeepingComposes, KeptIsSame, CheckedKeeps, CertifiedKeeps, PassedKeeps};
+ghost use Rattle.tac_pass.specs.Laws.{KeepingComposes, CheckedKeeps, CertifiedKeeps, PassedKeeps};
 
 /// What a run is told of in turns, that which keeps the run is told of in turns.
 pub fn keeping_composes()
     ensures { KeepingComposes }
-{}
-
-/// A run in turns is the same as what it tells.
-pub fn kept_is_same()
-    ensures { KeptIsSame }
 {}
 
 /// New code that a certificate leads to from old code keeps what the old one shows.

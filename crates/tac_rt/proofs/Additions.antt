@@ -13,7 +13,7 @@ use Rattle.tac_code.specs.Numbers.{bits}
 use Rattle.tac_code.specs.Memory.{Memory, load, store, with_word}
 use Rattle.tac_code.specs.Meaning.{Temporaries, put, State, text_at, related}
 use Rattle.tac_code_steps.specs.Runs.{Machine, Comes}
-use Rattle.tac_code_steps.proofs.Runs.{one_step, a_step, leads_then, ◌>>◌}
+use Rattle.tac_code_steps.proofs.Runs.{a_step, ◌>>◌}
 use Rattle.tac_rt.specs.declared.sets.TheConstants.{ADD_RANGE}
 use Rattle.tac_rt.specs.Bodies.{routine_of}
 use Rattle.tac_rt.specs.Calls.{HasRoutines}
@@ -125,8 +125,7 @@ adds_members = record {
       let s1 : State = record s { memory = memory; tape = tape } in
       let values : List Value = Address block offset ∷ Number x ∷ Number y ∷ [] in
       record {
-        by = λ to line operands at o. leads_then
-            (one_step s1 _ (enters m s1 1 routine has refl to line operands values at o refl refl refl))
+        by = λ to line operands at o. a_step s1 _ (enters m s1 1 routine has refl to line operands values at o refl refl refl) >>
             (leaves m s1 has to line block offset x y memory above);
       });
   some = λ m n count block offset before after tape has low added narrow. does_so m 1
@@ -135,8 +134,7 @@ adds_members = record {
       let s1 : State = record s { memory = before; tape = tape } in
       let values : List Value = Address block offset ∷ Number (pos n) ∷ Number (pos (n + count)) ∷ [] in
       record {
-        by = λ to line operands at o. leads_then
-            (one_step s1 _ (enters m s1 1 routine has refl to line operands values at o refl refl refl))
+        by = λ to line operands at o. a_step s1 _ (enters m s1 1 routine has refl to line operands values at o refl refl refl) >>
             (begins m s1 has to line block offset n count before after low fresh added narrow);
       });
 }

@@ -9,7 +9,7 @@ use Rattle.tac_code.specs.declared.code.TacRoutine.{TacRoutine}
 use Rattle.tac_code.specs.Memory.{Memory, load, store, with_word}
 use Rattle.tac_code.specs.Meaning.{Temporaries, put, Tape, State, text_at, related}
 use Rattle.tac_code_steps.specs.Runs.{Machine, Comes}
-use Rattle.tac_code_steps.proofs.Runs.{one_step, a_step, leads_then, ◌>>◌}
+use Rattle.tac_code_steps.proofs.Runs.{a_step, ◌>>◌}
 use Rattle.ps_meaning.specs.Text.{Input, next_of, taken_from, look_marks}
 use Rattle.tac_rt.specs.declared.reading.TheConstants.{READ_CHARACTER}
 use Rattle.tac_rt.specs.Bodies.{routine_of}
@@ -193,7 +193,7 @@ reads_characters m block offset i before after transcript has h w = does_so m 14
     let s1 : State = record s { memory = before; tape = tape_of i transcript } in
     record {
       by = λ to line operands at e.
-          leads_then (one_step s1 _ (enters m s1 14 routine has refl to line operands
-          (Address block offset ∷ []) at e refl refl refl))
+          a_step s1 _ (enters m s1 14 routine has refl to line operands
+          (Address block offset ∷ []) at e refl refl refl) >>
           (takes_it m s1 has to line block offset fresh i.left i.looked i.in_line after transcript h.ahead h.begun w);
     })

@@ -11,7 +11,7 @@ use Rattle.tac_code.specs.declared.code.TacRoutine.{TacRoutine}
 use Rattle.tac_code.specs.Memory.{load_byte}
 use Rattle.tac_code.specs.Meaning.{Temporaries, put, State, text_at, related}
 use Rattle.tac_code_steps.specs.Runs.{Machine, Comes}
-use Rattle.tac_code_steps.proofs.Runs.{one_step, a_step, leads_then, ◌>>◌}
+use Rattle.tac_code_steps.proofs.Runs.{a_step, ◌>>◌}
 use Rattle.tac_code_steps.proofs.Temporaries.{eq_no}
 use Rattle.tac_rt.specs.declared.words.TheConstants.{COMPARE}
 use Rattle.tac_rt.specs.Bodies.{routine_of}
@@ -130,6 +130,6 @@ compares_bytes m x place y start left right memory tape has h g e l k =
     let s1 : State = record s { memory = memory; tape = tape } in
     record {
       by = λ to line operands at o.
-          leads_then (one_step s1 _ (enters m s1 7 routine has refl to line operands values at o refl refl refl))
+          a_step s1 _ (enters m s1 7 routine has refl to line operands values at o refl refl refl) >>
           (whole m s1 has fresh to line x y left right place start h g e l k);
     })

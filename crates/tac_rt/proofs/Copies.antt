@@ -14,7 +14,7 @@ use Rattle.tac_code.specs.Numbers.{bits, same_number}
 use Rattle.tac_code.specs.Memory.{Memory, load, store, with_word}
 use Rattle.tac_code.specs.Meaning.{Temporaries, put, State, text_at, related}
 use Rattle.tac_code_steps.specs.Runs.{Machine, Comes}
-use Rattle.tac_code_steps.proofs.Runs.{one_step, a_step, leads_then, ◌>>◌}
+use Rattle.tac_code_steps.proofs.Runs.{a_step, ◌>>◌}
 use Rattle.tac_code_steps.proofs.Temporaries.{eq_no}
 use Rattle.tac_rt.specs.declared.words.TheConstants.{COPY}
 use Rattle.tac_rt.specs.Bodies.{routine_of}
@@ -182,7 +182,7 @@ copies_words m upper place lower start n before after tape has c l h =
     let s1 : State = record s { memory = before; tape = tape } in
     record {
       by = λ to line operands at e.
-          leads_then (one_step s1 _ (enters m s1 0 routine has refl to line operands values at e refl refl refl))
+          a_step s1 _ (enters m s1 0 routine has refl to line operands values at e refl refl refl) >>
           (let half = halves n in whole m s1 has to line upper lower half.0 n half.1 place start before after half.2
           fresh c l h);
     })

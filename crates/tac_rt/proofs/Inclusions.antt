@@ -12,7 +12,7 @@ use Rattle.tac_code.specs.Numbers.{bits, truth, same_number}
 use Rattle.tac_code.specs.Memory.{load}
 use Rattle.tac_code.specs.Meaning.{Temporaries, put, State, text_at, related}
 use Rattle.tac_code_steps.specs.Runs.{Machine, Comes}
-use Rattle.tac_code_steps.proofs.Runs.{one_step, a_step, leads_then, ◌>>◌}
+use Rattle.tac_code_steps.proofs.Runs.{a_step, ◌>>◌}
 use Rattle.tac_code_steps.proofs.Temporaries.{eq_no}
 use Rattle.tac_rt.specs.declared.sets.TheConstants.{IS_INCLUDED}
 use Rattle.tac_rt.specs.Bodies.{routine_of}
@@ -122,6 +122,6 @@ includes_sets m x place y start left right memory tape has h g e f l k =
     let s1 : State = record s { memory = memory; tape = tape } in
     record {
       by = λ to line operands at o.
-          leads_then (one_step s1 _ (enters m s1 5 routine has refl to line operands values at o refl refl refl))
+          a_step s1 _ (enters m s1 5 routine has refl to line operands values at o refl refl refl) >>
           (all_words m s1 has fresh to line x y left right place start h g e f l k);
     })

@@ -26,9 +26,9 @@ use Rattle.tac_code.specs.Meaning.{Temporaries, put, Tape, State, Step, Goes, Ov
 use Rattle.tac_code.specs.Meaning.{onward, giving, with_some, values_of, operand_value, related, gives, gives_address}
 use Rattle.tac_code.specs.Meaning.{gives_component, gives_computed, told, end_taken, takes, unwritten, open_bytes}
 use Rattle.tac_code.specs.Meaning.{entered, enter}
-use Rattle.tac_code_steps.specs.Runs.{Machine, step_of, Leads, Comes}
+use Rattle.tac_code_steps.specs.Runs.{Machine, step_of, Comes}
 use Rattle.tac_code_steps.specs.Routines.{Does}
-use Rattle.tac_code_steps.proofs.Runs.{a_step, leads_comes}
+use Rattle.tac_code_steps.proofs.Runs.{a_step}
 use Rattle.tac_code_steps.proofs.Instructions.{At, literal_step, copy_step, arithmetic_step, bits_step, compare_step}
 use Rattle.tac_code_steps.proofs.Instructions.{offset_step, index_step, load_step, load_byte_step, store_step}
 use Rattle.tac_code_steps.proofs.Instructions.{store_byte_step, jump_step, jump_back_step, branch_step}
@@ -71,7 +71,7 @@ back s to v memory tape = record s {
 -- In this state a call of the routine of this number with these values gives v, and leaves this memory and this tape.
 pub record Called (m : Machine) (s : State) (number : ℕ) (values : List Value) (v : Value) (memory : Memory) (tape : Tape) : Type 0 where
   pub by : (to line : ℕ) (operands : List ℕ) → At m s (Call to (length m.code.program + number) operands line)
-      → values_of s.current.temporaries operands ≡ Some values → Leads m s (back s to v memory tape)
+      → values_of s.current.temporaries operands ≡ Some values → Comes m s (back s to v memory tape)
 
 -- so it does in each state with this memory and this tape
 pub does_so : (m : Machine) (number : ℕ) (values : List Value) (before : Memory) (tape : Tape) (v : Value)
@@ -84,8 +84,8 @@ does_so m number values before tape v after tape' called = record {
         frames = fresh.0;
         scratch = fresh.1;
       }) in
-      let c : Comes m (record s { memory = before; tape = tape }) (back s to v after tape') = leads_comes
-      ((called s f).by to line operands at e) in
+      let c : Comes m (record s { memory = before; tape = tape }) (back s to v after tape') = (called s f).by to
+      line operands at e in
       let c' : Comes m (record s { tape = tape }) (back s to v after tape') = subst
       (λ x. Comes m (record s { memory = x; tape = tape }) (back s to v after tape')) (sym same_memory) c in
       subst (λ x. Comes m (record s { tape = x }) (back s to v after tape')) (sym same_tape) c';

@@ -15,7 +15,7 @@ use Rattle.tac_code.specs.Numbers.{bits}
 use Rattle.tac_code.specs.Memory.{Memory, load, store, with_word}
 use Rattle.tac_code.specs.Meaning.{Temporaries, put, State, text_at}
 use Rattle.tac_code_steps.specs.Runs.{Machine, Comes}
-use Rattle.tac_code_steps.proofs.Runs.{one_step, a_step, leads_then, ◌>>◌}
+use Rattle.tac_code_steps.proofs.Runs.{a_step, ◌>>◌}
 use Rattle.tac_code_steps.proofs.Temporaries.{eq_no}
 use Rattle.tac_rt.specs.declared.step.Step.{Step}
 use Rattle.tac_rt.specs.declared.step.Step.TheVariants as step
@@ -151,8 +151,8 @@ module _ (operator : BitOperator) (k : ℕ) (is : slice_get run_time_routines k 
       let s1 : State = record s { memory = before; tape = tape } in
       record {
         by = λ to line operands at e.
-            leads_then (one_step s1 _ (enters m s1 k
-            (routine operator) has is to line operands values at e refl refl refl))
+            a_step s1 _ (enters m s1 k
+            (routine operator) has is to line operands values at e refl refl refl) >>
             (literal m s1 k (routine operator) has is to line 0 (λ u. slice_get values u) before tape 2 (pos 4) refl
             >> goes m s1 has to line upper lower 3 place start
             (put (λ u. slice_get values u) 2 (Number (pos 4))) before after refl refl refl

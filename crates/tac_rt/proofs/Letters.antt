@@ -11,7 +11,7 @@ use Rattle.tac_code.specs.Numbers.{is_integer, bits, word_of}
 use Rattle.tac_code.specs.Meaning.{Temporaries, put, Tape, State, related, told}
 use Rattle.tac_code_steps.specs.Runs.{Machine, Comes}
 use Rattle.tac_code_steps.specs.Routines.{wrote}
-use Rattle.tac_code_steps.proofs.Runs.{one_step, a_step, leads_then, ◌>>◌}
+use Rattle.tac_code_steps.proofs.Runs.{a_step, ◌>>◌}
 use Rattle.tac_code_steps.proofs.Temporaries.{eq_no}
 use Rattle.ps_meaning.specs.Text.{right_aligned}
 use Rattle.tac_rt.specs.declared.writing.TheConstants.{WRITE_CHARACTER}
@@ -147,7 +147,7 @@ writes_characters m x w memory tape has h l = does_so m 11 (Number x ∷ Number 
     let s1 : State = record s { memory = memory; tape = tape } in
     record {
       by = λ to line operands at e.
-          leads_then (one_step s1 _ (enters m s1 11 routine has refl to line operands
-          (Number x ∷ Number (pos w) ∷ []) at e refl refl refl))
+          a_step s1 _ (enters m s1 11 routine has refl to line operands
+          (Number x ∷ Number (pos w) ∷ []) at e refl refl refl) >>
           (whole m s1 has to line x w h l);
     })

@@ -12,7 +12,7 @@ use Rattle.tac_code.specs.Numbers.{truth, same_number}
 use Rattle.tac_code.specs.Memory.{Memory, load, store, with_word}
 use Rattle.tac_code.specs.Meaning.{Temporaries, put, Tape, State, text_at, related}
 use Rattle.tac_code_steps.specs.Runs.{Machine, Comes}
-use Rattle.tac_code_steps.proofs.Runs.{one_step, a_step, leads_then, ◌>>◌}
+use Rattle.tac_code_steps.proofs.Runs.{a_step, ◌>>◌}
 use Rattle.ps_meaning.specs.Text.{Input, next_of, has_line_end, after_line_end, after_line, line_marks}
 use Rattle.tac_rt.specs.declared.reading.TheConstants.{READ_LINE}
 use Rattle.tac_rt.specs.Bodies.{routine_of}
@@ -343,7 +343,7 @@ reads_lines m block offset i before after transcript has h w = does_so m 16 (Add
     let s1 : State = record s { memory = before; tape = tape_of i transcript } in
     record {
       by = λ to line operands at e.
-          leads_then (one_step s1 _ (enters m s1 16 routine has refl to line operands
-          (Address block offset ∷ []) at e refl refl refl))
+          a_step s1 _ (enters m s1 16 routine has refl to line operands
+          (Address block offset ∷ []) at e refl refl refl) >>
           (passes_it m s1 has to line block offset fresh i.left i.looked i.in_line after transcript h.ahead h.begun w);
     })

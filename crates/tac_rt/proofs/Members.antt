@@ -12,7 +12,7 @@ use Rattle.tac_code.specs.Numbers.{bits, truth, word_of, same_number, is_in_rang
 use Rattle.tac_code.specs.Memory.{load}
 use Rattle.tac_code.specs.Meaning.{Temporaries, put, State, text_at}
 use Rattle.tac_code_steps.specs.Runs.{Machine, Comes}
-use Rattle.tac_code_steps.proofs.Runs.{one_step, a_step, leads_then, ◌>>◌}
+use Rattle.tac_code_steps.proofs.Runs.{a_step, ◌>>◌}
 use Rattle.tac_code_steps.proofs.Temporaries.{eq_no, eq_same}
 use Rattle.tac_rt.specs.declared.sets.TheConstants.{IS_MEMBER}
 use Rattle.tac_rt.specs.Bodies.{routine_of}
@@ -105,9 +105,8 @@ finds_members = record {
       (Number (pos 0)) memory tape (λ s fresh.
       let s1 : State = record s { memory = memory; tape = tape } in
       record {
-        by = λ to line operands at o. leads_then
-            (one_step s1 _ (enters m s1 6 routine has refl to line operands
-            (Number x ∷ Address block offset ∷ []) at o refl refl refl))
+        by = λ to line operands at o. a_step s1 _ (enters m s1 6 routine has refl to line operands
+            (Number x ∷ Address block offset ∷ []) at o refl refl refl) >>
             (outside m s1 has fresh to line block offset x e);
       });
   inside = λ m n block offset w memory tape has low l h. does_so m 6
@@ -115,9 +114,8 @@ finds_members = record {
       (Number (truth (not (same_number (bits And w (bits ShiftLeft (pos 1) (pos n))) (pos 0))))) memory tape (λ s fresh.
       let s1 : State = record s { memory = memory; tape = tape } in
       record {
-        by = λ to line operands at o. leads_then
-            (one_step s1 _ (enters m s1 6 routine has refl to line operands
-            (Number (pos n) ∷ Address block offset ∷ []) at o refl refl refl))
+        by = λ to line operands at o. a_step s1 _ (enters m s1 6 routine has refl to line operands
+            (Number (pos n) ∷ Address block offset ∷ []) at o refl refl refl) >>
             (inside m s1 has fresh to line block offset n w low l h);
       });
 }

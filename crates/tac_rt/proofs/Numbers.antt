@@ -14,7 +14,7 @@ use Rattle.tac_code.specs.Numbers.{is_integer, Gives}
 use Rattle.tac_code.specs.Meaning.{Temporaries, put, Tape, State, related}
 use Rattle.tac_code_steps.specs.Runs.{Machine, Comes}
 use Rattle.tac_code_steps.specs.Routines.{wrote}
-use Rattle.tac_code_steps.proofs.Runs.{one_step, a_step, leads_then, ◌>>◌}
+use Rattle.tac_code_steps.proofs.Runs.{a_step, ◌>>◌}
 use Rattle.tac_code_steps.proofs.Temporaries.{eq_no}
 use Rattle.ps_meaning.specs.Text.{right_aligned, digits, integer_text}
 use Rattle.tac_rt.specs.declared.writing.TheConstants.{WRITE_NUMBER}
@@ -451,8 +451,8 @@ writes_numbers m x w memory tape has h l = does_so m 10 (Number x ∷ Number (po
     record {
       by = λ to line operands at e.
           let r = whole m s1 has to line x w h l in
-          leads_then (one_step s1 _ (enters m s1 10 routine has refl to line operands
-          (Number x ∷ Number (pos w) ∷ []) at e refl refl refl))
+          a_step s1 _ (enters m s1 10 routine has refl to line operands
+          (Number x ∷ Number (pos w) ∷ []) at e refl refl refl) >>
           (r.2 >> subst (λ u. Comes m (at_place m s1 has to line 29 r.0
           (told_all (right_aligned w (integer_text x)) tape)) (back s1 to (Number (pos 0)) memory u))
           (told_written (right_aligned w (integer_text x)) tape)

@@ -10,7 +10,7 @@ use Rattle.tac_code.specs.declared.code.TacRoutine.{TacRoutine}
 use Rattle.tac_code.specs.Memory.{Memory, load, store_byte, with_byte_at}
 use Rattle.tac_code.specs.Meaning.{Temporaries, put, State, text_at}
 use Rattle.tac_code_steps.specs.Runs.{Machine, Comes}
-use Rattle.tac_code_steps.proofs.Runs.{one_step, a_step, leads_then, ◌>>◌}
+use Rattle.tac_code_steps.proofs.Runs.{a_step, ◌>>◌}
 use Rattle.tac_code_steps.proofs.Temporaries.{eq_no}
 use Rattle.tac_rt.specs.declared.words.TheConstants.{PACK}
 use Rattle.tac_rt.specs.Bodies.{routine_of}
@@ -104,6 +104,6 @@ packs_bytes m upper place lower start bytes before after tape has c l h =
     let s1 : State = record s { memory = before; tape = tape } in
     record {
       by = λ to line operands at e.
-          leads_then (one_step s1 _ (enters m s1 8 routine has refl to line operands values at e refl refl refl))
+          a_step s1 _ (enters m s1 8 routine has refl to line operands values at e refl refl refl) >>
           (whole m s1 has to line upper lower bytes place start before after fresh c l h);
     })

@@ -13,7 +13,7 @@ use Rattle.tac_code.specs.Memory.{Memory, load_byte}
 use Rattle.tac_code.specs.Meaning.{Temporaries, put, Tape, State, text_at, related, told}
 use Rattle.tac_code_steps.specs.Runs.{Machine, Comes}
 use Rattle.tac_code_steps.specs.Routines.{wrote}
-use Rattle.tac_code_steps.proofs.Runs.{one_step, a_step, leads_then, ◌>>◌}
+use Rattle.tac_code_steps.proofs.Runs.{a_step, ◌>>◌}
 use Rattle.tac_code_steps.proofs.Temporaries.{eq_no}
 use Rattle.ps_meaning.specs.Text.{right_aligned, fitted}
 use Rattle.tac_rt.specs.declared.writing.TheConstants.{WRITE_STRING}
@@ -263,8 +263,8 @@ writes_here : (m : Machine) (s : State) (block : Block) (o : ℕ) (text : List �
 writes_here m s block o text w has fresh h l narrow = record {
   by = λ to line operands i e.
       let r = ended m s has fresh to line block o text w h l narrow in
-      leads_then (one_step s _ (enters m s 12 routine has refl to line operands
-      (Address block o ∷ Number (pos (length text)) ∷ Number (pos w) ∷ []) i e refl refl refl))
+      a_step s _ (enters m s 12 routine has refl to line operands
+      (Address block o ∷ Number (pos (length text)) ∷ Number (pos w) ∷ []) i e refl refl refl) >>
       (r.2 >> subst (λ x. Comes m (at_place m s has fresh to line 14 r.0 (told_all (fitted w text) s.tape))
       (back s to (Number (pos 0)) s.memory x)) (told_written (fitted w text) s.tape)
       (a_step _ _ (returns m s 12 routine has refl to line 14 r.0 s.memory (told_all (fitted w text) s.tape) 1

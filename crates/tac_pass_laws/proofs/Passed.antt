@@ -1,0 +1,115 @@
+-- Code that stands in the place of other code.
+use Rattle.std.proofs.Common.{◌≡◌, inl, inr, ℕ, zero, suc, ◌<◌, List, [], ◌∷◌, ◌++◌, length, slice_get, Some, refl, sym}
+use Rattle.std.proofs.Common.{ap, ◌∙◌, subst, arith}
+use Rattle.behavior.specs.Endings.{Ending, Stuck, IsMore}
+use Rattle.behavior.specs.Transcripts.{Shown, GoesOn}
+use Rattle.behavior.proofs.Sameness.{same_has_converse}
+use Rattle.tac_code.specs.declared.code.TacRoutine.{TacRoutine}
+use Rattle.tac_code.specs.Meaning.{Code, size, routines}
+use Rattle.tac_code_laws.proofs.Growth.{run_goes_on}
+use Rattle.tac_code_steps.specs.InTurns.{Setting, shows, turns_in, ShowsInTurns}
+use Rattle.tac_code_steps.proofs.Counting.{in_turns_is_same}
+use Rattle.tac_pass.specs.Keeps.{Keeps}
+use Rattle.tac_pass.specs.Follows.{SameHeading}
+use Rattle.tac_pass.specs.Walk.{PassedRoutine, ArePassed}
+use Rattle.tac_pass.proofs.Counting.{keeping_composes}
+use Rattle.tac_pass.proofs.Passing.{passed_keeps}
+use Rattle.tac_pass_laws.specs.Passed.{HasRoomOf, IsPassed}
+use Rattle.tac_pass_laws.specs.Laws.{DoesAs}
+
+-- ---- routines of a program, among all of its code
+
+in_both : {X : Type 0} (xs ys : List X) (r : ℕ) (x : X) → slice_get xs r ≡ Some x → slice_get (xs ++ ys) r ≡ Some x
+in_both [] ys r x e = absurd (cc e)
+in_both (z ∷ xs) ys zero x e = e
+in_both (z ∷ xs) ys (suc r) x e = in_both xs ys r x e
+
+in_first : {X : Type 0} (xs ys : List X) (r : ℕ) (x : X) → r < length xs → slice_get (xs ++ ys) r ≡ Some x → slice_get
+    xs r ≡ Some x
+in_first [] ys r x lt e = absurd (omega (arith, lt))
+in_first (z ∷ xs) ys zero x lt e = e
+in_first (z ∷ xs) ys (suc r) x lt e = in_first xs ys r x (omega (arith, lt)) e
+
+within : {X : Type 0} (xs : List X) (r : ℕ) (x : X) → slice_get xs r ≡ Some x → r < length xs
+within [] r x e = absurd (cc e)
+within (z ∷ xs) zero x e = omega arith
+within (z ∷ xs) (suc r) x e = let lt = within xs r x e in omega (arith, lt)
+
+-- ---- the room of code that was made by plans
+
+sized : (routine routine' : TacRoutine) → SameHeading routine routine' → routine'.temporaries ≡ routine.temporaries
+    → size routine' ≡ size routine
+sized routine routine' h t = let f = h.frame in let s = h.scratch in omega (arith, f, s, t)
+
+module _ (old new : Code) (passed : ArePassed old new) where
+  sizes : (r : ℕ) (routine : TacRoutine) → slice_get old.program r ≡ Some routine → (routine' : TacRoutine)
+      × (slice_get new.program r ≡ Some routine') × (size routine' ≡ size routine)
+  sizes r routine e =
+      let one = passed.routines r routine (in_both old.program old.run_time r routine e) in
+      let lt : r < length old.program = within old.program r routine e in
+      let as_many = passed.program in (
+        one.0,
+        in_first new.program new.run_time r one.0 (omega (arith, lt, as_many)) one.1,
+        sized routine one.0 one.2.heading one.2.temporaries,
+      )
+
+pub planned_are_passed : (old new : Code) → ArePassed old new → IsPassed old new
+planned_are_passed old new passed = record {
+  keeps = passed_keeps old new passed;
+  room = record {
+    program = passed.program;
+    run_time = passed.run_time;
+    objects = passed.objects;
+    sizes = sizes old new passed;
+  };
+}
+
+-- ---- the code itself, and one pass behind another
+
+pub unchanged_are_passed : (code : Code) → IsPassed code code
+unchanged_are_passed code = record {
+  keeps = λ p n goes. (n, refl, refl);
+  room = record { program = refl; run_time = refl; objects = refl; sizes = λ r routine e. (routine, e, refl) };
+}
+
+pub passes_compose : (first second third : Code) → IsPassed first second → IsPassed second third → IsPassed first third
+passes_compose first second third a b =
+    record {
+      keeps = keeps;
+      room = record {
+        program = b.room.program ∙ a.room.program;
+        run_time = b.room.run_time ∙ a.room.run_time;
+        objects = b.room.objects ∙ a.room.objects;
+        sizes = λ r routine e.
+            let x = a.room.sizes r routine e in
+            let y = b.room.sizes r x.0 x.1 in
+            (y.0, y.1, y.2 ∙ x.2);
+      };
+    }
+  where
+    keeps : Keeps first third
+    keeps p n goes =
+        let x = a.keeps p n goes in
+        let y = b.keeps p x.0 (λ stuck. goes (ap (λ (s : Shown). s.1) (sym x.1) ∙ stuck)) in
+        (y.0, y.1 ∙ x.1, y.2 ∙ x.2)
+
+-- ---- what the new code does
+
+-- what is stuck does not go on
+no_more : (e : Ending) → e ≡ Stuck → IsMore e → ⊥
+no_more e stuck more = subst IsMore stuck more
+
+stuck_in : (x y : Shown) → GoesOn IsMore x y → x.1 ≡ Stuck → y.1 ≡ Stuck
+stuck_in x y (inl e) stuck = ap (λ (s : Shown). s.1) (sym e) ∙ stuck
+stuck_in x y (inr h) stuck = absurd (no_more x.1 stuck h.0)
+
+pub passed_does : (a : ℕ → Shown) (old new : Code) (p : Setting) → ((n : ℕ) → (a n).1 ≡ Stuck → ⊥)
+    → ShowsInTurns a old p → IsPassed old new → DoesAs a new p
+passed_does a old new p goes shown passed =
+    let same = in_turns_is_same a new p (keeping_composes a old new p goes passed.keeps shown) in
+    record {
+      same = same;
+      goes_on = λ n stuck.
+          let c = same_has_converse a (shows new p) (run_goes_on new p.frames p.objects p.stack p.heap p.input) same n in
+          goes c.0 (stuck_in (shows new p n) (a c.0) c.1 stuck);
+    }
