@@ -33,6 +33,25 @@ if_left (Ok (Some x)) P Q f h = h
 if_left (Ok None) P Q f h = f h
 if_left (Err e) P Q f h = h
 
+if_some : {T : Type 0} (o : Option T) (P Q : T → Type 0) → ((x : T) → P x → Q x) → IfSome o P → IfSome o Q
+if_some (Some x) P Q f h = f x h
+if_some None P Q f h = h
+
+if_none : {T : Type 0} (o : Option T) (P Q : Type 0) → (P → Q) → IfNone o P → IfNone o Q
+if_none (Some x) P Q f h = h
+if_none None P Q f h = f h
+
+-- The same of what tells the end among other things.
+pub if_ended_in : {S T E : Type 0} (end : S → Option T) (r : Result S E) (P Q : T → Type 0) → ((x : T) → P x → Q x)
+    → IfOk r (λ s. IfSome (end s) P) → IfOk r (λ s. IfSome (end s) Q)
+if_ended_in end (Ok s) P Q f h = if_some (end s) P Q f h
+if_ended_in end (Err e) P Q f h = h
+
+pub if_left_in : {S T E : Type 0} (end : S → Option T) (r : Result S E) (P Q : Type 0) → (P → Q)
+    → IfOk r (λ s. IfNone (end s) P) → IfOk r (λ s. IfNone (end s) Q)
+if_left_in end (Ok s) P Q f h = if_none (end s) P Q f h
+if_left_in end (Err e) P Q f h = h
+
 pub if_err : {T E : Type 0} (r : Result T E) (P Q : E → Type 0) → ((e : E) → P e → Q e) → IfErr r P → IfErr r Q
 if_err (Ok x) P Q f h = h
 if_err (Err e) P Q f h = f e h

@@ -13,6 +13,7 @@ ghost use Rattle.ps_build.specs.declared.refusal.Refusal.TheVariants.{OutOfMemor
 use crate::making::{code_made, image_made};
 use crate::refusal::Refusal;
 use ps_check::check;
+use ps_lower::marks::Mark;
 use ps_lower_accepted::{accepted_are_formed, accepted_fit};
 use ps_parse::{parse, release};
 use ps_scan::scan;
@@ -20,6 +21,7 @@ use ps_text::Source;
 use ps_tree::program::Checked;
 use risc_alloc::placer::Placer;
 use risc_alloc::scan::Scan;
+use risc_emit::marks::Marks;
 use risc_image::ImageView;
 use std::alloc::Global;
 use std::marker::Model;
@@ -100,15 +102,36 @@ fn has_what_is_needed(text: &[u8], checked: &Checked)
     accepted_are_formed();
 }
 
-// The bytes of the image of a text.
-fn image_built<P: Placer>(alloc: Global, text: &[u8], placer: &P) -> Result<Vec<u8>, Refusal>
-    ensures ok { IfOk result (λ bytes. Compiles text.now bytes.items) }
-    ensures built { IfOk result (λ bytes. IsBuilt text.now bytes.items) }
-    ensures err { IfErr result (IsRefused text.now) }
+/// A program that was built, with its checked tree and what is known of where its words belong in the text. No contract
+/// speaks of what is said of places; it serves to show them.
+#[derive(Drop)]
+pub struct Mapped {
+    pub built: Built,
+    pub checked: Checked,
+    /// For each routine of the program a mark for each of its instructions.
+    pub marks: Vec<Vec<Mark>>,
+    /// For each of them where the words of its variables begin in an activation, in bytes.
+    pub frames: Vec<u64>,
+    /// For each routine of the program, and for each of the run-time routines behind them, where its words are.
+    pub words: Vec<Marks>,
+}
+
+// The program of a text, built, with its map.
+fn mapped_with<P: Placer>(alloc: Global, text: &[u8], placer: &P) -> Result<Mapped, Refusal>
+    ensures compiles { IfOk result (λ mapped. Compiles text.now mapped.built) }
+    ensures built { IfOk result (λ mapped. IsBuilt text.now mapped.built) }
+    ensures refused { IfErr result (IsRefused text.now) }
 {
     let checked = program_of(alloc, text)?;
     has_what_is_needed(text, &checked);
-    image_made(alloc, &checked, placer)
+    let made = image_made(alloc, &checked, placer)?;
+    Ok(Mapped {
+        built: Built { bytes: made.bytes },
+        checked,
+        marks: made.marks,
+        frames: made.frames,
+        words: made.words,
+    })
 }
 
 /// Whether a text is accepted: it is read and checked as `build` does, and no code is made of it.
@@ -149,8 +172,23 @@ pub fn build_with<P: Placer>(alloc: Global, text: &[u8], placer: &P) -> Result<B
     ensures refused { IfErr result (IsRefused text.now) }
     ensures accepts { IfErr result (λ refusal. IsFaulty refusal → IsNotAccepted text.now) }
 {
-    let bytes = image_built(alloc, text, placer)?;
-    Ok(Built { bytes })
+    let mapped = mapped_with(alloc, text, placer)?;
+    Ok(mapped.built)
+}
+
+/// Builds the program of a text as `build` does, and tells where its words belong in the text.
+///
+/// # Errors
+///
+/// Those of `build`.
+pub fn build_mapped(alloc: Global, text: &[u8]) -> Result<Mapped, Refusal>
+    ensures compiles { IfOk result (λ mapped. Compiles text.now mapped.built) }
+    ensures built { IfOk result (λ mapped. IsBuilt text.now mapped.built) }
+    ensures refused { IfErr result (IsRefused text.now) }
+    ensures accepts { IfErr result (λ refusal. IsFaulty refusal → IsNotAccepted text.now) }
+{
+    let mapped = mapped_with(alloc, text, &Scan)?;
+    Ok(mapped)
 }
 
 /// Builds the program of a text as `build_with` does, with registers for the temporaries that have room there.

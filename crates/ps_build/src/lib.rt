@@ -11,7 +11,7 @@ mod refusal;
 mod run;
 mod slices;
 
-pub use built::{Built, accepted, build, build_with, code_of_text};
+pub use built::{Built, Mapped, accepted, build, build_mapped, build_with, code_of_text};
 pub use listing::list;
 pub use outcome::{FaultKind, Outcome};
 pub use ps_check_judgement::refusal::Rule;
@@ -20,5 +20,5 @@ pub use ps_scan::ScanFault;
 pub use refusal::{Place, Refusal};
 pub use risc_emit_trail::Trail;
 pub use risc_load::Budget;
-pub use run::{go, run_image};
-pub use slices::{Paced, go_in_slices, run_image_in_slices};
+pub use run::{go, outcome_of, run_image};
+pub use slices::{Ended, Paced, go_in_slices, run_image_in_slices, run_image_to_end};

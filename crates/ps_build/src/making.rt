@@ -13,26 +13,51 @@ ghost use Rattle.ps_build.specs.Refusals.{OnlyTooLarge};
 
 use crate::laws::code_does;
 use crate::refusal::Refusal;
-use ps_lower::lower::lower;
+use ps_lower::lower::{Marked, lower_marked};
+use ps_lower::marks::Mark;
 use ps_lower_bounds::{
     code_is_sound, objects_are_bounded, routines_are_bounded, weights_are_small,
 };
 use ps_tree::program::Checked;
 use risc_alloc::placer::Placer;
-use risc_emit::emit::emit;
-use risc_image::{Parts, write};
+use risc_emit::emit::{Emitted, emit_marked};
+use risc_emit::marks::Marks;
+use risc_image::write;
 use std::alloc::Global;
 use tac_code::tac::Tac;
 
+/// The bytes of an image, and for showing places of its text: for each routine of the program the marks of its
+/// instructions and where its variables begin in an activation, and where the words of all routines are.
+#[derive(Drop)]
+pub(crate) struct Made {
+    pub bytes: Vec<u8>,
+    pub marks: Vec<Vec<Mark>>,
+    pub frames: Vec<u64>,
+    pub words: Vec<Marks>,
+}
+
 // The parts of an image of three-address code, with homes for its temporaries that a placer chooses.
-fn parts_of<P: Placer>(alloc: Global, tac: &Tac, placer: &P) -> Result<Parts, Refusal>
-    ensures ok { IfOk result (IsEmitted tac.now) }
-    ensures bounds { IfOk result (λ parts. HasBounds tac.now parts) }
+fn emitted_of<P: Placer>(alloc: Global, tac: &Tac, placer: &P) -> Result<Emitted, Refusal>
+    ensures ok { IfOk result (λ emitted. IsEmitted tac.now emitted.parts) }
+    ensures bounds { IfOk result (λ emitted. HasBounds tac.now emitted.parts) }
     ensures err { IfErr result (λ e. OnlyTooLarge e (HasNoRoom tac.now)) }
 {
     let placement = placer.place(alloc, tac)?;
-    let parts = emit(alloc, tac, &placement)?;
-    Ok(parts)
+    let emitted = emit_marked(alloc, tac, &placement)?;
+    Ok(emitted)
+}
+
+// The three-address code of a checked program, with its marks. If refused, it is too large whatever homes its
+// temporaries have.
+fn marked_made(alloc: Global, checked: &Checked) -> Result<Marked, Refusal>
+    requires { IsFormed (program_in checked.now) }
+    ensures ok { IfOk result (λ code. code.tac ≡ code_of run_time_routines (program_in checked.now)) }
+    ensures err { IfErr result (λ e. OnlyTooLarge e (HasNoRoom (code_of run_time_routines (program_in checked.now)))) }
+{
+    code_is_sound();
+    weights_are_small();
+    let code = lower_marked(alloc, checked)?;
+    Ok(code)
 }
 
 /// The three-address code of a checked program. If refused, it is too large whatever homes its temporaries have.
@@ -41,30 +66,34 @@ pub(crate) fn code_made(alloc: Global, checked: &Checked) -> Result<Tac, Refusal
     ensures ok { IfOk result (λ tac. tac ≡ code_of run_time_routines (program_in checked.now)) }
     ensures err { IfErr result (λ e. OnlyTooLarge e (HasNoRoom (code_of run_time_routines (program_in checked.now)))) }
 {
-    code_is_sound();
-    weights_are_small();
-    let tac = lower(alloc, checked)?;
-    Ok(tac)
+    let code = marked_made(alloc, checked)?;
+    Ok(code.tac)
 }
 
-/// The bytes of the image of a checked program.
+/// The image of a checked program.
 pub(crate) fn image_made<P: Placer>(
     alloc: Global,
     checked: &Checked,
     placer: &P,
-) -> Result<Vec<u8>, Refusal>
+) -> Result<Made, Refusal>
     requires fits { ProgramFits (program_in checked.now) }
     requires formed { IsFormed (program_in checked.now) }
-    ensures ok { IfOk result (λ bytes. AreMadeOf (program_in checked.now) bytes.items) }
-    ensures emitted { IfOk result (λ bytes. AreEmitted (code_of run_time_routines (program_in checked.now)) bytes.items) }
+    ensures ok { IfOk result (λ made. AreMadeOf (program_in checked.now) made.bytes.items) }
+    ensures emitted { IfOk result (λ made. AreEmitted
+        (code_of run_time_routines (program_in checked.now)) made.bytes.items) }
     ensures err { IfErr result (λ e. OnlyTooLarge e (HasNoRoom (code_of run_time_routines (program_in checked.now)))) }
 {
-    let tac = code_made(alloc, checked)?;
-    let parts = parts_of(alloc, &tac, placer)?;
-    tac.keeps_invariant();
+    let code = marked_made(alloc, checked)?;
+    let emitted = emitted_of(alloc, &code.tac, placer)?;
+    code.tac.keeps_invariant();
     code_does();
     routines_are_bounded();
     objects_are_bounded();
-    let bytes = write(alloc, &parts)?;
-    Ok(bytes)
+    let bytes = write(alloc, &emitted.parts)?;
+    Ok(Made {
+        bytes,
+        marks: code.marks,
+        frames: emitted.frames,
+        words: emitted.marks,
+    })
 }

@@ -38,9 +38,10 @@ fn trap_outcome(row: Option<TrapRow>, trail: Option<Trail>) -> Outcome
     }
 }
 
-// The outcome of a stop that the image's machine was left in.
+/// The outcome of a stop that an image's machine was left in: how it ended, and for an error its number, its line and
+/// the open calls, as the image's tables tell them.
 #[tactic(auto, using(crate::proofs::Rows::row_of_link))]
-pub(crate) fn outcome_of(image: &ImageView<'_>, machine: &Machine, stop: Stop) -> Outcome
+pub fn outcome_of(image: &ImageView<'_>, machine: &Machine, stop: Stop) -> Outcome
     ensures { IsToldBy image.now machine.now stop result }
 {
     match stop {

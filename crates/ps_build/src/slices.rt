@@ -59,7 +59,48 @@ fn run_in_slices<C: Paced>(
     Some(run(machine, console, max_steps - done))
 }
 
+/// How a run ended, with the machine as it was left there.
+#[derive(Drop)]
+pub struct Ended {
+    pub machine: Machine,
+    /// `None` where a fault at a pause ended the run, and so is the outcome.
+    pub stop: Option<Stop>,
+    pub outcome: Option<Outcome>,
+}
+
 // Runs an image that was read.
+fn run_view_to_end<C: Paced>(
+    alloc: Global,
+    image: &ImageView<'_>,
+    budget: Budget,
+    console: &mut C,
+    max_steps: u64,
+) -> Result<Ended, Refusal>
+    ensures runs { IfOk result (λ ended. IfSome ended.outcome
+        (Runs image.now budget max_steps (C.world console.old) (C.world console.new))) }
+    ensures left { IfOk result (λ ended. IfNone ended.outcome
+        (IsRunLeft image.now budget max_steps (C.world console.old) (C.world console.new))) }
+    ensures failed { IfOk result (λ ended. IfNone ended.outcome (C.has_failed console.new ≡ true)) }
+    ensures refused { IfErr result (IsLoadRefused image.now budget) }
+    ensures unchanged { OnErr result (C.world console.new ≡ C.world console.old) }
+{
+    let mut machine = load(alloc, image, budget)?;
+    let Some(stop) = run_in_slices(&mut machine, console, max_steps, SLICE) else {
+        return Ok(Ended {
+            machine,
+            stop: None,
+            outcome: None,
+        });
+    };
+    let outcome = outcome_of(image, &machine, stop);
+    Ok(Ended {
+        machine,
+        stop: Some(stop),
+        outcome: Some(outcome),
+    })
+}
+
+// How a run of an image that was read ends.
 fn run_view_in_slices<C: Paced>(
     alloc: Global,
     image: &ImageView<'_>,
@@ -75,11 +116,31 @@ fn run_view_in_slices<C: Paced>(
     ensures refused { IfErr result (IsLoadRefused image.now budget) }
     ensures unchanged { OnErr result (C.world console.new ≡ C.world console.old) }
 {
-    let mut machine = load(alloc, image, budget)?;
-    let Some(stop) = run_in_slices(&mut machine, console, max_steps, SLICE) else {
-        return Ok(None);
+    let ended = run_view_to_end(alloc, image, budget, console, max_steps)?;
+    Ok(ended.outcome)
+}
+
+/// Runs an image as `run_image_in_slices` does, and hands on the machine as the run left it.
+pub fn run_image_to_end<C: Paced>(
+    alloc: Global,
+    image: &[u8],
+    budget: Budget,
+    console: &mut C,
+    max_steps: u64,
+) -> Result<Ended, Refusal>
+    ensures runs { IfOk result (λ ended. IfSome ended.outcome
+        (RunsImage image.now budget max_steps (C.world console.old) (C.world console.new))) }
+    ensures left { IfOk result (λ ended. IfNone ended.outcome
+        (IsImageLeft image.now budget max_steps (C.world console.old) (C.world console.new))) }
+    ensures failed { IfOk result (λ ended. IfNone ended.outcome (C.has_failed console.new ≡ true)) }
+    ensures refused { IfErr result (IsRunRefused image.now budget) }
+    ensures unchanged { OnErr result (C.world console.new ≡ C.world console.old) }
+{
+    let view = match ImageView::read(image) {
+        Ok(view) => view,
+        Err(refusal) => return Err(Refusal::from(refusal)),
     };
-    Ok(Some(outcome_of(image, &machine, stop)))
+    run_view_to_end(alloc, &view, budget, console, max_steps)
 }
 
 /// Runs an image as `run_image` does, with a pause of the console after each million steps.
@@ -100,11 +161,8 @@ pub fn run_image_in_slices<C: Paced>(
     ensures refused { IfErr result (IsRunRefused image.now budget) }
     ensures unchanged { OnErr result (C.world console.new ≡ C.world console.old) }
 {
-    let view = match ImageView::read(image) {
-        Ok(view) => view,
-        Err(refusal) => return Err(Refusal::from(refusal)),
-    };
-    run_view_in_slices(alloc, &view, budget, console, max_steps)
+    let ended = run_image_to_end(alloc, image, budget, console, max_steps)?;
+    Ok(ended.outcome)
 }
 
 /// Builds the program of a text and runs it as `go` does, with a pause of the console after each million steps.

@@ -36,8 +36,8 @@ bounds_code k a b turns = expr_code k a turns.first 0 ++ unless_known (literal_o
 
 -- their tests
 abbrev pub checks_code : Control → (from to : Expr) → Turns → List Instruction
-checks_code c a b turns = check_code (literal_of a) turns.first c.low c.high 4 c.from_line ++ operand_check
-    (literal_of b) turns.last c.low c.high 4 c.to_line
+checks_code c a b turns = check_code (literal_of a) turns.first c.low c.high 4 c.from_line.number ++ operand_check
+    (literal_of b) turns.last c.low c.high 4 c.to_line.number
 
 -- the first value, the jump past the step, and the step
 abbrev pub first_turn_code : Direction → Turns → List Instruction

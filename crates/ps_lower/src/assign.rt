@@ -18,6 +18,7 @@ use crate::places::{address, is_byte, keep, place_temporary};
 use crate::sets::{check_set, keep_set};
 use crate::texts::structure_bytes;
 use crate::values::{place, set, structure, value};
+use ps_tree::line::Line;
 use ps_tree::tree::{Expr, Place, Range, SetExpr, Structure};
 use std::alloc::AllocError;
 
@@ -28,13 +29,13 @@ pub fn assign(
     target: &Place,
     range: Range,
     e: &Expr,
-    line: u16,
+    line: Line,
     d: u32,
 ) -> Result<(), AllocError>
     requires { d + statement_weight (scope_of k.now)
-        (tree.Assign (place_of target.now) range (expr_of e.now) line) d ≤ DEEPEST }
+        (tree.Assign (place_of target.now) range (expr_of e.now) line.number) d ≤ DEEPEST }
     ensures { OnOk result (out.new ≡ out.old ++ statement_code (scope_of k.now)
-        (tree.Assign (place_of target.now) range (expr_of e.now) line) d) }
+        (tree.Assign (place_of target.now) range (expr_of e.now) line.number) d) }
 {
     let t = kept(expr_calls(e), d);
     let at = even_above(place_temporary(target, t));
@@ -76,13 +77,13 @@ pub fn assign_set(
     low: &i32,
     high: &i32,
     e: &SetExpr,
-    line: u16,
+    line: Line,
     d: u32,
 ) -> Result<(), AllocError>
     requires { d + statement_weight (scope_of k.now)
-        (tree.AssignSet (place_of target.now) low.now high.now (set_of e.now) line) d ≤ DEEPEST }
+        (tree.AssignSet (place_of target.now) low.now high.now (set_of e.now) line.number) d ≤ DEEPEST }
     ensures { OnOk result (out.new ≡ out.old ++ statement_code (scope_of k.now)
-        (tree.AssignSet (place_of target.now) low.now high.now (set_of e.now) line) d) }
+        (tree.AssignSet (place_of target.now) low.now high.now (set_of e.now) line.number) d) }
 {
     let at = held(true, d);
     let t = even_above(at);

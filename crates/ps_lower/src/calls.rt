@@ -19,6 +19,7 @@ use crate::level::Level;
 use crate::levels::{formal, link};
 use crate::out::Code;
 use crate::shapes::byte_count;
+use ps_tree::line::Line;
 use ps_tree::tree::Argument;
 use ps_tree::types::Ty;
 use std::alloc::{AllocError, Global};
@@ -173,14 +174,15 @@ pub fn call(
     arguments: &[Argument],
     routine: u32,
     up: u32,
-    line: u16,
+    line: Line,
     d: u32,
     to: u32,
 ) -> Result<(), AllocError>
     requires { arguments_end (arguments_of arguments.now) d ≤ DEEPEST }
     ensures { OnOk result (out.new ≡ out.old ++ (link_code (scope_of k.now)
         (even_from (arguments_end (arguments_of arguments.now) d)) up ++ i.Call to routine
-        (even_from (arguments_end (arguments_of arguments.now) d) ∷ arguments_words (arguments_of arguments.now) d) line
+        (even_from (arguments_end (arguments_of arguments.now) d) ∷ arguments_words (arguments_of arguments.now) d)
+        line.number
         ∷ [])) }
 {
     let t = link_temporary(arguments, d);
@@ -196,7 +198,7 @@ pub fn call_formal(
     arguments: &[Argument],
     up: u32,
     index: u32,
-    line: u16,
+    line: Line,
     d: u32,
     to: u32,
 ) -> Result<(), AllocError>
@@ -206,7 +208,7 @@ pub fn call_formal(
         (even_from (arguments_end (arguments_of arguments.now) d)) up index ++ i.CallValue to
         (even_from (arguments_end (arguments_of arguments.now) d))
         (beside (even_from (arguments_end (arguments_of arguments.now) d)) ∷ arguments_words
-        (arguments_of arguments.now) d) line ∷ [])) }
+        (arguments_of arguments.now) d) line.number ∷ [])) }
 {
     let t = link_temporary(arguments, d);
     formal(out, k, t, up, index)?;

@@ -40,7 +40,7 @@ pub fn help(
         (out.new ≡ out.old ++ helper (scope_of k.now) routine operands.now to ∷ []) }
 {
     let number = run_time_number(k, number);
-    out.call(to, number, operands, 1)
+    out.call_run_time(to, number, operands)
 }
 
 /// Copies the words at the address in `from` to the address in `to`. The temporary t is used.

@@ -11,6 +11,7 @@ use crate::level::Level;
 use crate::out::Code;
 use crate::places::address;
 use crate::site::Site;
+use ps_tree::line::Line;
 use std::alloc::AllocError;
 use tac_code::code::Base;
 
@@ -39,10 +40,10 @@ pub fn look_ahead(out: &mut Code, k: &Level, d: u32) -> Result<(), AllocError>
 }
 
 /// The same, where the end of all is an error.
-pub fn look_on(out: &mut Code, k: &Level, line: u16, d: u32) -> Result<(), AllocError>
+pub fn look_on(out: &mut Code, k: &Level, line: Line, d: u32) -> Result<(), AllocError>
     requires { d ≤ DEEPEST }
     ensures { OnOk result (out.new ≡ out.old ++ (site_code (even_from d) (input_site (scope_of k.now)) 8 ++ helper
-        (scope_of k.now) LookAhead (even_from d ∷ []) d ∷ i.CheckRange d (pos 1) (pos 2) 9 line ∷ [])) }
+        (scope_of k.now) LookAhead (even_from d ∷ []) d ∷ i.CheckRange d (pos 1) (pos 2) 9 line.number ∷ [])) }
 {
     look_ahead(out, k, d)?;
     out.check_range(d, 1, 2, 9, line)

@@ -17,6 +17,7 @@ mod known;
 mod level;
 mod levels;
 pub mod lower;
+pub mod marks;
 mod numbers;
 mod objects;
 mod openings;

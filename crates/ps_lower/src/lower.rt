@@ -12,6 +12,7 @@ ghost use Rattle.ps_lower.specs.Refused.{most_instructions, instructions_of, ins
 
 use crate::frame::words;
 use crate::frames::Frames;
+use crate::marks::Mark;
 use crate::refusal::{LowerRefusal, MOST_INSTRUCTIONS};
 use crate::routines::tac_routine;
 use ps_tree::program::Checked;
@@ -21,8 +22,12 @@ use tac_code::code::{TacRaw, TacRoutine};
 use tac_code::tac::Tac;
 use tac_rt::routines;
 
-// The code of all routines; refused where together they have more than `MOST_INSTRUCTIONS` instructions.
-fn routines_of(alloc: Global, checked: &Frames) -> Result<Vec<TacRoutine>, LowerRefusal>
+// The code of all routines, with their marks; refused where together they have more than `MOST_INSTRUCTIONS` instructions.
+fn routines_of(
+    alloc: Global,
+    checked: &Frames,
+    marks: &mut Vec<Vec<Mark>>,
+) -> Result<Vec<TacRoutine>, LowerRefusal>
     requires { AreLight (program_in checked.now) }
     ensures made { IfOk result (λ list. list.items ≡ map (tac_of (program_in checked.now))
         (program_in checked.now).routines) }
@@ -34,7 +39,7 @@ fn routines_of(alloc: Global, checked: &Frames) -> Result<Vec<TacRoutine>, Lower
     let mut list = Vec::new(alloc);
     let mut left = MOST_INSTRUCTIONS;
     for routine in checked.routines() {
-        let made = tac_routine(alloc, checked, routine)?;
+        let made = tac_routine(alloc, checked, routine, marks)?;
         let count = made.body.as_slice().len();
         if count > left {
             return Err(LowerRefusal::CodeTooLarge);
@@ -64,6 +69,41 @@ fn object_sizes(alloc: Global, domains: &[Ty]) -> Result<Vec<u32>, AllocError>
     Ok(list)
 }
 
+/// Three-address code, and for each routine of the program a mark for each of its instructions.
+#[derive(Drop)]
+pub struct Marked {
+    pub tac: Tac,
+    pub marks: Vec<Vec<Mark>>,
+}
+
+/// The three-address code of a program as `lower` gives it, with what of the text its instructions belong to.
+///
+/// # Errors
+///
+/// Those of `lower`.
+pub fn lower_marked(alloc: Global, checked: &Checked) -> Result<Marked, LowerRefusal>
+    requires sound { IsSound (code_of run_time_routines (program_in checked.now)) }
+    requires light { AreLight (program_in checked.now) }
+    ensures code { IfOk result (λ marked. marked.tac ≡ code_of run_time_routines (program_in checked.now)) }
+    ensures few { OnOk result (instruction_count
+        (code_of run_time_routines (program_in checked.now)) ≤ most_instructions) }
+    ensures refused { IfErr result (λ refusal. IsRefused refusal
+        (instruction_count (code_of run_time_routines (program_in checked.now)))) }
+{
+    let mut marks = Vec::new(alloc);
+    let frames = Frames::new(alloc, checked)?;
+    let program = routines_of(alloc, &frames, &mut marks)?;
+    let objects = object_sizes(alloc, checked.domains())?;
+    let run_time = routines(alloc)?;
+    let raw = TacRaw {
+        program,
+        run_time,
+        objects,
+    };
+    let tac = Tac::new(raw).unwrap();
+    Ok(Marked { tac, marks })
+}
+
 /// The three-address code of a program, followed by the run-time routines. Its code must keep the invariant of
 /// three-address code, and no number may be too large for it.
 ///
@@ -80,14 +120,6 @@ pub fn lower(alloc: Global, checked: &Checked) -> Result<Tac, LowerRefusal>
     ensures refused { IfErr result (λ refusal. IsRefused refusal
         (instruction_count (code_of run_time_routines (program_in checked.now)))) }
 {
-    let frames = Frames::new(alloc, checked)?;
-    let program = routines_of(alloc, &frames)?;
-    let objects = object_sizes(alloc, checked.domains())?;
-    let run_time = routines(alloc)?;
-    let raw = TacRaw {
-        program,
-        run_time,
-        objects,
-    };
-    Ok(Tac::new(raw).unwrap())
+    let marked = lower_marked(alloc, checked)?;
+    Ok(marked.tac)
 }

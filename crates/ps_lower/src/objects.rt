@@ -19,6 +19,7 @@ use crate::out::Code;
 use crate::places::{is_byte, keep};
 use crate::refusal::{LowerRefusal, MOST_INSTRUCTIONS, lifted};
 use crate::values::place;
+use ps_tree::line::Line;
 use ps_tree::tree::Place;
 use ps_tree::types::Ty;
 use std::alloc::AllocError;
@@ -50,18 +51,21 @@ fn object(
     pointer: u32,
     to: u32,
     t: u32,
-    line: u16,
+    line: Line,
 ) -> Result<(), AllocError>
     requires depth { t ≤ 4294960000 }
     requires reach { first_weight (shape_of (domain_at (scope_of k.now).program pointer)) ≤ 2147483647 }
-    ensures { OnOk result (out.new ≡ out.old ++ i.New to pointer line ∷ first_code (scope_of k.now)
+    ensures { OnOk result (out.new ≡ out.old ++ i.New to pointer line.number ∷ first_code (scope_of k.now)
         (base.Temporary to) t 0 (shape_of (domain_at (scope_of k.now).program pointer))) }
 {
-    out.push(Instruction::New {
-        to,
-        object_type: pointer,
+    out.push_at(
+        Instruction::New {
+            to,
+            object_type: pointer,
+            line: line.number,
+        },
         line,
-    })?;
+    )?;
     first_of_domain(out, k, pointer, to, t)
 }
 
@@ -72,12 +76,12 @@ pub fn create(
     k: &Level,
     target: &Place,
     pointer: u32,
-    line: u16,
+    line: Line,
     d: u32,
 ) -> Result<(), LowerRefusal>
-    requires { d + statement_weight (scope_of k.now) (tree.New (place_of target.now) pointer line) d ≤ DEEPEST }
+    requires { d + statement_weight (scope_of k.now) (tree.New (place_of target.now) pointer line.number) d ≤ DEEPEST }
     ensures { Adds result out.old out.new (statement_code (scope_of k.now)
-        (tree.New (place_of target.now) pointer line) d) }
+        (tree.New (place_of target.now) pointer line.number) d) }
 {
     let at = held(true, d);
     let to = held(true, at + 1);

@@ -1,16 +1,26 @@
 // The code of a routine as it is made.
 
 use crate::filling::{fill_with_branch, fill_with_jump, listed};
+use crate::marks::Mark;
+use ps_tree::line::Line;
 use ps_tree::types::Ordinal;
 use std::alloc::{AllocError, Global};
 use std::marker::Model;
+use std::mem::replace;
 use tac_code::code::{Base, BitOperator, Body, Constant, Instruction, Operand, Operator, Relation};
 
-/// Instructions, to which more are added.
+/// Instructions, to which more are added. A contract sees the list of them; their marks serve only to show places of
+/// the text.
 #[derive(Drop)]
 pub struct Code {
     alloc: Global,
     list: Vec<Instruction>,
+    /// One for each instruction.
+    marks: Vec<Mark>,
+    /// How many statements have begun.
+    begun: u32,
+    /// The number of the statement that the next instruction is of.
+    statement: u32,
 }
 
 impl Model for Code {
@@ -34,6 +44,9 @@ impl Code {
         Code {
             alloc,
             list: Vec::new(alloc),
+            marks: Vec::new(alloc),
+            begun: 0,
+            statement: 0,
         }
     }
 
@@ -49,6 +62,30 @@ impl Code {
         Body::new(self.list)
     }
 
+    /// The marks of the instructions, which are then unmarked.
+    pub fn take_marks(&mut self) -> Vec<Mark>
+        ensures { self.new ≡ self.old }
+    {
+        replace(&mut self.marks, Vec::new(self.alloc))
+    }
+
+    /// Begins a statement, the next of the routine in the order of the text, and gives the number of the one round it.
+    pub fn begin_statement(&mut self) -> u32
+        ensures { self.new ≡ self.old }
+    {
+        let outer = self.statement;
+        self.begun = self.begun.saturating_add(1);
+        self.statement = self.begun;
+        outer
+    }
+
+    /// Ends a statement: what comes next is of the one round it.
+    pub fn end_statement(&mut self, outer: u32)
+        ensures { self.new ≡ self.old }
+    {
+        self.statement = outer;
+    }
+
     /// The place of the next instruction.
     pub fn place(&self) -> usize
         ensures { result ≡ length self.now }
@@ -56,12 +93,30 @@ impl Code {
         self.list.len()
     }
 
+    /// Adds an instruction with what it is told at.
+    fn add(&mut self, instruction: Instruction, at: Option<u32>) -> Result<(), AllocError>
+        ensures { OnOk result (self.new ≡ self.old ++ instruction ∷ []) }
+    {
+        self.list.push(instruction)?;
+        self.marks.push(Mark {
+            statement: self.statement,
+            at,
+        })?;
+        Ok(())
+    }
+
     /// Adds an instruction.
     pub fn push(&mut self, instruction: Instruction) -> Result<(), AllocError>
         ensures { OnOk result (self.new ≡ self.old ++ instruction ∷ []) }
     {
-        self.list.push(instruction)?;
-        Ok(())
+        self.add(instruction, None)
+    }
+
+    /// Adds an instruction that is told at the token of a line.
+    pub fn push_at(&mut self, instruction: Instruction, line: Line) -> Result<(), AllocError>
+        ensures { OnOk result (self.new ≡ self.old ++ instruction ∷ []) }
+    {
+        self.add(instruction, Some(line.at))
     }
 
     /// Loads a number.
@@ -79,18 +134,21 @@ impl Code {
         left: u32,
         right: Operand,
         error: u8,
-        line: u16,
+        line: Line,
     ) -> Result<(), AllocError>
-        ensures { OnOk result (self.new ≡ self.old ++ i.Arithmetic operator to left right error line ∷ []) }
+        ensures { OnOk result (self.new ≡ self.old ++ i.Arithmetic operator to left right error line.number ∷ []) }
     {
-        self.push(Instruction::Arithmetic {
-            operator,
-            to,
-            left,
-            right,
-            error,
+        self.push_at(
+            Instruction::Arithmetic {
+                operator,
+                to,
+                left,
+                right,
+                error,
+                line: line.number,
+            },
             line,
-        })
+        )
     }
 
     /// An operator on words.
@@ -136,17 +194,20 @@ impl Code {
         low: i32,
         high: i32,
         error: u8,
-        line: u16,
+        line: Line,
     ) -> Result<(), AllocError>
-        ensures { OnOk result (self.new ≡ self.old ++ i.CheckRange value low high error line ∷ []) }
+        ensures { OnOk result (self.new ≡ self.old ++ i.CheckRange value low high error line.number ∷ []) }
     {
-        self.push(Instruction::CheckRange {
-            value,
-            low,
-            high,
-            error,
+        self.push_at(
+            Instruction::CheckRange {
+                value,
+                low,
+                high,
+                error,
+                line: line.number,
+            },
             line,
-        })
+        )
     }
 
     /// The address of a component, with the test that its index is in a range, or error 5.
@@ -157,20 +218,24 @@ impl Code {
         index: u32,
         range: Ordinal,
         width: u32,
-        line: u16,
+        line: Line,
     ) -> Result<(), AllocError>
-        ensures { OnOk result (self.new ≡ self.old ++ i.Index to base index range.low range.high width 5 line ∷ []) }
+        ensures { OnOk result (self.new ≡ self.old ++ i.Index to base index range.low range.high width 5 line.number
+            ∷ []) }
     {
-        self.push(Instruction::Index {
-            to,
-            base,
-            index,
-            low: range.low,
-            high: range.high,
-            width,
-            error: 5,
+        self.push_at(
+            Instruction::Index {
+                to,
+                base,
+                index,
+                low: range.low,
+                high: range.high,
+                width,
+                error: 5,
+                line: line.number,
+            },
             line,
-        })
+        )
     }
 
     /// The address of a constant.
@@ -265,10 +330,16 @@ impl Code {
     }
 
     /// An error.
-    pub fn trap(&mut self, error: u8, line: u16) -> Result<(), AllocError>
-        ensures { OnOk result (self.new ≡ self.old ++ i.Trap error line ∷ []) }
+    pub fn trap(&mut self, error: u8, line: Line) -> Result<(), AllocError>
+        ensures { OnOk result (self.new ≡ self.old ++ i.Trap error line.number ∷ []) }
     {
-        self.push(Instruction::Trap { error, line })
+        self.push_at(
+            Instruction::Trap {
+                error,
+                line: line.number,
+            },
+            line,
+        )
     }
 
     /// The return from a routine.
@@ -284,16 +355,37 @@ impl Code {
         to: u32,
         routine: u32,
         operands: &[u32],
-        line: u16,
+        line: Line,
     ) -> Result<(), AllocError>
-        ensures { OnOk result (self.new ≡ self.old ++ i.Call to routine operands.now line ∷ []) }
+        ensures { OnOk result (self.new ≡ self.old ++ i.Call to routine operands.now line.number ∷ []) }
+    {
+        let operands = listed(self.alloc, operands)?;
+        self.push_at(
+            Instruction::Call {
+                to,
+                routine,
+                operands,
+                line: line.number,
+            },
+            line,
+        )
+    }
+
+    /// A call of a run-time routine, which no line is told of.
+    pub fn call_run_time(
+        &mut self,
+        to: u32,
+        routine: u32,
+        operands: &[u32],
+    ) -> Result<(), AllocError>
+        ensures { OnOk result (self.new ≡ self.old ++ i.Call to routine operands.now 1 ∷ []) }
     {
         let operands = listed(self.alloc, operands)?;
         self.push(Instruction::Call {
             to,
             routine,
             operands,
-            line,
+            line: 1,
         })
     }
 
@@ -303,17 +395,20 @@ impl Code {
         to: u32,
         callee: u32,
         operands: &[u32],
-        line: u16,
+        line: Line,
     ) -> Result<(), AllocError>
-        ensures { OnOk result (self.new ≡ self.old ++ i.CallValue to callee operands.now line ∷ []) }
+        ensures { OnOk result (self.new ≡ self.old ++ i.CallValue to callee operands.now line.number ∷ []) }
     {
         let operands = listed(self.alloc, operands)?;
-        self.push(Instruction::CallValue {
-            to,
-            callee,
-            operands,
+        self.push_at(
+            Instruction::CallValue {
+                to,
+                callee,
+                operands,
+                line: line.number,
+            },
             line,
-        })
+        )
     }
 
     /// Room for a jump whose distance isn't known yet, and its place.

@@ -24,6 +24,7 @@ use crate::places::address;
 use crate::shapes::{component_bytes, index_of, is_byte_array};
 use crate::site::Site;
 use crate::values::{place, value};
+use ps_tree::line::Line;
 use ps_tree::tree::{Expr, Place};
 use ps_tree::types::{Ordinal, Ty};
 use std::alloc::AllocError;
@@ -40,11 +41,11 @@ fn component(
     site: Site,
     t: u32,
     index: u32,
-    line: u16,
+    line: Line,
 ) -> Result<(), AllocError>
     requires { component_bytes (shape_of (type_of ty.now)) ≤ 2147483647 }
     ensures { OnOk result (out.new ≡ out.old ++ i.Index t (site_of site).base index (index_of (type_of ty.now)).low
-        (index_of (type_of ty.now)).high (component_bytes (shape_of (type_of ty.now))) 5 line ∷ i.Offset t
+        (index_of (type_of ty.now)).high (component_bytes (shape_of (type_of ty.now))) 5 line.number ∷ i.Offset t
         (base.Temporary t) (site_of site).offset 0 ∷ []) }
 {
     let width = component_bytes(ty);
@@ -66,20 +67,20 @@ fn check_room(
     t: u32,
     range: Ordinal,
     more: u32,
-    line: u16,
+    line: Line,
 ) -> Result<(), AllocError>
     requires { unless (is_integer (range.low +ℤ pos more)) ≤ 2147483647 }
-    ensures { OnOk result (out.new ≡ out.old ++ i.CheckRange t range.low (range.low +ℤ pos more) 5 line ∷ []) }
+    ensures { OnOk result (out.new ≡ out.old ++ i.CheckRange t range.low (range.low +ℤ pos more) 5 line.number ∷ []) }
 {
     let last = above(range, more);
     out.check_range(t, range.low, last, 5, line)
 }
 
 /// The test that an array has room, from an index on, for a part with the components of another, or error 5.
-fn room(out: &mut Code, whole_ty: &Ty, part_ty: &Ty, t: u32, line: u16) -> Result<(), AllocError>
+fn room(out: &mut Code, whole_ty: &Ty, part_ty: &Ty, t: u32, line: Line) -> Result<(), AllocError>
     requires { unless (is_integer ((index_of (type_of whole_ty.now)).low +ℤ pos
         (value_count (index_of (type_of whole_ty.now)) - value_count (index_of (type_of part_ty.now))))) ≤ 2147483647 }
-    ensures { OnOk result (out.new ≡ out.old ++ room_code (type_of whole_ty.now) (type_of part_ty.now) t line) }
+    ensures { OnOk result (out.new ≡ out.old ++ room_code (type_of whole_ty.now) (type_of part_ty.now) t line.number) }
 {
     let whole = index_of(whole_ty);
     let count = whole.value_count();
@@ -154,16 +155,16 @@ pub fn pack(
     from: &Place,
     from_ty: &Ty,
     index: &Expr,
-    line: u16,
+    line: Line,
     to: &Place,
     to_ty: &Ty,
     d: u32,
 ) -> Result<(), AllocError>
     requires { d + statement_weight (scope_of k.now)
-        (tree.Pack (place_of from.now) (type_of from_ty.now) (expr_of index.now) line (place_of to.now)
+        (tree.Pack (place_of from.now) (type_of from_ty.now) (expr_of index.now) line.number (place_of to.now)
         (type_of to_ty.now)) d ≤ DEEPEST }
     ensures { OnOk result (out.new ≡ out.old ++ statement_code (scope_of k.now)
-        (tree.Pack (place_of from.now) (type_of from_ty.now) (expr_of index.now) line (place_of to.now)
+        (tree.Pack (place_of from.now) (type_of from_ty.now) (expr_of index.now) line.number (place_of to.now)
         (type_of to_ty.now)) d) }
 {
     let a = held(true, d);
@@ -188,15 +189,15 @@ pub fn unpack(
     to: &Place,
     to_ty: &Ty,
     index: &Expr,
-    line: u16,
+    line: Line,
     d: u32,
 ) -> Result<(), AllocError>
     requires { d + statement_weight (scope_of k.now)
         (tree.Unpack (place_of from.now) (type_of from_ty.now) (place_of to.now) (type_of to_ty.now)
-        (expr_of index.now) line) d ≤ DEEPEST }
+        (expr_of index.now) line.number) d ≤ DEEPEST }
     ensures { OnOk result (out.new ≡ out.old ++ statement_code (scope_of k.now)
         (tree.Unpack (place_of from.now) (type_of from_ty.now) (place_of to.now) (type_of to_ty.now)
-        (expr_of index.now) line) d) }
+        (expr_of index.now) line.number) d) }
 {
     let a = held(true, d);
     let b = held(true, a + 1);

@@ -13,6 +13,7 @@ use crate::known::{
     has_bytes, is_any, is_between, is_relation, is_truth, left_in, relation_in, right_in,
 };
 use crate::out::Code;
+use ps_tree::line::Line;
 use ps_tree::tree::{Expr, Range, RequiredFunction};
 use std::alloc::AllocError;
 use tac_code::code::{BitOperator, Instruction, Operand, Operator, Relation};
@@ -74,9 +75,9 @@ pub fn range(
     low: i32,
     high: i32,
     error: u8,
-    line: u16,
+    line: Line,
 ) -> Result<(), AllocError>
-    ensures { OnOk result (out.new ≡ out.old ++ range_code t low high error line) }
+    ensures { OnOk result (out.new ≡ out.old ++ range_code t low high error line.number) }
 {
     if is_any(low, high) {
         Ok(())
@@ -93,9 +94,9 @@ pub fn check(
     low: i32,
     high: i32,
     error: u8,
-    line: u16,
+    line: Line,
 ) -> Result<(), AllocError>
-    ensures { OnOk result (out.new ≡ out.old ++ check_code known t low high error line) }
+    ensures { OnOk result (out.new ≡ out.old ++ check_code known t low high error line.number) }
 {
     match known {
         None => range(out, t, low, high, error, line),
@@ -116,9 +117,9 @@ pub fn fitting(
     known: Option<i32>,
     t: u32,
     range: Range,
-    line: u16,
+    line: Line,
 ) -> Result<(), AllocError>
-    ensures { OnOk result (out.new ≡ out.old ++ fitting_code byte known t range line) }
+    ensures { OnOk result (out.new ≡ out.old ++ fitting_code byte known t range line.number) }
 {
     match range {
         Range::Any => Ok(()),
@@ -140,9 +141,9 @@ pub fn operand_check(
     low: i32,
     high: i32,
     error: u8,
-    line: u16,
+    line: Line,
 ) -> Result<(), AllocError>
-    ensures { OnOk result (out.new ≡ out.old ++ operand_check known t low high error line) }
+    ensures { OnOk result (out.new ≡ out.old ++ operand_check known t low high error line.number) }
 {
     match known {
         None => range(out, t, low, high, error, line),
@@ -157,9 +158,9 @@ pub fn operand_check(
 }
 
 /// The absolute value of the number in d.
-fn absolute(out: &mut Code, d: u32, line: u16) -> Result<(), AllocError>
+fn absolute(out: &mut Code, d: u32, line: Line) -> Result<(), AllocError>
     requires { d ≤ DEEPEST }
-    ensures { OnOk result (out.new ≡ out.old ++ function_code Abs d line) }
+    ensures { OnOk result (out.new ≡ out.old ++ function_code Abs d line.number) }
 {
     let t = even_above(d);
     out.branch(Relation::GreaterEqual, d, Operand::Number(0), 2)?;
@@ -174,10 +175,10 @@ fn stepped(
     d: u32,
     low: i32,
     high: i32,
-    line: u16,
+    line: Line,
 ) -> Result<(), AllocError>
-    ensures { OnOk result (out.new ≡ out.old ++ (i.Arithmetic operator d d (operand.Number (pos 1)) 4 line
-        ∷ range_code d low high 4 line)) }
+    ensures { OnOk result (out.new ≡ out.old ++ (i.Arithmetic operator d d (operand.Number (pos 1)) 4 line.number
+        ∷ range_code d low high 4 line.number)) }
 {
     out.arithmetic(operator, d, d, Operand::Number(1), 4, line)?;
     range(out, d, low, high, 4, line)
@@ -188,10 +189,10 @@ pub fn function(
     out: &mut Code,
     function: RequiredFunction,
     d: u32,
-    line: u16,
+    line: Line,
 ) -> Result<(), AllocError>
     requires { d ≤ DEEPEST }
-    ensures { OnOk result (out.new ≡ out.old ++ function_code function d line) }
+    ensures { OnOk result (out.new ≡ out.old ++ function_code function d line.number) }
 {
     match function {
         RequiredFunction::Abs => absolute(out, d, line),

@@ -19,6 +19,7 @@ use crate::levels::{entry, frame};
 use crate::out::Code;
 use crate::shapes::{component_bytes, field_offset, index_of, is_byte_array};
 use crate::site::Site;
+use ps_tree::line::Line;
 use ps_tree::tree::{Place, PlaceBase, Selector};
 use ps_tree::types::Ty;
 use std::alloc::AllocError;
@@ -151,10 +152,11 @@ pub fn indexed(
     site: Site,
     t: u32,
     index: u32,
-    line: u16,
+    line: Line,
 ) -> Result<Site, AllocError>
     requires { component_bytes (shape_of (type_of ty.now)) ≤ 2147483647 }
-    ensures code { OnOk result (out.new ≡ out.old ++ index_code None (type_of ty.now) (site_of site) t index line []) }
+    ensures code { OnOk result (out.new ≡ out.old ++ index_code None (type_of ty.now)
+        (site_of site) t index line.number []) }
     ensures site { IfOk result (λ s. site_of s ≡ element_site None (site_of site) t) }
 {
     let width = component_bytes(ty);
@@ -166,16 +168,20 @@ pub fn indexed(
 }
 
 /// The object that a pointer points to.
-pub fn pointed(out: &mut Code, site: Site, t: u32, line: u16) -> Result<Site, AllocError>
-    ensures code { OnOk result (out.new ≡ out.old ++ i.Load t site.base site.offset ∷ i.CheckPointer t 6 line ∷ []) }
+pub fn pointed(out: &mut Code, site: Site, t: u32, line: Line) -> Result<Site, AllocError>
+    ensures code { OnOk result (out.new ≡ out.old ++ i.Load t site.base site.offset ∷ i.CheckPointer t 6 line.number
+        ∷ []) }
     ensures site { IfOk result (λ s. site_of s ≡ site_at t) }
 {
     out.load(t, site.base, site.offset)?;
-    out.push(Instruction::CheckPointer {
-        pointer: t,
-        error: 6,
+    out.push_at(
+        Instruction::CheckPointer {
+            pointer: t,
+            error: 6,
+            line: line.number,
+        },
         line,
-    })?;
+    )?;
     Ok(Site {
         base: Base::Temporary(t),
         offset: 0,

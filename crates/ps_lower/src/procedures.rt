@@ -12,6 +12,7 @@ use crate::depth::DEEPEST;
 use crate::level::Level;
 use crate::out::Code;
 use crate::values::arguments;
+use ps_tree::line::Line;
 use ps_tree::tree::Argument;
 use std::alloc::AllocError;
 
@@ -22,13 +23,13 @@ pub fn call_procedure(
     actual: &[Argument],
     routine: u32,
     up: u32,
-    line: u16,
+    line: Line,
     d: u32,
 ) -> Result<(), AllocError>
     requires { d + statement_weight (scope_of k.now)
-        (tree.CallProcedure routine up (arguments_of actual.now) line) d ≤ DEEPEST }
+        (tree.CallProcedure routine up (arguments_of actual.now) line.number) d ≤ DEEPEST }
     ensures { OnOk result (out.new ≡ out.old ++ statement_code (scope_of k.now)
-        (tree.CallProcedure routine up (arguments_of actual.now) line) d) }
+        (tree.CallProcedure routine up (arguments_of actual.now) line.number) d) }
 {
     let t = link_temporary(actual, d);
     arguments(out, k, actual, d, 0)?;
@@ -42,13 +43,13 @@ pub fn call_formal_procedure(
     actual: &[Argument],
     up: u32,
     index: u32,
-    line: u16,
+    line: Line,
     d: u32,
 ) -> Result<(), AllocError>
     requires { d + statement_weight (scope_of k.now)
-        (tree.CallFormalProcedure up index (arguments_of actual.now) line) d ≤ DEEPEST }
+        (tree.CallFormalProcedure up index (arguments_of actual.now) line.number) d ≤ DEEPEST }
     ensures { OnOk result (out.new ≡ out.old ++ statement_code (scope_of k.now)
-        (tree.CallFormalProcedure up index (arguments_of actual.now) line) d) }
+        (tree.CallFormalProcedure up index (arguments_of actual.now) line.number) d) }
 {
     let t = link_temporary(actual, d);
     arguments(out, k, actual, d, 0)?;

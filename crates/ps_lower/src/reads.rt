@@ -22,6 +22,7 @@ use crate::out::Code;
 use crate::pieces::range;
 use crate::places::{address, is_byte, keep};
 use crate::values::place;
+use ps_tree::line::Line;
 use ps_tree::tree::{Place, ReadVariable};
 use std::alloc::AllocError;
 use tac_code::code::Base;
@@ -41,15 +42,15 @@ fn ahead(out: &mut Code, k: &Level, t: u32) -> Result<(), AllocError>
 }
 
 /// The test of a variable's range.
-fn fits(out: &mut Code, t: u32, low: &i32, high: &i32, line: u16) -> Result<(), AllocError>
-    ensures { OnOk result (out.new ≡ out.old ++ range_code t low.now high.now 4 line) }
+fn fits(out: &mut Code, t: u32, low: &i32, high: &i32, line: Line) -> Result<(), AllocError>
+    ensures { OnOk result (out.new ≡ out.old ++ range_code t low.now high.now 4 line.number) }
 {
     range(out, t, *low, *high, 4, line)
 }
 
 /// The same for a byte, which needs none if the range has all bytes.
-fn byte_fits(out: &mut Code, t: u32, low: &i32, high: &i32, line: u16) -> Result<(), AllocError>
-    ensures { OnOk result (out.new ≡ out.old ++ fitting_code true None t (Within low.now high.now) line) }
+fn byte_fits(out: &mut Code, t: u32, low: &i32, high: &i32, line: Line) -> Result<(), AllocError>
+    ensures { OnOk result (out.new ≡ out.old ++ fitting_code true None t (Within low.now high.now) line.number) }
 {
     if has_bytes(*low, *high) {
         Ok(())
@@ -65,9 +66,9 @@ fn take_character(
     a: u32,
     low: &i32,
     high: &i32,
-    line: u16,
+    line: Line,
 ) -> Result<(), AllocError>
-    ensures { OnOk result (out.new ≡ out.old ++ character_taken (scope_of k.now) low.now high.now line a) }
+    ensures { OnOk result (out.new ≡ out.old ++ character_taken (scope_of k.now) low.now high.now line.number a) }
 {
     help(out, k, READ_CHARACTER, &[a], a)?;
     out.check_range(a, 0, i32::MAX, 9, line)?;
@@ -75,9 +76,9 @@ fn take_character(
 }
 
 /// How reading a number went: error 9 at the end of the input, 10 if there is no number, 4 if it is too large.
-fn check_number(out: &mut Code, a: u32, line: u16) -> Result<(), AllocError>
-    ensures { OnOk result (out.new ≡ out.old ++ (i.CheckRange a (pos 0) (pos 2) 9 line ∷ i.CheckRange a (pos 0)
-        (pos 1) 10 line ∷ i.CheckRange a (pos 0) (pos 0) 4 line ∷ [])) }
+fn check_number(out: &mut Code, a: u32, line: Line) -> Result<(), AllocError>
+    ensures { OnOk result (out.new ≡ out.old ++ (i.CheckRange a (pos 0) (pos 2) 9 line.number ∷ i.CheckRange a (pos 0)
+        (pos 1) 10 line.number ∷ i.CheckRange a (pos 0) (pos 0) 4 line.number ∷ [])) }
 {
     out.check_range(a, 0, 2, 9, line)?;
     out.check_range(a, 0, 1, 10, line)?;
@@ -91,10 +92,10 @@ fn take_number(
     a: u32,
     low: &i32,
     high: &i32,
-    line: u16,
+    line: Line,
 ) -> Result<(), AllocError>
     requires { a ≤ 4294960000 }
-    ensures { OnOk result (out.new ≡ out.old ++ number_taken (scope_of k.now) low.now high.now line a) }
+    ensures { OnOk result (out.new ≡ out.old ++ number_taken (scope_of k.now) low.now high.now line.number a) }
 {
     let into = beside(a);
     out.offset(into, Base::Scratch, 0, 4)?;
@@ -110,12 +111,13 @@ fn read_character(
     target: &Place,
     low: &i32,
     high: &i32,
-    line: u16,
+    line: Line,
     d: u32,
 ) -> Result<(), AllocError>
-    requires { d + read_weight (scope_of k.now) (tree.ReadChar (place_of target.now) low.now high.now line) ≤ DEEPEST }
+    requires { d + read_weight (scope_of k.now)
+        (tree.ReadChar (place_of target.now) low.now high.now line.number) ≤ DEEPEST }
     ensures { OnOk result (out.new ≡ out.old ++ read_code (scope_of k.now)
-        (tree.ReadChar (place_of target.now) low.now high.now line) d) }
+        (tree.ReadChar (place_of target.now) low.now high.now line.number) d) }
 {
     let t = held(true, d);
     let a = even_above(t);
@@ -131,13 +133,13 @@ fn read_number(
     target: &Place,
     low: &i32,
     high: &i32,
-    line: u16,
+    line: Line,
     d: u32,
 ) -> Result<(), AllocError>
     requires { d + read_weight (scope_of k.now)
-        (tree.ReadInteger (place_of target.now) low.now high.now line) ≤ DEEPEST }
+        (tree.ReadInteger (place_of target.now) low.now high.now line.number) ≤ DEEPEST }
     ensures { OnOk result (out.new ≡ out.old ++ read_code (scope_of k.now)
-        (tree.ReadInteger (place_of target.now) low.now high.now line) d) }
+        (tree.ReadInteger (place_of target.now) low.now high.now line.number) d) }
 {
     let t = held(true, d);
     let a = even_above(t);
@@ -158,13 +160,13 @@ fn read(out: &mut Code, k: &Level, variable: &ReadVariable, d: u32) -> Result<()
             low,
             high,
             line,
-        } => read_character(out, k, place, low, high, line.number, d),
+        } => read_character(out, k, place, low, high, *line, d),
         ReadVariable::Integer {
             place,
             low,
             high,
             line,
-        } => read_number(out, k, place, low, high, line.number, d),
+        } => read_number(out, k, place, low, high, *line, d),
     }
 }
 
@@ -185,8 +187,8 @@ pub fn reads(
 }
 
 /// The rest of the line, or error 9 at the end of the input.
-fn take_line(out: &mut Code, k: &Level, a: u32, line: u16) -> Result<(), AllocError>
-    ensures { OnOk result (out.new ≡ out.old ++ line_taken (scope_of k.now) line a) }
+fn take_line(out: &mut Code, k: &Level, a: u32, line: Line) -> Result<(), AllocError>
+    ensures { OnOk result (out.new ≡ out.old ++ line_taken (scope_of k.now) line.number a) }
 {
     help(out, k, READ_LINE, &[a], a)?;
     out.check_range(a, 0, 0, 9, line)
@@ -197,12 +199,12 @@ pub fn readln(
     out: &mut Code,
     k: &Level,
     variables: &[ReadVariable],
-    line: u16,
+    line: Line,
     d: u32,
 ) -> Result<(), AllocError>
     requires { d + reads_weight (scope_of k.now) (map read_of variables.now) ≤ DEEPEST }
     ensures { OnOk result (out.new ≡ out.old ++ statement_code (scope_of k.now)
-        (tree.Readln (map read_of variables.now) line) d) }
+        (tree.Readln (map read_of variables.now) line.number) d) }
 {
     let a = even_from(d);
     reads(out, k, variables, d)?;

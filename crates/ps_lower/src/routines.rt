@@ -18,6 +18,7 @@ use crate::depth::DEEPEST;
 use crate::firsts::{first_at, firsts};
 use crate::frames::{Frames, table};
 use crate::level::Level;
+use crate::marks::Mark;
 use crate::numbers::{larger, narrow};
 use crate::out::Code;
 use crate::parameters::{count_parameters, parameters};
@@ -193,13 +194,14 @@ fn block(
     lifted(finish(out, routine))
 }
 
-/// The instructions of a routine.
+/// The instructions of a routine; their marks are added to those of the routines before it.
 fn body(
     alloc: Global,
     checked: &Frames,
     routine: &Routine,
     words: u32,
     t: u32,
+    marks: &mut Vec<Vec<Mark>>,
 ) -> Result<Body, LowerRefusal>
     requires small { words ≤ MOST_WORDS }
     requires exact { words ≡ words_in (routine_of routine.now) }
@@ -214,14 +216,16 @@ fn body(
     let k = level(checked, routine);
     let mut out = Code::new(alloc);
     block(&mut out, &k, routine, words, t)?;
+    marks.push(out.take_marks())?;
     Ok(out.into_body())
 }
 
-/// A routine of the program.
+/// A routine of the program; the marks of its instructions are added to those of the routines before it.
 pub fn tac_routine(
     alloc: Global,
     checked: &Frames,
     routine: &Routine,
+    marks: &mut Vec<Vec<Mark>>,
 ) -> Result<TacRoutine, LowerRefusal>
     requires { routine_weight (program_in checked.now) (routine_of routine.now) ≤ 1000000000 }
     ensures { MatchResult result (λ made. made ≡ tac_of (program_in checked.now) (routine_of routine.now))
@@ -229,7 +233,7 @@ pub fn tac_routine(
 {
     let words = words_in(alloc, routine)?;
     let parameters = parameter_total(routine);
-    let body = body(alloc, checked, routine, words, parameters)?;
+    let body = body(alloc, checked, routine, words, parameters, marks)?;
     let temporaries = larger(parameters, temporaries_in(body.as_slice()));
     let scratch = narrow(scratch_in(body.as_slice()));
     Ok(TacRoutine {

@@ -21,6 +21,7 @@ use crate::out::Code;
 use crate::pieces::moved;
 use crate::places::address;
 use crate::site::Site;
+use ps_tree::line::Line;
 use ps_tree::tree::{SetExpr, SetOperator, SetRelation};
 use std::alloc::AllocError;
 use tac_code::code::{Base, BitOperator, Instruction, Operand, Operator, Relation};
@@ -236,7 +237,14 @@ fn member_word(out: &mut Code, member: u32, set: u32, spare: u32) -> Result<(), 
 {
     out.bits(BitOperator::And, spare, member, Operand::Number(255))?;
     out.branch(Relation::NotEqual, spare, Operand::Temporary(member), 8)?;
-    out.arithmetic(Operator::Divide, spare, member, Operand::Number(32), 1, 1)?;
+    out.push(Instruction::Arithmetic {
+        operator: Operator::Divide,
+        to: spare,
+        left: member,
+        right: Operand::Number(32),
+        error: 1,
+        line: 1,
+    })?;
     out.push(Instruction::Index {
         to: set,
         base: Base::Temporary(set),
@@ -298,10 +306,10 @@ pub fn add_member(
     k: &Level,
     member: u32,
     x: u32,
-    line: u16,
+    line: Line,
 ) -> Result<(), AllocError>
     requires { member ≤ 4294960000 }
-    ensures { OnOk result (out.new ≡ out.old ++ one_member (scope_of k.now) member x line) }
+    ensures { OnOk result (out.new ≡ out.old ++ one_member (scope_of k.now) member x line.number) }
 {
     let set = beside(member);
     out.check_range(member, 0, 255, 8, line)?;
@@ -340,10 +348,10 @@ pub fn add_members(
     first: u32,
     last: u32,
     x: u32,
-    line: u16,
+    line: Line,
 ) -> Result<(), AllocError>
     requires { last ≤ 4294960000 }
-    ensures { OnOk result (out.new ≡ out.old ++ range_members (scope_of k.now) first last x line) }
+    ensures { OnOk result (out.new ≡ out.old ++ range_members (scope_of k.now) first last x line.number) }
 {
     let set = beside(last);
     out.branch(Relation::Less, last, Operand::Temporary(first), 4)?;
@@ -439,11 +447,11 @@ pub fn check_set(
     x: u32,
     low: &i32,
     high: &i32,
-    line: u16,
+    line: Line,
 ) -> Result<(), AllocError>
     requires depth { t ≤ 4294960000 }
     requires place { x ≤ DEEPEST }
-    ensures { OnOk result (out.new ≡ out.old ++ set_check t x low.now high.now line) }
+    ensures { OnOk result (out.new ≡ out.old ++ set_check t x low.now high.now line.number) }
 {
     if holds_all(low, high) {
         return Ok(());
@@ -461,11 +469,11 @@ pub fn hand_set(
     x: u32,
     low: &i32,
     high: &i32,
-    line: u16,
+    line: Line,
 ) -> Result<(), AllocError>
     requires depth { t ≤ 4294950000 }
     requires place { x ≤ DEEPEST }
-    ensures { OnOk result (out.new ≡ out.old ++ (set_check (even_from t) x low.now high.now line
+    ensures { OnOk result (out.new ≡ out.old ++ (set_check (even_from t) x low.now high.now line.number
         ++ i.Offset t base.Scratch x 32 ∷ [])) }
 {
     check_set(out, even_from(t), x, low, high, line)?;

@@ -27,12 +27,25 @@ use crate::refusal::{LowerRefusal, lifted};
 use crate::turns::{Control, control_of, end_turn, open_turns, past_relation, turns_of};
 use crate::values::{front, value};
 use crate::writes::{writeln, writes};
+use ps_tree::line::Line;
 use ps_tree::tree::{CaseElement, Expr, Place, Statement};
 
-/// The code of a statement.
+/// The code of a statement, marked as that of the next one in the text.
+#[cycle(statements)]
+pub fn statement(out: &mut Code, k: &Level, action: &Statement, d: u32) -> Result<(), LowerRefusal>
+    requires { d + statement_weight (scope_of k.now) (statement_of action.now) d ≤ DEEPEST }
+    ensures { Adds result out.old out.new (statement_code (scope_of k.now) (statement_of action.now) d) }
+{
+    let outer = out.begin_statement();
+    let done = act(out, k, action, d);
+    out.end_statement(outer);
+    done
+}
+
+/// The code of a statement, by its form.
 #[cycle(statements)]
 #[tactic(auto, unfolding(ps_tree::specs::View::statement_of))]
-pub fn statement(out: &mut Code, k: &Level, action: &Statement, d: u32) -> Result<(), LowerRefusal>
+fn act(out: &mut Code, k: &Level, action: &Statement, d: u32) -> Result<(), LowerRefusal>
     requires { d + statement_weight (scope_of k.now) (statement_of action.now) d ≤ DEEPEST }
     ensures { Adds result out.old out.new (statement_code (scope_of k.now) (statement_of action.now) d) }
 {
@@ -43,7 +56,7 @@ pub fn statement(out: &mut Code, k: &Level, action: &Statement, d: u32) -> Resul
             range,
             value,
             line,
-        } => lifted(assign(out, k, target, *range, value, line.number, d)),
+        } => lifted(assign(out, k, target, *range, value, *line, d)),
         Statement::Compound(body) => statements(out, k, body, d),
         Statement::If { condition, body } => act_if(out, k, body, condition, d),
         Statement::IfElse {
@@ -60,7 +73,7 @@ pub fn statement(out: &mut Code, k: &Level, action: &Statement, d: u32) -> Resul
             index,
             elements,
             line,
-        } => act_case(out, k, elements, index, line.number, d),
+        } => act_case(out, k, elements, index, *line, d),
         Statement::While { condition, body } => act_while(out, k, body, condition, d),
         Statement::Repeat { body, condition } => act_repeat(out, k, body, condition, d),
         Statement::For {
@@ -75,14 +88,7 @@ pub fn statement(out: &mut Code, k: &Level, action: &Statement, d: u32) -> Resul
             body,
             ..
         } => {
-            let control = control_of(
-                *variable,
-                low,
-                high,
-                *direction,
-                from_line.number,
-                to_line.number,
-            );
+            let control = control_of(*variable, low, high, *direction, *from_line, *to_line);
             act_for(out, k, body, control, from, to, d)
         }
         Statement::Write { parameters } => lifted(writes(out, k, parameters, d)),
@@ -93,7 +99,7 @@ pub fn statement(out: &mut Code, k: &Level, action: &Statement, d: u32) -> Resul
             high,
             value,
             line,
-        } => lifted(assign_set(out, k, target, low, high, value, line.number, d)),
+        } => lifted(assign_set(out, k, target, low, high, value, *line, d)),
         Statement::AssignStructure { target, value } => lifted(assign_structure(
             out, k, target, value, d,
         )),
@@ -102,19 +108,19 @@ pub fn statement(out: &mut Code, k: &Level, action: &Statement, d: u32) -> Resul
             up,
             arguments,
             line,
-        } => lifted(call_procedure(out, k, arguments, *routine, *up, line.number, d)),
+        } => lifted(call_procedure(out, k, arguments, *routine, *up, *line, d)),
         Statement::CallFormal {
             up,
             index,
             arguments,
             line,
-        } => lifted(call_formal_procedure(out, k, arguments, *up, *index, line.number, d)),
+        } => lifted(call_formal_procedure(out, k, arguments, *up, *index, *line, d)),
         Statement::With { places, body } => act_with(out, k, body, places, d),
         Statement::New {
             place,
             pointer,
             line,
-        } => create(out, k, place, *pointer, line.number, d),
+        } => create(out, k, place, *pointer, *line, d),
         Statement::Pack {
             from,
             from_ty,
@@ -122,7 +128,7 @@ pub fn statement(out: &mut Code, k: &Level, action: &Statement, d: u32) -> Resul
             line,
             to,
             to_ty,
-        } => lifted(pack(out, k, from, from_ty, index, line.number, to, to_ty, d)),
+        } => lifted(pack(out, k, from, from_ty, index, *line, to, to_ty, d)),
         Statement::Unpack {
             from,
             from_ty,
@@ -130,9 +136,9 @@ pub fn statement(out: &mut Code, k: &Level, action: &Statement, d: u32) -> Resul
             to_ty,
             index,
             line,
-        } => lifted(unpack(out, k, from, from_ty, to, to_ty, index, line.number, d)),
+        } => lifted(unpack(out, k, from, from_ty, to, to_ty, index, *line, d)),
         Statement::Read { variables } => lifted(reads(out, k, variables, d)),
-        Statement::Readln { variables, line } => lifted(readln(out, k, variables, line.number, d)),
+        Statement::Readln { variables, line } => lifted(readln(out, k, variables, *line, d)),
     }
 }
 
@@ -272,11 +278,13 @@ fn act_for(
     d: u32,
 ) -> Result<(), LowerRefusal>
     requires { d + statement_weight (scope_of k.now)
-        (tree.For control.variable control.low control.high (expr_of from.now) control.from_line control.direction
-        (expr_of to.now) control.to_line (statement_of body.now)) d ≤ DEEPEST }
+        (tree.For control.variable control.low control.high
+        (expr_of from.now) control.from_line.number control.direction
+        (expr_of to.now) control.to_line.number (statement_of body.now)) d ≤ DEEPEST }
     ensures { Adds result out.old out.new (statement_code (scope_of k.now)
-        (tree.For control.variable control.low control.high (expr_of from.now) control.from_line control.direction
-        (expr_of to.now) control.to_line (statement_of body.now)) d) }
+        (tree.For control.variable control.low control.high
+        (expr_of from.now) control.from_line.number control.direction
+        (expr_of to.now) control.to_line.number (statement_of body.now)) d) }
 {
     let turns = turns_of(k, control.variable, to, statement_calls(body), d);
     let places = open_turns(out, k, control, from, to, turns)?;
@@ -336,13 +344,13 @@ fn act_case(
     k: &Level,
     elements: &[CaseElement],
     index: &Expr,
-    line: u16,
+    line: Line,
     d: u32,
 ) -> Result<(), LowerRefusal>
     requires { d + statement_weight (scope_of k.now)
-        (tree.Case (expr_of index.now) (elements_of elements.now) line) d ≤ DEEPEST }
+        (tree.Case (expr_of index.now) (elements_of elements.now) line.number) d ≤ DEEPEST }
     ensures { Adds result out.old out.new (statement_code (scope_of k.now)
-        (tree.Case (expr_of index.now) (elements_of elements.now) line) d) }
+        (tree.Case (expr_of index.now) (elements_of elements.now) line.number) d) }
 {
     value(out, k, index, d, 0)?;
     let ends = act_elements(out, k, elements, d)?;

@@ -19,6 +19,7 @@ use crate::levels::entry;
 use crate::out::Code;
 use crate::pieces::{check, operand_check};
 use crate::values::{unless_known, value};
+use ps_tree::line::Line;
 use ps_tree::tree::{Direction, Expr};
 use std::alloc::AllocError;
 use tac_code::code::{Base, BitOperator, Operand, Relation};
@@ -30,8 +31,8 @@ pub struct Control {
     pub low: i32,
     pub high: i32,
     pub direction: Direction,
-    pub from_line: u16,
-    pub to_line: u16,
+    pub from_line: Line,
+    pub to_line: Line,
 }
 
 /// Where a loop keeps what it needs: the temporaries of its first value and of its limit, the limit as an operand, the
@@ -78,8 +79,8 @@ pub fn control_of(
     low: &i32,
     high: &i32,
     direction: Direction,
-    from_line: u16,
-    to_line: u16,
+    from_line: Line,
+    to_line: Line,
 ) -> Control
     ensures { result ≡ record {
       variable = variable;

@@ -41,6 +41,7 @@ use crate::sets::{
 use crate::shapes::{byte_count, field_offset, known_steps};
 use crate::site::Site;
 use crate::texts::text;
+use ps_tree::line::Line;
 use ps_tree::tree::{
     Argument, ArithmeticStep, BooleanOperator, Expr, Member, Place, Selector, SetExpr, SetOperator,
     SetStep, Structure,
@@ -64,7 +65,7 @@ pub fn front(out: &mut Code, k: &Level, e: &Expr, d: u32, x: u32) -> Result<(), 
             fetch(out, is_byte(variable), d, site)
         }
         Expr::Plus(operand) => value(out, k, operand, d, x),
-        Expr::Minus { operand, line } => minus(out, k, operand, line.number, d, x),
+        Expr::Minus { operand, line } => minus(out, k, operand, *line, d, x),
         Expr::Not(operand) => front(out, k, operand, d, x),
         Expr::Arithmetic { first, steps } => {
             let sum = kept(steps_call(steps), d);
@@ -94,7 +95,7 @@ pub fn front(out: &mut Code, k: &Level, e: &Expr, d: u32, x: u32) -> Result<(), 
             line,
         } => {
             value(out, k, operand, d, x)?;
-            function(out, *required, d, line.number)
+            function(out, *required, d, *line)
         }
         Expr::CompareStrings { left, right, .. } => {
             let first = held(structure_calls(right), d);
@@ -110,7 +111,7 @@ pub fn front(out: &mut Code, k: &Level, e: &Expr, d: u32, x: u32) -> Result<(), 
             line,
         } => {
             arguments(out, k, actual, d, x)?;
-            call(out, k, actual, *routine, *up, line.number, d, d)
+            call(out, k, actual, *routine, *up, *line, d, d)
         }
         Expr::CallFormal {
             up,
@@ -119,10 +120,10 @@ pub fn front(out: &mut Code, k: &Level, e: &Expr, d: u32, x: u32) -> Result<(), 
             line,
         } => {
             arguments(out, k, actual, d, x)?;
-            call_formal(out, k, actual, *up, *index, line.number, d, d)
+            call_formal(out, k, actual, *up, *index, *line, d, d)
         }
         Expr::Eof => look_ahead(out, k, d),
-        Expr::Eoln { line } => look_on(out, k, line.number, d),
+        Expr::Eoln { line } => look_on(out, k, *line, d),
         Expr::CompareSets {
             relation,
             left,
@@ -172,12 +173,13 @@ fn minus(
     out: &mut Code,
     k: &Level,
     operand: &Expr,
-    line: u16,
+    line: Line,
     d: u32,
     x: u32,
 ) -> Result<(), AllocError>
     requires { d + 8 + x + expr_weight (scope_of k.now) (expr_of operand.now) ≤ DEEPEST }
-    ensures { OnOk result (out.new ≡ out.old ++ minus_code (negated (expr_of operand.now)) d (even_from (suc d)) line
+    ensures { OnOk result (out.new ≡ out.old ++ minus_code (negated (expr_of operand.now)) d
+        (even_from (suc d)) line.number
         (expr_code (scope_of k.now) (expr_of operand.now) (even_from (suc d)) x)) }
 {
     match negated(operand) {
@@ -207,7 +209,7 @@ fn go_on(
     for step in steps {
         unless_known(out, k, &step.operand, t, x)?;
         let right = operand(literal(&step.operand), t);
-        out.arithmetic(operator(step.operator), a, a, right, 1, step.line.number)?;
+        out.arithmetic(operator(step.operator), a, a, right, 1, step.line)?;
     }
     Ok(())
 }
@@ -288,18 +290,9 @@ fn select(
     ensures site { IfOk result (λ s. site_of s ≡ selector_site (selector_of selector.now) (site_of site) t) }
 {
     match selector {
-        Selector::Element { ty, index, line } => element(
-            out,
-            k,
-            index,
-            ty,
-            site,
-            t,
-            line.number,
-            x,
-        ),
+        Selector::Element { ty, index, line } => element(out, k, index, ty, site, t, *line, x),
         Selector::Field { ty, number } => Ok(behind(site, field_offset(ty, *number))),
-        Selector::Target { line, .. } => pointed(out, site, t, line.number),
+        Selector::Target { line, .. } => pointed(out, site, t, *line),
     }
 }
 
@@ -312,7 +305,7 @@ fn element(
     ty: &Ty,
     site: Site,
     t: u32,
-    line: u16,
+    line: Line,
     x: u32,
 ) -> Result<Site, AllocError>
     requires depth { t + 8 + x + expr_weight (scope_of k.now) (expr_of index.now) ≤ DEEPEST }
@@ -320,8 +313,9 @@ fn element(
     requires reach { site.offset + steps_reach
         (known_steps (type_of ty.now) (literal_of (expr_of index.now))) ≤ DEEPEST }
     ensures code { OnOk result (out.new ≡ out.old ++ selector_code (scope_of k.now)
-        (tree.Element (type_of ty.now) (expr_of index.now) line) (site_of site) t x) }
-    ensures site { IfOk result (λ s. site_of s ≡ selector_site (tree.Element (type_of ty.now) (expr_of index.now) line)
+        (tree.Element (type_of ty.now) (expr_of index.now) line.number) (site_of site) t x) }
+    ensures site { IfOk result (λ s. site_of s ≡ selector_site
+        (tree.Element (type_of ty.now) (expr_of index.now) line.number)
         (site_of site) t) }
 {
     match known_steps(ty, index) {
@@ -445,13 +439,13 @@ fn member(out: &mut Code, k: &Level, one: &Member, d: u32, x: u32) -> Result<(),
 {
     let behind = above(x);
     match one {
-        Member::One { value: e, line } => one_member(out, k, e, line.number, d, x),
+        Member::One { value: e, line } => one_member(out, k, e, *line, d, x),
         Member::Range { from, to, line } => {
             let first = held(expr_calls(to), d);
             let last = even_above(first);
             value(out, k, from, first, behind)?;
             value(out, k, to, last, behind)?;
-            add_members(out, k, first, last, x, line.number)
+            add_members(out, k, first, last, x, *line)
         }
     }
 }
@@ -462,12 +456,12 @@ fn one_member(
     out: &mut Code,
     k: &Level,
     e: &Expr,
-    line: u16,
+    line: Line,
     d: u32,
     x: u32,
 ) -> Result<(), AllocError>
-    requires { d + x + member_weight (scope_of k.now) (tree.One (expr_of e.now) line) ≤ DEEPEST }
-    ensures { OnOk result (out.new ≡ out.old ++ member_code (scope_of k.now) (tree.One (expr_of e.now) line) d x) }
+    requires { d + x + member_weight (scope_of k.now) (tree.One (expr_of e.now) line.number) ≤ DEEPEST }
+    ensures { OnOk result (out.new ≡ out.old ++ member_code (scope_of k.now) (tree.One (expr_of e.now) line.number) d x) }
 {
     let t = even_from(d);
     match known_member(e) {
@@ -519,7 +513,7 @@ fn argument(
             line,
         } => {
             value(out, k, e, t, x)?;
-            fitting(out, gives_byte(e), literal(e), t, *range, line.number)
+            fitting(out, gives_byte(e), literal(e), t, *range, *line)
         }
         Argument::Set {
             value: e,
@@ -528,7 +522,7 @@ fn argument(
             line,
         } => {
             set(out, k, e, t, x)?;
-            hand_set(out, t, x, low, high, line.number)
+            hand_set(out, t, x, low, high, *line)
         }
         Argument::Copy { value: e, ty } => {
             structure(out, k, e, t, x)?;

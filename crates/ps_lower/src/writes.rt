@@ -39,7 +39,7 @@ fn width(out: &mut Code, k: &Level, width: &Width, default: u32, t: u32) -> Resu
         Width::Default => amount(out, default, t),
         Width::Given { value: e, line } => {
             value(out, k, e, t, 0)?;
-            check(out, literal(e), t, 1, i32::MAX, 11, line.number)
+            check(out, literal(e), t, 1, i32::MAX, 11, *line)
         }
     }
 }

@@ -14,7 +14,7 @@ ghost use Rattle.risc_emit.specs.declared.emit.EmitRefusal.TheVariants.{CodeTooL
 
 use crate::draft::{Draft, draft_of, is_too_large};
 use crate::frame::object_cost;
-use crate::layout::frame_cost;
+use crate::layout::{frame_at, frame_cost};
 use crate::marks::{Marks, entry_at};
 use crate::pieces::Piece;
 use crate::resolve::{call_rows, trap_rows, words_of};
@@ -176,6 +176,46 @@ fn parts_of(alloc: Global, tac: &Tac, homes: &[Home], draft: &Draft) -> Result<P
     })
 }
 
+/// The parts of an image, and for showing places of a text: where the words of each routine are in its code, and where
+/// in an activation of each routine of the program the words of its variables begin, in bytes.
+#[derive(Drop)]
+pub struct Emitted {
+    pub parts: Parts,
+    pub marks: Vec<Marks>,
+    pub frames: Vec<u64>,
+}
+
+// Where the words of the variables begin in an activation of each routine of the program.
+fn frames_in(alloc: Global, tac: &Tac) -> Result<Vec<u64>, OutOfMemory> {
+    let mut frames = Vec::new(alloc);
+    for number in 0..tac.program().len() {
+        frames.push(frame_at(tac, number))?;
+    }
+    Ok(frames)
+}
+
+/// The parts of an image as `emit` makes them, and where the words of each routine and of its variables are.
+pub fn emit_marked(alloc: Global, tac: &Tac, placement: &Placement) -> Result<Emitted, EmitRefusal>
+    requires { Valid tac.now placement.now }
+    ensures emits { IfOk result (λ emitted. Emits tac.now placement.now emitted.parts) }
+    ensures bounds { IfOk result (λ emitted. HasBounds tac.now emitted.parts) }
+    ensures fits { OnOk result (code_words tac.now placement.now ≤ 1048576) }
+    ensures too_large { IfErr result (λ refusal. refusal ≡ CodeTooLarge → 1048576 < code_words tac.now placement.now) }
+{
+    let homes = placement.raw().homes.as_slice();
+    let draft = draft_of(alloc, tac, homes)?;
+    if is_too_large(&draft.pieces, draft.texts.as_slice()) {
+        return Err(EmitRefusal::CodeTooLarge);
+    }
+    let frames = frames_in(alloc, tac)?;
+    let parts = parts_of(alloc, tac, homes, &draft)?;
+    Ok(Emitted {
+        parts,
+        marks: draft.marks,
+        frames,
+    })
+}
+
 /// The parts of an image that does what the code means, with these homes of its temporaries. The code is refused as too
 /// large exactly where its words and those of its constants are more than an image holds.
 pub fn emit(alloc: Global, tac: &Tac, placement: &Placement) -> Result<Parts, EmitRefusal>
@@ -185,10 +225,6 @@ pub fn emit(alloc: Global, tac: &Tac, placement: &Placement) -> Result<Parts, Em
     ensures fits { OnOk result (code_words tac.now placement.now ≤ 1048576) }
     ensures too_large { IfErr result (λ refusal. refusal ≡ CodeTooLarge → 1048576 < code_words tac.now placement.now) }
 {
-    let homes = placement.raw().homes.as_slice();
-    let draft = draft_of(alloc, tac, homes)?;
-    if is_too_large(&draft.pieces, draft.texts.as_slice()) {
-        return Err(EmitRefusal::CodeTooLarge);
-    }
-    Ok(parts_of(alloc, tac, homes, &draft)?)
+    let emitted = emit_marked(alloc, tac, placement)?;
+    Ok(emitted.parts)
 }

@@ -38,7 +38,8 @@ fn link_at(tac: &Tac, number: usize) -> u32
     }
 }
 
-fn frame_at(tac: &Tac, number: usize) -> u64
+/// Where the words of the variables begin in an activation of a routine.
+pub(crate) fn frame_at(tac: &Tac, number: usize) -> u64
     requires { number < length (routines tac.now) }
     ensures offset { result ≡ frame_at tac.now number }
     ensures small { result < 17179869460 }

@@ -15,7 +15,7 @@ pub mod emit;
 mod entry;
 mod frame;
 mod layout;
-mod marks;
+pub mod marks;
 mod memory;
 mod numbers;
 mod operands;

@@ -1,4 +1,4 @@
-// Where the words of instructions, routines and constants are.
+//! Where the words of instructions, routines and constants are.
 
 ghost use Rattle.std.specs.Prelude.{◌≡◌, suc, ◌+◌, ◌-◌, ◌≤◌, slice_get};
 ghost use Rattle.risc_emit_forms.specs.Pieces.{label_place};
@@ -9,14 +9,14 @@ use crate::pieces::Label;
 
 /// The first word of an instruction, and of its constant among the words of all constants.
 #[derive(Clone, Copy)]
-pub(crate) struct Mark {
+pub struct Mark {
     pub site: usize,
     pub text: usize,
 }
 
 /// The first word of a routine, and the marks of its places and of the one after its last.
 #[derive(Drop)]
-pub(crate) struct Marks {
+pub struct Marks {
     pub entry: usize,
     pub places: Vec<Mark>,
 }

@@ -10,18 +10,18 @@ use Rattle.ps_build.proofs.making.image_made.Goals as goal
 pub returns-clause-ok : goal.returns-clause-ok
 returns-clause-ok g c =
     let checked = program_in c.args.checked.now in
-    let image = c.in_ok-parts.parts in
-    made_of checked c.in_ok-tac.tac image c.in_ok-bytes.bytes.items
-    (subst (IsCodeOf checked) (sym c.in_ok-tac.ensures.ok) (c.code_does.ensures checked c.requires.fits))
-    c.keeps_invariant.ensures c.in_ok-parts.ensures.ok
+    let image = c.in_ok-emitted.emitted.parts in
+    made_of checked c.in_ok-code.code.tac image c.in_ok-bytes.bytes.items
+    (subst (IsCodeOf checked) (sym c.in_ok-code.ensures.ok) (c.code_does.ensures checked c.requires.fits))
+    c.keeps_invariant.ensures c.in_ok-emitted.ensures.ok
     (charged c.routines_are_bounded.ensures c.objects_are_bounded.ensures checked image
-    (subst (λ code. HasBounds code image) c.in_ok-tac.ensures.ok c.in_ok-parts.ensures.bounds))
+    (subst (λ code. HasBounds code image) c.in_ok-code.ensures.ok c.in_ok-emitted.ensures.bounds))
     c.in_ok-bytes.ensures
 
 pub returns-clause-emitted : goal.returns-clause-emitted
 returns-clause-emitted g c = record {
-  image = c.in_ok-parts.parts;
+  image = c.in_ok-emitted.emitted.parts;
   is_image = c.in_ok-bytes.ensures;
-  emitted = subst (λ code. IsEmitted code c.in_ok-parts.parts) c.in_ok-tac.ensures.ok c.in_ok-parts.ensures.ok;
-  bounds = subst (λ code. HasBounds code c.in_ok-parts.parts) c.in_ok-tac.ensures.ok c.in_ok-parts.ensures.bounds;
+  emitted = subst (λ code. IsEmitted code c.in_ok-emitted.emitted.parts) c.in_ok-code.ensures.ok c.in_ok-emitted.ensures.ok;
+  bounds = subst (λ code. HasBounds code c.in_ok-emitted.emitted.parts) c.in_ok-code.ensures.ok c.in_ok-emitted.ensures.bounds;
 }

@@ -15,8 +15,8 @@ returns c =
     (scope_of c.args.k.now) (link_at (arguments_of c.args.actual.now) c.args.d) c.args.up c.args.index)
     ++ i.CallValue n (link_at (arguments_of c.args.actual.now) c.args.d)
     (beside (link_at (arguments_of c.args.actual.now) c.args.d) ∷ arguments_words
-    (arguments_of c.args.actual.now) c.args.d) c.args.line ∷ []))) c.link_temporary-t.ensures.value
-    (call_formal_made (scope_of c.args.k.now) c.args.actual.now c.args.actual.now c.args.up c.args.index c.args.line
+    (arguments_of c.args.actual.now) c.args.d) c.args.line.number ∷ []))) c.link_temporary-t.ensures.value
+    (call_formal_made (scope_of c.args.k.now) c.args.actual.now c.args.actual.now c.args.up c.args.index c.args.line.number
     c.args.d 0 c.link_temporary-t.result c.call_formal.result c.call_formal.new.out c.arguments.new.out
     c.args.out.now refl c.in_ok-arguments.ensures c.call_formal.ensures)
 

@@ -14,8 +14,8 @@ returns c =
     ++ ((arguments_code (scope_of c.args.k.now) (arguments_of c.args.actual.now) c.args.d 0 ++ link_code
     (scope_of c.args.k.now) (link_at (arguments_of c.args.actual.now) c.args.d) c.args.up)
     ++ i.Call n c.args.routine (link_at (arguments_of c.args.actual.now) c.args.d ∷ arguments_words
-    (arguments_of c.args.actual.now) c.args.d) c.args.line ∷ []))) c.link_temporary-t.ensures.value
-    (call_made (scope_of c.args.k.now) c.args.actual.now c.args.actual.now c.args.routine c.args.up c.args.line c.args.d
+    (arguments_of c.args.actual.now) c.args.d) c.args.line.number ∷ []))) c.link_temporary-t.ensures.value
+    (call_made (scope_of c.args.k.now) c.args.actual.now c.args.actual.now c.args.routine c.args.up c.args.line.number c.args.d
     0 c.link_temporary-t.result c.call.result c.call.new.out c.arguments.new.out c.args.out.now refl
     c.in_ok-arguments.ensures c.call.ensures)
 

@@ -43,62 +43,62 @@ pub statements-returns : goal.statements-returns
 statements-returns t c = added_all (statements_added (scope_of c.args.k.now) c.args.d)
     (statements_nothing (scope_of c.args.k.now) c.args.d) _ _ _ _ c.loop-one-test.false c.loop-one.invariant
 
-pub statement-returns-in-Empty : goal.statement-returns-in-Empty
-statement-returns-in-Empty t c = told_empty
+pub act-returns-in-Empty : goal.act-returns-in-Empty
+act-returns-in-Empty t c = told_empty
     (scope_of c.args.k.now) c.args.action.now c.args.d c.args.out.now c.in-Empty.is
 
-pub statement-returns-in-Assign : goal.statement-returns-in-Assign
-statement-returns-in-Assign t c = act_lifted
+pub act-returns-in-Assign : goal.act-returns-in-Assign
+act-returns-in-Assign t c = act_lifted
     (scope_of c.args.k.now) c.args.action.now _ c.args.d c.assign.result c.lifted.result c.assign.new.out c.args.out.now
     (assign_is _ _ _ _ _ c.in-Assign.is) c.lifted.ensures c.assign.ensures
 
-pub statement-returns-in-Compound : goal.statement-returns-in-Compound
-statement-returns-in-Compound t c = act (scope_of c.args.k.now) c.args.action.now _ c.args.d c.statements.result
+pub act-returns-in-Compound : goal.act-returns-in-Compound
+act-returns-in-Compound t c = act (scope_of c.args.k.now) c.args.action.now _ c.args.d c.statements.result
     c.statements.new.out c.args.out.now (compound_is _ _ _ c.in-Compound.is c.deref.ensures.value) c.statements.ensures
 
-pub statement-returns-in-If : goal.statement-returns-in-If
-statement-returns-in-If t c = act (scope_of c.args.k.now) c.args.action.now _ c.args.d c.act_if.result c.act_if.new.out
+pub act-returns-in-If : goal.act-returns-in-If
+act-returns-in-If t c = act (scope_of c.args.k.now) c.args.action.now _ c.args.d c.act_if.result c.act_if.new.out
     c.args.out.now (if_is _ _ _ _ c.in-If.is c.deref-in-If.ensures) c.act_if.ensures
 
-pub statement-returns-in-While : goal.statement-returns-in-While
-statement-returns-in-While t c = act (scope_of c.args.k.now) c.args.action.now _ c.args.d c.act_while.result
+pub act-returns-in-While : goal.act-returns-in-While
+act-returns-in-While t c = act (scope_of c.args.k.now) c.args.action.now _ c.args.d c.act_while.result
     c.act_while.new.out c.args.out.now (while_is _ _ _ _ c.in-While.is c.deref-in-While.ensures) c.act_while.ensures
 
-pub statement-returns-in-Repeat : goal.statement-returns-in-Repeat
-statement-returns-in-Repeat t c = act (scope_of c.args.k.now) c.args.action.now _ c.args.d c.act_repeat.result
+pub act-returns-in-Repeat : goal.act-returns-in-Repeat
+act-returns-in-Repeat t c = act (scope_of c.args.k.now) c.args.action.now _ c.args.d c.act_repeat.result
     c.act_repeat.new.out c.args.out.now (repeat_is _ _ _ _ c.in-Repeat.is c.deref-in-Repeat.ensures.value)
     c.act_repeat.ensures
 
-pub statement-returns-in-Write : goal.statement-returns-in-Write
-statement-returns-in-Write t c = act_lifted
+pub act-returns-in-Write : goal.act-returns-in-Write
+act-returns-in-Write t c = act_lifted
     (scope_of c.args.k.now) c.args.action.now _ c.args.d c.writes.result c.lifted-in-Write.result c.writes.new.out
     c.args.out.now (write_is _ _ _ c.in-Write.is c.deref-in-Write.ensures.value) c.lifted-in-Write.ensures
     c.writes.ensures
 
-pub statement-returns-in-Writeln : goal.statement-returns-in-Writeln
-statement-returns-in-Writeln t c = act_lifted
+pub act-returns-in-Writeln : goal.act-returns-in-Writeln
+act-returns-in-Writeln t c = act_lifted
     (scope_of c.args.k.now) c.args.action.now _ c.args.d c.writeln.result c.lifted-in-Writeln.result c.writeln.new.out
     c.args.out.now (writeln_is _ _ _ c.in-Writeln.is c.deref-in-Writeln.ensures.value) c.lifted-in-Writeln.ensures
     c.writeln.ensures
 
-pub statement-returns-in_ok-statement-in-IfElse : goal.statement-returns-in_ok-statement-in-IfElse
-statement-returns-in_ok-statement-in-IfElse t c =
+pub act-returns-in_ok-statement-in-IfElse : goal.act-returns-in_ok-statement-in-IfElse
+act-returns-in_ok-statement-in-IfElse t c =
     jump_behind c.args.out.now c.then_part.new.out c.statement.new.out c.set_jump.new.self _ _ _ _ i.End
     c.in_ok-end-in-IfElse.end (λ n. i.Jump n) c.in_ok-end-in-IfElse.ensures.code c.in_ok-end-in-IfElse.ensures.place
     c.in_ok-statement-in-IfElse.ensures c.set_jump.ensures
     ∙ ap (λ (y : tree.Statement). c.args.out.now ++ statement_code (scope_of c.args.k.now) y c.args.d)
     (if_else_is _ _ _ _ _ _ c.in-IfElse.is c.deref-in-IfElse.ensures c.deref-in-IfElse-2.ensures)
 
-pub statement-returns-in-For : goal.statement-returns-in-For
-statement-returns-in-For t c =
+pub act-returns-in-For : goal.act-returns-in-For
+act-returns-in-For t c =
     act (scope_of c.args.k.now) c.args.action.now _ c.args.d c.act_for.result c.act_for.new.out c.args.out.now
-    (ap (λ (y : Control). tree.For y.variable y.low y.high (expr_of c.in-For.from) y.from_line y.direction
-    (expr_of c.in-For.to) y.to_line (statement_of c.deref-in-For.result.now)) c.control_of-control.ensures
+    (ap (λ (y : Control). tree.For y.variable y.low y.high (expr_of c.in-For.from) y.from_line.number y.direction
+    (expr_of c.in-For.to) y.to_line.number (statement_of c.deref-in-For.result.now)) c.control_of-control.ensures
     ∙ for_is _ _ _ _ _ _ _ _ _ _ _ _ c.in-For.is c.deref-in-For.ensures)
     c.act_for.ensures
 
-pub statement-returns-in-Case : goal.statement-returns-in-Case
-statement-returns-in-Case t c = act (scope_of c.args.k.now) c.args.action.now _ c.args.d c.act_case.result
+pub act-returns-in-Case : goal.act-returns-in-Case
+act-returns-in-Case t c = act (scope_of c.args.k.now) c.args.action.now _ c.args.d c.act_case.result
     c.act_case.new.out c.args.out.now (case_is _ _ _ _ _ c.in-Case.is c.deref-in-Case.ensures.value) c.act_case.ensures
 
 pub act_for-returns : goal.act_for-returns
@@ -148,31 +148,31 @@ act_elements-returns-clause-ends t c = ends_all
 
 pub act_case-returns : goal.act_case-returns
 act_case-returns t c = case_made (scope_of c.args.k.now) (expr_of c.args.index.now)
-    (elements_of c.args.elements.now) c.args.line c.args.d c.args.out.now _ _ _ _ _ c.in_ok-value.ensures
+    (elements_of c.args.elements.now) c.args.line.number c.args.d c.args.out.now _ _ _ _ _ c.in_ok-value.ensures
     c.in_ok-ends.ensures.code (c.deref.ensures.value ∙ c.in_ok-ends.ensures.ends) c.in_ok-trap.ensures
     c.close_elements.ensures
 
-pub statement-returns-in-AssignStructure : goal.statement-returns-in-AssignStructure
-statement-returns-in-AssignStructure t c = act_lifted
+pub act-returns-in-AssignStructure : goal.act-returns-in-AssignStructure
+act-returns-in-AssignStructure t c = act_lifted
     (scope_of c.args.k.now) c.args.action.now _ c.args.d c.assign_structure.result c.lifted-in-AssignStructure.result
     c.assign_structure.new.out c.args.out.now
     (assign_structure_is _ _ _ c.in-AssignStructure.is) c.lifted-in-AssignStructure.ensures c.assign_structure.ensures
 
-pub statement-returns-in-Call : goal.statement-returns-in-Call
-statement-returns-in-Call t c = act_lifted
+pub act-returns-in-Call : goal.act-returns-in-Call
+act-returns-in-Call t c = act_lifted
     (scope_of c.args.k.now) c.args.action.now _ c.args.d c.call_procedure.result c.lifted-in-Call.result
     c.call_procedure.new.out c.args.out.now (procedure_is _ _ _ _ _ _ c.in-Call.is c.deref-in-Call.ensures.value)
     c.lifted-in-Call.ensures c.call_procedure.ensures
 
-pub statement-returns-in-CallFormal : goal.statement-returns-in-CallFormal
-statement-returns-in-CallFormal t c = act_lifted
+pub act-returns-in-CallFormal : goal.act-returns-in-CallFormal
+act-returns-in-CallFormal t c = act_lifted
     (scope_of c.args.k.now) c.args.action.now _ c.args.d c.call_formal_procedure.result c.lifted-in-CallFormal.result
     c.call_formal_procedure.new.out c.args.out.now
     (formal_procedure_is _ _ _ _ _ _ c.in-CallFormal.is c.deref-in-CallFormal.ensures.value)
     c.lifted-in-CallFormal.ensures c.call_formal_procedure.ensures
 
-pub statement-returns-in-With : goal.statement-returns-in-With
-statement-returns-in-With t c = act (scope_of c.args.k.now) c.args.action.now _ c.args.d c.act_with.result
+pub act-returns-in-With : goal.act-returns-in-With
+act-returns-in-With t c = act (scope_of c.args.k.now) c.args.action.now _ c.args.d c.act_with.result
     c.act_with.new.out c.args.out.now (with_is _ _ _ _ _ c.in-With.is c.deref-in-With-2.ensures.value
     c.deref-in-With.ensures) c.act_with.ensures
 
@@ -186,35 +186,35 @@ act_with-returns t c =
     (ap (within (scope_of c.args.k.now)) c.as_slice.ensures.value ∙ c.in_ok-opened.ensures.scope)
     c.in_ok-opened.ensures.depth c.statement.ensures
 
-pub statement-returns-in-AssignSet : goal.statement-returns-in-AssignSet
-statement-returns-in-AssignSet t c = act_lifted
+pub act-returns-in-AssignSet : goal.act-returns-in-AssignSet
+act-returns-in-AssignSet t c = act_lifted
     (scope_of c.args.k.now) c.args.action.now _ c.args.d c.assign_set.result c.lifted-in-AssignSet.result
     c.assign_set.new.out c.args.out.now (assign_set_is _ _ _ _ _ _ c.in-AssignSet.is) c.lifted-in-AssignSet.ensures
     c.assign_set.ensures
 
-pub statement-returns-in-New : goal.statement-returns-in-New
-statement-returns-in-New t c = act (scope_of c.args.k.now) c.args.action.now _ c.args.d c.create.result c.create.new.out
+pub act-returns-in-New : goal.act-returns-in-New
+act-returns-in-New t c = act (scope_of c.args.k.now) c.args.action.now _ c.args.d c.create.result c.create.new.out
     c.args.out.now (new_is _ _ _ _ c.in-New.is) c.create.ensures
 
-pub statement-returns-in-Pack : goal.statement-returns-in-Pack
-statement-returns-in-Pack t c = act_lifted
+pub act-returns-in-Pack : goal.act-returns-in-Pack
+act-returns-in-Pack t c = act_lifted
     (scope_of c.args.k.now) c.args.action.now _ c.args.d c.pack.result c.lifted-in-Pack.result c.pack.new.out
     c.args.out.now (pack_is _ _ _ _ _ _ _ _ _ c.in-Pack.is c.deref-in-Pack.ensures c.deref-in-Pack-2.ensures)
     c.lifted-in-Pack.ensures c.pack.ensures
 
-pub statement-returns-in-Unpack : goal.statement-returns-in-Unpack
-statement-returns-in-Unpack t c = act_lifted
+pub act-returns-in-Unpack : goal.act-returns-in-Unpack
+act-returns-in-Unpack t c = act_lifted
     (scope_of c.args.k.now) c.args.action.now _ c.args.d c.unpack.result c.lifted-in-Unpack.result c.unpack.new.out
     c.args.out.now (unpack_is _ _ _ _ _ _ _ _ _ c.in-Unpack.is c.deref-in-Unpack.ensures c.deref-in-Unpack-2.ensures)
     c.lifted-in-Unpack.ensures c.unpack.ensures
 
-pub statement-returns-in-Read : goal.statement-returns-in-Read
-statement-returns-in-Read t c = act_lifted
+pub act-returns-in-Read : goal.act-returns-in-Read
+act-returns-in-Read t c = act_lifted
     (scope_of c.args.k.now) c.args.action.now _ c.args.d c.reads.result c.lifted-in-Read.result c.reads.new.out
     c.args.out.now (read_is _ _ _ c.in-Read.is c.deref-in-Read.ensures.value) c.lifted-in-Read.ensures c.reads.ensures
 
-pub statement-returns-in-Readln : goal.statement-returns-in-Readln
-statement-returns-in-Readln t c = act_lifted
+pub act-returns-in-Readln : goal.act-returns-in-Readln
+act-returns-in-Readln t c = act_lifted
     (scope_of c.args.k.now) c.args.action.now _ c.args.d c.readln.result c.lifted-in-Readln.result c.readln.new.out
     c.args.out.now (readln_is _ _ _ _ c.in-Readln.is c.deref-in-Readln.ensures.value) c.lifted-in-Readln.ensures
     c.readln.ensures
@@ -296,93 +296,93 @@ act_with-statement-requires t c = (
       ∙ c.in_ok-opened.ensures.scope) c.in_ok-opened.ensures.depth c.requires,
 )
 
-pub statement-assign-requires : goal.statement-assign-requires
-statement-assign-requires t c = let l = room_in (scope_of c.args.k.now) c.args.action.now _ c.args.d
+pub act-assign-requires : goal.act-assign-requires
+act-assign-requires t c = let l = room_in (scope_of c.args.k.now) c.args.action.now _ c.args.d
     (assign_is _ _ _ _ _ c.in-Assign.is) c.requires in l
 
-pub statement-statements-requires : goal.statement-statements-requires
-statement-statements-requires t c = let l = room_in (scope_of c.args.k.now) c.args.action.now _ c.args.d
+pub act-statements-requires : goal.act-statements-requires
+act-statements-requires t c = let l = room_in (scope_of c.args.k.now) c.args.action.now _ c.args.d
     (compound_is _ _ _ c.in-Compound.is c.deref.ensures.value) c.requires
     in (search (rules, the_lemmas, get_or_read), l)
 
-pub statement-act_if-requires : goal.statement-act_if-requires
-statement-act_if-requires t c = let l = room_in (scope_of c.args.k.now) c.args.action.now _ c.args.d
+pub act-act_if-requires : goal.act-act_if-requires
+act-act_if-requires t c = let l = room_in (scope_of c.args.k.now) c.args.action.now _ c.args.d
     (if_is _ _ _ _ c.in-If.is c.deref-in-If.ensures) c.requires in (search (rules, the_lemmas, get_or_read), l)
 
-pub statement-act_while-requires : goal.statement-act_while-requires
-statement-act_while-requires t c = let l = room_in (scope_of c.args.k.now) c.args.action.now _ c.args.d
+pub act-act_while-requires : goal.act-act_while-requires
+act-act_while-requires t c = let l = room_in (scope_of c.args.k.now) c.args.action.now _ c.args.d
     (while_is _ _ _ _ c.in-While.is c.deref-in-While.ensures) c.requires in (search (rules, the_lemmas, get_or_read), l)
 
-pub statement-act_repeat-requires : goal.statement-act_repeat-requires
-statement-act_repeat-requires t c = let l = room_in (scope_of c.args.k.now) c.args.action.now _ c.args.d
+pub act-act_repeat-requires : goal.act-act_repeat-requires
+act-act_repeat-requires t c = let l = room_in (scope_of c.args.k.now) c.args.action.now _ c.args.d
     (repeat_is _ _ _ _ c.in-Repeat.is c.deref-in-Repeat.ensures.value) c.requires
     in (search (rules, the_lemmas, get_or_read), l)
 
-pub statement-writes-requires : goal.statement-writes-requires
-statement-writes-requires t c = let l = room_in (scope_of c.args.k.now) c.args.action.now _ c.args.d
+pub act-writes-requires : goal.act-writes-requires
+act-writes-requires t c = let l = room_in (scope_of c.args.k.now) c.args.action.now _ c.args.d
     (write_is _ _ _ c.in-Write.is c.deref-in-Write.ensures.value) c.requires in l
 
-pub statement-writeln-requires : goal.statement-writeln-requires
-statement-writeln-requires t c =
+pub act-writeln-requires : goal.act-writeln-requires
+act-writeln-requires t c =
     let e = ap (λ (y : tree.Statement). statement_weight (scope_of c.args.k.now) y c.args.d)
     (writeln_is _ _ _ c.in-Writeln.is c.deref-in-Writeln.ensures.value) in
     let r = c.requires in
     omega (arith, e, r)
 
-pub statement-act_case-requires : goal.statement-act_case-requires
-statement-act_case-requires t c = let l = room_in (scope_of c.args.k.now) c.args.action.now _ c.args.d
+pub act-act_case-requires : goal.act-act_case-requires
+act-act_case-requires t c = let l = room_in (scope_of c.args.k.now) c.args.action.now _ c.args.d
     (case_is _ _ _ _ _ c.in-Case.is c.deref-in-Case.ensures.value) c.requires
     in (search (rules, the_lemmas, get_or_read), l)
 
-pub statement-assign_structure-requires : goal.statement-assign_structure-requires
-statement-assign_structure-requires t c = let l = room_in (scope_of c.args.k.now) c.args.action.now _ c.args.d
+pub act-assign_structure-requires : goal.act-assign_structure-requires
+act-assign_structure-requires t c = let l = room_in (scope_of c.args.k.now) c.args.action.now _ c.args.d
     (assign_structure_is _ _ _ c.in-AssignStructure.is) c.requires in l
 
-pub statement-call_procedure-requires : goal.statement-call_procedure-requires
-statement-call_procedure-requires t c = let l = room_in (scope_of c.args.k.now) c.args.action.now _ c.args.d
+pub act-call_procedure-requires : goal.act-call_procedure-requires
+act-call_procedure-requires t c = let l = room_in (scope_of c.args.k.now) c.args.action.now _ c.args.d
     (procedure_is _ _ _ _ _ _ c.in-Call.is c.deref-in-Call.ensures.value) c.requires in l
 
-pub statement-call_formal_procedure-requires : goal.statement-call_formal_procedure-requires
-statement-call_formal_procedure-requires t c = let l = room_in (scope_of c.args.k.now) c.args.action.now _ c.args.d
+pub act-call_formal_procedure-requires : goal.act-call_formal_procedure-requires
+act-call_formal_procedure-requires t c = let l = room_in (scope_of c.args.k.now) c.args.action.now _ c.args.d
     (formal_procedure_is _ _ _ _ _ _ c.in-CallFormal.is c.deref-in-CallFormal.ensures.value) c.requires in l
 
-pub statement-act_with-requires : goal.statement-act_with-requires
-statement-act_with-requires t c = let l = room_in (scope_of c.args.k.now) c.args.action.now _ c.args.d
+pub act-act_with-requires : goal.act-act_with-requires
+act-act_with-requires t c = let l = room_in (scope_of c.args.k.now) c.args.action.now _ c.args.d
     (with_is _ _ _ _ _ c.in-With.is c.deref-in-With-2.ensures.value c.deref-in-With.ensures) c.requires
     in (search (rules, the_lemmas, get_or_read), l)
 
-pub statement-assign_set-requires : goal.statement-assign_set-requires
-statement-assign_set-requires t c = let l = room_in (scope_of c.args.k.now) c.args.action.now _ c.args.d
+pub act-assign_set-requires : goal.act-assign_set-requires
+act-assign_set-requires t c = let l = room_in (scope_of c.args.k.now) c.args.action.now _ c.args.d
     (assign_set_is _ _ _ _ _ _ c.in-AssignSet.is) c.requires in l
 
-pub statement-create-requires : goal.statement-create-requires
-statement-create-requires t c = let l = room_in (scope_of c.args.k.now) c.args.action.now _ c.args.d
+pub act-create-requires : goal.act-create-requires
+act-create-requires t c = let l = room_in (scope_of c.args.k.now) c.args.action.now _ c.args.d
     (new_is _ _ _ _ c.in-New.is) c.requires in l
 
-pub statement-pack-requires : goal.statement-pack-requires
-statement-pack-requires t c = let l = room_in (scope_of c.args.k.now) c.args.action.now _ c.args.d
+pub act-pack-requires : goal.act-pack-requires
+act-pack-requires t c = let l = room_in (scope_of c.args.k.now) c.args.action.now _ c.args.d
     (pack_is _ _ _ _ _ _ _ _ _ c.in-Pack.is c.deref-in-Pack.ensures c.deref-in-Pack-2.ensures) c.requires in l
 
-pub statement-unpack-requires : goal.statement-unpack-requires
-statement-unpack-requires t c = let l = room_in (scope_of c.args.k.now) c.args.action.now _ c.args.d
+pub act-unpack-requires : goal.act-unpack-requires
+act-unpack-requires t c = let l = room_in (scope_of c.args.k.now) c.args.action.now _ c.args.d
     (unpack_is _ _ _ _ _ _ _ _ _ c.in-Unpack.is c.deref-in-Unpack.ensures c.deref-in-Unpack-2.ensures) c.requires in l
 
-pub statement-reads-requires : goal.statement-reads-requires
-statement-reads-requires t c = let l = room_in (scope_of c.args.k.now) c.args.action.now _ c.args.d
+pub act-reads-requires : goal.act-reads-requires
+act-reads-requires t c = let l = room_in (scope_of c.args.k.now) c.args.action.now _ c.args.d
     (read_is _ _ _ c.in-Read.is c.deref-in-Read.ensures.value) c.requires in l
 
-pub statement-readln-requires : goal.statement-readln-requires
-statement-readln-requires t c =
+pub act-readln-requires : goal.act-readln-requires
+act-readln-requires t c =
     let e = ap (λ (y : tree.Statement). statement_weight (scope_of c.args.k.now) y c.args.d)
     (readln_is _ _ _ _ c.in-Readln.is c.deref-in-Readln.ensures.value) in
     let r = c.requires in
     omega (arith, e, r)
 
-pub statement-act_for-requires : goal.statement-act_for-requires
-statement-act_for-requires t c =
+pub act-act_for-requires : goal.act-act_for-requires
+act-act_for-requires t c =
     let l = room_in (scope_of c.args.k.now) c.args.action.now _ c.args.d
-    (ap (λ (y : Control). tree.For y.variable y.low y.high (expr_of c.in-For.from) y.from_line y.direction
-    (expr_of c.in-For.to) y.to_line (statement_of c.deref-in-For.result.now)) c.control_of-control.ensures
+    (ap (λ (y : Control). tree.For y.variable y.low y.high (expr_of c.in-For.from) y.from_line.number y.direction
+    (expr_of c.in-For.to) y.to_line.number (statement_of c.deref-in-For.result.now)) c.control_of-control.ensures
     ∙ for_is _ _ _ _ _ _ _ _ _ _ _ _ c.in-For.is c.deref-in-For.ensures) c.requires
     in
     (search (rules, the_lemmas, get_or_read), l)
@@ -429,7 +429,7 @@ pub act_case-returns-in_err-ends : goal.act_case-returns-in_err-ends
 act_case-returns-in_err-ends t c =
     handed_on c.from_residual-in_err-ends.result c.args.out.now c.act_elements.new.out
     (statement_code (scope_of c.args.k.now) (tree.Case (expr_of c.args.index.now)
-    (elements_of c.args.elements.now) c.args.line) c.args.d) _ c.from_residual-in_err-ends.ensures.1
+    (elements_of c.args.elements.now) c.args.line.number) c.args.d) _ c.from_residual-in_err-ends.ensures.1
     (case_refused _ (scope_of c.args.k.now) (expr_of c.args.index.now)
-    (elements_of c.args.elements.now) c.args.d c.args.line c.args.out.now _ c.in_ok-value.ensures
+    (elements_of c.args.elements.now) c.args.d c.args.line.number c.args.out.now _ c.in_ok-value.ensures
     c.in_err-ends.ensures.code)

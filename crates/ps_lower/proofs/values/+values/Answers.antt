@@ -274,7 +274,7 @@ select-returns-in-Field-clause-site t c = c.behind.ensures
 pub element-returns-in-Some-clause-code : goal.element-returns-in-Some-clause-code
 element-returns-in-Some-clause-code t c = subst
     (λ o. c.args.out.now ≡ c.args.out.now ++ index_code o (type_of c.args.ty.now) (site_of c.args.site) c.args.t
-    (even_from (suc c.args.t)) c.args.line (expr_code (scope_of c.args.k.now) (expr_of c.args.index.now)
+    (even_from (suc c.args.t)) c.args.line.number (expr_code (scope_of c.args.k.now) (expr_of c.args.index.now)
     (even_from (suc c.args.t)) c.args.x)) c.in-Some.ensures (unchanged c.args.out.now)
 
 pub element-returns-in-Some-clause-site : goal.element-returns-in-Some-clause-site
@@ -283,7 +283,7 @@ element-returns-in-Some-clause-site t c = c.behind.ensures
 
 pub element-returns-in_ok-value-in-None-clause-code : goal.element-returns-in_ok-value-in-None-clause-code
 element-returns-in_ok-value-in-None-clause-code t c =
-    element_told (scope_of c.args.k.now) (type_of c.args.ty.now) (expr_of c.args.index.now) c.args.line
+    element_told (scope_of c.args.k.now) (type_of c.args.ty.now) (expr_of c.args.index.now) c.args.line.number
     (site_of c.args.site) c.args.t c.args.x c.even_above-at.result c.indexed.result c.indexed.new.out
     c.value.new.out c.args.out.now
     c.in-None.ensures c.even_above-at.ensures.value c.in_ok-value-in-None.ensures c.indexed.ensures.code
@@ -305,7 +305,7 @@ unless_known-returns-in-None t c = subst (λ o. OnOk c.value.result
 
 pub minus-returns-in_ok-literal-in-None : goal.minus-returns-in_ok-literal-in-None
 minus-returns-in_ok-literal-in-None t c =
-    minus_made (scope_of c.args.k.now) (expr_of c.args.operand.now) c.args.d c.args.x c.args.line c.even_above-t.result
+    minus_made (scope_of c.args.k.now) (expr_of c.args.operand.now) c.args.d c.args.x c.args.line.number c.even_above-t.result
     c.arithmetic.result c.arithmetic.new.self c.literal-in-None.new.self c.value.new.out c.args.out.now
     c.in-None.ensures c.even_above-t.ensures.value c.in_ok-value-in-None.ensures c.in_ok-literal-in-None.ensures
     c.arithmetic.ensures
@@ -541,13 +541,13 @@ member-returns-in-One t c = one_arm (scope_of c.args.k.now) c.args.one.now _ _ c
 
 pub one_member-returns-in-Some : goal.one_member-returns-in-Some
 one_member-returns-in-Some t c =
-    one_known (scope_of c.args.k.now) (expr_of c.args.e.now) c.args.line c.args.d c.args.x c.even_from-t.result
+    one_known (scope_of c.args.k.now) (expr_of c.args.e.now) c.args.line.number c.args.d c.args.x c.even_from-t.result
     c.in-Some.number c.add_bit.result c.add_bit.new.out c.args.out.now
     (sym c.in-Some.is ∙ c.known_member.ensures) c.even_from-t.ensures.value c.add_bit.ensures
 
 pub one_member-returns-in_ok-value-in-None : goal.one_member-returns-in_ok-value-in-None
 one_member-returns-in_ok-value-in-None t c =
-    one_worked (scope_of c.args.k.now) (expr_of c.args.e.now) c.args.line c.args.d c.args.x c.even_from-t.result
+    one_worked (scope_of c.args.k.now) (expr_of c.args.e.now) c.args.line.number c.args.d c.args.x c.even_from-t.result
     c.above-behind.result c.add_member.result c.add_member.new.out c.value.new.out c.args.out.now
     (sym c.in-None.is ∙ c.known_member.ensures) c.even_from-t.ensures.value c.above-behind.ensures
     c.in_ok-value-in-None.ensures c.add_member.ensures

@@ -3,7 +3,7 @@ use Rattle.std.proofs.Common.{subst}
 use Rattle.ps_build.specs.Slices.{ComesTo, IsLeft}
 use Rattle.ps_build.proofs.InSlices.{comes_runs, left_runs}
 use Rattle.ps_build.proofs.Told.{budget_of}
-use Rattle.ps_build.proofs.slices.run_view_in_slices.Goals as goal
+use Rattle.ps_build.proofs.slices.run_view_to_end.Goals as goal
 
 pub returns-in_default-clause-left : goal.returns-in_default-clause-left
 returns-in_default-clause-left g c =
@@ -21,6 +21,6 @@ returns-clause-runs g c =
     let new = g.C.Console.world c.run_in_slices.new.console in
     let left = c.run_in_slices.new.machine in
     let fits = budget_of c.args.image.now c.args.budget c.in_ok-machine.ensures.fits in
-    comes_runs c.args.image.now c.args.budget c.args.max_steps left old new c.outcome_of.result c.in-Some.stop fits
-    (subst (λ state. ComesTo c.args.max_steps state old left new c.in-Some.stop) c.in_ok-machine.ensures.ok
-    c.in-Some.ensures.stopped) c.outcome_of.ensures
+    comes_runs c.args.image.now c.args.budget c.args.max_steps left old new c.outcome_of-outcome.result c.in-Some.stop
+    fits (subst (λ state. ComesTo c.args.max_steps state old left new c.in-Some.stop) c.in_ok-machine.ensures.ok
+    c.in-Some.ensures.stopped) c.outcome_of-outcome.ensures

@@ -2,8 +2,8 @@
 use Rattle.std.proofs.Common.{sym, subst}
 use Rattle.ps_build.specs.Runs.{Runs, RunsImage, IsLoadRefused, IsRunRefused}
 use Rattle.ps_build.specs.Slices.{IsRunLeft, IsImageLeft}
-use Rattle.ps_build.proofs.Results.{if_ended, if_left, if_err, no_image, not_loaded}
-use Rattle.ps_build.proofs.slices.run_image_in_slices.Goals as goal
+use Rattle.ps_build.proofs.Results.{if_ended_in, if_left_in, if_err, no_image, not_loaded}
+use Rattle.ps_build.proofs.slices.run_image_to_end.Goals as goal
 
 pub returns-in-Err-clause-refused : goal.returns-in-Err-clause-refused
 returns-in-Err-clause-refused g c =
@@ -13,20 +13,20 @@ returns-in-Err-clause-refused g c =
 pub returns-clause-runs : goal.returns-clause-runs
 returns-clause-runs g c =
     let old = g.C.Console.world c.args.console.now in
-    let new = g.C.Console.world c.run_view_in_slices.new.console in
-    if_ended c.run_view_in_slices.result (Runs c.in-Ok.view c.args.budget c.args.max_steps old new)
+    let new = g.C.Console.world c.run_view_to_end.new.console in
+    if_ended_in (λ ended. ended.outcome) c.run_view_to_end.result (Runs c.in-Ok.view c.args.budget c.args.max_steps old new)
     (RunsImage c.args.image.now c.args.budget c.args.max_steps old new) (λ outcome runs. record {
       image = c.in-Ok.view;
       is_image = c.in-Ok.ensures.ok;
       only = λ other h. c.in-Ok.ensures.exact other h;
       runs = runs;
-    }) c.run_view_in_slices.ensures.runs
+    }) c.run_view_to_end.ensures.runs
 
 pub returns-clause-left : goal.returns-clause-left
 returns-clause-left g c =
     let old = g.C.Console.world c.args.console.now in
-    let new = g.C.Console.world c.run_view_in_slices.new.console in
-    if_left c.run_view_in_slices.result (IsRunLeft c.in-Ok.view c.args.budget c.args.max_steps old new)
+    let new = g.C.Console.world c.run_view_to_end.new.console in
+    if_left_in (λ ended. ended.outcome) c.run_view_to_end.result (IsRunLeft c.in-Ok.view c.args.budget c.args.max_steps old new)
     (IsImageLeft c.args.image.now c.args.budget c.args.max_steps old new) (λ h. record {
       steps = h.steps;
       fewer = h.fewer;
@@ -36,11 +36,11 @@ returns-clause-left g c =
         only = λ other i. c.in-Ok.ensures.exact other i;
         runs = h.runs;
       };
-    }) c.run_view_in_slices.ensures.left
+    }) c.run_view_to_end.ensures.left
 
 pub returns-clause-refused : goal.returns-clause-refused
 returns-clause-refused g c =
-    if_err c.run_view_in_slices.result (IsLoadRefused c.in-Ok.view c.args.budget)
+    if_err c.run_view_to_end.result (IsLoadRefused c.in-Ok.view c.args.budget)
     (IsRunRefused c.args.image.now c.args.budget)
     (λ refusal h. not_loaded c.args.image.now c.args.budget c.in-Ok.view refusal c.in-Ok.ensures.ok h)
-    c.run_view_in_slices.ensures.refused
+    c.run_view_to_end.ensures.refused

@@ -6,7 +6,7 @@ use Rattle.ps_lower.proofs.Limits.{domains_keep}
 use Rattle.ps_lower_code.specs.Programs.{tac_of}
 use Rattle.ps_lower.specs.Refused.{instructions_of, IsRefused}
 use Rattle.ps_lower.proofs.Counting.{passed_on}
-use Rattle.ps_lower.proofs.lower.lower.Goals as goal
+use Rattle.ps_lower.proofs.lower.lower_marked.Goals as goal
 
 pub object_sizes-requires : goal.object_sizes-requires
 object_sizes-requires c = subst (λ l. are_small (map type_of l) ≡ true) (sym c.domains.ensures.domains)

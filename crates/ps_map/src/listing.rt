@@ -1,0 +1,272 @@
+//! The listing of an image with its source.
+
+use crate::made::{MappedText, mapped_text};
+use crate::map::{Map, Owner, Row};
+use crate::variables::Variable;
+use ps_build::{Refusal, list};
+use risc_image::ImageView;
+use risc_word::{Instr, decode};
+use std::alloc::{AllocError, Global};
+
+// The registers that hold where the innermost frame begins, and that of the program block.
+const FRAME: u8 = 14;
+
+const PROGRAM: u8 = 13;
+
+// What the routines of the run-time library do, by their numbers.
+const RUN_TIME: [&str; 17] = [
+    "copies words",
+    "adds a range to a set",
+    "unites sets",
+    "takes a set from a set",
+    "intersects sets",
+    "whether a set is within a set",
+    "whether a number is in a set",
+    "compares strings",
+    "packs",
+    "unpacks",
+    "writes a number",
+    "writes a character",
+    "writes a string",
+    "looks ahead",
+    "reads a character",
+    "reads a number",
+    "reads up to the end of a line",
+];
+
+/// What a routine of the run-time library does, by its number.
+pub fn run_time_told(number: u32) -> &'static str {
+    RUN_TIME.get(number as usize).copied().unwrap_or("")
+}
+
+// The number of the base register of a load or a store, and the offset.
+fn access_of(instr: Instr) -> Option<(u8, i32)> {
+    match instr {
+        Instr::Load {
+            width: _,
+            to: _,
+            base,
+            offset,
+        } => Some((base.number(), offset.value())),
+        Instr::Store {
+            width: _,
+            from: _,
+            base,
+            offset,
+        } => Some((base.number(), offset.value())),
+        _ => None,
+    }
+}
+
+// The same of a word.
+fn access(word: u32) -> Option<(u8, i32)> {
+    match decode(word) {
+        Some(instr) => access_of(instr),
+        None => None,
+    }
+}
+
+// The variable of a routine at so many bytes from where an activation begins. Their homes follow one another.
+fn variable_at(map: &Map, routine: u32, offset: i32) -> Option<&Variable> {
+    let Some(routine) = map.routines.get(routine as usize) else {
+        return None;
+    };
+    let Ok(offset) = u64::try_from(offset) else {
+        return None;
+    };
+    let Some(place) = offset.checked_sub(routine.frame) else {
+        return None;
+    };
+    let behind = routine
+        .variables
+        .partition_point(|variable| u64::from(variable.home) <= place);
+    let Some(last) = behind.checked_sub(1) else {
+        return None;
+    };
+    let Some(variable) = routine.variables.get(last) else {
+        return None;
+    };
+    let end = u64::from(variable.home).saturating_add(u64::from(variable.bytes));
+    if place < end { Some(variable) } else { None }
+}
+
+// The variable that a word of a row loads or stores, as far as that is seen.
+fn variable_of(map: &Map, row: Option<Row>, word: u32) -> Option<&Variable> {
+    let Some((base, offset)) = access(word) else {
+        return None;
+    };
+    match row {
+        Some(
+            Row {
+                owner: Owner::Routine(routine),
+                ..
+            },
+        ) => match base {
+            FRAME => variable_at(map, routine, offset),
+            PROGRAM => variable_at(map, 0, offset),
+            _ => None,
+        },
+        _ => None,
+    }
+}
+
+// The name of what the words of a row are of.
+fn owner_told<'a>(map: &'a Map, owner: Owner) -> &'a str {
+    match owner {
+        Owner::Start => "start",
+        Owner::Routine(number) => map.name_of(number).unwrap_or("?"),
+        Owner::RunTime(number) => run_time_told(number),
+        Owner::Strings => "strings",
+    }
+}
+
+// The line of the text that a row's words are shown under.
+fn line_of(row: Row) -> Option<u32> {
+    match (row.statement, row.token) {
+        (Some(place), _) | (None, Some(place)) => Some(place.line),
+        (None, None) => None,
+    }
+}
+
+// So many bytes of a line are shown: words of two long lines may take turns.
+const MOST_SHOWN: usize = 160;
+
+// As much of a line as is shown, without a part of a character.
+fn front_of(line: &str) -> &str {
+    if line.len() <= MOST_SHOWN {
+        return line;
+    }
+    for missing in 0..4usize {
+        let front = line
+            .as_bytes()
+            .get(..MOST_SHOWN.saturating_sub(missing))
+            .unwrap_or(&[]);
+        if let Ok(front) = str::from_utf8(front) {
+            return front;
+        }
+    }
+    ""
+}
+
+// A listing that is being made.
+#[derive(Drop)]
+struct Lister<'a> {
+    alloc: Global,
+    map: &'a Map,
+    /// The lines of the text.
+    lines: Vec<&'a str>,
+    out: String,
+    owner: Option<Owner>,
+    line: Option<u32>,
+}
+
+impl<'a> Lister<'a> {
+    // What stands before the words of a row: of what they are, and the line of the text, where that is another one.
+    fn head(&mut self, row: Row) -> Result<(), AllocError> {
+        if self.owner != Some(row.owner) {
+            self.owner = Some(row.owner);
+            self.line = None;
+            let name = owner_told(self.map, row.owner);
+            let told = format!(in self.alloc; "; {name}\n")?;
+            self.out.push_str(told.as_str())?;
+        }
+        let line = line_of(row);
+        if line.is_some() && line != self.line {
+            self.line = line;
+            self.source(line.unwrap_or(0))?;
+        }
+        Ok(())
+    }
+
+    // Adds a line of the text.
+    fn source(&mut self, line: u32) -> Result<(), AllocError> {
+        let at = (line as usize).saturating_sub(1);
+        let text = self.lines.get(at).copied().unwrap_or("");
+        let front = front_of(text);
+        let more = if front.len() < text.len() { " .." } else { "" };
+        let told = format!(in self.alloc; ";{line:5}  {front}{more}\n")?;
+        self.out.push_str(told.as_str())
+    }
+
+    // Adds the line of a word, as the listing without the source has it.
+    fn word(&mut self, row: Option<Row>, listed: &str, word: u32) -> Result<(), AllocError> {
+        if let Some(row) = row {
+            self.head(row)?;
+        }
+        self.out.push_str(listed)?;
+        if let Some(variable) = variable_of(self.map, row, word) {
+            self.out.push_str(" ; ")?;
+            self.out.push_str(variable.name.as_str())?;
+        }
+        self.out.push_str("\n")
+    }
+}
+
+// The lines of a text, without their ends.
+fn lines_of(alloc: Global, text: &str) -> Result<Vec<&str>, AllocError> {
+    let mut lines = Vec::new(alloc);
+    for line in text.split('\n') {
+        lines.push(line)?;
+    }
+    Ok(lines)
+}
+
+/// The listing of an image with the lines of its text: before the words of a routine its name, before those of a
+/// statement its line, and behind a word that loads or stores a variable its name. `listing` is the listing without
+/// them, a line for each word. Of a text that isn't UTF-8 no lines are shown.
+pub fn listing_with_source(
+    alloc: Global,
+    text: &[u8],
+    map: &Map,
+    image: &ImageView<'_>,
+    listing: &str,
+) -> Result<String, AllocError> {
+    let mut lister = Lister {
+        alloc,
+        map,
+        lines: lines_of(alloc, str::from_utf8(text).unwrap_or(""))?,
+        out: String::new(alloc),
+        owner: None,
+        line: None,
+    };
+    let mut number: u32 = 0;
+    for listed in listing.split('\n') {
+        if listed.is_empty() {
+            continue;
+        }
+        let word = image.word(number as usize).unwrap_or(0);
+        lister.word(map.row_of(number), listed, word)?;
+        number = number.saturating_add(1);
+    }
+    let Lister {
+        alloc: _,
+        map: _,
+        lines: _,
+        out,
+        owner: _,
+        line: _,
+    } = lister;
+    Ok(out)
+}
+
+// The listing of a program that was built, with the lines of its text.
+fn listed_with(alloc: Global, text: &[u8], built: &MappedText) -> Result<String, AllocError> {
+    let listing = list(alloc, &built.mapped.built)?;
+    match ImageView::read(built.mapped.built.bytes()) {
+        Ok(image) => listing_with_source(alloc, text, &built.map, &image, listing.as_str()),
+        Err(_) => Ok(listing),
+    }
+}
+
+/// Builds the program of a text, and lists its image with the lines of the text, as `listing_with_source` does.
+///
+/// # Errors
+///
+/// Those of `build`.
+pub fn listed(alloc: Global, text: &[u8]) -> Result<String, Refusal> {
+    let built = mapped_text(alloc, text)?;
+    match listed_with(alloc, text, &built) {
+        Ok(listing) => Ok(listing),
+        Err(_) => Err(Refusal::OutOfMemory),
+    }
+}

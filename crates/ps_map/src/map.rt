@@ -1,0 +1,81 @@
+//! The map of an image.
+
+use crate::places::Place;
+use crate::variables::Variable;
+
+/// What a word of the code is of.
+#[derive(Clone, Copy, PartialEq, Eq, Debug)]
+pub enum Owner {
+    /// The start of the program, and the stub of its stops.
+    Start,
+    /// A routine of the program, by its number; 0 is the program block.
+    Routine(u32),
+    /// A routine of the run-time library, by its number there.
+    RunTime(u32),
+    /// The strings of the text, behind all code.
+    Strings,
+}
+
+/// What the words from one on belong to, up to the word of the next row.
+#[derive(Clone, Copy, PartialEq, Eq, Debug)]
+pub struct Row {
+    /// The first of the words, by its number in the code.
+    pub word: u32,
+    pub owner: Owner,
+    /// Where the statement begins that they are of; none for what a routine does before and after its statements.
+    pub statement: Option<Place>,
+    /// The token that an error or a call there is told at, if there is one.
+    pub token: Option<Place>,
+}
+
+/// A routine of the program.
+#[derive(Drop, Debug)]
+pub struct Routine {
+    /// As it is written; of the program block that of the program.
+    pub name: String,
+    /// Where the `begin` of its block is.
+    pub begin: Place,
+    /// Its first word, by its number in the code.
+    pub entry: u32,
+    /// Where the words of its variables begin in an activation of it, in bytes.
+    pub frame: u64,
+    /// Its result, its parameters and its variables, in the order of their homes.
+    pub variables: Vec<Variable>,
+}
+
+/// Where the words of an image belong in its text.
+#[derive(Drop, Debug)]
+pub struct Map {
+    /// By their numbers.
+    pub routines: Vec<Routine>,
+    /// In rising order of their words.
+    pub rows: Vec<Row>,
+}
+
+impl Map {
+    /// What a word of the code belongs to: the last row that doesn't begin behind it.
+    pub fn row_of(&self, word: u32) -> Option<Row> {
+        let behind = self.rows.partition_point(|row| row.word <= word);
+        match behind.checked_sub(1) {
+            Some(last) => self.rows.get(last).copied(),
+            None => None,
+        }
+    }
+
+    /// What the word before an address belongs to. A link, as that of a call or of a stop, is the address behind its
+    /// word.
+    pub fn row_of_link(&self, link: u32) -> Option<Row> {
+        match (link / 4).checked_sub(1) {
+            Some(word) => self.row_of(word),
+            None => None,
+        }
+    }
+
+    /// The name of a routine of the program.
+    pub fn name_of(&self, routine: u32) -> Option<&str> {
+        match self.routines.get(routine as usize) {
+            Some(routine) => Some(routine.name.as_str()),
+            None => None,
+        }
+    }
+}

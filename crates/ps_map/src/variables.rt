@@ -1,0 +1,200 @@
+//! The variables of routines: their names, their types in the words of the text, and where they are in a frame.
+
+use crate::places::small;
+use indexmap::IndexMap;
+use ps_diagnose_outline::{Outline, Part, Point, PointKind, Type};
+use ps_text::Span;
+use ps_tree::tree::{Formal, Routine};
+use ps_tree::types::Ty;
+use std::alloc::{AllocError, Global};
+
+/// What a variable is to its routine.
+#[derive(Clone, Copy, PartialEq, Eq, Debug)]
+pub enum Role {
+    /// The result of a function.
+    Result,
+    Value,
+    /// A variable parameter: at its place is the address of the variable that it is.
+    Reference,
+    /// A procedural or functional parameter: at its place are the routine's address and the frame around it.
+    Routine,
+    /// A variable of the block.
+    Own,
+}
+
+/// A variable of a routine, or its result, or a parameter.
+#[derive(Drop, Debug)]
+pub struct Variable {
+    /// As it is written where it is declared.
+    pub name: String,
+    pub role: Role,
+    /// Where it begins among the words of its routine's variables, in bytes.
+    pub home: u32,
+    /// How many bytes it has there.
+    pub bytes: u32,
+    /// Its type as the text tells it; empty where that isn't known.
+    pub denoter: String,
+}
+
+// An entry of a frame without its name.
+#[derive(Clone, Copy)]
+struct Entry {
+    role: Role,
+    home: u32,
+    bytes: u32,
+}
+
+// The entries of a routine's frame, in their order: its result, its parameters, its variables. The first word of a frame
+// is none of theirs.
+fn entries_of(alloc: Global, routine: &Routine) -> Result<Vec<Entry>, AllocError> {
+    let mut entries = Vec::new(alloc);
+    let mut home: u32 = 4;
+    if let Some(ty) = &routine.result {
+        home = add_entry(&mut entries, Role::Result, home, bytes_of(ty))?;
+    }
+    for formal in routine.formals.iter() {
+        let (role, bytes) = formal_told(formal);
+        home = add_entry(&mut entries, role, home, bytes)?;
+    }
+    for ty in routine.variables.iter() {
+        home = add_entry(&mut entries, Role::Own, home, bytes_of(ty))?;
+    }
+    Ok(entries)
+}
+
+// Adds an entry, and gives where the next one is.
+fn add_entry(
+    entries: &mut Vec<Entry>,
+    role: Role,
+    home: u32,
+    bytes: u32,
+) -> Result<u32, AllocError> {
+    entries.push(Entry { role, home, bytes })?;
+    Ok(home.saturating_add(bytes))
+}
+
+// The bytes of a variable, which are those of whole words.
+fn bytes_of(ty: &Ty) -> u32 {
+    ty.bytes()
+}
+
+fn formal_told(formal: &Formal) -> (Role, u32) {
+    match formal {
+        Formal::Value(ty) => (Role::Value, bytes_of(ty)),
+        Formal::Variable(_) => (Role::Reference, 4),
+        Formal::Routine { .. } => (Role::Routine, 8),
+    }
+}
+
+// Whether a point of a routine's region is an entry of its frame.
+fn is_entry(point: Point) -> bool {
+    matches!(
+        point.kind,
+        PointKind::ValueParameter
+            | PointKind::VariableParameter
+            | PointKind::ProcedureParameter
+            | PointKind::FunctionParameter
+            | PointKind::Variable
+    )
+}
+
+// The points of the entries of a routine's frame, in their order: the routine's own, where it has a result, and those of
+// its parameters and variables.
+fn points_of(
+    alloc: Global,
+    outline: &Outline<'_>,
+    region: u32,
+    is_function: bool,
+) -> Result<Vec<Point>, AllocError> {
+    let mut points = Vec::new(alloc);
+    if is_function {
+        if let Some(own) = outline.routine_of(region) {
+            if let Some(point) = outline.point(own) {
+                points.push(point)?;
+            }
+        }
+    }
+    for number in outline.points_of(region) {
+        match outline.point(*number) {
+            Some(point) if is_entry(point) => points.push(point)?,
+            _ => {}
+        }
+    }
+    Ok(points)
+}
+
+/// Where the denoters that were met stand, by where they begin. (Many variables may have one that is long.)
+pub(crate) type Denoters = IndexMap<u32, Span>;
+
+// Where the denoter stands that begins at an offset.
+fn extent_of(
+    outline: &Outline<'_>,
+    denoters: &mut Denoters,
+    from: u32,
+) -> Result<Span, AllocError> {
+    if let Some(span) = denoters.get(&from) {
+        return Ok(*span);
+    }
+    let span = outline.extent(from, Part::Denoter);
+    match denoters.insert(from, span) {
+        Ok(_) => Ok(span),
+        Err(_) => Err(AllocError),
+    }
+}
+
+// A type in the words of the text.
+fn denoter_of(
+    alloc: Global,
+    outline: &Outline<'_>,
+    denoters: &mut Denoters,
+    ty: Option<Type>,
+) -> Result<String, AllocError> {
+    let word = match ty {
+        Some(Type::Integer) => "integer",
+        Some(Type::Boolean) => "Boolean",
+        Some(Type::Char) => "char",
+        _ => "",
+    };
+    if let Some(ty) = ty {
+        if let Some(from) = outline.denoter_at(ty) {
+            let span = extent_of(outline, denoters, from)?;
+            return outline.text(alloc, span);
+        }
+    }
+    let mut text = String::new(alloc);
+    text.push_str(word)?;
+    Ok(text)
+}
+
+fn name_of(alloc: Global, outline: &Outline<'_>, point: Point) -> Result<String, AllocError> {
+    let mut name = String::new(alloc);
+    name.push_str(str::from_utf8(outline.bytes(point.name)).unwrap_or(""))?;
+    Ok(name)
+}
+
+/// The variables of the routine whose block has its `begin` at an offset, if the outline tells as many as the tree.
+pub(crate) fn variables_of(
+    alloc: Global,
+    outline: &Outline<'_>,
+    denoters: &mut Denoters,
+    begin: u32,
+    routine: &Routine,
+) -> Result<Vec<Variable>, AllocError> {
+    let region = outline.block_at(begin);
+    let entries = entries_of(alloc, routine)?;
+    let points = points_of(alloc, outline, region, routine.result.is_some())?;
+    let mut variables = Vec::new(alloc);
+    if small(points.len()) != small(entries.len()) {
+        return Ok(variables);
+    }
+    for (entry, point) in entries.iter().zip(points.iter()) {
+        variables.push(Variable {
+            name: name_of(alloc, outline, *point)?,
+            role: entry.role,
+            home: entry.home,
+            bytes: entry.bytes,
+            denoter: denoter_of(alloc, outline, denoters, point.ty)?,
+        })?;
+    }
+    Ok(variables)
+}

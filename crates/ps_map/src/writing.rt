@@ -1,0 +1,119 @@
+//! A map as text.
+
+use crate::map::{Map, Owner, Routine, Row};
+use crate::places::Place;
+use crate::variables::{Role, Variable};
+use std::alloc::{AllocError, Global};
+
+/// The first line of each map.
+pub(crate) const HEAD: &str = "pascal map 1";
+
+// Adds a place, as `57:42`, or `-` where there is none.
+fn add_place(alloc: Global, out: &mut String, place: Option<Place>) -> Result<(), AllocError> {
+    match place {
+        None => out.push_str(" -"),
+        Some(Place { line, column }) => {
+            let told = format!(in alloc; " {line}:{column}")?;
+            out.push_str(told.as_str())
+        }
+    }
+}
+
+fn add_routine(
+    alloc: Global,
+    out: &mut String,
+    number: usize,
+    routine: &Routine,
+) -> Result<(), AllocError> {
+    let Place { line, column } = routine.begin;
+    let entry = routine.entry;
+    let frame = routine.frame;
+    let name = routine.name.as_str();
+    let told = format!(in alloc; "routine {number} {entry} {frame} {line}:{column} {name}\n")?;
+    out.push_str(told.as_str())?;
+    for variable in routine.variables.iter() {
+        add_variable(alloc, out, number, variable)?;
+    }
+    Ok(())
+}
+
+/// The word of a role.
+pub(crate) fn role_word(role: Role) -> &'static str {
+    match role {
+        Role::Result => "result",
+        Role::Value => "value",
+        Role::Reference => "reference",
+        Role::Routine => "routine",
+        Role::Own => "own",
+    }
+}
+
+fn add_variable(
+    alloc: Global,
+    out: &mut String,
+    routine: usize,
+    variable: &Variable,
+) -> Result<(), AllocError> {
+    let role = role_word(variable.role);
+    let home = variable.home;
+    let bytes = variable.bytes;
+    let name = variable.name.as_str();
+    let denoter = variable.denoter.as_str();
+    let told = format!(in alloc; "variable {routine} {home} {bytes} {role} {name} {denoter}\n")?;
+    out.push_str(told.as_str())
+}
+
+fn add_owner(alloc: Global, out: &mut String, owner: Owner) -> Result<(), AllocError> {
+    match owner {
+        Owner::Start => out.push_str(" start"),
+        Owner::Strings => out.push_str(" strings"),
+        Owner::Routine(number) => {
+            let told = format!(in alloc; " routine {number}")?;
+            out.push_str(told.as_str())
+        }
+        Owner::RunTime(number) => {
+            let told = format!(in alloc; " run-time {number}")?;
+            out.push_str(told.as_str())
+        }
+    }
+}
+
+fn add_row(alloc: Global, out: &mut String, row: &Row) -> Result<(), AllocError> {
+    let word = row.word;
+    let told = format!(in alloc; "word {word}")?;
+    out.push_str(told.as_str())?;
+    add_owner(alloc, out, row.owner)?;
+    match row.owner {
+        Owner::Routine(_) => {
+            add_place(alloc, out, row.statement)?;
+            add_place(alloc, out, row.token)?;
+        }
+        Owner::Start => add_place(alloc, out, row.token)?,
+        Owner::RunTime(_) | Owner::Strings => {}
+    }
+    out.push_str("\n")
+}
+
+/// A map as text, a line for each routine and for each row:
+///
+/// - `pascal map 1`, the first line;
+/// - `routine NUMBER WORD BYTES LINE:COLUMN NAME` for each routine of the program: its number, its first word, where its
+///   variables begin in an activation, where the `begin` of its block is, and its name;
+/// - behind it `variable NUMBER HOME BYTES ROLE NAME TYPE` for each of its variables: the routine's number, where it
+///   begins among the routine's variables, how many bytes it has there, what it is (`result`, `value`, `reference`, `routine` or `own`), its name, and its
+///   type in the words of the text;
+/// - `word WORD OWNER` for each row: the first of the words, by its number in the code, and what it is of:
+///   `start TOKEN`, `routine NUMBER STATEMENT TOKEN`, `run-time NUMBER` or `strings`. `STATEMENT` and `TOKEN` are
+///   `LINE:COLUMN`, or `-` where there is none.
+pub fn written(alloc: Global, map: &Map) -> Result<String, AllocError> {
+    let mut out = String::new(alloc);
+    out.push_str(HEAD)?;
+    out.push_str("\n")?;
+    for (number, routine) in map.routines.iter().enumerate() {
+        add_routine(alloc, &mut out, number, routine)?;
+    }
+    for row in map.rows.iter() {
+        add_row(alloc, &mut out, row)?;
+    }
+    Ok(out)
+}
