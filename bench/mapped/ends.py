@@ -1,0 +1,333 @@
+#!/usr/bin/env python3
+"""Compares what `pascal why` tells of drawn programs that end with an error with what the reference interpreter has there.
+
+usage: ends.py [SEED [COUNT]] [--program PATH] [--reference PATH] [--keep FOLDER]
+
+Draws programs with their inputs as `bench/programs --changed` does, changes each in several ways, until COUNT of them ended with an error. Of each are the same: the number and the
+line of the error; the lines, the routines and the count of the open calls; the value of each variable of each open call, and of the objects that they
+lead to. Values are read off the words that `why` tells. PATH of --program has the words of `pascal`; that of --reference is the program of runs_ends/,
+compiled with the changed interpreter (reference.py); without it `rt try` compiles it, and runs it on the programs drawn.
+"""
+
+from __future__ import annotations
+
+import argparse, json, os, random, re, subprocess, sys, tempfile
+
+sys.dont_write_bytecode = True
+HERE = os.path.dirname(os.path.abspath(__file__))
+sys.path.insert(0, os.path.dirname(HERE))
+sys.path.insert(0, HERE)
+import reference
+from drawing.programs import drawn
+
+NUMBERS = [0, 0, 1, 2, 3, 7, 10, 100, 255, 256, 1000, 32768, 70000, 2147483647]
+STEPS = "3000000"
+CHANGES = 6  # of each program that is drawn
+ANY = object()  # what the words don't tell, as a character that isn't shown
+
+
+class Bad(Exception):
+    pass
+
+
+def changed(draw, text):
+    """A text in which some numbers are others."""
+    places = list(re.finditer(r"(?<![\w.])\d+(?!\w)", text))
+    for found in sorted(draw.sample(places, min(len(places), draw.randint(1, 8))), key=re.Match.start, reverse=True):
+        text = text[: found.start()] + str(draw.choice(NUMBERS)) + text[found.end() :]
+    return text
+
+
+def constants_of(text):
+    """The ordinals of the constants of enumerated types, by their names in small letters; several where a name stands for several."""
+    found = {"false": {0}, "true": {1}}
+    for match in re.finditer(r"(?:[=:\[]|\bof|,)\s*\(\s*([A-Za-z]\w*(?:\s*,\s*[A-Za-z]\w*)*)\s*\)", re.sub(r":=", "  ", text)):
+        for number, name in enumerate(re.split(r"\s*,\s*", match[1])):
+            found.setdefault(name.lower(), set()).add(number)
+    return found
+
+
+WORD = re.compile(r"\s*('(?:[^']|'')*'|-?\d+|\.\.|[A-Za-z]\w*|[()\[\],:?])")
+
+
+class Values:
+    """Reads a value off the words that tell it."""
+
+    def __init__(self, told, constants):
+        self.words, self.at, self.constants = WORD.findall(told), 0, constants
+        if "".join(self.words) != re.sub(r"\s", "", told) and "'" not in told:
+            raise Bad(f"words of {told}")
+
+    def word(self, ahead=0):
+        return self.words[self.at + ahead] if self.at + ahead < len(self.words) else ""
+
+    def take(self, word=None):
+        found = self.word()
+        if word is not None and found != word:
+            raise Bad(f"{word} wanted in {self.words}")
+        self.at += 1
+        return found
+
+    def ordinal(self):
+        word = self.take()
+        if re.fullmatch(r"-?\d+", word):
+            return {int(word)}
+        if word == "chr":
+            self.take("(")
+            number = int(self.take())
+            self.take(")")
+            return {number}
+        if word.startswith("'"):
+            return {ord(word[1:-1].replace("''", "'"))}
+        if word.lower() in self.constants:
+            return self.constants[word.lower()]
+        raise Bad(f"no value: {word}")
+
+    def members(self):
+        found = []
+        self.take("[")
+        while self.word() != "]":
+            low = high = self.ordinal()
+            if self.word() == "..":
+                self.take()
+                high = self.ordinal()
+            found.append((low, high))
+            if self.word() == ",":
+                self.take()
+        self.take("]")
+        return ("set", found)
+
+    def value(self):
+        word = self.word()
+        if word == "nil":
+            self.take()
+            return None
+        if word == "object":
+            self.take()
+            return ("object", int(self.take()))
+        if word == "[":
+            return self.members()
+        if word == "(":
+            self.take()
+            parts = []
+            while self.word() != ")":
+                if self.word(1) == ":":
+                    self.at += 2
+                parts.append(self.value())
+                if self.word() == ",":
+                    self.take()
+            self.take(")")
+            return parts
+        if word.startswith("'") and (len(word) > 3 and word != "''''" or len(word) == 2):
+            self.take()
+            return ("text", word[1:-1].replace("''", "'"))
+        return ("ordinal", self.ordinal())
+
+
+def raw(words):
+    """A value as the reference tells it: a number, `nil`, `@OBJECT`, `{ MEMBERS }` or `[ PARTS ]`."""
+    word = words.pop(0)
+    if word == "nil":
+        return None
+    if word.startswith("@"):
+        return ("object", int(word[1:]))
+    if word == "{":
+        found = set()
+        while words[0] != "}":
+            found.add(int(words.pop(0)))
+        words.pop(0)
+        return ("set", found)
+    if word == "[":
+        parts = []
+        while words[0] != "]":
+            parts.append(raw(words))
+        words.pop(0)
+        return parts
+    return ("ordinal", int(word))
+
+
+def same(told, real, objects, todo):
+    """Whether a value that was told is one that the reference has. Objects are put beside one another."""
+    if told is None or real is None:
+        return told is None and real is None
+    if isinstance(real, list):
+        if isinstance(told, tuple) and told[0] == "text":
+            return len(told[1]) == len(real) and all(c == "." or ("ordinal", ord(c)) == part for c, part in zip(told[1], real))
+        if isinstance(told, tuple) and told[0] == "ordinal" and len(real) == 1:
+            return real[0][0] == "ordinal" and real[0][1] in told[1]
+        return isinstance(told, list) and len(told) == len(real) and all(same(a, b, objects, todo) for a, b in zip(told, real))
+    if not isinstance(told, tuple) or told[0] != real[0]:
+        return False
+    if told[0] == "ordinal":
+        return real[1] in told[1]
+    if told[0] == "object":
+        if objects.setdefault(told[1], real[1]) != real[1]:
+            return False
+        todo.append(told[1])
+        return True
+    found = set()
+    for low, high in told[1]:
+        for first in low:
+            for last in high:
+                found |= set(range(first, last + 1))
+    return found == real[1] or any(len(low) > 1 for low, _ in told[1]) and found >= real[1]
+
+
+def reference_of(told):
+    """The ending, the lines of the open calls, the frames with the values of their entries, and the objects."""
+    lines = told.splitlines()
+    ending, calls, frames, objects = lines[0].split(), [], [], {}
+    for line in lines[1:]:
+        words = line.split()
+        if words[0] == "called":
+            calls.append(int(words[1]))
+        elif words[0] == "frame":
+            frames.append((int(words[1]), []))
+        elif words[0] == "object":
+            objects[int(words[1])] = raw(words[2:])
+        elif words[0] == "routine":
+            frames[-1][1].append(("routine", int(words[1])))
+        else:
+            frames[-1][1].append(raw(words))
+    return ending, calls, frames, objects
+
+
+def names_of(shown):
+    """The names of the routines of a map, and of their variables."""
+    routines = []
+    for line in shown.splitlines():
+        words = line.split(" ")
+        if words[0] == "routine":
+            routines.append((words[5], []))
+        elif words[0] == "variable":
+            routines[int(words[1])][1].append(words[5])
+    return routines
+
+
+def compare_frame(call, frame, routines, constants, objects, todo):
+    routine, values = frame
+    name, variables = routines[routine]
+    if call["routine"] != name:
+        raise Bad(f"in {call['routine']}, and not in {name}")
+    if [told["name"] for told in call["variables"]] != variables:
+        raise Bad(f"variables {call['variables']} of {name}")
+    for told, real in zip(call["variables"], values):
+        if isinstance(real, tuple) and real[0] == "routine":
+            if told["value"] != routines[real[1]][0]:
+                raise Bad(f"{name}: {told}, and not {routines[real[1]][0]}")
+        elif not same(Values(told["value"], constants).value(), real, objects, todo):
+            raise Bad(f"{name}: {told}, and not {real}")
+
+
+def compare_found(told):
+    """Whether the value that the error found is one that is such an error."""
+    value, number = told.get("value"), told["number"]
+    if value is None:
+        return
+    low, high = told.get("low"), told.get("high")
+    if number == 1:
+        low, high = -(2**31), 2**31 - 1
+    if number in (3, 11):
+        low, high = 1, 2**31 - 1
+    if low is not None and low <= value <= high:
+        raise Bad(f"{told['text']}: {value} is no such error")
+
+
+def compare(text, told, real, shown):
+    """Compares what is told with what the reference has."""
+    ending, calls, frames, made = real
+    if told["ending"] != "error" or [told["number"], told["line"]] != [int(ending[1]), int(ending[2])]:
+        raise Bad(f"{told['ending']} {told.get('number')} at {told.get('line')}, and not {ending}")
+    compare_found(told)
+    if told["open"] != len(frames) or len(told["calls"]) != len(frames):
+        raise Bad(f"{told['open']} calls are open, and not {len(frames)}")
+    lines = [call["called"]["line"] for call in told["calls"] if "called" in call]
+    if lines != calls:
+        raise Bad(f"called at {lines}, and not at {calls}")
+    constants, routines, objects, todo = constants_of(text), names_of(shown), {}, []
+    for call, frame in zip(told["calls"], frames):
+        compare_frame(call, frame, routines, constants, objects, todo)
+    done = set()
+    while todo:
+        number = todo.pop()
+        if number in done:
+            continue
+        done.add(number)
+        if not same(Values(told["objects"][number - 1], constants).value(), made[objects[number]], objects, todo):
+            raise Bad(f"object {number}: {told['objects'][number - 1]}, and not {made[objects[number]]}")
+    return sum(len(frame[1]) for frame in frames) + len(done)
+
+
+def told_of(program, path, given):
+    """What `why` tells, or None where the text has no run that ends with an error."""
+    run = subprocess.run([program, "why", "--json", "--all", "--steps", STEPS, path], input=given, capture_output=True)
+    if run.returncode != 2:
+        return None
+    return json.loads(run.stderr.decode("latin-1").strip().split("\n")[-1])
+
+
+def map_of(program, path):
+    subprocess.run([program, "compile", "--map", f"{path}.map", path, f"{path}.img"], check=True, capture_output=True)
+    return open(f"{path}.map", encoding="latin-1").read()
+
+
+class End:
+    """A drawn program that ended with an error: its name, its text and input, what `why` tells, and its map."""
+
+    def __init__(self, name, text, given, told, shown):
+        self.name, self.text, self.given, self.told, self.shown = name, text, given, told, shown
+
+    def keep(self, folder):
+        os.makedirs(folder, exist_ok=True)
+        for ending, content in (("pas", self.text), ("in", self.given), ("json", json.dumps(self.told, indent=1))):
+            with open(f"{folder}/{self.name}.{ending}", "w", encoding="latin-1") as file:
+                file.write(content)
+
+
+def ends_of(asked, work):
+    """So many drawn programs that ended with an error, and how many were drawn."""
+    found, number = [], 0
+    while len(found) < asked.count:
+        if number % CHANGES == 0:
+            whole, given = drawn(random.Random(f"{asked.seed}-{number // CHANGES}"))
+        text = changed(random.Random(f"{asked.seed}-{number}"), whole)
+        path = f"{work}/p.pas"
+        with open(path, "w", encoding="latin-1") as file:
+            file.write(text)
+        told = told_of(asked.program, path, given.encode())
+        if told is not None:
+            found.append(End(f"{asked.seed}-{number}", text, given, told, map_of(asked.program, path)))
+        number += 1
+    return found, number
+
+
+def main():
+    words = argparse.ArgumentParser()
+    words.add_argument("seed", nargs="?", type=int, default=1)
+    words.add_argument("count", nargs="?", type=int, default=100)
+    words.add_argument("--program", default=os.path.join(reference.TOP, "pascal"))
+    words.add_argument("--reference")
+    words.add_argument("--keep")
+    asked = words.parse_args()
+    values = bad = late = 0
+    with tempfile.TemporaryDirectory(prefix="ends-") as work:
+        ends, tried = ends_of(asked, work)
+        inputs = [end.text.encode("latin-1") + b"\x01" + end.given.encode() for end in ends]
+        for end, answer in zip(ends, reference.answers(work, asked.reference, inputs)):
+            shown = answer.decode("latin-1")
+            if shown.split()[:1] in ([], ["deep"], ["more"], ["memory"]):
+                late += 1
+                continue
+            try:
+                values += compare(end.text, end.told, reference_of(shown), end.shown)
+            except (Bad, KeyError, IndexError, ValueError) as fault:
+                bad += 1
+                print(f"{end.name}: {type(fault).__name__} {fault}", flush=True)
+                if asked.keep:
+                    end.keep(asked.keep)
+    print(f"seed {asked.seed}: {len(ends)} ends with an error of {tried} programs, {values} values and objects; {bad} differ, {late} are too long for the reference")
+    sys.exit(bad != 0)
+
+
+if __name__ == "__main__":
+    main()

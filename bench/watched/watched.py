@@ -1,0 +1,353 @@
+#!/usr/bin/env python3
+"""Compares what is told of watched runs with runs that are not watched, and with programs that tell of themselves.
+
+usage: watched.py [SEED [COUNT]] [--program PATH] [--changed] [--only WORD] [--keep FOLDER] [--files FILE.pas ..]
+
+draws so many programs with their inputs (bench/drawing), or takes the FILEs, without input. Of each:
+- usage: with the most stack and heap that `go --usage` tells, and as many steps, `go` does the same; with 4 bytes of
+  stack or heap less it stops for those, and with a step less it stops for steps.
+- profile: the steps by routine and those by line add up to the steps of the run.
+- cover: each line has the statements that a parser of its own finds there, and the counts are those of the same program
+  with a counter in each statement, which writes them at its end.
+- trace: the values that assignments to variables of ordinal types give are those of the same program, in which each
+  such assignment writes its place and its value; both in the order of the run. What the lines tell to be written is what
+  the run writes.
+--changed changes numbers of drawn programs at random, so that many end with an error: of these only usage, profile and
+trace are compared.
+"""
+import argparse, collections, itertools, json, os, random, re, subprocess, sys, tempfile
+
+sys.dont_write_bytecode = True
+HERE = os.path.dirname(os.path.abspath(__file__))
+BENCH = os.path.dirname(HERE)
+sys.path.insert(0, BENCH)
+from drawing.programs import drawn
+
+NUMBERS = [0, 0, 1, 2, 3, 7, 10, 100, 255, 256, 1000, 32768, 70000, 2147483647]
+STEPS = 20_000_000
+STACK = HEAP = 4_194_304
+SECONDS = 120
+STOPPED_FOR = {"stack": "out of stack", "heap": "out of heap", "steps": "step limit"}
+
+
+def parser():
+    """The module that reads texts with a parser of its own, without what it does as a program."""
+    path = f"{BENCH}/mapped/mapped.py"
+    source = open(path).read()
+    module = type(sys)("mapped")
+    exec(compile(re.sub(r"\nmain\(\)\n\Z", "\n", source), path, "exec"), module.__dict__)
+    return module
+
+
+mapped = parser()
+
+
+class Differs(Exception):
+    pass
+
+
+class Program:
+    """The command, or the program that tries ps_trace by itself (--bare), which takes other words."""
+
+    def __init__(self, path, bare):
+        self.path, self.bare = path, bare
+
+    def call(self, mode, source, given, stack=STACK, heap=HEAP, steps=STEPS):
+        limits = ["--stack", str(stack), "--heap", str(heap), "--steps", str(steps)]
+        words = {"go": ["go", *limits, source], "usage": ["go", "--usage", *limits, source], "json": ["trace", "--json", *limits, source]}
+        told = words.get(mode, [mode, *limits, source])
+        if self.bare:
+            told = [{"go": "usage"}.get(mode, mode), str(stack), str(heap), str(steps), source]
+        ran = subprocess.run([self.path, *told], input=given, capture_output=True, timeout=SECONDS)
+        message = ran.stderr.decode("latin-1")
+        if mode == "go":
+            message = re.sub(r"(?m)^steps \d+, most stack .*\n", "", message)
+        return ran.returncode, ran.stdout, message
+
+
+def compare_usage(program, source, given):
+    status, output, message = program.call("usage", source, given)
+    told = re.search(r"(?m)^steps (\d+), most stack (\d+) bytes, most heap (\d+) bytes$", message)
+    if not told:
+        raise Differs(f"no usage: {message}")
+    plain = program.call("go", source, given)
+    if (status, output) != plain[:2] or plain[2] != message.replace(told.group() + "\n", ""):
+        raise Differs("the run with --usage is another")
+    steps, stack, heap = (int(word) for word in told.groups())
+    limited = program.call("go", source, given, stack, heap, steps)
+    if limited != plain:
+        raise Differs(f"with {told.group()}: {limited[0]} {limited[2]}")
+    for name, less in (("stack", (stack - 4, heap, steps)), ("heap", (stack, heap - 4, steps)), ("steps", (stack, heap, steps - 1))):
+        if min(less) >= 0 and STOPPED_FOR[name] not in plain[2]:
+            ended = program.call("go", source, given, *less)
+            if ended == plain:
+                raise Differs(f"with less {name} than {told.group()} it is the same run")
+            if STOPPED_FOR[name] not in ended[2]:
+                raise Differs(f"with less {name}: {ended[2]}")
+
+
+def compare_profile(program, source, given):
+    _, _, message = program.call("profile", source, given)
+    lines = message[message.index(" steps\n") - 14 :].splitlines()
+    steps, parts, sums = int(lines[0].split()[0]), 0, []
+    for line in lines[1:]:
+        if line.startswith("         steps"):
+            sums.append(0)
+        else:
+            sums[-1] += int(line.split()[0])
+    if sums != [steps, steps]:
+        raise Differs(f"{steps} steps are {sums}")
+
+
+class Text:
+    """A text with its statements, by a parser that shares nothing with the compiler."""
+
+    def __init__(self, text):
+        self.text = text
+        self.tokens = mapped.tokens_of(text)
+        self.blocks = mapped.blocks_of(self.tokens)
+        self.statements = sorted((one for _, all in self.blocks.values() for one in all), key=lambda one: one.first)
+
+    def offset(self, token):
+        return self.tokens[token][1]
+
+    def is_with(self, one):
+        return self.tokens[one.first][0] == "with"
+
+    def place(self, one):
+        return mapped.place_of(self.text, self.offset(one.first))
+
+    def behind(self, one):
+        """The offset behind a statement's last token."""
+        last = one.end - 1
+        spelled, at = self.tokens[last]
+        return at + len(spelled)
+
+    def with_pieces(self, pieces):
+        """The text with pieces put in at offsets; of those at one offset the first in the list is first."""
+        out, at = b"", 0
+        for offset, _, piece in sorted(pieces, key=lambda p: p[:2]):
+            out += self.text[at:offset] + piece
+            at = offset
+        return out + self.text[at:]
+
+
+def wrapped(text, ones, before, behind):
+    """The pieces that put text before and behind statements, the outer ones outside."""
+    pieces = []
+    for one in ones:
+        if one.end == one.first:  # an empty one
+            continue
+        pieces.append((text.offset(one.first), one.first * 1000 + len(text.tokens) - one.end, b"begin " + before(one)))
+        pieces.append((text.behind(one), -one.first, behind(one) + b" end"))
+    return pieces
+
+
+def counting(text, ones):
+    """The program in which each of these statements counts how often it is done."""
+    number = {id(one): k for k, one in enumerate(ones)}
+    last = max(one.end for one in text.statements)
+    pieces = wrapped(text, ones, lambda one: b"zzc[%d] := zzc[%d] + 1; " % (number[id(one)], number[id(one)]), lambda one: b"")
+    head = next(k for k, (word, _) in enumerate(text.tokens) if word == ";")
+    begin = max(at for at in text.blocks)
+    first_part = next((at for k, (word, at) in enumerate(text.tokens) if k > head and word in ("procedure", "function")), None)
+    declared = b" zzc: array [0..%d] of integer; zzk: integer; " % max(len(ones) - 1, 0)
+    words = [word for word, _ in text.tokens]
+    depth_var = next((k for k in range(head, len(words)) if words[k] in ("var", "procedure", "function") or k == begin), begin)
+    at = text.offset(depth_var)
+    if words[depth_var] == "var":
+        pieces.append((at + 3, 0, declared))
+    else:
+        pieces.append((at, -10**9, b"var" + declared))
+    pieces.append((text.offset(begin) + 5, -1, b" for zzk := 0 to %d do zzc[zzk] := 0; " % max(len(ones) - 1, 0)))
+    final = text.offset(last) if last < len(text.tokens) else len(text.text)
+    pieces.append((final, 10**9, b"; for zzk := 0 to %d do write(chr(1), zzc[zzk]:1, chr(2)) " % max(len(ones) - 1, 0)))
+    return text.with_pieces(pieces)
+
+
+def counts_told(message, lines):
+    """For each line of the text the counts that stand beside it, and the last line."""
+    told = message.splitlines()
+    shown = told[-1 - lines : -1]
+    counts = [line[:12].split() for line in shown]
+    return [[0 if word == "never" else int(word) for word in words] for words in counts], told[-1]
+
+
+def compare_cover(program, source, given):
+    text = Text(open(source, "rb").read())
+    status, output, message = program.call("cover", source, given)
+    if status:
+        return False
+    ones = [one for one in text.statements if one.acts or text.is_with(one)]
+    other = source[:-4] + "_counting.pas"
+    with open(other, "wb") as file:
+        file.write(counting(text, ones))
+    ended = program.call("go", other, given, steps=10 * STEPS)
+    if ended[0]:
+        raise Differs(f"the counting program: {ended[2]}")
+    wanted = [int(word) for word in re.findall(rb"\x01(\d+)\x02", ended[1])]
+    if re.sub(rb"\x01\d+\x02", b"", ended[1]) != output:
+        raise Differs("the counting program writes something else")
+    lines = text.text.decode("latin-1").split("\n")
+    lines = lines[:-1] if lines[-1] == "" else lines
+    shown, last = counts_told(message, len(lines))
+    by_line = collections.defaultdict(list)
+    for one, count in zip(ones, wanted):
+        by_line[text.place(one)[0]].append((count, text.is_with(one)))
+    for number, counts in enumerate(shown, 1):
+        if not are_told(counts, by_line[number]):
+            raise Differs(f"line {number}: {counts}, wanted {by_line[number]}")
+    found = re.fullmatch(r"(\d+) statements, (\d+) never done", last)
+    sure = [count for one, count in zip(ones, wanted) if not text.is_with(one)]
+    if not found or not (len(sure) <= int(found[1]) <= len(wanted) and sure.count(0) <= int(found[2]) <= wanted.count(0)):
+        raise Differs(last)
+    return True
+
+
+def are_told(counts, wanted):
+    """Whether a line's counts are these; those of `with` may be left out, since it may need no code."""
+    options = [(False, True) if may else (True,) for _, may in wanted]
+    for chosen in itertools.product(*options):
+        told = [count for (count, _), is_told in zip(wanted, chosen) if is_told]
+        if counts == told or (len(counts) == 1 and told and set(told) == set(counts)):
+            return True
+    return False
+
+
+def telling(text, ones):
+    """The program in which each of these assignments tells its place and the value."""
+    def behind(one):
+        name = text.tokens[one.first][0].encode()
+        line, column = text.place(one)
+        return b"; write(chr(1), '%d:%d=', ord(%s):1, chr(2))" % (line, column, name)
+    return text.with_pieces(wrapped(text, ones, lambda one: b"", behind))
+
+
+def ordinal_names(text):
+    """Names that are declared only with the types that any value of can be told as a number: `integer`, `char`, `Boolean`."""
+    kinds = collections.defaultdict(set)
+    words = [word for word, _ in text.tokens]
+    for k, word in enumerate(words):
+        if word != ":" or k + 1 >= len(words) or words[k + 1] == "=":
+            continue
+        names, at = [], k - 1
+        while at >= 0 and re.match(r"[a-z][a-z0-9_]*$", words[at]):
+            names.append(words[at])
+            if words[at - 1] != ",":
+                break
+            at -= 2
+        for name in names:
+            kinds[name].add(words[k + 1])
+    routines = {words[k + 1] for k, word in enumerate(words[:-1]) if word in ("function", "procedure", "program")}
+    return {name for name, types in kinds.items() if types <= {"integer", "char", "boolean"} and name not in routines}
+
+
+def number_of(value):
+    """The number of a value as it is told."""
+    if value in ("false", "true"):
+        return int(value == "true")
+    found = re.fullmatch(r"chr\((\d+)\)", value)
+    if found:
+        return int(found[1])
+    if value.startswith("'"):
+        return ord(value[1])
+    return int(value)
+
+
+def compare_trace(program, source, given):
+    text = Text(open(source, "rb").read())
+    names = ordinal_names(text)
+    ones = [one for one in text.statements if text.tokens[one.first][0] in names and one.first + 1 < len(text.tokens) and text.tokens[one.first + 1][0] == ":="]
+    status, output, message = program.call("json", source, given)
+    if status == 4:  # the other program would be cut off elsewhere
+        return False
+    told = [json.loads(line) for line in message.splitlines() if line.startswith("{")]
+    if "".join(line["written"] for line in told).encode("latin-1") != output:
+        raise Differs("the trace writes something else")
+    read = "".join(line["read"] for line in told).encode("latin-1")
+    if not given.startswith(read):
+        raise Differs("the trace reads something else")
+    other = source[:-4] + "_telling.pas"
+    with open(other, "wb") as file:
+        file.write(telling(text, ones))
+    ended = program.call("go", other, given, steps=10 * STEPS)
+    if re.sub(rb"\x01[^\x02]*\x02", b"", ended[1]) != output:
+        raise Differs("the telling program writes something else")
+    wanted = [(int(a), int(b), int(c)) for a, b, c in re.findall(rb"\x01(\d+):(\d+)=(-?\d+)\x02", ended[1])]
+    places = {text.place(one) for one in ones}
+    got = []
+    for line in told:
+        place = (line["line"], line["column"])
+        if place in places and line["changed"]:
+            name = text.tokens[next(one.first for one in ones if text.place(one) == place)][0]
+            values = [change["value"] for change in line["changed"] if change["name"].lower().split(".")[-1] == name]
+            got += [(*place, number_of(value)) for value in values]
+    if got != wanted:
+        first = next((k for k, pair in enumerate(zip(got, wanted)) if pair[0] != pair[1]), min(len(got), len(wanted)))
+        raise Differs(f"value {first}: {got[first:first+1]}, wanted {wanted[first:first+1]}; {len(got)} and {len(wanted)} values")
+    return True
+
+
+def changed(draw, text):
+    places = list(re.finditer(r"(?<![\w.])\d+(?!\w)", text))
+    for found in sorted(draw.sample(places, min(len(places), draw.randint(1, 3))), key=re.Match.start, reverse=True):
+        text = text[: found.start()] + str(draw.choice(NUMBERS)) + text[found.end() :]
+    return text
+
+
+COMPARED = {"usage": compare_usage, "profile": compare_profile, "cover": compare_cover, "trace": compare_trace}
+
+
+def compared(program, name, source, given, asked, sums):
+    for kind, compare in COMPARED.items():
+        if (asked.only and kind != asked.only) or (asked.changed and kind == "cover"):
+            continue
+        try:
+            sums[kind, compare(program, source, given) is not False] += 1
+        except subprocess.TimeoutExpired:
+            sums[kind, "late"] += 1
+        except (Differs, mapped.Bad, KeyError, IndexError, ValueError) as fault:
+            sums[kind, "differs"] += 1
+            print(f"{name}: {kind}: {type(fault).__name__} {fault}", flush=True)
+            if asked.keep:
+                os.makedirs(asked.keep, exist_ok=True)
+                for path, content in ((f"{name}.pas", open(source, "rb").read()), (f"{name}.input", given)):
+                    with open(f"{asked.keep}/{path}", "wb") as file:
+                        file.write(content)
+
+
+def main():
+    words = argparse.ArgumentParser()
+    words.add_argument("seed", nargs="?", type=int, default=1)
+    words.add_argument("count", nargs="?", type=int, default=100)
+    words.add_argument("--program")
+    words.add_argument("--bare", action="store_true")
+    words.add_argument("--changed", action="store_true")
+    words.add_argument("--only")
+    words.add_argument("--keep")
+    words.add_argument("--files", nargs="*", default=[])
+    asked = words.parse_args()
+    if not asked.program:
+        from built import current_program
+        asked.program = current_program()
+    program, sums = Program(asked.program, asked.bare), collections.Counter()
+    with tempfile.TemporaryDirectory(prefix="watched-") as work:
+        cases = [(os.path.basename(path)[:-4], open(path, "rb").read(), b"") for path in asked.files]
+        for number in range(0 if asked.files else asked.count):
+            draw = random.Random(f"{asked.seed}-{number}")
+            text, given = drawn(draw)
+            cases.append((f"{asked.seed}-{number}", (changed(draw, text) if asked.changed else text).encode(), given.encode()))
+        for name, text, given in cases:
+            source = f"{work}/p.pas"
+            with open(source, "wb") as file:
+                file.write(text)
+            if program.call("go", source, given)[0] == 1:
+                sums["refused", True] += 1
+                continue
+            compared(program, name, source, given, asked, sums)
+    print(", ".join(f"{kind} {word if isinstance(word, str) else 'agrees' if word else 'not compared'}: {count}" for (kind, word), count in sorted(sums.items(), key=str)))
+    sys.exit(any(word == "differs" for _, word in sums))
+
+
+if __name__ == "__main__":
+    main()

@@ -1,0 +1,155 @@
+//! What words of the code store and load.
+
+use risc_image::ImageView;
+use risc_machine::Machine;
+use risc_word::{Condition, Instr, Width, decode};
+use std::alloc::{AllocError, Global};
+
+// The address at which a byte is taken and put.
+const CONSOLE: u32 = 0xFF_FFC8;
+
+// Addresses are below it.
+const ADDRESSES: u32 = 0x100_0000;
+
+/// What a word does to memory. Registers are told by their numbers.
+#[derive(Clone, Copy)]
+pub(crate) enum Access {
+    Nothing,
+    /// It only goes on elsewhere.
+    Go,
+    Load {
+        to: u8,
+        base: u8,
+        offset: u32,
+    },
+    Store {
+        from: u8,
+        base: u8,
+        offset: u32,
+        bytes: u32,
+    },
+}
+
+/// What happens at a step.
+#[derive(Clone, Copy)]
+pub(crate) enum Event {
+    Nothing,
+    /// Bytes of memory are stored, from an address on.
+    Stored { at: u32, bytes: u32 },
+    Put(u8),
+    /// A byte is asked for, which the register with this number has behind the step, or a number above all bytes where
+    /// there is none.
+    Taken(u8),
+}
+
+fn bytes_of(width: Width) -> u32 {
+    match width {
+        Width::Word => 4,
+        Width::Byte => 1,
+    }
+}
+
+// What a branch does: one that comes back later, or under a condition, does more than go on elsewhere.
+fn go_of(condition: Condition, link: bool) -> Access {
+    match condition {
+        Condition::Always => { if link { Access::Nothing } else { Access::Go } }
+        _ => Access::Nothing,
+    }
+}
+
+fn access_of(instr: Instr) -> Access {
+    match instr {
+        Instr::Load {
+            width: _,
+            to,
+            base,
+            offset,
+        } => Access::Load {
+            to: to.number(),
+            base: base.number(),
+            offset: offset.value().cast_unsigned(),
+        },
+        Instr::Store {
+            width,
+            from,
+            base,
+            offset,
+        } => Access::Store {
+            from: from.number(),
+            base: base.number(),
+            offset: offset.value().cast_unsigned(),
+            bytes: bytes_of(width),
+        },
+        Instr::Branch {
+            condition,
+            link,
+            target: _,
+        } => go_of(condition, link),
+        _ => Access::Nothing,
+    }
+}
+
+// What a word does.
+fn access_in(word: u32) -> Access {
+    match decode(word) {
+        Some(instr) => access_of(instr),
+        None => Access::Nothing,
+    }
+}
+
+/// What the words of an image do to memory, by their numbers.
+pub(crate) fn accesses_of(alloc: Global, image: &ImageView<'_>) -> Result<Vec<Access>, AllocError> {
+    let mut accesses = Vec::new(alloc);
+    for at in 0..image.words() {
+        accesses.push(access_in(image.word(at).unwrap_or(0)))?;
+    }
+    Ok(accesses)
+}
+
+// The address that a register and an offset give.
+fn address_on(machine: &Machine, base: u8, offset: u32) -> u32 {
+    content_of(machine, base).wrapping_add(offset) % ADDRESSES
+}
+
+/// What the register with a number holds.
+pub(crate) fn content_of(machine: &Machine, register: u8) -> u32 {
+    if register < 16 {
+        machine.reg(register)
+    } else {
+        0
+    }
+}
+
+/// What will happen at the next step.
+#[inline(always)]
+pub(crate) fn event_at(machine: &Machine, access: Access) -> Event {
+    match access {
+        Access::Nothing | Access::Go => Event::Nothing,
+        Access::Load { to, base, offset } => {
+            if address_on(machine, base, offset) == CONSOLE {
+                Event::Taken(to)
+            } else {
+                Event::Nothing
+            }
+        }
+        Access::Store {
+            from,
+            base,
+            offset,
+            bytes,
+        } => stored(
+            address_on(machine, base, offset),
+            bytes,
+            content_of(machine, from),
+        ),
+    }
+}
+
+// What a store is.
+fn stored(at: u32, bytes: u32, word: u32) -> Event {
+    if at == CONSOLE {
+        Event::Put((word % 256) as u8)
+    } else {
+        Event::Stored { at, bytes }
+    }
+}

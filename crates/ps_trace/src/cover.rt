@@ -1,0 +1,194 @@
+//! What was covered: how often each statement was done, beside the lines of the text.
+
+use crate::counts::Counts;
+use crate::lines::lines_of;
+use crate::prepared::Prepared;
+use crate::sites::{Statement, small};
+use ps_map::Routine;
+use std::alloc::{AllocError, Global};
+
+// The statements of a line, from the first of those that are left on.
+fn statements_on(rest: &[Statement], line: u32) -> usize {
+    rest.partition_point(|statement| statement.place.line <= line)
+}
+
+// Whether all counts are the same one.
+fn are_same(counts: &[u64]) -> bool {
+    match counts.first() {
+        Some(first) => counts.iter().all(|count| count == first),
+        None => true,
+    }
+}
+
+// A count by itself.
+fn count_told(alloc: Global, count: u64) -> Result<String, AllocError> {
+    if count == 0 {
+        String::from_str(alloc, "never")
+    } else {
+        format!(in alloc; "{count}")
+    }
+}
+
+// The counts of the statements on a line, as they are told: one where all are the same.
+fn counts_told(alloc: Global, counts: &[u64]) -> Result<String, AllocError> {
+    let Some(first) = counts.first() else {
+        return Ok(String::new(alloc));
+    };
+    if are_same(counts) {
+        return count_told(alloc, *first);
+    }
+    let mut out = String::new(alloc);
+    for (at, count) in counts.iter().enumerate() {
+        let between = if at == 0 { "" } else { " " };
+        let told = format!(in alloc; "{between}{count}")?;
+        out.push_str(told.as_str())?;
+    }
+    Ok(out)
+}
+
+// The mark of a line: whether a statement on it was never done.
+fn mark_of(counts: &[u64]) -> &'static str {
+    if counts.iter().any(|count| *count == 0) {
+        "!"
+    } else {
+        "|"
+    }
+}
+
+// Adds a line with the counts of the statements on it.
+fn put_line(alloc: Global, out: &mut String, line: &str, counts: &[u64]) -> Result<(), AllocError> {
+    let told = counts_told(alloc, counts)?;
+    let shown = told.as_str();
+    let mark = mark_of(counts);
+    let told = format!(in alloc; "{shown:>12} {mark} {line}\n")?;
+    out.push_str(told.as_str())
+}
+
+// How many statements were never done.
+fn never_done(counts: &Counts) -> usize {
+    counts.done.iter().filter(|count| **count == 0).count()
+}
+
+// The last line: how many statements there are, and how many of them were never done.
+fn put_sum(alloc: Global, out: &mut String, counts: &Counts) -> Result<(), AllocError> {
+    let all = counts.done.len();
+    let never = never_done(counts);
+    let told = if counts.runs == 1 {
+        format!(in alloc; "{all} statements, {never} never done\n")?
+    } else {
+        let runs = counts.runs;
+        format!(in alloc; "{all} statements, {never} never done in {runs} runs\n")?
+    };
+    out.push_str(told.as_str())
+}
+
+/// The lines of a text, each with how often the statements were done that begin on it, and in the last line how many
+/// statements there are and how many were never done. A line with a statement that was never done has a `!`.
+///
+/// A statement without code of its own, as an empty one or `begin` with its `end`, has no count.
+pub fn coverage_told(
+    alloc: Global,
+    text: &[u8],
+    prepared: &Prepared,
+    counts: &Counts,
+) -> Result<String, AllocError> {
+    let _ = prepared;
+    let lines = lines_of(alloc, text)?;
+    let mut out = String::new(alloc);
+    let mut statements = counts.sites.statements.as_slice();
+    let mut done = counts.done.as_slice();
+    for (at, line) in lines.iter().enumerate() {
+        let here = statements_on(statements, small(at).saturating_add(1));
+        put_line(alloc, &mut out, *line, done.get(..here).unwrap_or(&[]))?;
+        statements = statements.get(here..).unwrap_or(&[]);
+        done = done.get(here..).unwrap_or(&[]);
+    }
+    put_sum(alloc, &mut out, counts)?;
+    Ok(out)
+}
+
+// How often a routine was entered.
+fn entered(counts: &Counts, routine: &Routine) -> u64 {
+    counts
+        .words
+        .get(routine.entry as usize)
+        .copied()
+        .unwrap_or(0)
+}
+
+// Adds the records of the routines.
+fn put_routines(
+    alloc: Global,
+    out: &mut String,
+    routines: &[Routine],
+    counts: &Counts,
+) -> Result<(), AllocError> {
+    let mut hit: u64 = 0;
+    for routine in routines {
+        let line = routine.begin.line;
+        let name = routine.name.as_str();
+        let count = entered(counts, routine);
+        let told = format!(in alloc; "FN:{line},{name}\nFNDA:{count},{name}\n")?;
+        out.push_str(told.as_str())?;
+        if count > 0 {
+            hit = hit.saturating_add(1);
+        }
+    }
+    let all = routines.len();
+    let told = format!(in alloc; "FNF:{all}\nFNH:{hit}\n")?;
+    out.push_str(told.as_str())
+}
+
+// How often the statement of a line was done that was done most, where the first statement of the line is the first one.
+fn most_done(statements: &[Statement], done: &[u64], line: u32) -> u64 {
+    let here = statements_on(statements, line);
+    let mut most: u64 = 0;
+    for count in done.get(..here).unwrap_or(&[]) {
+        most = most.max(*count);
+    }
+    most
+}
+
+// Adds the records of the lines that have statements.
+fn put_lines(alloc: Global, out: &mut String, counts: &Counts) -> Result<(), AllocError> {
+    let mut found: u64 = 0;
+    let mut hit: u64 = 0;
+    let mut line: u32 = 0;
+    let statements = counts.sites.statements.as_slice();
+    for (at, statement) in statements.iter().enumerate() {
+        if statement.place.line == line {
+            continue;
+        }
+        line = statement.place.line;
+        let rest = statements.get(at..).unwrap_or(&[]);
+        let most = most_done(rest, counts.done.get(at..).unwrap_or(&[]), line);
+        let told = format!(in alloc; "DA:{line},{most}\n")?;
+        out.push_str(told.as_str())?;
+        found = found.saturating_add(1);
+        if most > 0 {
+            hit = hit.saturating_add(1);
+        }
+    }
+    let told = format!(in alloc; "LF:{found}\nLH:{hit}\n")?;
+    out.push_str(told.as_str())
+}
+
+/// The same in the form that `lcov` and `genhtml` read. `name` is the path of the text. A line with several statements
+/// has the count of the one that was done most.
+pub fn lcov_told(
+    alloc: Global,
+    name: &str,
+    prepared: &Prepared,
+    counts: &Counts,
+) -> Result<String, AllocError> {
+    let mut out = format!(in alloc; "TN:\nSF:{name}\n")?;
+    put_routines(
+        alloc,
+        &mut out,
+        prepared.text.map.routines.as_slice(),
+        counts,
+    )?;
+    put_lines(alloc, &mut out, counts)?;
+    out.push_str("end_of_record\n")?;
+    Ok(out)
+}

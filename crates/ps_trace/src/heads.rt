@@ -1,0 +1,98 @@
+//! Heads of statements: of one that contains others the part that is its own, of others the whole.
+
+use crate::sites::Statement;
+use ps_map::Lines;
+use ps_scan::{Kind, Token};
+use ps_text::{Source, Span};
+use std::alloc::{AllocError, Global};
+
+// The number of the token that begins at an offset or behind it.
+fn token_at(tokens: &[Token], offset: u32) -> usize {
+    tokens.partition_point(|token| token.span.from < offset)
+}
+
+// The `until` of the `repeat` at a token, whose own part begins there; any other token as it is.
+fn own_part(tokens: &[Token], at: usize) -> usize {
+    let mut depth: u32 = 0;
+    for (distance, token) in tokens.get(at..).unwrap_or(&[]).iter().enumerate() {
+        match token.kind {
+            Kind::Repeat => depth = depth.saturating_add(1),
+            Kind::Until => depth = depth.saturating_sub(1),
+            _ => {}
+        }
+        if depth == 0 {
+            return at.saturating_add(distance);
+        }
+    }
+    at
+}
+
+// How many tokens the head has whose first one is the first of these.
+fn length(tokens: &[Token]) -> usize {
+    for (distance, token) in tokens.iter().enumerate() {
+        match token.kind {
+            Kind::Then | Kind::Do | Kind::Of => return distance.saturating_add(1),
+            Kind::Semicolon | Kind::End | Kind::Else | Kind::Until if distance > 0 => {
+                return distance;
+            }
+            _ => {}
+        }
+    }
+    tokens.len()
+}
+
+// Where the head is of the statement that begins at an offset.
+fn head_at(tokens: &[Token], offset: u32) -> Span {
+    let first = own_part(tokens, token_at(tokens, offset));
+    let rest = tokens.get(first..).unwrap_or(&[]);
+    let last = length(rest).saturating_sub(1);
+    match (rest.first(), rest.get(last)) {
+        (Some(first), Some(last)) => Span {
+            from: first.span.from,
+            to: last.span.to,
+        },
+        _ => Span {
+            from: offset,
+            to: offset,
+        },
+    }
+}
+
+/// Where the heads of statements are.
+pub(crate) fn heads_of(
+    alloc: Global,
+    source: &Source<'_>,
+    tokens: &[Token],
+    statements: &[Statement],
+) -> Result<Vec<Span>, AllocError> {
+    let lines = Lines::new(alloc, source.bytes())?;
+    let mut heads = Vec::new(alloc);
+    for statement in statements {
+        heads.push(head_at(tokens, lines.offset_of(statement.place)))?;
+    }
+    Ok(heads)
+}
+
+fn written<'a>(source: &Source<'a>, span: Span) -> &'a str {
+    if span.from <= span.to && span.to <= source.len() {
+        str::from_utf8(source.slice(span)).unwrap_or("")
+    } else {
+        ""
+    }
+}
+
+/// A head in one line: each stretch of spaces and ends of lines in it is one space.
+pub(crate) fn head_told(
+    alloc: Global,
+    source: &Source<'_>,
+    head: Span,
+) -> Result<String, AllocError> {
+    let mut out = String::new(alloc);
+    for word in written(source, head).split_whitespace() {
+        if !out.is_empty() {
+            out.push_str(" ")?;
+        }
+        out.push_str(word)?;
+    }
+    Ok(out)
+}

@@ -1,0 +1,31 @@
+//! Code: runs that are watched: what they take, how often each statement is done, where the steps go, and each statement
+//! as it is done.
+//!
+//! A run that is watched is the run that there is without it. What is told of it is advice: no contract depends on it.
+#![tactic(auto)]
+
+mod accesses;
+mod counts;
+mod cover;
+mod heads;
+mod lines;
+mod memory;
+mod naming;
+mod notes;
+mod prepared;
+mod profile;
+mod sites;
+mod telling;
+mod traced;
+mod tracer;
+mod usage;
+mod watch;
+
+pub use counts::{Counts, no_counts, run_counted};
+pub use cover::{coverage_told, lcov_told};
+pub use prepared::{Prepared, prepare};
+pub use profile::profile_told;
+pub use traced::{Traced, run_traced};
+pub use tracer::{Choice, Teller};
+pub use usage::{Measured, Usage, run_measured, usage_told};
+pub use watch::{Watch, run_image_watched};

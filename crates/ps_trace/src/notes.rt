@@ -1,0 +1,171 @@
+//! What is noted of a run while it is followed: the statements that are under way, and what they store, write and take.
+
+use crate::memory::word_at;
+use crate::naming::Stretch;
+use ps_why::Object;
+use risc_machine::Machine;
+use std::alloc::{AllocError, Global};
+
+// The register of the program block's frame, and where that has the heap's next address.
+const PROGRAM: u8 = 13;
+
+const NEXT: u32 = 272;
+
+// At most so many stretches of memory are noted of a statement.
+const MOST_STRETCHES: usize = 1_000;
+
+/// What is under way in a frame: a statement, or its own part between two others.
+#[derive(Clone, Copy)]
+pub(crate) struct Act {
+    pub(crate) frame: u32,
+    pub(crate) statement: u32,
+    /// Whether it did more than go on elsewhere.
+    pub(crate) acts: bool,
+    /// How much was noted of those around it.
+    pub(crate) stores: usize,
+    pub(crate) written: usize,
+    pub(crate) taken: usize,
+    pub(crate) at_end: bool,
+    /// How many steps were made when its frame was the innermost one for the last time.
+    pub(crate) steps: u64,
+}
+
+/// What was seen so far.
+#[derive(Drop)]
+pub(crate) struct Notes {
+    /// What is under way, that of the outermost frame first.
+    pub(crate) open: Vec<Act>,
+    /// What they stored, wrote and took, each behind those around it.
+    pub(crate) stores: Vec<Stretch>,
+    pub(crate) written: Vec<u8>,
+    pub(crate) taken: Vec<u8>,
+    /// The register in which the byte comes that the last step asked for.
+    pub(crate) awaited: Option<u8>,
+    /// The objects, in the order in which they were made.
+    pub(crate) objects: Vec<Object>,
+    /// The heap's next address when they were last looked at.
+    pub(crate) next: u32,
+    /// Where the objects begin that the act has made which is told; no address where there are none.
+    pub(crate) fresh: u32,
+    /// How many steps were made.
+    pub(crate) steps: u64,
+    pub(crate) lines: u64,
+    /// Whether each line was passed on.
+    pub(crate) is_whole: bool,
+}
+
+impl Notes {
+    pub(crate) fn new(alloc: Global) -> Notes {
+        Notes {
+            open: Vec::new(alloc),
+            stores: Vec::new(alloc),
+            written: Vec::new(alloc),
+            taken: Vec::new(alloc),
+            awaited: None,
+            objects: Vec::new(alloc),
+            next: 0,
+            fresh: u32::MAX,
+            steps: 0,
+            lines: 0,
+            is_whole: true,
+        }
+    }
+
+    /// A store is noted: it makes the last stretch longer, or is a new one.
+    pub(crate) fn note_store(&mut self, from: u32, bytes: u32) -> Result<(), AllocError> {
+        let first = match self.open.last() {
+            Some(act) => act.stores,
+            None => return Ok(()),
+        };
+        let to = from.saturating_add(bytes);
+        let count = self.stores.len();
+        if first < count {
+            if let Some(last) = self.stores.last_mut() {
+                if last.to == from {
+                    last.to = to;
+                    return Ok(());
+                }
+                if last.from <= from && to <= last.to {
+                    return Ok(());
+                }
+            }
+        }
+        if count < first.saturating_add(MOST_STRETCHES) {
+            self.stores.push(Stretch { from, to })?;
+        }
+        Ok(())
+    }
+
+    /// What a byte that was asked for has come to: a number above all bytes where there was none.
+    pub(crate) fn note_taken(&mut self, value: u32) -> Result<(), AllocError> {
+        match u8::try_from(value) {
+            Ok(byte) => {
+                self.taken.push(byte)?;
+                Ok(())
+            }
+            Err(_) => {
+                if let Some(act) = self.open.last_mut() {
+                    act.at_end = true;
+                }
+                Ok(())
+            }
+        }
+    }
+
+    /// Something begins in a frame.
+    pub(crate) fn begin_act(&mut self, frame: u32, statement: u32) -> Result<(), AllocError> {
+        self.open.push(Act {
+            frame,
+            statement,
+            acts: false,
+            stores: self.stores.len(),
+            written: self.written.len(),
+            taken: self.taken.len(),
+            at_end: false,
+            steps: self.steps,
+        })?;
+        Ok(())
+    }
+
+    /// A step is going to be made in a frame.
+    pub(crate) fn reach(&mut self, frame: u32) {
+        let steps = self.steps;
+        if let Some(act) = self.open.last_mut() {
+            if act.frame == frame {
+                act.steps = steps;
+            }
+        }
+    }
+
+    /// Forgets what was noted of an act.
+    pub(crate) fn forget(&mut self, act: Act) {
+        self.stores.truncate(act.stores);
+        self.written.truncate(act.written);
+        self.taken.truncate(act.taken);
+        if let Some(last) = self.open.last_mut() {
+            last.at_end = false;
+        }
+    }
+
+    /// Whether an act has written or taken something.
+    pub(crate) fn has_passed(&self, act: Act) -> bool {
+        act.at_end || act.written < self.written.len() || act.taken < self.taken.len()
+    }
+
+    /// Whether an address is in an object that the act has made which is told. What stands there was not assigned.
+    pub(crate) fn is_fresh(&self, at: u32) -> bool {
+        self.fresh <= at && at < self.next
+    }
+
+    /// The heap has an object more.
+    pub(crate) fn has_grown(&mut self, machine: &Machine) -> bool {
+        let place = machine.reg(PROGRAM).saturating_add(NEXT);
+        let next = word_at(machine, place).unwrap_or(0);
+        if self.next == next {
+            false
+        } else {
+            self.next = next;
+            true
+        }
+    }
+}

@@ -1,0 +1,187 @@
+//! Where the steps of runs went.
+
+use crate::counts::Counts;
+use crate::lines::{line_at, lines_of, share_told};
+use crate::prepared::Prepared;
+use ps_map::{Map, Owner, Row, run_time_told};
+use std::alloc::{AllocError, Global};
+
+// Steps of a routine, or of a line, by its number.
+#[derive(Clone, Copy)]
+struct Part {
+    number: usize,
+    steps: u64,
+}
+
+// The number of what a row's words are of: the start, then the routines of the program, then those of the library.
+fn number_of(map: &Map, owner: Owner) -> usize {
+    match owner {
+        Owner::Start | Owner::Strings => 0,
+        Owner::Routine(number) => (number as usize).saturating_add(1),
+        Owner::RunTime(number) => (number as usize)
+            .saturating_add(1)
+            .saturating_add(map.routines.len()),
+    }
+}
+
+// What has a number.
+fn name_of<'a>(map: &'a Map, number: usize) -> &'a str {
+    let Some(routine) = number.checked_sub(1) else {
+        return "start of the program";
+    };
+    match map.routines.get(routine) {
+        Some(routine) => routine.name.as_str(),
+        None => run_time_told(u32::try_from(routine.saturating_sub(map.routines.len())).unwrap_or(
+            u32::MAX,
+        )),
+    }
+}
+
+// The line of the `begin` of what a row's words are of; 0 for none.
+fn begin_of(map: &Map, owner: Owner) -> usize {
+    match owner {
+        Owner::Routine(number) => match map.routines.get(number as usize) {
+            Some(routine) => routine.begin.line as usize,
+            None => 0,
+        },
+        _ => 0,
+    }
+}
+
+// The line that a row's words are counted at; 0 for none.
+fn line_of(map: &Map, row: Row) -> usize {
+    match (row.statement, row.token) {
+        (Some(place), _) | (None, Some(place)) => place.line as usize,
+        (None, None) => begin_of(map, row.owner),
+    }
+}
+
+// Adds steps to those of a number.
+fn add(steps: &mut Vec<u64>, number: usize, more: u64) -> Result<(), AllocError> {
+    if more == 0 {
+        return Ok(());
+    }
+    if steps.len() <= number {
+        steps.resize(number.saturating_add(1), 0)?;
+    }
+    if let Some(found) = steps.get_mut(number) {
+        *found = found.saturating_add(more);
+    }
+    Ok(())
+}
+
+// The row of a word.
+fn row_of(map: &Map, counts: &Counts, word: usize) -> Option<Row> {
+    match counts.sites.words.get(word) {
+        Some(site) => map.rows.get(site.row as usize).copied(),
+        None => None,
+    }
+}
+
+// The steps of each routine.
+fn by_routine(alloc: Global, map: &Map, counts: &Counts) -> Result<Vec<u64>, AllocError> {
+    let mut steps = Vec::new(alloc);
+    for (word, count) in counts.words.iter().enumerate() {
+        if let Some(row) = row_of(map, counts, word) {
+            add(&mut steps, number_of(map, row.owner), *count)?;
+        }
+    }
+    Ok(steps)
+}
+
+// The steps of each line, those of the library at the lines that call it.
+fn by_line(alloc: Global, map: &Map, counts: &Counts) -> Result<Vec<u64>, AllocError> {
+    let mut steps = Vec::new(alloc);
+    for (word, (count, served)) in counts.words.iter().zip(counts.served.iter()).enumerate() {
+        if let Some(row) = row_of(map, counts, word) {
+            if !matches!(row.owner, Owner::RunTime(_)) {
+                add(&mut steps, line_of(map, row), count.saturating_add(*served))?;
+            }
+        }
+    }
+    Ok(steps)
+}
+
+// Those that have steps, the one with most first.
+fn ranked(alloc: Global, steps: &[u64]) -> Result<Vec<Part>, AllocError> {
+    let mut parts = Vec::new(alloc);
+    for (number, steps) in steps.iter().enumerate() {
+        if *steps > 0 {
+            parts.push(Part {
+                number,
+                steps: *steps,
+            })?;
+        }
+    }
+    parts.sort_by_key(|part| u64::MAX - part.steps)?;
+    Ok(parts)
+}
+
+// Adds a line with steps and their share.
+fn put_part(
+    alloc: Global,
+    out: &mut String,
+    steps: u64,
+    all: u64,
+    name: &str,
+) -> Result<(), AllocError> {
+    let share = share_told(alloc, steps, all)?;
+    let share = share.as_str();
+    let told = format!(in alloc; "{steps:>14} {share:>6}  {name}\n")?;
+    out.push_str(told.as_str())
+}
+
+// Adds the lines of the routines.
+fn put_routines(
+    alloc: Global,
+    out: &mut String,
+    map: &Map,
+    counts: &Counts,
+) -> Result<(), AllocError> {
+    let steps = by_routine(alloc, map, counts)?;
+    for part in ranked(alloc, steps.as_slice())?.iter() {
+        put_part(
+            alloc,
+            out,
+            part.steps,
+            counts.steps,
+            name_of(map, part.number),
+        )?;
+    }
+    Ok(())
+}
+
+// Adds the lines of the lines of the text.
+fn put_lines(
+    alloc: Global,
+    out: &mut String,
+    text: &[u8],
+    map: &Map,
+    counts: &Counts,
+) -> Result<(), AllocError> {
+    let lines = lines_of(alloc, text)?;
+    let steps = by_line(alloc, map, counts)?;
+    for part in ranked(alloc, steps.as_slice())?.iter() {
+        let number = u32::try_from(part.number).unwrap_or(u32::MAX);
+        let line = line_at(lines.as_slice(), number);
+        let told = format!(in alloc; "{number:>5}  {line}")?;
+        put_part(alloc, out, part.steps, counts.steps, told.as_str())?;
+    }
+    Ok(())
+}
+
+/// The steps of the runs by routine, those of the run-time library among them, and then by line, where what the library
+/// does is counted at the line that calls it. Both add up to all steps, which the first line tells.
+pub fn profile_told(
+    alloc: Global,
+    text: &[u8],
+    prepared: &Prepared,
+    counts: &Counts,
+) -> Result<String, AllocError> {
+    let steps = counts.steps;
+    let mut out = format!(in alloc; "{steps:>14} steps\n         steps      %  routine\n")?;
+    put_routines(alloc, &mut out, &prepared.text.map, counts)?;
+    out.push_str("         steps      %   line\n")?;
+    put_lines(alloc, &mut out, text, &prepared.text.map, counts)?;
+    Ok(out)
+}

@@ -1,0 +1,243 @@
+//! Lines of a trace, for people and as JSON.
+
+use std::alloc::{AllocError, Global};
+
+/// A variable that a statement changed, and its value behind it.
+#[derive(Drop)]
+pub(crate) struct Change {
+    pub(crate) name: String,
+    pub(crate) value: String,
+}
+
+/// What a line of a trace tells: a statement that was done, or a part of one.
+#[derive(Drop)]
+pub(crate) struct Done<'a> {
+    pub(crate) line: u32,
+    pub(crate) column: u32,
+    pub(crate) routine: &'a str,
+    /// How many calls are open around it.
+    pub(crate) depth: usize,
+    /// How many steps were made by then.
+    pub(crate) steps: u64,
+    pub(crate) head: String,
+    pub(crate) changes: Vec<Change>,
+    pub(crate) written: &'a [u8],
+    pub(crate) taken: &'a [u8],
+    /// Whether the end of the input was met.
+    pub(crate) at_end: bool,
+}
+
+// The most characters of a head in a line for people.
+const MOST: usize = 60;
+
+// Lines are moved to the right by two spaces for each open call, up to so many.
+const MOST_CALLS: usize = 16;
+
+// Whether a byte is a character that is shown as it is.
+fn is_shown(byte: u8) -> bool {
+    b' ' <= byte && byte <= b'~'
+}
+
+fn put_byte(out: &mut String, byte: u8) -> Result<(), AllocError> {
+    out.push_str(str::from_utf8(&[byte]).unwrap_or("?"))
+}
+
+// ---- for people
+
+// Adds a character that isn't shown by its number.
+fn put_number(alloc: Global, out: &mut String, byte: u8) -> Result<(), AllocError> {
+    let told = format!(in alloc; "chr({byte})")?;
+    out.push_str(told.as_str())
+}
+
+// What a byte is in a line for people, where the byte before it was within quotes or not; gives whether it is.
+fn put_told(
+    alloc: Global,
+    out: &mut String,
+    byte: u8,
+    is_first: bool,
+    is_quoted: bool,
+) -> Result<bool, AllocError> {
+    let is_text = is_shown(byte);
+    if is_quoted && !is_text {
+        out.push_str("'")?;
+    }
+    if !is_first && !(is_quoted && is_text) {
+        out.push_str(", ")?;
+    }
+    if is_text && !is_quoted {
+        out.push_str("'")?;
+    }
+    match byte {
+        b'\n' => out.push_str("end of line")?,
+        b'\'' => out.push_str("''")?,
+        _ if is_text => put_byte(out, byte)?,
+        _ => put_number(alloc, out, byte)?,
+    }
+    Ok(is_text)
+}
+
+// Adds bytes as a list of strings, of ends of lines and of characters that aren't shown.
+fn put_bytes(alloc: Global, out: &mut String, bytes: &[u8]) -> Result<(), AllocError> {
+    let mut is_quoted = false;
+    for (at, byte) in bytes.iter().enumerate() {
+        is_quoted = put_told(alloc, out, *byte, at == 0, is_quoted)?;
+    }
+    if is_quoted {
+        out.push_str("'")?;
+    }
+    Ok(())
+}
+
+// Adds a head, or its front where it is long.
+fn put_head(out: &mut String, head: &str) -> Result<(), AllocError> {
+    for (at, character) in head.chars().enumerate() {
+        if at == MOST {
+            return out.push_str("..");
+        }
+        out.push(character)?;
+    }
+    Ok(())
+}
+
+// What stands before the notes of a line.
+fn front_told(alloc: Global, done: &Done<'_>) -> Result<String, AllocError> {
+    let mut out = String::new(alloc);
+    let (line, routine) = (done.line, done.routine);
+    let told = format!(in alloc; "{line:>5} {routine:<10} ")?;
+    out.push_str(told.as_str())?;
+    for _ in 0..done.depth.min(MOST_CALLS) {
+        out.push_str("  ")?;
+    }
+    put_head(&mut out, done.head.as_str())?;
+    Ok(out)
+}
+
+// Adds what stands between two notes.
+fn put_between(out: &mut String) -> Result<(), AllocError> {
+    if out.is_empty() {
+        Ok(())
+    } else {
+        out.push_str("; ")
+    }
+}
+
+// Adds the values of the variables that were changed.
+fn put_changes(out: &mut String, changes: &[Change]) -> Result<(), AllocError> {
+    for change in changes {
+        put_between(out)?;
+        out.push_str(change.name.as_str())?;
+        out.push_str(" = ")?;
+        out.push_str(change.value.as_str())?;
+    }
+    Ok(())
+}
+
+// Adds what was written or read.
+fn put_passed(alloc: Global, out: &mut String, verb: &str, bytes: &[u8]) -> Result<(), AllocError> {
+    if bytes.is_empty() {
+        return Ok(());
+    }
+    put_between(out)?;
+    out.push_str(verb)?;
+    put_bytes(alloc, out, bytes)
+}
+
+/// A line for people, with its end.
+pub(crate) fn told(alloc: Global, done: &Done<'_>) -> Result<String, AllocError> {
+    let mut notes = String::new(alloc);
+    put_passed(alloc, &mut notes, "reads ", done.taken)?;
+    if done.at_end {
+        put_between(&mut notes)?;
+        notes.push_str("meets the end of the input")?;
+    }
+    put_changes(&mut notes, done.changes.as_slice())?;
+    put_passed(alloc, &mut notes, "writes ", done.written)?;
+    let front = front_told(alloc, done)?;
+    let (front, notes) = (front.as_str(), notes.as_str());
+    if notes.is_empty() {
+        format!(in alloc; "{front}\n")
+    } else {
+        format!(in alloc; "{front:<48}  {notes}\n")
+    }
+}
+
+// ---- as JSON
+
+// Adds a byte by its number.
+fn put_code(alloc: Global, out: &mut String, byte: u8) -> Result<(), AllocError> {
+    let told = format!(in alloc; "\\u{byte:04x}")?;
+    out.push_str(told.as_str())
+}
+
+// Adds a byte of a string.
+fn put_escaped(alloc: Global, out: &mut String, byte: u8) -> Result<(), AllocError> {
+    match byte {
+        b'"' => out.push_str("\\\""),
+        b'\\' => out.push_str("\\\\"),
+        b'\n' => out.push_str("\\n"),
+        _ if is_shown(byte) => put_byte(out, byte),
+        _ => put_code(alloc, out, byte),
+    }
+}
+
+// Adds bytes as a string, each as the character with its number.
+fn put_string(alloc: Global, out: &mut String, bytes: &[u8]) -> Result<(), AllocError> {
+    out.push_str("\"")?;
+    for byte in bytes {
+        put_escaped(alloc, out, *byte)?;
+    }
+    out.push_str("\"")
+}
+
+// Adds a character of a text; in a string of JSON only three kinds may not stand as they are.
+fn put_character(alloc: Global, out: &mut String, character: char) -> Result<(), AllocError> {
+    match u8::try_from(u32::from(character)) {
+        Ok(byte) if byte < 127 => put_escaped(alloc, out, byte),
+        _ => {
+            out.push(character)?;
+            Ok(())
+        }
+    }
+}
+
+// Adds a text as a string.
+fn put_text(alloc: Global, out: &mut String, text: &str) -> Result<(), AllocError> {
+    out.push_str("\"")?;
+    for character in text.chars() {
+        put_character(alloc, out, character)?;
+    }
+    out.push_str("\"")
+}
+
+// Adds the variables that were changed.
+fn put_changed(alloc: Global, out: &mut String, changes: &[Change]) -> Result<(), AllocError> {
+    for (at, change) in changes.iter().enumerate() {
+        out.push_str(if at == 0 { "{\"name\":" } else { ",{\"name\":" })?;
+        put_text(alloc, out, change.name.as_str())?;
+        out.push_str(",\"value\":")?;
+        put_text(alloc, out, change.value.as_str())?;
+        out.push_str("}")?;
+    }
+    Ok(())
+}
+
+/// The same as an object of JSON in one line, with its end.
+pub(crate) fn object_told(alloc: Global, done: &Done<'_>) -> Result<String, AllocError> {
+    let (line, column, depth, steps) = (done.line, done.column, done.depth, done.steps);
+    let mut out = format!(in alloc; "{{\"line\":{line},\"column\":{column},\"routine\":")?;
+    put_text(alloc, &mut out, done.routine)?;
+    let told = format!(in alloc; ",\"depth\":{depth},\"steps\":{steps},\"statement\":")?;
+    out.push_str(told.as_str())?;
+    put_text(alloc, &mut out, done.head.as_str())?;
+    out.push_str(",\"changed\":[")?;
+    put_changed(alloc, &mut out, done.changes.as_slice())?;
+    out.push_str("],\"written\":")?;
+    put_string(alloc, &mut out, done.written)?;
+    out.push_str(",\"read\":")?;
+    put_string(alloc, &mut out, done.taken)?;
+    let at_end = done.at_end;
+    let told = format!(in alloc; ",\"at_end\":{at_end}}}\n")?;
+    out.push_str(told.as_str())?;
+    Ok(out)
+}

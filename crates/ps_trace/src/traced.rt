@@ -1,0 +1,125 @@
+//! Runs that are traced.
+
+ghost use Rattle.std.specs.Prelude.{◌≡◌, IfOk, IfSome, IfNone, OnErr, true};
+ghost use Rattle.ps_build.specs.Runs.{RunsImage};
+ghost use Rattle.ps_build.specs.Slices.{IsImageLeft};
+
+use crate::accesses::accesses_of;
+use crate::heads::heads_of;
+use crate::notes::Notes;
+use crate::prepared::Prepared;
+use crate::sites::sites_of;
+use crate::tracer::{Choice, Teller, Tracer};
+use crate::watch::run_image_watched;
+use ps_build::{Budget, Outcome, Paced, Refusal};
+use ps_scan::{Token, scan};
+use ps_text::Source;
+use ps_why::Surroundings;
+use risc_image::ImageView;
+use std::alloc::{AllocError, Global};
+
+/// How a run ended that was traced.
+#[derive(Clone, Copy, Debug)]
+pub struct Traced {
+    /// `None` where a fault at a pause ended the run.
+    pub outcome: Option<Outcome>,
+    /// Whether each line was made and passed on. Where one wasn't, the run went on.
+    pub is_whole: bool,
+}
+
+// What follows a run of a program.
+fn tracer_of<'a, T: Teller + Drop>(
+    alloc: Global,
+    source: &'a Source<'a>,
+    tokens: &'a [Token],
+    prepared: &'a Prepared,
+    image: &ImageView<'_>,
+    choice: Choice<'a>,
+    teller: T,
+) -> Result<Tracer<'a, T>, AllocError> {
+    let map = &prepared.text.map;
+    let sites = sites_of(alloc, map, image.words())?;
+    let heads = heads_of(alloc, source, tokens, sites.statements.as_slice())?;
+    let accesses = accesses_of(alloc, image)?;
+    Ok(Tracer {
+        alloc,
+        around: Surroundings {
+            source,
+            tokens,
+            checked: &prepared.text.mapped.checked,
+            map,
+        },
+        sites,
+        accesses,
+        heads,
+        choice,
+        teller,
+        notes: Notes::new(alloc),
+    })
+}
+
+// Runs an image, and shows it to what follows it.
+fn run_followed<C: Paced, T: Teller + Drop>(
+    alloc: Global,
+    image: &[u8],
+    tracer: Tracer<'_, T>,
+    budget: Budget,
+    console: &mut C,
+    max_steps: u64,
+) -> Result<Traced, Refusal>
+    ensures runs { IfOk result (λ traced. IfSome traced.outcome
+        (RunsImage image.now budget max_steps (C.world console.old) (C.world console.new))) }
+    ensures left { IfOk result (λ traced. IfNone traced.outcome
+        (IsImageLeft image.now budget max_steps (C.world console.old) (C.world console.new))) }
+    ensures failed { IfOk result (λ traced. IfNone traced.outcome (C.has_failed console.new ≡ true)) }
+    ensures unchanged { OnErr result (C.world console.new ≡ C.world console.old) }
+{
+    let mut tracer = tracer;
+    match run_image_watched(alloc, image, budget, console, &mut tracer, max_steps) {
+        Ok(ended) => Ok(Traced {
+            outcome: ended.outcome,
+            is_whole: tracer.notes.is_whole,
+        }),
+        Err(refusal) => Err(refusal),
+    }
+}
+
+/// Runs a program as `run_image_in_slices` runs its image, and tells each statement as it is done: where it begins, the
+/// variables that it changed, and what it read and wrote.
+///
+/// A statement that contains others is told for its own part each time that this is done: a `while`, a `repeat` and a
+/// `for` at each turn. One that calls is told when it has come back, behind the statements of what it called; what it
+/// has written or read before, it tells before them. So what is told stands in the order of the run.
+///
+/// # Errors
+///
+/// Those of `run_image_in_slices`.
+pub fn run_traced<C: Paced, T: Teller + Drop>(
+    alloc: Global,
+    text: &[u8],
+    prepared: &Prepared,
+    choice: Choice<'_>,
+    teller: T,
+    budget: Budget,
+    console: &mut C,
+    max_steps: u64,
+) -> Result<Traced, Refusal>
+    ensures runs { IfOk result (λ traced. IfSome traced.outcome
+        (RunsImage prepared.now.text.mapped.built budget max_steps (C.world console.old) (C.world console.new))) }
+    ensures left { IfOk result (λ traced. IfNone traced.outcome
+        (IsImageLeft prepared.now.text.mapped.built budget max_steps (C.world console.old) (C.world console.new))) }
+    ensures failed { IfOk result (λ traced. IfNone traced.outcome (C.has_failed console.new ≡ true)) }
+    ensures unchanged { OnErr result (C.world console.new ≡ C.world console.old) }
+{
+    let bytes = prepared.text.mapped.built.bytes();
+    let source = Source::new(text)?;
+    let tokens = scan(alloc, &source)?;
+    let view = match ImageView::read(bytes) {
+        Ok(view) => view,
+        Err(refusal) => return Err(Refusal::from(refusal)),
+    };
+    match tracer_of(alloc, &source, &tokens, prepared, &view, choice, teller) {
+        Ok(tracer) => run_followed(alloc, bytes, tracer, budget, console, max_steps),
+        Err(_) => Err(Refusal::OutOfMemory),
+    }
+}

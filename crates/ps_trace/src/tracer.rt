@@ -1,0 +1,385 @@
+//! What follows a run statement by statement.
+
+use crate::accesses::{Access, Event, content_of, event_at};
+use crate::heads::head_told;
+use crate::memory::word_at;
+use crate::naming::{Frame, Frames, Named, Stretch, found_at};
+use crate::notes::{Act, Notes};
+use crate::sites::{Site, Sites, Statement};
+use crate::telling::{Change, Done, object_told, told};
+use crate::watch::Watch;
+use ps_text::Span;
+use ps_tree::types::Ty;
+use ps_why::{Length, Object, Surroundings, value_at};
+use risc_machine::{Machine, Stop};
+use std::alloc::{AllocError, Global};
+
+/// Where the lines of a trace go.
+pub trait Teller {
+    /// Takes a line with its end, and tells whether it was passed on.
+    fn tell(&mut self, line: &str) -> bool;
+}
+
+/// Which statements are told, and how.
+#[derive(Clone, Copy)]
+pub struct Choice<'a> {
+    /// Those that begin in these lines.
+    pub from: u32,
+    pub to: u32,
+    /// Those of the routine with this name, in whatever case; none for those of all.
+    pub routine: Option<&'a str>,
+    /// At most so many lines.
+    pub first: u64,
+    /// As JSON.
+    pub json: bool,
+}
+
+// The register of the innermost frame.
+const FRAME: u8 = 14;
+
+// At most so many variables are told of a statement.
+const MOST_CHANGES: usize = 20;
+
+/// What follows a run.
+#[derive(Drop)]
+pub(crate) struct Tracer<'a, T: Teller> {
+    pub(crate) alloc: Global,
+    pub(crate) around: Surroundings<'a>,
+    pub(crate) sites: Sites,
+    pub(crate) accesses: Vec<Access>,
+    pub(crate) heads: Vec<Span>,
+    pub(crate) choice: Choice<'a>,
+    pub(crate) teller: T,
+    pub(crate) notes: Notes,
+}
+
+impl<'a, T: Teller> Tracer<'a, T> {
+    fn statement(&self, number: u32) -> Option<Statement> {
+        match (number as usize).checked_sub(1) {
+            Some(at) => self.sites.statements.get(at).copied(),
+            None => None,
+        }
+    }
+
+    // The name of a routine.
+    fn routine_name(&self, routine: u32) -> &'a str {
+        self.around.map.name_of(routine).unwrap_or("?")
+    }
+
+    // Whether a statement is told.
+    fn is_chosen(&self, statement: Statement) -> bool {
+        let line = statement.place.line;
+        self.notes.lines < self.choice.first
+            && self.choice.from <= line
+            && line <= self.choice.to
+            && match self.choice.routine {
+                Some(name) => name.eq_ignore_ascii_case(self.routine_name(statement.routine)),
+                None => true,
+            }
+    }
+
+    // The frame of an act.
+    fn frame(&self, act: Option<&Act>) -> Option<Frame> {
+        let act = match act {
+            Some(act) => act,
+            None => return None,
+        };
+        let routine = match self.statement(act.statement) {
+            Some(statement) => statement.routine,
+            None => 0,
+        };
+        Some(Frame {
+            at: act.frame,
+            routine,
+        })
+    }
+
+    // The innermost frame, and the one that holds an address. A frame within another lies below it.
+    fn frames(&self, address: u32) -> Frames {
+        let open = self.notes.open.as_slice();
+        let holder = open.partition_point(|act| act.frame > address);
+        Frames {
+            innermost: self.frame(open.last()),
+            holder: self.frame(open.get(holder)),
+        }
+    }
+
+    // What stands in a stretch of memory.
+    fn found(&self, machine: &Machine, stretch: Stretch) -> Result<Option<Named<'a>>, AllocError> {
+        found_at(
+            self.alloc,
+            &self.around,
+            machine,
+            self.frames(stretch.from),
+            self.notes.objects.as_slice(),
+            stretch,
+        )
+    }
+
+    // An object that a pointer leads to, if it is not known yet.
+    fn learn_of(&mut self, machine: &Machine, found: &Named<'_>) -> Result<(), AllocError> {
+        let (Ty::Pointer { number }, Some(address)) = (found.ty, word_at(machine, found.at)) else {
+            return Ok(());
+        };
+        let last = match self.notes.objects.last() {
+            Some(last) => last.address,
+            None => 0,
+        };
+        if last < address {
+            self.notes.fresh = self.notes.fresh.min(address);
+            self.notes.objects.push(Object {
+                address,
+                pointer: *number,
+            })?;
+        }
+        Ok(())
+    }
+
+    // Learns of the objects that an act has made.
+    fn learn(&mut self, machine: &Machine, act: Act) -> Result<(), AllocError> {
+        self.notes.fresh = u32::MAX;
+        if !self.notes.has_grown(machine) {
+            return Ok(());
+        }
+        for at in act.stores..self.notes.stores.len() {
+            let Some(stretch) = self.notes.stores.get(at).copied() else {
+                break;
+            };
+            if let Some(found) = self.found(machine, stretch)? {
+                self.learn_of(machine, &found)?;
+            }
+        }
+        Ok(())
+    }
+
+    // The variables that an act has changed.
+    fn changes(&mut self, machine: &Machine, act: Act) -> Result<Vec<Change>, AllocError> {
+        let mut changes: Vec<Change> = Vec::new(self.alloc);
+        for at in act.stores..self.notes.stores.len() {
+            let Some(stretch) = self.notes.stores.get(at).copied() else {
+                break;
+            };
+            if let Some(found) = self.found(machine, stretch)? {
+                if changes.len() < MOST_CHANGES
+                    && !self.notes.is_fresh(found.at)
+                    && !is_told(changes.as_slice(), &found)
+                {
+                    changes.push(self.change(machine, found)?)?;
+                }
+            }
+        }
+        Ok(changes)
+    }
+
+    // A variable with its value.
+    fn change(&mut self, machine: &Machine, found: Named<'_>) -> Result<Change, AllocError> {
+        let value = value_at(
+            self.alloc,
+            &self.around,
+            machine,
+            found.ty,
+            found.at,
+            Length::Short,
+            &mut self.notes.objects,
+        )?;
+        Ok(Change {
+            name: found.name,
+            value,
+        })
+    }
+
+    // The line of an act.
+    fn line(
+        &mut self,
+        machine: &Machine,
+        act: Act,
+        statement: Statement,
+    ) -> Result<String, AllocError> {
+        let changes = self.changes(machine, act)?;
+        let head = match (act.statement as usize).checked_sub(1) {
+            Some(at) => self.heads.get(at).copied(),
+            None => None,
+        };
+        let head = head.unwrap_or(Span { from: 0, to: 0 });
+        let done = Done {
+            line: statement.place.line,
+            column: statement.place.column,
+            routine: self.routine_name(statement.routine),
+            depth: self.notes.open.len().saturating_sub(1),
+            steps: act.steps,
+            head: head_told(self.alloc, self.around.source, head)?,
+            changes,
+            written: self.notes.written.get(act.written..).unwrap_or(&[]),
+            taken: self.notes.taken.get(act.taken..).unwrap_or(&[]),
+            at_end: act.at_end,
+        };
+        if self.choice.json {
+            object_told(self.alloc, &done)
+        } else {
+            told(self.alloc, &done)
+        }
+    }
+
+    // Tells of an act, the innermost one.
+    fn tell(&mut self, machine: &Machine, act: Act) -> Result<(), AllocError> {
+        self.learn(machine, act)?;
+        let Some(statement) = self.statement(act.statement) else {
+            return Ok(());
+        };
+        if act.acts && self.is_chosen(statement) {
+            let line = self.line(machine, act, statement)?;
+            self.notes.lines = self.notes.lines.saturating_add(1);
+            if !self.teller.tell(line.as_str()) {
+                self.notes.is_whole = false;
+            }
+        }
+        Ok(())
+    }
+
+    // Marks that something wasn't noted, where memory was refused.
+    fn keep(&mut self, noted: Result<(), AllocError>) {
+        if noted.is_err() {
+            self.notes.is_whole = false;
+        }
+    }
+
+    // The innermost act is over.
+    fn close(&mut self, machine: &Machine) {
+        let Some(act) = self.notes.open.last().copied() else {
+            return;
+        };
+        let noted = self.tell(machine, act);
+        self.keep(noted);
+        self.notes.forget(act);
+        self.notes.open.pop();
+    }
+
+    // All acts of frames that are left are over.
+    fn leave(&mut self, machine: &Machine, frame: u32) {
+        for _ in 0..self.notes.open.len() {
+            match self.notes.open.last() {
+                Some(act) if act.frame < frame => {}
+                _ => break,
+            }
+            self.close(machine);
+        }
+    }
+
+    // What an act has written and taken is told before what it calls.
+    fn tell_first(&mut self, machine: &Machine) {
+        let Some(act) = self.notes.open.last().copied() else {
+            return;
+        };
+        if self.notes.has_passed(act) {
+            let noted = self.tell(machine, act);
+            self.keep(noted);
+            self.notes.forget(act);
+        }
+    }
+
+    // A word of a statement in a frame.
+    fn go_on(&mut self, machine: &Machine, frame: u32, statement: u32) {
+        match self.notes.open.last().copied() {
+            Some(act) if act.frame == frame && act.statement == statement => return,
+            Some(act) if act.frame == frame => {
+                self.notes.reach(frame);
+                self.close(machine);
+            }
+            _ => self.tell_first(machine),
+        }
+        let noted = self.notes.begin_act(frame, statement);
+        self.keep(noted);
+    }
+
+    // Whether a word is of the innermost act.
+    fn is_of_act(&self, site: Site, frame: u32) -> bool {
+        match self.notes.open.last() {
+            Some(act) => {
+                act.frame == frame && (site.is_library || act.statement == site.statement)
+            }
+            None => false,
+        }
+    }
+
+    // What a word does that is of the innermost act.
+    fn note(&mut self, machine: &Machine, access: Access) -> Result<(), AllocError> {
+        if !matches!(access, Access::Go) {
+            if let Some(act) = self.notes.open.last_mut() {
+                act.acts = true;
+            }
+        }
+        match event_at(machine, access) {
+            Event::Nothing => Ok(()),
+            Event::Stored { at, bytes } => self.notes.note_store(at, bytes),
+            Event::Put(byte) => {
+                self.notes.written.push(byte)?;
+                Ok(())
+            }
+            Event::Taken(to) => {
+                self.notes.awaited = Some(to);
+                Ok(())
+            }
+        }
+    }
+
+    // Follows the step that is going to be made.
+    fn follow(&mut self, machine: &Machine) {
+        self.settle(machine);
+        let place = machine.pc() as usize;
+        let Some(site) = self.sites.words.get(place).copied() else {
+            return;
+        };
+        let frame = machine.reg(FRAME);
+        if !site.is_library {
+            self.leave(machine, frame);
+            if site.statement > 0 {
+                self.go_on(machine, frame, site.statement);
+            }
+        }
+        self.notes.reach(frame);
+        if self.is_of_act(site, frame) {
+            let access = self.accesses.get(place).copied().unwrap_or(Access::Nothing);
+            let noted = self.note(machine, access);
+            self.keep(noted);
+        }
+    }
+
+    // The byte that was asked for has come.
+    fn settle(&mut self, machine: &Machine) {
+        if let Some(to) = self.notes.awaited {
+            self.notes.awaited = None;
+            let noted = self.notes.note_taken(content_of(machine, to));
+            self.keep(noted);
+        }
+    }
+}
+
+// Whether a variable is told already.
+fn is_told(changes: &[Change], found: &Named<'_>) -> bool {
+    changes
+        .iter()
+        .any(|change| change.name.as_str() == found.name.as_str())
+}
+
+impl<'a, T: Teller> Watch for Tracer<'a, T> {
+    fn begin(&mut self, machine: &Machine) {
+        let _ = machine;
+    }
+
+    fn see(&mut self, machine: &Machine) {
+        self.follow(machine);
+        self.notes.steps = self.notes.steps.saturating_add(1);
+    }
+
+    fn end(&mut self, machine: &Machine, stop: Option<Stop>) {
+        match stop {
+            Some(Stop::OutputFault) => {
+                self.notes.written.pop();
+            }
+            Some(Stop::InputFault) => self.notes.awaited = None,
+            _ => {}
+        }
+        self.settle(machine);
+        self.leave(machine, u32::MAX);
+    }
+}

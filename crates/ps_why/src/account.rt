@@ -1,0 +1,421 @@
+//! Accounts of runs.
+
+use crate::filling::{copy_of, put_number};
+use crate::found::{Found, found_at};
+use crate::loops::{Loop, Loops};
+use crate::memory::word;
+use crate::scene::{Scene, Surroundings, scene_of};
+use crate::sentences::{Sizes, found_told, heap, step_told, words_of};
+use crate::targets::{host_indexed, host_ranged, step_at};
+use crate::values::Length;
+use ps_build::{Ended, Mapped, Outcome};
+use ps_diagnose_outline::Outline;
+use ps_diagnose_warnings::{Warning, warnings};
+use ps_map::{Lines, Map, Place, map_of};
+use ps_parse::{parse, release};
+use ps_scan::{Token, scan};
+use ps_syntax::Program;
+use ps_text::Source;
+use ps_tree::program::Checked;
+use ps_tree::types::Host;
+use risc_image::ImageView;
+use risc_machine::{Machine, Stop};
+use std::alloc::{AllocError, Global};
+
+// As many of the innermost open calls are told.
+const FEW_CALLS: usize = 8;
+
+const MANY_CALLS: usize = 1_000;
+
+// Where the program block's frame has the heap's next address.
+const HEAP_NEXT: u32 = 272;
+
+// The register that holds where the program block's frame begins.
+const PROGRAM: u8 = 13;
+
+/// How a run ended.
+#[derive(Clone, Copy, PartialEq, Eq, Debug)]
+pub enum Ending {
+    Normal,
+    /// An error of the language.
+    Error,
+    /// The stack had no room for a frame.
+    Stack,
+    /// The heap had no room for an object.
+    Heap,
+    /// The steps were used up.
+    Steps,
+    /// The console gave no byte.
+    Input,
+    /// The console took no byte.
+    Output,
+    /// The processor could not go on.
+    Fault,
+}
+
+/// What is told of a run that ended.
+#[derive(Drop, Debug)]
+pub struct Account {
+    pub ending: Ending,
+    /// The number of an error, 1 to 11, or of a stop, 12 or 13.
+    pub number: Option<u32>,
+    /// How it ended, in one sentence without a point and without its place.
+    pub text: String,
+    /// The steps that the run was allowed.
+    pub steps: u64,
+    /// Where it is told, if it has a place.
+    pub at: Option<Place>,
+    /// The offsets of the token there.
+    pub from: u32,
+    pub to: u32,
+    /// The value that an error found, where it is known.
+    pub found: Option<Found>,
+    /// Where its steps were used up, the innermost loop in which it stood.
+    pub round: Option<Loop>,
+    pub scene: Scene,
+    /// Further sentences.
+    pub notes: Vec<String>,
+}
+
+// How a run ended, and how that is told.
+#[derive(Clone, Copy)]
+struct Facts {
+    stop: Option<Stop>,
+    ending: Ending,
+    number: Option<u32>,
+    steps: u64,
+    length: Length,
+}
+
+// How a run ended; where its console failed between two slices as where it took no byte.
+fn ending_of(ended: &Ended) -> Ending {
+    match &ended.outcome {
+        Some(Outcome::Normal) => Ending::Normal,
+        Some(Outcome::Error { .. }) => Ending::Error,
+        Some(Outcome::Stack { .. }) => Ending::Stack,
+        Some(Outcome::Heap { .. }) => Ending::Heap,
+        Some(Outcome::Steps) => Ending::Steps,
+        Some(Outcome::InputFault) => Ending::Input,
+        Some(Outcome::OutputFault) | None => Ending::Output,
+        Some(Outcome::Fault(_)) => Ending::Fault,
+    }
+}
+
+// The number of the error or the stop that a run ended with.
+fn number_of(ended: &Ended) -> Option<u32> {
+    match &ended.outcome {
+        Some(
+            Outcome::Error { number, .. }
+            | Outcome::Stack { number, .. }
+            | Outcome::Heap { number, .. },
+        ) => Some(*number),
+        _ => None,
+    }
+}
+
+// How many calls are told.
+fn most_calls(length: Length) -> usize {
+    match length {
+        Length::Short => FEW_CALLS,
+        Length::All => MANY_CALLS,
+    }
+}
+
+// What the values are of which an error is told at a token.
+fn host_at(outline: &Outline<'_>, number: u32, at: Place, lines: &Lines) -> Host {
+    let token = outline.token_at(lines.offset_of(at));
+    match number {
+        4 => host_ranged(outline, token),
+        5 => host_indexed(outline, token),
+        7 => host_ranged(outline, token.saturating_add(1)),
+        _ => Host::Integer,
+    }
+}
+
+// The value that an error found; of the width of a field the value alone, since all below one are too small.
+fn found_of(image: &ImageView<'_>, machine: &Machine, facts: Facts) -> Option<Found> {
+    let (Some(Stop::Trap(link)), Some(number)) = (facts.stop, facts.number) else {
+        return None;
+    };
+    match found_at(image, machine, link, number) {
+        Some(found) if number == 11 => Some(Found {
+            value: found.value,
+            bounds: None,
+        }),
+        found => found,
+    }
+}
+
+// The bytes of the heap that are taken.
+fn taken(image: &ImageView<'_>, machine: &Machine) -> Option<u32> {
+    let base = u32::try_from(image.words().saturating_mul(4)).unwrap_or(u32::MAX);
+    let next = word(machine, machine.reg(PROGRAM).saturating_add(HEAP_NEXT));
+    match next {
+        Some(next) => next.checked_sub(base.saturating_add(image.global())),
+        None => None,
+    }
+}
+
+// The sentence of an ending that has no more than its words.
+fn plain_text(ending: Ending) -> &'static str {
+    match ending {
+        Ending::Normal => "ended normally",
+        Ending::Steps => "stopped after",
+        Ending::Input => "input fault",
+        Ending::Output => "output fault",
+        _ => "machine fault",
+    }
+}
+
+// The steps that were used up, in a sentence.
+fn steps_text(alloc: Global, steps: u64) -> Result<String, AllocError> {
+    let mut out = copy_of(alloc, plain_text(Ending::Steps))?;
+    out.push_str(" ")?;
+    put_number(alloc, &mut out, i64::try_from(steps).unwrap_or(i64::MAX))?;
+    out.push_str(" steps")?;
+    Ok(out)
+}
+
+// The sentence of an ending, without a value.
+fn text_of<'a>(
+    alloc: Global,
+    map: &'a Map,
+    image: &'a ImageView<'a>,
+    machine: &Machine,
+    scene: &Scene,
+    facts: Facts,
+) -> Result<String, AllocError> {
+    match facts.ending {
+        Ending::Error => copy_of(alloc, words_of(facts.number.unwrap_or(0))),
+        Ending::Stack => {
+            let sizes = Sizes { alloc, map, image };
+            sizes.stack(scene)
+        }
+        Ending::Heap => heap(alloc, taken(image, machine)),
+        Ending::Steps => steps_text(alloc, facts.steps),
+        ending => copy_of(alloc, plain_text(ending)),
+    }
+}
+
+// The account of a run of an image as far as that tells it.
+fn account_of_image<'a>(
+    alloc: Global,
+    source: &'a Source<'a>,
+    tokens: &'a [Token],
+    checked: &'a Checked,
+    map: &'a Map,
+    image: &'a ImageView<'a>,
+    machine: &'a Machine,
+    facts: Facts,
+) -> Result<Account, AllocError> {
+    let around = Surroundings {
+        source,
+        tokens,
+        checked,
+        map,
+    };
+    let stop = facts.stop.unwrap_or(Stop::Steps);
+    let most = most_calls(facts.length);
+    let scene = scene_of(alloc, &around, image, machine, stop, most, facts.length)?;
+    let text = text_of(alloc, map, image, machine, &scene, facts)?;
+    Ok(Account {
+        ending: facts.ending,
+        number: facts.number,
+        text,
+        steps: facts.steps,
+        at: scene.at,
+        from: 0,
+        to: 0,
+        found: found_of(image, machine, facts),
+        round: None,
+        scene,
+        notes: Vec::new(alloc),
+    })
+}
+
+// The same of a run of a program that was built, with its map.
+fn account_of_map(
+    alloc: Global,
+    source: &Source<'_>,
+    tokens: &[Token],
+    map: &Map,
+    mapped: &Mapped,
+    machine: &Machine,
+    facts: Facts,
+) -> Result<Account, AllocError> {
+    let image = match ImageView::read(mapped.built.bytes()) {
+        Ok(image) => image,
+        Err(_) => return Err(AllocError),
+    };
+    account_of_image(
+        alloc,
+        source,
+        tokens,
+        &mapped.checked,
+        map,
+        &image,
+        machine,
+        facts,
+    )
+}
+
+// Adds the offsets of the token that an account is told at.
+fn add_span(outline: &Outline<'_>, lines: &Lines, account: &mut Account) {
+    if let Some(at) = account.at {
+        let span = outline.span(outline.token_at(lines.offset_of(at)));
+        account.from = span.from;
+        account.to = span.to;
+    }
+}
+
+// What is told of the value that an error found which is told at a token, where its values are such.
+fn value_told(
+    alloc: Global,
+    source: &Source<'_>,
+    outline: &Outline<'_>,
+    host: Host,
+    token: usize,
+    found: Found,
+) -> Result<String, AllocError> {
+    let step = step_at(outline, token);
+    if step == 0 || found.bounds.is_none() {
+        return found_told(alloc, source, outline.tokens(), host, found);
+    }
+    let argument = host_ranged(outline, token.saturating_add(2));
+    step_told(alloc, source, outline.tokens(), argument, found, step)
+}
+
+// Adds the value that an error found to its sentence.
+fn add_value(
+    alloc: Global,
+    source: &Source<'_>,
+    outline: &Outline<'_>,
+    lines: &Lines,
+    account: &mut Account,
+) -> Result<(), AllocError> {
+    let (Some(number), Some(at), Some(found)) = (account.number, account.at, account.found) else {
+        return Ok(());
+    };
+    let host = host_at(outline, number, at, lines);
+    let token = outline.token_at(lines.offset_of(at));
+    let told = value_told(alloc, source, outline, host, token, found)?;
+    account.text.push_str(": ")?;
+    account.text.push_str(told.as_str())
+}
+
+// Adds the loops in which a run stood.
+fn add_loops<'a>(
+    alloc: Global,
+    outline: &'a Outline<'a>,
+    lines: &'a Lines,
+    warnings: &'a [Warning],
+    account: &mut Account,
+) -> Result<(), AllocError> {
+    let loops = Loops {
+        outline,
+        lines,
+        warnings,
+    };
+    account.round = loops.innermost(&account.scene);
+    if let Some(note) = loops.note(alloc, &account.scene, account.round)? {
+        account.notes.push(note)?;
+    }
+    Ok(())
+}
+
+// Adds what is told of the loops in which a run stood whose steps were used up.
+fn add_round(
+    alloc: Global,
+    source: &Source<'_>,
+    tree: &Program,
+    outline: &Outline<'_>,
+    lines: &Lines,
+    account: &mut Account,
+) -> Result<(), AllocError> {
+    if account.ending != Ending::Steps {
+        return Ok(());
+    }
+    let told = warnings(alloc, source, outline.tokens(), tree)?;
+    add_loops(alloc, outline, lines, told.as_slice(), account)
+}
+
+// The account of a run of a text with this outline.
+fn account_of_outline(
+    alloc: Global,
+    source: &Source<'_>,
+    tree: &Program,
+    outline: &Outline<'_>,
+    mapped: &Mapped,
+    machine: &Machine,
+    facts: Facts,
+) -> Result<Account, AllocError> {
+    let lines = Lines::new(alloc, source.bytes())?;
+    let map = map_of(alloc, source, outline, mapped)?;
+    let tokens = outline.tokens();
+    let mut account = account_of_map(alloc, source, tokens, &map, mapped, machine, facts)?;
+    add_span(outline, &lines, &mut account);
+    add_value(alloc, source, outline, &lines, &mut account)?;
+    add_round(alloc, source, tree, outline, &lines, &mut account)?;
+    Ok(account)
+}
+
+// The account of a run of a text that was parsed.
+fn account_of_tree(
+    alloc: Global,
+    source: &Source<'_>,
+    tokens: &[Token],
+    tree: &Program,
+    mapped: &Mapped,
+    machine: &Machine,
+    facts: Facts,
+) -> Result<Account, AllocError> {
+    let outline = Outline::new(alloc, source, tokens, tree)?;
+    account_of_outline(alloc, source, tree, &outline, mapped, machine, facts)
+}
+
+// The account of a run of a text with these tokens.
+fn account_of_tokens(
+    alloc: Global,
+    source: &Source<'_>,
+    tokens: &[Token],
+    mapped: &Mapped,
+    machine: &Machine,
+    facts: Facts,
+) -> Result<Account, AllocError> {
+    let tree = match parse(alloc, source, tokens) {
+        Ok(tree) => tree,
+        Err(_) => return Err(AllocError),
+    };
+    let account = account_of_tree(alloc, source, tokens, &tree, mapped, machine, facts);
+    release(tree);
+    account
+}
+
+/// What is told of a run that ended: of the program that `build_mapped` built of a text, which was allowed so many steps.
+///
+/// # Errors
+///
+/// A growth was refused. So is a text that isn't the program's.
+pub fn account_of(
+    alloc: Global,
+    text: &[u8],
+    mapped: &Mapped,
+    ended: &Ended,
+    steps: u64,
+    length: Length,
+) -> Result<Account, AllocError> {
+    let Ok(source) = Source::new(text) else {
+        return Err(AllocError);
+    };
+    let Ok(tokens) = scan(alloc, &source) else {
+        return Err(AllocError);
+    };
+    let facts = Facts {
+        stop: ended.stop,
+        ending: ending_of(ended),
+        number: number_of(ended),
+        steps,
+        length,
+    };
+    account_of_tokens(alloc, &source, &tokens, mapped, &ended.machine, facts)
+}

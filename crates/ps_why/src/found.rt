@@ -1,0 +1,352 @@
+//! The value that an error found, read off the words of its test.
+//!
+//! The test of a range subtracts the lowest number, if that isn't 0, and compares what is above it without a sign. So
+//! the words before a stop tell the register, and both bounds. A modulus is told by the word before, and so are a sum,
+//! and a product with H; the value of a `case` by its last test. What a word put into the free register is lost at the
+//! stop, which uses that: then its operands tell it.
+
+use crate::words::{Act, Right, act_at};
+use risc_image::ImageView;
+use risc_machine::Machine;
+use risc_word::{Condition, Operation};
+
+// The register that is free between instructions, and that of links.
+const FREE: u8 = 12;
+
+const LINK: u8 = 15;
+
+// How many words before the stop of a product the word stands that made it.
+const PRODUCT: usize = 6;
+
+/// The least and the greatest number of a range.
+#[derive(Clone, Copy, PartialEq, Eq, Debug)]
+pub struct Bounds {
+    pub low: i64,
+    pub high: i64,
+}
+
+/// The value that an error found, and the range that it is outside of, if it is an error of one.
+#[derive(Clone, Copy, PartialEq, Eq, Debug)]
+pub struct Found {
+    pub value: i64,
+    pub bounds: Option<Bounds>,
+}
+
+// A number that words give to a register, or that an operation has, and how many words that takes.
+#[derive(Clone, Copy)]
+struct Number {
+    value: i64,
+    words: usize,
+}
+
+// An operation at a place: the register that takes its result, and its operands.
+#[derive(Clone, Copy)]
+struct Operated {
+    operation: Operation,
+    to: u8,
+    left: u8,
+    right: Right,
+}
+
+fn operated_at(image: &ImageView<'_>, at: Option<usize>) -> Option<Operated> {
+    match act_at(image, at) {
+        Act::Operate {
+            operation,
+            to,
+            left,
+            right,
+        } => Some(Operated {
+            operation,
+            to,
+            left,
+            right,
+        }),
+        _ => None,
+    }
+}
+
+// The subtraction at a place whose result a register takes.
+fn subtraction_at(image: &ImageView<'_>, at: Option<usize>, to: u8) -> Option<Operated> {
+    match operated_at(image, at) {
+        Some(operated) if operated.to == to => match operated.operation {
+            Operation::Sub => Some(operated),
+            _ => None,
+        },
+        _ => None,
+    }
+}
+
+// The upper half of a number that the word at a place gives to the register of links.
+fn top_at(image: &ImageView<'_>, at: Option<usize>) -> Option<i64> {
+    match act_at(image, at) {
+        Act::Top { to, top } if to == LINK => Some(top),
+        _ => None,
+    }
+}
+
+// The number that the word at a place adds to the register of links.
+fn added_at(image: &ImageView<'_>, at: usize) -> Option<i64> {
+    match operated_at(image, Some(at)) {
+        Some(operated) if operated.to == LINK => match (operated.operation, operated.right) {
+            (Operation::Add, Right::Number(low)) => Some(low),
+            _ => None,
+        },
+        _ => None,
+    }
+}
+
+// The number that the two words up to a place give to the register of links: its upper half, and then the lower one.
+fn exact_at(image: &ImageView<'_>, at: usize) -> Option<i64> {
+    match (top_at(image, at.checked_sub(1)), added_at(image, at)) {
+        (Some(top), Some(low)) => Some(top.saturating_mul(65_536).saturating_add(low)),
+        _ => None,
+    }
+}
+
+// The register that the comparison at a place looks at, and how far it may be above the lowest number.
+fn most_at(image: &ImageView<'_>, at: usize, condition: Condition) -> Option<(u8, Number)> {
+    let Some(compared) = subtraction_at(image, Some(at), LINK) else {
+        return None;
+    };
+    match (compared.right, condition) {
+        (Right::Number(limit), Condition::CarryClear) => {
+            let value = limit.saturating_sub(1);
+            Some((compared.left, Number { value, words: 1 }))
+        }
+        (Right::Content(register), Condition::CarrySet) => {
+            match exact_at(image, at.saturating_sub(1)) {
+                Some(value) => Some((register, Number { value, words: 3 })),
+                None => None,
+            }
+        }
+        _ => None,
+    }
+}
+
+// The lowest number of a range, which the word at a place subtracts into the free register; 0 where it doesn't.
+fn low_at(image: &ImageView<'_>, at: Option<usize>, above: u8) -> i64 {
+    if above != FREE {
+        return 0;
+    }
+    let Some(taken) = subtraction_at(image, at, FREE) else {
+        return 0;
+    };
+    match taken.right {
+        Right::Number(low) => low,
+        Right::Content(_) => match exact_at(image, at.unwrap_or(0).saturating_sub(1)) {
+            Some(number) => signed(number),
+            None => 0,
+        },
+    }
+}
+
+// A number of 32 bits without a sign as one with its sign; it may be 2^32 too large.
+fn signed(value: i64) -> i64 {
+    let word = if value >= 4_294_967_296 {
+        value - 4_294_967_296
+    } else {
+        value
+    };
+    if word >= 2_147_483_648 {
+        word - 4_294_967_296
+    } else {
+        word
+    }
+}
+
+// The content of a register as a number with its sign.
+fn content(machine: &Machine, register: u8) -> i64 {
+    if register > LINK {
+        return 0;
+    }
+    signed(i64::from(machine.reg(register)))
+}
+
+// The content of a register, unless the stop used it.
+fn kept(machine: &Machine, register: u8) -> Option<i64> {
+    if register == FREE || register == LINK {
+        None
+    } else {
+        Some(content(machine, register))
+    }
+}
+
+// The value in a register at the test of a range. One in the free register is told by the operand of the word that took
+// the lowest number off.
+fn tested(
+    image: &ImageView<'_>,
+    machine: &Machine,
+    before: Option<usize>,
+    register: u8,
+) -> Option<i64> {
+    if register != FREE {
+        return kept(machine, register);
+    }
+    match subtraction_at(image, before, FREE) {
+        Some(taken) => kept(machine, taken.left),
+        None => None,
+    }
+}
+
+// What the test of a range found whose last word stands before a place.
+fn outside(
+    image: &ImageView<'_>,
+    machine: &Machine,
+    stop: usize,
+    condition: Condition,
+) -> Option<Found> {
+    let Some(at) = stop.checked_sub(1) else {
+        return None;
+    };
+    let Some((register, most)) = most_at(image, at, condition) else {
+        return None;
+    };
+    let before = stop.checked_sub(most.words.saturating_add(1));
+    let low = low_at(image, before, register);
+    match tested(image, machine, before, register) {
+        Some(value) => Some(Found {
+            value,
+            bounds: Some(Bounds {
+                low,
+                high: low.saturating_add(most.value),
+            }),
+        }),
+        None => None,
+    }
+}
+
+// A value that is in no range.
+fn alone(value: Option<i64>) -> Option<Found> {
+    match value {
+        Some(value) => Some(Found {
+            value,
+            bounds: None,
+        }),
+        None => None,
+    }
+}
+
+// The first operand of the subtraction of a number at a place, whose result is in the free register.
+fn subtracted(image: &ImageView<'_>, machine: &Machine, at: Option<usize>) -> Option<i64> {
+    match subtraction_at(image, at, FREE) {
+        Some(taken) => match taken.right {
+            Right::Number(_) => kept(machine, taken.left),
+            Right::Content(_) => None,
+        },
+        None => None,
+    }
+}
+
+// The operands of an operation, unless the stop used a register of theirs.
+fn operands(machine: &Machine, operated: Operated) -> Option<(i64, i64)> {
+    let right = match operated.right {
+        Right::Number(number) => Some(number),
+        Right::Content(register) => kept(machine, register),
+    };
+    match (kept(machine, operated.left), right) {
+        (Some(left), Some(right)) => Some((left, right)),
+        _ => None,
+    }
+}
+
+// A number of 32 bits as one that has more: its upper bit is not its sign.
+fn past(kept: i64) -> i64 {
+    let missing = if kept < 0 {
+        4_294_967_296
+    } else {
+        -4_294_967_296
+    };
+    kept.saturating_add(missing)
+}
+
+// The sum or the difference of an operation, which has more than 32 bits.
+fn sum_of(machine: &Machine, operated: Operated) -> Option<i64> {
+    match (operated.operation, operands(machine, operated)) {
+        (Operation::Add, Some((left, right))) => Some(left.saturating_add(right)),
+        (Operation::Sub, Some((left, right))) => Some(left.saturating_sub(right)),
+        _ => None,
+    }
+}
+
+// The sum or the difference at a place that has more than 32 bits. Where its register has it still, that tells it.
+fn sum(image: &ImageView<'_>, machine: &Machine, at: Option<usize>) -> Option<i64> {
+    let Some(operated) = operated_at(image, at) else {
+        return None;
+    };
+    match (operated.operation, kept(machine, operated.to)) {
+        (Operation::Add | Operation::Sub, Some(kept)) => Some(past(kept)),
+        _ => sum_of(machine, operated),
+    }
+}
+
+// The product at a place that has more than 32 bits, of which H has the upper ones.
+fn product(image: &ImageView<'_>, machine: &Machine, at: Option<usize>) -> Option<i64> {
+    let Some(operated) = operated_at(image, at) else {
+        return None;
+    };
+    match (operated.operation, kept(machine, operated.to)) {
+        (Operation::Mul, Some(low)) => {
+            let low = if low < 0 {
+                low.saturating_add(4_294_967_296)
+            } else {
+                low
+            };
+            let high = signed(i64::from(machine.high()));
+            Some(high.saturating_mul(4_294_967_296).saturating_add(low))
+        }
+        (Operation::Mul, None) => match operands(machine, operated) {
+            Some((left, right)) => Some(left.saturating_mul(right)),
+            None => None,
+        },
+        _ => None,
+    }
+}
+
+// Whether the word at a place goes to another.
+fn leads(image: &ImageView<'_>, at: usize, to: usize) -> bool {
+    match act_at(image, Some(at)) {
+        Act::Branch {
+            condition: _,
+            distance: Some(distance),
+        } => {
+            let next = i64::try_from(at).unwrap_or(0).saturating_add(1);
+            next.saturating_add(distance) == i64::try_from(to).unwrap_or(-1)
+        }
+        _ => false,
+    }
+}
+
+// The value of a `case`, of which the last test goes to a place where none of its constants was met.
+fn case_value(image: &ImageView<'_>, machine: &Machine, stop: usize) -> Option<i64> {
+    for back in 1..stop {
+        let at = stop.saturating_sub(back);
+        if leads(image, at, stop) {
+            return subtracted(image, machine, at.checked_sub(1));
+        }
+    }
+    None
+}
+
+/// The value that an error with this number found, at a stop with this link; none where the words before it don't tell it.
+pub fn found_at(image: &ImageView<'_>, machine: &Machine, link: u32, number: u32) -> Option<Found> {
+    let Some(stop) = (link as usize / 4).checked_sub(1) else {
+        return None;
+    };
+    let Act::Branch {
+        condition,
+        distance: _,
+    } = act_at(image, Some(stop))
+    else {
+        return None;
+    };
+    match number {
+        1 => match condition {
+            Condition::OverflowSet => alone(sum(image, machine, stop.checked_sub(1))),
+            _ => alone(product(image, machine, stop.checked_sub(PRODUCT))),
+        },
+        3 => alone(subtracted(image, machine, stop.checked_sub(1))),
+        7 => alone(case_value(image, machine, stop)),
+        4 | 5 | 8 | 11 => outside(image, machine, stop, condition),
+        _ => None,
+    }
+}

@@ -1,0 +1,320 @@
+//! The frames of open calls.
+
+use crate::memory::word;
+use crate::words::{Act, act_at};
+use ps_map::{Map, Owner, Place, Row};
+use risc_image::ImageView;
+use risc_machine::{Machine, Stop};
+use std::alloc::{AllocError, Global};
+
+// The registers of the innermost frame and of links.
+const FRAME: u8 = 14;
+
+const LINK: u8 = 15;
+
+// Where in its caller's frame a run-time routine keeps its link.
+const LEAF_LINK: u32 = 40;
+
+/// A frame in memory: where it begins, the routine that it is of, where that stands, and where it was called.
+#[derive(Clone, Copy)]
+pub struct Standing {
+    pub frame: u32,
+    pub routine: Option<u32>,
+    /// None where that isn't known, as at a call that the stack had no room for.
+    pub at: Option<Row>,
+    pub called: Option<Place>,
+    /// Whether its variables have values: all but the first words of a routine are behind.
+    pub has_begun: bool,
+}
+
+/// The frames of open calls.
+#[derive(Drop)]
+pub(crate) struct Frames {
+    /// The innermost ones, and behind them the outermost one.
+    pub(crate) shown: Vec<Standing>,
+    /// How many there are in all.
+    pub(crate) count: u64,
+    /// How many are of each routine, by its number.
+    pub(crate) counts: Vec<u64>,
+}
+
+/// What is looked at: a machine that stopped, with the image that was loaded and its map.
+#[derive(Clone, Copy)]
+pub(crate) struct View<'a> {
+    pub(crate) machine: &'a Machine,
+    pub(crate) image: &'a ImageView<'a>,
+    pub(crate) map: &'a Map,
+}
+
+// The routine of the program that has the words of a row.
+pub(crate) fn routine_of(row: Option<Row>) -> Option<u32> {
+    match row {
+        Some(row) => match row.owner {
+            Owner::Routine(routine) => Some(routine),
+            _ => None,
+        },
+        None => None,
+    }
+}
+
+fn token_of(row: Option<Row>) -> Option<Place> {
+    match row {
+        Some(row) => row.token,
+        None => None,
+    }
+}
+
+impl Frames {
+    fn new(alloc: Global, routines: usize) -> Result<Frames, AllocError> {
+        let mut counts = Vec::new(alloc);
+        for _ in 0..routines {
+            counts.push(0)?;
+        }
+        Ok(Frames {
+            shown: Vec::new(alloc),
+            count: 0,
+            counts,
+        })
+    }
+
+    // Adds the next frame outwards, which is shown among the first ones.
+    fn add(&mut self, standing: Standing, most: usize) -> Result<(), AllocError> {
+        if self.shown.len() < most {
+            self.shown.push(standing)?;
+        }
+        self.count = self.count.saturating_add(1);
+        if let Some(routine) = standing.routine {
+            if let Some(count) = self.counts.get_mut(routine as usize) {
+                *count = count.saturating_add(1);
+            }
+        }
+        Ok(())
+    }
+
+    // Adds the outermost frame, if it isn't shown yet.
+    fn add_last(&mut self, last: Standing) -> Result<(), AllocError> {
+        if (self.shown.len() as u64) < self.count {
+            self.shown.push(last)?;
+        }
+        Ok(())
+    }
+}
+
+impl<'a> View<'a> {
+    // Where the machine stands: at a stop of the program behind the word of its link, at its end behind its last word,
+    // and else at the next word.
+    fn row_at(&self, stop: Stop) -> Option<Row> {
+        match stop {
+            Stop::Trap(link) => self.map.row_of_link(link),
+            Stop::Normal => self.map.row_of(self.machine.pc().saturating_sub(1)),
+            _ => self.map.row_of(self.machine.pc()),
+        }
+    }
+
+    // Whether a row is that of a routine's entry, at which the frame may not be its own yet.
+    fn is_entry(&self, row: Row) -> bool {
+        match row.owner {
+            Owner::Routine(number) => match self.map.routines.get(number as usize) {
+                Some(routine) => row.word == routine.entry,
+                None => false,
+            },
+            _ => false,
+        }
+    }
+
+    // Whether a statement of a routine stands at a row or before it.
+    fn has_begun(&self, row: Row) -> bool {
+        let behind = self
+            .map
+            .rows
+            .partition_point(|other| other.word <= row.word);
+        for other in self.map.rows.get(..behind).unwrap_or(&[]).iter().rev() {
+            if other.owner != row.owner {
+                return false;
+            }
+            if other.statement.is_some() {
+                return true;
+            }
+        }
+        false
+    }
+
+    // Where a link leads that is kept for a run-time routine, which may have it still in its register.
+    fn row_of_leaf(&self, frame: u32) -> Option<Row> {
+        let kept = match word(self.machine, frame.saturating_add(LEAF_LINK)) {
+            Some(link) => self.map.row_of_link(link),
+            None => None,
+        };
+        match kept {
+            Some(row) if matches!(row.owner, Owner::Routine(_)) => Some(row),
+            _ => self.map.row_of_link(self.machine.reg(LINK)),
+        }
+    }
+
+    // The routine that the call before a link enters, where its word tells it.
+    fn callee_at(&self, link: u32) -> Option<u32> {
+        let Some(at) = (link / 4).checked_sub(1) else {
+            return None;
+        };
+        match act_at(self.image, Some(at as usize)) {
+            Act::Branch {
+                condition: _,
+                distance: Some(distance),
+            } => {
+                let to = distance.saturating_add(i64::from(link / 4));
+                routine_of(self.map.row_of(u32::try_from(to).unwrap_or(0)))
+            }
+            _ => None,
+        }
+    }
+
+    // The routine whose frames have so many bytes, if there is one alone.
+    fn routine_of_size(&self, bytes: u32) -> Option<u32> {
+        let mut found = None;
+        for number in 0..self.image.frames() {
+            match self.image.frame(number) {
+                Some(row) if row.bytes == bytes => {
+                    if found.is_some() {
+                        return None;
+                    }
+                    found = u32::try_from(number).ok();
+                }
+                _ => {}
+            }
+        }
+        found
+    }
+
+    // The routine that a frame is of.
+    fn owner_of(&self, frame: u32) -> Option<u32> {
+        let (Some(link), Some(outer)) = (
+            word(self.machine, frame),
+            word(self.machine, frame.saturating_add(4)),
+        ) else {
+            return None;
+        };
+        if self.image.call_of(link).is_none() {
+            return Some(0);
+        }
+        match self.callee_at(link) {
+            Some(routine) => Some(routine),
+            None => self.routine_of_size(outer.wrapping_sub(frame)),
+        }
+    }
+
+    // Whether a word makes its frame the innermost one.
+    fn takes_frame(&self, at: u32) -> bool {
+        match act_at(self.image, Some(at as usize)) {
+            Act::Move { to } => to == FRAME,
+            _ => false,
+        }
+    }
+
+    // Whether the machine stands behind the word of a routine's entry that makes its frame the innermost one.
+    fn is_entered(&self, row: Row) -> bool {
+        for at in row.word..self.machine.pc() {
+            if self.takes_frame(at) {
+                return true;
+            }
+        }
+        false
+    }
+
+    // The innermost frame where the machine stands in a routine's entry: that of the routine, or of its caller.
+    fn entering(&self, row: Row, frame: u32) -> Option<Standing> {
+        if self.is_entered(row) {
+            let mut standing = self.standing(frame, routine_of(Some(row)), None);
+            standing.has_begun = false;
+            return Some(standing);
+        }
+        match self.owner_of(frame) {
+            Some(owner) => Some(self.standing(frame, Some(owner), None)),
+            None => None,
+        }
+    }
+
+    // The innermost frame where the machine stands at a row.
+    fn innermost_at(&self, row: Row) -> Option<Standing> {
+        let frame = self.machine.reg(FRAME);
+        match row.owner {
+            Owner::Routine(_) if self.is_entry(row) => self.entering(row, frame),
+            Owner::Routine(routine) => Some(self.standing(frame, Some(routine), Some(row))),
+            Owner::RunTime(_) => {
+                let row = self.row_of_leaf(frame);
+                Some(self.standing(frame, routine_of(row), row))
+            }
+            Owner::Start | Owner::Strings => None,
+        }
+    }
+
+    /// The row where the machine stands, and of the innermost frame where its routine stands.
+    pub(crate) fn innermost(&self, stop: Stop) -> (Option<Row>, Option<Standing>) {
+        let here = self.row_at(stop);
+        match here {
+            Some(row) => (here, self.innermost_at(row)),
+            None => (None, None),
+        }
+    }
+
+    // What a frame is, where its routine and its place are known.
+    fn standing(&self, frame: u32, routine: Option<u32>, at: Option<Row>) -> Standing {
+        let called = match self.link_of(frame) {
+            Some(link) => token_of(self.map.row_of_link(link)),
+            None => None,
+        };
+        let has_begun = match at {
+            Some(row) => self.has_begun(row),
+            None => true,
+        };
+        Standing {
+            frame,
+            routine,
+            at,
+            called,
+            has_begun,
+        }
+    }
+
+    // The link of the call that a frame is of; none of the program block's.
+    fn link_of(&self, frame: u32) -> Option<u32> {
+        match word(self.machine, frame) {
+            Some(link) if self.image.call_of(link).is_some() => Some(link),
+            _ => None,
+        }
+    }
+
+    // The frame around one, if that is of a call.
+    fn outer(&self, inner: Standing) -> Option<Standing> {
+        let (Some(link), Some(frame)) = (
+            self.link_of(inner.frame),
+            word(self.machine, inner.frame.saturating_add(4)),
+        ) else {
+            return None;
+        };
+        if frame <= inner.frame {
+            return None;
+        }
+        let row = self.map.row_of_link(link);
+        Some(self.standing(frame, routine_of(row), row))
+    }
+
+    /// The frames of the open calls from one on, the innermost first: at most so many of them, and the outermost one.
+    pub(crate) fn frames(
+        &self,
+        alloc: Global,
+        innermost: Standing,
+        most: usize,
+    ) -> Result<Frames, AllocError> {
+        let mut frames = Frames::new(alloc, self.map.routines.len())?;
+        let mut last = innermost;
+        for _ in 0..self.machine.size() {
+            frames.add(last, most)?;
+            match self.outer(last) {
+                Some(next) => last = next,
+                None => break,
+            }
+        }
+        frames.add_last(last)?;
+        Ok(frames)
+    }
+}

@@ -1,0 +1,163 @@
+//! The loops in which a run stood.
+
+use crate::filling::put_number;
+use crate::scene::Scene;
+use ps_diagnose_outline::{Construct, Outline};
+use ps_diagnose_warnings::Warning;
+use ps_map::{Lines, Place};
+use std::alloc::{AllocError, Global};
+
+/// A loop of the text.
+#[derive(Clone, Copy, Debug)]
+pub struct Loop {
+    /// The word that it begins with.
+    pub word: &'static str,
+    /// Where that is.
+    pub at: Place,
+}
+
+// The name of the warning of loops that change nothing of what their conditions look at.
+const UNCHANGED: &str = "LoopUnchanged";
+
+/// A text with the loops in it that change nothing.
+#[derive(Clone, Copy)]
+pub(crate) struct Loops<'a> {
+    pub(crate) outline: &'a Outline<'a>,
+    pub(crate) lines: &'a Lines,
+    pub(crate) warnings: &'a [Warning],
+}
+
+// The word of a loop.
+fn word_of(construct: Construct) -> Option<&'static str> {
+    match construct {
+        Construct::While => Some("while"),
+        Construct::Repeat => Some("repeat"),
+        Construct::For => Some("for"),
+        _ => None,
+    }
+}
+
+impl<'a> Loops<'a> {
+    // The innermost loop round a token that begins before another one, and the number of its first token.
+    fn round(&self, at: usize, before: usize) -> Option<(Loop, usize)> {
+        let mut found = None;
+        for part in self.outline.constructions() {
+            if part.first <= at && at < part.end && part.first < before {
+                if let Some(word) = word_of(part.construct) {
+                    let from = self.outline.span(part.first).from;
+                    let at = self.lines.place_of(from);
+                    found = Some((Loop { word, at }, part.first));
+                }
+            }
+        }
+        found
+    }
+
+    // The number of the token at a place.
+    fn token_at(&self, place: Place) -> usize {
+        self.outline.token_at(self.lines.offset_of(place))
+    }
+
+    /// The innermost loop in which a scene stands: one of its innermost call, or else of one further out.
+    pub(crate) fn innermost(&self, scene: &Scene) -> Option<Loop> {
+        for open in scene.open.iter() {
+            if let Some(place) = open.at {
+                if let Some((found, _)) = self.round(self.token_at(place), usize::MAX) {
+                    return Some(found);
+                }
+            }
+        }
+        None
+    }
+
+    // The warning of the loop that begins at a token.
+    fn warning_at(&self, first: usize) -> Option<&'a Warning> {
+        let from = self.outline.span(first).from;
+        for warning in self.warnings {
+            if warning.name == UNCHANGED && warning.place.from == from {
+                return Some(warning);
+            }
+        }
+        None
+    }
+
+    // The innermost loop round a token that changes nothing.
+    fn unchanged_round(&self, at: usize) -> Option<(Loop, &'a Warning)> {
+        let mut before = usize::MAX;
+        for _ in 0..self.outline.token_count() {
+            let Some((found, first)) = self.round(at, before) else {
+                return None;
+            };
+            if let Some(warning) = self.warning_at(first) {
+                return Some((found, warning));
+            }
+            before = first;
+        }
+        None
+    }
+
+    // The innermost loop of a scene that changes nothing of what its condition looks at.
+    fn unchanged(&self, scene: &Scene) -> Option<(Loop, &'a Warning)> {
+        for open in scene.open.iter() {
+            if let Some(place) = open.at {
+                let found = self.unchanged_round(self.token_at(place));
+                if found.is_some() {
+                    return found;
+                }
+            }
+        }
+        None
+    }
+
+    /// What is told of the innermost loop of a scene that changes nothing of what its condition looks at, if there is
+    /// one, beside the loop that was told.
+    pub(crate) fn note(
+        &self,
+        alloc: Global,
+        scene: &Scene,
+        told: Option<Loop>,
+    ) -> Result<Option<String>, AllocError> {
+        match self.unchanged(scene) {
+            Some((found, warning)) => {
+                let is_told = match told {
+                    Some(told) => told.at == found.at,
+                    None => false,
+                };
+                let note = note_of(alloc, found, is_told, warning.draft.text.as_str())?;
+                Ok(Some(note))
+            }
+            None => Ok(None),
+        }
+    }
+}
+
+// The sentence of a loop that changes nothing, with the names that a warning tells behind the loop's word.
+fn note_of(alloc: Global, found: Loop, is_told: bool, warning: &str) -> Result<String, AllocError> {
+    let mut out = String::new(alloc);
+    out.push_str("nothing in ")?;
+    if is_told {
+        out.push_str("this loop")?;
+    } else {
+        out.push_str("the `")?;
+        out.push_str(found.word)?;
+        out.push_str("` of line ")?;
+        put_number(alloc, &mut out, i64::from(found.at.line))?;
+    }
+    out.push_str(" changes what its condition looks at (")?;
+    put_names(&mut out, warning)?;
+    out.push_str(")")?;
+    Ok(out)
+}
+
+// Adds the names that stand between backticks, but for the first.
+fn put_names(out: &mut String, warning: &str) -> Result<(), AllocError> {
+    for (number, piece) in warning.split('`').enumerate() {
+        if number >= 3 && number % 2 == 1 {
+            if number > 3 {
+                out.push_str(", ")?;
+            }
+            out.push_str(piece)?;
+        }
+    }
+    Ok(())
+}

@@ -1,0 +1,226 @@
+//! An account as an object of JSON for programs.
+
+use crate::account::{Account, Ending};
+use crate::scene::{Activation, Value};
+use ps_map::Place;
+use serde::Serialize;
+use serde_json::Error;
+use std::alloc::{AllocError, Global};
+
+// A place of the text: line and column from 1.
+#[derive(Clone, Copy, Serialize)]
+struct PlaceObject {
+    line: u32,
+    column: u32,
+}
+
+#[derive(Clone, Copy, Serialize)]
+struct LoopObject {
+    word: &'static str,
+    line: u32,
+    column: u32,
+}
+
+#[derive(Drop, Serialize)]
+struct VariableObject<'a> {
+    name: &'a str,
+    #[serde(rename = "type")]
+    denoter: &'a str,
+    value: &'a str,
+}
+
+#[derive(Drop, Serialize)]
+struct CallObject<'a> {
+    routine: &'a str,
+    #[serde(skip_serializing_if = "Option::is_none")]
+    at: Option<PlaceObject>,
+    #[serde(skip_serializing_if = "Option::is_none")]
+    called: Option<PlaceObject>,
+    variables: Vec<VariableObject<'a>>,
+}
+
+#[derive(Drop, Serialize)]
+struct AccountObject<'a> {
+    file: &'a str,
+    ending: &'a str,
+    #[serde(skip_serializing_if = "Option::is_none")]
+    number: Option<u32>,
+    text: &'a str,
+    #[serde(skip_serializing_if = "Option::is_none")]
+    from: Option<u32>,
+    #[serde(skip_serializing_if = "Option::is_none")]
+    to: Option<u32>,
+    #[serde(skip_serializing_if = "Option::is_none")]
+    line: Option<u32>,
+    #[serde(skip_serializing_if = "Option::is_none")]
+    column: Option<u32>,
+    #[serde(skip_serializing_if = "Option::is_none")]
+    value: Option<i64>,
+    #[serde(skip_serializing_if = "Option::is_none")]
+    low: Option<i64>,
+    #[serde(skip_serializing_if = "Option::is_none")]
+    high: Option<i64>,
+    #[serde(rename = "loop", skip_serializing_if = "Option::is_none")]
+    round: Option<LoopObject>,
+    open: u64,
+    calls: Vec<CallObject<'a>>,
+    objects: Vec<&'a str>,
+    notes: Vec<&'a str>,
+}
+
+// The word of an ending.
+fn word_of(ending: Ending) -> &'static str {
+    match ending {
+        Ending::Normal => "normal",
+        Ending::Error => "error",
+        Ending::Stack => "stack",
+        Ending::Heap => "heap",
+        Ending::Steps => "steps",
+        Ending::Input => "input",
+        Ending::Output => "output",
+        Ending::Fault => "fault",
+    }
+}
+
+fn place_object(place: Option<Place>) -> Option<PlaceObject> {
+    match place {
+        Some(Place { line, column }) => Some(PlaceObject { line, column }),
+        None => None,
+    }
+}
+
+// A value that was found, and its bounds, each by itself.
+#[derive(Clone, Copy)]
+struct Numbers {
+    value: Option<i64>,
+    low: Option<i64>,
+    high: Option<i64>,
+}
+
+fn numbers_of(account: &Account) -> Numbers {
+    let Some(found) = account.found else {
+        return Numbers {
+            value: None,
+            low: None,
+            high: None,
+        };
+    };
+    match found.bounds {
+        Some(bounds) => Numbers {
+            value: Some(found.value),
+            low: Some(bounds.low),
+            high: Some(bounds.high),
+        },
+        None => Numbers {
+            value: Some(found.value),
+            low: None,
+            high: None,
+        },
+    }
+}
+
+fn loop_object(account: &Account) -> Option<LoopObject> {
+    match account.round {
+        Some(round) => Some(LoopObject {
+            word: round.word,
+            line: round.at.line,
+            column: round.at.column,
+        }),
+        None => None,
+    }
+}
+
+fn variables_of(alloc: Global, values: &[Value]) -> Result<Vec<VariableObject<'_>>, AllocError> {
+    let mut objects = Vec::new(alloc);
+    for value in values.iter() {
+        objects.push(VariableObject {
+            name: value.name.as_str(),
+            denoter: value.denoter.as_str(),
+            value: value.value.as_str(),
+        })?;
+    }
+    Ok(objects)
+}
+
+fn calls_of(alloc: Global, open: &[Activation]) -> Result<Vec<CallObject<'_>>, AllocError> {
+    let mut objects = Vec::new(alloc);
+    for call in open.iter() {
+        objects.push(CallObject {
+            routine: call.name.as_str(),
+            at: place_object(call.at),
+            called: place_object(call.called),
+            variables: variables_of(alloc, call.values.as_slice())?,
+        })?;
+    }
+    Ok(objects)
+}
+
+fn texts_of(alloc: Global, texts: &[String]) -> Result<Vec<&'_ str>, AllocError> {
+    let mut parts = Vec::new(alloc);
+    for text in texts.iter() {
+        parts.push(text.as_str())?;
+    }
+    Ok(parts)
+}
+
+// Where an account is told, each part by itself.
+#[derive(Clone, Copy)]
+struct Told {
+    from: Option<u32>,
+    to: Option<u32>,
+    line: Option<u32>,
+    column: Option<u32>,
+}
+
+fn told_at(account: &Account) -> Told {
+    match account.at {
+        Some(Place { line, column }) => Told {
+            from: Some(account.from),
+            to: Some(account.to),
+            line: Some(line),
+            column: Some(column),
+        },
+        None => Told {
+            from: None,
+            to: None,
+            line: None,
+            column: None,
+        },
+    }
+}
+
+fn account_object<'a>(
+    alloc: Global,
+    file: &'a str,
+    account: &'a Account,
+) -> Result<AccountObject<'a>, AllocError> {
+    let at = told_at(account);
+    let numbers = numbers_of(account);
+    Ok(AccountObject {
+        file,
+        ending: word_of(account.ending),
+        number: account.number,
+        text: account.text.as_str(),
+        from: at.from,
+        to: at.to,
+        line: at.line,
+        column: at.column,
+        value: numbers.value,
+        low: numbers.low,
+        high: numbers.high,
+        round: loop_object(account),
+        open: account.scene.count,
+        calls: calls_of(alloc, account.scene.open.as_slice())?,
+        objects: texts_of(alloc, account.scene.objects.as_slice())?,
+        notes: texts_of(alloc, account.notes.as_slice())?,
+    })
+}
+
+/// The account as an object of JSON, without an end of a line in it. Its members are `file`, `ending`, `number`, `text`,
+/// `from`, `to`, `line`, `column`, `value`, `low`, `high`, `loop`, `open`, `calls`, `objects` and `notes`. `number` is that
+/// of an error or a stop; `value`, `low`, `high` and `loop` are there where they are known, and `from`, `to`, `line` and
+/// `column` where it has a place.
+pub fn object_of(alloc: Global, file: &str, account: &Account) -> Result<String, Error> {
+    let object = account_object(alloc, file, account)?;
+    serde_json::to_string(alloc, &object)
+}

@@ -1,0 +1,54 @@
+//! Parts of what is told, for what tells of runs by itself.
+
+use crate::filling::copy_of;
+use crate::names::Text;
+use crate::scene::{Surroundings, printer_of};
+use crate::values::{Length, Object, ordinal_in};
+use ps_tree::types::{Host, Ty};
+use risc_machine::Machine;
+use std::alloc::{AllocError, Global};
+use std::mem::swap;
+
+impl<'a> Surroundings<'a> {
+    fn text(&self) -> Text<'a> {
+        Text {
+            source: self.source,
+            tokens: self.tokens,
+        }
+    }
+
+    /// The name of the field with a number of the record type whose denoter begins at an offset.
+    pub fn field(&self, denoter: u32, number: usize) -> &'a str {
+        let text = self.text();
+        text.field(denoter, number)
+    }
+}
+
+/// A value of an ordinal type.
+pub fn ordinal_told(
+    alloc: Global,
+    around: &Surroundings<'_>,
+    host: Host,
+    value: i64,
+) -> Result<String, AllocError> {
+    ordinal_in(alloc, around.text(), host, value)
+}
+
+/// The value of a variable of a type at an address. An object is told by its number among some, in their order; one
+/// that isn't among them is added.
+pub fn value_at<'a>(
+    alloc: Global,
+    around: &Surroundings<'a>,
+    machine: &'a Machine,
+    ty: &Ty,
+    at: u32,
+    length: Length,
+    objects: &mut Vec<Object>,
+) -> Result<String, AllocError> {
+    let mut printer = printer_of(alloc, around, machine, length);
+    swap(&mut printer.objects, objects);
+    let put = printer.put_variable(ty, at);
+    swap(&mut printer.objects, objects);
+    put?;
+    copy_of(alloc, printer.out.as_str())
+}

@@ -1,0 +1,94 @@
+//! The words of an image, as far as they are looked at.
+
+use risc_image::ImageView;
+use risc_word::{Condition, Instr, Operand, Operation, Target, decode};
+
+/// The second operand of an operation: a number, or the content of a register.
+#[derive(Clone, Copy)]
+pub(crate) enum Right {
+    Number(i64),
+    Content(u8),
+}
+
+/// What a word does. Registers are told by their numbers.
+#[derive(Clone, Copy)]
+pub(crate) enum Act {
+    Move {
+        to: u8,
+    },
+    /// The register takes so many times 65,536.
+    Top {
+        to: u8,
+        top: i64,
+    },
+    Operate {
+        operation: Operation,
+        to: u8,
+        left: u8,
+        right: Right,
+    },
+    /// The distance is in words from the next one on; none where a register has the address.
+    Branch {
+        condition: Condition,
+        distance: Option<i64>,
+    },
+    Other,
+}
+
+fn right_of(operand: Operand) -> Right {
+    match operand {
+        Operand::Content(register) => Right::Content(register.number()),
+        Operand::Constant(number) => Right::Number(i64::from(number.value())),
+    }
+}
+
+fn distance_of(target: Target) -> Option<i64> {
+    match target {
+        Target::Relative(distance) => Some(i64::from(distance.value())),
+        Target::Absolute(_) => None,
+    }
+}
+
+fn act_of(instr: Instr) -> Act {
+    match instr {
+        Instr::Move { to, operand: _ } => Act::Move { to: to.number() },
+        Instr::MoveTop { to, top } => Act::Top {
+            to: to.number(),
+            top: i64::from(top),
+        },
+        Instr::Operate {
+            operation,
+            to,
+            left,
+            right,
+        } => Act::Operate {
+            operation,
+            to: to.number(),
+            left: left.number(),
+            right: right_of(right),
+        },
+        Instr::Branch {
+            condition,
+            link: _,
+            target,
+        } => Act::Branch {
+            condition,
+            distance: distance_of(target),
+        },
+        _ => Act::Other,
+    }
+}
+
+/// What the word at a place does.
+pub(crate) fn act_at(image: &ImageView<'_>, at: Option<usize>) -> Act {
+    let Some(at) = at else {
+        return Act::Other;
+    };
+    let Some(word) = image.word(at) else {
+        return Act::Other;
+    };
+    match decode(word) {
+        Some(instr) => act_of(instr),
+        None => Act::Other,
+    }
+}
