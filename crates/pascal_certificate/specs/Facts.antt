@@ -74,6 +74,15 @@ tells_image ImageSum = true
 tells_image ImageBytes = true
 tells_image _ = false
 
+-- A fact of the program. The stack that is enough is one of all three together.
+abbrev pub tells_program : Fact → Bool
+tells_program SourceSum = false
+tells_program SourceBytes = false
+tells_program ImageSum = false
+tells_program ImageBytes = false
+tells_program StackEnough = false
+tells_program _ = true
+
 -- ---- values
 
 -- a byte that is printed

@@ -1,7 +1,7 @@
 -- What is told of a source and an image beside a certificate.
-use Rattle.std.specs.Prelude.{Bool, true, false, not, ◌||◌, ◌++◌, List, codes, flat_map}
+use Rattle.std.specs.Prelude.{Bool, true, false, ◌++◌, List, codes, flat_map}
 use Rattle.std.specs.List.{list_any}
-use Rattle.pascal_certificate.specs.Facts.{Text, label, tells_image, tells_source}
+use Rattle.pascal_certificate.specs.Facts.{Text, label, tells_image, tells_program, tells_source}
 use Rattle.pascal_certificate.specs.Differences.{Difference}
 use Rattle.pascal_certificate.specs.declared.verdict.Names.{Names}
 
@@ -17,7 +17,7 @@ abbrev pub is_of_image : Difference → Bool
 is_of_image difference = tells_image difference.fact
 
 abbrev pub is_of_program : Difference → Bool
-is_of_program difference = not (tells_source difference.fact || tells_image difference.fact)
+is_of_program difference = tells_program difference.fact
 
 -- the one text or the other
 abbrev pub either_text : Bool → Text → Text → Text

@@ -4,7 +4,7 @@ ghost use Rattle.std.specs.Prelude.{◌≡◌};
 ghost use Rattle.std.specs.List.{list_all};
 ghost use Rattle.pascal_certificate.specs.Facts.{fits, has_kind, is_count, is_line, is_not_known, is_printed, is_sum};
 ghost use Rattle.pascal_certificate.specs.Facts.{is_sum_digit, kind_of, label, may_be_untold, may_lack};
-ghost use Rattle.pascal_certificate.specs.Facts.{tells_image, tells_source};
+ghost use Rattle.pascal_certificate.specs.Facts.{tells_image, tells_program, tells_source};
 
 /// A fact that a certificate tells, in a line of its own.
 #[derive(Clone, Copy)]
@@ -149,6 +149,21 @@ pub(crate) fn tells_image(fact: Fact) -> bool
         Fact::ImageSum => true,
         Fact::ImageBytes => true,
         _ => false,
+    }
+}
+
+/// Whether a fact is one of the program. The stack that is enough is one of the source, the image and the program
+/// together.
+pub(crate) fn tells_program(fact: Fact) -> bool
+    ensures { result ≡ tells_program fact }
+{
+    match fact {
+        Fact::SourceSum => false,
+        Fact::SourceBytes => false,
+        Fact::ImageSum => false,
+        Fact::ImageBytes => false,
+        Fact::StackEnough => false,
+        _ => true,
     }
 }
 

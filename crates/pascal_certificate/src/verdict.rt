@@ -7,7 +7,7 @@ ghost use Rattle.pascal_certificate.specs.Verdict.{built_line, difference_line, 
 ghost use Rattle.pascal_certificate.specs.Verdict.{is_of_program, is_of_source, program_line, verdict_text};
 
 use crate::compare::Change;
-use crate::fact::{label, tells_image, tells_source};
+use crate::fact::{label, tells_image, tells_program, tells_source};
 use std::alloc::{AllocError, Global};
 
 /// What messages call the files.
@@ -121,7 +121,7 @@ fn has_program(changes: &[Change<'_, '_>]) -> bool
     let [change, behind @ ..] = changes else {
         return false;
     };
-    !(tells_source(change.fact) || tells_image(change.fact)) || has_program(behind)
+    tells_program(change.fact) || has_program(behind)
 }
 
 /// A line for each fact that differs, and then what each file is, and whether the image is that of the source.

@@ -1,14 +1,17 @@
 -- What is told of texts, and of those that changes make: what the front end says.
-use Rattle.std.specs.Prelude.{◌≡◌, ℕ, Bool, true, false, List, unwrap_or}
+use Rattle.std.specs.Prelude.{◌≡◌, ℕ, Bool, true, false, List, All, unwrap_or}
 use Rattle.ps_build.specs.Accepts.{IsAccepted, IsRefused}
 use Rattle.ps_build.specs.Headline.{Compiles}
 use Rattle.ps_build.specs.Refusals.{line_of}
 use Rattle.ps_build.specs.declared.refusal.Refusal.{Refusal}
 use Rattle.ps_diagnose.specs.Changes.{changed_from}
+use Rattle.ps_diagnostic.specs.declared.Diagnostic.{Diagnostic}
 use Rattle.ps_diagnostic.specs.declared.Mend.{Mend}
 use Rattle.ps_diagnostic.specs.declared.Outcome.{Outcome}
 use Rattle.ps_diagnostic.specs.declared.Outcome.TheVariants as outcome
 use Rattle.ps_advise.specs.declared.answer.Advice.{Advice}
+use Rattle.ps_advise.specs.declared.mends.Graded.{Graded}
+use Rattle.ps_advise.specs.declared.rest.Rest.{Rest}
 use Rattle.ps_advise.specs.declared.trial.Verdict.{Verdict}
 use Rattle.ps_advise.specs.declared.trial.Verdict.TheVariants.{Accepted, Refused}
 
@@ -27,10 +30,30 @@ Tells text (outcome.FaultAt line) = (refusal : Refusal) × IsRefused text refusa
 abbrev pub IsMendOf : List ℕ → Mend → Type 0
 IsMendOf text mend = Tells (changed_from text 0 mend.edits.items) mend.outcome
 
+-- each of the mends is one of the text
+abbrev pub AreMendsOf : List ℕ → List Mend → Type 0
+AreMendsOf text mends = All (IsMendOf text) mends
+
+-- the same of graded ones
+abbrev pub AreGradedOf : List ℕ → List Graded → Type 0
+AreGradedOf text mends = All (λ graded. IsMendOf text graded.mend) mends
+
+-- what is told has mends of the text alone
+abbrev pub HasMendsOf : List ℕ → Diagnostic → Type 0
+HasMendsOf text told = AreMendsOf text told.mends.items
+
+abbrev pub HaveMendsOf : List ℕ → List Diagnostic → Type 0
+HaveMendsOf text all = All (HasMendsOf text) all
+
+-- what is left of a text is the text itself, as long as nothing was taken out of it
+abbrev pub IsRestOf : List ℕ → Rest → Type 0
+IsRestOf text rest = rest.is_whole ≡ true → rest.text.items ≡ text
+
 -- the text has an image, or it is refused
 abbrev pub IsTold : List ℕ → Bool → Type 0
 IsTold text true = (bytes : List ℕ) × Compiles text bytes
 IsTold text false = (refusal : Refusal) × IsRefused text refusal
 
+-- The text is told as accepted where it has an image, and else it is refused; and each mend that is told is one of it.
 abbrev pub IsAdviceOn : List ℕ → Advice → Type 0
-IsAdviceOn text advice = IsTold text advice.is_accepted
+IsAdviceOn text advice = IsTold text advice.is_accepted × HaveMendsOf text advice.told.items

@@ -1,7 +1,7 @@
 //! All that is told of a text.
 
-ghost use Rattle.std.specs.Prelude.{IfOk};
-ghost use Rattle.ps_advise.specs.Trials.{IsAdviceOn};
+ghost use Rattle.std.specs.Prelude.{◌≡◌, [], ℕ, IfOk, List, OnOk};
+ghost use Rattle.ps_advise.specs.Trials.{HaveMendsOf, IsAdviceOn, IsRestOf};
 
 use crate::rest::{Rest, goes_on, tell_next};
 use crate::warned::warned;
@@ -40,7 +40,9 @@ fn sentence(refusal: Refusal) -> &'static str {
     }
 }
 
-fn without_place(alloc: Global, refusal: Refusal) -> Result<Diagnostic, AllocError> {
+fn without_place(alloc: Global, refusal: Refusal) -> Result<Diagnostic, AllocError>
+    ensures { IfOk result (λ told. told.mends.items ≡ []) }
+{
     Ok(Diagnostic {
         severity: Severity::Error,
         number: refusal.number(),
@@ -55,29 +57,77 @@ fn without_place(alloc: Global, refusal: Refusal) -> Result<Diagnostic, AllocErr
     })
 }
 
+// Tells the next fault, and whether there is a further one that is told.
+fn tell_one(
+    alloc: Global,
+    rest: &mut Rest,
+    all: &mut Vec<Diagnostic>,
+    wants: Wants,
+) -> Result<bool, AllocError>
+    ensures { (text : List ℕ) → IsRestOf text rest.old → HaveMendsOf text all.old.items
+        → OnOk result (HaveMendsOf text all.new.items × IsRestOf text rest.new) }
+{
+    let step = tell_next(alloc, rest, all)?;
+    if wants.first {
+        return Ok(false);
+    }
+    let is_next = goes_on(alloc, rest, step)?;
+    Ok(is_next)
+}
+
+// Tells one fault after another.
+fn tell_each(
+    alloc: Global,
+    rest: &mut Rest,
+    all: &mut Vec<Diagnostic>,
+    wants: Wants,
+) -> Result<(), AllocError>
+    ensures { (text : List ℕ) → IsRestOf text rest.old → HaveMendsOf text all.old.items
+        → OnOk result (HaveMendsOf text all.new.items) }
+{
+    for _ in 0..MOST_FAULTS {
+        if !tell_one(alloc, rest, all, wants)? {
+            return Ok(());
+        }
+    }
+    Ok(())
+}
+
+// What is told of a refusal: that it is one, where nothing else is.
+fn with_one(
+    alloc: Global,
+    mut all: Vec<Diagnostic>,
+    refusal: Refusal,
+) -> Result<Vec<Diagnostic>, AllocError>
+    ensures { (text : List ℕ) → HaveMendsOf text all.items → IfOk result (λ told. HaveMendsOf text told.items) }
+{
+    if !all.is_empty() {
+        return Ok(all);
+    }
+    let told = without_place(alloc, refusal)?;
+    all.push(told)?;
+    Ok(all)
+}
+
 // What is told of a refusal and of the faults behind it.
 fn faults_of(
     alloc: Global,
     text: &[u8],
     refusal: Refusal,
     wants: Wants,
-) -> Result<Vec<Diagnostic>, AllocError> {
+) -> Result<Vec<Diagnostic>, AllocError>
+    ensures { IfOk result (λ told. HaveMendsOf text.now told.items) }
+{
     let mut all = Vec::new(alloc);
     let mut rest = Rest::new(alloc, text, refusal)?;
-    for _ in 0..MOST_FAULTS {
-        let step = tell_next(alloc, &mut rest, &mut all)?;
-        if wants.first || !goes_on(alloc, &mut rest, step)? {
-            break;
-        }
-    }
-    if all.is_empty() {
-        all.push(without_place(alloc, refusal)?)?;
-    }
-    Ok(all)
+    tell_each(alloc, &mut rest, &mut all, wants)?;
+    with_one(alloc, all, refusal)
 }
 
 // What is told of a text that can be built.
-fn warnings_of(alloc: Global, text: &[u8], wants: Wants) -> Result<Vec<Diagnostic>, AllocError> {
+fn warnings_of(alloc: Global, text: &[u8], wants: Wants) -> Result<Vec<Diagnostic>, AllocError>
+    ensures { IfOk result (λ told. HaveMendsOf text.now told.items) }
+{
     if wants.warnings {
         warned(alloc, text)
     } else {

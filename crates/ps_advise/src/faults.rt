@@ -1,5 +1,8 @@
 //! What is told of one refusal.
 
+ghost use Rattle.std.specs.Prelude.{◌≡◌, ℕ, IfOk, IfSome, List, OnOk};
+ghost use Rattle.ps_advise.specs.Trials.{AreGradedOf, HasMendsOf, IsMendOf};
+
 use crate::budget::Budget;
 use crate::candidates::Change;
 use crate::drafts::{draft_of, is_advised, is_plain, tell_missing};
@@ -61,7 +64,11 @@ struct Drafted {
 }
 
 // Takes a change of one token in beside the trials of a draft: where no reason is known, or the text is accepted with it alone.
-fn take_in(drafted: &mut Drafted, found: Option<Found>) -> Result<(), AllocError> {
+fn take_in(drafted: &mut Drafted, found: Option<Found>) -> Result<(), AllocError>
+    ensures { (text : List ℕ) → AreGradedOf text drafted.old.mends.items
+        → IfSome found (λ found. IsMendOf text found.mend.mend)
+        → OnOk result (AreGradedOf text drafted.new.mends.items) }
+{
     if let Some(found) = found
         && (found.mend.reach == u32::MAX || is_plain(&drafted.draft))
     {
@@ -76,7 +83,9 @@ fn drafted_by_reason(
     faulty: Faulty<'_>,
     fault: &Fault<'_>,
     budget: &mut Budget,
-) -> Result<Drafted, AllocError> {
+) -> Result<Drafted, AllocError>
+    ensures { IfOk result (λ drafted. AreGradedOf faulty.entry.source.now drafted.mends.items) }
+{
     let mut draft = draft_of(alloc, fault)?;
     let trials: Vec<Trial> = mem::replace(&mut draft.trials, Vec::new(alloc));
     let mends = mends_of(alloc, faulty, trials, budget)?;
@@ -90,7 +99,9 @@ fn drafted_by_grammar(
     fault: &Fault<'_>,
     around: &Option<Around>,
     budget: &mut Budget,
-) -> Result<Drafted, AllocError> {
+) -> Result<Drafted, AllocError>
+    ensures { IfOk result (λ drafted. AreGradedOf faulty.entry.source.now drafted.mends.items) }
+{
     let mut drafted = drafted_by_reason(alloc, faulty, fault, budget)?;
     let Some(around) = around else {
         return Ok(drafted);
@@ -116,7 +127,9 @@ fn diagnostic_of(
     draft: Draft,
     mends: Vec<Mend>,
     expected: Vec<Expected>,
-) -> Diagnostic {
+) -> Diagnostic
+    ensures { result.mends ≡ mends }
+{
     let Draft {
         text,
         labels,
@@ -164,11 +177,13 @@ fn told_by_grammar(
     faulty: Faulty<'_>,
     fault: &Fault<'_>,
     budget: &mut Budget,
-) -> Result<Told, AllocError> {
+) -> Result<Told, AllocError>
+    ensures { IfOk result (λ told. HasMendsOf faulty.entry.source.now told.diagnostic) }
+{
     let around = around_place(alloc, faulty.source.bytes(), faulty.tokens, faulty.at)?;
     let Drafted { draft, mends } = drafted_by_grammar(alloc, faulty, fault, &around, budget)?;
     let is_meant = is_meant(mends.as_slice());
-    let mends = best_of(alloc, mends)?;
+    let mends = best_of(alloc, faulty.source.bytes(), mends)?;
     let step = if is_meant {
         step_of(alloc, faulty, mends.as_slice())?
     } else {
@@ -191,9 +206,11 @@ fn told_by_reason(
     faulty: Faulty<'_>,
     fault: &Fault<'_>,
     budget: &mut Budget,
-) -> Result<Told, AllocError> {
+) -> Result<Told, AllocError>
+    ensures { IfOk result (λ told. HasMendsOf faulty.entry.source.now told.diagnostic) }
+{
     let Drafted { draft, mends } = drafted_by_reason(alloc, faulty, fault, budget)?;
-    let mends = best_of(alloc, mends)?;
+    let mends = best_of(alloc, faulty.source.bytes(), mends)?;
     let step = step_of(alloc, faulty, mends.as_slice())?;
     let expected = Vec::new(alloc);
     Ok(Told {
@@ -209,7 +226,9 @@ pub(crate) fn told_of_fault(
     faulty: Faulty<'_>,
     place: Span,
     budget: &mut Budget,
-) -> Result<Told, AllocError> {
+) -> Result<Told, AllocError>
+    ensures { IfOk result (λ told. HasMendsOf faulty.entry.source.now told.diagnostic) }
+{
     let fault = Fault {
         source: faulty.source,
         tokens: faulty.tokens,

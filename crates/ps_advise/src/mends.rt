@@ -3,7 +3,7 @@
 ghost use Rattle.std.specs.Prelude.{◌≡◌, ℕ, List, IfOk, IfSome, unwrap_or};
 ghost use Rattle.ps_build.specs.Refusals.{line_of};
 ghost use Rattle.ps_diagnose.specs.Changes.{changed_from};
-ghost use Rattle.ps_advise.specs.Trials.{IsMendOf, Says, Tells};
+ghost use Rattle.ps_advise.specs.Trials.{AreGradedOf, AreMendsOf, IsMendOf, Says, Tells};
 
 use crate::budget::Budget;
 use crate::candidates::{Candidate, Change, NEAREST, PUT_HERE, candidates_near, edit_of, reach_of};
@@ -124,7 +124,9 @@ pub(crate) fn mends_of(
     faulty: Faulty<'_>,
     trials: Vec<Trial>,
     budget: &mut Budget,
-) -> Result<Vec<Graded>, AllocError> {
+) -> Result<Vec<Graded>, AllocError>
+    ensures { IfOk result (λ mends. AreGradedOf faulty.entry.source.now mends.items) }
+{
     let mut mends = Vec::new(alloc);
     let source = faulty.source.bytes();
     for trial in trials {
@@ -154,7 +156,9 @@ pub(crate) fn tried_mends(
     source: &[u8],
     trials: Vec<Trial>,
     budget: &mut Budget,
-) -> Result<Vec<Mend>, AllocError> {
+) -> Result<Vec<Mend>, AllocError>
+    ensures { IfOk result (λ mends. AreMendsOf source.now mends.items) }
+{
     let mut mends = Vec::new(alloc);
     for trial in trials {
         if mends.len() < MOST_TOLD
@@ -288,13 +292,17 @@ fn try_candidate(
     faulty: Faulty<'_>,
     candidate: Candidate,
     budget: &mut Budget,
-) -> Result<Option<Graded>, AllocError> {
+) -> Result<Option<Graded>, AllocError>
+    ensures { IfOk result (λ found. IfSome found (λ graded. IsMendOf faulty.entry.source.now graded.mend)) }
+{
     if !budget.takes(faulty.source.bytes().len()) {
         return Ok(None);
     }
     let trial = trial_of(alloc, faulty, candidate)?;
-    let mend = tried_mend(alloc, faulty.source.bytes(), faulty.refusal, trial)?;
-    Ok(mend.filter(|graded| !is_doubtful(graded, candidate, faulty.refusal)))
+    match tried_mend(alloc, faulty.source.bytes(), faulty.refusal, trial)? {
+        Some(graded) if !is_doubtful(&graded, candidate, faulty.refusal) => Ok(Some(graded)),
+        _ => Ok(None),
+    }
 }
 
 // Whether a text with a change is refused still, and was more likely to be changed otherwise: its fault is in the line of the one before, or
@@ -322,7 +330,9 @@ pub(crate) fn nearest_mend(
     faulty: Faulty<'_>,
     around: &Around,
     budget: &mut Budget,
-) -> Result<Option<Found>, AllocError> {
+) -> Result<Option<Found>, AllocError>
+    ensures { IfOk result (λ found. IfSome found (λ found. IsMendOf faulty.entry.source.now found.mend.mend)) }
+{
     let mut found = None;
     let hopefuls = hopefuls_near(alloc, faulty, around)?;
     for hopeful in hopefuls.iter().take(MOST_TRIED) {
@@ -354,8 +364,21 @@ pub(crate) fn is_meant(mends: &[Graded]) -> bool {
     cost < NEAREST || cost == PUT_HERE
 }
 
-/// The best of some mends, as they are told: with one of which the text is accepted none of another kind.
-pub(crate) fn best_of(alloc: Global, mut mends: Vec<Graded>) -> Result<Vec<Mend>, AllocError> {
+// Whether one more mend is told behind so many: with one of which the text is accepted none of another kind.
+fn is_shown(count: usize, reach: u32, is_accepted: bool) -> bool {
+    count < MOST_TOLD && (reach == u32::MAX || !is_accepted)
+}
+
+/// The best of some mends of a text, as they are told: with one of which the text is accepted none of another kind.
+pub(crate) fn best_of(
+    alloc: Global,
+    source: &[u8],
+    mut mends: Vec<Graded>,
+) -> Result<Vec<Mend>, AllocError>
+    requires { AreGradedOf source.now mends.items }
+    ensures { IfOk result (λ told. AreMendsOf source.now told.items) }
+{
+    let _ = source;
     mends.sort_by_key(|mend| (u32::MAX.saturating_sub(mend.reach), mend.cost))?;
     let is_accepted = match mends.first() {
         Some(mend) => mend.reach == u32::MAX,
@@ -364,7 +387,7 @@ pub(crate) fn best_of(alloc: Global, mut mends: Vec<Graded>) -> Result<Vec<Mend>
     let mut told = Vec::new(alloc);
     for graded in mends {
         let Graded { mend, reach, .. } = graded;
-        if told.len() < MOST_TOLD && (reach == u32::MAX || !is_accepted) {
+        if is_shown(told.len(), reach, is_accepted) {
             told.push(mend)?;
         }
     }

@@ -1,5 +1,8 @@
 //! The faults of a text one after another.
 
+ghost use Rattle.std.specs.Prelude.{◌≡◌, [], ℕ, IfOk, IfSome, List, OnOk, true};
+ghost use Rattle.ps_advise.specs.Trials.{HasMendsOf, HaveMendsOf, IsRestOf};
+
 use crate::budget::Budget;
 use crate::faults::{Told, told_of_fault};
 use crate::layers::Layers;
@@ -17,6 +20,8 @@ use std::alloc::{AllocError, Global};
 #[derive(Drop)]
 pub(crate) struct Rest {
     text: Vec<u8>,
+    // it is still the text that was given
+    is_whole: bool,
     refusal: Refusal,
     layers: Layers,
     // what may be tried, and what may be looked at behind faults
@@ -30,9 +35,12 @@ pub(crate) struct Rest {
 
 impl Rest {
     /// A text and its first fault.
-    pub(crate) fn new(alloc: Global, text: &[u8], refusal: Refusal) -> Result<Rest, AllocError> {
+    pub(crate) fn new(alloc: Global, text: &[u8], refusal: Refusal) -> Result<Rest, AllocError>
+        ensures { IfOk result (IsRestOf text.now) }
+    {
         Ok(Rest {
             text: Vec::from_slice(alloc, text)?,
+            is_whole: true,
             refusal,
             layers: Layers::new(alloc),
             budget: Budget::new(text.len()),
@@ -51,7 +59,9 @@ fn told_at(
     refusal: Refusal,
     place: Place,
     budget: &mut Budget,
-) -> Result<Option<Told>, AllocError> {
+) -> Result<Option<Told>, AllocError>
+    ensures { IfOk result (λ found. IfSome found (λ told. HasMendsOf text.now told.diagnostic)) }
+{
     let Ok(source) = Source::new(text) else {
         return Ok(None);
     };
@@ -68,13 +78,23 @@ fn told_at(
 
 // Gives what is told the places that it had in the text at first. Mends are told of the first fault alone: those of later ones were
 // tried on a text that has no longer the earlier ones.
-fn place_back(alloc: Global, layers: &Layers, told: &mut Diagnostic, is_first: bool) {
+fn place_back(alloc: Global, layers: &Layers, told: &mut Diagnostic, is_whole: bool)
+    ensures { (text : List ℕ) → (is_whole ≡ true → HasMendsOf text told.old) → HasMendsOf text told.new }
+{
     if let Some(place) = told.place {
         told.place = Some(layers.span_of(place));
     }
     layers.move_labels(&mut told.labels);
-    if !is_first {
+    if !is_whole {
         told.mends = Vec::new(alloc);
+    }
+}
+
+// Where the routine began at first, if there is one.
+fn first_home(layers: &Layers, home: u32) -> u32 {
+    match home {
+        u32::MAX => home,
+        _ => layers.offset_of(home),
     }
 }
 
@@ -110,23 +130,25 @@ fn add_told(
     rest: &mut Rest,
     all: &mut Vec<Diagnostic>,
     told: Told,
-) -> Result<Vec<Edit>, AllocError> {
+) -> Result<Vec<Edit>, AllocError>
+    ensures told { (text : List ℕ) → HaveMendsOf text all.old.items
+        → (rest.old.is_whole ≡ true → HasMendsOf text told.diagnostic)
+        → OnOk result (HaveMendsOf text all.new.items) }
+    ensures rest { (text : List ℕ) → IsRestOf text rest.old → IsRestOf text rest.new }
+{
     let Told {
         mut diagnostic,
         step,
         home,
     } = told;
-    rest.home = match home {
-        u32::MAX => home,
-        _ => rest.layers.offset_of(home),
-    };
+    rest.home = first_home(&rest.layers, home);
     // (with a mend of the last fault the text is accepted)
     let step = if is_accepted(diagnostic.mends.as_slice()) {
         Vec::new(alloc)
     } else {
         step
     };
-    place_back(alloc, &rest.layers, &mut diagnostic, all.is_empty());
+    place_back(alloc, &rest.layers, &mut diagnostic, rest.is_whole);
     let is_known = is_told(
         all.as_slice(),
         rest.homes.as_slice(),
@@ -146,7 +168,11 @@ pub(crate) fn tell_next(
     alloc: Global,
     rest: &mut Rest,
     all: &mut Vec<Diagnostic>,
-) -> Result<Vec<Edit>, AllocError> {
+) -> Result<Vec<Edit>, AllocError>
+    ensures told { (text : List ℕ) → IsRestOf text rest.old → HaveMendsOf text all.old.items
+        → OnOk result (HaveMendsOf text all.new.items) }
+    ensures rest { (text : List ℕ) → IsRestOf text rest.old → IsRestOf text rest.new }
+{
     let Some(place) = rest.refusal.place() else {
         return Ok(Vec::new(alloc));
     };
@@ -177,7 +203,9 @@ fn is_looked_at(refusal: Refusal, before: Refusal) -> bool {
 }
 
 /// Goes on behind a fault: whether there is a further one that is looked at.
-pub(crate) fn goes_on(alloc: Global, rest: &mut Rest, step: Vec<Edit>) -> Result<bool, AllocError> {
+pub(crate) fn goes_on(alloc: Global, rest: &mut Rest, step: Vec<Edit>) -> Result<bool, AllocError>
+    ensures { (text : List ℕ) → IsRestOf text rest.old → OnOk result (IsRestOf text rest.new) }
+{
     if step.is_empty() || !rest.behind.takes(rest.text.len()) {
         return Ok(false);
     }
@@ -189,6 +217,7 @@ pub(crate) fn goes_on(alloc: Global, rest: &mut Rest, step: Vec<Edit>) -> Result
     rest.parted.push(rest.home)?;
     rest.layers.add(step)?;
     rest.text = text;
+    rest.is_whole = false;
     rest.refusal = refusal;
     Ok(is_next)
 }

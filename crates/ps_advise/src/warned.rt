@@ -1,5 +1,8 @@
 //! What is told of a text that is accepted.
 
+ghost use Rattle.std.specs.Prelude.{IfOk};
+ghost use Rattle.ps_advise.specs.Trials.{HasMendsOf, HaveMendsOf};
+
 use crate::budget::Budget;
 use crate::mends::tried_mends;
 use crate::text_of::tokens_of;
@@ -37,7 +40,9 @@ fn told_of(
     text: &[u8],
     warning: Warning,
     budget: &mut Budget,
-) -> Result<Diagnostic, AllocError> {
+) -> Result<Diagnostic, AllocError>
+    ensures { IfOk result (HasMendsOf text.now) }
+{
     let Warning {
         number,
         name,
@@ -67,7 +72,9 @@ fn told_of(
 }
 
 /// The first warnings of a text that is accepted.
-pub(crate) fn warned(alloc: Global, text: &[u8]) -> Result<Vec<Diagnostic>, AllocError> {
+pub(crate) fn warned(alloc: Global, text: &[u8]) -> Result<Vec<Diagnostic>, AllocError>
+    ensures { IfOk result (λ told. HaveMendsOf text.now told.items) }
+{
     let mut told = Vec::new(alloc);
     let Ok(source) = Source::new(text) else {
         return Ok(told);

@@ -13,7 +13,7 @@ use Rattle.ps_lower_layout.specs.Shapes.{Shape}
 use Rattle.ps_lower_layout.specs.Frames.{Kind, Own, Reference, Closure, Kinds, no_kind, kind_before, kinds_of}
 use Rattle.ps_lower_layout.specs.Frames.{listed_kinds, result_kinds, variable_kinds, entries}
 use Rattle.ps_lower_code.specs.Fits.{tail}
-use Rattle.ps_needs.specs.Paths.{IsPassed}
+use Rattle.ps_needs_least.specs.Paths.{IsPassed}
 
 none_some : {A B : Type 0} (x : A) → None ≡ Some x → B
 none_some x e = absurd (cc)

@@ -29,10 +29,12 @@ use Rattle.ps_lower_code.specs.Routines.{scope_of}
 use Rattle.ps_lower_code.specs.Fits.{tail, DeclaredAt, PlaceFits, SelectorsFit, SelectorFits, ExprFits, StructureFits}
 use Rattle.ps_lower_code.specs.Fits.{ContentsFit, StepsFit, OperandsFit, SetFits, SetStepsFit, MembersFit, MemberFits}
 use Rattle.ps_lower_code.specs.Fits.{ArgumentsFit, ArgumentFits}
-use Rattle.ps_needs.specs.Uses.{Use, Called, ParameterCalled, place_uses, selectors_uses, selector_uses, expr_uses}
-use Rattle.ps_needs.specs.Uses.{steps_uses, operands_uses, set_uses, set_steps_uses, member_uses, members_uses}
-use Rattle.ps_needs.specs.Uses.{structure_uses, argument_uses, arguments_uses}
-use Rattle.ps_needs.specs.Paths.{uses, MayCall}
+use Rattle.ps_needs_least.specs.declared.uses.Use.{Use}
+use Rattle.ps_needs_least.specs.declared.uses.Use.TheVariants.{Called, ParameterCalled}
+use Rattle.ps_needs_least.specs.Uses.{place_uses, selectors_uses, selector_uses, expr_uses, steps_uses, operands_uses}
+use Rattle.ps_needs_least.specs.Uses.{set_uses, set_steps_uses, member_uses, members_uses, structure_uses}
+use Rattle.ps_needs_least.specs.Uses.{argument_uses, arguments_uses}
+use Rattle.ps_needs_least.specs.Paths.{uses, MayCall}
 use Rattle.ps_needs.proofs.Environments.{IsHere, EnvIs, Closed, ActualIs, ActualsAre, env_above, formal_is}
 
 -- ---- answers

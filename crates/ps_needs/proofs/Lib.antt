@@ -2,5 +2,3 @@ mod Environments
 mod Expressions
 mod Statements
 mod Needs
-pub mod Depths
-mod Samples

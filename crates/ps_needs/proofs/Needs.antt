@@ -14,8 +14,8 @@ use Rattle.ps_lower_code.specs.Fits.{tail}
 use Rattle.ps_lower_calls.specs.Routines.{RoutinesFit}
 use Rattle.ps_lower_laws.specs.Fits.{ProgramFits}
 use Rattle.ps_lower_accepted.proofs.Whole.{accepted}
-use Rattle.ps_needs.specs.Uses.{Use}
-use Rattle.ps_needs.specs.Paths.{uses, Path, program_block, call_within, HoldsAll}
+use Rattle.ps_needs_least.specs.declared.uses.Use.{Use}
+use Rattle.ps_needs_least.specs.Paths.{uses, Path, program_block, call_within, HoldsAll}
 use Rattle.ps_needs.specs.Laws.{PathsAreEnough, NeedsEnough}
 use Rattle.ps_needs.proofs.Environments.{IsHere, EnvIs, ActualsAre, entered_is}
 use Rattle.ps_needs.proofs.Expressions.{IsStack, Unstopped, no_stop, Known, CallsGoOn}

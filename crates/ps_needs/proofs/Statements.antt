@@ -32,8 +32,9 @@ use Rattle.ps_lower_code.specs.Scopes.{Scope}
 use Rattle.ps_lower_code.specs.Routines.{scope_of}
 use Rattle.ps_lower_code.specs.Fits.{OpenedFit, WidthFits, WriteFits, WritesFit, ReadFits, ReadsFit, StatementFits}
 use Rattle.ps_lower_code.specs.Fits.{StatementsFit, ElementsFit}
-use Rattle.ps_needs.specs.Uses.{place_uses, expr_uses, set_uses, structure_uses, places_uses, read_uses, reads_uses}
-use Rattle.ps_needs.specs.Uses.{width_uses, write_uses, writes_uses, statement_uses, statements_uses, elements_uses}
+use Rattle.ps_needs_least.specs.Uses.{place_uses, expr_uses, set_uses, structure_uses, places_uses, read_uses}
+use Rattle.ps_needs_least.specs.Uses.{reads_uses, width_uses, write_uses, writes_uses, statement_uses, statements_uses}
+use Rattle.ps_needs_least.specs.Uses.{elements_uses}
 use Rattle.ps_needs.proofs.Environments.{ActualsAre, formal_is}
 use Rattle.ps_needs.proofs.Expressions.{Unstopped, Fine, no_stop, after, then_fine, choice_fine, held_fine, Known}
 use Rattle.ps_needs.proofs.Expressions.{front, back, CallsGoOn, Here, structure_operand, contents_operand, named_fine}

@@ -11,7 +11,7 @@ use Rattle.ps_tree.specs.Tree.{Program}
 use Rattle.ps_check_judgement.specs.Judged.{Yes}
 use Rattle.ps_check.specs.Programs.{program}
 use Rattle.ps_meaning.specs.Run.{run_within}
-use Rattle.ps_needs.specs.Paths.{HoldsAll}
+use Rattle.ps_needs_least.specs.Paths.{HoldsAll}
 
 -- under any frames and objects, on any input and however long it goes on, no run of the program is stopped for stack
 abbrev pub PathsAreEnough : Program → Type 0

@@ -1,0 +1,7 @@
+use Rattle.std.proofs.Common.{ℕ, List}
+use Rattle.ps_advise.specs.Trials.{HaveMendsOf, IsRestOf}
+use Rattle.ps_advise.proofs.answer.tell_each.Given as goal
+
+abbrev pub invariant-loop : goal.invariant-loop
+invariant-loop l = (text : List ℕ) → IsRestOf text l.initial.rest → HaveMendsOf text l.initial.all.items
+    → HaveMendsOf text l.all.items × IsRestOf text l.rest

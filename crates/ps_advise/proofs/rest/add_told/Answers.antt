@@ -1,0 +1,7 @@
+use Rattle.ps_advise.specs.Trials.{HasMendsOf}
+use Rattle.ps_advise.proofs.Added.{one_more}
+use Rattle.ps_advise.proofs.rest.add_told.Goals as goal
+
+pub returns-clause-told : goal.returns-clause-told
+returns-clause-told c text all told = one_more (HasMendsOf text) c.args.all.now.items c.push.new.self.items _
+    c.in_ok-push.ensures.items all (c.place_back.ensures text told)

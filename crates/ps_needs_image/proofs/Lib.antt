@@ -1,0 +1,2 @@
+mod Never
+mod Standing

@@ -1,0 +1,9 @@
+//! Code: what stack the image of a text needs, with the routines that need it.
+#![tactic(auto)]
+
+mod again;
+pub mod laws;
+mod names;
+mod needed;
+
+pub use needed::{Needed, needs_of};
