@@ -24,17 +24,21 @@ function unaddressed(letters) {
 /** What the address holds: `text`, `input` where it is given before, `waits=no` where the engine may let no run wait. */
 function readAddress() {
   const held = new URLSearchParams(location.hash.slice(1));
+  const letters = ['text', 'input'].filter((name) => held.has(name)).map((name) => held.get(name));
+  const count = held.get('letters'); // of both, by which it shows where an address was cut short
   return {
     text: held.has('text') ? unaddressed(held.get('text')) : undefined,
     input: held.has('input') ? unaddressed(held.get('input')) : undefined,
     waits: held.get('waits') !== 'no',
+    isDamaged: letters.map(unaddressed).includes(undefined) || (count !== null && Number(count) !== letters.join('').length),
   };
 }
 
 /** Puts these into the address, and tells whether they are short enough for one. */
 function writeAddress({ text, input, waits }) {
-  const held = [`text=${addressed(text)}`];
-  if (input !== undefined) held.push(`input=${addressed(input)}`);
+  const letters = [text, input].map((part) => (part === undefined ? '' : addressed(part)));
+  const held = [`letters=${letters.join('').length}`, `text=${letters[0]}`];
+  if (input !== undefined) held.push(`input=${letters[1]}`);
   if (!waits) held.push('waits=no');
   const hash = `#${held.join('&')}`;
   const fits = hash.length <= LONGEST_ADDRESS;

@@ -131,9 +131,16 @@ class Editor {
     const from = start + (column ? column - 1 : 0);
     this.text.focus();
     this.text.setSelectionRange(from, column ? from + length : start + (lines[line - 1] || '').length);
-    const height = parseFloat(getComputedStyle(this.text).lineHeight);
-    this.text.scrollTop = (line - 1) * height - this.text.clientHeight / 2;
+    this.reveal(line);
     this.tell();
+  }
+
+  /** Has a line that is out of sight be in the middle of what is seen. */
+  reveal(line) {
+    const { scrollTop, clientHeight } = this.text;
+    const height = parseFloat(getComputedStyle(this.text).lineHeight);
+    const top = (line - 1) * height;
+    if (top < scrollTop || top + height > scrollTop + clientHeight) this.text.scrollTop = top - clientHeight / 2;
   }
 
   /** Begins a new line as far in as the line before it. (By a command of the browser, which can undo it.) */

@@ -32,11 +32,21 @@ class Explanation {
     return !this.panel.hidden;
   }
 
-  /** Shows a page: its title is its first line. `opener` has the focus again when the panel is closed. */
+  /** Whether it shows what this asked for. */
+  isOpenBy(opener) {
+    return this.isOpen && this.opener === opener;
+  }
+
+  /** Shows a page: its title is its first line. */
   show(page, opener) {
     const [title, ...rest] = blocksOf(page);
-    this.title.textContent = title.text;
-    this.body.replaceChildren(...rest.flatMap((block, at) => this.shown(block, at ? rest[at - 1].text : '')));
+    this.present(title.text, rest.flatMap((block, at) => this.shown(block, at ? rest[at - 1].text : '')), opener);
+  }
+
+  /** Shows the parts of a page. `opener` has the focus again when the panel is closed. */
+  present(title, parts, opener) {
+    this.title.textContent = title;
+    this.body.replaceChildren(...parts);
     this.opener = opener;
     this.panel.hidden = false;
     this.panel.scrollTop = 0;

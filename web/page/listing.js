@@ -1,19 +1,18 @@
-// The listing of the compiled program, with the line of the text beside each instruction that tells one.
+// The listing of the compiled program with its text, as `list --source` writes it.
 
-/** A row of a listing; what tells a line of the text leads there. */
-function listedRow(row, lines, goTo) {
-  const told = /^(.*) ; line (\d+)$/.exec(row);
-  if (!told) return [`${row}\n`];
-  const source = made('span', `  ${(lines[told[2] - 1] || '').trim()}\n`, 'source');
-  return [told[1].padEnd(44), button(`line ${told[2]}`, () => goTo(Number(told[2]))), source];
+/** A row of it; a line of the text leads there. */
+function listedRow(row, goTo) {
+  const source = /^; *(\d+) {2}(.*)$/.exec(row);
+  if (!source) return [row.startsWith(';') ? made('span', `${row}\n`, 'owner') : `${row}\n`];
+  const [, line, text] = source;
+  return [button(`line ${line}`, () => goTo(Number(line))), made('span', ` ${text}\n`, 'source')];
 }
 
 /** Shows a listing. `goTo` is called with the line that is chosen. */
-function showListing(output, listing, text, goTo) {
-  const lines = text.split('\n');
+function showListing(output, listing, goTo) {
   const shown = document.createDocumentFragment();
   for (const row of listing.split('\n')) {
-    if (row) shown.append(...listedRow(row, lines, goTo));
+    if (row) shown.append(...listedRow(row, goTo));
   }
   output.append(shown);
 }

@@ -1,6 +1,8 @@
 // What a run writes, and what is typed to it.
 
 const BLOCK = 4000; // letters behind which a block ends with its line: one that is out of sight is not laid out
+const LONGEST = 40000; // letters behind which it ends within a line, since what grows in one block is laid out anew
+const COLUMNS = 80; // of such a line, as far as it is not laid out
 
 /** The field that shows it. */
 class Output {
@@ -36,11 +38,12 @@ class Output {
   put(text, kind) {
     for (let at = 0; at < text.length; ) {
       if (!this.block) this.begin();
-      const end = text.indexOf('\n', at + Math.max(0, BLOCK - this.length)) + 1 || text.length;
+      const behind = text.indexOf('\n', at + Math.max(0, BLOCK - this.length)) + 1 || text.length;
+      const end = Math.min(behind, at + LONGEST - this.length);
       this.block.append(made('span', text.slice(at, end), kind));
       this.length += end - at;
       at = end;
-      if (this.length >= BLOCK && text[end - 1] === '\n') this.end();
+      if (this.length >= LONGEST || (this.length >= BLOCK && text[end - 1] === '\n')) this.end();
     }
   }
 
@@ -51,7 +54,7 @@ class Output {
   }
 
   end() {
-    const lines = this.block.textContent.split('\n').length - 1;
+    const lines = this.block.textContent.split('\n').length - 1 || Math.ceil(this.length / COLUMNS);
     this.block.style.containIntrinsicHeight = `auto calc(var(--line) * ${lines})`;
     this.block.className = 'whole';
     this.block = null;

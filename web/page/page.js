@@ -9,6 +9,12 @@ const FIRST_EXAMPLE = 'guess';
 const SETTLED = 400; // milliseconds without a key before the address follows
 const NARROW = '(max-width: 760px)';
 const TEXT = 'program.pas';
+/** What is asked of the program. */
+const COMMANDS = {
+  go: (limits) => ['go', TEXT, ...wordsOf(limits)],
+  list: () => ['list', '--source', TEXT],
+  trace: (limits) => ['trace', '--json', '--first', String(MOST_TRACED + 1), TEXT, ...wordsOf(limits)],
+};
 
 const editor = new Editor({ text: part('text'), numbers: part('numbers'), marks: part('marks'), place: part('place') });
 const output = new Output(part('output'));
@@ -19,9 +25,29 @@ const explanation = new Explanation(panel, (text) => {
   choose(text);
   editor.text.focus();
 });
-/** The run that is shown: what it lists of which text, what it and the checker tell, and decoders of what it writes. */
+const stepping = new Stepping(
+  {
+    panel: part('stepping'),
+    back: part('back'),
+    forward: part('forward'),
+    slider: part('step'),
+    leave: part('whole'),
+    where: part('where'),
+    frames: part('frames'),
+  },
+  { shows: showStep, leaves: leaveSteps, looks: callsBehind },
+);
+/**
+ * The run that is shown: what it is of which text, with which limits and input, what it and the checker tell, and
+ * decoders of what it writes.
+ */
 let shown = null;
+/** The command that is begun once the compiler is loaded. */
+let wanted = null;
 let waits = true;
+const settle = settled(follow);
+/** Whether the address does not hold what was put into it. */
+let isDamaged = false;
 
 // ---- what is shown
 
@@ -34,9 +60,11 @@ function say(ending, kind = '') {
 function clear() {
   shown = null;
   output.clear();
+  output.field.removeAttribute('aria-live');
   faults.show([]);
   editor.mark([]);
   explanation.close();
+  stepping.close();
 }
 
 /** What is told of the text: by its run, and by the checker, which says more of why it is refused. */
@@ -50,18 +78,73 @@ function allFaults() {
 function showFaults() {
   const all = allFaults();
   faults.show(all);
-  if (editor.value === shown.text) editor.mark(all);
+  mark();
   followText();
   if (shown.ended) showEnding(shown.ended, all);
 }
 
+/** Marks what is told of the text, and the statement that is gone to, as long as the text is the one that was run. */
+function mark() {
+  if (editor.value !== shown.text) return;
+  const { step } = stepping;
+  editor.mark(step ? [placeOfStep(step), ...allFaults()] : allFaults());
+}
+
+function placeOfStep({ line, column, statement }) {
+  const text = shown.text.split('\n')[line - 1];
+  const start = unitsOf(text)(column - 1);
+  const [begins] = text.slice(start).split(/\W/); // (of a `repeat` its `until` is told, which stands elsewhere)
+  const { length } = statement.startsWith(begins) ? statement : begins;
+  return fault('the statement that is shown', { line, column: start + 1, length, kind: 'step' });
+}
+
 function showEnding({ status, milliseconds }, all) {
-  const ending = shown.lists && !status ? 'Listed' : endingOf(status);
+  const ending = shown.command === 'list' && !status ? 'Listed' : endingOf(status);
   const reason = all.find((fault) => fault.kind === 'error');
   const told = reason ? `${ending}: ${toldOf(reason)}` : ending;
   say(`${told} (${Math.max(1, Math.round(milliseconds))} ms)`, status ? 'badly' : 'well');
   const words = reason ? reason.explains : `status ${status}`;
   if (status) part('ending').append(' ', button('explain', (opener) => explain(words, opener)));
+  if (status > 1 && shown.command !== 'list') part('ending').append(' ', button('why', why));
+}
+
+/** Shows the statement of a run that is gone to: its place, and what the program had written and read by then. */
+function showStep(at) {
+  const { trace, given, error } = shown;
+  output.field.setAttribute('aria-live', 'off'); // (a screen reader would read all of it at each step)
+  output.clear();
+  for (const { text, kind } of trace.consoleAt(at)) {
+    if (kind !== 'typed' || given === undefined) output.add(text, kind);
+  }
+  if (at === trace.steps.length - 1 && error) output.add(error, 'error');
+  mark();
+  if (editor.value === shown.text) editor.reveal(trace.steps[at].line);
+}
+
+/** Begins to go through a run, if it has done a statement. */
+function goThrough() {
+  stepping.open(shown.trace);
+  if (stepping.isOpen && matchMedia(NARROW).matches) part('program').scrollIntoView();
+}
+
+/** The open calls behind a step, as `why` tells them where the machine has made so many steps. */
+async function callsBehind({ steps }) {
+  const account = await accountAt({ ...shown.limits, steps: String(steps) });
+  return account ? callsOf(account) : [];
+}
+
+/** What `why` tells of the run that is shown: it is made once more, with what it read. */
+async function accountAt(limits) {
+  const { error } = await process.ask(['why', '--json', TEXT, ...wordsOf(limits)], shown.files, inputOnceMore());
+  return accountOf(error);
+}
+
+/** Shows the whole of a run again that was gone through. */
+function leaveSteps() {
+  showStep(shown.trace.steps.length - 1);
+  stepping.close();
+  mark();
+  part('trace').focus();
 }
 
 /** Has mends be clicked as long as the text is the one that they are of. */
@@ -77,7 +160,17 @@ function showIsRunning(isRunning) {
 // ---- runs
 
 function limits() {
-  return ['stack', 'heap', 'steps'].flatMap((limit) => [`--${limit}`, part(limit).value || '0']);
+  return { stack: part('stack').value || '0', heap: part('heap').value || '0', steps: part('steps').value || '0' };
+}
+
+/** Limits as words of a command. */
+function wordsOf(limits) {
+  return Object.entries(limits).flatMap(([limit, value]) => [`--${limit}`, value]);
+}
+
+/** What the run that is shown has read, for one that is made once more. */
+function inputOnceMore() {
+  return new TextEncoder().encode(shown.given === undefined ? shown.typed : shown.given);
 }
 
 function inputGiven() {
@@ -90,9 +183,10 @@ function files() {
 }
 
 /** Begins anew with what is shown of the text. */
-function showAnew(lists = false) {
+function showAnew(command = 'check') {
   clear();
-  shown = { lists, text: editor.value, listing: '', error: '', checked: null, ended: null };
+  shown = { command, text: editor.value, files: files(), limits: limits(), given: inputGiven() };
+  Object.assign(shown, { listing: '', trace: new Trace(), typed: '', error: '', checked: null, ended: null });
   shown.output = new TextDecoder();
   shown.messages = new TextDecoder();
 }
@@ -100,26 +194,27 @@ function showAnew(lists = false) {
 /** Has the text checked, beside its run, and returns whether it still is what is shown. */
 async function check() {
   const checks = shown;
-  checks.checked = faultsOfCheck(await process.ask(['check', '--json', TEXT], files()), checks.text);
+  checks.checked = faultsOfCheck(await process.ask(['check', '--json', TEXT], checks.files), checks.text);
   if (checks !== shown) return false;
   showFaults();
   return true;
 }
 
-/** Begins a run of the program on the text; `lists` where it is to be listed. */
-function begin(lists) {
-  if (!process.module) return;
-  showAnew(lists);
-  const input = lists ? '' : inputGiven();
+/** Begins a run of the program on the text, of a command of it; at once, or when the compiler is loaded. */
+function begin(command) {
+  wanted = process.module ? null : command;
+  if (wanted) return;
+  showAnew(command);
+  const input = command === 'list' ? '' : shown.given;
   process.begin({
-    words: lists ? ['list', TEXT] : ['go', TEXT, ...limits()],
-    files: files(),
+    words: COMMANDS[command](shown.limits),
+    files: shown.files,
     input: input === undefined ? undefined : new TextEncoder().encode(input),
     suspends: waits,
   });
   check();
   showIsRunning(true);
-  say(lists ? 'compiling' : 'running');
+  say(command === 'list' ? 'compiling' : 'running');
   if (matchMedia(NARROW).matches) part('results').scrollIntoView();
 }
 
@@ -128,6 +223,7 @@ function stop() {
   process.stop();
   showIsRunning(false);
   say('You stopped the run', 'badly');
+  if (shown.command === 'trace') goThrough();
 }
 
 function ask() {
@@ -142,6 +238,7 @@ function ask() {
 function answer(line) {
   part('answer').hidden = true;
   if (line !== undefined) output.add(line, 'typed');
+  shown.typed += line === undefined ? '' : line;
   say('running');
   process.answer(line === undefined ? null : new TextEncoder().encode(line));
 }
@@ -149,9 +246,9 @@ function answer(line) {
 function end(ended) {
   shown.ended = ended;
   showFaults();
-  if (!shown.lists || ended.status) return;
+  if (shown.command !== 'list' || ended.status) return;
   output.field.className = 'listing';
-  showListing(output.field, shown.listing, shown.text, (line) => editor.select({ line }));
+  showListing(output.field, shown.listing, (line) => editor.select({ line }));
 }
 
 /** Changes the text as a mend tells, and has it checked. */
@@ -172,20 +269,54 @@ async function explain(words, opener) {
   explanation.show(out || error, opener);
 }
 
+/** Shows where a run stood when it ended, and the variables of its open calls. */
+async function why(opener) {
+  const { text, limits } = shown;
+  const present = (parts) => explanation.present('Where it ended', parts, opener);
+  present([made('p', 'The run is made once more.')]);
+  const account = await accountAt(limits);
+  if (!explanation.isOpenBy(opener)) return;
+  if (account) present(shownAccount(account, () => goTo(placeOf(account, text, unitsOf(text)))));
+  else present([made('p', 'This browser could not make the run once more.')]);
+}
+
+/** Goes to a place of the text from the panel. (On a telephone that covers the text.) */
+function goTo(place) {
+  if (matchMedia(NARROW).matches) explanation.close();
+  editor.select(place);
+}
+
 /** Why the browser broke a run off. */
 function whyOf(error) {
   return /call stack/.test(error) ? 'the text is nested too deeply for its stack' : error;
 }
 
+/** Takes what a run writes to standard output. */
+function hearOutput(piece) {
+  if (shown.command === 'list') shown.listing += piece;
+  else output.add(piece);
+}
+
+/** Takes what a run writes to standard error. */
+function hearMessages(piece) {
+  const told = shown.command === 'trace' ? shown.trace.take(piece) : piece;
+  shown.error += told;
+  if (told) output.add(told, 'error');
+  if (shown.trace.isCut) cut();
+}
+
+/** Ends a run of which as many statements are known as are gone through. */
+function cut() {
+  process.stop();
+  showIsRunning(false);
+  say(`The first ${MOST_TRACED} statements can be gone through; the run was ended behind them`, 'well');
+  goThrough();
+}
+
 /** Takes what a run tells. */
 function hear({ out, error, asks, ended, stopped, failed }) {
-  if (out && shown.lists) shown.listing += shown.output.decode(out, { stream: true });
-  else if (out) output.add(shown.output.decode(out, { stream: true }));
-  if (error) {
-    const told = shown.messages.decode(error, { stream: true });
-    shown.error += told;
-    output.add(told, 'error');
-  }
+  if (out) hearOutput(shown.output.decode(out, { stream: true }));
+  if (error) hearMessages(shown.messages.decode(error, { stream: true }));
   if (asks) ask();
   if (!(ended || stopped || failed)) return;
   output.show();
@@ -193,18 +324,22 @@ function hear({ out, error, asks, ended, stopped, failed }) {
   if (ended) end(ended);
   if (stopped) say(`Broken off: it wrote more than the ${stopped} bytes that are shown of a run`, 'badly');
   if (failed) say(`Broken off by this browser: ${whyOf(failed)}`, 'badly');
+  if (shown.command === 'trace') goThrough();
 }
 
 // ---- the address, and the dark form
 
+/** Has the address hold the text, and tells whether it can. */
 function follow() {
-  const fits = writeAddress({ text: editor.value, input: inputGiven(), waits });
-  part('link').disabled = !fits;
-  part('link').title = fits ? 'The address of this page with the text in it' : 'The text is too long for an address';
+  settle.end(); // (what waits could come behind a step back, and put this text into the place of that one's)
+  return writeAddress({ text: editor.value, input: inputGiven(), waits });
 }
 
 async function copyLink() {
-  follow();
+  if (!follow()) {
+    say('The text is too long for a link: copy the text itself', 'badly');
+    return;
+  }
   try {
     await navigator.clipboard.writeText(location.href);
     say('The link is copied');
@@ -235,25 +370,42 @@ function setTheme(isDark) {
 function open(isFirst) {
   const read = readAddress();
   waits = read.waits;
-  if (read.text !== undefined ? read.text !== editor.value : isFirst) {
-    editor.replace(read.text !== undefined ? read.text : EXAMPLES[FIRST_EXAMPLE]);
+  const text = read.text === undefined && isFirst ? EXAMPLES[FIRST_EXAMPLE] : read.text;
+  if (text !== undefined && text !== editor.value) {
+    if (!isFirst) forget();
+    editor.replace(text);
   }
+  isDamaged = read.isDamaged;
+  sayReady();
   if (read.input === undefined) return;
   part('before').checked = true;
   part('given').value = read.input;
   showInput();
 }
 
+/** Ends what is done with the text that stood there. */
+function forget() {
+  stop();
+  clear();
+  isDamaged = false;
+  sayReady();
+}
+
+function sayReady() {
+  if (!process.module) return;
+  if (isDamaged) say('The address holds no whole text: it was cut short or changed on its way', 'badly');
+  else say('ready');
+}
+
 /** Shows another text. (The browser's step back leads to the one before it.) */
 function choose(text) {
   if (text === undefined) return;
-  stop();
-  clear();
-  if (process.module) say('ready');
+  forget();
   follow();
   history.pushState(null, '', location.hash || '#');
   editor.replace(text);
   follow();
+  if (process.module) say('ready; a step back in the browser leads to the text before');
 }
 
 // ---- what is clicked and typed
@@ -261,19 +413,22 @@ function choose(text) {
 /** Calls something once a while has gone by in which it was not asked for again. */
 function settled(call) {
   let timer = 0;
-  return () => {
-    clearTimeout(timer);
+  const end = () => clearTimeout(timer);
+  const begin = () => {
+    end();
     timer = setTimeout(call, SETTLED);
   };
+  return { begin, end };
 }
 
 function key(event) {
   if (event.key === 'Enter' && (event.ctrlKey || event.metaKey)) {
     event.preventDefault();
-    begin(false);
+    begin('go');
   }
   if (event.key === 'Escape') {
     if (explanation.isOpen) explanation.close();
+    else if (stepping.isOpen) leaveSteps();
     else stop();
   }
   if (event.key === 'd' && event.ctrlKey && !part('answer').hidden) {
@@ -283,20 +438,21 @@ function key(event) {
 }
 
 function listen() {
-  const settle = settled(follow);
   editor.changed = () => {
     followText();
-    settle();
+    settle.begin();
+    if (editor.value !== EXAMPLES[part('example').value]) part('example').value = '';
   };
-  part('given').addEventListener('input', settle);
+  part('given').addEventListener('input', settle.begin);
   for (const choice of ['asked', 'before']) {
     part(choice).addEventListener('change', () => {
       showInput();
-      settle();
+      settle.begin();
     });
   }
-  part('run').addEventListener('click', () => begin(false));
-  part('list').addEventListener('click', () => begin(true));
+  part('run').addEventListener('click', () => begin('go'));
+  part('trace').addEventListener('click', () => begin('trace'));
+  part('list').addEventListener('click', () => begin('list'));
   part('stop').addEventListener('click', stop);
   part('link').addEventListener('click', copyLink);
   part('close').addEventListener('click', () => answer());
@@ -326,7 +482,8 @@ function bytesOf(letters) {
 async function load() {
   try {
     process.load(await WebAssembly.compile(bytesOf(held('module'))));
-    say('ready');
+    sayReady();
+    if (wanted) begin(wanted);
   } catch (error) {
     say(`This browser can't load the compiler: ${error}`, 'badly');
   }

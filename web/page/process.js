@@ -54,12 +54,12 @@ class Process {
   }
 
   /** Runs a command beside all else, and returns what it wrote. A later one of the same name ends it. */
-  async ask(words, files) {
+  async ask(words, files, input = new Uint8Array(0)) {
     const before = this.asked.get(words[0]);
     if (before) before.terminate();
     const worker = this.made();
     this.asked.set(words[0], worker);
-    worker.postMessage({ job: { words, files, input: new Uint8Array(0) } });
+    worker.postMessage({ job: { words, files, input } });
     const answer = await answerOf(worker);
     worker.terminate();
     return answer;
