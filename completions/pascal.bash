@@ -3,20 +3,25 @@ _pascal() {
     local word=${COMP_WORDS[COMP_CWORD]} before=${COMP_WORDS[COMP_CWORD-1]} command='' words='' at
     COMPREPLY=()
     for ((at = 1; at < COMP_CWORD; at++)); do
-        case ${COMP_WORDS[at]} in compile|list|run|go|explain|check|certify|verify|help) command=${COMP_WORDS[at]}; break ;; esac
+        case ${COMP_WORDS[at]} in compile|list|run|go|explain|check|certify|verify|needs|why|trace|cover|profile|help) command=${COMP_WORDS[at]}; break ;; esac
     done
-    case $before in --heap|--stack|--steps) return ;; esac
+    case $before in --first|--from|--heap|--input|--map|--routine|--stack|--steps|--to) return ;; esac
     case $command in
-        '') words='compile list run go explain check certify verify help -h --help -V --version' ;;
-        help) words='compile list run go explain check certify verify help' ;;
-        compile) words='-h --help' ;;
-        list) words='-h --help' ;;
-        run) words='--stack --heap --steps -h --help' ;;
-        go) words='--stack --heap --steps -h --help' ;;
+        '') words='compile list run go explain check certify verify needs why trace cover profile help -h --help -V --version' ;;
+        help) words='compile list run go explain check certify verify needs why trace cover profile help' ;;
+        compile) words='-h --help --map' ;;
+        list) words='-h --help --source' ;;
+        run) words='--stack --heap --steps -h --help --usage' ;;
+        go) words='--stack --heap --steps -h --help --usage' ;;
         explain) words='-h --help' ;;
         check) words='-h --help --json --first --no-warnings' ;;
         certify) words='-h --help' ;;
         verify) words='-h --help' ;;
+        needs) words='-h --help' ;;
+        why) words='--stack --heap --steps -h --help --all --json' ;;
+        trace) words='--stack --heap --steps -h --help --from --to --routine --first --json' ;;
+        cover) words='--stack --heap --steps -h --help --input --lcov' ;;
+        profile) words='--stack --heap --steps -h --help' ;;
     esac
     if [[ -n $command && $command != explain && $command != help && $word != -* ]]; then
         mapfile -t COMPREPLY < <(compgen -f -- "$word")

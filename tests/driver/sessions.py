@@ -1,4 +1,4 @@
-"""Cases made from the sessions that README.md and docs/MESSAGES.md show: what `pascal check` shows of a text; tests/README.md tells of them."""
+"""Cases made from the sessions that README.md and docs/MESSAGES.md show: what `pascal check` shows of a text; and those of observed.py. tests/README.md tells of them."""
 
 from __future__ import annotations
 
@@ -8,6 +8,7 @@ import subprocess
 import tempfile
 from typing import Iterator, List, Tuple
 
+import observed
 import runs
 from explained import Trial, text_of
 
@@ -61,3 +62,4 @@ def trials(program: str) -> Iterator[Trial]:
         for line, words, shown, text in sessions_of(page):
             run = lambda words=words, shown=shown, text=text: held(words, shown, text, os.path.abspath(program))  # noqa: E731
             yield Trial(f"check {words} of {page}", f"{page}:{line}", run)
+    yield from observed.trials(program)

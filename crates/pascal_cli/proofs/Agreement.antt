@@ -28,9 +28,11 @@ use Rattle.pascal_cli.specs.Command.{Given, Limits, Request, Work, are_digits, c
 use Rattle.pascal_cli.specs.Command.{certify_request, check, check_given, check_request, compile}
 use Rattle.pascal_cli.specs.Command.{compile_request, default_limits, explain, explain_request, go, go_request}
 use Rattle.pascal_cli.specs.Command.{has_digits, has_letters, image_name, is_line_fault, limit_names, limits_of, list}
-use Rattle.pascal_cli.specs.Command.{list_given, list_request, number_of, read, request_of, run, run_request}
-use Rattle.pascal_cli.specs.Command.{source_name, standard_request, topic_of, topic_words, value_of, verify}
-use Rattle.pascal_cli.specs.Command.{verify_given, verify_request}
+use Rattle.pascal_cli.specs.Command.{list_given, list_request, needs, needs_request, number_of, read, request_of, run}
+use Rattle.pascal_cli.specs.Command.{run_request, source_name, standard_request, topic_of, topic_words, value_of, verify}
+use Rattle.pascal_cli.specs.Command.{verify_given, verify_request, watch, watch_request}
+use Rattle.pascal_cli.specs.declared.job.Watch.{Watch}
+use Rattle.pascal_cli.specs.declared.job.Watch.TheVariants.{Cover, Profile, Trace, Why}
 use Rattle.pascal_cli.proofs.GivenRows.{AllFit, Fails, One, fails_left, fails_right, row, same_text, value_fits}
 use Rattle.pascal_cli.proofs.Leaves.{LeafEnds, budget_text, compile_leaf, compile_ones, end_look, end_row, end_rows}
 use Rattle.pascal_cli.proofs.Leaves.{go_label, go_leaf, has_good_default, leaf_ends, leaf_fault, limited_ones}
@@ -247,6 +249,24 @@ go_agrees : (words : List Text) → Agrees (go_request words) (leaf_fault go_lab
     (go_label, rows_after (rules (limited_ones source_name)) [] words)
 go_agrees words = limited_agrees go_label source_name (λ text. go text) (λ rows. refl) refl refl go_leaf words
 
+abbrev why_label : Text
+why_label = codes "why"
+
+abbrev trace_label : Text
+trace_label = codes "trace"
+
+abbrev cover_label : Text
+cover_label = codes "cover"
+
+abbrev profile_label : Text
+profile_label = codes "profile"
+
+watch_agrees : (label : Text) (how : Watch) → ((rows : List Row) → row_work label rows ≡ watch how
+    (row_path source_name rows)) → (words : List Text)
+    → Agrees (watch_request how words) (leaf_fault label (limited_ones source_name) words)
+    (label, rows_after (rules (limited_ones source_name)) [] words)
+watch_agrees label how is words = limited_agrees label source_name (λ text. watch how text) is refl refl go_leaf words
+
 abbrev compile_label : Text
 compile_label = codes "compile"
 
@@ -413,41 +433,57 @@ verify_agrees words = go_on (read [] (certificate_name ∷ source_name ∷ image
         (text_of c)) source image)
         (no_limits verify_ones (refl, refl) (refl, refl) (refl, refl) given ends.2))
 
-list_agrees : (words : List Text) → Agrees (list_request words) (leaf_fault list_label list_ones words)
-    (list_label, rows_after (rules list_ones) [] words)
-list_agrees words = go_on (read [] (source_name ∷ []) None [] words)
-    (leaf_ends list_label list_ones [] (source_name ∷ []) list_leaf refl words)
+-- a command that takes one source: list and needs
+abbrev source_given : (Text → Work) → Given → Option Request
+source_given work given = option_map (λ s. requested (work s) default_limits) (value_of source_name given)
+
+source_agrees : (label : Text) (work : Text → Work)
+    → ((rows : List Row) → row_work label rows ≡ work (row_path source_name rows)) → (words : List Text)
+    → Agrees (option_and_then (source_given work) (read [] (source_name ∷ []) None [] words))
+    (leaf_fault label list_ones words) (label, rows_after (rules list_ones) [] words)
+source_agrees label work is words = go_on (read [] (source_name ∷ []) None [] words)
+    (leaf_ends label list_ones [] (source_name ∷ []) list_leaf refl words)
   where
     asked : Option Text → Option Request
-    asked source = option_map (λ s. requested (list s) default_limits) source
+    asked source = option_map (λ s. requested (work s) default_limits) source
 
     lacks : Option Text → Kinds
     lacks source = missing (not (is_there (or_defaults source_name (option_map (row source_name) source)
         (rules list_ones))) || false)
 
     texts : Option Text → Work
-    texts source = list (unwrap_or (first_text
+    texts source = work (unwrap_or (first_text
         (or_defaults source_name (option_map (row source_name) source) (rules list_ones))) [])
 
-    found : (source : Option Text) (faults : Kinds) (rows : List Row) → faults ≡ lacks source → row_work list_label rows
+    found : (source : Option Text) (faults : Kinds) (rows : List Row) → faults ≡ lacks source → row_work label rows
         ≡ texts source
         → (row_limits rows ≡ default_limits) × HasLimits rows × (row_digits rows ≡ true) → Agrees (asked source) faults
-        (list_label, rows)
+        (label, rows)
     found None faults rows e w l = inl (subst Fails (sym e) tt)
     found (Some s) faults rows e w l = (e, ap₂ requested w l.0, l.1, l.2)
 
-    go_on : (o : Option Given) → LeafEnds list_label list_ones words o
-        → Agrees (option_and_then list_given o) (leaf_fault list_label list_ones words)
-        (list_label, rows_after (rules list_ones) [] words)
+    go_on : (o : Option Given) → LeafEnds label list_ones words o
+        → Agrees (option_and_then (source_given work) o) (leaf_fault label list_ones words)
+        (label, rows_after (rules list_ones) [] words)
     go_on None ends = inl ends
     go_on (Some given) ends =
         let source = end_look (rules list_ones) source_name given in
-        subst (λ rows. Agrees (list_given given) (leaf_fault list_label list_ones words) (list_label, rows))
-        (sym ends.1)
-        (found (value_of source_name given) (leaf_fault list_label list_ones words) (end_rows list_ones given)
+        subst (λ rows. Agrees (source_given work given) (leaf_fault label list_ones words) (label, rows)) (sym ends.1)
+        (found (value_of source_name given) (leaf_fault label list_ones words) (end_rows list_ones given)
         (ends.0 ∙ ap (λ a. missing (not (is_there a) || false)) source)
-        (ap (λ a. list (unwrap_or (first_text a) [])) source)
+        (is (end_rows list_ones given) ∙ ap (λ a. work (unwrap_or (first_text a) [])) source)
         (no_limits list_ones (refl, refl) (refl, refl) (refl, refl) given ends.2))
+
+list_agrees : (words : List Text) → Agrees (list_request words) (leaf_fault list_label list_ones words)
+    (list_label, rows_after (rules list_ones) [] words)
+list_agrees words = source_agrees list_label (λ text. list text) (λ rows. refl) words
+
+abbrev needs_label : Text
+needs_label = codes "needs"
+
+needs_agrees : (words : List Text) → Agrees (needs_request words) (leaf_fault needs_label list_ones words)
+    (needs_label, rows_after (rules list_ones) [] words)
+needs_agrees words = source_agrees needs_label (λ text. needs text) (λ rows. refl) words
 
 abbrev explain_label : Text
 explain_label = codes "explain"
@@ -621,14 +657,18 @@ stray_turn word words false None = top_bad (stray_now false None word) (stray_af
     (plain_stray word (has_letters word) refl)
 
 -- the command that the word names, by its tests
-abbrev command_by : Bool → Bool → Bool → Bool → Bool → Bool → Bool → Bool → Bool → Option Text
-command_by a b c d e f g k h = option_map (λ (s : Text × List Text). s.0)
+abbrev command_by : Bool → Bool → Bool → Bool → Bool → Bool → Bool → Bool → Bool → Bool → Bool → Bool → Bool → Bool
+    → Option Text
+command_by a b c d e f g k n p q r s h = option_map (λ (x : Text × List Text). x.0)
     (cond (a || false) (Some (compile_label, [])) (cond (b || false) (Some (list_label, []))
     (cond (c || false) (Some (run_label, []))
     (cond (d || false) (Some (go_label, [])) (cond (e || false) (Some (explain_label, []))
     (cond (f || false) (Some (check_label, []))
     (cond (g || false) (Some (certify_label, [])) (cond (k || false) (Some (verify_label, []))
-    (cond (h || false) (Some (codes "help", [])) None)))))))))
+    (cond (n || false) (Some (needs_label, [])) (cond (p || false) (Some (why_label, []))
+    (cond (q || false) (Some (trace_label, [])) (cond (r || false) (Some (cover_label, []))
+    (cond (s || false) (Some (profile_label, []))
+    (cond (h || false) (Some (codes "help", [])) None))))))))))))))
 
 leaf_turn : (label : Text) (ones : List One) (words : List Text) (o : Option Request) → entered_fault program
     (Some (label, words)) ≡ leaf_fault label ones words
@@ -638,38 +678,55 @@ leaf_turn : (label : Text) (ones : List One) (words : List Text) (o : Option Req
 leaf_turn label ones words o = command_turn label (leaf_fault label ones words)
     (rows_after (rules ones) [] words) words o
 
-first_turn : (word : Text) (words : List Text) (a b c d e f g k h : Bool) → bytes_eq (codes "help") word ≡ h
+first_turn : (word : Text) (words : List Text) (a b c d e f g k n p q r s h : Bool) → bytes_eq (codes "help") word ≡ h
     → TopTurn (if a then compile_request words else if b then list_request words else if c then run_request words
     else if d then go_request words
     else if e then explain_request words else if f then check_request words else if g then certify_request words
-    else if k then verify_request words
+    else if k then verify_request words else if n then needs_request words
+    else if p then watch_request Why words else if q then watch_request Trace words
+    else if r then watch_request Cover words else if s then watch_request Profile words
     else if bytes_eq word (codes "--") then standard_request words else None)
-    (top_now (command_by a b c d e f g k h) word) (top_after (command_by a b c d e f g k h) word) words
-first_turn word words true b c d e f g k h helps = leaf_turn compile_label compile_ones words
+    (top_now (command_by a b c d e f g k n p q r s h) word) (top_after (command_by a b c d e f g k n p q r s h) word)
+    words
+first_turn word words true b c d e f g k n p q r s h helps = leaf_turn compile_label compile_ones words
     (compile_request words) refl refl (compile_agrees words)
-first_turn word words false true c d e f g k h helps = leaf_turn list_label list_ones words
+first_turn word words false true c d e f g k n p q r s h helps = leaf_turn list_label list_ones words
     (list_request words) refl refl (list_agrees words)
-first_turn word words false false true d e f g k h helps = leaf_turn run_label (limited_ones image_name) words
+first_turn word words false false true d e f g k n p q r s h helps = leaf_turn run_label (limited_ones image_name) words
     (run_request words) refl refl (run_agrees words)
-first_turn word words false false false true e f g k h helps = leaf_turn go_label (limited_ones source_name) words
+first_turn word words false false false true e f g k n p q r s h helps = leaf_turn go_label (limited_ones source_name) words
     (go_request words) refl refl (go_agrees words)
-first_turn word words false false false false true f g k h helps =
+first_turn word words false false false false true f g k n p q r s h helps =
     command_turn explain_label (topic_fault words) (topic_found words) words (explain_request words) refl refl
     (explain_agrees words)
-first_turn word words false false false false false true g k h helps =
+first_turn word words false false false false false true g k n p q r s h helps =
     command_turn check_label (files_fault words) (files_found words) words (check_request words) refl refl
     (check_agrees words)
-first_turn word words false false false false false false true k h helps = leaf_turn certify_label compile_ones words
-    (certify_request words) refl refl (certify_agrees words)
-first_turn word words false false false false false false false true h helps = leaf_turn verify_label verify_ones words
-    (verify_request words) refl refl (verify_agrees words)
-first_turn word words false false false false false false false false true helps =
+first_turn word words false false false false false false true k n p q r s h helps =
+    leaf_turn certify_label compile_ones words (certify_request words) refl refl (certify_agrees words)
+first_turn word words false false false false false false false true n p q r s h helps =
+    leaf_turn verify_label verify_ones words (verify_request words) refl refl (verify_agrees words)
+first_turn word words false false false false false false false false true p q r s h helps =
+    leaf_turn needs_label list_ones words (needs_request words) refl refl (needs_agrees words)
+first_turn word words false false false false false false false false false true q r s h helps =
+    leaf_turn why_label (limited_ones source_name) words (watch_request Why words) refl refl
+    (watch_agrees why_label Why (λ rows. refl) words)
+first_turn word words false false false false false false false false false false true r s h helps =
+    leaf_turn trace_label (limited_ones source_name) words (watch_request Trace words) refl refl
+    (watch_agrees trace_label Trace (λ rows. refl) words)
+first_turn word words false false false false false false false false false false false true s h helps =
+    leaf_turn cover_label (limited_ones source_name) words (watch_request Cover words) refl refl
+    (watch_agrees cover_label Cover (λ rows. refl) words)
+first_turn word words false false false false false false false false false false false false true h helps =
+    leaf_turn profile_label (limited_ones source_name) words (watch_request Profile words) refl refl
+    (watch_agrees profile_label Profile (λ rows. refl) words)
+first_turn word words false false false false false false false false false false false false false true helps =
     subst (λ w. TopTurn (if bytes_eq w (codes "--") then standard_request words else None)
     (top_now (Some (codes "help")) w) (top_after (Some (codes "help")) w) words)
     (same_text (codes "help") word helps) (top_bad (kind.DisplayHelp ∷ kind.InvalidSubcommand ∷ [])
     (top_after (Some (codes "help")) (codes "help")) words tt)
-first_turn word words false false false false false false false false false helps = stray_turn word words
-    (bytes_eq word (codes "--")) (long_of word)
+first_turn word words false false false false false false false false false false false false false false helps =
+    stray_turn word words (bytes_eq word (codes "--")) (long_of word)
 
 -- a parse of the words finds what they ask for, and fails where they ask for nothing
 pub top_agrees : (words : List Text) → TopAgrees (request_of words) (fault_of pascal_app words)
@@ -680,7 +737,9 @@ top_agrees (word ∷ words) = top_turn _ word words
     (first_turn word words (bytes_eq (codes "compile") word) (bytes_eq (codes "list") word)
     (bytes_eq (codes "run") word) (bytes_eq (codes "go") word)
     (bytes_eq (codes "explain") word) (bytes_eq (codes "check") word) (bytes_eq (codes "certify") word)
-    (bytes_eq (codes "verify") word) (bytes_eq (codes "help") word) refl)
+    (bytes_eq (codes "verify") word) (bytes_eq (codes "needs") word) (bytes_eq (codes "why") word)
+    (bytes_eq (codes "trace") word) (bytes_eq (codes "cover") word) (bytes_eq (codes "profile") word)
+    (bytes_eq (codes "help") word) refl)
 
 -- ---- what the code answers
 

@@ -4,8 +4,8 @@ use Rattle.pascal_certificate.specs.Form.{IsCertificate}
 use Rattle.pascal_cli.specs.Certificates.{AreCertified, AreOthers, CertifiesSome, HasCertificate, HoldsNot}
 use Rattle.pascal_cli.specs.Certificates.{IsNotBuilt, NoCertificate, NoneHolding, SomeCertificate, SomeCertified}
 use Rattle.pascal_cli.specs.Certificates.{SomeHolding, SomeOthers}
-use Rattle.pascal_cli.specs.Failures.{Tells}
-use Rattle.pascal_cli.specs.Jobs.{IsAccepted, IsRefusedText, SomeAccepted, SomeRefused}
+use Rattle.pascal_cli.specs.Failures.{HasRefusal, Tells}
+use Rattle.pascal_cli.specs.Jobs.{HasNeeds, IsAccepted, IsRefusedText, SomeAccepted, SomeNeeds, SomeRefused}
 use Rattle.pascal_cli.proofs.Failed.{told_as}
 
 pub some_text : (answer failed : Bool) (text : List ℕ) → Tells answer failed (IsAccepted text) (IsRefusedText text)
@@ -36,3 +36,8 @@ pub some_holding : (answer failed : Bool) (text : List ℕ)
     → Tells answer failed (CertifiesSome text) (HoldsNot text) → Tells answer failed SomeHolding NoneHolding
 some_holding answer failed text = told_as (CertifiesSome text) (HoldsNot text) SomeHolding NoneHolding answer failed
     (λ some. (text, some)) (λ none. (text, none))
+
+pub some_needs : (answer failed : Bool) (text : List ℕ) → Tells answer failed (HasNeeds text) (HasRefusal text)
+    → Tells answer failed SomeNeeds SomeRefused
+some_needs answer failed text = told_as (HasNeeds text) (HasRefusal text) SomeNeeds SomeRefused answer failed
+    (λ has. (text, has)) (λ refused. (text, (refused.0, refused.1)))

@@ -1,16 +1,22 @@
 -- Images and certificates that are of a source, or not.
-use Rattle.std.proofs.Common.{◌≡◌, ◌⊎◌, ◌∙◌, ◌==◌, ap, sym, subst, ℕ, Bool, true, false, List, ◌∷◌, inl, inr}
-use Rattle.std.proofs.Common.{length, map}
+use Rattle.std.proofs.Common.{◌≡◌, ◌⊎◌, ◌∙◌, ◌&&◌, ◌==◌, ap, refl, sym, subst, ℕ, Bool, true, false, List, ◌∷◌, Some, None, String}
+use Rattle.std.proofs.Common.{Option, inl, inr, length, map, string_bytes}
 use Rattle.std.proofs.lemmas.Bool.{and_parts, true≢false}
-use Rattle.std.specs.Prelude.{IfOk, Result, Ok, Err}
+use Rattle.std.specs.Prelude.{IfOk, IfSome, Result, Ok, Err, option_map}
 use Rattle.std.specs.Str.{bytes_eq}
 use Rattle.ps_build.specs.Headline.{Compiles}
+use Rattle.ps_needs_image.specs.Needed.{IsNeeded}
+use Rattle.ps_needs_image.specs.declared.needed.Needed.{Needed}
 use Rattle.pascal_certificate.specs.Compared.{CertifiesFound, differing, holds}
-use Rattle.pascal_certificate.specs.Sealed.{IsSeal}
+use Rattle.pascal_certificate.specs.Form.{CertifiesWith, IsCertificate, certificate_text, values_of}
+use Rattle.pascal_certificate.proofs.Sealing.{values_sealed}
+use Rattle.pascal_certificate.specs.Sealed.{IsSeal, sealed_values}
+use Rattle.pascal_certificate.specs.declared.made.Seal.{Seal}
 use Rattle.pascal_certificate.specs.declared.comparison.Comparison.{Comparison}
 use Rattle.pascal_certificate.specs.declared.comparison.Found.{Found}
-use Rattle.pascal_cli.specs.Certificates.{HasAnother, IsBeside, IsBuiltOf, IsComparison, is_same}
-use Rattle.pascal_cli.specs.Certificates.{HasCertificate, TellsOfStack}
+use Rattle.pascal_cli.specs.Certificates.{AreCertified, HasAnother, IsBeside, IsBuiltOf, IsComparison, IsFound, is_same}
+use Rattle.pascal_cli.specs.Certificates.{HasCertificate, TellsLeast, TellsOfStack, TellsStack, least_text}
+use Rattle.pascal_cli.specs.Certificates.{stack_told}
 use Rattle.pascal_cli.specs.declared.certificates.Beside.{Beside}
 use Rattle.pascal_cli.specs.declared.certificates.Beside.TheVariants.{Other, Refused, Same}
 use Rattle.pascal_cli.proofs.GivenRows.{itself, same_text}
@@ -33,17 +39,32 @@ built_of source image Same is = is
 built_of source image Other is = inr is
 built_of source image Refused is = inl is
 
+-- the least stack that is told is that of what is needed
+pub least_is : {Z E : Type 0} (r : Result (Option (String Z)) E) (source : List ℕ) (needed : Needed)
+    → IsNeeded source needed
+    → IfOk r (λ told. option_map (λ text. string_bytes text) told ≡ least_text needed.need)
+    → IfOk r (λ told. IfSome told (λ text. TellsLeast source (string_bytes text)))
+least_is (Ok None) source needed is e = tt
+least_is (Ok (Some text)) source needed is e = (needed, is, sym e)
+least_is (Err error) source needed is e = tt
+
+-- what is known of the stack is told
+pub stack_is_told : {Z : Type 0} (source : List ℕ) (known : Option (String Z))
+    → IfSome known (λ text. TellsLeast source (string_bytes text))
+    → TellsStack source (stack_told (option_map (λ text. string_bytes text) known))
+stack_is_told source None is = inl refl
+stack_is_told source (Some text) is = inr is
+
 -- what is found of a source and an image is compared with the values of a certificate
 compared_with : (values : List (List ℕ)) (found : Found) (comparison : Comparison) (source image : List ℕ)
     → comparison.holds ≡ holds values found
-    → (stack : List ℕ) → TellsOfStack (map (λ value. value.now) found.maker.now) stack
+    → (stack : List ℕ) → TellsOfStack (map (λ value. value.now) found.maker.now) stack → TellsStack source stack
     → CertifiesFound values found comparison → IsSeal source found.source.now → IsSeal image found.image.now
     → IsBuiltOf source image found.is_built → IsComparison source image values comparison
-compared_with values found comparison source image e stack tells certifies one other built = (
+compared_with values found comparison source image e stack tells known certifies one other built = (
   λ held text is. (
     built_if found.is_built (and_parts found.is_built (length (differing values found) == 0) (sym e ∙ held)).0 built,
-    let with_stack = certifies source image text tells.0 stack tells.1 tells.2 one other is held in
-        (with_stack.0 ∷ stack ∷ with_stack.1, with_stack.2),
+    (stack, certifies source image text tells.0 stack tells.1 tells.2 one other is held, known),
   ),
   λ fails. (found, (one, other, built), sym e ∙ fails),
 )
@@ -54,12 +75,12 @@ compared_with values found comparison source image e stack tells certifies one o
 
 pub compared_ok : {E : Type 0} (r : Result Comparison E) (values : List (List ℕ)) (found : Found)
     (source image : List ℕ) → IfOk r (λ comparison. comparison.holds ≡ holds values found)
-    → (stack : List ℕ) → TellsOfStack (map (λ value. value.now) found.maker.now) stack
+    → (stack : List ℕ) → TellsOfStack (map (λ value. value.now) found.maker.now) stack → TellsStack source stack
     → IfOk r (CertifiesFound values found) → IsSeal source found.source.now → IsSeal image found.image.now
     → IsBuiltOf source image found.is_built → IfOk r (IsComparison source image values)
-compared_ok (Ok comparison) values found source image e stack tells certifies one other built = compared_with values
-    found comparison source image e stack tells certifies one other built
-compared_ok (Err error) values found source image e stack tells certifies one other built = tt
+compared_ok (Ok comparison) values found source image e stack tells known certifies one other built = compared_with
+    values found comparison source image e stack tells known certifies one other built
+compared_ok (Err error) values found source image e stack tells known certifies one other built = tt
 
 -- the certificate of bytes is that of the same bytes
 pub certificate_of_same : (failed : Bool) (s t i j : List ℕ) → s ≡ t → i ≡ j → (failed ≡ true) ⊎ HasCertificate s i
@@ -67,3 +88,19 @@ pub certificate_of_same : (failed : Bool) (s t i j : List ℕ) → s ≡ t → i
 certificate_of_same failed s t i j one other has =
     subst (λ x. (failed ≡ true) ⊎ HasCertificate x j) one
     (subst (λ y. (failed ≡ true) ⊎ HasCertificate s y) other has)
+
+-- a certificate that is made of what is known
+pub with_stack : (source image : List ℕ) (s i : Seal) (maker : List (List ℕ)) (stack text : List ℕ) → IsSeal source s
+    → IsSeal image i → TellsOfStack maker stack → TellsStack source stack
+    → text ≡ certificate_text (sealed_values s i maker)
+    → (told : List ℕ) × CertifiesWith source image told text × TellsStack source told
+with_stack source image s i maker stack text one other tells known is = (
+  stack,
+  (
+    tells.0,
+    tells.1,
+    is ∙ ap certificate_text (values_sealed source image s i maker one other
+        ∙ ap (λ m. values_of source image m) tells.2),
+  ),
+  known,
+)

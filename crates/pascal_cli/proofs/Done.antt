@@ -6,10 +6,10 @@ use Rattle.std.specs.List.{list_any}
 use Rattle.std.specs.Str.{bytes_eq}
 use Rattle.pascal_pages.specs.Asked.{asks, names_of}
 use Rattle.pascal_pages.specs.declared.Page.{Page}
-use Rattle.pascal_cli.specs.Check.{plain_words}
 use Rattle.pascal_cli.specs.Command.{Request, Text, Work, request_of}
 use Rattle.pascal_cli.specs.Explain.{AreThePages, asked_pages, has_page, shown}
 use Rattle.pascal_cli.specs.Jobs.{AreAccepted, IsAccepted, IsDone, IsStatus}
+use Rattle.pascal_cli.specs.Options.{plain_words}
 use Rattle.pascal_cli.specs.Session.{asks_version}
 use Rattle.pascal_cli.proofs.GivenRows.{same_text}
 
@@ -75,11 +75,7 @@ version_words (word ∷ []) e = go (bytes_eq word (codes "--version")) refl (byt
 
 -- one word alone has no option behind it
 plain_one : (word : Text) → plain_words (word ∷ []) ≡ word ∷ []
-plain_one word = go (bytes_eq word (codes "check"))
-  where
-    go : (b : Bool) → cond b (word ∷ []) (word ∷ []) ≡ word ∷ []
-    go true = refl
-    go false = refl
+plain_one word = refl
 
 pub version_alone : (words : List Text) → asks_version words ≡ true → request_of (plain_words words) ≡ None
 version_alone [] e = absurd (cc)

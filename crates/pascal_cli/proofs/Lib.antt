@@ -12,6 +12,7 @@ pub mod GivenRows
 pub mod Leaves
 pub mod LineWalk
 pub mod Made
+pub mod Ran
 pub mod RowReads
 mod Settled
 pub mod Shown

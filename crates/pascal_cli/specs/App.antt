@@ -17,10 +17,11 @@ use Rattle.clap.specs.declared.error.Error.{Error}
 use Rattle.clap.specs.declared.error.kind.ErrorKind.{ErrorKind}
 use Rattle.clap.specs.declared.error.kind.ErrorKind.TheVariants as kind
 use Rattle.pascal_cli.specs.Command.{Limits, Request, Work, are_digits, certificate_name, certify, check, compile}
-use Rattle.pascal_cli.specs.Command.{default_limits, explain, go, go_standard_input, image_name, list, run}
-use Rattle.pascal_cli.specs.Command.{source_name, topic_of, verify}
+use Rattle.pascal_cli.specs.Command.{default_limits, explain, go, go_standard_input, image_name, list, needs, run}
+use Rattle.pascal_cli.specs.Command.{source_name, topic_of, verify, watch}
 use Rattle.pascal_cli.specs.declared.job.CommandFault.{CommandFault}
 use Rattle.pascal_cli.specs.declared.job.CommandFault.TheVariants as fault
+use Rattle.pascal_cli.specs.declared.job.Watch.TheVariants.{Cover, Profile, Trace, Why}
 
 -- an argument is global
 abbrev pub has_globals : Command → Bool
@@ -96,13 +97,21 @@ abbrev pub verify_app : App
 verify_app = with_rule (with_rule (with_rule (new_app (codes "verify")) (path_rule (codes "CERT")))
     (path_rule (codes "SRC"))) (path_rule (codes "IMG"))
 
+abbrev pub needs_app : App
+needs_app = with_rule (new_app (codes "needs")) (path_rule (codes "SRC"))
+
+-- a command that runs a source and tells of the run
+abbrev pub watch_app : Text → App
+watch_app name = limited (with_rule (new_app name) (path_rule (codes "SRC")))
+
 -- the program, whose words begin after its name
 abbrev pub pascal_app : App
-pascal_app = with_subcommand (with_subcommand
-    (with_subcommand (with_subcommand (with_subcommand (with_subcommand (with_subcommand (with_subcommand
+pascal_app = with_subcommand (with_subcommand (with_subcommand (with_subcommand (with_subcommand (with_subcommand
+    (with_subcommand (with_subcommand (with_subcommand (with_subcommand (with_subcommand (with_subcommand (with_subcommand
     (on_top (λ shape. record shape { no_binary_name = true }) (new_app (codes "pascal")))
     compile_app.top) list_app.top) run_app.top) go_app.top) explain_app.top) check_app.top) certify_app.top)
-    verify_app.top
+    verify_app.top) needs_app.top) (watch_app (codes "why")).top) (watch_app (codes "trace")).top)
+    (watch_app (codes "cover")).top) (watch_app (codes "profile")).top
 
 -- ---- what the rows of a parse ask for
 
@@ -117,6 +126,15 @@ row_words rows = unwrap_or (all_of (codes "WORD") rows) []
 abbrev pub row_files : List Row → List Text
 row_files rows = unwrap_or (all_of (codes "FILE") rows) []
 
+-- the work of a command that runs a source
+abbrev pub run_work : Text → Text → Work
+run_work name source =
+    if bytes_eq name (codes "why") then watch Why source
+    else if bytes_eq name (codes "trace") then watch Trace source
+    else if bytes_eq name (codes "cover") then watch Cover source
+    else if bytes_eq name (codes "profile") then watch Profile source
+    else go source
+
 -- the work of a command's name and rows
 abbrev pub row_work : Text → List Row → Work
 row_work name rows =
@@ -128,7 +146,8 @@ row_work name rows =
     else if bytes_eq name (codes "certify") then certify (row_path source_name rows) (row_path image_name rows)
     else if bytes_eq name (codes "verify") then verify (row_path certificate_name rows) (row_path source_name rows)
     (row_path image_name rows)
-    else go (row_path source_name rows)
+    else if bytes_eq name (codes "needs") then needs (row_path source_name rows)
+    else run_work name (row_path source_name rows)
 
 abbrev pub whole : Text → ℕ
 whole text = digits_value 10 (without_leading_plus text)

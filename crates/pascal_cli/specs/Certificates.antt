@@ -1,11 +1,16 @@
 -- Certificates: what is built of a source beside an image, and what a certificate is beside both.
-use Rattle.std.specs.Prelude.{◌≡◌, ◌⊎◌, ℕ, Bool, true, false, List, ◌∷◌}
+use Rattle.std.specs.Prelude.{◌≡◌, ◌⊎◌, ℕ, Bool, true, false, List, ◌∷◌, Option, Some, None, codes, decimal}
+use Rattle.std.specs.Prelude.{unwrap_or}
 use Rattle.pascal_certificate.specs.Compared.{holds}
-use Rattle.pascal_certificate.specs.Form.{Certifies, IsCertificate}
+use Rattle.pascal_certificate.specs.Form.{CertifiesWith, IsCertificate}
 use Rattle.pascal_certificate.specs.Sealed.{IsSeal}
 use Rattle.pascal_certificate.specs.declared.comparison.Comparison.{Comparison}
 use Rattle.pascal_certificate.specs.declared.comparison.Found.{Found}
 use Rattle.ps_build.specs.Headline.{Compiles}
+use Rattle.ps_needs_image.specs.Needed.{IsNeeded}
+use Rattle.ps_needs_image.specs.declared.needed.Needed.{Needed}
+use Rattle.ps_needs_least.specs.declared.least.Need.{Need}
+use Rattle.ps_needs_least.specs.declared.least.Need.TheVariants.{Endless, Least}
 use Rattle.pascal_cli.specs.Failures.{HasRefusal}
 use Rattle.pascal_cli.specs.declared.certificates.Beside.{Beside}
 use Rattle.pascal_cli.specs.declared.certificates.Beside.TheVariants.{Other, Refused, Same}
@@ -37,9 +42,27 @@ IsBuiltOf source image false = IsNotBuilt source image
 
 -- ---- a certificate beside them
 
--- the text is a certificate of this source and the image that it has
+-- the least stack that holds each path of calls, as it is told
+abbrev pub least_text : Need → Option (List ℕ)
+least_text (Least bytes path) = Some (decimal bytes)
+least_text (Endless path) = None
+
+-- this tells the least stack of the image that is built of the source
+abbrev pub TellsLeast : (source value : List ℕ) → Type 0
+TellsLeast source value = (needed : Needed) × IsNeeded source needed × (least_text needed.need ≡ Some value)
+
+-- or that none is known
+abbrev pub TellsStack : (source value : List ℕ) → Type 0
+TellsStack source value = (value ≡ codes "not known") ⊎ TellsLeast source value
+
+abbrev pub stack_told : Option (List ℕ) → List ℕ
+stack_told told = unwrap_or told (codes "not known")
+
+-- the text is a certificate of this source and the image that it has, and tells of its stack what is so
 abbrev pub IsCertified : (source image certificate : List ℕ) → Type 0
-IsCertified source image certificate = Compiles source image × Certifies source image certificate
+IsCertified source image certificate =
+    Compiles source image
+    × ((stack : List ℕ) × CertifiesWith source image stack certificate × TellsStack source stack)
 
 -- there is a certificate of this source and this image
 abbrev pub HasCertificate : (source image : List ℕ) → Type 0

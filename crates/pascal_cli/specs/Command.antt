@@ -14,13 +14,16 @@ use Rattle.pascal_cli.specs.declared.job.CommandFault.TheVariants as fault
 use Rattle.pascal_cli.specs.declared.job.Job.{Job}
 use Rattle.pascal_cli.specs.declared.job.Task.{Task}
 use Rattle.pascal_cli.specs.declared.job.Task.TheVariants as task
+use Rattle.pascal_cli.specs.declared.job.Watch.{Watch}
+use Rattle.pascal_cli.specs.declared.job.Watch.TheVariants.{Cover, Profile, Trace, Why}
 
 abbrev pub Text : Type 0
 Text = List ℕ
 
 -- to compile a source to an image, to compile a source and list its image, to run an image, to compile a source and run
 -- it, to do so with standard input, to show the pages that a text asks for, to check sources, to write the certificate
--- of a source and an image, or to compare a certificate with these
+-- of a source and an image, to compare a certificate with these, to tell what stack and heap the image of a source
+-- needs, or to compile a source, run it and tell of the run
 pub data Work : Type 0 where
   compile : Text → Text → Work
   list : Text → Work
@@ -31,6 +34,8 @@ pub data Work : Type 0 where
   check : List Text → Work
   certify : Text → Text → Work
   verify : Text → Text → Text → Work
+  needs : Text → Work
+  watch : Watch → Text → Work
 
 -- the bytes of the stack and of the heap, and the steps that a run may make
 pub record Limits : Type 0 where
@@ -185,6 +190,12 @@ verify_given given = option_and_then (λ certificate. option_and_then (λ source
   limits = default_limits;
 }) (value_of image_name given)) (value_of source_name given)) (value_of certificate_name given)
 
+abbrev pub needs_given : Given → Option Request
+needs_given given = option_map (λ source. record {
+  work = needs source;
+  limits = default_limits;
+}) (value_of source_name given)
+
 abbrev pub run_given : Given → Option Request
 run_given given = if has_digits given then option_map (λ image. record {
   work = run image;
@@ -197,18 +208,31 @@ go_given given = if has_digits given then option_map (λ source. record {
   limits = limits_of given;
 }) (value_of source_name given) else None
 
--- `compile SRC IMG` and `list SRC`; and `run IMG` and `go SRC`, with limits
+abbrev pub watch_given : Watch → Given → Option Request
+watch_given how given = if has_digits given then option_map (λ source. record {
+  work = watch how source;
+  limits = limits_of given;
+}) (value_of source_name given) else None
+
+-- `compile SRC IMG`, `list SRC` and `needs SRC`; and `run IMG` and `go SRC`, with limits
 abbrev pub compile_request : List Text → Option Request
 compile_request words = option_and_then compile_given (read [] (source_name ∷ image_name ∷ []) None [] words)
 
 abbrev pub list_request : List Text → Option Request
 list_request words = option_and_then list_given (read [] (source_name ∷ []) None [] words)
 
+abbrev pub needs_request : List Text → Option Request
+needs_request words = option_and_then needs_given (read [] (source_name ∷ []) None [] words)
+
 abbrev pub run_request : List Text → Option Request
 run_request words = option_and_then run_given (read limit_names (image_name ∷ []) None [] words)
 
 abbrev pub go_request : List Text → Option Request
 go_request words = option_and_then go_given (read limit_names (source_name ∷ []) None [] words)
+
+-- `why SRC`, `trace SRC`, `cover SRC` and `profile SRC`, with limits
+abbrev pub watch_request : Watch → List Text → Option Request
+watch_request how words = option_and_then (watch_given how) (read limit_names (source_name ∷ []) None [] words)
 
 -- The words after `explain` or `check`. A word with a hyphen before it is one only behind `--`, which is none.
 abbrev pub topic_words : List Text → Option (List Text)
@@ -267,6 +291,11 @@ request_of (word ∷ rest) =
     else if bytes_eq (codes "check") word then check_request rest
     else if bytes_eq (codes "certify") word then certify_request rest
     else if bytes_eq (codes "verify") word then verify_request rest
+    else if bytes_eq (codes "needs") word then needs_request rest
+    else if bytes_eq (codes "why") word then watch_request Why rest
+    else if bytes_eq (codes "trace") word then watch_request Trace rest
+    else if bytes_eq (codes "cover") word then watch_request Cover rest
+    else if bytes_eq (codes "profile") word then watch_request Profile rest
     else if bytes_eq word (codes "--") then standard_request rest
     else None
 
@@ -282,6 +311,8 @@ work_of (task.Explain topic) = explain (string_bytes topic)
 work_of (task.Check files) = check (map (λ file. file.now) files.items)
 work_of (task.Certify source image) = certify source.now image.now
 work_of (task.Verify certificate source image) = verify certificate.now source.now image.now
+work_of (task.Needs source) = needs source.now
+work_of (task.Watch how source) = watch how source.now
 
 -- the request that a job answers
 abbrev pub request_in : Job → Request

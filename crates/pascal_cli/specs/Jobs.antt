@@ -9,12 +9,16 @@ use Rattle.ps_build.specs.Listed.{IsListed}
 use Rattle.ps_build.specs.Runs.{IsRunRefused}
 use Rattle.ps_build.specs.declared.outcome.Outcome.{Outcome}
 use Rattle.ps_build.specs.declared.refusal.Refusal.{Refusal}
+use Rattle.ps_needs_image.specs.Needed.{IsNeeded}
+use Rattle.ps_needs_image.specs.declared.needed.Needed.{Needed}
 use Rattle.pascal_cli.specs.Certificates.{SomeCertificate, SomeHolding}
 use Rattle.pascal_cli.specs.Command.{Limits, Request, Work, certify, check, compile, explain, go, go_standard_input}
-use Rattle.pascal_cli.specs.Command.{list, request_in, run, verify}
+use Rattle.pascal_cli.specs.Command.{list, needs, request_in, run, verify, watch}
 use Rattle.pascal_cli.specs.Explain.{has_page}
 use Rattle.pascal_cli.specs.Report.{status_of}
 use Rattle.pascal_cli.specs.Runs.{GoesThrough, RunsThrough}
+use Rattle.pascal_cli.specs.declared.image_file.Content.{Content}
+use Rattle.pascal_cli.specs.declared.image_file.Content.TheVariants.{Image, Map}
 use Rattle.pascal_cli.specs.declared.job.Job.{Job}
 
 abbrev pub limits_in : Job → Limits
@@ -26,6 +30,11 @@ budget_of limits = record { stack = limits.stack; heap = limits.heap }
 -- the bytes are the image of a text
 abbrev pub IsBuilt : List ℕ → Type 0
 IsBuilt bytes = (text : List ℕ) × Compiles text bytes
+
+-- what is written as an image is one
+abbrev pub IsContent : Content → List ℕ → Type 0
+IsContent Image bytes = IsBuilt bytes
+IsContent Map bytes = Unit {0}
 
 -- the text has an image
 abbrev pub IsAccepted : List ℕ → Type 0
@@ -45,6 +54,13 @@ SomeAccepted = (text : List ℕ) × IsAccepted text
 
 abbrev pub SomeRefused : Type 0
 SomeRefused = (text : List ℕ) × IsRefusedText text
+
+-- the text has an image, and this is told of its needs
+abbrev pub HasNeeds : List ℕ → Type 0
+HasNeeds text = (needed : Needed) × IsNeeded text needed
+
+abbrev pub SomeNeeds : Type 0
+SomeNeeds = (text : List ℕ) × HasNeeds text
 
 -- ---- runs within limits: the end that is told, or why there was no run
 
@@ -86,6 +102,17 @@ pub record RanSomeText (limits : Limits) (status : ℕ) : Type 0 where
   pub has_failed : Bool
   pub ran : RanText text limits old new held has_failed status
 
+-- a text was built, and its image was run
+pub record RanBuilt (limits : Limits) (status : ℕ) : Type 0 where
+  pub text : List ℕ
+  pub image : List ℕ
+  pub compiles : Compiles text image
+  pub old : World
+  pub new : World
+  pub held : List ℕ
+  pub has_failed : Bool
+  pub ran : RanImage image limits old new held has_failed status
+
 -- ---- jobs
 
 -- The work was done, and this is its status. What a path leads to isn't told here.
@@ -94,12 +121,14 @@ IsDone (compile source image) limits status = (status ≡ 0) × ((bytes : List �
 IsDone (list source) limits status = (status ≡ 0)
     × ((bytes : List ℕ) × (text : List ℕ) × IsBuilt bytes × IsListed bytes text)
 IsDone (run image) limits status = RanSomeImage limits status
-IsDone (go source) limits status = RanSomeText limits status
+IsDone (go source) limits status = RanSomeText limits status ⊎ RanBuilt limits status
 IsDone go_standard_input limits status = RanSomeText limits status
 IsDone (explain topic) limits status = (status ≡ 0) × ((topic ≡ []) ⊎ (has_page topic ≡ true))
 IsDone (check files) limits status = (status ≡ 0) × AreAccepted (length files)
 IsDone (certify source image) limits status = (status ≡ 0) × SomeCertificate
 IsDone (verify certificate source image) limits status = (status ≡ 0) × SomeHolding
+IsDone (needs source) limits status = (status ≡ 0) × SomeNeeds
+IsDone (watch how source) limits status = RanBuilt limits status
 
 -- the request was done, or it failed
 abbrev pub IsStatus : Request → ℕ → Type 0

@@ -1,6 +1,5 @@
 pub mod Ahead
 pub mod App
-pub mod Check
 pub mod Command
 pub mod Certificates
 pub mod Console
@@ -8,6 +7,7 @@ pub mod Explain
 pub mod Failures
 pub mod Files
 pub mod Jobs
+pub mod Options
 pub mod Report
 pub mod Runs
 pub mod Session

@@ -2,4 +2,4 @@
 
 /// The sum.
 pub(crate) const BELIEVED: &str =
-    "3a24eb3a0ae33a98d95845d6bbf2f2b24ef9419cd3428186f774d8958c023c8c";
+    "94a3d8124712d8002c18ed7a72d2c02d06339459dadec2677936aa6e3bf64173";

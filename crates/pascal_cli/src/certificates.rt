@@ -1,14 +1,25 @@
 //! Certificates: what is told of a text and its image, and what it is compared with.
 
-ghost use Rattle.std.specs.Prelude.{◌≡◌, ◌⊎◌, IfOk, IfSome, codes, map, true};
-ghost use Rattle.pascal_certificate.specs.Form.{Certifies};
+ghost use Rattle.std.specs.Prelude.{
+  ◌≡◌,
+  ◌⊎◌,
+  IfOk,
+  IfSome,
+  List,
+  map,
+  option_map,
+  string_bytes,
+  true,
+  ℕ,
+};
+ghost use Rattle.pascal_certificate.specs.Form.{CertifiesWith};
 ghost use Rattle.ps_build.specs.Headline.{Compiles};
 ghost use Rattle.pascal_cli.specs.Command as work;
 ghost use Rattle.pascal_cli.specs.Command.{request_in, work_of};
 ghost use Rattle.pascal_cli.specs.Certificates.{AreCertified, AreOthers, CertifiesSome, HasCertificate, HoldsNot};
 ghost use Rattle.pascal_cli.specs.Certificates.{IsBeside, IsBuiltOf, IsComparison, IsFound, IsNotBuilt};
 ghost use Rattle.pascal_cli.specs.Certificates.{NoCertificate, NoneHolding, SomeCertificate, SomeCertified, SomeHolding, SomeOthers};
-ghost use Rattle.pascal_cli.specs.Certificates.{TellsOfStack, is_same};
+ghost use Rattle.pascal_cli.specs.Certificates.{TellsLeast, TellsOfStack, TellsStack, is_same, least_text, stack_told};
 ghost use Rattle.pascal_cli.specs.Failures.{Answers, Keeps, Notes, Tells, has_failed};
 ghost use Rattle.pascal_cli.specs.Jobs.{IsStatus};
 
@@ -23,7 +34,9 @@ use pascal_certificate::{
     Comparison, Damage, Fact, Found, NOT_KNOWN, Names, Seal, certificate_of, compared, damage_of,
     fits, parse, seal_of,
 };
-use ps_build::{Built, build};
+use ps_build::{Built, Refusal, build};
+use ps_needs_image::{Needed, needs_of};
+use ps_needs_least::Need;
 use std::alloc::{AllocError, Global};
 use std::rt::{Env, Files};
 use std::{env, fs, str};
@@ -39,9 +52,11 @@ const CERTIFICATE_LIMIT: usize = 65_536;
 
 // ---- what the program tells of itself
 
-// What the program knows of itself.
+// What the program knows of itself, and of the image that it builds.
 #[derive(Drop)]
 struct Known {
+    // The bytes of stack that are enough, if there is such a number.
+    stack: Option<String>,
     // The sum of its sources.
     sources: Option<String>,
     // The sum and the size of its file.
@@ -83,14 +98,49 @@ fn program_seal<R: Files + AllocGlobal>(rt: &R) -> Result<Option<Seal>, AllocErr
     }
 }
 
-fn known_of_program<R: Files + Env + AllocGlobal>(rt: &R) -> Result<Known, AllocError> {
+// The least stack that a program needs, if there is one.
+fn least_of(alloc: Global, needed: &Needed) -> Result<Option<String>, AllocError>
+    ensures { IfOk result (λ told. option_map (λ text. string_bytes text) told ≡ least_text needed.now.need) }
+{
+    match &needed.need {
+        Need::Least { bytes, .. } => {
+            let bytes = *bytes;
+            let text = format!(in alloc; "{bytes}")?;
+            Ok(Some(text))
+        }
+        Need::Endless { .. } => Ok(None),
+    }
+}
+
+// The bytes of stack that are enough for the image of a source, if it has one and there is such a number.
+fn stack_of(alloc: Global, source: &[u8]) -> Result<Option<String>, AllocError>
+    ensures { IfOk result (λ told. IfSome told (λ text. TellsLeast source.now (string_bytes text))) }
+{
+    match needs_of(alloc, source) {
+        Ok(needed) => least_of(alloc, &needed),
+        Err(Refusal::OutOfMemory) => Err(AllocError),
+        Err(_) => Ok(None),
+    }
+}
+
+// What is known of the program, and of the image of a source.
+fn known_of<R: Files + Env + AllocGlobal>(rt: &R, source: &[u8]) -> Result<Known, AllocError>
+    ensures { IfOk result (λ known. IfSome known.stack (λ text. TellsLeast source.now (string_bytes text))) }
+{
+    let stack = stack_of(rt.alloc(), source)?;
     let file = program_seal(rt)?;
     let sources = sources_sum(rt);
-    Ok(Known { sources, file })
+    Ok(Known {
+        stack,
+        sources,
+        file,
+    })
 }
 
 // A text that is known, or what stands for one that is not.
-fn known_text<'a>(text: &'a Option<String>) -> &'a [u8] {
+fn known_text<'a>(text: &'a Option<String>) -> &'a [u8]
+    ensures { result.now ≡ stack_told (option_map (λ text. string_bytes text) text.entry.now) }
+{
     match text {
         Some(text) => text.as_bytes(),
         None => NOT_KNOWN,
@@ -115,12 +165,12 @@ fn known_size<'a>(seal: &'a Option<Seal>) -> &'a [u8] {
 
 // What the program tells of itself: the values of the facts behind those of the source and the image.
 fn maker<'a>(known: &'a Known) -> [&'a [u8]; 8]
-    ensures { TellsOfStack (map (λ value. value.now) result) (codes "not known") }
+    ensures { TellsOfStack (map (λ value. value.now) result)
+        (stack_told (option_map (λ text. string_bytes text) known.entry.now.stack)) }
 {
     [
         TARGET.as_bytes(),
-        // the bytes of stack that are enough
-        NOT_KNOWN,
+        known_text(&known.stack),
         VERSION.as_bytes(),
         KIT.as_bytes(),
         known_text(&known.sources),
@@ -206,9 +256,10 @@ fn certificate<R: Files + Env + AllocGlobal>(
     source: &[u8],
     image: &[u8],
 ) -> Result<Vec<u8>, AllocError>
-    ensures { IfOk result (λ text. Certifies source.now image.now text.items) }
+    ensures { IfOk result (λ text. (stack : List ℕ) × CertifiesWith source.now image.now stack text.items
+        × TellsStack source.now stack) }
 {
-    let known = known_of_program(rt)?;
+    let known = known_of(rt, source)?;
     let source = seal_of(rt.alloc(), source)?;
     let image = seal_of(rt.alloc(), image)?;
     let told = maker(&known);
@@ -223,7 +274,7 @@ fn print_certificate<R: Print + Eprint>(
     image: &[u8],
     text: &[u8],
 )
-    requires { Certifies source.now image.now text.now }
+    requires { (stack : List ℕ) × CertifiesWith source.now image.now stack text.now × TellsStack source.now stack }
     ensures { Keeps (has_failed failures.old) (has_failed failures.new) }
 {
     let _ = source;
@@ -353,7 +404,8 @@ fn compared_found(
     found: &Found<'_, '_>,
 ) -> Result<Comparison, AllocError>
     requires found { IsFound pair.now.source.items pair.now.image.items found.now }
-    requires stack { TellsOfStack (map (λ value. value.now) found.now.maker.now) (codes "not known") }
+    requires stack { (told : List ℕ) × TellsOfStack (map (λ value. value.now) found.now.maker.now) told
+        × TellsStack pair.now.source.items told }
     ensures { IfOk result (IsComparison pair.now.source.items pair.now.image.items
         (map (λ value. value.now) values.now)) }
 {
@@ -374,7 +426,7 @@ fn comparison<R: Files + Env + AllocGlobal>(
     ensures { IfOk result (IsComparison pair.now.source.items pair.now.image.items
         (map (λ value. value.now) values.now)) }
 {
-    let known = known_of_program(rt)?;
+    let known = known_of(rt, &pair.source)?;
     let source = seal_of(rt.alloc(), &pair.source)?;
     let image = seal_of(rt.alloc(), &pair.image)?;
     let told = maker(&known);

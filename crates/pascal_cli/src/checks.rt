@@ -6,9 +6,9 @@ ghost use Rattle.pascal_cli.specs.Command.{request_in, work_of};
 ghost use Rattle.pascal_cli.specs.Failures.{Answers, Keeps, Tells, has_failed};
 ghost use Rattle.pascal_cli.specs.Jobs.{AreAccepted, IsAccepted, IsRefusedText, IsStatus, SomeAccepted, SomeRefused};
 
-use crate::check::Telling;
 use crate::failures::Failures;
 use crate::job::Job;
+use crate::options::Telling;
 use crate::session::TEXT_LIMIT;
 use ps_advise::{Advice, Wants, advised};
 use ps_diagnostic::{Diagnostic, View, object_of, told};

@@ -2,7 +2,7 @@
 
 ghost use Rattle.std.specs.Prelude.{◌≡◌, Some};
 ghost use Rattle.pascal_cli.specs.Files.{way_of};
-ghost use Rattle.pascal_cli.specs.Jobs.{IsBuilt};
+ghost use Rattle.pascal_cli.specs.Jobs.{IsBuilt, IsContent};
 
 use crate::counted::Counted;
 use crate::transfer::{put_all, put_at_once};
@@ -91,48 +91,81 @@ pub fn write_image<R: Files + AllocGlobal>(
 ) -> Result<(), WriteFault>
     requires { IsBuilt bytes.now }
 {
-    let there = match fs::metadata(rt, image) {
+    write_content(rt, source, image, Content::Image, bytes)
+}
+
+/// Writes the map of an image to a path, as `write_image` writes the image.
+pub(crate) fn write_map<R: Files + AllocGlobal>(
+    rt: &R,
+    source: &str,
+    map: &str,
+    bytes: &[u8],
+) -> Result<(), WriteFault> {
+    write_content(rt, source, map, Content::Map, bytes)
+}
+
+/// What is written to a path.
+#[derive(Clone, Copy)]
+enum Content {
+    /// The image of a text.
+    Image,
+    /// Where the words of an image belong in its text.
+    Map,
+}
+
+fn write_content<R: Files + AllocGlobal>(
+    rt: &R,
+    source: &str,
+    path: &str,
+    content: Content,
+    bytes: &[u8],
+) -> Result<(), WriteFault>
+    requires { IsContent content bytes.now }
+{
+    let there = match fs::metadata(rt, path) {
         Ok(there) => there,
-        Err(error) => return write_first(rt, image, bytes, error.kind()),
+        Err(error) => return write_first(rt, path, content, bytes, error.kind()),
     };
     match way_of(file_number(rt, source), number_of(&there), there.is_file()) {
         Way::Refused => Err(WriteFault::Device),
-        Way::Exchanged => exchange_there(rt, image, &there, bytes),
-        Way::Written => write_over(rt, image, bytes),
+        Way::Exchanged => exchange_there(rt, path, &there, content, bytes),
+        Way::Written => write_over(rt, path, content, bytes),
     }
 }
 
-// Writes an image where nothing can be looked at, for this reason.
+// Writes where nothing can be looked at, for this reason.
 fn write_first<R: Files + AllocGlobal>(
     rt: &R,
-    image: &str,
+    path: &str,
+    content: Content,
     bytes: &[u8],
     kind: ErrorKind,
 ) -> Result<(), WriteFault>
-    requires { IsBuilt bytes.now }
+    requires { IsContent content bytes.now }
 {
     if kind != ErrorKind::NotFound {
         return Err(WriteFault::Device);
     }
-    match fs::symlink_metadata(rt, image) {
-        Ok(_) => write_behind_link(rt, image, bytes),
-        Err(_) => exchange(rt, Path::new(image), None, bytes),
+    match fs::symlink_metadata(rt, path) {
+        Ok(_) => write_behind_link(rt, path, content, bytes),
+        Err(_) => exchange(rt, Path::new(path), None, content, bytes),
     }
 }
 
-// Writes an image to the file that a link names, which is not there yet.
+// Writes to the file that a link names, which is not there yet.
 fn write_behind_link<R: Files + AllocGlobal>(
     rt: &R,
     link: &str,
+    content: Content,
     bytes: &[u8],
 ) -> Result<(), WriteFault>
-    requires { IsBuilt bytes.now }
+    requires { IsContent content bytes.now }
 {
     if fs::create(rt, link).is_err() {
         return Err(WriteFault::Device);
     }
     let target = resolved(rt, link)?;
-    let written = exchange(rt, target.as_path(), None, bytes);
+    let written = exchange(rt, target.as_path(), None, content, bytes);
     if written.is_err() {
         let _ = fs::remove_file(rt, target.as_path());
     }
@@ -158,17 +191,18 @@ fn may_be_written<R: Files>(rt: &R, path: &str) -> bool {
 // Puts a new file in the place of a regular one.
 fn exchange_there<R: Files + AllocGlobal>(
     rt: &R,
-    image: &str,
+    path: &str,
     there: &Metadata,
+    content: Content,
     bytes: &[u8],
 ) -> Result<(), WriteFault>
-    requires { IsBuilt bytes.now }
+    requires { IsContent content bytes.now }
 {
-    if !may_be_written(rt, image) {
+    if !may_be_written(rt, path) {
         return Err(WriteFault::Device);
     }
-    let target = resolved(rt, image)?;
-    exchange(rt, target.as_path(), Some(there), bytes)
+    let target = resolved(rt, path)?;
+    exchange(rt, target.as_path(), Some(there), content, bytes)
 }
 
 // Writes a new file beside a place, and then puts it there. Where the folder takes no new file, it writes there at once.
@@ -176,12 +210,13 @@ fn exchange<R: Files + AllocGlobal>(
     rt: &R,
     place: Path<'_>,
     there: Option<&Metadata>,
+    content: Content,
     bytes: &[u8],
 ) -> Result<(), WriteFault>
-    requires { IsBuilt bytes.now }
+    requires { IsContent content bytes.now }
 {
     let Some((file, beside)) = created_beside(rt, place)? else {
-        return write_over(rt, place.as_str(), bytes);
+        return write_over(rt, place.as_str(), content, bytes);
     };
     if let Some(there) = there {
         keep_rights(rt, &beside, there);
@@ -228,9 +263,15 @@ fn created_beside<R: Files + AllocGlobal>(
 }
 
 // Writes over what is there, as it is.
-fn write_over<R: Files>(rt: &R, path: &str, bytes: &[u8]) -> Result<(), WriteFault>
-    requires { IsBuilt bytes.now }
+fn write_over<R: Files>(
+    rt: &R,
+    path: &str,
+    content: Content,
+    bytes: &[u8],
+) -> Result<(), WriteFault>
+    requires { IsContent content bytes.now }
 {
+    let _ = content;
     let Ok(file) = fs::create(rt, path) else {
         return Err(WriteFault::Device);
     };

@@ -8,9 +8,10 @@ ghost use Rattle.clap.specs.Walk.{Rule, first_of};
 ghost use Rattle.clap.specs.Words.{app_of, fault_of, found_of, one_of, rows_of, rule_of, subcommand_rows_of};
 ghost use Rattle.pascal_cli.specs.App.{HasLimits, IsArgument, IsCommand, IsLineOf, IsWithin, Makes, certify_app};
 ghost use Rattle.pascal_cli.specs.App.{check_app, compile_app, explain_app, fault_in, files_rule, found_digits, go_app};
-ghost use Rattle.pascal_cli.specs.App.{limit_rule, limited, list_app, pascal_app, path_rule, row_digits, row_files};
-ghost use Rattle.pascal_cli.specs.App.{row_path, row_request, row_words, row_work, budget_rule, run_app, steps_rule};
-ghost use Rattle.pascal_cli.specs.App.{verify_app, whole, words_rule};
+ghost use Rattle.pascal_cli.specs.App.{limit_rule, limited, list_app, needs_app, pascal_app, path_rule, row_digits, row_files};
+ghost use Rattle.pascal_cli.specs.App.{row_path, row_request, row_words, row_work, budget_rule, run_app, run_work};
+ghost use Rattle.pascal_cli.specs.App.{steps_rule};
+ghost use Rattle.pascal_cli.specs.App.{verify_app, watch_app, whole, words_rule};
 ghost use Rattle.pascal_cli.specs.Command.{are_digits, is_digits, is_line_fault, request_in, request_of, topic_of};
 ghost use Rattle.pascal_cli.specs.Command.{work_of};
 ghost use Rattle.pascal_cli.specs.declared.job.CommandFault.TheVariants.{OutOfMemory};
@@ -31,13 +32,67 @@ const DEFAULT_HEAP: u32 = 1_048_576;
 
 const DEFAULT_STEPS: u64 = 1_000_000_000;
 
-// What help tells of `check` behind its arguments. Its options are taken out of the words before `clap` reads them.
+// What help tells of commands behind their arguments. These options are taken out of the words before `clap` reads them.
 const CHECK_NOTES: &str = "More options:
       --json         Write what is told as JSON, an object a line, to standard output
       --first        Tell the first fault of a text alone
       --no-warnings  Tell no warnings
 
 Example: pascal check hello.pas";
+
+const COMPILE_NOTES: &str = "More options:
+      --map <FILE>  Write where the words of the image belong in the text
+
+Example: pascal compile hello.pas hello.img";
+
+const LIST_NOTES: &str = "More options:
+      --source  Show the lines of the text before the words that come of them
+
+Example: pascal list hello.pas";
+
+const RUN_NOTES: &str = "More options:
+      --usage  Tell at the end how many steps were made, and the most stack and heap that were taken
+
+Example: pascal run hello.img --steps 1000000000000";
+
+const GO_NOTES: &str = "More options:
+      --usage  Tell at the end how many steps were made, and the most stack and heap that were taken
+
+Example: pascal go hello.pas --stack 1048576";
+
+const WHY_NOTES: &str = "More options:
+      --all   Tell all calls and all components of variables
+      --json  Tell it as JSON
+
+Example: pascal why hello.pas < input";
+
+const TRACE_NOTES: &str = "More options:
+      --from <LINE>     Tell the statements from this line on
+      --to <LINE>       Tell the statements up to this line
+      --routine <NAME>  Tell the statements of this routine
+      --first <COUNT>   Tell at most so many statements
+      --json            Tell each as an object of JSON
+
+Example: pascal trace hello.pas --from 10 --to 20";
+
+const COVER_NOTES: &str = "More options:
+      --input <FILE>  Run it on this input; given several times, once on each
+      --lcov          Tell it in the form that tools for coverage read
+
+Example: pascal cover hello.pas --input one.txt --input two.txt";
+
+/// What is told of a run.
+#[derive(Clone, Copy)]
+pub enum Watch {
+    /// How it ended and where, and the variables of the open calls.
+    Why,
+    /// Each statement as it is done.
+    Trace,
+    /// How often each statement was done.
+    Cover,
+    /// Where its steps went.
+    Profile,
+}
 
 /// What is asked for, with its paths.
 #[derive(Drop)]
@@ -79,6 +134,15 @@ pub enum Task<'a> {
         certificate: &'a str,
         source: &'a str,
         image: &'a str,
+    },
+    /// Compiles a source and tells what stack and heap its image needs.
+    Needs {
+        source: &'a str,
+    },
+    /// Compiles a source, runs it and tells of the run.
+    Watch {
+        how: Watch,
+        source: &'a str,
     },
 }
 
@@ -250,10 +314,9 @@ fn compile_command<'a>(alloc: Global) -> Result<Command<'a>, AllocError>
     ensures { Makes compile_app result }
 {
     let about = "Compiles a text and writes its image";
-    let example = "Example: pascal compile hello.pas hello.img";
     let source = path(alloc, "SRC", "The Pascal text, or - for standard input");
     let image = path(alloc, "IMG", "The image, or - for standard output");
-    let compile = command_with(alloc, "compile", about, example, source);
+    let compile = command_with(alloc, "compile", about, COMPILE_NOTES, source);
     with_arg(compile, image)
 }
 
@@ -261,18 +324,16 @@ fn list_command<'a>(alloc: Global) -> Result<Command<'a>, AllocError>
     ensures { Makes list_app result }
 {
     let about = "Compiles a text and writes the listing of its image to standard output";
-    let example = "Example: pascal list hello.pas";
     let source = path(alloc, "SRC", "The Pascal text, or - for standard input");
-    command_with(alloc, "list", about, example, source)
+    command_with(alloc, "list", about, LIST_NOTES, source)
 }
 
 fn run_command<'a>(alloc: Global) -> Result<Command<'a>, AllocError>
     ensures { Makes run_app result }
 {
     let about = "Runs an image on standard input and output";
-    let example = "Example: pascal run hello.img --steps 1000000000000";
     let image = path(alloc, "IMG", "The image");
-    let run = command_with(alloc, "run", about, example, image);
+    let run = command_with(alloc, "run", about, RUN_NOTES, image);
     with_limits(alloc, run)
 }
 
@@ -280,9 +341,8 @@ fn go_command<'a>(alloc: Global) -> Result<Command<'a>, AllocError>
     ensures { Makes go_app result }
 {
     let about = "Compiles a text and runs it on standard input and output";
-    let example = "Example: pascal go hello.pas --stack 1048576";
     let source = path(alloc, "SRC", "The Pascal text");
-    let go = command_with(alloc, "go", about, example, source);
+    let go = command_with(alloc, "go", about, GO_NOTES, source);
     with_limits(alloc, go)
 }
 
@@ -322,6 +382,58 @@ fn verify_command<'a>(alloc: Global) -> Result<Command<'a>, AllocError>
     let image = path(alloc, "IMG", "The image, or - for standard input");
     let verify = command_with(alloc, "verify", about, example, certificate);
     with_arg(with_arg(verify, source), image)
+}
+
+fn needs_command<'a>(alloc: Global) -> Result<Command<'a>, AllocError>
+    ensures { Makes needs_app result }
+{
+    let about = "Compiles a text and tells what stack and heap its runs need at most";
+    let example = "Example: pascal needs hello.pas";
+    let source = path(alloc, "SRC", "The Pascal text, or - for standard input");
+    command_with(alloc, "needs", about, example, source)
+}
+
+// A command that runs a source and tells of the run.
+fn watch_command<'a>(
+    alloc: Global,
+    name: &'a str,
+    about: &'a str,
+    notes: &'a str,
+) -> Result<Command<'a>, AllocError>
+    ensures { Makes (watch_app name.entry.now) result }
+{
+    let source = path(alloc, "SRC", "The Pascal text");
+    let watch = command_with(alloc, name, about, notes, source);
+    with_limits(alloc, watch)
+}
+
+fn why_command<'a>(alloc: Global) -> Result<Command<'a>, AllocError>
+    ensures { Makes (watch_app (codes "why")) result }
+{
+    let about = "Runs a text and tells where it ended, and what the variables were";
+    watch_command(alloc, "why", about, WHY_NOTES)
+}
+
+fn trace_command<'a>(alloc: Global) -> Result<Command<'a>, AllocError>
+    ensures { Makes (watch_app (codes "trace")) result }
+{
+    let about = "Runs a text and tells each statement as it is done";
+    watch_command(alloc, "trace", about, TRACE_NOTES)
+}
+
+fn cover_command<'a>(alloc: Global) -> Result<Command<'a>, AllocError>
+    ensures { Makes (watch_app (codes "cover")) result }
+{
+    let about = "Runs a text and tells how often each statement was done";
+    watch_command(alloc, "cover", about, COVER_NOTES)
+}
+
+fn profile_command<'a>(alloc: Global) -> Result<Command<'a>, AllocError>
+    ensures { Makes (watch_app (codes "profile")) result }
+{
+    let about = "Runs a text and tells where its steps went, by routine and by line";
+    let example = "Example: pascal profile hello.pas < input";
+    watch_command(alloc, "profile", about, example)
 }
 
 // Adds a subcommand, if there is one, to a command.
@@ -372,7 +484,12 @@ fn pascal<'a>(alloc: Global) -> Result<Command<'a>, AllocError>
     let pascal = with_subcommand(pascal, explain_command(alloc));
     let pascal = with_subcommand(pascal, check_command(alloc));
     let pascal = with_subcommand(pascal, certify_command(alloc));
-    with_subcommand(pascal, verify_command(alloc))
+    let pascal = with_subcommand(pascal, verify_command(alloc));
+    let pascal = with_subcommand(pascal, needs_command(alloc));
+    let pascal = with_subcommand(pascal, why_command(alloc));
+    let pascal = with_subcommand(pascal, trace_command(alloc));
+    let pascal = with_subcommand(pascal, cover_command(alloc));
+    with_subcommand(pascal, profile_command(alloc))
 }
 
 // A budget as it was given. `clap` has refused what lies outside the range.
@@ -429,6 +546,31 @@ fn files_of<'a>(alloc: Global, matches: &ArgMatches<'a>) -> Result<Vec<&'a str>,
     }
 }
 
+// The work of a command that runs a source.
+fn run_task<'a>(name: &str, source: &'a str) -> Task<'a>
+    ensures { work_of result ≡ run_work name.now source.now }
+{
+    match name {
+        "why" => Task::Watch {
+            how: Watch::Why,
+            source,
+        },
+        "trace" => Task::Watch {
+            how: Watch::Trace,
+            source,
+        },
+        "cover" => Task::Watch {
+            how: Watch::Cover,
+            source,
+        },
+        "profile" => Task::Watch {
+            how: Watch::Profile,
+            source,
+        },
+        _ => Task::Go { source },
+    }
+}
+
 fn task_of<'a>(alloc: Global, name: &str, matches: &ArgMatches<'a>) -> Result<Task<'a>, AllocError>
     ensures { IfOk result (λ task. work_of task ≡ row_work name.now (rows_of (found_of matches.now))) }
 {
@@ -458,9 +600,10 @@ fn task_of<'a>(alloc: Global, name: &str, matches: &ArgMatches<'a>) -> Result<Ta
             source: path_of(matches, "SRC"),
             image: path_of(matches, "IMG"),
         },
-        _ => Task::Go {
+        "needs" => Task::Needs {
             source: path_of(matches, "SRC"),
         },
+        _ => run_task(name, path_of(matches, "SRC")),
     };
     Ok(task)
 }

@@ -10,25 +10,32 @@ ghost use Rattle.pascal_cli.specs.Command as work;
 ghost use Rattle.pascal_cli.specs.Command.{request_in, work_of};
 ghost use Rattle.pascal_cli.specs.Console.{console_world, has_failed, held_of};
 ghost use Rattle.pascal_cli.specs.Explain.{has_page};
-ghost use Rattle.pascal_cli.specs.Jobs.{IsBuilt, IsStatus, IsWritten, RanImage, RanText, budget_of, limits_in};
+ghost use Rattle.pascal_cli.specs.Jobs.{IsBuilt, IsStatus, IsWritten, RanBuilt, RanImage, RanText, budget_of};
+ghost use Rattle.pascal_cli.specs.Jobs.{limits_in};
 ghost use Rattle.pascal_cli.specs.Jobs.{status_of_write};
 ghost use Rattle.pascal_cli.specs.Transfers.{device_of, faults_of};
 
 use crate::certificates::{certify, verify};
-use crate::check::Telling;
 use crate::checks::check;
 use crate::console::BlockConsole;
 use crate::explain::{pages_on, titles};
 use crate::failures::Failures;
-use crate::image_file::{WriteFault, write_image};
+use crate::image_file::{WriteFault, write_image, write_map};
 use crate::job::{Job, Task};
-use crate::runs::{go_through, run_through};
+use crate::needs::needs;
+use crate::options::Options;
+use crate::runs::{go_through, run_through, usage_through};
 use crate::session::{
     FAILED, STANDARD_OUTPUT, TEXT_LIMIT, cannot, is_standard, out_of_memory, read_file,
     read_standard_input, read_text, tell,
 };
 use crate::transfer::{Counted, put_all};
-use ps_build::{Budget, Built, build, list};
+use crate::watched::watch;
+use ps_build::{Budget, Built, Mapped, build, build_mapped, list};
+use ps_map::{listing_with_source, map_of_text, written};
+use ps_trace::{Usage, usage_told};
+use risc_image::ImageView;
+use std::alloc::{AllocError, Global};
 use std::io::{self, BufRead, Write};
 use std::rt::{Env, Files};
 
@@ -48,29 +55,39 @@ const STANDARD_INPUT_FILE: &str = "/dev/stdin";
 pub(crate) fn do_job<R: Files + Print + Eprint + Input + Env + AllocGlobal>(
     rt: &R,
     job: &Job<'_>,
-    telling: Telling,
+    options: &Options<'_>,
 ) -> u8
     ensures { IsStatus (request_in job.now) result }
 {
     match &job.task {
-        Task::Compile { source, image } => compile(rt, job, source, image),
-        Task::List { source } => list_text(rt, job, source),
-        Task::Run { image } => run_file(rt, job, image),
-        Task::Go { source } => go_file(rt, job, source),
+        Task::Compile { source, image } => compile(rt, job, source, image, options.map),
+        Task::List { source } => list_text(rt, job, source, options.source),
+        Task::Run { image } => run_file(rt, job, image, options.usage),
+        Task::Go { source } => go_file(rt, job, source, options.usage),
         Task::GoStandardInput => go_standard_input(rt, job),
         Task::Explain { topic } => explain(rt, job, topic.as_str()),
-        Task::Check { files } => check(rt, &mut Failures::new(), job, files.as_slice(), telling),
+        Task::Check { files } => {
+            check(
+                rt,
+                &mut Failures::new(),
+                job,
+                files.as_slice(),
+                options.telling,
+            )
+        },
         Task::Certify { source, image } => certify(rt, &mut Failures::new(), job, source, image),
         Task::Verify {
             certificate,
             source,
             image,
         } => verify(rt, &mut Failures::new(), job, certificate, source, image),
+        Task::Needs { source } => needs(rt, &mut Failures::new(), job, source),
+        Task::Watch { how, source } => watch(rt, job, *how, source, options),
     }
 }
 
-// The bytes of stack and heap that a job gives a run.
-fn budget_of(job: &Job<'_>) -> Budget
+/// The bytes of stack and heap that a job gives a run.
+pub(crate) fn budget_of(job: &Job<'_>) -> Budget
     ensures { result ≡ budget_of (limits_in job.now) }
 {
     Budget {
@@ -98,15 +115,85 @@ fn compile<R: Files + Print + Eprint + Input + AllocGlobal>(
     job: &Job<'_>,
     source: &str,
     image: &str,
+    map: Option<&str>,
 ) -> u8
     requires { work_of job.now.task ≡ work.compile source.now image.now }
     ensures { IsStatus (request_in job.now) result }
 {
     let _ = job;
+    if let Some(map) = map {
+        return compile_mapped(rt, source, image, map);
+    }
     match build_text(rt, source) {
         Ok(built) => put_image(rt, source, image, built.bytes()),
         Err(status) => status,
     }
+}
+
+// Builds the text at a path, and writes its image and its map.
+fn compile_mapped<R: Files + Print + Eprint + Input + AllocGlobal>(
+    rt: &R,
+    source: &str,
+    image: &str,
+    map: &str,
+) -> u8
+    ensures { (result ≡ FAILED) ⊎ ((result ≡ 0) × ((bytes : List ℕ) × IsBuilt bytes)) }
+{
+    if map == image {
+        let _ = eprintln!(rt; "cannot write an image and its map to one place");
+        return FAILED;
+    }
+    let text = match read_text(rt, source) {
+        Ok(text) => text,
+        Err(status) => return status,
+    };
+    match build_mapped(rt.alloc(), &text) {
+        Ok(mapped) => put_mapped(rt, source, image, map, &text, &mapped),
+        Err(refusal) => tell(rt, &Err(refusal)),
+    }
+}
+
+// Writes the image of a text to a path, and its map to another.
+fn put_mapped<R: Files + Print + Eprint + AllocGlobal>(
+    rt: &R,
+    source: &str,
+    image: &str,
+    map: &str,
+    text: &[u8],
+    mapped: &Mapped,
+) -> u8
+    requires { IsBuilt mapped.now.built }
+    ensures { (result ≡ FAILED) ⊎ ((result ≡ 0) × ((bytes : List ℕ) × IsBuilt bytes)) }
+{
+    let Ok(told) = map_told(rt.alloc(), text, mapped) else {
+        return out_of_memory(rt);
+    };
+    if put_map(rt, source, map, told.as_str()) != 0 {
+        return FAILED;
+    }
+    put_image(rt, source, image, mapped.built.bytes())
+}
+
+// The map of the image of a text, as it is written.
+fn map_told(alloc: Global, text: &[u8], mapped: &Mapped) -> Result<String, AllocError> {
+    let map = map_of_text(alloc, text, mapped)?;
+    written(alloc, &map)
+}
+
+// Writes a map to a path, which may stand for standard output.
+fn put_map<R: Files + Print + Eprint + AllocGlobal>(
+    rt: &R,
+    source: &str,
+    path: &str,
+    told: &str,
+) -> u8
+    ensures { result ≤ FAILED }
+{
+    if is_standard(path) {
+        return print_all(rt, told.as_bytes());
+    }
+    let written = write_map(rt, file_of(source), path, told.as_bytes());
+    tell_write(rt, written, path)
 }
 
 // Writes the image of a text to a path, which may stand for standard output.
@@ -159,15 +246,78 @@ fn list_text<R: Files + Print + Eprint + Input + AllocGlobal>(
     rt: &R,
     job: &Job<'_>,
     source: &str,
+    with_source: bool,
 ) -> u8
     requires { work_of job.now.task ≡ work.list source.now }
     ensures { IsStatus (request_in job.now) result }
 {
     let _ = job;
+    if with_source {
+        return list_with_source(rt, source);
+    }
     match build_text(rt, source) {
         Ok(built) => put_listing(rt, &built),
         Err(status) => status,
     }
+}
+
+// Builds the text at a path, and writes the listing of its image with the text.
+fn list_with_source<R: Files + Print + Eprint + Input + AllocGlobal>(rt: &R, source: &str) -> u8
+    ensures { (result ≡ FAILED)
+        ⊎ ((result ≡ 0) × ((bytes : List ℕ) × (text : List ℕ) × IsBuilt bytes × IsListed bytes text)) }
+{
+    let text = match read_text(rt, source) {
+        Ok(text) => text,
+        Err(status) => return status,
+    };
+    match build_mapped(rt.alloc(), &text) {
+        Ok(mapped) => put_source_listing(rt, &text, &mapped),
+        Err(refusal) => tell(rt, &Err(refusal)),
+    }
+}
+
+// Writes the listing of an image with its text to standard output.
+fn put_source_listing<R: Print + Eprint + AllocGlobal>(rt: &R, text: &[u8], mapped: &Mapped) -> u8
+    requires { IsBuilt mapped.now.built }
+    ensures { (result ≡ FAILED)
+        ⊎ ((result ≡ 0) × ((bytes : List ℕ) × (text : List ℕ) × IsBuilt bytes × IsListed bytes text)) }
+{
+    match list(rt.alloc(), &mapped.built) {
+        Ok(listing) => print_source_listing(rt, text, mapped, listing.as_str()),
+        Err(_) => out_of_memory(rt),
+    }
+}
+
+// Writes the listing of an image, which is made, with its text to standard output.
+fn print_source_listing<R: Print + Eprint + AllocGlobal>(
+    rt: &R,
+    text: &[u8],
+    mapped: &Mapped,
+    listing: &str,
+) -> u8
+    requires built { IsBuilt mapped.now.built }
+    requires listed { IsListed mapped.now.built listing.now }
+    ensures { (result ≡ FAILED)
+        ⊎ ((result ≡ 0) × ((bytes : List ℕ) × (text : List ℕ) × IsBuilt bytes × IsListed bytes text)) }
+{
+    match with_source(rt.alloc(), text, mapped, listing) {
+        Ok(told) => print_all(rt, told.as_bytes()),
+        Err(_) => out_of_memory(rt),
+    }
+}
+
+// A listing with the lines of its text.
+fn with_source(
+    alloc: Global,
+    text: &[u8],
+    mapped: &Mapped,
+    listing: &str,
+) -> Result<String, AllocError> {
+    let map = map_of_text(alloc, text, mapped)?;
+    let Ok(view) = ImageView::read(mapped.built.bytes()) else {
+        return Err(AllocError);
+    };
+    listing_with_source(alloc, text, &map, &view, listing)
 }
 
 // Writes the listing of an image to standard output.
@@ -214,8 +364,10 @@ fn put_told<W: Write, R: Eprint>(rt: &R, writer: &mut Counted<W>, bytes: &[u8], 
 
 // ---- runs
 
-// The console of a run: standard input, which is read ahead, and standard output.
-fn console<R: Print + Input + AllocGlobal>(rt: &R) -> BlockConsole<R::Reader, io::Printer<'_, R>> {
+/// The console of a run: standard input, which is read ahead, and standard output.
+pub(crate) fn console<R: Print + Input + AllocGlobal>(
+    rt: &R,
+) -> BlockConsole<R::Reader, io::Printer<'_, R>> {
     BlockConsole::new(rt.alloc(), rt.reader(), io::writer(rt))
 }
 
@@ -251,23 +403,68 @@ fn run_file<R: Files + Print + Eprint + Input + AllocGlobal>(
     rt: &R,
     job: &Job<'_>,
     path: &str,
+    with_usage: bool,
 ) -> u8
     requires { work_of job.now.task ≡ work.run path.now }
     ensures { IsStatus (request_in job.now) result }
 {
     match read_file(rt, path, IMAGE_LIMIT) {
+        Ok(image) if with_usage => measure_image(rt, job, &image, &mut console(rt)),
         Ok(image) => run_image(rt, job, &image, &mut console(rt)),
         Err(status) => status,
     }
 }
 
-fn go_file<R: Files + Print + Eprint + Input + AllocGlobal>(rt: &R, job: &Job<'_>, path: &str) -> u8
+fn go_file<R: Files + Print + Eprint + Input + AllocGlobal>(
+    rt: &R,
+    job: &Job<'_>,
+    path: &str,
+    with_usage: bool,
+) -> u8
     requires { work_of job.now.task ≡ work.go path.now }
     ensures { IsStatus (request_in job.now) result }
 {
     match read_file(rt, path, TEXT_LIMIT) {
+        Ok(text) if with_usage => measure_text(rt, job, &text),
         Ok(text) => go_text(rt, job, &text, &mut console(rt)),
         Err(status) => status,
+    }
+}
+
+// Runs an image as `run_image` does, and tells what the run took.
+fn measure_image<R: Eprint + AllocGlobal, I: BufRead, O: Write>(
+    rt: &R,
+    job: &Job<'_>,
+    image: &[u8],
+    console: &mut BlockConsole<I, O>,
+) -> u8
+    ensures { RanImage image.now (limits_in job.now) (console_world I.remaining O.contents console.old)
+        (console_world I.remaining O.contents console.new) (held_of console.new) (has_failed console.new) result }
+{
+    match usage_through(rt.alloc(), image, budget_of(job), console, job.steps) {
+        Ok(used) => {
+            let status = tell(rt, &Ok(used.outcome));
+            tell_usage(rt, used.usage);
+            status
+        }
+        Err(refusal) => tell(rt, &Err(refusal)),
+    }
+}
+
+// Tells what a run took.
+fn tell_usage<R: Eprint + AllocGlobal>(rt: &R, usage: Usage) {
+    if let Ok(told) = usage_told(rt.alloc(), usage) {
+        let _ = rt.eprint(told.as_str());
+    }
+}
+
+// Builds a text, runs its image and tells what the run took.
+fn measure_text<R: Print + Eprint + Input + AllocGlobal>(rt: &R, job: &Job<'_>, text: &[u8]) -> u8
+    ensures { (result ≡ FAILED) ⊎ RanBuilt (limits_in job.now) result }
+{
+    match build(rt.alloc(), text) {
+        Ok(built) => measure_image(rt, job, built.bytes(), &mut console(rt)),
+        Err(refusal) => tell(rt, &Err(refusal)),
     }
 }
 

@@ -4,7 +4,6 @@
 mod ahead;
 mod believed;
 mod certificates;
-mod check;
 mod checks;
 mod console;
 mod counted;
@@ -13,19 +12,25 @@ mod failures;
 mod image_file;
 mod job;
 mod jobs;
+mod needs;
+mod options;
 mod report;
 mod runs;
 mod session;
 mod transfer;
 mod version;
+mod watched;
 
 pub use ahead::Ahead;
 pub use console::BlockConsole;
 pub use explain::{pages_on, titles};
 pub use image_file::{FileNumber, Way, WriteFault, way_of, write_image};
-pub use job::{CommandFault, Job, MAX_BUDGET, MAX_STEPS, NumberFault, Task, command};
+pub use job::{CommandFault, Job, MAX_BUDGET, MAX_STEPS, NumberFault, Task, Watch, command};
+pub use options::{OptionFault, Options, Part, Telling, Traces};
 pub use report::{Lines, OutOfMemory, lines_of, message, status};
-pub use runs::{go_through, run_through};
+pub use runs::{
+    Tracing, counts_through, end_through, go_through, run_through, trace_through, usage_through,
+};
 pub use session::{
     FAILED, TEXT_LIMIT, asked, asks_version, is_standard, read_all, read_file, read_standard_input,
     run, tell, texts, words,

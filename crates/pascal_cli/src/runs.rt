@@ -8,7 +8,12 @@ ghost use Rattle.pascal_cli.specs.Console.{input_of, held_of, has_failed, faults
 ghost use Rattle.pascal_cli.specs.Runs.{IsSettled, GoesThrough, RunsThrough};
 
 use crate::console::BlockConsole;
-use ps_build::{Budget, Outcome, Refusal, go_in_slices, run_image_in_slices};
+use ps_build::{
+    Budget, Ended, Outcome, Refusal, go_in_slices, run_image_in_slices, run_image_to_end,
+};
+use ps_trace::{
+    Choice, Counts, Measured, Prepared, Teller, Usage, run_counted, run_measured, run_traced,
+};
 use std::alloc::Global;
 use std::io::{BufRead, Write};
 
@@ -67,6 +72,127 @@ pub fn run_through<R: BufRead, W: Write>(
 {
     match run_image_in_slices(alloc, image, budget, console, steps) {
         Ok(end) => Ok(settled(console, end)),
+        Err(refusal) => Err(refusal),
+    }
+}
+
+/// The run of an image on a console, with the machine as it was left.
+#[derive(Drop)]
+pub struct Left {
+    pub ended: Ended,
+    /// The end that is told.
+    pub outcome: Outcome,
+}
+
+/// The end of a run that is told, and what the run took.
+#[derive(Clone, Copy)]
+pub struct Used {
+    pub outcome: Outcome,
+    pub usage: Usage,
+}
+
+/// Runs an image as `run_through` does, and hands on the machine as the run left it.
+pub fn end_through<R: BufRead, W: Write>(
+    alloc: Global,
+    image: &[u8],
+    budget: Budget,
+    console: &mut BlockConsole<R, W>,
+    steps: u64,
+) -> Result<Left, Refusal>
+    ensures runs { IfOk result (λ left. RunsThrough image.now budget steps
+        (console_world R.remaining W.contents console.old) (console_world R.remaining W.contents console.new)
+        (held_of console.new) (has_failed console.new) left.outcome) }
+    ensures refused { IfErr result (IsRunRefused image.now budget) }
+    ensures unchanged { OnErr result (console_world R.remaining W.contents console.new
+        ≡ console_world R.remaining W.contents console.old) }
+{
+    match run_image_to_end(alloc, image, budget, console, steps) {
+        Ok(ended) => {
+            let outcome = settled(console, ended.outcome);
+            Ok(Left { ended, outcome })
+        }
+        Err(refusal) => Err(refusal),
+    }
+}
+
+/// Runs an image as `run_through` does, and tells what the run took.
+pub fn usage_through<R: BufRead, W: Write>(
+    alloc: Global,
+    image: &[u8],
+    budget: Budget,
+    console: &mut BlockConsole<R, W>,
+    steps: u64,
+) -> Result<Used, Refusal>
+    ensures runs { IfOk result (λ used. RunsThrough image.now budget steps
+        (console_world R.remaining W.contents console.old) (console_world R.remaining W.contents console.new)
+        (held_of console.new) (has_failed console.new) used.outcome) }
+    ensures refused { IfErr result (IsRunRefused image.now budget) }
+    ensures unchanged { OnErr result (console_world R.remaining W.contents console.new
+        ≡ console_world R.remaining W.contents console.old) }
+{
+    match run_measured(alloc, image, budget, console, steps) {
+        Ok(Measured { ended, usage }) => {
+            let outcome = settled(console, ended.outcome);
+            Ok(Used { outcome, usage })
+        }
+        Err(refusal) => Err(refusal),
+    }
+}
+
+/// Runs a program as `run_through` runs its image, and adds how often each of its words was done.
+pub fn counts_through<R: BufRead, W: Write>(
+    alloc: Global,
+    prepared: &Prepared,
+    budget: Budget,
+    console: &mut BlockConsole<R, W>,
+    steps: u64,
+    counts: &mut Counts,
+) -> Result<Outcome, Refusal>
+    ensures runs { IfOk result (λ outcome. RunsThrough prepared.now.text.mapped.built budget steps
+        (console_world R.remaining W.contents console.old) (console_world R.remaining W.contents console.new)
+        (held_of console.new) (has_failed console.new) outcome) }
+    ensures refused { IfErr result (IsRunRefused prepared.now.text.mapped.built budget) }
+    ensures unchanged { OnErr result (console_world R.remaining W.contents console.new
+        ≡ console_world R.remaining W.contents console.old) }
+{
+    match run_counted(alloc, prepared, counts, budget, console, steps) {
+        Ok(end) => Ok(settled(console, end)),
+        Err(refusal) => Err(refusal),
+    }
+}
+
+/// Which statements of which program are told.
+#[derive(Clone, Copy)]
+pub struct Tracing<'a> {
+    pub text: &'a [u8],
+    pub prepared: &'a Prepared,
+    pub choice: Choice<'a>,
+}
+
+/// Runs a program as `run_through` runs its image, and tells each statement as it is done.
+pub fn trace_through<R: BufRead, W: Write, T: Teller + Drop>(
+    alloc: Global,
+    tracing: Tracing<'_>,
+    budget: Budget,
+    console: &mut BlockConsole<R, W>,
+    steps: u64,
+    teller: T,
+) -> Result<Outcome, Refusal>
+    ensures runs { IfOk result (λ outcome. RunsThrough tracing.entry.prepared.now.text.mapped.built budget steps
+        (console_world R.remaining W.contents console.old) (console_world R.remaining W.contents console.new)
+        (held_of console.new) (has_failed console.new) outcome) }
+    ensures unchanged { OnErr result (console_world R.remaining W.contents console.new
+        ≡ console_world R.remaining W.contents console.old) }
+{
+    let Tracing {
+        text,
+        prepared,
+        choice,
+    } = tracing;
+    match run_traced(
+        alloc, text, prepared, choice, teller, budget, console, steps,
+    ) {
+        Ok(traced) => Ok(settled(console, traced.outcome)),
         Err(refusal) => Err(refusal),
     }
 }

@@ -9,15 +9,15 @@ ghost use Rattle.std.specs.Str.{bytes_eq};
 ghost use Rattle.clap.specs.Faults.{fault_of};
 ghost use Rattle.clap.specs.Values.{kind_of};
 ghost use Rattle.pascal_cli.specs.App.{pascal_app};
-ghost use Rattle.pascal_cli.specs.Check.{plain_words};
 ghost use Rattle.pascal_cli.specs.Command.{Request, request_in, request_of};
 ghost use Rattle.pascal_cli.specs.Jobs.{IsStatus};
+ghost use Rattle.pascal_cli.specs.Options.{plain_words};
 ghost use Rattle.pascal_cli.specs.Report.{status_of};
 ghost use Rattle.pascal_cli.specs.Session.{IsFrontOf, IsHelp, asks_version, is_help};
 
-use crate::check::{Telling, plain_words, telling_of};
 use crate::job::{CommandFault, Job, MAX_BUDGET, MAX_STEPS, NumberFault, command};
 use crate::jobs::do_job;
+use crate::options::{OptionFault, Options, options_of, plain_words};
 use crate::report::{lines_of, status};
 use crate::transfer::{Counted, ReadFault, read_up_to};
 use crate::version::print_version;
@@ -113,23 +113,46 @@ fn run_texts<R: Files + Print + Eprint + Input + Env + AllocGlobal>(rt: &R, text
     if asks_version(texts) {
         return tell_version(rt);
     }
+    match options_of(rt.alloc(), texts) {
+        Ok(options) => run_with(rt, texts, &options),
+        Err(fault) => tell_option(rt, fault),
+    }
+}
+
+// Tells what is wrong with an option.
+fn tell_option<R: Eprint>(rt: &R, fault: OptionFault<'_>) -> u8
+    ensures { result ≡ FAILED }
+{
+    let _ = rt.eprint(fault);
+    FAILED
+}
+
+// Does what texts ask for, with the options among them.
+fn run_with<R: Files + Print + Eprint + Input + Env + AllocGlobal>(
+    rt: &R,
+    texts: &[&str],
+    options: &Options<'_>,
+) -> u8
+    ensures { (request : Request) → request_of (plain_words (map (λ text. text.now) texts.now)) ≡ Some request
+        → IsStatus request result }
+{
     match plain_words(rt.alloc(), texts) {
-        Ok(plain) => run_plain(rt, &plain, telling_of(texts)),
+        Ok(plain) => run_plain(rt, &plain, options),
         Err(_) => out_of_memory(rt),
     }
 }
 
-// Does what texts ask for that have no options of `check`, and tells of texts as it is wanted.
+// Does what texts ask for that have no such options, as these want it.
 fn run_plain<R: Files + Print + Eprint + Input + Env + AllocGlobal>(
     rt: &R,
     texts: &[&str],
-    telling: Telling,
+    options: &Options<'_>,
 ) -> u8
     ensures { (request : Request) → request_of (map (λ text. text.now) texts.now) ≡ Some request
         → IsStatus request result }
 {
     match asked(rt, texts) {
-        Ok(job) => do_job(rt, &job, telling),
+        Ok(job) => do_job(rt, &job, options),
         Err(status) => status,
     }
 }

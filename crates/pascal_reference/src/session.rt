@@ -93,7 +93,9 @@ fn read_task<R: Files + Eprint + Input + AllocGlobal>(
         | Task::Explain { .. }
         | Task::Check { .. }
         | Task::Certify { .. }
-        | Task::Verify { .. } => {
+        | Task::Verify { .. }
+        | Task::Needs { .. }
+        | Task::Watch { .. } => {
             let _ = eprintln!(rt; "pascal_reference has no images: it runs a text by `go`");
             Err(FAILED)
         }

@@ -2,7 +2,7 @@ use Rattle.std.proofs.Common.{◌∙◌, ap, codes, true}
 use Rattle.std.proofs.lemmas.Result.{IfOk-weaker}
 use Rattle.clap.specs.Simple.{App, app_of_fields, new_app, on_top}
 use Rattle.pascal_cli.specs.App.{IsCommand, certify_app, check_app, compile_app, explain_app, go_app, list_app}
-use Rattle.pascal_cli.specs.App.{run_app, verify_app}
+use Rattle.pascal_cli.specs.App.{needs_app, run_app, verify_app, watch_app}
 use Rattle.pascal_cli.proofs.job.pascal.Goals as goal
 
 abbrev nameless : App → App
@@ -24,5 +24,12 @@ returns c =
     let with_explain = c.with_subcommand-pascal-5.ensures _ explain_app with_go c.explain_command.ensures in
     let with_check = c.with_subcommand-pascal-6.ensures _ check_app with_explain c.check_command.ensures in
     let with_certify = c.with_subcommand-pascal-7.ensures _ certify_app with_check c.certify_command.ensures in
+    let with_verify = c.with_subcommand-pascal-8.ensures _ verify_app with_certify c.verify_command.ensures in
+    let with_needs = c.with_subcommand-pascal-9.ensures _ needs_app with_verify c.needs_command.ensures in
+    let with_why = c.with_subcommand-pascal-10.ensures _ (watch_app (codes "why")) with_needs c.why_command.ensures in
+    let with_trace = c.with_subcommand-pascal-11.ensures _ (watch_app (codes "trace")) with_why c.trace_command.ensures
+    in
+    let with_cover = c.with_subcommand-pascal-12.ensures _ (watch_app (codes "cover")) with_trace
+    c.cover_command.ensures in
     IfOk-weaker c.with_subcommand.result _ _ (λ r h. h.0)
-    (c.with_subcommand.ensures _ verify_app with_certify c.verify_command.ensures)
+    (c.with_subcommand.ensures _ (watch_app (codes "profile")) with_cover c.profile_command.ensures)

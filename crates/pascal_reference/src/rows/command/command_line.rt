@@ -1,6 +1,6 @@
 //! The words of the command line.
 
-use pascal_cli::{CommandFault, Job, Task, command};
+use pascal_cli::{CommandFault, Job, Task, Watch, command};
 use std::alloc::{AllocError, Global};
 use test_tables::Line;
 
@@ -20,6 +20,8 @@ fn put_task(line: &mut Line, task: &Task<'_>) {
             line.word("check");
             put_files(line, files.as_slice());
         }
+        Task::Needs { source } => put_named(line, "needs ", *source),
+        Task::Watch { how, source } => put_named(line, watch_word(*how), *source),
         Task::Certify { source, image } => {
             line.word("certify");
             put_files(line, &[*source, *image]);
@@ -32,6 +34,16 @@ fn put_task(line: &mut Line, task: &Task<'_>) {
             line.word("verify");
             put_files(line, &[*certificate, *source, *image]);
         }
+    }
+}
+
+// The word of a command that tells of a run, and a space.
+fn watch_word(how: Watch) -> &'static str {
+    match how {
+        Watch::Why => "why ",
+        Watch::Trace => "trace ",
+        Watch::Cover => "cover ",
+        Watch::Profile => "profile ",
     }
 }
 

@@ -1,0 +1,308 @@
+//! The options that are taken out of the words before `clap` reads them: how much is told, how, and where it goes.
+//!
+//! Contracts tell which words stay. What is told by an option, no contract tells.
+
+ghost use Rattle.std.specs.Prelude.{◌≡◌, ◌++◌, IfOk, OnOk, [], ◌∷◌, if◌then◌else◌, map};
+ghost use Rattle.pascal_cli.specs.Options.{has_value, is_check_flag, is_flag, is_trace_value, is_why_flag, next_part};
+ghost use Rattle.pascal_cli.specs.Options.{plain_words, stays, without_options};
+ghost use Rattle.pascal_cli.specs.declared.options.Part.TheVariants.{Open};
+
+use std::alloc::{AllocError, Global};
+use thiserror::Error;
+
+/// How much is told of texts that are checked, and how.
+#[derive(Clone, Copy)]
+pub struct Telling {
+    /// As JSON.
+    pub json: bool,
+    /// The first fault of a text alone.
+    pub first: bool,
+    /// Warnings too.
+    pub warnings: bool,
+}
+
+/// Which statements of a run are told.
+#[derive(Clone, Copy)]
+pub struct Traces<'a> {
+    /// Those that begin in these lines.
+    pub from: u32,
+    pub to: u32,
+    /// Those of the routine with this name, or of all.
+    pub routine: Option<&'a str>,
+    /// At most so many.
+    pub first: u64,
+}
+
+/// What the options of the command line ask for.
+#[derive(Drop)]
+pub struct Options<'a> {
+    pub telling: Telling,
+    pub traces: Traces<'a>,
+    /// All that there is, where else the most of it would do.
+    pub all: bool,
+    /// A listing with its source.
+    pub source: bool,
+    /// What a run took.
+    pub usage: bool,
+    /// In the form that tools for coverage read.
+    pub lcov: bool,
+    /// Where a map goes.
+    pub map: Option<&'a str>,
+    /// The inputs of several runs, one after the other.
+    pub inputs: Vec<&'a str>,
+}
+
+/// Why options ask for nothing.
+#[derive(Clone, Copy, Debug, Error)]
+pub enum OptionFault<'a> {
+    /// An option has no value behind it.
+    #[error("error: a value is required for '{0}' but none was supplied\n\nFor more information, try '--help'.\n")]
+    NoValue(&'a str),
+    /// A number is no number, or too large.
+    #[error("error: invalid value '{text}' for '{option}': a number is wanted\n\nFor more information, try '--help'.\n")]
+    NoNumber { option: &'a str, text: &'a str },
+    /// A growth was refused.
+    #[error("out of memory\n")]
+    OutOfMemory,
+}
+
+impl<'a> From<AllocError> for OptionFault<'a> {
+    fn from(_error: AllocError) -> OptionFault<'a> {
+        OptionFault::OutOfMemory
+    }
+}
+
+/// What the next word behind a command is.
+#[derive(Clone, Copy)]
+pub enum Part {
+    /// An option, or a word of `clap`'s.
+    Open,
+    /// The value of the option before it.
+    Value,
+    /// A word behind `--`.
+    Closed,
+}
+
+fn is_check_flag(word: &str) -> bool
+    ensures { result ≡ is_check_flag word.now }
+{
+    word == "--json" || word == "--first" || word == "--no-warnings"
+}
+
+fn is_why_flag(word: &str) -> bool
+    ensures { result ≡ is_why_flag word.now }
+{
+    word == "--json" || word == "--all"
+}
+
+// Whether a word is an option of a command that stands alone.
+fn is_flag(command: &str, word: &str) -> bool
+    ensures { result ≡ is_flag command.now word.now }
+{
+    match command {
+        "check" => is_check_flag(word),
+        "list" => word == "--source",
+        "go" => word == "--usage",
+        "run" => word == "--usage",
+        "why" => is_why_flag(word),
+        "trace" => word == "--json",
+        "cover" => word == "--lcov",
+        _ => false,
+    }
+}
+
+fn is_trace_value(word: &str) -> bool
+    ensures { result ≡ is_trace_value word.now }
+{
+    word == "--from" || word == "--to" || word == "--routine" || word == "--first"
+}
+
+// Whether a word is an option of a command whose value is the next word.
+fn has_value(command: &str, word: &str) -> bool
+    ensures { result ≡ has_value command.now word.now }
+{
+    match command {
+        "compile" => word == "--map",
+        "trace" => is_trace_value(word),
+        "cover" => word == "--input",
+        _ => false,
+    }
+}
+
+// Whether a word stays among the words.
+fn stays(command: &str, part: Part, word: &str) -> bool
+    ensures { result ≡ stays command.now part word.now }
+{
+    match part {
+        Part::Open => !(is_flag(command, word) || has_value(command, word)),
+        Part::Value => false,
+        Part::Closed => true,
+    }
+}
+
+// What the next word is.
+fn next_part(command: &str, part: Part, word: &str) -> Part
+    ensures { result ≡ next_part command.now part word.now }
+{
+    match part {
+        Part::Open => {
+            if word == "--" {
+                Part::Closed
+            } else if has_value(command, word) {
+                Part::Value
+            } else {
+                Part::Open
+            }
+        }
+        Part::Value => Part::Open,
+        Part::Closed => Part::Closed,
+    }
+}
+
+// Puts a word, if it stays.
+fn put_word<'a>(plain: &mut Vec<&'a str>, is_kept: bool, word: &'a str) -> Result<(), AllocError>
+    ensures { OnOk result (map (λ word. word.now) plain.new.items ≡ map (λ word. word.now) plain.old.items
+        ++ (if is_kept then word.now ∷ [] else [])) }
+{
+    if is_kept {
+        plain.push(word)?;
+    }
+    Ok(())
+}
+
+// Puts the words behind a command without its options.
+fn put_plain<'a>(
+    plain: &mut Vec<&'a str>,
+    command: &str,
+    words: &[&'a str],
+) -> Result<(), AllocError>
+    ensures { OnOk result (map (λ word. word.now) plain.new.items ≡ map (λ word. word.now) plain.old.items
+        ++ without_options command.now Open (map (λ word. word.now) words.now)) }
+{
+    let mut rest = words;
+    let mut part = Part::Open;
+    while let [word, behind @ ..] = rest {
+        put_word(plain, stays(command, part, word), word)?;
+        part = next_part(command, part, word);
+        rest = behind;
+    }
+    Ok(())
+}
+
+/// The words of the command line without the options that `options_of` reads.
+pub(crate) fn plain_words<'a>(alloc: Global, words: &[&'a str]) -> Result<Vec<&'a str>, AllocError>
+    ensures { IfOk result (λ plain. map (λ word. word.now) plain.items ≡ plain_words (map (λ word. word.now) words.now)) }
+{
+    let mut plain = Vec::new(alloc);
+    if let [command, rest @ ..] = words {
+        plain.push(*command)?;
+        put_plain(&mut plain, command, rest)?;
+    }
+    Ok(plain)
+}
+
+// ---- what the options ask for
+
+fn no_options<'a>(alloc: Global) -> Options<'a> {
+    Options {
+        telling: Telling {
+            json: false,
+            first: false,
+            warnings: true,
+        },
+        traces: Traces {
+            from: 1,
+            to: u32::MAX,
+            routine: None,
+            first: u64::MAX,
+        },
+        all: false,
+        source: false,
+        usage: false,
+        lcov: false,
+        map: None,
+        inputs: Vec::new(alloc),
+    }
+}
+
+// Takes an option that stands alone.
+fn take_flag(options: &mut Options<'_>, word: &str) {
+    match word {
+        "--json" => options.telling.json = true,
+        "--first" => options.telling.first = true,
+        "--no-warnings" => options.telling.warnings = false,
+        "--all" => options.all = true,
+        "--source" => options.source = true,
+        "--usage" => options.usage = true,
+        "--lcov" => options.lcov = true,
+        _ => {}
+    }
+}
+
+// The number that a text of digits is.
+fn number_of<'a>(option: &'a str, text: &'a str) -> Result<u64, OptionFault<'a>> {
+    let fault = OptionFault::NoNumber { option, text };
+    if !text.as_bytes().iter().all(|byte| byte.is_ascii_digit()) {
+        return Err(fault);
+    }
+    match text.parse::<u64>() {
+        Ok(number) => Ok(number),
+        Err(_) => Err(fault),
+    }
+}
+
+// The number of a line that a text of digits is.
+fn line_of<'a>(option: &'a str, text: &'a str) -> Result<u32, OptionFault<'a>> {
+    let number = number_of(option, text)?;
+    Ok(u32::try_from(number).unwrap_or(u32::MAX))
+}
+
+// Takes an option with its value.
+fn take_value<'a>(
+    options: &mut Options<'a>,
+    option: &'a str,
+    value: &'a str,
+) -> Result<(), OptionFault<'a>> {
+    match option {
+        "--map" => options.map = Some(value),
+        "--input" => {
+            if options.inputs.push(value).is_err() {
+                return Err(OptionFault::OutOfMemory);
+            }
+        }
+        "--from" => options.traces.from = line_of(option, value)?,
+        "--to" => options.traces.to = line_of(option, value)?,
+        "--routine" => options.traces.routine = Some(value),
+        "--first" => options.traces.first = number_of(option, value)?,
+        _ => {}
+    }
+    Ok(())
+}
+
+/// What the options behind a command ask for.
+pub(crate) fn options_of<'a>(
+    alloc: Global,
+    words: &[&'a str],
+) -> Result<Options<'a>, OptionFault<'a>> {
+    let mut options = no_options(alloc);
+    let [command, rest @ ..] = words else {
+        return Ok(options);
+    };
+    let mut rest = rest;
+    while let [word, behind @ ..] = rest {
+        rest = behind;
+        if *word == "--" {
+            break;
+        }
+        if is_flag(command, word) {
+            take_flag(&mut options, word);
+        } else if has_value(command, word) {
+            let [value, further @ ..] = behind else {
+                return Err(OptionFault::NoValue(*word));
+            };
+            take_value(&mut options, *word, *value)?;
+            rest = further;
+        }
+    }
+    Ok(options)
+}
