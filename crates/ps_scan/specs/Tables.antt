@@ -15,17 +15,15 @@ Spelling = Bytes × Kind
 -- the word-symbols, in lower case
 abbrev pub word_symbols : List Spelling
 word_symbols =
-    (codes "do", k.Do) ∷ (codes "if", k.If) ∷ (codes "in", k.In) ∷ (codes "of", k.Of) ∷ (codes "or", k.Or) ∷ (codes "to", k.To)
-    ∷ (codes "and", k.And) ∷ (codes "div", k.Div) ∷ (codes "end", k.End) ∷ (codes "for", k.For) ∷ (codes "mod", k.Mod)
-    ∷ (codes "nil", k.Nil)
-    ∷ (codes "not", k.Not) ∷ (codes "set", k.Set) ∷ (codes "var", k.Var)
-    ∷ (codes "case", k.Case) ∷ (codes "else", k.Else) ∷ (codes "file", k.File) ∷ (codes "goto", k.Goto) ∷ (codes "then", k.Then)
-    ∷ (codes "type", k.Type) ∷ (codes "with", k.With)
-    ∷ (codes "array", k.Array) ∷ (codes "begin", k.Begin) ∷ (codes "const", k.Const) ∷ (codes "label", k.Label)
-    ∷ (codes "until", k.Until)
-    ∷ (codes "while", k.While)
-    ∷ (codes "downto", k.Downto) ∷ (codes "packed", k.Packed) ∷ (codes "record", k.Record) ∷ (codes "repeat", k.Repeat)
-    ∷ (codes "program", k.Program) ∷ (codes "function", k.Function) ∷ (codes "procedure", k.Procedure) ∷ []
+    (codes "and", k.And) ∷ (codes "array", k.Array) ∷ (codes "begin", k.Begin) ∷ (codes "case", k.Case)
+    ∷ (codes "const", k.Const) ∷ (codes "div", k.Div) ∷ (codes "do", k.Do) ∷ (codes "downto", k.Downto)
+    ∷ (codes "else", k.Else) ∷ (codes "end", k.End) ∷ (codes "file", k.File) ∷ (codes "for", k.For)
+    ∷ (codes "function", k.Function) ∷ (codes "goto", k.Goto) ∷ (codes "if", k.If) ∷ (codes "in", k.In)
+    ∷ (codes "label", k.Label) ∷ (codes "mod", k.Mod) ∷ (codes "nil", k.Nil) ∷ (codes "not", k.Not)
+    ∷ (codes "of", k.Of) ∷ (codes "or", k.Or) ∷ (codes "packed", k.Packed) ∷ (codes "procedure", k.Procedure)
+    ∷ (codes "program", k.Program) ∷ (codes "record", k.Record) ∷ (codes "repeat", k.Repeat) ∷ (codes "set", k.Set)
+    ∷ (codes "then", k.Then) ∷ (codes "to", k.To) ∷ (codes "type", k.Type) ∷ (codes "until", k.Until)
+    ∷ (codes "var", k.Var) ∷ (codes "while", k.While) ∷ (codes "with", k.With) ∷ []
 
 -- the symbols; "@" is another spelling of "^", and "(." and ".)" of the brackets
 abbrev pub symbols : List Spelling

@@ -129,6 +129,11 @@ fn lines_of(bytes: &[u8]) -> u32
     requires { length bytes.now ≤ MAX_LENGTH }
     ensures { result ≡ line_count bytes.now }
 {
-    let line_ends = bytes.iter().filter(|byte| **byte == LINE_END).count();
-    1 + line_ends as u32
+    let mut lines = 1;
+    for byte in bytes {
+        if *byte == LINE_END {
+            lines += 1;
+        }
+    }
+    lines
 }

@@ -6,7 +6,7 @@ ghost use Rattle.ps_tree.specs.Names.{has, place};
 ghost use Rattle.ps_tree.specs.NameCode.{byte_code, name_code, names_code};
 
 use indexmap::IndexSet;
-use sha2::{Digest, Sha256};
+use md5::{Digest, Md5};
 use std::alloc::{AllocError, Global};
 use std::hash::{BuildHasher, FoldHasher, Hasher};
 use std::marker::Model;
@@ -22,7 +22,7 @@ pub struct Seed {
 impl Seed {
     /// The seed of a text.
     pub fn of(text: &[u8]) -> Seed {
-        let [a, b, c, d, e, f, g, h, ..] = Sha256::digest(text);
+        let [a, b, c, d, e, f, g, h, ..] = Md5::digest(text);
         let mut initial = FoldHasher::default();
         initial.write_u64(u64::from_le_bytes([a, b, c, d, e, f, g, h]));
         Seed { initial }
