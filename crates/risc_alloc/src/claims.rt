@@ -5,6 +5,9 @@ ghost use Rattle.std.specs.Option.{option_copied};
 ghost use Rattle.risc_alloc.specs.Walk.{claim_at};
 
 use crate::flow::exit_of;
+use crate::groups::{CONSIDERED, Groups};
+use crate::table::Table;
+use crate::window::Window;
 use std::alloc::Global;
 use tac_code::code::{Instruction, OutOfMemory};
 
@@ -54,4 +57,42 @@ impl Claims {
             self.lists[place] = Some(list);
         }
     }
+}
+
+// Those of a group that sit in a window, in the order of seats.
+fn members_of(
+    alloc: Global,
+    table: &mut Table,
+    window: &Window,
+    group: u64,
+) -> Result<Vec<u32>, OutOfMemory> {
+    table.clear();
+    let mut rest = group;
+    for _ in 0..CONSIDERED {
+        if rest == 0 {
+            break;
+        }
+        let _ = table.add(window, rest.trailing_zeros());
+        rest &= rest.wrapping_sub(1);
+    }
+    table.members(alloc)
+}
+
+/// Claims what was found to be alive.
+pub(crate) fn claims_of(
+    alloc: Global,
+    table: &mut Table,
+    window: &Window,
+    groups: &Groups,
+) -> Result<Claims, OutOfMemory> {
+    let mut claims = Claims {
+        lists: Vec::with_capacity(alloc, groups.len())?,
+    };
+    for place in 0..groups.len() {
+        claims.lists.push(match groups.find(place) {
+            Some(group) => Some(members_of(alloc, table, window, group)?),
+            None => None,
+        })?;
+    }
+    Ok(claims)
 }

@@ -50,30 +50,44 @@ pub(crate) fn group_written(instruction: &Instruction) -> u64 {
 #[derive(Drop)]
 pub(crate) struct Groups {
     found: Vec<Option<u64>>,
+    // whether a jump leads to its own place or to one before it: without such, one walk finds all
+    has_loops: bool,
 }
 
 impl Groups {
     // No temporary is alive where the jumps of a body lead.
     fn new(alloc: Global, body: &[Instruction]) -> Result<Groups, OutOfMemory> {
         let mut found = vec![in alloc; None; body.len()]?;
+        let mut has_loops = false;
         for (place, instruction) in body.iter().enumerate() {
             if let Some(exit) = exit_of(instruction, place, body.len())
                 && let Some(target) = exit.target
                 && target < found.len()
             {
                 found[target] = Some(0);
+                has_loops |= target <= place;
             }
         }
-        Ok(Groups { found })
+        Ok(Groups { found, has_loops })
+    }
+
+    /// How many places the body has.
+    pub(crate) fn len(&self) -> usize {
+        self.found.len()
+    }
+
+    /// Which are found at a place; `None` where no jump leads there.
+    pub(crate) fn find(&self, place: usize) -> Option<u64> {
+        if place < self.found.len() {
+            self.found[place]
+        } else {
+            None
+        }
     }
 
     /// Which are found at a place, where a jump leads there.
     pub(crate) fn get(&self, place: usize) -> u64 {
-        if place < self.found.len() {
-            self.found[place].unwrap_or(0)
-        } else {
-            0
-        }
+        self.find(place).unwrap_or(0)
     }
 
     // Records which are alive at a place; true where a jump leads there and that is more than was found.
@@ -129,7 +143,7 @@ pub(crate) fn settled_groups(
 ) -> Result<Option<Groups>, OutOfMemory> {
     let mut groups = Groups::new(alloc, body)?;
     for _ in 0..WALKS {
-        if !groups.walk(body) {
+        if !groups.walk(body) || !groups.has_loops {
             return Ok(Some(groups));
         }
     }

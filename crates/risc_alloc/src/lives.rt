@@ -123,6 +123,8 @@ struct Survey {
     candidates: Vec<Candidate>,
     // which are alive there
     alive: u64,
+    // which met last: those among them have met
+    met: u64,
     // how many loops are around
     loops: u32,
     // how many loops begin at each place
@@ -134,6 +136,7 @@ impl Survey {
         Ok(Survey {
             candidates: unmet(alloc, routine.temporaries)?,
             alive: 0,
+            met: 0,
             loops: 0,
             begins: vec![in alloc; 0; routine.body.as_slice().len()]?,
         })
@@ -173,6 +176,14 @@ impl Survey {
         }
     }
 
+    // All of a group are alive together.
+    fn meet(&mut self, group: u64) {
+        if group & !self.met != 0 {
+            self.met = group;
+            meet(self.candidates.as_mut_slice(), group);
+        }
+    }
+
     // Each loop multiplies executions by four.
     fn weight(&self) -> i64 {
         1i64.wrapping_shl(self.loops.min(MOST_LOOPS).wrapping_mul(2))
@@ -181,15 +192,15 @@ impl Survey {
     fn go_before(&mut self, instruction: &Instruction) {
         let weight = self.weight();
         let result = group_written(instruction);
+        self.meet(self.alive | result);
         let candidates = self.candidates.as_mut_slice();
-        meet(candidates, self.alive | result);
         if is_call(instruction) {
             span(candidates, self.alive & !result);
         }
         vote_result(candidates, instruction, weight);
         vote_operands(candidates, read_passed(instruction), weight);
         self.alive = self.alive & !result | group_read(instruction);
-        meet(candidates, self.alive);
+        self.meet(self.alive);
     }
 }
 
@@ -223,13 +234,18 @@ fn surveyed(
     Ok(survey.candidates)
 }
 
-/// A routine's temporaries that may get registers, in their order. `None` where walks go on to find which are alive.
-pub(crate) fn candidates_of(
-    alloc: Global,
-    routine: &TacRoutine,
-) -> Result<Option<Vec<Candidate>>, OutOfMemory> {
-    match settled_groups(alloc, routine.body.as_slice())? {
-        Some(groups) => Ok(Some(surveyed(alloc, routine, &groups)?)),
-        None => Ok(None),
-    }
+/// A routine's temporaries that may get registers, in their order, and which are alive where jumps lead.
+#[derive(Drop)]
+pub(crate) struct Lives {
+    pub candidates: Vec<Candidate>,
+    pub groups: Groups,
+}
+
+/// What is found of a routine. `None` where walks go on to find which are alive.
+pub(crate) fn lives_of(alloc: Global, routine: &TacRoutine) -> Result<Option<Lives>, OutOfMemory> {
+    let Some(groups) = settled_groups(alloc, routine.body.as_slice())? else {
+        return Ok(None);
+    };
+    let candidates = surveyed(alloc, routine, &groups)?;
+    Ok(Some(Lives { candidates, groups }))
 }

@@ -1,5 +1,6 @@
 // Tested placements.
 
+use crate::groups::Groups;
 use crate::homes::{Home, PlaceRefusal, Raw};
 use crate::routine::is_placed;
 use std::alloc::Global;
@@ -37,7 +38,7 @@ impl Placement {
         ensures refused { IfErr result (λ refusal. refusal ≡ BadPlacement → raw.homes.items ≢ every_slot
             (routines tac.now)) }
     {
-        match are_placed(alloc, tac, raw.homes.as_slice()) {
+        match are_placed(alloc, tac, raw.homes.as_slice(), &[]) {
             Ok(true) => Ok(Placement { raw }),
             Ok(false) => Err(PlaceRefusal::BadPlacement),
             Err(_) => Err(PlaceRefusal::OutOfMemory),
@@ -66,8 +67,26 @@ pub(crate) fn count_of_routines(tac: &Tac) -> usize
     tac.program().len() + tac.run_time().len()
 }
 
-// Whether these are homes that fit each routine.
-pub(crate) fn are_placed(alloc: Global, tac: &Tac, homes: &[Home]) -> Result<bool, OutOfMemory>
+// What was found of a routine, if it is told.
+fn groups_of(groups: &[Option<Groups>], number: usize) -> Option<&Groups> {
+    if number < groups.len() {
+        match &groups[number] {
+            Some(found) => Some(found),
+            None => None,
+        }
+    } else {
+        None
+    }
+}
+
+// Whether these are homes that fit each routine. Which temporaries are alive where jumps lead may be told, which spares
+// walks, and is tested.
+pub(crate) fn are_placed(
+    alloc: Global,
+    tac: &Tac,
+    homes: &[Home],
+    groups: &[Option<Groups>],
+) -> Result<bool, OutOfMemory>
     ensures valid { IfOk result (λ placed. IsTrue placed → Valid tac.now homes.now) }
     ensures refused { IfOk result (λ placed. placed ≡ false → homes.now ≢ every_slot (routines tac.now)) }
 {
@@ -80,7 +99,8 @@ pub(crate) fn are_placed(alloc: Global, tac: &Tac, homes: &[Home]) -> Result<boo
             return Ok(false);
         }
         let next = from + temporaries;
-        if !is_placed(alloc, routine, &homes[from..next])? {
+        let told = groups_of(groups, number);
+        if !is_placed(alloc, routine, &homes[from..next], told)? {
             return Ok(false);
         }
         from = next;

@@ -7,6 +7,7 @@ ghost use Rattle.risc_alloc.specs.Slots.{IsOwn, ReadsBelow};
 ghost use Rattle.risc_alloc.specs.Walk.{IsSettled};
 ghost use Rattle.risc_alloc.specs.Windows.{MarksStrangers};
 
+use crate::groups::Groups;
 use crate::homes::Home;
 use crate::seats::{REGISTERS, seats_of};
 use crate::table::Table;
@@ -37,11 +38,16 @@ fn is_own(homes: &[Home]) -> bool
 }
 
 // Whether walks with a window come to an end, and leave the parameters their seats.
-fn is_settled(alloc: Global, routine: &TacRoutine, window: &Window) -> Result<bool, OutOfMemory>
+fn is_settled(
+    alloc: Global,
+    routine: &TacRoutine,
+    window: &Window,
+    groups: Option<&Groups>,
+) -> Result<bool, OutOfMemory>
     ensures { IfOk result (λ settled. IsTrue settled → IsSettled window.now routine.now.body routine.now.parameters) }
 {
     let mut table = Table::new(alloc)?;
-    let found = settle(alloc, &mut table, window, routine.body.as_slice())?;
+    let found = settle(alloc, &mut table, window, routine.body.as_slice(), groups)?;
     match found {
         Some(_) => Ok(are_free_for(&table, window, routine.parameters)),
         None => Ok(false),
@@ -57,6 +63,7 @@ fn is_apart_from(
     seats: &[usize],
     marks: &[bool],
     from: usize,
+    groups: Option<&Groups>,
 ) -> Result<bool, OutOfMemory>
     requires { MarksStrangers seats.now marks.now }
     ensures { IfOk result (λ apart. IsTrue apart → SeatsFit routine.now seats.now (length marks.now) from (from + 12)) }
@@ -65,7 +72,7 @@ fn is_apart_from(
         return Ok(true);
     }
     let window = Window::new(alloc, seats, from)?;
-    is_settled(alloc, routine, &window)
+    is_settled(alloc, routine, &window, groups)
 }
 
 // The same for `count` seats, twelve at a time.
@@ -74,6 +81,7 @@ fn are_apart(
     routine: &TacRoutine,
     seats: &[usize],
     count: usize,
+    groups: Option<&Groups>,
 ) -> Result<bool, OutOfMemory>
     requires { count ≤ 4294967307 }
     ensures { IfOk result (λ apart. IsTrue apart → SeatsFit routine.now seats.now count 0 count) }
@@ -81,7 +89,7 @@ fn are_apart(
     let marks = marks_of_strangers(alloc, seats, count)?;
     let mut from = 0;
     while from < count {
-        if !is_apart_from(alloc, routine, seats, marks.as_slice(), from)? {
+        if !is_apart_from(alloc, routine, seats, marks.as_slice(), from, groups)? {
             return Ok(false);
         }
         from += SEATS;
@@ -90,13 +98,18 @@ fn are_apart(
 }
 
 // Whether what is alive keeps its home to itself, as far as walks can tell.
-fn is_apart(alloc: Global, routine: &TacRoutine, homes: &[Home]) -> Result<bool, OutOfMemory>
+fn is_apart(
+    alloc: Global,
+    routine: &TacRoutine,
+    homes: &[Home],
+    groups: Option<&Groups>,
+) -> Result<bool, OutOfMemory>
     requires { length homes.now ≡ routine.now.temporaries }
     ensures { IfOk result (λ apart. IsTrue apart → RoutineFits routine.now homes.now) }
 {
     let count = REGISTERS + routine.temporaries as usize;
     match seats_of(alloc, homes)? {
-        Some(seats) => are_apart(alloc, routine, seats.as_slice(), count),
+        Some(seats) => are_apart(alloc, routine, seats.as_slice(), count, groups),
         None => Ok(false),
     }
 }
@@ -106,6 +119,7 @@ pub(crate) fn is_placed(
     alloc: Global,
     routine: &TacRoutine,
     homes: &[Home],
+    groups: Option<&Groups>,
 ) -> Result<bool, OutOfMemory>
     requires count { length homes.now ≡ routine.now.temporaries }
     requires reads { ReadsBelow routine.now.temporaries routine.now.body }
@@ -115,5 +129,5 @@ pub(crate) fn is_placed(
     if is_own(homes) {
         return Ok(true);
     }
-    is_apart(alloc, routine, homes)
+    is_apart(alloc, routine, homes, groups)
 }

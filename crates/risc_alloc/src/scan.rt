@@ -1,8 +1,8 @@
 // Registers for temporaries, by what each would save.
 
-use crate::groups::group_of;
+use crate::groups::{Groups, group_of};
 use crate::homes::Home;
-use crate::lives::{Candidate, candidates_of};
+use crate::lives::{Candidate, Lives, lives_of};
 use crate::placement::{Placement, are_placed, count_of_routines};
 use crate::placer::{EverySlot, Placer, add_slots};
 use crate::seats::REGISTERS;
@@ -19,8 +19,8 @@ pub struct Scan;
 impl Placer for Scan {
     // What is chosen is tested like any other placement. Should it fail, which is known for no code, slots are given.
     fn place(&self, alloc: Global, tac: &Tac) -> Result<Placement, OutOfMemory> {
-        let homes = scanned(alloc, tac)?;
-        if are_placed(alloc, tac, homes.as_slice())? {
+        let Findings { homes, groups } = scanned(alloc, tac)?;
+        if are_placed(alloc, tac, homes.as_slice(), groups.as_slice())? {
             return Ok(Placement::of_homes(homes));
         }
         EverySlot.place(alloc, tac)
@@ -42,13 +42,9 @@ fn spares_more(words: i64, best: Option<Choice>) -> bool {
     }
 }
 
-// The better of a choice and the best for one more temporary, in a register that none of those it meets holds.
-fn best_with(
-    best: Option<Choice>,
-    candidate: &Candidate,
-    held: &[u64; REGISTERS],
-) -> Option<Choice> {
-    let mut best = best;
+// The best choice for a temporary, in a register that none of those it meets holds.
+fn best_for(candidate: &Candidate, held: &[u64; REGISTERS]) -> Option<Choice> {
+    let mut best = None;
     for register in 0..12u8 {
         let words = candidate.votes[register as usize];
         if held[register as usize] & candidate.meets == 0 && spares_more(words, best) {
@@ -62,26 +58,55 @@ fn best_with(
     best
 }
 
-// The best choice for those of a group.
-fn best_of(candidates: &[Candidate], group: u64, held: &[u64; REGISTERS]) -> Option<Choice> {
-    let mut best = None;
+// The best choice for each that lives somewhere, but not across a call.
+fn bests_of(
+    alloc: Global,
+    candidates: &[Candidate],
+    held: &[u64; REGISTERS],
+) -> Result<Vec<Option<Choice>>, OutOfMemory> {
+    let mut bests = Vec::with_capacity(alloc, candidates.len())?;
     for candidate in candidates {
-        if group & group_of(candidate.temporary) != 0 {
-            best = best_with(best, candidate, held);
+        bests.push(if candidate.meets != 0 && !candidate.spans {
+            best_for(candidate, held)
+        } else {
+            None
+        })?;
+    }
+    Ok(bests)
+}
+
+fn best_of(bests: &[Option<Choice>]) -> Option<Choice> {
+    let mut best = None;
+    for choice in bests {
+        if let Some(choice) = choice
+            && spares_more(choice.words, best)
+        {
+            best = Some(*choice);
         }
     }
     best
 }
 
-// Which live somewhere, but not across a call.
-fn group_of_short(candidates: &[Candidate]) -> u64 {
-    let mut group = 0;
-    for candidate in candidates {
-        if candidate.meets != 0 && !candidate.spans {
-            group |= group_of(candidate.temporary);
+// What was given is chosen no more, and those that it meets choose anew if they had chosen its register.
+fn choose_anew(
+    bests: &mut [Option<Choice>],
+    candidates: &[Candidate],
+    held: &[u64; REGISTERS],
+    given: Choice,
+) {
+    for at in 0..bests.len() {
+        if let Some(choice) = bests[at]
+            && at < candidates.len()
+        {
+            if choice.temporary == given.temporary {
+                bests[at] = None;
+            } else if choice.register == given.register
+                && candidates[at].meets & group_of(given.temporary) != 0
+            {
+                bests[at] = best_for(&candidates[at], held);
+            }
         }
     }
-    group
 }
 
 fn give(homes: &mut [Home], held: &mut [u64; REGISTERS], choice: Choice) {
@@ -94,36 +119,55 @@ fn give(homes: &mut [Home], held: &mut [u64; REGISTERS], choice: Choice) {
 }
 
 // Gives registers in the order of what they save.
-fn give_registers(homes: &mut [Home], candidates: &[Candidate]) {
+fn give_registers(
+    alloc: Global,
+    homes: &mut [Home],
+    candidates: &[Candidate],
+) -> Result<(), OutOfMemory> {
     let mut held = [0; REGISTERS];
-    let mut group = group_of_short(candidates);
+    let mut bests = bests_of(alloc, candidates, &held)?;
     for _ in candidates {
-        let Some(choice) = best_of(candidates, group, &held) else {
-            return;
+        let Some(choice) = best_of(bests.as_slice()) else {
+            return Ok(());
         };
         give(homes, &mut held, choice);
-        group &= !group_of(choice.temporary);
+        choose_anew(bests.as_mut_slice(), candidates, &held, choice);
     }
+    Ok(())
+}
+
+// What is chosen for all routines, and which temporaries were found alive where the jumps of each lead.
+#[derive(Drop)]
+struct Findings {
+    homes: Vec<Home>,
+    groups: Vec<Option<Groups>>,
 }
 
 // Adds a routine's homes.
 fn scan_routine(
     alloc: Global,
-    homes: &mut Vec<Home>,
+    scanned: &mut Findings,
     routine: &TacRoutine,
 ) -> Result<(), OutOfMemory> {
     let mut chosen = Vec::new(alloc);
     add_slots(&mut chosen, routine.temporaries)?;
-    if let Some(candidates) = candidates_of(alloc, routine)? {
-        give_registers(chosen.as_mut_slice(), candidates.as_slice());
+    let mut found = None;
+    if let Some(lives) = lives_of(alloc, routine)? {
+        let Lives { candidates, groups } = lives;
+        give_registers(alloc, chosen.as_mut_slice(), candidates.as_slice())?;
+        found = Some(groups);
     }
-    homes.extend_from_slice(chosen.as_slice())
+    scanned.groups.push(found)?;
+    scanned.homes.extend_from_slice(chosen.as_slice())
 }
 
-fn scanned(alloc: Global, tac: &Tac) -> Result<Vec<Home>, OutOfMemory> {
-    let mut homes = Vec::new(alloc);
+fn scanned(alloc: Global, tac: &Tac) -> Result<Findings, OutOfMemory> {
+    let mut scanned = Findings {
+        homes: Vec::new(alloc),
+        groups: Vec::new(alloc),
+    };
     for number in 0..count_of_routines(tac) {
-        scan_routine(alloc, &mut homes, tac.routine(number))?;
+        scan_routine(alloc, &mut scanned, tac.routine(number))?;
     }
-    Ok(homes)
+    Ok(scanned)
 }

@@ -7,8 +7,9 @@ ghost use Rattle.risc_alloc.specs.Parts.{is_call};
 ghost use Rattle.risc_alloc.specs.declared.walk.Verdict.TheVariants.{Stable};
 ghost use Rattle.risc_alloc.specs.Walk.{IsClaimHeld, Flows, Writes, Reads, Step, IsClaimed, Walked};
 
-use crate::claims::Claims;
+use crate::claims::{Claims, claims_of};
 use crate::flow::{exit_of, is_call, read_first, read_passed, read_second, written};
+use crate::groups::Groups;
 use crate::table::Table;
 use crate::window::Window;
 use std::alloc::Global;
@@ -171,17 +172,21 @@ fn walk(
     Ok(if grew { Verdict::Grew } else { Verdict::Stable })
 }
 
-/// Walks until nothing new is found. `None` at a clash, and where walks go on to find more.
+/// Walks until nothing new is found, from what is told at first. `None` at a clash, and where walks go on to find more.
 pub(crate) fn settle(
     alloc: Global,
     table: &mut Table,
     window: &Window,
     body: &[Instruction],
+    groups: Option<&Groups>,
 ) -> Result<Option<Claims>, OutOfMemory>
     ensures { IfOk result (λ found. IfSome found
         (λ claims. Walked window.now claims body.now 0 table.new.holders.items)) }
 {
-    let mut claims = Claims::new(alloc, body)?;
+    let mut claims = match groups {
+        Some(groups) => claims_of(alloc, table, window, groups)?,
+        None => Claims::new(alloc, body)?,
+    };
     for _ in 0..WALKS {
         table.clear();
         match walk(alloc, table, &mut claims, window, body)? {
