@@ -12,6 +12,7 @@ TOP = os.path.dirname(HERE)
 # what each of them stands on
 CRATES = {
     "runs_codes": "tac_code tac_code_runner risc_alloc risc_emit risc_image risc_load risc_machine risc_emit_trail",
+    "runs_passes": "tac_code tac_code_runner tac_pass tac_plan",
 }
 SECONDS = "120"
 
@@ -26,8 +27,11 @@ def make_room(folder: str, name: str) -> str:
         file.write(f"{name}: {CRATES[name]}\n")
     crate = f"{room}/crates/{name}"
     os.makedirs(f"{crate}/src")
-    for file in os.listdir(f"{HERE}/{name}"):
-        shutil.copy(f"{HERE}/{name}/{file}", f"{crate}/src/{file.removesuffix('.txt')}")
+    files = [f"{HERE}/{name}/{file}" for file in os.listdir(f"{HERE}/{name}")]
+    if name == "runs_passes":
+        files += [f"{HERE}/runs_codes/{file}" for file in ("numbers.rt.txt", "reading.rt.txt")]
+    for file in files:
+        shutil.copy(file, f"{crate}/src/{os.path.basename(file).removesuffix('.txt')}")
     return crate
 
 

@@ -10,6 +10,8 @@ use risc_alloc::scan::Scan;
 use risc_emit::emit::emit;
 use risc_image::{Parts, write};
 use std::alloc::Global;
+use tac_code::tac::Tac;
+use tac_plan::pass::pass;
 use test_language::{checked, parsed};
 
 const DONE: u8 = 0;
@@ -24,6 +26,7 @@ enum Phase {
     Parse,
     Check,
     Lower,
+    Pass,
     Place,
     Emit,
     Write,
@@ -37,6 +40,7 @@ fn phase_named(word: &str) -> Phase {
         "parse" => Phase::Parse,
         "check" => Phase::Check,
         "lower" => Phase::Lower,
+        "pass" => Phase::Pass,
         "place" => Phase::Place,
         "emit" => Phase::Emit,
         _ => Phase::Write,
@@ -54,17 +58,28 @@ fn take_before_checker(alloc: Global, text: &[u8], last: Phase) -> Result<(), Re
     Ok(())
 }
 
-// The phases behind the checker: the code, homes of its temporaries, the parts of an image, and its bytes.
+// The phases behind the checker: the code, and what a pass makes of it.
 fn take_past_checker(alloc: Global, text: &[u8], last: Phase) -> Result<(), Refusal> {
     let tac = code_of_text(alloc, text)?;
     if matches!(last, Phase::Lower) {
         return Ok(());
     }
-    let placement = Scan.place(alloc, &tac)?;
+    match pass(alloc, &tac)? {
+        Some(passed) => take_past_pass(alloc, &passed.tac, last),
+        None => take_past_pass(alloc, &tac, last),
+    }
+}
+
+// The phases behind the pass: homes of temporaries, the parts of an image, and its bytes.
+fn take_past_pass(alloc: Global, tac: &Tac, last: Phase) -> Result<(), Refusal> {
+    if matches!(last, Phase::Pass) {
+        return Ok(());
+    }
+    let placement = Scan.place(alloc, tac)?;
     if matches!(last, Phase::Place) {
         return Ok(());
     }
-    let parts = emit(alloc, &tac, &placement)?;
+    let parts = emit(alloc, tac, &placement)?;
     let end = take_parts(alloc, &parts, last);
     drop(parts);
     end
@@ -81,7 +96,7 @@ fn take(alloc: Global, text: &[u8], last: Phase) -> Result<(), Refusal> {
     match last {
         Phase::Read | Phase::Scan | Phase::Parse => take_before_checker(alloc, text, last)?,
         Phase::Check => drop(checked(alloc, text)?),
-        Phase::Lower | Phase::Place | Phase::Emit | Phase::Write => {
+        Phase::Lower | Phase::Pass | Phase::Place | Phase::Emit | Phase::Write => {
             take_past_checker(alloc, text, last)?
         }
     }

@@ -2,7 +2,8 @@
 // each temporary.
 
 use ps_build::{
-    Budget as ImageBudget, Outcome, Refusal, Trail, build_with, code_of_text, run_image,
+    Budget as ImageBudget, Outcome, Refusal, Trail, Variables, build_placed, code_of_text,
+    run_image,
 };
 use ps_meaning_runner::ending::Ending;
 use ps_meaning_runner::run::{
@@ -111,7 +112,7 @@ pub fn run_text(
 }
 
 fn by_slots(alloc: Global, text: &[u8], input: &[u8], limits: Limits) -> Result<Shown, Fault> {
-    let built = build_with(alloc, text, &EverySlot)?;
+    let built = build_placed(alloc, text, &EverySlot, Variables::InFrames)?;
     let mut console = Fused::new(alloc, input, OUTPUT_LIMIT, 0, 0)?;
     let budget = ImageBudget {
         stack: limits.stack,

@@ -12,6 +12,7 @@ pub mod Unbudgeted
 pub mod Faultless
 pub mod Charged
 pub mod Lowered
+pub mod Passed
 pub mod Made
 pub mod Named
 pub mod Words

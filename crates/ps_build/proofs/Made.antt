@@ -7,8 +7,8 @@ use Rattle.behavior.proofs.Sameness.{same_composes}
 use Rattle.ps_tree.specs.Tree as Tree
 use Rattle.ps_meaning.specs.Run.{run_within}
 use Rattle.tac_code.specs.Meaning.{Code}
-use Rattle.tac_code.specs.Sound.{IsSound}
 use Rattle.tac_code.specs.Run.{tac_run}
+use Rattle.tac_pass_laws.specs.Passed.{IsPassed}
 use Rattle.risc_machine_laws.specs.Start as view
 use Rattle.risc_image.specs.Image.{Image}
 use Rattle.risc_image.specs.Format.{IsImage, header}
@@ -17,7 +17,7 @@ use Rattle.risc_emit_laws.specs.Outcome.{image_outcome}
 use Rattle.risc_emit_laws.proofs.Same.{emission_keeps}
 use Rattle.ps_build.specs.Accepts.{IsProgramOf}
 use Rattle.ps_build.specs.Headline.{DoesAsMeant, Compiles}
-use Rattle.ps_build.specs.Made.{IsCodeOf, IsMadeOf, IsEmitted, AreMadeOf}
+use Rattle.ps_build.specs.Made.{IsCodeOf, IsMadeOf, IsEmittedFor, AreMadeOf}
 use Rattle.ps_build.proofs.Charged.{IsCharged}
 
 -- ---- the words of an image's code
@@ -70,19 +70,20 @@ module _ (checked : Tree.Program) (bytes : List ℕ) (image : Image) (is : IsIma
 
 -- ---- what an image is made of
 
-pub made_of : (checked : Tree.Program) (code : Code) (image : Image) (bytes : List ℕ) → IsCodeOf checked code
-    → IsSound code → IsEmitted code image → IsCharged checked image → IsImage bytes image → AreMadeOf checked bytes
-made_of checked code image bytes lowered sound emitted charged is =
+pub made_of : (checked : Tree.Program) (code : Code) (image : Image) (bytes : List ℕ) → ((passed : Code)
+    → IsPassed code passed → IsCodeOf checked passed) → IsEmittedFor code image → IsCharged checked image → IsImage bytes
+    image → AreMadeOf checked bytes
+made_of checked code image bytes lowered emitted charged is =
     record {
       image = image;
       is_image = is;
       made = record {
-        code = code;
-        lowered = lowered;
-        sound = sound;
-        homes = emitted.homes;
-        placed = emitted.placed;
-        emitted = emitted.emitted;
+        code = emitted.passed;
+        lowered = lowered emitted.passed emitted.may;
+        sound = emitted.sound;
+        homes = emitted.emitted.homes;
+        placed = emitted.emitted.placed;
+        emitted = emitted.emitted.emitted;
         routines = charged.routines;
         types = charged.types;
         bounded = charged.bounded;

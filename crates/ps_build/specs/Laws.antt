@@ -14,6 +14,8 @@ use Rattle.risc_image.specs.Format.{IsImage}
 use Rattle.ps_lower_code.specs.Programs.{code_of}
 use Rattle.ps_lower_laws.specs.Fits.{ProgramFits}
 use Rattle.tac_rt.specs.Bodies.{run_time_routines}
+use Rattle.tac_code.specs.Meaning.{Code}
+use Rattle.tac_pass_laws.specs.Passed.{IsPassed}
 use Rattle.ps_build.specs.Accepts.{IsProgramOf}
 use Rattle.ps_build.specs.declared.outcome.FaultKind.{FaultKind}
 use Rattle.ps_build.specs.declared.outcome.Outcome.{Outcome}
@@ -54,6 +56,11 @@ GoesWithoutFault = (text : List ℕ) (budget : Budget) (n : ℕ) (old new : Worl
 -- what the program means.
 abbrev pub CodeDoes : Type 0
 CodeDoes = (checked : Program) → ProgramFits checked → IsCodeOf checked (code_of run_time_routines checked)
+
+-- So does code that a pass made of it, and that may stand in its place.
+abbrev pub PassedCodeDoes : Type 0
+PassedCodeDoes = (checked : Program) → ProgramFits checked → (code : Code) → IsPassed
+    (code_of run_time_routines checked) code → IsCodeOf checked code
 
 -- An image that was made through three-address code does what its program means: the runs of the program, of its code
 -- and of its image are the same.

@@ -9,6 +9,7 @@ use Rattle.ps_meaning.specs.Costs.{Bounded}
 use Rattle.tac_code.specs.Meaning.{Code}
 use Rattle.tac_code.specs.Sound.{IsSound}
 use Rattle.tac_code.specs.Run.{tac_run}
+use Rattle.tac_pass_laws.specs.Passed.{IsPassed}
 use Rattle.risc_alloc.specs.declared.homes.Home.{Home}
 use Rattle.risc_alloc.specs.Valid.{Valid}
 use Rattle.risc_image.specs.Image.{Image}
@@ -45,11 +46,18 @@ pub record IsEmitted (code : Code) (image : Image) : Type 0 where
   pub placed : Valid code homes
   pub emitted : Emits code homes image
 
--- the bytes are an image of the code, within the bounds on frames and objects
+-- The image is that of the code, or of code that a pass made of it and that may stand in its place.
+pub record IsEmittedFor (code : Code) (image : Image) : Type 0 where
+  pub passed : Code
+  pub may : IsPassed code passed
+  pub sound : IsSound passed
+  pub emitted : IsEmitted passed image
+
+-- the bytes are such an image of the code, within the bounds on frames and objects
 pub record AreEmitted (code : Code) (bytes : List ℕ) : Type 0 where
   pub image : Image
   pub is_image : IsImage bytes image
-  pub emitted : IsEmitted code image
+  pub emitted : IsEmittedFor code image
   pub bounds : HasBounds code image
 
 -- What `build` gives for a text: the bytes are an image of the three-address code of its program.

@@ -10,7 +10,7 @@ ghost use Rattle.ps_build.specs.Headline.{Compiles};
 ghost use Rattle.ps_build.specs.Made.{IsBuilt};
 ghost use Rattle.ps_build.specs.declared.refusal.Refusal.TheVariants.{OutOfMemory};
 
-use crate::making::{code_made, image_made};
+use crate::making::{Variables, code_made, image_made};
 use crate::refusal::Refusal;
 use ps_check::check;
 use ps_lower::marks::Mark;
@@ -25,6 +25,7 @@ use risc_emit::marks::Marks;
 use risc_image::ImageView;
 use std::alloc::Global;
 use std::marker::Model;
+use std::mem::forget;
 use tac_code::tac::Tac;
 
 /// A program that was built: its image. A contract sees it as the list of its bytes.
@@ -117,14 +118,19 @@ pub struct Mapped {
 }
 
 // The program of a text, built, with its map.
-fn mapped_with<P: Placer>(alloc: Global, text: &[u8], placer: &P) -> Result<Mapped, Refusal>
+fn mapped_with<P: Placer>(
+    alloc: Global,
+    text: &[u8],
+    placer: &P,
+    variables: Variables,
+) -> Result<Mapped, Refusal>
     ensures compiles { IfOk result (λ mapped. Compiles text.now mapped.built) }
     ensures built { IfOk result (λ mapped. IsBuilt text.now mapped.built) }
     ensures refused { IfErr result (IsRefused text.now) }
 {
     let checked = program_of(alloc, text)?;
     has_what_is_needed(text, &checked);
-    let made = image_made(alloc, &checked, placer)?;
+    let made = image_made(alloc, &checked, placer, variables)?;
     Ok(Mapped {
         built: Built { bytes: made.bytes },
         checked,
@@ -162,32 +168,48 @@ pub fn code_of_text(alloc: Global, text: &[u8]) -> Result<Tac, Refusal>
     code_made(alloc, &program)
 }
 
-/// Builds the program of a text, with homes for its temporaries that a placer chooses: on every input and under every
-/// budget the image does what the program means.
+/// Builds the program of a text, with homes for its temporaries that a placer chooses, and its variables where they are
+/// asked for: on every input and under every budget the image does what the program means.
 ///
 /// A text that isn't accepted is refused, with 1, 2 or 10 to 45, and so is one whose code would be too large.
+pub fn build_placed<P: Placer>(
+    alloc: Global,
+    text: &[u8],
+    placer: &P,
+    variables: Variables,
+) -> Result<Built, Refusal>
+    ensures compiles { IfOk result (Compiles text.now) }
+    ensures built { IfOk result (IsBuilt text.now) }
+    ensures refused { IfErr result (IsRefused text.now) }
+    ensures accepts { IfErr result (λ refusal. IsFaulty refusal → IsNotAccepted text.now) }
+{
+    let mapped = mapped_with(alloc, text, placer, variables)?;
+    Ok(mapped.built)
+}
+
+/// Builds the program of a text as `build_placed` does, with its variables in temporaries.
 pub fn build_with<P: Placer>(alloc: Global, text: &[u8], placer: &P) -> Result<Built, Refusal>
     ensures compiles { IfOk result (Compiles text.now) }
     ensures built { IfOk result (IsBuilt text.now) }
     ensures refused { IfErr result (IsRefused text.now) }
     ensures accepts { IfErr result (λ refusal. IsFaulty refusal → IsNotAccepted text.now) }
 {
-    let mapped = mapped_with(alloc, text, placer)?;
-    Ok(mapped.built)
+    build_placed(alloc, text, placer, Variables::InTemporaries)
 }
 
-/// Builds the program of a text as `build` does, and tells where its words belong in the text.
+/// Builds the program of a text as `build_placed` does, with registers for the temporaries that have room there, and tells
+/// where its words belong in the text. Who watches a run finds its variables where they are in frames.
 ///
 /// # Errors
 ///
 /// Those of `build`.
-pub fn build_mapped(alloc: Global, text: &[u8]) -> Result<Mapped, Refusal>
+pub fn build_mapped(alloc: Global, text: &[u8], variables: Variables) -> Result<Mapped, Refusal>
     ensures compiles { IfOk result (λ mapped. Compiles text.now mapped.built) }
     ensures built { IfOk result (λ mapped. IsBuilt text.now mapped.built) }
     ensures refused { IfErr result (IsRefused text.now) }
     ensures accepts { IfErr result (λ refusal. IsFaulty refusal → IsNotAccepted text.now) }
 {
-    let mapped = mapped_with(alloc, text, &Scan)?;
+    let mapped = mapped_with(alloc, text, &Scan, variables)?;
     Ok(mapped)
 }
 
@@ -199,4 +221,38 @@ pub fn build(alloc: Global, text: &[u8]) -> Result<Built, Refusal>
     ensures accepts { IfErr result (λ refusal. IsFaulty refusal → IsNotAccepted text.now) }
 {
     build_with(alloc, text, &Scan)
+}
+
+// The image alone. What else was made stays in memory, and is not taken apart.
+fn image_alone(mapped: Mapped) -> Built
+    ensures { result ≡ mapped.built }
+{
+    let Mapped {
+        built,
+        checked,
+        marks,
+        frames,
+        words,
+    } = mapped;
+    forget(checked);
+    forget(marks);
+    forget(frames);
+    forget(words);
+    built
+}
+
+/// Builds the program of a text as `build` does, for a caller that ends soon after: the checked tree stays in memory,
+/// since taking it apart would take a twelfth of the time.
+///
+/// # Errors
+///
+/// Those of `build`.
+pub fn build_and_leave(alloc: Global, text: &[u8]) -> Result<Built, Refusal>
+    ensures compiles { IfOk result (Compiles text.now) }
+    ensures built { IfOk result (IsBuilt text.now) }
+    ensures refused { IfErr result (IsRefused text.now) }
+    ensures accepts { IfErr result (λ refusal. IsFaulty refusal → IsNotAccepted text.now) }
+{
+    let mapped = mapped_with(alloc, text, &Scan, Variables::InTemporaries)?;
+    Ok(image_alone(mapped))
 }

@@ -1,10 +1,11 @@
 //! Laws of images and refusals, as the contracts of functions that do nothing when they run.
 
-ghost use Rattle.ps_build.specs.Laws.{ComesToTheMeaning, NeverFaults, GoesWithoutFault, CodeDoes, MadeCompiles};
+ghost use Rattle.ps_build.specs.Laws.{ComesToTheMeaning, NeverFaults, GoesWithoutFault, CodeDoes};
+ghost use Rattle.ps_build.specs.Laws.{PassedCodeDoes, MadeCompiles};
 ghost use Rattle.ps_build.specs.OneRefusal.{RefusalsAreOne};
 
 use ps_lower_accepted::accepted_fit;
-use ps_lower_laws::{programs_go_on, programs_lower};
+use ps_lower_laws::{programs_go_on, programs_lower_in_turns};
 use ps_lower_run_time::writes_are_done;
 
 /// An image that was built shows all that its program means without budgets, or is stopped for stack or heap on the
@@ -35,7 +36,16 @@ pub fn code_does()
     ensures { CodeDoes }
 {
     writes_are_done();
-    programs_lower();
+    programs_lower_in_turns();
+    programs_go_on();
+}
+
+/// So does code that a pass made of it, and that may stand in its place.
+pub fn passed_code_does()
+    ensures { PassedCodeDoes }
+{
+    writes_are_done();
+    programs_lower_in_turns();
     programs_go_on();
 }
 

@@ -11,8 +11,12 @@ mod refusal;
 mod run;
 mod slices;
 
-pub use built::{Built, Mapped, accepted, build, build_mapped, build_with, code_of_text};
+pub use built::{
+    Built, Mapped, accepted, build, build_and_leave, build_mapped, build_placed, build_with,
+    code_of_text,
+};
 pub use listing::list;
+pub use making::Variables;
 pub use outcome::{FaultKind, Outcome};
 pub use ps_check_judgement::refusal::Rule;
 pub use ps_parse::ParseFault;

@@ -1,17 +1,18 @@
 // Images that are made through three-address code.
 
-ghost use Rattle.std.specs.Prelude.{◌≡◌, IfOk, IfErr};
+ghost use Rattle.std.specs.Prelude.{◌≡◌, IfOk, IfErr, IfSome};
 ghost use Rattle.ps_lower_accepted.specs.Formed.{IsFormed};
 ghost use Rattle.ps_lower_code.specs.Programs.{code_of};
 ghost use Rattle.ps_lower_laws.specs.Fits.{ProgramFits};
 ghost use Rattle.ps_tree.specs.Checked.{program_in};
 ghost use Rattle.risc_emit.specs.Emitted.{HasBounds};
+ghost use Rattle.tac_pass.specs.Walk.{ArePassed};
 ghost use Rattle.tac_rt.specs.Bodies.{run_time_routines};
 ghost use Rattle.ps_build.specs.Accepts.{HasNoRoom};
-ghost use Rattle.ps_build.specs.Made.{IsEmitted, AreEmitted, AreMadeOf};
+ghost use Rattle.ps_build.specs.Made.{IsEmitted, IsEmittedFor, AreEmitted, AreMadeOf};
 ghost use Rattle.ps_build.specs.Refusals.{OnlyTooLarge};
 
-use crate::laws::code_does;
+use crate::laws::passed_code_does;
 use crate::refusal::Refusal;
 use ps_lower::lower::{Marked, lower_marked};
 use ps_lower::marks::Mark;
@@ -24,7 +25,9 @@ use risc_emit::emit::{Emitted, emit_marked};
 use risc_emit::marks::Marks;
 use risc_image::write;
 use std::alloc::Global;
+use tac_code::code::OutOfMemory;
 use tac_code::tac::Tac;
+use tac_plan::pass::{Passed, pass};
 
 /// The bytes of an image, and for showing places of its text: for each routine of the program the marks of its
 /// instructions and where its variables begin in an activation, and where the words of all routines are.
@@ -45,6 +48,149 @@ fn emitted_of<P: Placer>(alloc: Global, tac: &Tac, placer: &P) -> Result<Emitted
     let placement = placer.place(alloc, tac)?;
     let emitted = emit_marked(alloc, tac, &placement)?;
     Ok(emitted)
+}
+
+/// Where the variables of a routine stand that nobody else can see.
+#[derive(Clone, Copy, Debug, PartialEq, Eq)]
+pub enum Variables {
+    /// In their words of the frame.
+    InFrames,
+    /// In temporaries, where a pass over the code finds room for them.
+    InTemporaries,
+}
+
+// What a pass makes of the code, if one is asked for. None: the code stands as it is.
+fn passed(alloc: Global, tac: &Tac, variables: Variables) -> Result<Option<Passed>, OutOfMemory>
+    ensures { IfOk result (λ made. IfSome made (λ new_one. ArePassed tac.now new_one.tac)) }
+{
+    match variables {
+        Variables::InFrames => Ok(None),
+        Variables::InTemporaries => pass(alloc, tac),
+    }
+}
+
+// The parts of an image of the code itself.
+#[tactic(auto, using(crate::proofs::Passed::emitted_itself))]
+fn emitted_unchanged<P: Placer>(alloc: Global, tac: &Tac, placer: &P) -> Result<Emitted, Refusal>
+    ensures ok { IfOk result (λ emitted. IsEmittedFor tac.now emitted.parts) }
+    ensures bounds { IfOk result (λ emitted. HasBounds tac.now emitted.parts) }
+    ensures err { IfErr result (λ e. OnlyTooLarge e (HasNoRoom tac.now)) }
+{
+    tac.keeps_invariant();
+    let emitted = emitted_of(alloc, tac, placer)?;
+    Ok(emitted)
+}
+
+// The parts of an image of code that a pass made, as that of the old code.
+#[tactic(auto, using(crate::proofs::Passed::emitted_for, crate::proofs::Passed::bounds_for))]
+fn emitted_passed<P: Placer>(
+    alloc: Global,
+    tac: &Tac,
+    new_one: &Tac,
+    placer: &P,
+) -> Result<Emitted, Refusal>
+    requires { ArePassed tac.now new_one.now }
+    ensures ok { IfOk result (λ emitted. IsEmittedFor tac.now emitted.parts) }
+    ensures bounds { IfOk result (λ emitted. HasBounds tac.now emitted.parts) }
+{
+    let _old = tac;
+    new_one.keeps_invariant();
+    let emitted = emitted_of(alloc, new_one, placer)?;
+    Ok(emitted)
+}
+
+/// The parts of an image; and for showing places, where a pass was made, for each routine of the program where the new
+/// code of each place begins.
+#[derive(Drop)]
+struct Laid {
+    emitted: Emitted,
+    starts: Vec<Option<Vec<u64>>>,
+}
+
+// The parts of an image of the code itself, where no pass was made.
+fn laid_unchanged<P: Placer>(alloc: Global, tac: &Tac, placer: &P) -> Result<Laid, Refusal>
+    ensures ok { IfOk result (λ laid. IsEmittedFor tac.now laid.emitted.parts) }
+    ensures bounds { IfOk result (λ laid. HasBounds tac.now laid.emitted.parts) }
+    ensures err { IfErr result (λ e. OnlyTooLarge e (HasNoRoom tac.now)) }
+{
+    let emitted = emitted_unchanged(alloc, tac, placer)?;
+    Ok(Laid {
+        emitted,
+        starts: Vec::new(alloc),
+    })
+}
+
+// The parts of an image of the code, by way of a pass if one is asked for. Where what the pass made is too large, the
+// code is taken as it is.
+fn emitted_made<P: Placer>(
+    alloc: Global,
+    tac: &Tac,
+    placer: &P,
+    variables: Variables,
+) -> Result<Laid, Refusal>
+    ensures ok { IfOk result (λ laid. IsEmittedFor tac.now laid.emitted.parts) }
+    ensures bounds { IfOk result (λ laid. HasBounds tac.now laid.emitted.parts) }
+    ensures err { IfErr result (λ e. OnlyTooLarge e (HasNoRoom tac.now)) }
+{
+    let Some(
+        Passed {
+            tac: new_one,
+            starts,
+        },
+    ) = passed(alloc, tac, variables)?
+    else {
+        return laid_unchanged(alloc, tac, placer);
+    };
+    match emitted_passed(alloc, tac, &new_one, placer) {
+        Ok(emitted) => Ok(Laid { emitted, starts }),
+        Err(Refusal::OutOfMemory) => Err(Refusal::OutOfMemory),
+        Err(_) => laid_unchanged(alloc, tac, placer),
+    }
+}
+
+fn start_at(starts: &[u64], place: usize) -> u64 {
+    match starts.get(place) {
+        Some(start) => *start,
+        None => 0,
+    }
+}
+
+fn mark_often(marks: &mut Vec<Mark>, mark: Mark, times: u64) -> Result<(), OutOfMemory> {
+    for _ in 0..times {
+        marks.push(mark)?;
+    }
+    Ok(())
+}
+
+// The marks of the instructions that a pass put in the place of those with these marks.
+fn moved(alloc: Global, marks: &[Mark], starts: &[u64]) -> Result<Vec<Mark>, OutOfMemory> {
+    let mut made = Vec::with_capacity(alloc, marks.len())?;
+    for (place, mark) in marks.iter().enumerate() {
+        let end = start_at(starts, place.saturating_add(1));
+        mark_often(
+            &mut made,
+            *mark,
+            end.saturating_sub(start_at(starts, place)),
+        )?;
+    }
+    Ok(made)
+}
+
+// The marks of the routines, behind the pass if one was made.
+fn marks_behind(
+    alloc: Global,
+    marks: Vec<Vec<Mark>>,
+    starts: &[Option<Vec<u64>>],
+) -> Result<Vec<Vec<Mark>>, OutOfMemory> {
+    let mut marks = marks;
+    for (number, of_routine) in starts.iter().enumerate() {
+        if let Some(list) = of_routine
+            && number < marks.len()
+        {
+            marks[number] = moved(alloc, marks[number].as_slice(), list.as_slice())?;
+        }
+    }
+    Ok(marks)
 }
 
 // The three-address code of a checked program, with its marks. If refused, it is too large whatever homes its
@@ -75,6 +221,7 @@ pub(crate) fn image_made<P: Placer>(
     alloc: Global,
     checked: &Checked,
     placer: &P,
+    variables: Variables,
 ) -> Result<Made, Refusal>
     requires fits { ProgramFits (program_in checked.now) }
     requires formed { IsFormed (program_in checked.now) }
@@ -84,16 +231,15 @@ pub(crate) fn image_made<P: Placer>(
     ensures err { IfErr result (λ e. OnlyTooLarge e (HasNoRoom (code_of run_time_routines (program_in checked.now)))) }
 {
     let code = marked_made(alloc, checked)?;
-    let emitted = emitted_of(alloc, &code.tac, placer)?;
-    code.tac.keeps_invariant();
-    code_does();
+    let laid = emitted_made(alloc, &code.tac, placer, variables)?;
+    passed_code_does();
     routines_are_bounded();
     objects_are_bounded();
-    let bytes = write(alloc, &emitted.parts)?;
+    let bytes = write(alloc, &laid.emitted.parts)?;
     Ok(Made {
         bytes,
-        marks: code.marks,
-        frames: emitted.frames,
-        words: emitted.marks,
+        marks: marks_behind(alloc, code.marks, laid.starts.as_slice())?,
+        frames: laid.emitted.frames,
+        words: laid.emitted.marks,
     })
 }

@@ -4,4 +4,4 @@ use Rattle.ps_build.proofs.laws.code_does.Goals as goal
 
 pub returns : goal.returns
 returns c =
-    code_does c.writes_are_done.ensures c.programs_lower.ensures c.programs_go_on.ensures
+    code_does c.writes_are_done.ensures c.programs_lower_in_turns.ensures c.programs_go_on.ensures

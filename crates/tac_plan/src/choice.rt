@@ -1,0 +1,105 @@
+// A plan for a routine, or none. Nothing is proved of it: what is chosen is tested.
+
+use crate::draft::{Draft, Part};
+use crate::flow::{Flow, NONE, Way, way_at};
+use crate::regions::{Region, regions_of};
+use crate::sets::CONSIDERED;
+use crate::words::{Items, Site, items_of, pins_in};
+use std::alloc::Global;
+use tac_code::code::{OutOfMemory, TacRoutine};
+use tac_pass::plan::Plan;
+
+// The regions that hold something.
+fn parts_of(
+    alloc: Global,
+    site: &Site<'_>,
+    items: &mut Items,
+    regions: &[Region],
+) -> Result<Vec<Part>, OutOfMemory> {
+    let mut parts = Vec::with_capacity(alloc, regions.len())?;
+    for region in regions {
+        let pins = pins_in(alloc, site, items, *region)?;
+        if pins.len() > 0 {
+            parts.push(Part {
+                region: *region,
+                pins,
+            })?;
+        }
+    }
+    Ok(parts)
+}
+
+fn mind(minded: &mut Vec<usize>, items: &mut Items, at: usize) -> Result<(), OutOfMemory> {
+    if at < items.list.len() && items.list[at].minded == NONE {
+        items.list[at].minded = minded.len();
+        minded.push(at)?;
+    }
+    Ok(())
+}
+
+// The words that are loaded in a region and stored once, which may be addresses.
+fn mind_fixed(
+    minded: &mut Vec<usize>,
+    items: &mut Items,
+    ways: &[Way],
+    region: &Region,
+) -> Result<(), OutOfMemory> {
+    for place in region.start..region.behind() {
+        let at = way_at(ways, place).item;
+        if at < items.list.len() && items.list[at].stores == 1 {
+            mind(minded, items, at)?;
+        }
+    }
+    Ok(())
+}
+
+// The words that some region holds, and those that may be addresses there.
+fn minded_of(
+    alloc: Global,
+    site: &Site<'_>,
+    items: &mut Items,
+    parts: &[Part],
+) -> Result<Vec<usize>, OutOfMemory> {
+    let mut minded = Vec::new(alloc);
+    for part in parts {
+        for pin in part.pins.iter() {
+            mind(&mut minded, items, pin.item)?;
+        }
+        if site.flow.first_call >= part.region.behind() {
+            mind_fixed(&mut minded, items, site.flow.ways.as_slice(), &part.region)?;
+        }
+    }
+    Ok(minded)
+}
+
+/// A plan for a routine. None where nothing is won, or none is found.
+pub fn plan_of(
+    alloc: Global,
+    number: usize,
+    routine: &TacRoutine,
+) -> Result<Option<Plan>, OutOfMemory> {
+    let body = routine.body.as_slice();
+    if routine.frame == 0 || routine.temporaries > CONSIDERED || body.len() < 2 {
+        return Ok(None);
+    }
+    let Some(mut flow) = Flow::of(alloc, body)? else {
+        return Ok(None);
+    };
+    let mut items = items_of(alloc, flow.ways.as_mut_slice())?;
+    if items.list.len() == 0 {
+        return Ok(None);
+    }
+    let regions = regions_of(alloc, &flow)?;
+    let site = Site {
+        number,
+        routine,
+        flow: &flow,
+    };
+    let parts = parts_of(alloc, &site, &mut items, regions.as_slice())?;
+    if parts.len() == 0 {
+        return Ok(None);
+    }
+    let minded = minded_of(alloc, &site, &mut items, parts.as_slice())?;
+    let mut draft = Draft::new(alloc, site, &items, minded.as_slice())?;
+    Ok(Some(draft.plan(parts.as_slice())?))
+}

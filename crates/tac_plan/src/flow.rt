@@ -1,0 +1,484 @@
+// What instructions read and write, where they lead, and what is alive. Nothing is proved of it: what is chosen by it
+// is tested.
+
+use crate::sets::set_of;
+use std::alloc::Global;
+use tac_code::code::{Base, Instruction, Operand, OutOfMemory};
+use tac_pass::operands::own_word;
+
+// The most walks over a body until one finds nothing new.
+const WALKS: u32 = 6;
+
+/// No place, or no place in a list.
+pub const NONE: usize = usize::MAX;
+
+/// What matters of an instruction besides what it reads and writes.
+#[derive(Clone, Copy, PartialEq, Eq)]
+pub enum Kind {
+    /// Nothing.
+    Plain,
+    /// It loads or stores a word of the own frame.
+    Own,
+    /// It loads or stores something else.
+    Memory,
+    /// It gives an address that it was given, or finds one to be that of an object.
+    Address,
+    /// It is a call.
+    Call,
+}
+
+/// What an instruction reads and writes, and where it leads; and what of the body matters there.
+#[derive(Clone, Copy)]
+pub struct Way {
+    /// The temporaries that are read.
+    pub reads: u64,
+    /// The temporary that is written.
+    pub writes: u64,
+    /// The temporaries that are alive before it.
+    pub lives: u64,
+    /// The place that is jumped to.
+    pub target: usize,
+    /// The first place that jumps here.
+    pub first: usize,
+    /// The last one; before the first one where none does.
+    pub last: usize,
+    /// How many loops begin here.
+    pub loops: u32,
+    /// The word of the own frame that is loaded or stored.
+    pub word: u32,
+    /// Its place among those that are told apart.
+    pub item: usize,
+    /// The word that what it gives is stored in next, maybe after a test of its range, and used no more: its place among
+    /// those that are told apart.
+    pub given: usize,
+    pub kind: Kind,
+    /// Whether the next place may follow.
+    pub falls: bool,
+    /// Whether what it gives is used only before any place where jumps lead, any call and any store of a word.
+    pub is_short: bool,
+}
+
+impl Way {
+    /// Whether jumps lead here.
+    pub fn is_join(&self) -> bool {
+        self.first <= self.last
+    }
+
+    /// Whether it is a call.
+    pub fn calls(&self) -> bool {
+        self.kind == Kind::Call
+    }
+}
+
+// Behind the end of a body: nothing is read or written, and it leads nowhere.
+const NO_WAY: Way = Way {
+    reads: 0,
+    writes: 0,
+    lives: 0,
+    target: NONE,
+    first: NONE,
+    last: 0,
+    loops: 0,
+    word: 0,
+    item: NONE,
+    given: NONE,
+    kind: Kind::Plain,
+    falls: false,
+    is_short: false,
+};
+
+/// What is known of a place.
+pub fn way_at(ways: &[Way], place: usize) -> Way {
+    if place < ways.len() {
+        ways[place]
+    } else {
+        NO_WAY
+    }
+}
+
+/// Whether jumps lead to a place.
+pub fn is_join(ways: &[Way], place: usize) -> bool {
+    place < ways.len() && ways[place].is_join()
+}
+
+/// What is alive before a place.
+pub fn lives_at(ways: &[Way], place: usize) -> u64 {
+    if place < ways.len() {
+        ways[place].lives
+    } else {
+        0
+    }
+}
+
+/// What is known of a body.
+#[derive(Drop)]
+pub struct Flow {
+    pub ways: Vec<Way>,
+    /// The first call, or the end.
+    pub first_call: usize,
+    /// The last call, or load through an address.
+    pub last_look: usize,
+    /// The temporaries in which something is alive across a call.
+    pub across: u64,
+    /// Whether there are loops.
+    pub has_loops: bool,
+}
+
+/// Whether a body has a loop.
+pub fn has_loop(body: &[Instruction]) -> bool {
+    for instruction in body {
+        if matches!(
+            instruction,
+            Instruction::JumpBack { .. } | Instruction::BranchBack { .. }
+        ) {
+            return true;
+        }
+    }
+    false
+}
+
+fn set_of_operand(operand: Operand) -> u64 {
+    match operand {
+        Operand::Temporary(temporary) => set_of(temporary),
+        Operand::Number(_) => 0,
+    }
+}
+
+fn set_of_base(base: Base) -> u64 {
+    match base {
+        Base::Temporary(temporary) => set_of(temporary),
+        _ => 0,
+    }
+}
+
+fn set_of_list(list: &[u32]) -> u64 {
+    let mut set = 0;
+    for temporary in list {
+        set |= set_of(*temporary);
+    }
+    set
+}
+
+fn give(way: &mut Way, to: u32, reads: u64, kind: Kind) {
+    way.writes = set_of(to);
+    way.reads = reads;
+    way.kind = kind;
+}
+
+fn lead(way: &mut Way, reads: u64, target: Option<usize>, falls: bool) {
+    way.reads = reads;
+    way.falls = falls;
+    if let Some(target) = target {
+        way.target = target;
+    }
+}
+
+fn place_ahead(place: usize, forward: u64) -> Option<usize> {
+    place.checked_add(1)?.checked_add(forward as usize)
+}
+
+fn place_behind(place: usize, back: u64) -> Option<usize> {
+    place.checked_sub(back as usize)
+}
+
+// A load or a store, maybe of a word.
+fn read_memory(way: &mut Way, base: Base, offset: u32) {
+    way.kind = Kind::Memory;
+    if let Some(word) = own_word(base, offset) {
+        way.kind = Kind::Own;
+        way.word = word;
+    }
+}
+
+fn read_turn(way: &mut Way, instruction: &Instruction, place: usize) {
+    match instruction {
+        Instruction::Jump { forward } => lead(way, 0, place_ahead(place, *forward), false),
+        Instruction::JumpBack { back } => lead(way, 0, place_behind(place, *back), false),
+        Instruction::Branch {
+            left,
+            right,
+            forward,
+            ..
+        } => {
+            let reads = set_of(*left) | set_of_operand(*right);
+            lead(way, reads, place_ahead(place, *forward), true);
+        }
+        Instruction::BranchBack {
+            left,
+            right,
+            back,
+            ..
+        } => {
+            let reads = set_of(*left) | set_of_operand(*right);
+            lead(way, reads, place_behind(place, *back), true);
+        }
+        Instruction::Return { from } => lead(way, set_of(*from), None, false),
+        _ => lead(way, 0, None, false),
+    }
+}
+
+fn read_call(way: &mut Way, instruction: &Instruction) {
+    match instruction {
+        Instruction::Call { to, operands, .. } => {
+            give(way, *to, set_of_list(operands.as_slice()), Kind::Call);
+        }
+        Instruction::CallValue {
+            to,
+            callee,
+            operands,
+            ..
+        } => {
+            let reads = set_of(*callee) | set_of_list(operands.as_slice());
+            give(way, *to, reads, Kind::Call);
+        }
+        _ => {}
+    }
+}
+
+// What an instruction reads and writes, and where it leads, where nothing was known yet.
+fn read(way: &mut Way, instruction: &Instruction, place: usize) {
+    match instruction {
+        Instruction::Literal { to, .. }
+        | Instruction::Text { to, .. }
+        | Instruction::RoutineValue { to, .. }
+        | Instruction::Take { to }
+        | Instruction::New { to, .. } => way.writes = set_of(*to),
+        Instruction::Copy { to, from } => give(way, *to, set_of(*from), Kind::Address),
+        Instruction::Arithmetic {
+            to,
+            left,
+            right,
+            ..
+        }
+        | Instruction::Bits {
+            to,
+            left,
+            right,
+            ..
+        }
+        | Instruction::Compare {
+            to,
+            left,
+            right,
+            ..
+        } => {
+            way.writes = set_of(*to);
+            way.reads = set_of(*left) | set_of_operand(*right);
+        }
+        Instruction::CheckRange { value, .. } => way.reads = set_of(*value),
+        Instruction::Put { from } => way.reads = set_of(*from),
+        Instruction::CheckPointer { pointer, .. } => {
+            way.reads = set_of(*pointer);
+            way.kind = Kind::Address;
+        }
+        Instruction::Offset { to, base, .. } => {
+            give(way, *to, set_of_base(*base), Kind::Address);
+        }
+        Instruction::Index {
+            to,
+            base,
+            index,
+            ..
+        } => give(way, *to, set_of_base(*base) | set_of(*index), Kind::Address),
+        Instruction::Load { to, base, offset } => {
+            give(way, *to, set_of_base(*base), Kind::Memory);
+            read_memory(way, *base, *offset);
+        }
+        Instruction::LoadByte { to, base, .. } => {
+            give(way, *to, set_of_base(*base), Kind::Memory);
+        }
+        Instruction::Store { base, offset, from } => {
+            way.reads = set_of_base(*base) | set_of(*from);
+            read_memory(way, *base, *offset);
+        }
+        Instruction::StoreByte { base, from, .. } => {
+            way.reads = set_of_base(*base) | set_of(*from);
+            way.kind = Kind::Memory;
+        }
+        Instruction::Call { .. } | Instruction::CallValue { .. } => read_call(way, instruction),
+        _ => read_turn(way, instruction, place),
+    }
+}
+
+// A place jumps to another.
+fn arrive(ways: &mut [Way], target: usize, place: usize) {
+    if target < ways.len() {
+        ways[target].first = ways[target].first.min(place);
+        ways[target].last = ways[target].last.max(place);
+        if target <= place {
+            ways[target].loops = ways[target].loops.saturating_add(1);
+        }
+    }
+}
+
+// What a walk back finds.
+#[derive(Clone, Copy)]
+struct Back {
+    // whether more is alive where loops begin than was known
+    grew: bool,
+    across: u64,
+}
+
+// What is alive behind a place, and what of it goes on to where jumps lead, over a call, or over a store of a word.
+#[derive(Clone, Copy)]
+struct Behind {
+    alive: u64,
+    bound: u64,
+}
+
+fn behind_place(ways: &[Way], way: &Way, next: Behind, is_next_join: bool) -> Behind {
+    let mut alive = 0;
+    let mut bound = 0;
+    if way.falls {
+        alive = next.alive;
+        bound = if is_next_join { next.alive } else { next.bound };
+    }
+    if way.target != NONE {
+        let there = lives_at(ways, way.target);
+        alive |= there;
+        bound |= there;
+    }
+    let is_store = way.kind == Kind::Own && way.writes == 0;
+    if is_store || way.calls() {
+        bound |= alive;
+    }
+    Behind { alive, bound }
+}
+
+fn walk_back(ways: &mut [Way]) -> Back {
+    let mut back = Back {
+        grew: false,
+        across: 0,
+    };
+    let mut next = Behind { alive: 0, bound: 0 };
+    let mut is_next_join = false;
+    for place in (0..ways.len()).rev() {
+        let way = ways[place];
+        let found = behind_place(ways, &way, next, is_next_join);
+        if way.calls() {
+            back.across |= found.alive & !way.writes;
+        }
+        let alive = (found.alive & !way.writes) | way.reads;
+        if way.loops > 0 && alive != way.lives {
+            back.grew = true;
+        }
+        ways[place].lives = alive;
+        ways[place].is_short = found.bound & way.writes == 0;
+        next = Behind {
+            alive,
+            bound: found.bound & !way.writes,
+        };
+        is_next_join = way.is_join();
+    }
+    back
+}
+
+impl Flow {
+    fn new(alloc: Global, body: &[Instruction]) -> Result<Flow, OutOfMemory> {
+        let nothing = Way {
+            falls: true,
+            ..NO_WAY
+        };
+        let mut flow = Flow {
+            ways: vec![in alloc; nothing; body.len()]?,
+            first_call: body.len(),
+            last_look: 0,
+            across: 0,
+            has_loops: false,
+        };
+        for (place, instruction) in body.iter().enumerate() {
+            if place < flow.ways.len() {
+                read(&mut flow.ways[place], instruction, place);
+            }
+            flow.note(place);
+        }
+        Ok(flow)
+    }
+
+    fn note(&mut self, place: usize) {
+        if place >= self.ways.len() {
+            return;
+        }
+        let way = &self.ways[place];
+        let calls = way.calls();
+        if calls {
+            self.first_call = self.first_call.min(place);
+        }
+        if calls || (way.kind == Kind::Memory && way.writes != 0) {
+            self.last_look = place;
+        }
+        self.has_loops = self.has_loops || way.target <= place;
+    }
+
+    fn arrive_all(&mut self) {
+        let ways = self.ways.as_mut_slice();
+        for place in 0..ways.len() {
+            let target = way_at(ways, place).target;
+            if target != NONE {
+                arrive(ways, target, place);
+            }
+        }
+    }
+
+    /// What is known of a body. None where walks go on to find more.
+    pub fn of(alloc: Global, body: &[Instruction]) -> Result<Option<Flow>, OutOfMemory> {
+        let mut flow = Flow::new(alloc, body)?;
+        flow.arrive_all();
+        for _ in 0..WALKS {
+            let back = walk_back(flow.ways.as_mut_slice());
+            if !back.grew {
+                flow.across = back.across;
+                return Ok(Some(flow));
+            }
+        }
+        Ok(None)
+    }
+}
+
+// Whether a place tests what is stored behind it, and nothing else.
+fn is_test(way: &Way, store: &Way) -> bool {
+    way.kind == Kind::Plain
+        && way.writes == 0
+        && way.reads == store.reads
+        && way.target == NONE
+        && way.falls
+        && !way.is_join()
+}
+
+/// Tells the places whose values are stored at another, in a word that is told apart, and used no more.
+pub fn tell_given(ways: &mut [Way], place: usize) {
+    let store = way_at(ways, place);
+    if store.is_join() || lives_at(ways, place.saturating_add(1)) & store.reads != 0 {
+        return;
+    }
+    let Some(mut before) = place.checked_sub(1) else {
+        return;
+    };
+    if is_test(&way_at(ways, before), &store) {
+        before = before.saturating_sub(1);
+    }
+    if before < ways.len() && ways[before].writes == store.reads {
+        ways[before].given = store.item;
+    }
+}
+
+/// Whether a control variable is counted on at a place, which only jumps back lead to.
+pub fn is_counted(ways: &[Way], place: usize) -> bool {
+    let way = way_at(ways, place);
+    way.is_join()
+        && way.first > place
+        && way.reads == way.writes
+        && way.writes != 0
+        && !way_at(ways, place.saturating_sub(1)).falls
+}
+
+/// Whether what a place gives is used by the jump back behind it, and by the count of the control variable there, alone.
+pub fn is_turn(ways: &[Way], place: usize, way: &Way) -> bool {
+    let next = place.saturating_add(1);
+    let jump = way_at(ways, next);
+    jump.target < place
+        && !jump.is_join()
+        && is_counted(ways, jump.target)
+        && way_at(ways, jump.target).writes == way.writes
+        && lives_at(ways, next.saturating_add(1)) & way.writes == 0
+}

@@ -1,0 +1,12 @@
+//! Code: the pass that keeps words of the own frame in temporaries: plans are chosen, and what is made by them is what
+//! the test of plans makes.
+#![tactic(auto)]
+
+pub mod choice;
+mod copies;
+mod draft;
+mod flow;
+pub mod pass;
+mod regions;
+mod sets;
+mod words;

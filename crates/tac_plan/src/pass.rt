@@ -1,0 +1,222 @@
+// The pass over a whole code.
+
+ghost use Rattle.std.specs.Prelude.{length, IfOk, IfSome};
+ghost use Rattle.tac_code.specs.Sound.{IsSoundRoutine, AreSoundRoutines, limits_of};
+ghost use Rattle.tac_pass.specs.Keeps.{Keeps};
+ghost use Rattle.tac_pass.specs.Walk.{PassedRoutine, PassedSoFar, ArePassed};
+
+use crate::choice::plan_of;
+use crate::copies::stayed;
+use crate::flow::has_loop;
+use std::alloc::Global;
+use tac_code::code::{Body, OutOfMemory, TacRaw, TacRoutine};
+use tac_code::tac::Tac;
+use tac_pass::laws::passed_keeps;
+use tac_pass::plan::Plan;
+use tac_pass::walk::{starts_of, walk};
+
+// Plans are chosen for so many places, and for an eighth of all that there are: to choose and to walk takes some 2,000
+// instructions of the host a place, where the rest of the compiler takes 4,500.
+const CHOSEN: usize = 192;
+
+fn places_of(routines: &[TacRoutine]) -> usize {
+    let mut places = 0usize;
+    for routine in routines {
+        places = places.saturating_add(routine.body.as_slice().len());
+    }
+    places
+}
+
+fn chosen_of(routines: &[TacRoutine]) -> usize {
+    CHOSEN.saturating_add(places_of(routines) / 8)
+}
+
+// How many places a routine counts for: each once, and once more for each twenty temporaries, since all of them are
+// looked at.
+fn cost_of(routine: &TacRoutine) -> usize {
+    let times = (routine.temporaries as usize / 20).saturating_add(1);
+    routine.body.as_slice().len().saturating_mul(times)
+}
+
+// Plans for routines with loops, or for those without, as long as places are left; how many are.
+fn choose(
+    alloc: Global,
+    routines: &[TacRoutine],
+    plans: &mut Vec<Option<Plan>>,
+    has_loops: bool,
+    left: usize,
+) -> Result<usize, OutOfMemory> {
+    let mut left = left;
+    for (number, routine) in routines.iter().enumerate() {
+        let cost = cost_of(routine);
+        if cost <= left && has_loop(routine.body.as_slice()) == has_loops && number < plans.len() {
+            left = left.saturating_sub(cost);
+            plans[number] = plan_of(alloc, number, routine)?;
+        }
+    }
+    Ok(left)
+}
+
+// Plans for the routines, first for those with loops.
+fn plans_of(alloc: Global, routines: &[TacRoutine]) -> Result<Vec<Option<Plan>>, OutOfMemory> {
+    let mut plans = Vec::with_capacity(alloc, routines.len())?;
+    for _ in routines {
+        plans.push(None)?;
+    }
+    let left = choose(alloc, routines, &mut plans, true, chosen_of(routines))?;
+    choose(alloc, routines, &mut plans, false, left)?;
+    Ok(plans)
+}
+
+fn is_any(plans: &[Option<Plan>]) -> bool {
+    for plan in plans {
+        if plan.is_some() {
+            return true;
+        }
+    }
+    false
+}
+
+fn plan_at(plans: &[Option<Plan>], at: usize) -> Option<&Plan> {
+    if at < plans.len() {
+        match &plans[at] {
+            Some(plan) => Some(plan),
+            None => None,
+        }
+    } else {
+        None
+    }
+}
+
+// By the plan that was chosen, or as it is.
+#[tactic(auto, using(tac_pass::proofs::Passing::routine_passed))]
+fn passed_routine(
+    alloc: Global,
+    tac: &Tac,
+    number: usize,
+    routine: &TacRoutine,
+    plan: Option<&Plan>,
+) -> Result<Option<TacRoutine>, OutOfMemory>
+    requires { IsSoundRoutine (limits_of tac.now routine.now) routine.now }
+    ensures { IfOk result (λ made. IfSome made (PassedRoutine number routine.now)) }
+{
+    let Some(plan) = plan else {
+        return stayed(alloc, tac, number, routine);
+    };
+    let Some(list) = walk(alloc, number, routine.body.as_slice(), plan)? else {
+        return stayed(alloc, tac, number, routine);
+    };
+    Ok(Some(TacRoutine {
+        parameters: routine.parameters,
+        temporaries: routine.temporaries,
+        frame: routine.frame,
+        scratch: routine.scratch,
+        line: routine.line,
+        body: Body::new(list),
+    }))
+}
+
+#[tactic(auto, using(tac_pass::proofs::Passing::so_far_more))]
+fn passed_routines(
+    alloc: Global,
+    tac: &Tac,
+    routines: &[TacRoutine],
+    first: usize,
+    plans: &[Option<Plan>],
+) -> Result<Option<Vec<TacRoutine>>, OutOfMemory>
+    requires { AreSoundRoutines tac.now routines.now }
+    ensures { IfOk result (λ made. IfSome made
+        (λ list. PassedSoFar first routines.now (length routines.now) list.items)) }
+{
+    let mut list = Vec::with_capacity(alloc, routines.len())?;
+    for at in 0..routines.len() {
+        let Some(number) = first.checked_add(at) else {
+            return Ok(None);
+        };
+        let Some(routine) = passed_routine(alloc, tac, number, &routines[at], plan_at(plans, at))?
+        else {
+            return Ok(None);
+        };
+        list.push(routine)?;
+    }
+    Ok(Some(list))
+}
+
+// New code that was made by plans.
+#[tactic(auto, using(tac_pass::proofs::Passing::are_passed))]
+fn made_by(alloc: Global, tac: &Tac, plans: &[Option<Plan>]) -> Result<Option<Tac>, OutOfMemory>
+    ensures { IfOk result (λ made. IfSome made (λ new_one. ArePassed tac.now new_one)) }
+{
+    tac.keeps_invariant();
+    let Some(program) = passed_routines(alloc, tac, tac.program(), 0, plans)? else {
+        return Ok(None);
+    };
+    let Some(run_time) = passed_routines(alloc, tac, tac.run_time(), tac.program().len(), &[])?
+    else {
+        return Ok(None);
+    };
+    let objects = tac.objects().to_vec(alloc)?;
+    Ok(Tac::new(TacRaw {
+        program,
+        run_time,
+        objects,
+    }))
+}
+
+// Where the new code of each place of a routine begins. None where it stands as it was, as it does where a plan was
+// refused.
+fn starts_in(
+    alloc: Global,
+    plan: Option<&Plan>,
+    made: &TacRoutine,
+) -> Result<Option<Vec<u64>>, OutOfMemory> {
+    let Some(plan) = plan else {
+        return Ok(None);
+    };
+    let starts = starts_of(alloc, plan.steps.as_slice())?;
+    match starts.last() {
+        Some(end) if *end == made.body.as_slice().len() as u64 => Ok(Some(starts)),
+        _ => Ok(None),
+    }
+}
+
+fn starts_by(
+    alloc: Global,
+    plans: &[Option<Plan>],
+    made: &[TacRoutine],
+) -> Result<Vec<Option<Vec<u64>>>, OutOfMemory> {
+    let mut starts = Vec::with_capacity(alloc, made.len())?;
+    for (number, routine) in made.iter().enumerate() {
+        starts.push(starts_in(alloc, plan_at(plans, number), routine)?)?;
+    }
+    Ok(starts)
+}
+
+/// Code that a pass made.
+#[derive(Drop)]
+pub struct Passed {
+    pub tac: Tac,
+    /// For each routine of the program, and for each place of its old code, where its new code begins, with the end of the
+    /// new code last; none where the routine stands as it was. Nothing is proved of it: it serves to show places.
+    pub starts: Vec<Option<Vec<u64>>>,
+}
+
+/// New code that keeps what the old one shows, with words of frames in temporaries. Each routine has as many
+/// temporaries as it had, the same blocks, and no more instructions. None where none is found: then the old code
+/// stands.
+#[tactic(auto, using(crate::proofs::Keeping::all_keep))]
+pub fn pass(alloc: Global, tac: &Tac) -> Result<Option<Passed>, OutOfMemory>
+    ensures passed { IfOk result (λ made. IfSome made (λ passed. ArePassed tac.now passed.tac)) }
+    ensures keeps { IfOk result (λ made. IfSome made (λ passed. Keeps tac.now passed.tac)) }
+{
+    passed_keeps();
+    let plans = plans_of(alloc, tac.program())?;
+    if !is_any(plans.as_slice()) {
+        return Ok(None);
+    }
+    let Some(made) = made_by(alloc, tac, plans.as_slice())? else {
+        return Ok(None);
+    };
+    let starts = starts_by(alloc, plans.as_slice(), made.program())?;
+    Ok(Some(Passed { tac: made, starts }))
+}
