@@ -93,7 +93,7 @@ function mark() {
 function placeOfStep({ line, column, statement }) {
   const text = shown.text.split('\n')[line - 1];
   const start = unitsOf(text)(column - 1);
-  const [begins] = text.slice(start).split(/\W/); // (of a `repeat` its `until` is told, which stands elsewhere)
+  const [begins] = text.slice(start).split(/\W/);
   const { length } = statement.startsWith(begins) ? statement : begins;
   return fault('the statement that is shown', { line, column: start + 1, length, kind: 'step' });
 }

@@ -2,4 +2,4 @@
 
 /// The sum.
 pub(crate) const BELIEVED: &str =
-    "94a3d8124712d8002c18ed7a72d2c02d06339459dadec2677936aa6e3bf64173";
+    "74dcae26e6014b59117945917ac2b5f8b604b250cbf7291e7bcba496b4f2f709";

@@ -31,7 +31,7 @@ use crate::session::{
 };
 use crate::transfer::{Counted, put_all};
 use crate::watched::watch;
-use ps_build::{Budget, Built, Mapped, build, build_mapped, list};
+use ps_build::{Budget, Built, Mapped, Variables, build, build_and_leave, build_mapped, list};
 use ps_map::{listing_with_source, map_of_text, written};
 use ps_trace::{Usage, usage_told};
 use risc_image::ImageView;
@@ -98,13 +98,14 @@ pub(crate) fn budget_of(job: &Job<'_>) -> Budget
 
 // ---- images and listings
 
-// Builds the text at a path. Where there is none, or it is refused, that is told, and the status is given.
+// Builds the text at a path, for a command that ends after it. Where there is none, or it is refused, that is told,
+// and the status is given.
 fn build_text<R: Files + Eprint + Input + AllocGlobal>(rt: &R, path: &str) -> Result<Built, u8>
     ensures ok { IfOk result (λ built. IsBuilt built) }
     ensures err { IfErr result (λ status. status ≡ FAILED) }
 {
     let text = read_text(rt, path)?;
-    match build(rt.alloc(), &text) {
+    match build_and_leave(rt.alloc(), &text) {
         Ok(built) => Ok(built),
         Err(refusal) => Err(tell(rt, &Err(refusal))),
     }
@@ -147,7 +148,7 @@ fn compile_mapped<R: Files + Print + Eprint + Input + AllocGlobal>(
         Ok(text) => text,
         Err(status) => return status,
     };
-    match build_mapped(rt.alloc(), &text) {
+    match build_mapped(rt.alloc(), &text, Variables::InTemporaries) {
         Ok(mapped) => put_mapped(rt, source, image, map, &text, &mapped),
         Err(refusal) => tell(rt, &Err(refusal)),
     }
@@ -270,7 +271,7 @@ fn list_with_source<R: Files + Print + Eprint + Input + AllocGlobal>(rt: &R, sou
         Ok(text) => text,
         Err(status) => return status,
     };
-    match build_mapped(rt.alloc(), &text) {
+    match build_mapped(rt.alloc(), &text, Variables::InTemporaries) {
         Ok(mapped) => put_source_listing(rt, &text, &mapped),
         Err(refusal) => tell(rt, &Err(refusal)),
     }

@@ -2,32 +2,42 @@
 //!
 //! What is told of a run is advice. That the run is the one of the image that was built of the text, and its status, contracts tell.
 
-ghost use Rattle.std.specs.Prelude.{◌≡◌, ◌⊎◌, IfOk};
+ghost use Rattle.std.specs.Prelude.{◌≡◌, ◌⊎◌, IfErr, IfOk};
 ghost use Rattle.ps_build.specs.Headline.{Compiles};
 ghost use Rattle.pascal_cli.specs.Command as work;
 ghost use Rattle.pascal_cli.specs.Command.{request_in, work_of};
 ghost use Rattle.pascal_cli.specs.Console.{console_world, has_failed, held_of};
 ghost use Rattle.pascal_cli.specs.Jobs.{IsBuilt, IsStatus, RanBuilt, RanImage, limits_in};
+ghost use Rattle.pascal_cli.specs.Report.{status_of};
 
 use crate::console::BlockConsole;
 use crate::job::{Job, Watch};
 use crate::jobs::{budget_of, console};
 use crate::options::Options;
-use crate::report::status;
+use crate::report::{message, status};
 use crate::runs::{Left, Tracing, counts_through, end_through, trace_through};
 use crate::session::{FAILED, TEXT_LIMIT, out_of_memory, read_file, tell};
-use ps_build::{Ended, Outcome, Refusal, build_mapped};
-use ps_map::{MappedText, map_of_text};
+use crate::transfer::{Counted, ReadFault, read_up_to};
+use ps_build::{Ended, Outcome, Refusal, Variables, build_mapped};
+use ps_diagnose::nearest;
+use ps_map::{Map, MappedText, map_of_text};
 use ps_trace::{
     Choice, Counts, Prepared, Teller, coverage_told, lcov_told, no_counts, profile_told,
 };
 use ps_why::{Length, account_of, object_of, told};
 use std::alloc::{AllocError, Global};
+use std::fs;
 use std::io::{self, BufRead, Write};
 use std::rt::Files;
 
 // The most bytes of an input that is a file.
 const INPUT_LIMIT: usize = 1 << 30;
+
+// The longest name that is compared with others by its spelling.
+const LONGEST_COMPARED: usize = 64;
+
+// The mark of lines that readers of the form of `lcov` pass over.
+const COMMENT: &str = "# ";
 
 /// A text that is run, its path as messages name it, and the program that was built of it.
 #[derive(Clone, Copy)]
@@ -69,7 +79,7 @@ pub(crate) fn watch<R: Files + Print + Eprint + Input + AllocGlobal>(
 fn prepared_of(alloc: Global, text: &[u8]) -> Result<Prepared, Refusal>
     ensures { IfOk result (λ prepared. Compiles text.now prepared.text.mapped.built) }
 {
-    let mapped = build_mapped(alloc, text)?;
+    let mapped = build_mapped(alloc, text, Variables::InFrames)?;
     match map_of_text(alloc, text, &mapped) {
         Ok(map) => Ok(Prepared {
             text: MappedText { mapped, map },
@@ -180,6 +190,57 @@ fn account_told(
 
 // ---- trace
 
+// The routine that is asked for, if the program has none of that name.
+fn unknown_routine<'a>(map: &Map, options: &Options<'a>) -> Option<&'a str> {
+    let name = options.traces.routine?;
+    let is_known = map
+        .routines
+        .iter()
+        .any(|routine| routine.name.as_str().eq_ignore_ascii_case(name));
+    if is_known { None } else { Some(name) }
+}
+
+// The routine of a program whose name is the nearest one by its spelling.
+fn nearest_routine<'a>(
+    alloc: Global,
+    map: &'a Map,
+    name: &str,
+) -> Result<Option<&'a str>, AllocError> {
+    if name.len() > LONGEST_COMPARED {
+        return Ok(None);
+    }
+    let mut known = Vec::new(alloc);
+    let mut small = Vec::new(alloc);
+    for routine in map.routines.iter() {
+        let other = routine.name.as_str();
+        if other.len() <= LONGEST_COMPARED {
+            known.push(other)?;
+            small.push(other.to_ascii_lowercase(alloc)?)?;
+        }
+    }
+    let names: Vec<&str> = small.iter().map(|name| name.as_str()).collect(alloc)?;
+    let name = name.to_ascii_lowercase(alloc)?;
+    match nearest(alloc, name.as_str(), names.as_slice())? {
+        Some(at) => Ok(known.get(at).copied()),
+        None => Ok(None),
+    }
+}
+
+// Tells that a program has no routine of a name, and which of its routines may be meant.
+fn tell_no_routine<R: Eprint + AllocGlobal>(rt: &R, program: Program<'_>, name: &str) -> u8
+    ensures { result ≡ FAILED }
+{
+    let path = program.path;
+    let map = &program.prepared.text.map;
+    let _ = match nearest_routine(rt.alloc(), map, name) {
+        Ok(Some(near)) => eprintln!(rt;
+            "cannot trace {name}: {path} has no such routine; the nearest is {near}"
+        ),
+        _ => eprintln!(rt; "cannot trace {name}: {path} has no such routine"),
+    };
+    FAILED
+}
+
 // Standard error, as what takes the lines of a trace.
 #[derive(Drop)]
 struct Lines<'a, R> {
@@ -203,6 +264,9 @@ fn trace<R: Eprint + AllocGlobal, I: BufRead, O: Write>(
         (console_world I.remaining O.contents console.old) (console_world I.remaining O.contents console.new)
         (held_of console.new) (has_failed console.new) result }
 {
+    if let Some(name) = unknown_routine(&program.prepared.text.map, options) {
+        return tell_no_routine(rt, program, name);
+    }
     let choice = Choice {
         from: options.traces.from,
         to: options.traces.to,
@@ -228,6 +292,38 @@ fn trace<R: Eprint + AllocGlobal, I: BufRead, O: Write>(
 
 // ---- cover
 
+/// What stands before the lines that tell how a run ended.
+#[derive(Clone, Copy)]
+struct Voice<'a> {
+    mark: &'static str,
+    /// The file whose bytes the run had as its input.
+    input: Option<&'a str>,
+}
+
+// Tells lines.
+fn tell_lines<R: Eprint>(rt: &R, voice: Voice<'_>, lines: &str) {
+    let mark = voice.mark;
+    for line in lines.lines() {
+        let _ = match voice.input {
+            Some(input) => eprintln!(rt; "{mark}{input}: {line}"),
+            None => eprintln!(rt; "{mark}{line}"),
+        };
+    }
+}
+
+// Tells how a run ended, or why there was none, and gives the status of that.
+fn tell_end<R: Eprint + AllocGlobal>(rt: &R, voice: Voice<'_>, end: &Result<Outcome, Refusal>) -> u8
+    ensures { result ≡ status_of end.now }
+{
+    match message(rt.alloc(), end) {
+        Ok(lines) => {
+            tell_lines(rt, voice, lines.as_str());
+            status(end)
+        }
+        Err(_) => tell(rt, end),
+    }
+}
+
 fn cover<R: Files + Print + Eprint + Input + AllocGlobal>(
     rt: &R,
     job: &Job<'_>,
@@ -240,10 +336,13 @@ fn cover<R: Files + Print + Eprint + Input + AllocGlobal>(
     let Ok(mut counts) = no_counts(rt.alloc(), program.prepared) else {
         return out_of_memory(rt);
     };
+    let mark = if options.lcov { COMMENT } else { "" };
     let status = if options.inputs.is_empty() {
-        count(rt, job, program, &mut console(rt), &mut counts)
+        let voice = Voice { mark, input: None };
+        count(rt, job, program, &mut console(rt), &mut counts, voice)
     } else {
-        cover_files(rt, job, program, options.inputs.as_slice(), &mut counts)
+        let inputs = options.inputs.as_slice();
+        cover_files(rt, job, program, inputs, &mut counts, mark)
     };
     tell_coverage(rt, program, options, &counts);
     status
@@ -256,6 +355,7 @@ fn cover_files<R: Files + Print + Eprint + AllocGlobal>(
     program: Program<'_>,
     inputs: &[&str],
     counts: &mut Counts,
+    mark: &'static str,
 ) -> u8
     requires { IsBuilt program.prepared.now.text.mapped.built }
     ensures { (result ≡ FAILED) ⊎ RanBuilt (limits_in job.now) result }
@@ -263,9 +363,9 @@ fn cover_files<R: Files + Print + Eprint + AllocGlobal>(
     let [first, behind @ ..] = inputs else {
         return FAILED;
     };
-    let mut status = cover_file(rt, job, program, first, counts);
+    let mut status = cover_file(rt, job, program, first, counts, mark);
     for input in behind {
-        let next = cover_file(rt, job, program, input, counts);
+        let next = cover_file(rt, job, program, input, counts, mark);
         status = first_failed(status, next);
     }
     status
@@ -278,6 +378,27 @@ fn first_failed(status: u8, next: u8) -> u8
     if status == 0 { next } else { status }
 }
 
+// The bytes of an input. Where it can't be opened or read, that is told, and the status is given.
+fn read_input<R: Files + Eprint + AllocGlobal>(
+    rt: &R,
+    input: &str,
+    mark: &'static str,
+) -> Result<Vec<u8>, u8>
+    ensures { IfErr result (λ status. status ≡ FAILED) }
+{
+    let bytes = match fs::open(rt, input) {
+        Ok(file) => read_up_to(rt.alloc(), &mut Counted::new(file), INPUT_LIMIT),
+        Err(_) => Err(ReadFault::Device),
+    };
+    match bytes {
+        Ok(bytes) => Ok(bytes),
+        Err(_) => {
+            let _ = eprintln!(rt; "{mark}cannot read {input}");
+            Err(FAILED)
+        }
+    }
+}
+
 // Runs a program on the bytes of a file.
 fn cover_file<R: Files + Print + Eprint + AllocGlobal>(
     rt: &R,
@@ -285,15 +406,20 @@ fn cover_file<R: Files + Print + Eprint + AllocGlobal>(
     program: Program<'_>,
     input: &str,
     counts: &mut Counts,
+    mark: &'static str,
 ) -> u8
     requires { IsBuilt program.prepared.now.text.mapped.built }
     ensures { (result ≡ FAILED) ⊎ RanBuilt (limits_in job.now) result }
 {
-    match read_file(rt, input, INPUT_LIMIT) {
+    match read_input(rt, input, mark) {
         Ok(bytes) => {
+            let voice = Voice {
+                mark,
+                input: Some(input),
+            };
             let reader = bytes.as_slice();
             let mut console = BlockConsole::new(rt.alloc(), reader, io::writer(rt));
-            count(rt, job, program, &mut console, counts)
+            count(rt, job, program, &mut console, counts, voice)
         }
         Err(status) => status,
     }
@@ -306,6 +432,7 @@ fn count<R: Eprint + AllocGlobal, I: BufRead, O: Write>(
     program: Program<'_>,
     console: &mut BlockConsole<I, O>,
     counts: &mut Counts,
+    voice: Voice<'_>,
 ) -> u8
     ensures { RanImage program.entry.prepared.now.text.mapped.built (limits_in job.now)
         (console_world I.remaining O.contents console.old) (console_world I.remaining O.contents console.new)
@@ -320,7 +447,7 @@ fn count<R: Eprint + AllocGlobal, I: BufRead, O: Write>(
         job.steps,
         counts,
     );
-    tell(rt, &end)
+    tell_end(rt, voice, &end)
 }
 
 // Tells how often the statements of a program were done.
@@ -363,7 +490,11 @@ fn profile<R: Print + Eprint + Input + AllocGlobal>(
     let Ok(mut counts) = no_counts(rt.alloc(), program.prepared) else {
         return out_of_memory(rt);
     };
-    let status = count(rt, job, program, &mut console(rt), &mut counts);
+    let voice = Voice {
+        mark: "",
+        input: None,
+    };
+    let status = count(rt, job, program, &mut console(rt), &mut counts, voice);
     tell_counts(
         rt,
         profile_told(rt.alloc(), program.text, program.prepared, &counts),

@@ -6,6 +6,7 @@
 #![tactic(auto)]
 
 mod blocks;
+mod characters;
 mod listing;
 mod made;
 mod map;
@@ -14,6 +15,7 @@ mod reading;
 mod variables;
 mod writing;
 
+pub use characters::readable;
 pub use listing::{listed, listing_with_source, run_time_told};
 pub use made::{MappedText, map_of, map_of_text, mapped_text};
 pub use map::{Map, Owner, Routine, Row};

@@ -1,9 +1,10 @@
 //! The listing of an image with its source.
 
+use crate::characters::readable;
 use crate::made::{MappedText, mapped_text};
 use crate::map::{Map, Owner, Row};
 use crate::variables::Variable;
-use ps_build::{Refusal, list};
+use ps_build::{Refusal, Variables, list};
 use risc_image::ImageView;
 use risc_word::{Instr, decode};
 use std::alloc::{AllocError, Global};
@@ -211,12 +212,10 @@ fn lines_of(alloc: Global, text: &str) -> Result<Vec<&str>, AllocError> {
     Ok(lines)
 }
 
-/// The listing of an image with the lines of its text: before the words of a routine its name, before those of a
-/// statement its line, and behind a word that loads or stores a variable its name. `listing` is the listing without
-/// them, a line for each word. Of a text that isn't UTF-8 no lines are shown.
-pub fn listing_with_source(
+// The listing of an image with the lines of its text, which is UTF-8.
+fn listing_with_text(
     alloc: Global,
-    text: &[u8],
+    text: &str,
     map: &Map,
     image: &ImageView<'_>,
     listing: &str,
@@ -224,7 +223,7 @@ pub fn listing_with_source(
     let mut lister = Lister {
         alloc,
         map,
-        lines: lines_of(alloc, str::from_utf8(text).unwrap_or(""))?,
+        lines: lines_of(alloc, text)?,
         out: String::new(alloc),
         owner: None,
         line: None,
@@ -249,6 +248,20 @@ pub fn listing_with_source(
     Ok(out)
 }
 
+/// The listing of an image with the lines of its text: before the words of a routine its name, before those of a
+/// statement its line, and behind a word that loads or stores a variable its name. `listing` is the listing without
+/// them, a line for each word. What of the text isn't UTF-8 is shown as U+FFFD.
+pub fn listing_with_source(
+    alloc: Global,
+    text: &[u8],
+    map: &Map,
+    image: &ImageView<'_>,
+    listing: &str,
+) -> Result<String, AllocError> {
+    let text = readable(alloc, text)?;
+    listing_with_text(alloc, text.as_str(), map, image, listing)
+}
+
 // The listing of a program that was built, with the lines of its text.
 fn listed_with(alloc: Global, text: &[u8], built: &MappedText) -> Result<String, AllocError> {
     let listing = list(alloc, &built.mapped.built)?;
@@ -264,7 +277,7 @@ fn listed_with(alloc: Global, text: &[u8], built: &MappedText) -> Result<String,
 ///
 /// Those of `build`.
 pub fn listed(alloc: Global, text: &[u8]) -> Result<String, Refusal> {
-    let built = mapped_text(alloc, text)?;
+    let built = mapped_text(alloc, text, Variables::InTemporaries)?;
     match listed_with(alloc, text, &built) {
         Ok(listing) => Ok(listing),
         Err(_) => Err(Refusal::OutOfMemory),

@@ -5,7 +5,7 @@ use crate::map::{Map, Owner, Routine, Row};
 use crate::places::{Lines, Place, small};
 use crate::variables::{Denoters, variables_of};
 use indexmap::IndexMap;
-use ps_build::{Mapped, Refusal, build_mapped};
+use ps_build::{Mapped, Refusal, Variables, build_mapped};
 use ps_diagnose_outline::Outline;
 use ps_lower::marks::Mark;
 use ps_parse::{parse, release};
@@ -297,13 +297,17 @@ pub struct MappedText {
     pub map: Map,
 }
 
-/// Builds the program of a text, as `build` does, and its map.
+/// Builds the program of a text, as `build_mapped` does, and its map.
 ///
 /// # Errors
 ///
 /// Those of `build`.
-pub fn mapped_text(alloc: Global, text: &[u8]) -> Result<MappedText, Refusal> {
-    let mapped = build_mapped(alloc, text)?;
+pub fn mapped_text(
+    alloc: Global,
+    text: &[u8],
+    variables: Variables,
+) -> Result<MappedText, Refusal> {
+    let mapped = build_mapped(alloc, text, variables)?;
     match map_of_text(alloc, text, &mapped) {
         Ok(map) => Ok(MappedText { mapped, map }),
         Err(_) => Err(Refusal::OutOfMemory),

@@ -4,7 +4,7 @@ use crate::counts::Counts;
 use crate::lines::lines_of;
 use crate::prepared::Prepared;
 use crate::sites::{Statement, small};
-use ps_map::Routine;
+use ps_map::{Routine, readable};
 use std::alloc::{AllocError, Global};
 
 // The statements of a line, from the first of those that are left on.
@@ -93,7 +93,8 @@ pub fn coverage_told(
     counts: &Counts,
 ) -> Result<String, AllocError> {
     let _ = prepared;
-    let lines = lines_of(alloc, text)?;
+    let text = readable(alloc, text)?;
+    let lines = lines_of(alloc, text.as_str())?;
     let mut out = String::new(alloc);
     let mut statements = counts.sites.statements.as_slice();
     let mut done = counts.done.as_slice();

@@ -1,10 +1,17 @@
 //! Heads of statements: of one that contains others the part that is its own, of others the whole.
 
 use crate::sites::Statement;
-use ps_map::Lines;
+use ps_map::{Lines, Place, readable};
 use ps_scan::{Kind, Token};
 use ps_text::{Source, Span};
 use std::alloc::{AllocError, Global};
+
+/// The part of a statement that is told as its own, and where it begins: of a `repeat` its `until` with the condition.
+#[derive(Clone, Copy)]
+pub(crate) struct Head {
+    pub(crate) span: Span,
+    pub(crate) place: Place,
+}
 
 // The number of the token that begins at an offset or behind it.
 fn token_at(tokens: &[Token], offset: u32) -> usize {
@@ -64,20 +71,22 @@ pub(crate) fn heads_of(
     source: &Source<'_>,
     tokens: &[Token],
     statements: &[Statement],
-) -> Result<Vec<Span>, AllocError> {
+) -> Result<Vec<Head>, AllocError> {
     let lines = Lines::new(alloc, source.bytes())?;
     let mut heads = Vec::new(alloc);
     for statement in statements {
-        heads.push(head_at(tokens, lines.offset_of(statement.place)))?;
+        let span = head_at(tokens, lines.offset_of(statement.place));
+        let place = lines.place_of(span.from);
+        heads.push(Head { span, place })?;
     }
     Ok(heads)
 }
 
-fn written<'a>(source: &Source<'a>, span: Span) -> &'a str {
+fn written<'a>(source: &Source<'a>, span: Span) -> &'a [u8] {
     if span.from <= span.to && span.to <= source.len() {
-        str::from_utf8(source.slice(span)).unwrap_or("")
+        source.slice(span)
     } else {
-        ""
+        &[]
     }
 }
 
@@ -88,7 +97,8 @@ pub(crate) fn head_told(
     head: Span,
 ) -> Result<String, AllocError> {
     let mut out = String::new(alloc);
-    for word in written(source, head).split_whitespace() {
+    let text = readable(alloc, written(source, head))?;
+    for word in text.as_str().split_whitespace() {
         if !out.is_empty() {
             out.push_str(" ")?;
         }

@@ -9,7 +9,6 @@ mod counts;
 mod cover;
 mod heads;
 mod lines;
-mod memory;
 mod naming;
 mod notes;
 mod prepared;

@@ -2,10 +2,10 @@
 
 use std::alloc::{AllocError, Global};
 
-/// The lines of a text, without their ends. Of a text that isn't UTF-8 there are none.
-pub(crate) fn lines_of(alloc: Global, text: &[u8]) -> Result<Vec<&str>, AllocError> {
+/// The lines of a text, without their ends.
+pub(crate) fn lines_of(alloc: Global, text: &str) -> Result<Vec<&str>, AllocError> {
     let mut lines = Vec::new(alloc);
-    for line in str::from_utf8(text).unwrap_or("").split('\n') {
+    for line in text.split('\n') {
         lines.push(line)?;
     }
     if lines.last() == Some(&"") {

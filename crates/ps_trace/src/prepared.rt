@@ -1,6 +1,6 @@
 //! Programs that are built for runs that are watched.
 
-use ps_build::Refusal;
+use ps_build::{Refusal, Variables};
 use ps_map::{MappedText, mapped_text};
 use std::alloc::Global;
 
@@ -16,6 +16,6 @@ pub struct Prepared {
 ///
 /// Those of `build`.
 pub fn prepare(alloc: Global, text: &[u8]) -> Result<Prepared, Refusal> {
-    let text = mapped_text(alloc, text)?;
+    let text = mapped_text(alloc, text, Variables::InFrames)?;
     Ok(Prepared { text })
 }

@@ -3,7 +3,7 @@
 use crate::counts::Counts;
 use crate::lines::{line_at, lines_of, share_told};
 use crate::prepared::Prepared;
-use ps_map::{Map, Owner, Row, run_time_told};
+use ps_map::{Map, Owner, Row, readable, run_time_told};
 use std::alloc::{AllocError, Global};
 
 // Steps of a routine, or of a line, by its number.
@@ -159,7 +159,8 @@ fn put_lines(
     map: &Map,
     counts: &Counts,
 ) -> Result<(), AllocError> {
-    let lines = lines_of(alloc, text)?;
+    let text = readable(alloc, text)?;
+    let lines = lines_of(alloc, text.as_str())?;
     let steps = by_line(alloc, map, counts)?;
     for part in ranked(alloc, steps.as_slice())?.iter() {
         let number = u32::try_from(part.number).unwrap_or(u32::MAX);

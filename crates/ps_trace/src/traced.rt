@@ -23,7 +23,7 @@ use std::alloc::{AllocError, Global};
 pub struct Traced {
     /// `None` where a fault at a pause ended the run.
     pub outcome: Option<Outcome>,
-    /// Whether each line was made and passed on. Where one wasn't, the run went on.
+    /// Whether each line was made and passed on. Behind the first that wasn't none was made, and the run went on.
     pub is_whole: bool,
 }
 
@@ -88,8 +88,9 @@ fn run_followed<C: Paced, T: Teller + Drop>(
 /// variables that it changed, and what it read and wrote.
 ///
 /// A statement that contains others is told for its own part each time that this is done: a `while`, a `repeat` and a
-/// `for` at each turn. One that calls is told when it has come back, behind the statements of what it called; what it
-/// has written or read before, it tells before them. So what is told stands in the order of the run.
+/// `for` at each turn, and of these a `repeat` where its `until` stands. One that calls is told when it has come back,
+/// behind the statements of what it called; what it has written or read before, it tells before them. So what is told
+/// stands in the order of the run.
 ///
 /// # Errors
 ///

@@ -1,16 +1,14 @@
 //! What follows a run statement by statement.
 
 use crate::accesses::{Access, Event, content_of, event_at};
-use crate::heads::head_told;
-use crate::memory::word_at;
+use crate::heads::{Head, head_told};
 use crate::naming::{Frame, Frames, Named, Stretch, found_at};
 use crate::notes::{Act, Notes};
 use crate::sites::{Site, Sites, Statement};
 use crate::telling::{Change, Done, object_told, told};
 use crate::watch::Watch;
-use ps_text::Span;
 use ps_tree::types::Ty;
-use ps_why::{Length, Object, Surroundings, value_at};
+use ps_why::{Length, Object, Surroundings, value_at, word_at};
 use risc_machine::{Machine, Stop};
 use std::alloc::{AllocError, Global};
 
@@ -23,7 +21,7 @@ pub trait Teller {
 /// Which statements are told, and how.
 #[derive(Clone, Copy)]
 pub struct Choice<'a> {
-    /// Those that begin in these lines.
+    /// Those that are told at these lines.
     pub from: u32,
     pub to: u32,
     /// Those of the routine with this name, in whatever case; none for those of all.
@@ -47,7 +45,7 @@ pub(crate) struct Tracer<'a, T: Teller> {
     pub(crate) around: Surroundings<'a>,
     pub(crate) sites: Sites,
     pub(crate) accesses: Vec<Access>,
-    pub(crate) heads: Vec<Span>,
+    pub(crate) heads: Vec<Head>,
     pub(crate) choice: Choice<'a>,
     pub(crate) teller: T,
     pub(crate) notes: Notes,
@@ -61,19 +59,32 @@ impl<'a, T: Teller> Tracer<'a, T> {
         }
     }
 
+    // The part of a statement that is told.
+    fn head(&self, number: u32) -> Option<Head> {
+        match (number as usize).checked_sub(1) {
+            Some(at) => self.heads.get(at).copied(),
+            None => None,
+        }
+    }
+
     // The name of a routine.
     fn routine_name(&self, routine: u32) -> &'a str {
         self.around.map.name_of(routine).unwrap_or("?")
     }
 
-    // Whether a statement is told.
-    fn is_chosen(&self, statement: Statement) -> bool {
-        let line = statement.place.line;
-        self.notes.lines < self.choice.first
+    // Whether lines are still told: none behind the last that is wanted, or behind one that could not be passed on.
+    fn goes_on(&self) -> bool {
+        self.notes.is_whole && self.notes.lines < self.choice.first
+    }
+
+    // Whether a part of a statement is told.
+    fn is_chosen(&self, routine: u32, head: Head) -> bool {
+        let line = head.place.line;
+        self.goes_on()
             && self.choice.from <= line
             && line <= self.choice.to
             && match self.choice.routine {
-                Some(name) => name.eq_ignore_ascii_case(self.routine_name(statement.routine)),
+                Some(name) => name.eq_ignore_ascii_case(self.routine_name(routine)),
                 None => true,
             }
     }
@@ -193,21 +204,17 @@ impl<'a, T: Teller> Tracer<'a, T> {
         &mut self,
         machine: &Machine,
         act: Act,
-        statement: Statement,
+        routine: u32,
+        head: Head,
     ) -> Result<String, AllocError> {
         let changes = self.changes(machine, act)?;
-        let head = match (act.statement as usize).checked_sub(1) {
-            Some(at) => self.heads.get(at).copied(),
-            None => None,
-        };
-        let head = head.unwrap_or(Span { from: 0, to: 0 });
         let done = Done {
-            line: statement.place.line,
-            column: statement.place.column,
-            routine: self.routine_name(statement.routine),
+            line: head.place.line,
+            column: head.place.column,
+            routine: self.routine_name(routine),
             depth: self.notes.open.len().saturating_sub(1),
             steps: act.steps,
-            head: head_told(self.alloc, self.around.source, head)?,
+            head: head_told(self.alloc, self.around.source, head.span)?,
             changes,
             written: self.notes.written.get(act.written..).unwrap_or(&[]),
             taken: self.notes.taken.get(act.taken..).unwrap_or(&[]),
@@ -223,11 +230,12 @@ impl<'a, T: Teller> Tracer<'a, T> {
     // Tells of an act, the innermost one.
     fn tell(&mut self, machine: &Machine, act: Act) -> Result<(), AllocError> {
         self.learn(machine, act)?;
-        let Some(statement) = self.statement(act.statement) else {
+        let number = act.statement;
+        let (Some(statement), Some(head)) = (self.statement(number), self.head(number)) else {
             return Ok(());
         };
-        if act.acts && self.is_chosen(statement) {
-            let line = self.line(machine, act, statement)?;
+        if act.acts && self.is_chosen(statement.routine, head) {
+            let line = self.line(machine, act, statement.routine, head)?;
             self.notes.lines = self.notes.lines.saturating_add(1);
             if !self.teller.tell(line.as_str()) {
                 self.notes.is_whole = false;
@@ -367,11 +375,16 @@ impl<'a, T: Teller> Watch for Tracer<'a, T> {
     }
 
     fn see(&mut self, machine: &Machine) {
-        self.follow(machine);
+        if self.goes_on() {
+            self.follow(machine);
+        }
         self.notes.steps = self.notes.steps.saturating_add(1);
     }
 
     fn end(&mut self, machine: &Machine, stop: Option<Stop>) {
+        if !self.goes_on() {
+            return;
+        }
         match stop {
             Some(Stop::OutputFault) => {
                 self.notes.written.pop();

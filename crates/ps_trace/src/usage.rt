@@ -4,9 +4,9 @@ ghost use Rattle.std.specs.Prelude.{◌≡◌, IfOk, IfErr, IfSome, IfNone, OnEr
 ghost use Rattle.ps_build.specs.Runs.{RunsImage, IsRunRefused};
 ghost use Rattle.ps_build.specs.Slices.{IsImageLeft};
 
-use crate::memory::word_at;
 use crate::watch::{Watch, run_image_watched};
 use ps_build::{Budget, Ended, Paced, Refusal};
+use ps_why::word_at;
 use risc_machine::{Machine, Stop};
 use std::alloc::{AllocError, Global};
 

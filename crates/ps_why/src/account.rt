@@ -3,9 +3,9 @@
 use crate::filling::{copy_of, put_number};
 use crate::found::{Found, found_at};
 use crate::loops::{Loop, Loops};
-use crate::memory::word;
+use crate::memory::word_at;
 use crate::scene::{Scene, Surroundings, scene_of};
-use crate::sentences::{Sizes, found_told, heap, step_told, words_of};
+use crate::sentences::{CUT, Sizes, found_told, heap, step_told, words_of};
 use crate::targets::{host_indexed, host_ranged, step_at};
 use crate::values::Length;
 use ps_build::{Ended, Mapped, Outcome};
@@ -149,7 +149,7 @@ fn found_of(image: &ImageView<'_>, machine: &Machine, facts: Facts) -> Option<Fo
 // The bytes of the heap that are taken.
 fn taken(image: &ImageView<'_>, machine: &Machine) -> Option<u32> {
     let base = u32::try_from(image.words().saturating_mul(4)).unwrap_or(u32::MAX);
-    let next = word(machine, machine.reg(PROGRAM).saturating_add(HEAP_NEXT));
+    let next = word_at(machine, machine.reg(PROGRAM).saturating_add(HEAP_NEXT));
     match next {
         Some(next) => next.checked_sub(base.saturating_add(image.global())),
         None => None,
@@ -339,6 +339,14 @@ fn add_round(
     add_loops(alloc, outline, lines, told.as_slice(), account)
 }
 
+// Adds that values were left out, where some were.
+fn add_cut(alloc: Global, account: &mut Account) -> Result<(), AllocError> {
+    if account.scene.is_cut {
+        account.notes.push(copy_of(alloc, CUT)?)?;
+    }
+    Ok(())
+}
+
 // The account of a run of a text with this outline.
 fn account_of_outline(
     alloc: Global,
@@ -356,6 +364,7 @@ fn account_of_outline(
     add_span(outline, &lines, &mut account);
     add_value(alloc, source, outline, &lines, &mut account)?;
     add_round(alloc, source, tree, outline, &lines, &mut account)?;
+    add_cut(alloc, &mut account)?;
     Ok(account)
 }
 

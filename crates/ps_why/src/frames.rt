@@ -1,6 +1,6 @@
 //! The frames of open calls.
 
-use crate::memory::word;
+use crate::memory::word_at;
 use crate::words::{Act, act_at};
 use ps_map::{Map, Owner, Place, Row};
 use risc_image::ImageView;
@@ -141,7 +141,7 @@ impl<'a> View<'a> {
 
     // Where a link leads that is kept for a run-time routine, which may have it still in its register.
     fn row_of_leaf(&self, frame: u32) -> Option<Row> {
-        let kept = match word(self.machine, frame.saturating_add(LEAF_LINK)) {
+        let kept = match word_at(self.machine, frame.saturating_add(LEAF_LINK)) {
             Some(link) => self.map.row_of_link(link),
             None => None,
         };
@@ -188,8 +188,8 @@ impl<'a> View<'a> {
     // The routine that a frame is of.
     fn owner_of(&self, frame: u32) -> Option<u32> {
         let (Some(link), Some(outer)) = (
-            word(self.machine, frame),
-            word(self.machine, frame.saturating_add(4)),
+            word_at(self.machine, frame),
+            word_at(self.machine, frame.saturating_add(4)),
         ) else {
             return None;
         };
@@ -277,7 +277,7 @@ impl<'a> View<'a> {
 
     // The link of the call that a frame is of; none of the program block's.
     fn link_of(&self, frame: u32) -> Option<u32> {
-        match word(self.machine, frame) {
+        match word_at(self.machine, frame) {
             Some(link) if self.image.call_of(link).is_some() => Some(link),
             _ => None,
         }
@@ -287,7 +287,7 @@ impl<'a> View<'a> {
     fn outer(&self, inner: Standing) -> Option<Standing> {
         let (Some(link), Some(frame)) = (
             self.link_of(inner.frame),
-            word(self.machine, inner.frame.saturating_add(4)),
+            word_at(self.machine, inner.frame.saturating_add(4)),
         ) else {
             return None;
         };

@@ -26,6 +26,7 @@ pub use account::{Account, Ending, account_of};
 pub use found::{Bounds, Found, found_at};
 pub use frames::Standing;
 pub use loops::Loop;
+pub use memory::word_at;
 pub use object::object_of;
 pub use parts::{ordinal_told, value_at};
 pub use people::told;

@@ -3,7 +3,7 @@
 use risc_machine::Machine;
 
 /// The byte at an address, if memory has it.
-pub(crate) fn byte(machine: &Machine, at: u32) -> Option<u8> {
+pub(crate) fn byte_at(machine: &Machine, at: u32) -> Option<u8> {
     if at < machine.size() {
         Some(machine.byte(at))
     } else {
@@ -12,12 +12,12 @@ pub(crate) fn byte(machine: &Machine, at: u32) -> Option<u8> {
 }
 
 /// The word at an address, if memory has it.
-pub(crate) fn word(machine: &Machine, at: u32) -> Option<u32> {
+pub fn word_at(machine: &Machine, at: u32) -> Option<u32> {
     let bytes = [
-        byte(machine, at),
-        byte(machine, at.saturating_add(1)),
-        byte(machine, at.saturating_add(2)),
-        byte(machine, at.saturating_add(3)),
+        byte_at(machine, at),
+        byte_at(machine, at.saturating_add(1)),
+        byte_at(machine, at.saturating_add(2)),
+        byte_at(machine, at.saturating_add(3)),
     ];
     match bytes {
         [Some(a), Some(b), Some(c), Some(d)] => Some(u32::from_le_bytes([a, b, c, d])),

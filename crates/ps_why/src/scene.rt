@@ -2,7 +2,7 @@
 
 use crate::filling::copy_of;
 use crate::frames::{Frames, Standing, View, routine_of};
-use crate::memory::word;
+use crate::memory::word_at;
 use crate::names::Text;
 use crate::values::{Length, Printer};
 use ps_map::{Map, Place, Role, Row, Variable};
@@ -67,6 +67,8 @@ pub struct Scene {
     pub counts: Vec<u64>,
     /// What the objects hold that pointers were told to identify, by their numbers from 1 on.
     pub objects: Vec<String>,
+    /// Whether parts of values were left out, since so much was told before.
+    pub is_cut: bool,
 }
 
 // The type of an entry of a routine's frame; none of a procedural or functional parameter.
@@ -112,12 +114,13 @@ pub(crate) fn printer_of<'a>(
         length,
         out: String::new(alloc),
         objects: Vec::new(alloc),
+        told: 0,
     }
 }
 
 // The name of the routine whose address is at a home.
 fn routine_at<'a>(map: &'a Map, machine: &Machine, home: u32) -> &'a str {
-    let row = match word(machine, home) {
+    let row = match word_at(machine, home) {
         Some(address) => map.row_of(address / 4),
         None => None,
     };
@@ -130,7 +133,7 @@ fn routine_at<'a>(map: &'a Map, machine: &Machine, home: u32) -> &'a str {
 // Where a variable is whose home is at an address.
 fn address_of(machine: &Machine, variable: &Variable, home: u32) -> Option<u32> {
     match variable.role {
-        Role::Reference => word(machine, home),
+        Role::Reference => word_at(machine, home),
         _ => Some(home),
     }
 }
@@ -205,6 +208,7 @@ fn put_values(
     for (number, variable) in told.variables.iter().enumerate() {
         printer.out = String::new(alloc);
         let is_unset = put_entry(printer, around, routine, number, activation)?;
+        printer.told = printer.told.saturating_add(printer.out.len());
         values.push(Value {
             name: copy_of(alloc, variable.name.as_str())?,
             denoter: copy_of(alloc, variable.denoter.as_str())?,
@@ -282,6 +286,7 @@ fn objects_of(
         };
         printer.out = String::new(printer.alloc);
         printer.put_variable(ty, object.address)?;
+        printer.told = printer.told.saturating_add(printer.out.len());
         objects.push(copy_of(printer.alloc, printer.out.as_str())?)?;
     }
     Ok(objects)
@@ -301,6 +306,7 @@ fn empty_scene(alloc: Global, here: Option<Row>) -> Scene {
         count: 0,
         counts: Vec::new(alloc),
         objects: Vec::new(alloc),
+        is_cut: false,
     }
 }
 
@@ -319,6 +325,7 @@ fn add_open(
         scene.counts.push(*count)?;
     }
     scene.objects = objects_of(printer, around)?;
+    scene.is_cut = printer.was_full();
     Ok(())
 }
 

@@ -1,7 +1,7 @@
 //! Values in the words of the text.
 
 use crate::filling::copy_of;
-use crate::memory::{byte, word};
+use crate::memory::{byte_at, word_at};
 use crate::names::Text;
 use ps_tree::types::{Fields, Host, Ordinal, Ty};
 use risc_machine::Machine;
@@ -39,6 +39,12 @@ const FEW_OBJECTS: usize = 6;
 
 const MANY_OBJECTS: usize = 1_000;
 
+// Objects that are told are numbered up to it.
+const MOST_NUMBERED: i64 = 1_000;
+
+// Behind so many bytes of values, parts of them are left out.
+const MOST_BYTES: usize = 4_000_000;
+
 /// An object that was told.
 #[derive(Clone, Copy)]
 pub struct Object {
@@ -57,6 +63,8 @@ pub(crate) struct Printer<'a> {
     pub(crate) out: String,
     /// The objects that were told, in the order of their numbers.
     pub(crate) objects: Vec<Object>,
+    /// The bytes of the values that were told before.
+    pub(crate) told: usize,
 }
 
 // Whether all values of an ordinal type are bytes.
@@ -120,8 +128,21 @@ impl<'a> Printer<'a> {
         self.put("?")
     }
 
+    // Whether so much is told that parts of values are left out from here on.
+    fn is_full(&self) -> bool {
+        self.told.saturating_add(self.out.len()) >= MOST_BYTES
+    }
+
+    /// Whether so much was told that parts of values were left out.
+    pub(crate) fn was_full(&self) -> bool {
+        self.told >= MOST_BYTES
+    }
+
     /// Adds the value of a variable of a type at an address.
     pub(crate) fn put_variable(&mut self, ty: &Ty, at: u32) -> Result<(), AllocError> {
+        if self.is_full() {
+            return self.put_deepest(ty, at);
+        }
         let left = match self.length {
             Length::Short => DEEP_SHORT,
             Length::All => DEEP,
@@ -184,14 +205,10 @@ impl<'a> Printer<'a> {
 
     // A pointer of the type with a number.
     fn put_pointer(&mut self, pointer: u32, at: u32) -> Result<(), AllocError> {
-        match word(self.machine, at) {
+        match word_at(self.machine, at) {
             None => self.put_unknown(),
             Some(0) => self.put("nil"),
-            Some(address) => {
-                let number = self.number_of(Object { address, pointer })?;
-                self.put("object ")?;
-                self.put_number(number)
-            }
+            Some(address) => self.put_object(Object { address, pointer }),
         }
     }
 
@@ -209,20 +226,35 @@ impl<'a> Printer<'a> {
         }
     }
 
-    // The number of an object, from 1 on, in the order in which they are told.
-    fn number_of(&mut self, object: Object) -> Result<i64, AllocError> {
+    // The number of an object, from 1 on, in the order in which they are told; none of one that is told behind many
+    // others.
+    fn number_of(&mut self, object: Object) -> Result<Option<i64>, AllocError> {
         if let Some(number) = self.number_in_order(object) {
-            return Ok(number);
+            return Ok(Some(number));
         }
         let mut number: i64 = 1;
         for told in self.objects.iter() {
             if told.address == object.address {
-                return Ok(number);
+                return Ok(Some(number));
+            }
+            if number >= MOST_NUMBERED {
+                return Ok(None);
             }
             number = number.saturating_add(1);
         }
         self.objects.push(object)?;
-        Ok(number)
+        Ok(Some(number))
+    }
+
+    // An object.
+    fn put_object(&mut self, object: Object) -> Result<(), AllocError> {
+        match self.number_of(object)? {
+            Some(number) => {
+                self.put("object ")?;
+                self.put_number(number)
+            }
+            None => self.put("another object"),
+        }
     }
 
     /// Whether the variable of a simple or pointer type at an address has the first value of its type.
@@ -230,7 +262,7 @@ impl<'a> Printer<'a> {
         match ty {
             Ty::Simple(ordinal) => simple_at(self.machine, *ordinal, at)
                 == Some(first_of(*ordinal)),
-            Ty::Pointer { .. } => word(self.machine, at) == Some(0),
+            Ty::Pointer { .. } => word_at(self.machine, at) == Some(0),
             _ => false,
         }
     }
@@ -253,7 +285,7 @@ impl<'a> Printer<'a> {
 
     // A character of a string; one that isn't shown as a point.
     fn put_character(&mut self, at: u32) -> Result<(), AllocError> {
-        match byte(self.machine, at) {
+        match byte_at(self.machine, at) {
             Some(b'\'') => self.put("''"),
             Some(shown) if is_shown(shown) => self.put_byte(shown),
             _ => self.put("."),
@@ -273,7 +305,7 @@ impl<'a> Printer<'a> {
 
     // Whether a set has a member.
     fn has_member(&self, at: u32, member: u32) -> bool {
-        match byte(self.machine, at.saturating_add(member / 8)) {
+        match byte_at(self.machine, at.saturating_add(member / 8)) {
             Some(bits) => (bits >> (member % 8)) & 1 == 1,
             None => false,
         }
@@ -329,6 +361,10 @@ impl<'a> Printer<'a> {
         let bytes = stride(packed, component);
         self.put("(")?;
         for k in 0..count {
+            if k > 0 && self.is_full() {
+                self.put(", ..")?;
+                break;
+            }
             if self.is_told(k, count) {
                 self.put_separator(k)?;
                 self.put_value(component, at.saturating_add(bytes.saturating_mul(k)), left)?;
@@ -365,7 +401,7 @@ impl<'a> Printer<'a> {
     ) -> Result<(), AllocError> {
         self.put("(")?;
         for (number, ty) in fields.types().iter().enumerate() {
-            if number >= self.most_fields() {
+            if number >= self.most_fields() || (number > 0 && self.is_full()) {
                 self.put(", ..")?;
                 break;
             }
@@ -393,12 +429,12 @@ fn first_of(ordinal: Ordinal) -> i64 {
 // The number of a value of an ordinal type at an address: of a byte, or of a word with its sign.
 fn simple_at(machine: &Machine, ordinal: Ordinal, at: u32) -> Option<i64> {
     if is_byte(ordinal) {
-        return match byte(machine, at) {
+        return match byte_at(machine, at) {
             Some(value) => Some(i64::from(value)),
             None => None,
         };
     }
-    match word(machine, at) {
+    match word_at(machine, at) {
         Some(value) => Some(i64::from(i32::from_le_bytes(value.to_le_bytes()))),
         None => None,
     }
