@@ -83,6 +83,34 @@ def assignments(k: int) -> str:
     return "; ".join(["x := 1"] * SIDE_BY_SIDE)
 
 
+def small(k: int) -> str:
+    """Three small routines, which call those before them."""
+    before = max(k - 1, 0)
+    return (
+        f"procedure p{k}(var r: integer; n: integer);\nbegin\n  r := n + {k}\nend;\n"
+        f"function g{k}(m, n: integer): integer;\nbegin\n  if m < n then g{k} := g{before}(n, m) else g{k} := m - n\nend;\n"
+        f"procedure c{k};\nbegin\n  p{before}(x, g{before}(a, b)); p{k}(b, {k % 1000}); x := g{k}(x, g{before}(a, c))\nend;\n"
+    )
+
+
+def structured(k: int) -> str:
+    """A routine over records, an array of them, and sets."""
+    return (
+        f"procedure r{k}(var p: line; n: integer);\nvar q: point; s, t: digits;\nbegin\n  q.x := n; q.y := {k % 97}; p.start := q;\n"
+        f"  with p.stop do begin x := q.y + 1; y := q.x - p.start.y end;\n  s := [{k % 10}, n mod 32..17]; t := s + [n mod 7] - [3..5];\n"
+        f"  if {k % 32} in s * t then path[{k % 10}] := p\n  else if s <= t then path[n mod 10].stop.x := path[{k % 7}].start.y\nend;\n"
+    )
+
+
+def mixed(k: int) -> str:
+    """Statements of several kinds, with names of some length: Free Pascal has 65,535 registers for a routine, before it places them."""
+    return (
+        f"counter := counter + {k % 97}; if greatest < total then greatest := total else begin total := counter; position := 1 end;\n"
+        f"while (position < {k % 31}) and y do begin position := position + 1; y := odd(counter) end;\n"
+        f"for x := 1 to {k % 11} do total := total + position;\ncase counter of 1: greatest := {k % 13}; 2: repeat counter := counter + 2 until counter > total end"
+    )
+
+
 def named(length: int, declare: str, use: str) -> str:
     """Names that are declared together in four fifths of the text, and uses of them in an order that is none of theirs."""
     room = room_in(length)
@@ -97,12 +125,22 @@ def choice(length: int, element: Callable[[int], str], between: str, tail: str) 
     return whole(length, "", [frame.format(between.join(parts_of(element, room_in(length) - len(frame))))])
 
 
+RECORDS = (
+    "program bench(output);\ntype point = record x, y: integer end; line = record start, stop: point end; digits = set of 0..31;\n"
+    "var a, b, c, x: integer; y: Boolean; path: array [0..9] of line;\n"
+)
+
+MORE = "counter, greatest, total, position: integer;\n"
+
 TEXTS = {
     "routines": program(routine, None),
     "expressions": program(expression, None),
     "parentheses": program(None, nest),
     "statements": program(None, blocks),
     "remarks": program(None, remarks),
+    "calls": program(small, None),
+    "records": RECORDS + program(structured, None, LENGTH - len(RECORDS) + len(HEAD))[len(HEAD) :],
+    "one": whole(LENGTH, MORE, parts_of(mixed, room_in(LENGTH) - len(MORE))),
 }
 
 SHAPES = {

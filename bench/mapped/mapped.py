@@ -23,8 +23,6 @@ TOKEN = re.compile(rb"""(?P<space>[ \t\r\n\f]+|\{[^}]*?(?:\}|\*\))|\(\*.*?(?:\*\
 # Words that end an expression where nothing is open.
 ENDS = {";", "then", "do", "of", "to", "downto", "end", "until", "else"}
 
-sys.setrecursionlimit(20_000)  # a text may have 500 statements within one another
-
 
 class Bad(Exception):
     pass
