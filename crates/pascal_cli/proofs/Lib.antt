@@ -17,3 +17,4 @@ pub mod RowReads
 mod Settled
 pub mod Shown
 pub mod TopicWalk
+pub mod Watches

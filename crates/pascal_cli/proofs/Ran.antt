@@ -1,32 +1,27 @@
 -- Runs of images that were built.
-use Rattle.std.proofs.Common.{◌≡◌, ◌⊎◌, inl, inr, ℕ, Bool, List, Ok, Err, subst, sym}
+use Rattle.std.proofs.Common.{◌≡◌, ℕ, Bool, List, Ok, Err, subst}
 use Rattle.risc_machine.specs.Console.{World}
 use Rattle.risc_load.specs.declared.budget.Budget.{Budget}
+use Rattle.ps_build.specs.Headline.{Compiles}
 use Rattle.ps_build.specs.Runs.{IsRunRefused}
 use Rattle.ps_build.specs.declared.outcome.Outcome.{Outcome}
 use Rattle.ps_build.specs.declared.refusal.Refusal.{Refusal}
 use Rattle.pascal_cli.specs.Command.{Limits}
-use Rattle.pascal_cli.specs.Jobs.{IsBuilt, RanBuilt, RanImage, budget_of}
+use Rattle.pascal_cli.specs.Jobs.{RanImage, RanOf, budget_of}
 use Rattle.pascal_cli.specs.Report.{status_of}
 use Rattle.pascal_cli.specs.Runs.{RunsThrough}
 
-module _ (bytes : List ℕ) (limits : Limits) (old new : World) (held : List ℕ) (failed : Bool) (status : ℕ) where
-  pub built_ran : IsBuilt bytes → RanImage bytes limits old new held failed status → RanBuilt limits status
-  built_ran built ran = record {
-    text = built.0;
-    image = bytes;
-    compiles = built.1;
-    old = old;
-    new = new;
-    held = held;
-    has_failed = failed;
-    ran = ran;
-  }
-
-  pub built_or : IsBuilt bytes → (status ≡ 1) ⊎ RanImage bytes limits old new held failed status
-      → (status ≡ 1) ⊎ RanBuilt limits status
-  built_or built (inl e) = inl e
-  built_or built (inr ran) = inr (built_ran built ran)
+pub ran_of : (text bytes : List ℕ) (limits : Limits) (old new : World) (held : List ℕ) (failed : Bool) (status : ℕ)
+    → Compiles text bytes → RanImage bytes limits old new held failed status → RanOf text limits status
+ran_of text bytes limits old new held failed status compiles ran = record {
+  image = bytes;
+  compiles = compiles;
+  old = old;
+  new = new;
+  held = held;
+  has_failed = failed;
+  ran = ran;
+}
 
 module _ (image bytes : List ℕ) (limits : Limits) (budget : Budget) (old new : World) (held : List ℕ) (failed : Bool) (status : ℕ) where
   -- a run that ended, of an image that was read so and with such a budget
@@ -51,10 +46,3 @@ module _ (image bytes : List ℕ) (limits : Limits) (budget : Budget) (old new :
     ),
     is,
   )
-
--- the status of one of two runs
-pub first_of_two : (limits : Limits) (status next result : ℕ) → (result ≡ status) ⊎ (result ≡ next)
-    → (status ≡ 1) ⊎ RanBuilt limits status → (next ≡ 1) ⊎ RanBuilt limits next
-    → (result ≡ 1) ⊎ RanBuilt limits result
-first_of_two limits status next result (inl e) one other = subst (λ s. (s ≡ 1) ⊎ RanBuilt limits s) (sym e) one
-first_of_two limits status next result (inr e) one other = subst (λ s. (s ≡ 1) ⊎ RanBuilt limits s) (sym e) other

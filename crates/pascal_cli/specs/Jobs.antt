@@ -103,8 +103,7 @@ pub record RanSomeText (limits : Limits) (status : ℕ) : Type 0 where
   pub ran : RanText text limits old new held has_failed status
 
 -- a text was built, and its image was run
-pub record RanBuilt (limits : Limits) (status : ℕ) : Type 0 where
-  pub text : List ℕ
+pub record RanOf (text : List ℕ) (limits : Limits) (status : ℕ) : Type 0 where
   pub image : List ℕ
   pub compiles : Compiles text image
   pub old : World
@@ -112,6 +111,9 @@ pub record RanBuilt (limits : Limits) (status : ℕ) : Type 0 where
   pub held : List ℕ
   pub has_failed : Bool
   pub ran : RanImage image limits old new held has_failed status
+
+abbrev pub RanBuilt : Limits → ℕ → Type 0
+RanBuilt limits status = (text : List ℕ) × RanOf text limits status
 
 -- ---- jobs
 

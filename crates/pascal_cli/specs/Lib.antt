@@ -12,3 +12,4 @@ pub mod Report
 pub mod Runs
 pub mod Session
 pub mod Transfers
+pub mod Watched

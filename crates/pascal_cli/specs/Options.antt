@@ -1,6 +1,7 @@
 -- The options that are taken out of the words before `clap` reads them: how much is told, how, and where it goes.
-use Rattle.std.specs.Prelude.{Bool, true, false, ◌||◌, not, List, [], ◌∷◌, codes, if◌then◌else◌}
+use Rattle.std.specs.Prelude.{Bool, true, false, ◌||◌, not, List, [], ◌∷◌, codes, nat_eq, if◌then◌else◌}
 use Rattle.std.specs.Str.{bytes_eq}
+use Rattle.std.specs.List.{starts_with}
 use Rattle.pascal_cli.specs.Command.{Text}
 use Rattle.pascal_cli.specs.declared.options.Part.{Part}
 use Rattle.pascal_cli.specs.declared.options.Part.TheVariants.{Closed, Open, Value}
@@ -36,9 +37,25 @@ has_value command word =
     else if bytes_eq command (codes "cover") then bytes_eq word (codes "--input")
     else false
 
+-- the word begins with this
+abbrev pub begins_with : Text → Text → Bool
+begins_with word front = starts_with nat_eq word front
+
+abbrev pub is_trace_joined : Text → Bool
+is_trace_joined word = begins_with word (codes "--from=") || (begins_with word (codes "--to=")
+    || (begins_with word (codes "--routine=") || begins_with word (codes "--first=")))
+
+-- a word is such an option with its value, `--name=value`
+abbrev pub is_joined : Text → Text → Bool
+is_joined command word =
+    if bytes_eq command (codes "compile") then begins_with word (codes "--map=")
+    else if bytes_eq command (codes "trace") then is_trace_joined word
+    else if bytes_eq command (codes "cover") then begins_with word (codes "--input=")
+    else false
+
 -- a word stays among the words
 abbrev pub stays : Text → Part → Text → Bool
-stays command Open word = not (is_flag command word || has_value command word)
+stays command Open word = not (is_flag command word || (has_value command word || is_joined command word))
 stays command Value word = false
 stays command Closed word = true
 

@@ -1,6 +1,6 @@
 //! What fails while a command is done. Nothing outside this file tells of a failure but by one.
 
-ghost use Rattle.std.specs.Prelude.{◌≡◌, ◌<◌, ◌^◌, false, map, not};
+ghost use Rattle.std.specs.Prelude.{◌≡◌, ◌<◌, ◌^◌, false, map, not, true};
 ghost use Rattle.pascal_cli.specs.Failures.{Keeps, Notes, NotesFault, TellsRefusal, has_failed, is_named};
 ghost use Rattle.pascal_cli.specs.Failures.{is_named_twice, made, status_after};
 
@@ -30,7 +30,7 @@ fn is_named_twice(paths: &[&str]) -> bool
     (is_standard(path) && is_named(behind)) || is_named_twice(behind)
 }
 
-/// Whether something failed until now: a read, a write, or a growth of memory.
+/// Whether something failed until now: a read, a write, a growth of memory, or a run that was to be traced.
 #[derive(Drop)]
 pub(crate) struct Failures {
     is_any: bool,
@@ -57,6 +57,20 @@ impl Failures {
     {
         match read_at(rt, path, limit) {
             Ok(bytes) => Some(bytes),
+            Err(_) => {
+                self.is_any = true;
+                None
+            }
+        }
+    }
+
+    /// What was read. Where it could not be, that was told.
+    pub(crate) fn got<T>(&mut self, read: Result<T, u8>) -> Option<T>
+        ensures value { result ≡ made read }
+        ensures noted { Notes result (has_failed self.old) (has_failed self.new) }
+    {
+        match read {
+            Ok(read) => Some(read),
             Err(_) => {
                 self.is_any = true;
                 None
@@ -111,6 +125,15 @@ impl Failures {
                 true
             }
         }
+    }
+
+    /// Tells why there was no run, and gives the status of that.
+    pub(crate) fn no_run<R: Eprint + AllocGlobal>(&mut self, rt: &R, refusal: Refusal) -> u8
+        ensures status { result ≡ FAILED }
+        ensures noted { has_failed self.new ≡ true }
+    {
+        self.is_any = true;
+        tell(rt, &Err(refusal))
     }
 
     /// Writes to standard output. Where that fails, it is told.

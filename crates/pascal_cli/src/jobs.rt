@@ -10,8 +10,8 @@ ghost use Rattle.pascal_cli.specs.Command as work;
 ghost use Rattle.pascal_cli.specs.Command.{request_in, work_of};
 ghost use Rattle.pascal_cli.specs.Console.{console_world, has_failed, held_of};
 ghost use Rattle.pascal_cli.specs.Explain.{has_page};
-ghost use Rattle.pascal_cli.specs.Jobs.{IsBuilt, IsStatus, IsWritten, RanBuilt, RanImage, RanText, budget_of};
-ghost use Rattle.pascal_cli.specs.Jobs.{limits_in};
+ghost use Rattle.pascal_cli.specs.Jobs.{IsBuilt, IsRefusedText, IsStatus, IsWritten, RanImage, RanOf, RanText};
+ghost use Rattle.pascal_cli.specs.Jobs.{budget_of, limits_in};
 ghost use Rattle.pascal_cli.specs.Jobs.{status_of_write};
 ghost use Rattle.pascal_cli.specs.Transfers.{device_of, faults_of};
 
@@ -82,7 +82,9 @@ pub(crate) fn do_job<R: Files + Print + Eprint + Input + Env + AllocGlobal>(
             image,
         } => verify(rt, &mut Failures::new(), job, certificate, source, image),
         Task::Needs { source } => needs(rt, &mut Failures::new(), job, source),
-        Task::Watch { how, source } => watch(rt, job, *how, source, options),
+        Task::Watch { how, source } => {
+            watch(rt, &mut Failures::new(), job, *how, source, options)
+        },
     }
 }
 
@@ -461,7 +463,7 @@ fn tell_usage<R: Eprint + AllocGlobal>(rt: &R, usage: Usage) {
 
 // Builds a text, runs its image and tells what the run took.
 fn measure_text<R: Print + Eprint + Input + AllocGlobal>(rt: &R, job: &Job<'_>, text: &[u8]) -> u8
-    ensures { (result ≡ FAILED) ⊎ RanBuilt (limits_in job.now) result }
+    ensures { RanOf text.now (limits_in job.now) result ⊎ ((result ≡ FAILED) × IsRefusedText text.now) }
 {
     match build(rt.alloc(), text) {
         Ok(built) => measure_image(rt, job, built.bytes(), &mut console(rt)),

@@ -3,8 +3,8 @@
 //! Contracts tell which words stay. What is told by an option, no contract tells.
 
 ghost use Rattle.std.specs.Prelude.{◌≡◌, ◌++◌, IfOk, OnOk, [], ◌∷◌, if◌then◌else◌, map};
-ghost use Rattle.pascal_cli.specs.Options.{has_value, is_check_flag, is_flag, is_trace_value, is_why_flag, next_part};
-ghost use Rattle.pascal_cli.specs.Options.{plain_words, stays, without_options};
+ghost use Rattle.pascal_cli.specs.Options.{begins_with, has_value, is_check_flag, is_flag, is_joined, is_trace_joined};
+ghost use Rattle.pascal_cli.specs.Options.{is_trace_value, is_why_flag, next_part, plain_words, stays, without_options};
 ghost use Rattle.pascal_cli.specs.declared.options.Part.TheVariants.{Open};
 
 use std::alloc::{AllocError, Global};
@@ -129,12 +129,42 @@ fn has_value(command: &str, word: &str) -> bool
     }
 }
 
+// Whether a word begins with another.
+fn begins_with(word: &str, front: &str) -> bool
+    ensures { result ≡ begins_with word.now front.now }
+{
+    word.as_bytes().starts_with(front.as_bytes())
+}
+
+fn is_trace_joined(word: &str) -> bool
+    ensures { result ≡ is_trace_joined word.now }
+{
+    begins_with(word, "--from=")
+        || begins_with(word, "--to=")
+        || begins_with(word, "--routine=")
+        || begins_with(word, "--first=")
+}
+
+// Whether a word is such an option with its value, `--name=value`.
+fn is_joined(command: &str, word: &str) -> bool
+    ensures { result ≡ is_joined command.now word.now }
+{
+    match command {
+        "compile" => begins_with(word, "--map="),
+        "trace" => is_trace_joined(word),
+        "cover" => begins_with(word, "--input="),
+        _ => false,
+    }
+}
+
 // Whether a word stays among the words.
 fn stays(command: &str, part: Part, word: &str) -> bool
     ensures { result ≡ stays command.now part word.now }
 {
     match part {
-        Part::Open => !(is_flag(command, word) || has_value(command, word)),
+        Part::Open => {
+            !(is_flag(command, word) || has_value(command, word) || is_joined(command, word))
+        }
         Part::Value => false,
         Part::Closed => true,
     }
@@ -279,6 +309,14 @@ fn take_value<'a>(
     Ok(())
 }
 
+// Takes an option that has its value in the same word.
+fn take_joined<'a>(options: &mut Options<'a>, word: &'a str) -> Result<(), OptionFault<'a>> {
+    match word.split_once('=') {
+        Some((option, value)) => take_value(options, option, value),
+        None => Ok(()),
+    }
+}
+
 /// What the options behind a command ask for.
 pub(crate) fn options_of<'a>(
     alloc: Global,
@@ -296,6 +334,8 @@ pub(crate) fn options_of<'a>(
         }
         if is_flag(command, word) {
             take_flag(&mut options, word);
+        } else if is_joined(command, word) {
+            take_joined(&mut options, *word)?;
         } else if has_value(command, word) {
             let [value, further @ ..] = behind else {
                 return Err(OptionFault::NoValue(*word));

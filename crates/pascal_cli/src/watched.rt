@@ -2,15 +2,20 @@
 //!
 //! What is told of a run is advice. That the run is the one of the image that was built of the text, and its status, contracts tell.
 
-ghost use Rattle.std.specs.Prelude.{◌≡◌, ◌⊎◌, IfErr, IfOk};
+ghost use Rattle.std.specs.Prelude.{◌≡◌, ◌<◌, IfErr, IfSome, false, is_some, length};
 ghost use Rattle.ps_build.specs.Headline.{Compiles};
 ghost use Rattle.pascal_cli.specs.Command as work;
 ghost use Rattle.pascal_cli.specs.Command.{request_in, work_of};
-ghost use Rattle.pascal_cli.specs.Console.{console_world, has_failed, held_of};
-ghost use Rattle.pascal_cli.specs.Jobs.{IsBuilt, IsStatus, RanBuilt, RanImage, limits_in};
+ghost use Rattle.pascal_cli.specs.Console as block;
+ghost use Rattle.pascal_cli.specs.Console.{console_world, held_of};
+ghost use Rattle.pascal_cli.specs.Failures.{Keeps, Notes, has_failed};
+ghost use Rattle.pascal_cli.specs.Jobs.{IsStatus, RanImage, limits_in};
 ghost use Rattle.pascal_cli.specs.Report.{status_of};
+ghost use Rattle.pascal_cli.specs.Watched.{Covers, IsRun, IsTraced, IsWatched, IsWatchedFile, IsWatchedText};
+ghost use Rattle.pascal_cli.specs.Watched.{first_failed, has_routine, lacks_routine, names_routine, routine_of};
 
 use crate::console::BlockConsole;
+use crate::failures::Failures;
 use crate::job::{Job, Watch};
 use crate::jobs::{budget_of, console};
 use crate::options::Options;
@@ -18,7 +23,7 @@ use crate::report::{message, status};
 use crate::runs::{Left, Tracing, counts_through, end_through, trace_through};
 use crate::session::{FAILED, TEXT_LIMIT, out_of_memory, read_file, tell};
 use crate::transfer::{Counted, ReadFault, read_up_to};
-use ps_build::{Ended, Outcome, Refusal, Variables, build_mapped};
+use ps_build::{Ended, Mapped, Outcome, Refusal, Variables, build_mapped};
 use ps_diagnose::nearest;
 use ps_map::{Map, MappedText, map_of_text};
 use ps_trace::{
@@ -39,6 +44,13 @@ const LONGEST_COMPARED: usize = 64;
 // The mark of lines that readers of the form of `lcov` pass over.
 const COMMENT: &str = "# ";
 
+/// A text, and its path as messages name it.
+#[derive(Clone, Copy)]
+struct TextFile<'a> {
+    path: &'a str,
+    text: &'a [u8],
+}
+
 /// A text that is run, its path as messages name it, and the program that was built of it.
 #[derive(Clone, Copy)]
 struct Program<'a> {
@@ -50,59 +62,88 @@ struct Program<'a> {
 /// Runs the text at a path, and tells of the run what is asked.
 pub(crate) fn watch<R: Files + Print + Eprint + Input + AllocGlobal>(
     rt: &R,
+    failures: &mut Failures,
     job: &Job<'_>,
     how: Watch,
     path: &str,
     options: &Options<'_>,
 ) -> u8
     requires { work_of job.now.task ≡ work.watch how path.now }
-    ensures { IsStatus (request_in job.now) result }
+    ensures answer { IsWatchedFile (limits_in job.now) (names_routine how options.now) (has_failed failures.new) result }
+    ensures status { IsStatus (request_in job.now) result }
 {
-    let text = match read_file(rt, path, TEXT_LIMIT) {
-        Ok(text) => text,
-        Err(status) => return status,
-    };
-    match prepared_of(rt.alloc(), &text) {
-        Ok(prepared) => {
-            let program = Program {
-                path,
-                text: &text,
-                prepared: &prepared,
-            };
-            watch_program(rt, job, how, program, options)
+    let read = read_file(rt, path, TEXT_LIMIT);
+    match failures.got(read) {
+        Some(text) => {
+            let file = TextFile { path, text: &text };
+            watch_text(rt, failures, job, how, file, options)
         }
-        Err(refusal) => tell(rt, &Err(refusal)),
+        None => FAILED,
     }
 }
 
-// Builds a text, with its map.
-fn prepared_of(alloc: Global, text: &[u8]) -> Result<Prepared, Refusal>
-    ensures { IfOk result (λ prepared. Compiles text.now prepared.text.mapped.built) }
+// Builds a text, runs it, and tells of the run what is asked.
+fn watch_text<R: Files + Print + Eprint + Input + AllocGlobal>(
+    rt: &R,
+    failures: &mut Failures,
+    job: &Job<'_>,
+    how: Watch,
+    file: TextFile<'_>,
+    options: &Options<'_>,
+) -> u8
+    ensures { IsWatchedText file.entry.text.now (limits_in job.now) (names_routine how options.now)
+        (has_failed failures.new) result }
 {
-    let mapped = build_mapped(alloc, text, Variables::InFrames)?;
-    match map_of_text(alloc, text, &mapped) {
-        Ok(map) => Ok(Prepared {
-            text: MappedText { mapped, map },
-        }),
-        Err(_) => Err(Refusal::OutOfMemory),
-    }
+    let mapped = match build_mapped(rt.alloc(), file.text, Variables::InFrames) {
+        Ok(mapped) => mapped,
+        Err(refusal) => return tell(rt, &Err(refusal)),
+    };
+    let Some(prepared) = prepared_of(rt, failures, file.text, mapped) else {
+        return FAILED;
+    };
+    let program = Program {
+        path: file.path,
+        text: file.text,
+        prepared: &prepared,
+    };
+    watch_program(rt, failures, job, how, program, options)
+}
+
+// The program that was built of a text, with its map.
+fn prepared_of<R: Eprint + AllocGlobal>(
+    rt: &R,
+    failures: &mut Failures,
+    text: &[u8],
+    mapped: Mapped,
+) -> Option<Prepared>
+    requires { Compiles text.now mapped.built }
+    ensures compiles { IfSome result (λ prepared. Compiles text.now prepared.text.mapped.built) }
+    ensures noted { Notes result (has_failed failures.old) (has_failed failures.new) }
+{
+    let map = map_of_text(rt.alloc(), text, &mapped);
+    let map = failures.made(rt, map)?;
+    Some(Prepared {
+        text: MappedText { mapped, map },
+    })
 }
 
 fn watch_program<R: Files + Print + Eprint + Input + AllocGlobal>(
     rt: &R,
+    failures: &mut Failures,
     job: &Job<'_>,
     how: Watch,
     program: Program<'_>,
     options: &Options<'_>,
 ) -> u8
-    requires { IsBuilt program.prepared.now.text.mapped.built }
-    ensures { (result ≡ FAILED) ⊎ RanBuilt (limits_in job.now) result }
+    requires { Compiles program.text.now program.prepared.now.text.mapped.built }
+    ensures { IsWatched program.entry.text.now (limits_in job.now) (names_routine how options.now)
+        (has_failed failures.new) result }
 {
     match how {
         Watch::Why => why(rt, job, program, &mut console(rt), options),
-        Watch::Trace => trace(rt, job, program, &mut console(rt), options),
-        Watch::Cover => cover(rt, job, program, options),
-        Watch::Profile => profile(rt, job, program),
+        Watch::Trace => trace(rt, failures, job, program, &mut console(rt), options),
+        Watch::Cover => cover(rt, failures, job, program, options),
+        Watch::Profile => profile(rt, failures, job, program),
     }
 }
 
@@ -117,7 +158,7 @@ fn why<R: Eprint + AllocGlobal, I: BufRead, O: Write>(
 ) -> u8
     ensures { RanImage program.entry.prepared.now.text.mapped.built (limits_in job.now)
         (console_world I.remaining O.contents console.old) (console_world I.remaining O.contents console.new)
-        (held_of console.new) (has_failed console.new) result }
+        (held_of console.new) (block.has_failed console.new) result }
 {
     let image = program.prepared.text.mapped.built.bytes();
     match end_through(rt.alloc(), image, budget_of(job), console, job.steps) {
@@ -190,14 +231,23 @@ fn account_told(
 
 // ---- trace
 
-// The routine that is asked for, if the program has none of that name.
-fn unknown_routine<'a>(map: &Map, options: &Options<'a>) -> Option<&'a str> {
-    let name = options.traces.routine?;
-    let is_known = map
-        .routines
+// Whether a program has a routine of a name.
+fn has_routine(map: &Map, name: &str) -> bool
+    ensures { result ≡ has_routine map.now name.now }
+{
+    map.routines
         .iter()
-        .any(|routine| routine.name.as_str().eq_ignore_ascii_case(name));
-    if is_known { None } else { Some(name) }
+        .any(|routine| routine.name.as_str().eq_ignore_ascii_case(name))
+}
+
+// The routine that is asked for, if the program has none of that name.
+fn unknown_routine<'a>(map: &Map, options: &Options<'a>) -> Option<&'a str>
+    ensures { is_some result ≡ lacks_routine map.now (routine_of options.now) }
+{
+    match options.traces.routine {
+        Some(name) if !has_routine(map, name) => Some(name),
+        _ => None,
+    }
 }
 
 // The routine of a program whose name is the nearest one by its spelling.
@@ -253,20 +303,43 @@ impl<'a, R: Eprint> Teller for Lines<'a, R> {
     }
 }
 
+// Tells the statements of a run, if the program has the routine that is asked for.
 fn trace<R: Eprint + AllocGlobal, I: BufRead, O: Write>(
     rt: &R,
+    failures: &mut Failures,
     job: &Job<'_>,
     program: Program<'_>,
     console: &mut BlockConsole<I, O>,
     options: &Options<'_>,
 ) -> u8
-    ensures { (result ≡ FAILED) ⊎ RanImage program.entry.prepared.now.text.mapped.built (limits_in job.now)
+    ensures { IsTraced (lacks_routine program.entry.prepared.now.text.map (routine_of options.now))
         (console_world I.remaining O.contents console.old) (console_world I.remaining O.contents console.new)
-        (held_of console.new) (has_failed console.new) result }
+        (has_failed failures.new) result
+        (RanImage program.entry.prepared.now.text.mapped.built (limits_in job.now)
+        (console_world I.remaining O.contents console.old) (console_world I.remaining O.contents console.new)
+        (held_of console.new) (block.has_failed console.new) result) }
 {
-    if let Some(name) = unknown_routine(&program.prepared.text.map, options) {
-        return tell_no_routine(rt, program, name);
+    match unknown_routine(&program.prepared.text.map, options) {
+        Some(name) => tell_no_routine(rt, program, name),
+        None => trace_run(rt, failures, job, program, console, options),
     }
+}
+
+fn trace_run<R: Eprint + AllocGlobal, I: BufRead, O: Write>(
+    rt: &R,
+    failures: &mut Failures,
+    job: &Job<'_>,
+    program: Program<'_>,
+    console: &mut BlockConsole<I, O>,
+    options: &Options<'_>,
+) -> u8
+    ensures { IsTraced false
+        (console_world I.remaining O.contents console.old) (console_world I.remaining O.contents console.new)
+        (has_failed failures.new) result
+        (RanImage program.entry.prepared.now.text.mapped.built (limits_in job.now)
+        (console_world I.remaining O.contents console.old) (console_world I.remaining O.contents console.new)
+        (held_of console.new) (block.has_failed console.new) result) }
+{
     let choice = Choice {
         from: options.traces.from,
         to: options.traces.to,
@@ -279,18 +352,27 @@ fn trace<R: Eprint + AllocGlobal, I: BufRead, O: Write>(
         prepared: program.prepared,
         choice,
     };
-    let end = trace_through(
+    match trace_through(
         rt.alloc(),
         tracing,
         budget_of(job),
         console,
         job.steps,
         Lines { rt },
-    );
-    tell(rt, &end)
+    ) {
+        Ok(outcome) => tell(rt, &Ok(outcome)),
+        Err(refusal) => failures.no_run(rt, refusal),
+    }
 }
 
 // ---- cover
+
+/// A file whose bytes a run has as its input, and what stands before the lines that tell of it.
+#[derive(Clone, Copy)]
+struct InputFile<'a> {
+    path: &'a str,
+    mark: &'static str,
+}
 
 /// What stands before the lines that tell how a run ended.
 #[derive(Clone, Copy)]
@@ -324,48 +406,76 @@ fn tell_end<R: Eprint + AllocGlobal>(rt: &R, voice: Voice<'_>, end: &Result<Outc
     }
 }
 
+// What stands before the lines that tell how the runs ended.
+fn mark_of(options: &Options<'_>) -> &'static str {
+    if options.lcov { COMMENT } else { "" }
+}
+
 fn cover<R: Files + Print + Eprint + Input + AllocGlobal>(
     rt: &R,
+    failures: &mut Failures,
     job: &Job<'_>,
     program: Program<'_>,
     options: &Options<'_>,
 ) -> u8
-    requires { IsBuilt program.prepared.now.text.mapped.built }
-    ensures { (result ≡ FAILED) ⊎ RanBuilt (limits_in job.now) result }
+    requires { Compiles program.text.now program.prepared.now.text.mapped.built }
+    ensures { IsRun program.entry.text.now (limits_in job.now) (has_failed failures.new) result }
 {
-    let Ok(mut counts) = no_counts(rt.alloc(), program.prepared) else {
-        return out_of_memory(rt);
+    let counts = no_counts(rt.alloc(), program.prepared);
+    let Some(mut counts) = failures.made(rt, counts) else {
+        return FAILED;
     };
-    let mark = if options.lcov { COMMENT } else { "" };
-    let status = if options.inputs.is_empty() {
-        let voice = Voice { mark, input: None };
-        count(rt, job, program, &mut console(rt), &mut counts, voice)
-    } else {
-        let inputs = options.inputs.as_slice();
-        cover_files(rt, job, program, inputs, &mut counts, mark)
-    };
+    let status = cover_runs(rt, failures, job, program, options, &mut counts);
     tell_coverage(rt, program, options, &counts);
     status
 }
 
-// Runs a program on each of some files, and gives the status of the first run that failed.
-fn cover_files<R: Files + Print + Eprint + AllocGlobal>(
+// Runs a program on standard input, or on each of the files that the options name.
+fn cover_runs<R: Files + Print + Eprint + Input + AllocGlobal>(
     rt: &R,
+    failures: &mut Failures,
     job: &Job<'_>,
     program: Program<'_>,
-    inputs: &[&str],
+    options: &Options<'_>,
     counts: &mut Counts,
-    mark: &'static str,
 ) -> u8
-    requires { IsBuilt program.prepared.now.text.mapped.built }
-    ensures { (result ≡ FAILED) ⊎ RanBuilt (limits_in job.now) result }
+    requires { Compiles program.text.now program.prepared.now.text.mapped.built }
+    ensures { IsRun program.entry.text.now (limits_in job.now) (has_failed failures.new) result }
 {
-    let [first, behind @ ..] = inputs else {
-        return FAILED;
+    if !options.inputs.is_empty() {
+        return cover_files(rt, failures, job, program, options, counts);
+    }
+    let voice = Voice {
+        mark: mark_of(options),
+        input: None,
     };
-    let mut status = cover_file(rt, job, program, first, counts, mark);
-    for input in behind {
-        let next = cover_file(rt, job, program, input, counts, mark);
+    count(rt, job, program, &mut console(rt), counts, voice)
+}
+
+// Runs a program on each of some files, of which there is one, and gives the status of the first run that failed.
+fn cover_files<R: Files + Print + Eprint + AllocGlobal>(
+    rt: &R,
+    failures: &mut Failures,
+    job: &Job<'_>,
+    program: Program<'_>,
+    options: &Options<'_>,
+    counts: &mut Counts,
+) -> u8
+    requires compiles { Compiles program.text.now program.prepared.now.text.mapped.built }
+    requires some { 0 < length options.now.inputs.items }
+    ensures { Covers (IsRun program.entry.text.now (limits_in job.now) (has_failed failures.new))
+        (length options.now.inputs.items) result }
+{
+    let mark = mark_of(options);
+    let inputs = options.inputs.as_slice();
+    let first = InputFile {
+        path: inputs[0],
+        mark,
+    };
+    let mut status = cover_file(rt, failures, job, program, first, counts);
+    for input in &inputs[1..] {
+        let file = InputFile { path: input, mark };
+        let next = cover_file(rt, failures, job, program, file, counts);
         status = first_failed(status, next);
     }
     status
@@ -373,27 +483,24 @@ fn cover_files<R: Files + Print + Eprint + AllocGlobal>(
 
 // The status of the first of two runs that failed.
 fn first_failed(status: u8, next: u8) -> u8
-    ensures { (result ≡ status) ⊎ (result ≡ next) }
+    ensures { result ≡ first_failed status next }
 {
     if status == 0 { next } else { status }
 }
 
 // The bytes of an input. Where it can't be opened or read, that is told, and the status is given.
-fn read_input<R: Files + Eprint + AllocGlobal>(
-    rt: &R,
-    input: &str,
-    mark: &'static str,
-) -> Result<Vec<u8>, u8>
+fn read_input<R: Files + Eprint + AllocGlobal>(rt: &R, file: InputFile<'_>) -> Result<Vec<u8>, u8>
     ensures { IfErr result (λ status. status ≡ FAILED) }
 {
-    let bytes = match fs::open(rt, input) {
+    let InputFile { path, mark } = file;
+    let bytes = match fs::open(rt, path) {
         Ok(file) => read_up_to(rt.alloc(), &mut Counted::new(file), INPUT_LIMIT),
         Err(_) => Err(ReadFault::Device),
     };
     match bytes {
         Ok(bytes) => Ok(bytes),
         Err(_) => {
-            let _ = eprintln!(rt; "{mark}cannot read {input}");
+            let _ = eprintln!(rt; "{mark}cannot read {path}");
             Err(FAILED)
         }
     }
@@ -402,26 +509,28 @@ fn read_input<R: Files + Eprint + AllocGlobal>(
 // Runs a program on the bytes of a file.
 fn cover_file<R: Files + Print + Eprint + AllocGlobal>(
     rt: &R,
+    failures: &mut Failures,
     job: &Job<'_>,
     program: Program<'_>,
-    input: &str,
+    file: InputFile<'_>,
     counts: &mut Counts,
-    mark: &'static str,
 ) -> u8
-    requires { IsBuilt program.prepared.now.text.mapped.built }
-    ensures { (result ≡ FAILED) ⊎ RanBuilt (limits_in job.now) result }
+    requires { Compiles program.text.now program.prepared.now.text.mapped.built }
+    ensures kept { Keeps (has_failed failures.old) (has_failed failures.new) }
+    ensures run { IsRun program.entry.text.now (limits_in job.now) (has_failed failures.new) result }
 {
-    match read_input(rt, input, mark) {
-        Ok(bytes) => {
+    let read = read_input(rt, file);
+    match failures.got(read) {
+        Some(bytes) => {
             let voice = Voice {
-                mark,
-                input: Some(input),
+                mark: file.mark,
+                input: Some(file.path),
             };
             let reader = bytes.as_slice();
             let mut console = BlockConsole::new(rt.alloc(), reader, io::writer(rt));
             count(rt, job, program, &mut console, counts, voice)
         }
-        Err(status) => status,
+        None => FAILED,
     }
 }
 
@@ -436,7 +545,7 @@ fn count<R: Eprint + AllocGlobal, I: BufRead, O: Write>(
 ) -> u8
     ensures { RanImage program.entry.prepared.now.text.mapped.built (limits_in job.now)
         (console_world I.remaining O.contents console.old) (console_world I.remaining O.contents console.new)
-        (held_of console.new) (has_failed console.new) result }
+        (held_of console.new) (block.has_failed console.new) result }
 {
     let budget = budget_of(job);
     let end = counts_through(
@@ -481,14 +590,16 @@ fn tell_counts<R: Eprint + AllocGlobal>(rt: &R, told: Result<String, AllocError>
 
 fn profile<R: Print + Eprint + Input + AllocGlobal>(
     rt: &R,
+    failures: &mut Failures,
     job: &Job<'_>,
     program: Program<'_>,
 ) -> u8
-    requires { IsBuilt program.prepared.now.text.mapped.built }
-    ensures { (result ≡ FAILED) ⊎ RanBuilt (limits_in job.now) result }
+    requires { Compiles program.text.now program.prepared.now.text.mapped.built }
+    ensures { IsRun program.entry.text.now (limits_in job.now) (has_failed failures.new) result }
 {
-    let Ok(mut counts) = no_counts(rt.alloc(), program.prepared) else {
-        return out_of_memory(rt);
+    let counts = no_counts(rt.alloc(), program.prepared);
+    let Some(mut counts) = failures.made(rt, counts) else {
+        return FAILED;
     };
     let voice = Voice {
         mark: "",
