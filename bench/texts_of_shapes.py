@@ -732,6 +732,22 @@ def with_list_long(length: int) -> str:
 
 
 @shape()
+def with_list_long_names(length: int) -> str:
+    """A record that is half of the text, and opened in the other half by two names in turn."""
+    count = min(length // 10, MOST_CELLS // 2)
+    head = f"program p; type r=record {','.join(fields(count))}:char end; var b,c:r; begin with "
+    return filled(head, "b,c,", "b do a0:='a' end.\n", length)
+
+
+@shape()
+def with_list_long_pointers(length: int) -> str:
+    """A record that is half of the text, and opened in the other half by a pointer that is a field of the one before."""
+    names = ",".join(fields(min(length // 10, MOST_CELLS - 1)))
+    head = f"program p; type t=^r; r=record {names}:char;p:t end; var p:t; begin with "
+    return filled(head, "p^,", "p^ do a0:='a' end.\n", length)
+
+
+@shape()
 def with_list_long_fields(length: int) -> str:
     """A record that is a third of the text, opened in a third, with assignments in it."""
     names = ",".join(fields(min(length // 15, MOST_CELLS)))

@@ -3,3 +3,4 @@ pub mod ViewLemmas
 pub mod CodeLemmas
 pub mod OpenedLemmas
 pub mod NoteLemmas
+pub mod PlaceLemmas

@@ -17,23 +17,23 @@ use Rattle.ps_tree.specs.View.{type_of}
 use Rattle.ps_check_names.specs.Regions.{fields_of}
 use Rattle.ps_check_names.specs.Opened.{HasField, HasFieldsOf, at_place, reach_of, stands_for, Covers, Keeps, NoneBehind}
 
-none_some : {A : Type 0} {x : A} → (let n : Option A = None in n) ≡ Some x → ⊥
+pub none_some : {A : Type 0} {x : A} → (let n : Option A = None in n) ≡ Some x → ⊥
 none_some q = cc
 
-some_none : {A : Type 0} {x : A} → Some x ≡ None → ⊥
+pub some_none : {A : Type 0} {x : A} → Some x ≡ None → ⊥
 some_none q = cc
 
 abbrev or_else : {A : Type 0} → A → Option A → A
 or_else d None = d
 or_else d (Some x) = x
 
-inside : {A : Type 0} (x y : A) → Some x ≡ Some y → x ≡ y
+pub inside : {A : Type 0} (x y : A) → Some x ≡ Some y → x ≡ y
 inside x y e = ap (or_else x) e
 
-never : {A : Type 0} → false ≡ true → A
+pub never : {A : Type 0} → false ≡ true → A
 never e = absurd (cc)
 
-eq-or-not : (i j : ℕ) → (i ≡ j) ⊎ (i ≢ j)
+pub eq-or-not : (i j : ℕ) → (i ≡ j) ⊎ (i ≢ j)
 eq-or-not i j = by (nat_eq i j) refl
   where
     by : (b : Bool) → nat_eq i j ≡ b → (i ≡ j) ⊎ (i ≢ j)
@@ -60,7 +60,7 @@ same_itself (x ∷ xs) = ap (λ b. b && same xs xs) (eq-eqb x x refl) ∙ same_i
 -- ---- places
 
 module _ (s : List ℕ) where
-  within_from : (n : ℕ) (xs : List (List ℕ)) (i : ℕ) → position_from (same s) n xs ≡ Some i → i < n + length xs
+  pub within_from : (n : ℕ) (xs : List (List ℕ)) (i : ℕ) → position_from (same s) n xs ≡ Some i → i < n + length xs
   within_from n [] i e = absurd (none_some e)
   within_from n (x ∷ xs) i e = here (same s x) e (within_from (n + 1) xs i)
     where
@@ -69,7 +69,7 @@ module _ (s : List ℕ) where
       here true e rest = let z = inside n i e in omega (arith, z)
       here false e rest = let z = rest e in omega (arith, z)
 
-  kept_from : (n : ℕ) (xs ys : List (List ℕ)) (i : ℕ) → position_from (same s) n xs ≡ Some i → position_from (same s) n
+  pub kept_from : (n : ℕ) (xs ys : List (List ℕ)) (i : ℕ) → position_from (same s) n xs ≡ Some i → position_from (same s) n
       (xs ++ ys) ≡ Some i
   kept_from n [] ys i e = absurd (none_some e)
   kept_from n (x ∷ xs) ys i e = here (same s x) e (kept_from (n + 1) xs ys i)
@@ -80,7 +80,7 @@ module _ (s : List ℕ) where
       here true e rest = e
       here false e rest = rest e
 
-  new_from : (n : ℕ) (xs : List (List ℕ)) → position_from (same s) n xs ≡ None → position_from (same s) n (xs ++ s ∷ [])
+  pub new_from : (n : ℕ) (xs : List (List ℕ)) → position_from (same s) n xs ≡ None → position_from (same s) n (xs ++ s ∷ [])
       ≡ Some (n + length xs)
   new_from n [] e = ap (λ b. cond b (Some n) (position_from (same s) (n + 1) [])) (same_itself s)
       ∙ (let z : n ≡ n + 0 = omega arith in ap (λ k. Some k) z)
@@ -94,7 +94,7 @@ module _ (s : List ℕ) where
       here false e rest = rest e ∙ (let z : n + 1 + length xs ≡ n + suc (length xs) = omega arith in ap (λ k. Some k) z)
 
   -- the name at the place of a spelling is that spelling
-  placed : (n : ℕ) (xs : List (List ℕ)) (i : ℕ) → position_from (same s) n xs ≡ Some i → (m : ℕ) × (i ≡ n + m)
+  pub placed : (n : ℕ) (xs : List (List ℕ)) (i : ℕ) → position_from (same s) n xs ≡ Some i → (m : ℕ) × (i ≡ n + m)
       × (slice_get xs m ≡ Some s)
   placed n [] i e = absurd (none_some e)
   placed n (x ∷ xs) i e = here (same s x) refl e (placed (n + 1) xs i)
@@ -112,7 +112,7 @@ module _ (s : List ℕ) where
 
 -- ---- lists
 
-last_or : {A : Type 0} (xs : List A) (y : A) (i : ℕ) (x : A) (C : Type 0) → slice_get (xs ++ y ∷ []) i ≡ Some x
+pub last_or : {A : Type 0} (xs : List A) (y : A) (i : ℕ) (x : A) (C : Type 0) → slice_get (xs ++ y ∷ []) i ≡ Some x
     → (slice_get xs i ≡ Some x → C) → (i ≡ length xs → y ≡ x → C) → C
 last_or [] y zero x C e before last = last refl (inside y x e)
 last_or [] y (suc i) x C e before last = absurd (none_some e)
@@ -168,7 +168,7 @@ module _ (names : List (List ℕ)) (reaches reaches' : List ℕ) (s : List ℕ) 
   further_noted reach far = let f = ap (at_place reaches') there ∙ here_now in omega (arith, f, far)
 
 -- a new name
-none_any : (s : List ℕ) (n : ℕ) (xs : List (List ℕ)) → position_from (same s) n xs ≡ None → list_any (same s) xs ≡ false
+pub none_any : (s : List ℕ) (n : ℕ) (xs : List (List ℕ)) → position_from (same s) n xs ≡ None → list_any (same s) xs ≡ false
 none_any s n [] e = refl
 none_any s n (x ∷ xs) e = here (same s x) e (none_any s (n + 1) xs)
   where

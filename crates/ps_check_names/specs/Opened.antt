@@ -1,9 +1,9 @@
 -- What is noted of the fields of opened records, so that a name needs not be looked for in each of them.
-use Rattle.std.specs.Prelude.{◌≡◌, ◌+◌, ◌<◌, ◌≤◌, ℕ, Bool, false, ◌&&◌, nat_le, List, Option, Some, None, is_some}
+use Rattle.std.specs.Prelude.{◌≡◌, ◌+◌, ◌<◌, ◌≤◌, ℕ, Bool, false, ◌&&◌, nat_lt, nat_le, List, length, Option, Some, None, is_some}
 use Rattle.std.specs.Prelude.{option_and_then, slice_get, get_or}
 use Rattle.std.specs.List.{list_any}
 use Rattle.ps_tree.specs.declared.types.Ty.{Ty}
-use Rattle.ps_tree.specs.Types.{DataType, field_in}
+use Rattle.ps_tree.specs.Types.{DataType, field_in, field_names}
 use Rattle.ps_tree.specs.Names.{place}
 use Rattle.ps_tree.specs.View.{type_of}
 use Rattle.ps_check_names.specs.Regions.{fields_of}
@@ -33,6 +33,34 @@ stands_for records s k m = nat_le k m && is_some
 abbrev pub Covers : List Ty → (names : List (List ℕ)) (reaches asked : List ℕ) → Type 0
 Covers records names reaches asked = (s : List ℕ) (k : ℕ) (ty : Ty) → slice_get records k ≡ Some ty → HasField ty s
     → list_any (stands_for records s k) asked ≡ false → k < reach_of names reaches s
+
+-- a record of this type has more fields than are noted one by one
+abbrev pub has_many_fields : DataType → Bool
+has_many_fields type = nat_lt 128 (length (field_names (fields_of type)))
+
+-- whether a record of this type has a field of this name
+abbrev pub has_field : Ty → List ℕ → Bool
+has_field ty s = is_some (field_in (fields_of (type_of ty)) s)
+
+-- the records have fields of the same names
+abbrev pub IsLike : Ty → Ty → Type 0
+IsLike ty other = (s : List ℕ) → has_field ty s ≡ has_field other s
+
+-- whether there is a record with this number, and it has a field of this name
+abbrev pub has_field_at : List Ty → ℕ → List ℕ → Bool
+has_field_at records number s = is_some (option_and_then (λ ty. field_in (fields_of (type_of ty)) s)
+    (slice_get records number))
+
+-- there is a record with this number, and it is like those of the type
+abbrev pub StandsIn : Ty → List Ty → ℕ → Type 0
+StandsIn ty records number = (number < length records) × ((s : List ℕ) → has_field ty s
+    ≡ has_field_at records number s)
+
+-- a record that has a place among those that are asked is like the one there
+abbrev pub Placed : List Ty → (places : List (Option ℕ)) → (asked : List ℕ) → Type 0
+Placed records places asked = (length places ≡ length records) × ((k place : ℕ) → slice_get places k
+    ≡ Some (Some place) → (place < length asked) × (get_or asked place 0 < length records) × ((s : List ℕ)
+    → has_field_at records k s ≡ has_field_at records (get_or asked place 0) s))
 
 -- what is noted stays so
 abbrev pub Keeps : (names : List (List ℕ)) (reaches : List ℕ) (names' : List (List ℕ)) (reaches' : List ℕ) → Type 0

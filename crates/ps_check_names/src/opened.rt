@@ -1,12 +1,13 @@
 //! The records that a `with` opens (ISO 7185, 6.8.3.10).
 
 ghost use Rattle.std.specs.Prelude.{◌≡◌, ◌≤◌, ◌<◌, ◌++◌, [], ◌∷◌, ℕ, List, length, map, set, get_or, slice_get, IfOk};
-ghost use Rattle.std.specs.Prelude.{OnOk, IfSome, IsTrue, Some, None, option_map};
+ghost use Rattle.std.specs.Prelude.{OnOk, IfSome, IsTrue, Option, Some, None, option_map};
 ghost use Rattle.ps_tree.specs.Names.{place};
 ghost use Rattle.ps_tree.specs.Types.{DataType, field_in};
 ghost use Rattle.ps_tree.specs.View.{type_of};
 ghost use Rattle.ps_check_names.specs.Regions.{fields_of};
-ghost use Rattle.ps_check_names.specs.Opened.{HasField, HasFieldsOf, reach_of, Covers, Keeps, NoneBehind};
+ghost use Rattle.ps_check_names.specs.Opened.{HasField, IsLike, reach_of, Covers, Keeps, NoneBehind, StandsIn, Placed};
+ghost use Rattle.ps_check_names.specs.Opened.{has_many_fields};
 
 use ps_tree::names::{Names, Seed};
 use ps_tree::types::{Fields, Ty};
@@ -30,8 +31,11 @@ pub struct Opened {
     // The numbers of records whose fields aren't noted. Each other has a record here that isn't before it and has its
     // fields.
     asked: Vec<usize>,
+    // for each record the place of one that is asked for it
+    places: Vec<Option<usize>>,
     ghost covers: { Covers records.items names reaches.items asked.items },
     ghost even: { length reaches.items ≡ length names },
+    ghost placed: { Placed records.items places.items asked.items },
 }
 
 /// The field of this name of a record type: its number and its type.
@@ -155,9 +159,20 @@ fn noted_names(ty: &Ty, number: usize) -> Option<&[Vec<u8>]>
     }
 }
 
-/// Whether the type is that of the other record, and so has its fields.
-fn has_fields_of(ty: &Ty, other: &Ty) -> bool
-    ensures { IsTrue result → HasFieldsOf ty.now other.now }
+/// Whether a record of the type has so many fields that it is asked for each name.
+#[tactic(auto, unfolding(crate::specs::Regions::fields_of, ps_tree::specs::View::type_of))]
+pub fn has_many_fields(ty: &Ty) -> bool
+    ensures { result ≡ has_many_fields (type_of ty.now) }
+{
+    match ty {
+        Ty::Record { fields, .. } => fields.names().len() > MOST_NOTED,
+        _ => false,
+    }
+}
+
+/// Whether the type is that of the other record, so that each has the fields of the other.
+fn is_like(ty: &Ty, other: &Ty) -> bool
+    ensures { IsTrue result → IsLike ty.now other.now }
 {
     match (ty, other) {
         (
@@ -172,44 +187,61 @@ fn has_fields_of(ty: &Ty, other: &Ty) -> bool
     }
 }
 
-/// Whether the type is that of the record with this number, and so has its fields.
-fn has_fields_at(ty: &Ty, records: &[Ty], number: usize) -> bool
-    ensures { IsTrue result → (other : Ty) → slice_get records.now number ≡ Some other → HasFieldsOf ty.now other }
+/// Whether there is a record with this number and it is of the type.
+#[tactic(auto, using(crate::proofs::PlaceLemmas::like_there))]
+fn is_like_at(ty: &Ty, records: &[Ty], number: usize) -> bool
+    ensures { IsTrue result → StandsIn ty.now records.now number }
 {
     match records.get(number) {
         None => false,
-        Some(other) => has_fields_of(ty, other),
+        Some(other) => is_like(ty, other),
     }
 }
 
-/// The place of one of these numbers of records, whose fields the type has.
+/// The place of one of these numbers of records, which is of the type.
 fn place_of_like(ty: &Ty, records: &[Ty], numbers: &[usize]) -> Option<usize>
-    ensures { IfSome result (λ place. (place < length numbers.now) × ((other : Ty) → slice_get records.now
-        (get_or numbers.now place 0) ≡ Some other → HasFieldsOf ty.now other)) }
+    ensures { IfSome result (λ place. (place < length numbers.now) × StandsIn ty.now records.now
+        (get_or numbers.now place 0)) }
 {
     for i in 0..numbers.len() {
-        if has_fields_at(ty, records, numbers[i]) {
+        if is_like_at(ty, records, numbers[i]) {
             return Some(i);
         }
     }
     None
 }
 
-/// Notes that a record behind others is to be asked, in the place of one whose fields it has.
-#[tactic(auto, using(crate::proofs::NoteLemmas::covers_put, crate::proofs::NoteLemmas::covers_asked))]
-fn note_asked(asked: &mut Vec<usize>, records: &[Ty], ty: &Ty) -> Result<(), AllocError>
-    ensures { OnOk result ((names : List (List ℕ)) (reaches : List ℕ) → Covers records.now names reaches
+/// Puts a number in the place of another.
+fn put(numbers: &mut Vec<usize>, place: usize, number: usize)
+    requires { place < length numbers.old.items }
+    ensures { numbers.new.items ≡ set numbers.old.items place number }
+{
+    numbers[place] = number;
+}
+
+/// Notes that a record behind others is to be asked, in the place of one that is like it: that place.
+#[tactic(auto, using(crate::proofs::NoteLemmas::covers_asked))]
+fn note_asked(asked: &mut Vec<usize>, records: &[Ty], ty: &Ty) -> Result<usize, AllocError>
+    ensures covers { OnOk result ((names : List (List ℕ)) (reaches : List ℕ) → Covers records.now names reaches
         asked.old.items → Covers (records.now ++ ty.now ∷ []) names reaches asked.new.items) }
+    ensures placed { IfOk result (λ place. (places : List (Option ℕ)) → Placed records.now places asked.old.items
+        → Placed (records.now ++ ty.now ∷ []) (places ++ Some place ∷ []) asked.new.items) }
 {
     let number = records.len();
     match place_of_like(ty, records, asked.as_slice()) {
-        Some(place) => asked[place] = number,
-        None => asked.push(number)?,
+        Some(place) => {
+            put(asked, place, number);
+            Ok(place)
+        }
+        None => {
+            let place = asked.as_slice().len();
+            asked.push(number)?;
+            Ok(place)
+        }
     }
-    Ok(())
 }
 
-/// Notes the fields of a record behind others, or that it is to be asked.
+/// Notes the fields of a record behind others, or that it is to be asked: the place of what is asked for it.
 fn note_record(
     alloc: Global,
     names: &mut Names,
@@ -217,24 +249,36 @@ fn note_record(
     asked: &mut Vec<usize>,
     records: &[Ty],
     ty: &Ty,
-) -> Result<(), AllocError>
+) -> Result<Option<usize>, AllocError>
     requires even { length reaches.old.items ≡ length names.old }
     requires covers { Covers records.now names.old reaches.old.items asked.old.items }
     ensures even { OnOk result (length reaches.new.items ≡ length names.new) }
     ensures covers { OnOk result (Covers (records.now ++ ty.now ∷ []) names.new reaches.new.items asked.new.items) }
+    ensures placed { IfOk result (λ place. (places : List (Option ℕ)) → Placed records.now places asked.old.items
+        → Placed (records.now ++ ty.now ∷ []) (places ++ place ∷ []) asked.new.items) }
 {
     let number = records.len();
     let Some(fields) = noted_names(ty, number) else {
-        note_asked(asked, records, ty)?;
-        return Ok(());
+        let place = note_asked(asked, records, ty)?;
+        return Ok(Some(place));
     };
     note_all(alloc, names, reaches, fields, number + 1)?;
-    Ok(())
+    Ok(None)
+}
+
+/// The place of what is asked for the record with this number.
+fn place_at(places: &[Option<usize>], number: usize) -> Option<usize>
+    ensures { IfSome result (λ place. slice_get places.now number ≡ Some (Some place)) }
+{
+    match places.get(number) {
+        None => None,
+        Some(place) => *place,
+    }
 }
 
 impl Opened {
     /// No records, of a text with this seed.
-    #[tactic(auto, using(crate::proofs::NoteLemmas::covers_none))]
+    #[tactic(auto, using(crate::proofs::NoteLemmas::covers_none, crate::proofs::PlaceLemmas::placed_none))]
     pub fn new(alloc: Global, seed: Seed) -> Opened
         ensures { result.records.items ≡ [] }
     {
@@ -243,6 +287,7 @@ impl Opened {
             names: Names::new(alloc, seed),
             reaches: Vec::new(alloc),
             asked: Vec::new(alloc),
+            places: Vec::new(alloc),
         }
     }
 
@@ -255,8 +300,9 @@ impl Opened {
             mut names,
             mut reaches,
             mut asked,
+            mut places,
         } = self;
-        note_record(
+        let place = note_record(
             alloc,
             &mut names,
             &mut reaches,
@@ -264,12 +310,43 @@ impl Opened {
             records.as_slice(),
             &ty,
         )?;
+        places.push(place)?;
         records.push(ty)?;
         Ok(Opened {
             records,
             names,
             reaches,
             asked,
+            places,
+        })
+    }
+
+    /// One record more, of the type of the record with this number, within these. It takes no longer where that has many
+    /// fields.
+    pub fn with_like(self, alloc: Global, another: Ty, like: usize) -> Result<Opened, AllocError>
+        requires { (other : Ty) → slice_get self.records.items like ≡ Some other → type_of another ≡ type_of other }
+        ensures { IfOk result (λ opened. opened.records.items ≡ self.records.items ++ another ∷ []) }
+    {
+        let Some(place) = place_at(self.places.as_slice(), like) else {
+            return self.with(alloc, another);
+        };
+        let Opened {
+            mut records,
+            names,
+            reaches,
+            mut asked,
+            mut places,
+        } = self;
+        let number = records.as_slice().len();
+        put(&mut asked, place, number);
+        places.push(Some(place))?;
+        records.push(another)?;
+        Ok(Opened {
+            records,
+            names,
+            reaches,
+            asked,
+            places,
         })
     }
 

@@ -1,5 +1,6 @@
 pub mod Equations
 pub mod Opening
+pub mod Sources
 pub mod Loops
 pub mod Lists
 pub mod Paired

@@ -10,10 +10,10 @@ abbrev pub head_of : Rust.Head → Head
 head_of h = record {
   variable = h.variable;
   type = h.ordinal;
-  first = expr_of h.first;
+  first = expr_of h.first.value;
   first_line = h.first_line.number;
   direction = h.direction;
-  last = expr_of h.last;
+  last = expr_of h.last.value;
   last_line = h.last_line.number;
 }
 

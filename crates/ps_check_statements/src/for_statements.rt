@@ -13,7 +13,7 @@ use ps_check_expressions::changed::changed_entry;
 use ps_check_expressions::expression::expr_value;
 use ps_check_expressions::site::Site;
 use ps_check_expressions::value::TypedValue;
-use ps_check_judgement::answer::{broken, paired};
+use ps_check_judgement::answer::{boxed_answer, broken, paired};
 use ps_check_judgement::change::Change;
 use ps_check_judgement::refusal::{Fault, Rule};
 use ps_check_names::constants::misplacement;
@@ -30,10 +30,10 @@ use ps_tree::types::{Ordinal, Ty, compatible};
 pub struct Head {
     pub variable: u32,
     pub ordinal: Ordinal,
-    pub first: Expr,
+    pub first: Box<Expr>,
     pub first_line: Line,
     pub direction: Direction,
-    pub last: Expr,
+    pub last: Box<Expr>,
     pub last_line: Line,
 }
 
@@ -96,6 +96,19 @@ fn bound_at(
     }
 }
 
+/// The same, on the heap.
+fn boxed_bound(
+    x: &Syntax,
+    site: Site<'_>,
+    changes: &mut Vec<Change>,
+    ordinal: Ordinal,
+) -> Result<Box<Expr>, Fault>
+    ensures { Answers result (λ e. (expr_of e.value, changes.new.items))
+        (bound_at (context_at site.entry) (regions_at site.entry) ordinal x.now changes.old.items) }
+{
+    boxed_answer(site.alloc, bound_at(x, site, changes, ordinal))
+}
+
 fn direction_of(way: Way) -> Direction
     ensures { result ≡ direction_of way }
 {
@@ -152,8 +165,8 @@ pub(crate) fn for_head(
         (for_head (context_at site.entry) (regions_at site.entry) name x.now way y.now changes.old.items) }
 {
     let (variable, ordinal) = control_of(site, changes, name)?;
-    let first = bound_at(x, site, changes, ordinal);
-    let (first, last) = paired(first, bound_at(y, site, changes, ordinal))?;
+    let first = boxed_bound(x, site, changes, ordinal);
+    let (first, last) = paired(first, boxed_bound(y, site, changes, ordinal))?;
     Ok(Head {
         variable,
         ordinal,

@@ -7,6 +7,7 @@ mod case_constants;
 mod file;
 mod for_statements;
 mod heap;
+mod known;
 mod procedure;
 pub mod statement;
 mod text;

@@ -1,7 +1,7 @@
 //! The records that a `with` statement opens (ISO 7185, 6.8.3.10).
 
-ghost use Rattle.std.specs.Prelude.{◌≡◌, ◌++◌, [], ◌∷◌, List, map, IfOk, IfErr, Some, None};
-ghost use Rattle.ps_tree.specs.View.{type_of, place_of};
+ghost use Rattle.std.specs.Prelude.{◌≡◌, ◌++◌, [], ◌∷◌, List, length, map, IfOk, IfErr, IfSome, Some, None};
+ghost use Rattle.ps_tree.specs.View.{type_of, place_of, base_of, selectors_of};
 ghost use Rattle.ps_tree.specs.Tree as Tree;
 ghost use Rattle.ps_check_names.specs.Regions.{RecordRegion, fields_of};
 ghost use Rattle.ps_check_judgement.specs.declared.change.Change.{Change};
@@ -9,19 +9,23 @@ ghost use Rattle.ps_check_judgement.specs.Judged.{Answers};
 ghost use Rattle.ps_check_judgement.specs.Changing.{through};
 ghost use Rattle.ps_check_names.specs.Views.{opened_in};
 ghost use Rattle.ps_check_expressions.specs.View.{context_at, regions_at};
+ghost use Rattle.ps_check_names.specs.Spelling.{spelled};
 ghost use Rattle.ps_check_statements.specs.Structured.{Opening, open_next};
+ghost use Rattle.ps_check_statements.specs.Known.{IsVariable, base_in, Targets, IsSource, IsGiven, Knows};
 
+use crate::known::{Known, Source};
 use ps_check_expressions::expression::variable_place;
 use ps_check_expressions::site::Site;
 use ps_check_expressions::value::TypedPlace;
 use ps_check_judgement::answer::broken;
 use ps_check_judgement::change::Change;
 use ps_check_judgement::refusal::{Fault, Rule};
-use ps_check_names::opened::Opened;
+use ps_check_names::opened::{Opened, has_many_fields};
 use ps_check_names::scope::Scope;
-use ps_syntax::Variable;
-use ps_tree::tree::Place;
+use ps_syntax::{Selector as Syntax, Variable};
+use ps_tree::tree::{Place, PlaceBase, Selector};
 use ps_tree::types::Ty;
+use std::alloc::AllocError;
 
 /// A record to be opened, and its type.
 #[tactic(auto, using(ps_check_expressions::proofs::Judgement::variable_first), unfolding(crate::specs::Structured::open_next, crate::specs::Structured::record_region, ps_check_names::specs::Regions::fields_of, ps_tree::specs::View::type_of))]
@@ -30,7 +34,7 @@ fn opened_record(
     site: Site<'_>,
     changes: &mut Vec<Change>,
 ) -> Result<(Place, Ty), Fault>
-    ensures { (places : List Tree.Place) → Answers {A = Opening × List Change} result
+    ensures opened { (places : List Tree.Place) → Answers {A = Opening × List Change} result
         (λ p. (
           (
             places ++ place_of p.0 ∷ [],
@@ -40,6 +44,8 @@ fn opened_record(
           changes.new.items,
         ))
         (open_next (context_at site.entry) (places, regions_at site.entry) x.now changes.old.items) }
+    ensures variable { IfOk result (λ p. IsVariable (context_at site.entry) (regions_at site.entry) x.now
+        (place_of p.0) (type_of p.1)) }
 {
     let TypedPlace { place, ty, .. } = variable_place(x, site, changes)?;
     let Ty::Record { .. } = &ty else {
@@ -48,7 +54,93 @@ fn opened_record(
     Ok((place, ty))
 }
 
-/// Opens a record within those before it, whose places and types are given.
+/// How many of so many records there are up to the one that a place is in by its name.
+fn base_in(base: &PlaceBase, count: usize) -> usize
+    ensures { result ≡ base_in count (base_of base.now) }
+{
+    match base {
+        PlaceBase::Entry { .. } => 0,
+        PlaceBase::Opened { which, .. } => count.saturating_sub(*which as usize),
+    }
+}
+
+/// The number of the pointer's type, if the first of the selectors is `^`.
+fn pointer_in(selectors: &[Selector]) -> Option<u32>
+    ensures { IfSome result (λ pointer. Targets (selectors_of selectors.now) pointer) }
+{
+    match selectors.first() {
+        Some(Selector::Target { pointer, .. }) => Some(*pointer),
+        _ => None,
+    }
+}
+
+/// What gives a record its type, within so many others: a name alone, or what the pointer that it denotes identifies.
+fn source_of(x: &Variable, place: &Place, count: usize) -> Option<Source>
+    ensures { IfSome result (λ source. IsSource x.now (place_of place.now) count source) }
+{
+    match x.selectors.get(0) {
+        None => Some(Source::Named(base_in(&place.base, count))),
+        Some(Syntax::Content(_)) if x.selectors.len() == 1 => {
+            let pointer = pointer_in(place.selectors.as_slice())?;
+            Some(Source::Pointed(pointer))
+        }
+        Some(_) => None,
+    }
+}
+
+/// Opens a record of many fields within those before it, where a source gives it its type.
+fn open_again(
+    x: &Variable,
+    source: Source,
+    site: Site<'_>,
+    ty: Ty,
+    opened: Opened,
+    known: Known,
+) -> Result<(Opened, Known), AllocError>
+    requires given { IsGiven (context_at site).domains (regions_at site) opened.records.items
+        (spelled (context_at site).text x.now.name) source (type_of ty) }
+    requires known { Knows (context_at site).domains (regions_at site) opened.records.items known }
+    ensures records { IfOk result (λ all. all.0.records.items ≡ opened.records.items ++ ty ∷ []) }
+    ensures known { IfOk result (λ all. Knows (context_at site.entry).domains (regions_at site.entry)
+        all.0.records.items all.1) }
+{
+    let name = site.reading.spelling(site.alloc, x.name)?;
+    match known.find(name.as_slice(), source) {
+        Some(like) => Ok((opened.with_like(site.alloc, ty, like)?, known)),
+        None => {
+            let number = opened.records.as_slice().len();
+            let known = known.with(site.alloc, name.as_slice(), source, number)?;
+            Ok((opened.with(site.alloc, ty)?, known))
+        }
+    }
+}
+
+/// Opens a record of this place and type within those before it.
+fn open_within(
+    x: &Variable,
+    place: &Place,
+    site: Site<'_>,
+    ty: Ty,
+    opened: Opened,
+    known: Known,
+) -> Result<(Opened, Known), AllocError>
+    requires variable { IsVariable (context_at site) (opened_in (regions_at site) opened.records.items)
+        x.now (place_of place.now) (type_of ty) }
+    requires known { Knows (context_at site).domains (regions_at site) opened.records.items known }
+    ensures records { IfOk result (λ all. all.0.records.items ≡ opened.records.items ++ ty ∷ []) }
+    ensures known { IfOk result (λ all. Knows (context_at site.entry).domains (regions_at site.entry)
+        all.0.records.items all.1) }
+{
+    if has_many_fields(&ty) {
+        let count = opened.records.as_slice().len();
+        if let Some(source) = source_of(x, place, count) {
+            return open_again(x, source, site, ty, opened, known);
+        }
+    }
+    Ok((opened.with(site.alloc, ty)?, known))
+}
+
+/// Opens a record within those before it, whose places and types are given, with what is known of them.
 #[tactic(auto, unfolding(ps_check_names::specs::Views::scope_of))]
 fn open_next(
     x: &Variable,
@@ -56,12 +148,14 @@ fn open_next(
     changes: &mut Vec<Change>,
     places: &mut Vec<Place>,
     opened: Opened,
-) -> Result<Opened, Fault>
-    ensures { Answers result (λ all. (
+    known: Known,
+) -> Result<(Opened, Known), Fault>
+    requires { Knows (context_at site).domains (regions_at site) opened.records.items known }
+    ensures opened { Answers result (λ all. (
       (
         map place_of places.new.items,
         opened_in
-            (regions_at site.entry) all.records.items,
+            (regions_at site.entry) all.0.records.items,
       ),
       changes.new.items,
     ))
@@ -70,14 +164,17 @@ fn open_next(
           opened_in
               (regions_at site.entry) opened.records.items,
         ) x.now changes.old.items) }
+    ensures known { IfOk result (λ all. Knows (context_at site.entry).domains (regions_at site.entry)
+        all.0.records.items all.1) }
 {
     let scope = Scope::Opened {
         records: &opened,
         outer: site.scope,
     };
     let (place, ty) = opened_record(x, site.within(&scope), changes)?;
+    let all = open_within(x, &place, site, ty, opened, known)?;
     places.push(place)?;
-    Ok(opened.with(site.alloc, ty)?)
+    Ok(all)
 }
 
 /// Opens records one after the other, each within those before it: their places, and the records.
@@ -94,8 +191,9 @@ pub(crate) fn open_all(
 {
     let mut places = Vec::with_capacity(site.alloc, records.len())?;
     let mut opened = Opened::new(site.alloc, site.reading.seed);
+    let mut known = Known::new(site.alloc, site.reading.seed);
     for x in records {
-        opened = open_next(x, site, changes, &mut places, opened)?;
+        (opened, known) = open_next(x, site, changes, &mut places, opened, known)?;
     }
     Ok((places, opened))
 }

@@ -9,10 +9,10 @@ use Rattle.ps_check_statements.proofs.for_statements.for_head.Goals as goal
 pub returns-in_err-first : goal.returns-in_err-first
 returns-in_err-first c =
     handed_on _ _ _ _ c.from_residual-in_err-first.ensures.1
-    (rw c.in_ok-variable.ensures (next_told _ _ (λ e. expr_of e)
-    (λ e. (expr_of e, c.bound_at.new.changes.items)) c.bound_at-first.new.changes.items _
+    (rw c.in_ok-variable.ensures (next_told _ _ (λ e. expr_of e.value)
+    (λ e. (expr_of e.value, c.boxed_bound.new.changes.items)) c.boxed_bound-first.new.changes.items _
     (bound_at (context_at c.args.site) (regions_at c.args.site) c.in_ok-variable.ordinal c.args.y.now) _ _
-    c.bound_at-first.ensures c.bound_at.ensures c.in_err-first.ensures))
+    c.boxed_bound-first.ensures c.boxed_bound.ensures c.in_err-first.ensures))
 
 pub returns : goal.returns
 returns c =
@@ -23,7 +23,7 @@ returns c =
       c.first_token.ensures,
       c.first_token-2.ensures,
       c.direction_of.ensures,
-    ) (next_yes _ _ (λ e. expr_of e)
-    (λ e. (expr_of e, c.bound_at.new.changes.items)) c.bound_at-first.new.changes.items _
+    ) (next_yes _ _ (λ e. expr_of e.value)
+    (λ e. (expr_of e.value, c.boxed_bound.new.changes.items)) c.boxed_bound-first.new.changes.items _
     (bound_at (context_at c.args.site) (regions_at c.args.site) c.in_ok-variable.ordinal c.args.y.now) _ _ _
-    c.bound_at-first.ensures c.bound_at.ensures c.in_ok-first.ensures)
+    c.boxed_bound-first.ensures c.boxed_bound.ensures c.in_ok-first.ensures)

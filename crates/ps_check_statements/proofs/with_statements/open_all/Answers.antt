@@ -7,18 +7,27 @@ use Rattle.ps_check_statements.proofs.with_statements.open_all.Goals as goal
 
 pub loop-x-init : goal.loop-x-init
 unfolding opened_in scope_of
-loop-x-init c = rw (c.in_ok-places.ensures.items, c.new-opened.ensures)
-    (stepped_start (λ t x. open_next (context_at c.args.site) t.0 x t.1)
-    (([], regions_at c.args.site), c.args.changes.now.items) c.args.records.now)
+loop-x-init c = (
+  rw (c.in_ok-places.ensures.items, c.new-opened.ensures)
+      (stepped_start (λ t x. open_next (context_at c.args.site) t.0 x t.1)
+      (([], regions_at c.args.site), c.args.changes.now.items) c.args.records.now),
+  c.new-known.ensures (context_at c.args.site).domains (regions_at c.args.site) _,
+)
+
+pub open_next-requires : goal.open_next-requires
+open_next-requires c = c.loop-x.invariant.1
 
 pub loop-x-preserved : goal.loop-x-preserved
-loop-x-preserved c = stepped_next _ _ _ _ _ c.x-item.result _ c.loop-x-test.true c.x-item.is c.loop-x.invariant
-    c.in_ok-opened.ensures
+loop-x-preserved c = (
+  stepped_next _ _ _ _ _ c.x-item.result _ c.loop-x-test.true c.x-item.is c.loop-x.invariant.0
+      c.in_ok-opened.ensures.opened,
+  c.in_ok-opened.ensures.known,
+)
 
 pub returns-in_err-opened : goal.returns-in_err-opened
 returns-in_err-opened c = handed_on _ _ _ _ c.from_residual-in_err-opened.ensures.1
-    (stepped_fault _ _ _ _ _ c.x-item.result _ c.loop-x-test.true c.x-item.is c.loop-x.invariant
-    c.in_err-opened.ensures)
+    (stepped_fault _ _ _ _ _ c.x-item.result _ c.loop-x-test.true c.x-item.is c.loop-x.invariant.0
+    c.in_err-opened.ensures.opened)
 
 pub returns : goal.returns
-returns c = stepped_end _ _ _ _ _ c.loop-x-test.false c.loop-x.invariant
+returns c = stepped_end _ _ _ _ _ c.loop-x-test.false c.loop-x.invariant.0
