@@ -185,6 +185,9 @@ fi
 # the calls of the reference interpreter lie on the host's stack
 [ "$name" = pascal ] || ulimit -s unlimited 2>/dev/null || ulimit -s "$(ulimit -Hs)"
 # a deep tree takes so much memory that the host's pages of 4 KB, handed out one by one, would cost more than the work
-# done in them: the C library is told to ask for large pages where there are some
-export GLIBC_TUNABLES=${GLIBC_TUNABLES-glibc.malloc.hugetlb=1}
+# done in them: the C library is told to ask for large pages where there are some, to lay lists of up to 32 MB there too,
+# and to give none back before the end
+malloc=glibc.malloc
+tunables=$malloc.hugetlb=1:$malloc.mmap_threshold=33554432:$malloc.trim_threshold=268435456
+export GLIBC_TUNABLES=${GLIBC_TUNABLES-$tunables}
 exec "$program" "$@"

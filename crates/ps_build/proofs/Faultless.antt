@@ -98,15 +98,16 @@ left : (s : State) (v : Value) (callers : List Activation) → IsSound (leave v 
 left s v [] = none
 left s v (c ∷ cs) = tt
 
-by_number : (stack heap : Bool) (number line : ℕ) (lines : List ℕ) → IsFault
-    (cond stack (ending.Stack line) (cond heap (ending.Heap line) (ending.failed number line lines))) → ⊥
-by_number true heap number line lines f = f
-by_number false true number line lines f = f
-by_number false false number line lines f = f
+by_number : (vain stack heap : Bool) (number line : ℕ) (lines : List ℕ) → IsFault (cond vain ending.Stuck
+    (cond stack (ending.Stack line) (cond heap (ending.Heap line) (ending.failed number line lines)))) → ⊥
+by_number true stack heap number line lines f = f
+by_number false true heap number line lines f = f
+by_number false false true number line lines f = f
+by_number false false false number line lines f = f
 
 module _ (code : Code) where
   failed : (number line : ℕ) (s : State) → IsSound (fails code number line s)
-  failed number line s f = by_number (nat_eq number 12) (nat_eq number 13) number line
+  failed number line s f = by_number (nat_eq number 0) (nat_eq number 12) (nat_eq number 13) number line
       (open_calls (length code.program) s.current s.callers) f
 
   computed_given : (s : State) (t : ℕ) (x : Computed) (line : ℕ) → IsSound (gives_computed code t x line s)

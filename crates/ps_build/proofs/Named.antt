@@ -2,7 +2,8 @@
 use Rattle.std.proofs.Common.{ℕ, List, sym, ap, ◌∙◌}
 use Rattle.ps_tree.specs.Tree as Tree
 use Rattle.ps_check_judgement.proofs.Binds.{no_yes}
-use Rattle.ps_check_laws.proofs.Paths.{names_mean_their_points, forward_headings_have_blocks, checked_programs_are_read}
+use Rattle.ps_check_laws.proofs.Accepted.{names_mean_their_points, forward_headings_have_blocks}
+use Rattle.ps_check_laws.proofs.Accepted.{checked_programs_are_read}
 use Rattle.ps_check_laws.proofs.Programs.{read_programs_are_checked}
 use Rattle.ps_check.specs.Programs.{program}
 use Rattle.ps_build.specs.Accepts.{IsProgramOf}

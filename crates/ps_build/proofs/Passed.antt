@@ -2,18 +2,17 @@
 use Rattle.std.proofs.Common.{◌≡◌, ℕ, ◌+◌, length, slice_get, refl, ap, ◌∙◌}
 use Rattle.tac_code.specs.Meaning.{Code}
 use Rattle.tac_code.specs.Sound.{IsSound}
-use Rattle.tac_pass.specs.Walk.{ArePassed}
 use Rattle.tac_pass_laws.specs.Passed.{IsPassed}
-use Rattle.tac_pass_laws.proofs.Passed.{planned_are_passed, unchanged_are_passed}
+use Rattle.tac_pass_laws.proofs.Passed.{unchanged_are_passed}
 use Rattle.risc_image.specs.Image.{Image}
 use Rattle.risc_emit.specs.Emitted.{HasBounds}
 use Rattle.ps_build.specs.Made.{IsEmitted, IsEmittedFor}
 
-pub emitted_for : (old new : Code) (image : Image) → ArePassed old new → IsSound new → IsEmitted new image
+pub emitted_for : (old new : Code) (image : Image) → IsPassed old new → IsSound new → IsEmitted new image
     → IsEmittedFor old image
 emitted_for old new image passed sound emitted = record {
   passed = new;
-  may = planned_are_passed old new passed;
+  may = passed;
   sound = sound;
   emitted = emitted;
 }
@@ -26,8 +25,8 @@ emitted_itself code image sound emitted = record {
   emitted = emitted;
 }
 
-bounds_of : (old new : Code) (image : Image) → IsPassed old new → HasBounds new image → HasBounds old image
-bounds_of old new image passed has =
+pub bounds_for : (old new : Code) (image : Image) → IsPassed old new → HasBounds new image → HasBounds old image
+bounds_for old new image passed has =
     record {
       calls = has.calls;
       routines = has.routines ∙ passed.room.program;
@@ -37,6 +36,3 @@ bounds_of old new image passed has =
           has.frames r there.0 there.1 ∙ ap (λ bytes. 276 + bytes) there.2;
       objects = λ t bytes e. has.objects t bytes (ap (λ list. slice_get list t) passed.room.objects ∙ e);
     }
-
-pub bounds_for : (old new : Code) (image : Image) → ArePassed old new → HasBounds new image → HasBounds old image
-bounds_for old new image passed has = bounds_of old new image (planned_are_passed old new passed) has

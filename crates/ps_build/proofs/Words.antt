@@ -1,7 +1,7 @@
 -- An instruction takes at least one word: code of too many instructions has too many words, whatever homes its
 -- temporaries have.
 use Rattle.std.proofs.Common.{◌≡◌, ℕ, suc, ◌<◌, ◌≤◌, Bool, true, false, if◌then◌else◌, List, [], ◌∷◌, ◌++◌, length}
-use Rattle.std.proofs.Common.{Option, Some, None, ℤ, refl, sym, subst, arith, length-append}
+use Rattle.std.proofs.Common.{nat_eq, Option, Some, None, ℤ, refl, sym, subst, arith, length-append}
 use Rattle.std.specs.Prelude.{Result, Ok, Err, IfErr, IsErrAnd}
 use Rattle.tac_code.specs.declared.code.Relation.{Relation}
 use Rattle.tac_code.specs.declared.code.Relation.TheVariants.{Equal, NotEqual, Less, LessEqual, Greater, GreaterEqual}
@@ -24,6 +24,7 @@ use Rattle.risc_alloc.specs.Slots.{every_slot}
 use Rattle.risc_alloc.proofs.Whole.{every_slot_valid}
 use Rattle.risc_emit_relation.specs.Context.{Context, home, is_program}
 use Rattle.risc_emit_forms.specs.Pieces.{Label, Piece}
+use Rattle.risc_emit_forms.specs.Told.{folded}
 use Rattle.risc_emit_forms.specs.Forms as form
 use Rattle.risc_emit_laws.specs.Drawn.{body_pieces, routine_pieces, routines_pieces, start_pieces}
 use Rattle.risc_emit.specs.Layout.{laid_out}
@@ -111,11 +112,40 @@ module _ (c : Context) (r : ℕ) where
       (behind (form.above c r a low) _ (at_most_word _ _ error line))
 
   check_word : (a : ℕ) (low high : ℤ) (error line : ℕ) → HasWord (form.check_form c r a low high error line)
-  check_word a low high error line = behind (form.fetch c r 12 _) _ (range_word _ low high error line)
+  check_word a low high error line = either (nat_eq error 0) _ _ (one _ _)
+      (behind (form.fetch c r 12 _) _ (range_word _ low high error line))
 
   pointer_word : (told : Option ℕ) (a error line : ℕ) → HasWord (form.pointer_form c r told a error line)
-  pointer_word told a error line = either (form.is_told c r told a) _ _ (one _ _)
-      (before (form.bring c r 12 _) _ (bring_word 12 _))
+  pointer_word told a error line = either (nat_eq error 0) _ _ (one _ _)
+      (either (form.is_told c r told a) _ _ (one _ _) (before (form.bring c r 12 _) _ (bring_word 12 _)))
+
+  component_word : (bent : Option (ℕ × ℕ)) (t : ℕ) (a : Base) (q : ℕ) → HasWord (form.component c r bent t a q)
+  component_word None t a q = behind (form.base_address c r a) _ (one _ _)
+  component_word (Some bent) t a q = one _ _
+
+  steps_word : (bent : Option (ℕ × ℕ)) (t : ℕ) (a : Base) (q width : ℕ) → HasWord (form.steps_form c r bent t a q width)
+  steps_word bent t a q width = behind (form.scaled c r q width) _ (component_word bent t a _)
+
+  near_component_word : (n : ℕ) (bent : Option (ℕ × ℕ)) (t : ℕ) (a : Base) (q : ℕ) → HasWord
+      (form.near_component c r n bent t a q)
+  near_component_word n None t a q = behind (form.sum c r (form.base_register c r a) n) _ (one _ _)
+  near_component_word n (Some bent) t a q = one _ _
+
+  index_by_word : (o : Option ℕ) (bent : Option (ℕ × ℕ)) (t : ℕ) (a : Base) (i : ℕ) (low high : ℤ)
+      (width error line : ℕ) → HasWord (form.index_by c r o bent t a i low high width error line)
+  index_by_word None bent t a i low high width error line =
+      let at = form.fetched c r 12 (home c r i) in
+      behind (form.fetch c r 12 (home c r i)) _
+      (behind (form.index_code c r at low high error line) _ (steps_word bent t a _ width))
+  index_by_word (Some n) bent t a i low high width error line =
+      let at = form.fetched c r 12 (home c r i) in
+      behind (form.fetch c r 12 (home c r i)) _
+      (behind (form.scaled c r at width) _ (near_component_word n bent t a _))
+
+  index_word : (bent : Option (ℕ × ℕ)) (t : ℕ) (a : Base) (i : ℕ) (low high : ℤ) (width error line : ℕ) → HasWord
+      (form.index_form c r bent t a i low high width error line)
+  index_word bent t a i low high width error line =
+      index_by_word (folded c r a low high width error) bent t a i low high width error line
 
   address_word : (d : ℕ) (a : Base) (n : ℕ) → HasWord (form.address c r d a n)
   address_word d a n = behind (form.base_code c r a) _ (either _ _ _ (one _ _) (one _ _))
@@ -148,8 +178,7 @@ module _ (c : Context) (r : ℕ) where
   form_word k (CheckPointer a error line) = pointer_word _ a error line
   form_word k (Text t bytes) = one _ _
   form_word k (Offset t a n extent) = before (form.address c r _ a n) _ (address_word _ a n)
-  form_word k (Index t a i low high width error line) = before (form.check_form c r i low high error line) _
-      (check_word i low high error line)
+  form_word k (Index t a i low high width error line) = index_word _ t a i low high width error line
   form_word k (RoutineValue t q) = one _ _
   form_word k (Load t a n) = word_form_word _ t a n
   form_word k (Store a n b) = store_form_word _ a n b

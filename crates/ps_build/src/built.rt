@@ -17,6 +17,7 @@ use ps_lower::marks::Mark;
 use ps_lower_accepted::{accepted_are_formed, accepted_fit};
 use ps_parse::{parse, release};
 use ps_scan::scan;
+use ps_syntax::Program;
 use ps_text::Source;
 use ps_tree::program::Checked;
 use risc_alloc::placer::Placer;
@@ -64,8 +65,24 @@ impl Built {
     }
 }
 
+// What becomes of the syntax tree when it is checked.
+#[derive(Clone, Copy)]
+enum SyntaxTree {
+    Released,
+    // It stays in memory.
+    Left,
+}
+
+// A syntax tree is needed no more.
+fn let_go(tree: Program, syntax: SyntaxTree) {
+    match syntax {
+        SyntaxTree::Released => release(tree),
+        SyntaxTree::Left => forget(tree),
+    }
+}
+
 // The checked program of a text.
-fn program_of(alloc: Global, text: &[u8]) -> Result<Checked, Refusal>
+fn program_of(alloc: Global, text: &[u8], syntax: SyntaxTree) -> Result<Checked, Refusal>
     ensures ok { IfOk result (λ checked. IsProgramOf text.now (program_in checked)) }
     ensures err { IfErr result (IsRefused text.now) }
     ensures faulty { IfErr result (λ refusal. IsFaulty refusal ⊎ (refusal ≡ OutOfMemory)) }
@@ -77,7 +94,7 @@ fn program_of(alloc: Global, text: &[u8]) -> Result<Checked, Refusal>
         Err(refusal) => return Err(Refusal::from(refusal)),
     };
     let checked = check(alloc, &source, &tree);
-    release(tree);
+    let_go(tree, syntax);
     match checked {
         Ok(checked) => Ok(checked),
         Err(refusal) => Err(Refusal::of_check(refusal, &tokens)),
@@ -123,12 +140,13 @@ fn mapped_with<P: Placer>(
     text: &[u8],
     placer: &P,
     variables: Variables,
+    syntax: SyntaxTree,
 ) -> Result<Mapped, Refusal>
     ensures compiles { IfOk result (λ mapped. Compiles text.now mapped.built) }
     ensures built { IfOk result (λ mapped. IsBuilt text.now mapped.built) }
     ensures refused { IfErr result (IsRefused text.now) }
 {
-    let checked = program_of(alloc, text)?;
+    let checked = program_of(alloc, text, syntax)?;
     has_what_is_needed(text, &checked);
     let made = image_made(alloc, &checked, placer, variables)?;
     Ok(Mapped {
@@ -149,7 +167,7 @@ pub fn accepted(alloc: Global, text: &[u8]) -> Result<(), Refusal>
     ensures faulty { IfErr result (λ refusal. IsFaulty refusal ⊎ (refusal ≡ OutOfMemory)) }
     ensures accepts { IfErr result (λ refusal. IsFaulty refusal → IsNotAccepted text.now) }
 {
-    let accepted_as = program_of(alloc, text)?;
+    let accepted_as = program_of(alloc, text, SyntaxTree::Released)?;
     drop(accepted_as);
     Ok(())
 }
@@ -163,7 +181,7 @@ pub fn code_of_text(alloc: Global, text: &[u8]) -> Result<Tac, Refusal>
     ensures refused { IfErr result (IsRefused text.now) }
     ensures accepts { IfErr result (λ refusal. IsFaulty refusal → IsNotAccepted text.now) }
 {
-    let program = program_of(alloc, text)?;
+    let program = program_of(alloc, text, SyntaxTree::Released)?;
     has_what_is_needed(text, &program);
     code_made(alloc, &program)
 }
@@ -183,7 +201,7 @@ pub fn build_placed<P: Placer>(
     ensures refused { IfErr result (IsRefused text.now) }
     ensures accepts { IfErr result (λ refusal. IsFaulty refusal → IsNotAccepted text.now) }
 {
-    let mapped = mapped_with(alloc, text, placer, variables)?;
+    let mapped = mapped_with(alloc, text, placer, variables, SyntaxTree::Released)?;
     Ok(mapped.built)
 }
 
@@ -209,7 +227,7 @@ pub fn build_mapped(alloc: Global, text: &[u8], variables: Variables) -> Result<
     ensures refused { IfErr result (IsRefused text.now) }
     ensures accepts { IfErr result (λ refusal. IsFaulty refusal → IsNotAccepted text.now) }
 {
-    let mapped = mapped_with(alloc, text, &Scan, variables)?;
+    let mapped = mapped_with(alloc, text, &Scan, variables, SyntaxTree::Released)?;
     Ok(mapped)
 }
 
@@ -241,8 +259,8 @@ fn image_alone(mapped: Mapped) -> Built
     built
 }
 
-/// Builds the program of a text as `build` does, for a caller that ends soon after: the checked tree stays in memory,
-/// since taking it apart would take a twelfth of the time.
+/// Builds the program of a text as `build` does, for a caller that ends soon after: both trees stay in memory, since
+/// taking them apart would take an eighth of the time.
 ///
 /// # Errors
 ///
@@ -253,6 +271,12 @@ pub fn build_and_leave(alloc: Global, text: &[u8]) -> Result<Built, Refusal>
     ensures refused { IfErr result (IsRefused text.now) }
     ensures accepts { IfErr result (λ refusal. IsFaulty refusal → IsNotAccepted text.now) }
 {
-    let mapped = mapped_with(alloc, text, &Scan, Variables::InTemporaries)?;
+    let mapped = mapped_with(
+        alloc,
+        text,
+        &Scan,
+        Variables::InTemporaries,
+        SyntaxTree::Left,
+    )?;
     Ok(image_alone(mapped))
 }

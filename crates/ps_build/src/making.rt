@@ -6,7 +6,7 @@ ghost use Rattle.ps_lower_code.specs.Programs.{code_of};
 ghost use Rattle.ps_lower_laws.specs.Fits.{ProgramFits};
 ghost use Rattle.ps_tree.specs.Checked.{program_in};
 ghost use Rattle.risc_emit.specs.Emitted.{HasBounds};
-ghost use Rattle.tac_pass.specs.Walk.{ArePassed};
+ghost use Rattle.tac_pass_laws.specs.Passed.{IsPassed};
 ghost use Rattle.tac_rt.specs.Bodies.{run_time_routines};
 ghost use Rattle.ps_build.specs.Accepts.{HasNoRoom};
 ghost use Rattle.ps_build.specs.Made.{IsEmitted, IsEmittedFor, AreEmitted, AreMadeOf};
@@ -61,7 +61,7 @@ pub enum Variables {
 
 // What a pass makes of the code, if one is asked for. None: the code stands as it is.
 fn passed(alloc: Global, tac: &Tac, variables: Variables) -> Result<Option<Passed>, OutOfMemory>
-    ensures { IfOk result (λ made. IfSome made (λ new_one. ArePassed tac.now new_one.tac)) }
+    ensures { IfOk result (λ made. IfSome made (λ new_one. IsPassed tac.now new_one.tac)) }
 {
     match variables {
         Variables::InFrames => Ok(None),
@@ -89,7 +89,7 @@ fn emitted_passed<P: Placer>(
     new_one: &Tac,
     placer: &P,
 ) -> Result<Emitted, Refusal>
-    requires { ArePassed tac.now new_one.now }
+    requires { IsPassed tac.now new_one.now }
     ensures ok { IfOk result (λ emitted. IsEmittedFor tac.now emitted.parts) }
     ensures bounds { IfOk result (λ emitted. HasBounds tac.now emitted.parts) }
 {

@@ -19,14 +19,20 @@ use Rattle.ps_lower.specs.declared.turns.Control.{Control}
 use Rattle.ps_lower.specs.declared.turns.Turns.{Turns}
 use Rattle.ps_lower.proofs.Jumps.{Fills}
 
-pub for_is : (x : Statement) (variable at : ℕ) (low high : ℤ) (a : Expr) (from_line : Line) (direction : Direction)
-    (b : Expr) (to_line : Line) (p : Box Statement Global) (body : Statement) → x
-    ≡ For variable at low high a from_line direction b to_line p → body ≡ p.value → t.For variable low high
-    (expr_of a) from_line.number direction (expr_of b) to_line.number (statement_of body) ≡ statement_of x
+pub for_is : (x : Statement) (variable at : ℕ) (low high : ℤ) (from : Box Expr Global) (a : Expr) (from_line : Line)
+    (direction : Direction) (to : Box Expr Global) (b : Expr) (to_line : Line) (p : Box Statement Global)
+    (body : Statement) → x ≡ For variable at low high from from_line direction to to_line p → a ≡ from.value → b
+    ≡ to.value → body ≡ p.value → t.For variable low high (expr_of a) from_line.number direction (expr_of b)
+    to_line.number (statement_of body) ≡ statement_of x
 unfolding statement_of
-for_is x variable at low high a from_line direction b to_line p body is h =
-    ap (λ k. t.For variable low high (expr_of a) from_line.number direction (expr_of b) to_line.number (statement_of k))
-    h ∙ sym (ap statement_of is)
+for_is x variable at low high from a from_line direction to b to_line p body is f g h =
+    ap (λ k. t.For variable low high (expr_of k) from_line.number direction (expr_of b) to_line.number
+    (statement_of body)) f
+    ∙ ap (λ k. t.For variable low high (expr_of from.value) from_line.number direction (expr_of k) to_line.number
+    (statement_of body)) g
+    ∙ ap (λ k. t.For variable low high (expr_of from.value) from_line.number direction (expr_of to.value)
+    to_line.number (statement_of k)) h
+    ∙ sym (ap statement_of is)
 
 -- after the body
 abbrev pub back : Turns → (distance : ℕ) → List Instruction

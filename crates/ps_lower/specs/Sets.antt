@@ -47,8 +47,8 @@ includes_code k t x = i.Offset t base.Scratch x 32 ∷ i.Offset (beside t) base.
 abbrev pub member_word : (m u v : ℕ) → List Instruction
 member_word m u v =
     i.Bits bits.And v m (operand.Number (pos 255)) ∷ i.Branch NotEqual v (operand.Temporary m) 8
-    ∷ i.Arithmetic operator.Divide v m (operand.Number (pos 32)) 1 1
-    ∷ i.Index u (base.Temporary u) v (pos 0) (pos 7) 4 1 1 ∷ i.Load u (base.Temporary u) 0 ∷ []
+    ∷ i.Arithmetic operator.Divide v m (operand.Number (pos 32)) 0 1
+    ∷ i.Index u (base.Temporary u) v (pos 0) (pos 7) 4 0 1 ∷ i.Load u (base.Temporary u) 0 ∷ []
 
 abbrev pub member_bit : (m u v t : ℕ) → List Instruction
 member_bit m u v t =

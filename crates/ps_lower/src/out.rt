@@ -56,10 +56,10 @@ impl Code {
     }
 
     /// The body of these instructions.
-    pub fn into_body(self) -> Body
-        ensures { result ≡ self }
+    pub fn into_body(self) -> Result<Body, AllocError>
+        ensures { IfOk result (λ body. body ≡ self) }
     {
-        Body::new(self.list)
+        Body::new(self.alloc, self.list)
     }
 
     /// The marks of the instructions, which are then unmarked.

@@ -217,7 +217,7 @@ fn body(
     let mut out = Code::new(alloc);
     block(&mut out, &k, routine, words, t)?;
     marks.push(out.take_marks())?;
-    Ok(out.into_body())
+    Ok(out.into_body()?)
 }
 
 /// A routine of the program; the marks of its instructions are added to those of the routines before it.

@@ -242,7 +242,7 @@ fn member_word(out: &mut Code, member: u32, set: u32, spare: u32) -> Result<(), 
         to: spare,
         left: member,
         right: Operand::Number(32),
-        error: 1,
+        error: 0,
         line: 1,
     })?;
     out.push(Instruction::Index {
@@ -252,7 +252,7 @@ fn member_word(out: &mut Code, member: u32, set: u32, spare: u32) -> Result<(), 
         low: 0,
         high: 7,
         width: 4,
-        error: 1,
+        error: 0,
         line: 1,
     })?;
     out.load(set, Base::Temporary(set), 0)

@@ -217,7 +217,8 @@ impl<'a> Parser<'a> {
     pub fn sequence(&mut self, depth: u32) -> Result<Items<Statement>, Fault>
         ensures { Reads (separated k.Semicolon (read.read_statement depth) self.old.rest.now) result self.new.rest.now }
     {
-        let mut found = Items::new(self.alloc);
+        // most sequences are of one statement
+        let mut found = Items::from_vec(Vec::with_capacity(self.alloc, 1)?);
         loop {
             push_answer(&mut found, self.statement(depth))?;
             if !self.eat(Kind::Semicolon) {

@@ -97,14 +97,19 @@ unfolding statement_extent
 case_counted s e v line items f g = ap (λ l. node ⊕ expr_extent (expr_of e) ⊕ elements_extent (elements_of l)) g ∙ sym
     (ap statement_extent (ap statement_of f ∙ statement_of_Case e v line))
 
-pub for_counted : (s : Statement) (variable at : ℕ) (low high : ℤ) (a : Expr) (from_line : Line) (direction : Direction)
-    (b : Expr) (to_line : Line) (body : Box Statement Global) (inner : Statement) → s
-    ≡ For variable at low high a from_line direction b to_line body → inner ≡ body.value → node
-    ⊕ (node ⊕ expr_extent (expr_of a)) ⊕ expr_extent (expr_of b) ⊕ statement_extent (statement_of inner)
-    ≡ statement_extent (statement_of s)
+pub for_counted : (s : Statement) (variable at : ℕ) (low high : ℤ) (from : Box Expr Global) (a : Expr) (from_line : Line)
+    (direction : Direction) (to : Box Expr Global) (b : Expr) (to_line : Line) (body : Box Statement Global)
+    (inner : Statement) → s ≡ For variable at low high from from_line direction to to_line body → a ≡ from.value → b
+    ≡ to.value → inner ≡ body.value → node ⊕ (node ⊕ expr_extent (expr_of a)) ⊕ expr_extent (expr_of b)
+    ⊕ statement_extent (statement_of inner) ≡ statement_extent (statement_of s)
 unfolding statement_extent statement_of
-for_counted s variable at low high a from_line direction b to_line body inner f g =
-    ap (λ t. node ⊕ (node ⊕ expr_extent (expr_of a)) ⊕ expr_extent (expr_of b) ⊕ statement_extent (statement_of t)) g
+for_counted s variable at low high from a from_line direction to b to_line body inner f g h k =
+    ap (λ x. node ⊕ (node ⊕ expr_extent (expr_of x)) ⊕ expr_extent (expr_of b)
+    ⊕ statement_extent (statement_of inner)) g
+    ∙ ap (λ x. node ⊕ (node ⊕ expr_extent (expr_of from.value)) ⊕ expr_extent (expr_of x)
+    ⊕ statement_extent (statement_of inner)) h
+    ∙ ap (λ t. node ⊕ (node ⊕ expr_extent (expr_of from.value)) ⊕ expr_extent (expr_of to.value)
+    ⊕ statement_extent (statement_of t)) k
     ∙ sym (ap (λ t. statement_extent (statement_of t)) f)
 
 pub pack_counted : (s : Statement) (from : Box Place Global) (p : Place) (from_ty : Ty) (e : Expr) (line : Line)

@@ -184,7 +184,7 @@ unfoldable mutual
   statement_of (While' e p s) = Tree.While (expr_of e) (statement_of s)
   statement_of (Repeat' shape row e) = Tree.Repeat (statements_of_row row) (expr_of e)
   statement_of (For' variable at low high a from_line direction b to_line p s) = Tree.For variable low high
-      (expr_of a) from_line.number direction (expr_of b) to_line.number (statement_of s)
+      (expr_of a.value) from_line.number direction (expr_of b.value) to_line.number (statement_of s)
   statement_of (With' places p s) = Tree.With (map place_of places.items) (statement_of s)
   statement_of (New place pointer line) = Tree.New (place_of place) pointer line.number
   statement_of (Pack a from_ty e line z to_ty) = Tree.Pack (place_of a.value) (type_of from_ty) (expr_of e) line.number

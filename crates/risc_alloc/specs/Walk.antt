@@ -13,8 +13,12 @@ list_in None = None
 list_in (Some None) = None
 list_in (Some (Some list)) = Some list.items
 
+abbrev pub claim_of : {A : Type 0} → List (Option (Vec ℕ A)) → Option ℕ → Option (List ℕ)
+claim_of lists None = None
+claim_of lists (Some number) = list_in (slice_get lists number)
+
 abbrev pub claim_at : Claims → ℕ → Option (List ℕ)
-claim_at claims place = list_in (slice_get claims.lists.items place)
+claim_at claims place = claim_of claims.lists.items (slice_get claims.numbers.items place)
 
 -- all that is claimed of a place is found alive
 abbrev pub IsClaimHeld : Window → Claims → (holders : List ℕ) → ℕ → Type 0

@@ -1,60 +1,76 @@
 // What is claimed to be alive at the places that jumps lead to.
 
-ghost use Rattle.std.specs.Prelude.{◌≡◌};
+ghost use Rattle.std.specs.Prelude.{◌≡◌, slice_get};
 ghost use Rattle.std.specs.Option.{option_copied};
-ghost use Rattle.risc_alloc.specs.Walk.{claim_at};
+ghost use Rattle.risc_alloc.specs.Walk.{claim_at, list_in};
 
-use crate::flow::exit_of;
 use crate::groups::{CONSIDERED, Groups};
 use crate::table::Table;
 use crate::window::Window;
 use std::alloc::Global;
-use tac_code::code::{Instruction, OutOfMemory};
+use tac_code::code::OutOfMemory;
 
 /// What is claimed to be alive at each place that a jump leads to, in the order of seats. A walk that finds nothing
 /// beyond what is claimed shows that each claim is at least what is alive there.
 #[derive(Drop)]
 pub(crate) struct Claims {
+    // of each place the number of its list
+    numbers: Vec<u32>,
+    // the first is that of the places that no jump leads to
     lists: Vec<Option<Vec<u32>>>,
 }
 
+fn list_of(lists: &[Option<Vec<u32>>], number: usize) -> Option<&[u32]>
+    ensures { option_copied result ≡ list_in (slice_get lists.now number) }
+{
+    if number < lists.len() {
+        match &lists[number] {
+            Some(list) => Some(list.as_slice()),
+            None => None,
+        }
+    } else {
+        None
+    }
+}
+
 impl Claims {
-    /// Nothing is alive where the jumps of a body lead.
-    pub(crate) fn new(alloc: Global, body: &[Instruction]) -> Result<Claims, OutOfMemory> {
-        let mut claims = Claims {
-            lists: Vec::with_capacity(alloc, body.len())?,
-        };
-        for _ in body {
-            claims.lists.push(None)?;
+    /// What was found to be alive is claimed, as far as it sits in a window.
+    pub(crate) fn new(
+        alloc: Global,
+        table: &mut Table,
+        window: &Window,
+        groups: &Groups,
+    ) -> Result<Claims, OutOfMemory> {
+        let found = groups.found();
+        let mut lists = Vec::with_capacity(alloc, found.len())?;
+        for number in 0..found.len() {
+            lists.push(match number {
+                0 => None,
+                _ => Some(members_of(alloc, table, window, found[number])?),
+            })?;
         }
-        for (place, instruction) in body.iter().enumerate() {
-            if let Some(exit) = exit_of(instruction, place, body.len())
-                && let Some(target) = exit.target
-            {
-                claims.put(target, Vec::new(alloc));
-            }
-        }
-        Ok(claims)
+        let numbers = groups.numbers().to_vec(alloc)?;
+        Ok(Claims { numbers, lists })
     }
 
     /// What is claimed of a place; `None` where no jump leads there.
     pub(crate) fn get(&self, place: usize) -> Option<&[u32]>
         ensures { option_copied result ≡ claim_at self.now place }
     {
-        if place < self.lists.len() {
-            match &self.lists[place] {
-                Some(list) => Some(list.as_slice()),
-                None => None,
-            }
+        if place < self.numbers.len() {
+            list_of(&self.lists, self.numbers[place] as usize)
         } else {
             None
         }
     }
 
-    /// Claims something else of a place.
+    /// Claims something else of a place that a jump leads to.
     pub(crate) fn put(&mut self, place: usize, list: Vec<u32>) {
-        if place < self.lists.len() {
-            self.lists[place] = Some(list);
+        if place < self.numbers.len() {
+            let number = self.numbers[place] as usize;
+            if number < self.lists.len() {
+                self.lists[number] = Some(list);
+            }
         }
     }
 }
@@ -76,23 +92,4 @@ fn members_of(
         rest &= rest.wrapping_sub(1);
     }
     table.members(alloc)
-}
-
-/// Claims what was found to be alive.
-pub(crate) fn claims_of(
-    alloc: Global,
-    table: &mut Table,
-    window: &Window,
-    groups: &Groups,
-) -> Result<Claims, OutOfMemory> {
-    let mut claims = Claims {
-        lists: Vec::with_capacity(alloc, groups.len())?,
-    };
-    for place in 0..groups.len() {
-        claims.lists.push(match groups.find(place) {
-            Some(group) => Some(members_of(alloc, table, window, group)?),
-            None => None,
-        })?;
-    }
-    Ok(claims)
 }

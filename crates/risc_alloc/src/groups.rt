@@ -49,59 +49,83 @@ pub(crate) fn group_written(instruction: &Instruction) -> u64 {
 /// Which are found alive at each place that a jump leads to.
 #[derive(Drop)]
 pub(crate) struct Groups {
-    found: Vec<Option<u64>>,
+    // of each place the number of its group
+    numbers: Vec<u32>,
+    // the first is that of the places that no jump leads to, and stays empty
+    found: Vec<u64>,
     // whether a jump leads to its own place or to one before it: without such, one walk finds all
     has_loops: bool,
 }
 
 impl Groups {
-    // No temporary is alive where the jumps of a body lead.
-    fn new(alloc: Global, body: &[Instruction]) -> Result<Groups, OutOfMemory> {
-        let mut found = vec![in alloc; None; body.len()]?;
-        let mut has_loops = false;
+    /// No temporary is alive where the jumps of a body lead.
+    pub(crate) fn new(alloc: Global, body: &[Instruction]) -> Result<Groups, OutOfMemory> {
+        let mut groups = Groups {
+            numbers: vec![in alloc; 0; body.len()]?,
+            found: vec![in alloc; 0; 1]?,
+            has_loops: false,
+        };
         for (place, instruction) in body.iter().enumerate() {
             if let Some(exit) = exit_of(instruction, place, body.len())
                 && let Some(target) = exit.target
-                && target < found.len()
             {
-                found[target] = Some(0);
-                has_loops |= target <= place;
+                groups.add(target)?;
+                groups.has_loops |= target <= place;
             }
         }
-        Ok(Groups { found, has_loops })
+        Ok(groups)
     }
 
-    /// How many places the body has.
-    pub(crate) fn len(&self) -> usize {
-        self.found.len()
+    // A jump leads to a place.
+    fn add(&mut self, place: usize) -> Result<(), OutOfMemory> {
+        if place < self.numbers.len() && self.numbers[place] == 0 {
+            self.numbers[place] = u32::try_from(self.found.len()).unwrap_or(0);
+            self.found.push(0)?;
+        }
+        Ok(())
     }
 
-    /// Which are found at a place; `None` where no jump leads there.
-    pub(crate) fn find(&self, place: usize) -> Option<u64> {
-        if place < self.found.len() {
-            self.found[place]
+    /// Of each place the number of its group, which is 0 where no jump leads there.
+    pub(crate) fn numbers(&self) -> &[u32] {
+        &self.numbers
+    }
+
+    /// The groups by number.
+    pub(crate) fn found(&self) -> &[u64] {
+        &self.found
+    }
+
+    /// Whether there are loops.
+    pub(crate) fn has_loops(&self) -> bool {
+        self.has_loops
+    }
+
+    fn number(&self, place: usize) -> usize {
+        if place < self.numbers.len() {
+            self.numbers[place] as usize
         } else {
-            None
+            0
         }
     }
 
     /// Which are found at a place, where a jump leads there.
     pub(crate) fn get(&self, place: usize) -> u64 {
-        self.find(place).unwrap_or(0)
+        let number = self.number(place);
+        if number < self.found.len() {
+            self.found[number]
+        } else {
+            0
+        }
     }
 
     // Records which are alive at a place; true where a jump leads there and that is more than was found.
     fn meet(&mut self, place: usize, alive: u64) -> bool {
-        if place >= self.found.len() {
+        let number = self.number(place);
+        if number == 0 || number >= self.found.len() || alive & !self.found[number] == 0 {
             return false;
         }
-        match self.found[place] {
-            Some(group) if alive & !group != 0 => {
-                self.found[place] = Some(alive);
-                true
-            }
-            _ => false,
-        }
+        self.found[number] = alive;
+        true
     }
 
     // From those alive at the next place to those alive before an instruction.

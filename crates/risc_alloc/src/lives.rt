@@ -127,18 +127,19 @@ struct Survey {
     met: u64,
     // how many loops are around
     loops: u32,
-    // how many loops begin at each place
+    // how many loops begin at each place, if there are loops
     begins: Vec<u32>,
 }
 
 impl Survey {
-    fn new(alloc: Global, routine: &TacRoutine) -> Result<Survey, OutOfMemory> {
+    fn new(alloc: Global, routine: &TacRoutine, groups: &Groups) -> Result<Survey, OutOfMemory> {
+        let places = routine.body.as_slice().len();
         Ok(Survey {
             candidates: unmet(alloc, routine.temporaries)?,
             alive: 0,
             met: 0,
             loops: 0,
-            begins: vec![in alloc; 0; routine.body.as_slice().len()]?,
+            begins: vec![in alloc; 0; if groups.has_loops() { places } else { 0 }]?,
         })
     }
 
@@ -222,7 +223,7 @@ fn surveyed(
     routine: &TacRoutine,
     groups: &Groups,
 ) -> Result<Vec<Candidate>, OutOfMemory> {
-    let mut survey = Survey::new(alloc, routine)?;
+    let mut survey = Survey::new(alloc, routine, groups)?;
     let body = routine.body.as_slice();
     for place in (0..body.len()).rev() {
         let instruction = &body[place];

@@ -7,7 +7,7 @@ ghost use Rattle.risc_alloc.specs.Parts.{is_call};
 ghost use Rattle.risc_alloc.specs.declared.walk.Verdict.TheVariants.{Stable};
 ghost use Rattle.risc_alloc.specs.Walk.{IsClaimHeld, Flows, Writes, Reads, Step, IsClaimed, Walked};
 
-use crate::claims::{Claims, claims_of};
+use crate::claims::Claims;
 use crate::flow::{exit_of, is_call, read_first, read_passed, read_second, written};
 use crate::groups::Groups;
 use crate::table::Table;
@@ -172,6 +172,21 @@ fn walk(
     Ok(if grew { Verdict::Grew } else { Verdict::Stable })
 }
 
+// What is claimed at first: what was found, if it is told.
+fn first_claims(
+    alloc: Global,
+    table: &mut Table,
+    window: &Window,
+    body: &[Instruction],
+    groups: Option<&Groups>,
+) -> Result<Claims, OutOfMemory> {
+    if let Some(found) = groups {
+        return Claims::new(alloc, table, window, found);
+    }
+    let nothing = Groups::new(alloc, body)?;
+    Claims::new(alloc, table, window, &nothing)
+}
+
 /// Walks until nothing new is found, from what is told at first. `None` at a clash, and where walks go on to find more.
 pub(crate) fn settle(
     alloc: Global,
@@ -183,10 +198,7 @@ pub(crate) fn settle(
     ensures { IfOk result (λ found. IfSome found
         (λ claims. Walked window.now claims body.now 0 table.new.holders.items)) }
 {
-    let mut claims = match groups {
-        Some(groups) => claims_of(alloc, table, window, groups)?,
-        None => Claims::new(alloc, body)?,
-    };
+    let mut claims = first_claims(alloc, table, window, body, groups)?;
     for _ in 0..WALKS {
         table.clear();
         match walk(alloc, table, &mut claims, window, body)? {

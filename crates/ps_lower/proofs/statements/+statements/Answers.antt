@@ -92,9 +92,10 @@ act-returns-in_ok-statement-in-IfElse t c =
 pub act-returns-in-For : goal.act-returns-in-For
 act-returns-in-For t c =
     act (scope_of c.args.k.now) c.args.action.now _ c.args.d c.act_for.result c.act_for.new.out c.args.out.now
-    (ap (λ (y : Control). tree.For y.variable y.low y.high (expr_of c.in-For.from) y.from_line.number y.direction
-    (expr_of c.in-For.to) y.to_line.number (statement_of c.deref-in-For.result.now)) c.control_of-control.ensures
-    ∙ for_is _ _ _ _ _ _ _ _ _ _ _ _ c.in-For.is c.deref-in-For.ensures)
+    (ap (λ (y : Control). tree.For y.variable y.low y.high (expr_of c.deref-in-For-2.result.now) y.from_line.number
+    y.direction (expr_of c.deref-in-For-3.result.now) y.to_line.number (statement_of c.deref-in-For.result.now))
+    c.control_of-control.ensures ∙ for_is _ _ _ _ _ _ _ _ _ _ _ _ _ _ c.in-For.is c.deref-in-For-2.ensures
+    c.deref-in-For-3.ensures c.deref-in-For.ensures)
     c.act_for.ensures
 
 pub act-returns-in-Case : goal.act-returns-in-Case
@@ -381,9 +382,10 @@ act-readln-requires t c =
 pub act-act_for-requires : goal.act-act_for-requires
 act-act_for-requires t c =
     let l = room_in (scope_of c.args.k.now) c.args.action.now _ c.args.d
-    (ap (λ (y : Control). tree.For y.variable y.low y.high (expr_of c.in-For.from) y.from_line.number y.direction
-    (expr_of c.in-For.to) y.to_line.number (statement_of c.deref-in-For.result.now)) c.control_of-control.ensures
-    ∙ for_is _ _ _ _ _ _ _ _ _ _ _ _ c.in-For.is c.deref-in-For.ensures) c.requires
+    (ap (λ (y : Control). tree.For y.variable y.low y.high (expr_of c.deref-in-For-2.result.now) y.from_line.number
+    y.direction (expr_of c.deref-in-For-3.result.now) y.to_line.number (statement_of c.deref-in-For.result.now))
+    c.control_of-control.ensures ∙ for_is _ _ _ _ _ _ _ _ _ _ _ _ _ _ c.in-For.is c.deref-in-For-2.ensures
+    c.deref-in-For-3.ensures c.deref-in-For.ensures) c.requires
     in
     (search (rules, the_lemmas, get_or_read), l)
 

@@ -93,8 +93,13 @@ add_statement-returns-in-Repeat t c = adds_two _ _ _ _ _ _
 pub add_statement-returns-in-For : goal.add_statement-returns-in-For
 unfolding statement_of
 add_statement-returns-in-For t c = adds_three _ _ _ _ _ _ _ _
-    (ap (λ a. expr_uses (expr_of c.in-For.from) ++ expr_uses (expr_of c.in-For.to) ++ statement_uses (statement_of a))
-    c.deref-in-For.ensures ∙ sym (ap (λ x. statement_uses (statement_of x)) c.in-For.is)) c.add_expr-in-For.ensures
+    (ap (λ a. expr_uses (expr_of a) ++ expr_uses (expr_of c.deref-in-For-2.result.now)
+    ++ statement_uses (statement_of c.deref-in-For-3.result.now)) c.deref-in-For.ensures
+    ∙ ap (λ a. expr_uses (expr_of c.in-For.from.value) ++ expr_uses (expr_of a)
+    ++ statement_uses (statement_of c.deref-in-For-3.result.now)) c.deref-in-For-2.ensures
+    ∙ ap (λ a. expr_uses (expr_of c.in-For.from.value) ++ expr_uses (expr_of c.in-For.to.value)
+    ++ statement_uses (statement_of a)) c.deref-in-For-3.ensures
+    ∙ sym (ap (λ x. statement_uses (statement_of x)) c.in-For.is)) c.add_expr-in-For.ensures
     c.add_expr-in-For-2.ensures c.add_statement-in-For.ensures
 
 pub add_statement-returns-in-With : goal.add_statement-returns-in-With

@@ -45,7 +45,8 @@ pub count_statement-returns-in-For : goal.count_statement-returns-in-For
 count_statement-returns-in-For t c = c.three-in-For.ensures _ _ _
     (c.with_node-in-For.ensures _ c.count_expr-in-For.ensures) c.count_expr-in-For-2.ensures
     c.count_statement-in-For.ensures ∙ ap capped
-    (for_counted _ _ _ _ _ _ _ _ _ _ _ _ c.in-For.is c.deref-in-For.ensures)
+    (for_counted _ _ _ _ _ _ _ _ _ _ _ _ _ _ c.in-For.is c.deref-in-For.ensures c.deref-in-For-2.ensures
+    c.deref-in-For-3.ensures)
 
 pub count_statement-returns-in-Pack : goal.count_statement-returns-in-Pack
 count_statement-returns-in-Pack t c = c.three-in-Pack.ensures _ _ _
