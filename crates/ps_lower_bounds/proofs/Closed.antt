@@ -9,7 +9,7 @@ use Rattle.tac_code.specs.declared.code.Instruction.TheVariants.{Literal, Arithm
 use Rattle.tac_code.specs.declared.code.Instruction.TheVariants.{CheckPointer, Text, Index, RoutineValue, Jump}
 use Rattle.tac_code.specs.declared.code.Instruction.TheVariants.{JumpBack, Branch, BranchBack, Call, CallValue, Trap}
 use Rattle.tac_code.specs.declared.code.Instruction.TheVariants.{New}
-use Rattle.tac_code.specs.Sound.{IsErrorNumber, IsLine, IsInteger}
+use Rattle.tac_code.specs.Sound.{IsErrorNumber, IsTestNumber, IsLine, IsInteger}
 use Rattle.ps_lower_code.specs.Scopes.{unless_known}
 
 -- an integer, as an order
@@ -33,13 +33,13 @@ IsNumber (operand.Number z) = IsInt z
 module _ (routines types : ℕ) where
   abbrev pub Asks : Instruction → Type 0
   Asks (Literal t z) = IsInt z
-  Asks (Arithmetic operator t a b error line) = IsNumber b × IsErrorNumber error × IsLine line
+  Asks (Arithmetic operator t a b error line) = IsNumber b × IsTestNumber error × IsLine line
   Asks (Bits operator t a b) = IsNumber b
   Asks (Compare relation t a b) = IsNumber b
-  Asks (CheckRange a low high error line) = IsInt low × IsInt high × IsErrorNumber error × IsLine line
-  Asks (CheckPointer a error line) = IsErrorNumber error × IsLine line
+  Asks (CheckRange a low high error line) = IsInt low × IsInt high × IsTestNumber error × IsLine line
+  Asks (CheckPointer a error line) = IsTestNumber error × IsLine line
   Asks (Text t bytes) = length bytes % 4 ≡ 0
-  Asks (Index t a i low high width error line) = IsInt low × IsInt high × IsErrorNumber error × IsLine line
+  Asks (Index t a i low high width error line) = IsInt low × IsInt high × IsTestNumber error × IsLine line
   Asks (RoutineValue t r) = r < routines
   Asks (Branch relation a b n) = IsNumber b
   Asks (BranchBack relation a b n) = IsNumber b

@@ -17,7 +17,7 @@ use Rattle.tac_code.specs.declared.code.Base.{Base}
 use Rattle.tac_code.specs.declared.code.Base.TheVariants as base
 use Rattle.tac_code.specs.declared.code.Instruction.{Instruction}
 use Rattle.tac_code.specs.declared.code.Instruction.TheVariants as i
-use Rattle.tac_code.specs.Sound.{IsErrorNumber, IsLine}
+use Rattle.tac_code.specs.Sound.{IsErrorNumber, IsTestNumber, IsLine}
 use Rattle.tac_code.specs.Numbers.{number_of}
 use Rattle.ps_lower_layout.specs.Words.{filled}
 use Rattle.ps_lower_layout.specs.Frames.{Kind, Own, Reference, Closure}
@@ -93,13 +93,13 @@ module _ (R T : ℕ) where
   pub moved_closed : (from to : ℕ) → Closed R T 0 0 (moved from to)
   moved_closed a b = either R T (nat_eq a b) [] (i.Copy b a ∷ []) tt (tt, tt, tt)
 
-  pub range_closed : (t : ℕ) (low high : ℤ) (number line : ℕ) → IsInt low → IsInt high → IsErrorNumber number
+  pub range_closed : (t : ℕ) (low high : ℤ) (number line : ℕ) → IsInt low → IsInt high → IsTestNumber number
       → IsLine line → Closed R T 0 0 (range_code t low high number line)
   range_closed t l h n line p q e w = either R T (is_any l h) [] (i.CheckRange t l h n line ∷ []) tt
       ((p, q, e, w), tt, tt)
 
   pub check_closed : (z : Option ℤ) (t : ℕ) (low high : ℤ) (number line : ℕ) → IsInt low → IsInt high
-      → IsErrorNumber number → IsLine line → Closed R T 0 0 (check_code z t low high number line)
+      → IsTestNumber number → IsLine line → Closed R T 0 0 (check_code z t low high number line)
   check_closed None t l h n line p q e w = range_closed t l h n line p q e w
   check_closed (Some z) t l h n line p q e w = either R T (is_between l z h) [] (i.CheckRange t l h n line ∷ []) tt
       ((p, q, e, w), tt, tt)
@@ -112,7 +112,7 @@ module _ (R T : ℕ) where
 
   pub operand_check_closed : (z : Option ℤ) (t : ℕ) (low high : ℤ) (number line : ℕ) → IsInt low → IsInt high
       → IsErrorNumber number → IsLine line → Closed R T 0 0 (operand_check z t low high number line)
-  operand_check_closed None t l h n line p q e w = range_closed t l h n line p q e w
+  operand_check_closed None t l h n line p q e w = range_closed t l h n line p q e.1 w
   operand_check_closed (Some z) t l h n line p q e w = either R T (is_between l z h) [] (i.Trap n line ∷ []) tt
       ((e, w), tt, tt)
 

@@ -312,13 +312,13 @@ adds operator (Constructor members) = is_union operator
 adds operator (Combine e steps) = false
 
 -- Whether the number in m is a member of the set at the address in u: the truth goes to t. A member is in 0..255, and
--- is bit m mod 32 of word m div 32, which is read in place. The temporary beside u is used. The errors and lines are
--- dummies: neither the quotient nor the index fails.
+-- is bit m mod 32 of word m div 32, which is read in place. The temporary beside u is used. The errors are 0, and the
+-- lines dummies: neither the quotient nor the index fails.
 abbrev pub membership_code : (m u t : ℕ) → List Instruction
 membership_code m u t =
     i.Bits bits.And (beside u) m (operand.Number (pos 255)) ∷ i.Branch NotEqual (beside u) (operand.Temporary m) 8
-    ∷ i.Arithmetic operator.Divide (beside u) m (operand.Number (pos 32)) 1 1 ∷ i.Index u (base.Temporary u) (beside u)
-    (pos 0) (pos 7) 4 1 1
+    ∷ i.Arithmetic operator.Divide (beside u) m (operand.Number (pos 32)) 0 1 ∷ i.Index u (base.Temporary u) (beside u)
+    (pos 0) (pos 7) 4 0 1
     ∷ i.Load u (base.Temporary u) 0 ∷ i.Literal (beside u) (pos 1) ∷ i.Bits bits.ShiftLeft (beside u) (beside u)
     (operand.Temporary m)
     ∷ i.Bits bits.And t u (operand.Temporary (beside u)) ∷ i.Compare NotEqual t t (operand.Number (pos 0)) ∷ i.Jump 1

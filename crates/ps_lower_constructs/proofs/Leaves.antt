@@ -2,12 +2,12 @@
 use Rattle.std.proofs.Common.{◌≡◌, ℕ, zero, suc, ◌-◌, ◌%◌, ◌<◌, ◌≤◌, ℤ, pos, negsuc, unsigned_abs, Bool, true, false}
 use Rattle.std.proofs.Common.{if◌then◌else◌, IsTrue, List, refl, sym, ap, ◌∙◌, arith, nat_eq, ◌+ℤ◌, ◌-ℤ◌, ◌*ℤ◌}
 use Rattle.std.proofs.Common.{int_div, lt-ltb, ltb-true, mod-lt, int_le}
-use Rattle.behavior.specs.Endings.{Stack, Heap, failed, ending_by}
+use Rattle.behavior.specs.Endings.{Stack, Heap, Stuck, failed, ending_by}
 use Rattle.ps_tree.specs.declared.tree.ArithmeticOperator.{ArithmeticOperator}
 use Rattle.ps_tree.specs.declared.tree.ArithmeticOperator.TheVariants.{Add, Subtract, Multiply, Div, Mod}
 use Rattle.tac_code.specs.declared.code.Value.TheVariants.{Number}
 use Rattle.tac_code.specs.Numbers.{is_integer}
-use Rattle.tac_code.specs.Meaning.{Over, fails, gives_computed}
+use Rattle.tac_code.specs.Meaning.{Over, test_ending, fails, gives_computed}
 use Rattle.ps_meaning.specs.Values.{OrdinalValue}
 use Rattle.ps_meaning.specs.Operators.{Computed, Result, Fault, is_between, is_equal, integer, modulo, compute}
 use Rattle.ps_meaning.specs.Worlds.{World, settled}
@@ -22,19 +22,26 @@ use Rattle.ps_lower_relation.proofs.Numbers.{as_given, between_integers}
 use Rattle.ps_lower_constructs.specs.Openings.{Opening, context_in}
 use Rattle.ps_lower_constructs.proofs.Runs.{gives_word}
 
--- the numbers 12 and 13 are those of stops
-pub ends_by : (number line : ℕ) (calls : List ℕ) → number ≤ 11 → ending_by number line calls ≡ failed number line calls
+-- the number of an error of the language
+abbrev pub IsLanguageError : ℕ → Type 0
+IsLanguageError number = (1 ≤ number) × (number ≤ 11)
+
+-- The number 0 is that of a test that can't fail; 12 and 13 are those of stops.
+pub ends_by : (number line : ℕ) (calls : List ℕ) → IsLanguageError number → test_ending number line calls
+    ≡ failed number line calls
 ends_by number line calls l =
+    let z : number ≡ 0 → ⊥ = λ e. omega arith in
     let a : number ≡ 12 → ⊥ = λ e. omega arith in
     let b : number ≡ 13 → ⊥ = λ e. omega arith in
-    ap (λ t. if t then Stack line else (if nat_eq number 13 then Heap line else failed number line calls))
+    ap (λ t. if t then Stuck else ending_by number line calls) (eq_no number 0 z)
+    ∙ ap (λ t. if t then Stack line else (if nat_eq number 13 then Heap line else failed number line calls))
     (eq_no number 12 a)
     ∙ ap (λ t. if t then Heap line else failed number line calls) (eq_no number 13 b)
 
 -- what is computed is an integer, and an error is one of the language
 abbrev pub IsWell : Computed → Type 0
 IsWell (Result z) = IsTrue (is_integer z)
-IsWell (Fault number) = number ≤ 11
+IsWell (Fault number) = IsLanguageError number
 
 pub integer_well : (z : ℤ) → IsWell (integer z)
 integer_well z = go (is_between least z greatest) refl
@@ -68,11 +75,11 @@ compute_well Mod x y h = modulo_well x y h
 
 module _ (p : Setting) (n : ℕ) (c : Activated) (active : IsActive p c) where
   -- an error of the language ends both runs
-  pub fails_so : (w : World) (k : Work) (pc : ℕ) (number line : ℕ) → number ≤ 11 → step_of (machine_of p)
+  pub fails_so : (w : World) (k : Work) (pc : ℕ) (number line : ℕ) → IsLanguageError number → step_of (machine_of p)
       (state p c w k pc) ≡ fails (code_in p) number line (state p c w k pc) → Stops (machine_of p) n (state p c w k pc)
       (w.transcript, failed number line c.calls)
   fails_so w k pc number line l h = stops_now n (state p c w k pc) (failed number line c.calls) (λ more. more)
-      (h ∙ ap (λ calls. Over (ending_by number line calls)) (active.told pc k.temporaries) ∙ ap Over
+      (h ∙ ap (λ calls. Over (test_ending number line calls)) (active.told pc k.temporaries) ∙ ap Over
       (ends_by number line c.calls l))
 
   -- a result goes to a temporary, or an error ends the run

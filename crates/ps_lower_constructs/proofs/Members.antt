@@ -68,8 +68,8 @@ low_byte x = ap number_in (and_numeral (word_of x) 254 refl) ∙ small (word_of 
     small : (n : ℕ) → n < 2147483648 → number_in n ≡ pos n
     small n l = ap (λ b. if b then pos n else negsuc (4294967296 - suc n)) (lt-ltb n 2147483648 l)
 
-quotient : (n : ℕ) → n < 2147483648 → within 1 (pos n) ≡ Given (pos n)
-quotient n l = ap (λ b. if b then Given (pos n) else Fails 1) (lt-ltb n 2147483648 l)
+quotient : (n : ℕ) → n < 2147483648 → within 0 (pos n) ≡ Given (pos n)
+quotient n l = ap (λ b. if b then Given (pos n) else Fails 0) (lt-ltb n 2147483648 l)
 
 in_set : (q : ℕ) → q < 8 → is_in_range (pos 0) (pos 7) (pos q) ≡ true
 in_set q l = ap (λ b. not b && not (nat_lt 7 q)) (not_less q 0 (omega arith)) ∙ ap (λ b. not b)
@@ -193,13 +193,13 @@ module _ (p : Setting) (c : Activated) (active : IsActive p c) where
         let b = word_passage_on p1 k1 a.alive (branch_step (machine_of p) (state p c w k1 p1) NotEqual v
         (operand.Temporary m) 8 false st.1.0 (low_same (pos n) true at (same_inside n little))) in
         let e2 = word_passage p c active d x w k1 p2 v (Numeral (pos q)) (omega (arith, lu)) b.alive
-        (arithmetic_step (machine_of p) (state p c w k1 p2) Divide v m (operand.Number (pos 32)) 1 1 (pos n)
+        (arithmetic_step (machine_of p) (state p c w k1 p2) Divide v m (operand.Number (pos 32)) 0 1 (pos n)
         (pos 32) st.1.1.0 m1 refl ∙ ap (λ g. gives_computed (code_in p) v g 1 (state p c w k1 p2))
         (quotient q (omega (arith, little)))) in
         let e3 = word_passage p c active d x w k2 p3 u there lu e2.alive
-        (index_step (machine_of p) (state p c w k2 p3) u (base.Temporary u) v (pos 0) (pos 7) 4 1 1 block offset
+        (index_step (machine_of p) (state p c w k2 p3) u (base.Temporary u) v (pos 0) (pos 7) 4 0 1 block offset
         (pos q) st.1.1.1.0 u2 (put_same k1.temporaries v (Numeral (pos q)))
-        ∙ ap (λ y. gives_component (code_in p) y u block (offset + steps_above (pos 0) (pos q) * 4) 1 1
+        ∙ ap (λ y. gives_component (code_in p) y u block (offset + steps_above (pos 0) (pos q) * 4) 0 1
         (state p c w k2 p3)) (in_set q (omega (arith, little)))
         ∙ ap (λ y. gives_address u block (offset + y * 4) (state p c w k2 p3)) (above_zero q)
         ∙ ap (λ y. if y then gives u (Address block (offset + q * 4)) (state p c w k2 p3) else Over Stuck)

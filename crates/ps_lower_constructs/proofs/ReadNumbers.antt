@@ -5,7 +5,7 @@ use Rattle.std.proofs.Common.{if◌then◌else◌, int_le, nat_eq, drop, take_wh
 use Rattle.std.proofs.Common.{get_or, slice_get, Some, None, sum_by, refl, sym, ap, ◌∙◌, subst, arith, lt-ltb}
 use Rattle.std.proofs.Common.{append-nil}
 use Rattle.std.specs.List.{All}
-use Rattle.behavior.specs.Endings.{failed, ending_by}
+use Rattle.behavior.specs.Endings.{failed}
 use Rattle.ps_tree.specs.declared.tree.Range.TheVariants.{Within}
 use Rattle.ps_tree.specs.Tree.{Place, ReadInteger, routine_at}
 use Rattle.tac_code.specs.declared.code.Block.TheVariants.{Frame as FrameBlock, Scratch as ScratchBlock}
@@ -18,7 +18,7 @@ use Rattle.tac_code.specs.Numbers.{is_integer, is_in_range}
 use Rattle.tac_code.specs.Memory.{Words, Living, Memory, known, living, value_in, with_word, instead, behind, changed}
 use Rattle.tac_code.specs.Memory.{with_scratch, store}
 use Rattle.tac_code.specs.Meaning.{State, Temporaries, Over, put, values_of, and_more, checks, fetch, body_at}
-use Rattle.tac_code.specs.Meaning.{open_calls}
+use Rattle.tac_code.specs.Meaning.{open_calls, test_ending}
 use Rattle.ps_meaning.specs.Values.{Value, OrdinalValue, Spot}
 use Rattle.ps_meaning.specs.Operators.{is_between}
 use Rattle.ps_meaning.specs.Text.{Reading, Scanned, EndFound, NoInteger, Integer, after_blanks, after_sign, is_digit}
@@ -61,7 +61,7 @@ use Rattle.ps_lower_constructs.specs.Tasks.{Nothing, NextRuns}
 use Rattle.ps_lower_constructs.proofs.Runs.{with_temporary, runs_bind, runs_from, keeps_refl, keeps_less}
 use Rattle.ps_lower_constructs.proofs.Kept.{opened_kept, site_kept}
 use Rattle.ps_lower_constructs.proofs.Calls.{length_map, map_there}
-use Rattle.ps_lower_constructs.proofs.Leaves.{ends_by}
+use Rattle.ps_lower_constructs.proofs.Leaves.{IsLanguageError, ends_by}
 use Rattle.ps_lower_constructs.proofs.Writes.{numbered_more, is_fresh}
 use Rattle.ps_lower_constructs.proofs.Inputs.{input_place, place_small, input_is, input_renewed}
 use Rattle.ps_lower_constructs.proofs.Selectors.{PlaceIn, is_byte_part, place_byte}
@@ -99,7 +99,7 @@ module _ (p : Setting) (c : Activated) (active : IsActive p c) where
 
   -- an error of the language in any state of this activation
   fails_here : (n : ℕ) (s : State) (pc : ℕ) (t : Temporaries) (a line number : ℕ) (low high z : ℤ) → s.current
-      ≡ activation c pc t → s.callers ≡ c.callers → number ≤ 11 → fetch (code_in p) c.routine pc ≡ Some
+      ≡ activation c pc t → s.callers ≡ c.callers → IsLanguageError number → fetch (code_in p) c.routine pc ≡ Some
       (i.CheckRange a low high number line) → t a ≡ Some (Numeral z) → is_in_range low high z ≡ false → Stops
       (machine_of p) n s (s.tape.transcript, failed number line c.calls)
   fails_here n s pc t a line number low high z here callers few at word out =
@@ -110,7 +110,7 @@ module _ (p : Setting) (c : Activated) (active : IsActive p c) where
       stops_now n s (failed number line c.calls) (λ more. more)
       (range_step (machine_of p) s a low high number line z fetched (ap (λ y. y.temporaries a) here ∙ word)
       ∙ ap (λ b. checks (code_in p) b number line s) out
-      ∙ ap (λ calls. Over (ending_by number line calls)) told
+      ∙ ap (λ calls. Over (test_ending number line calls)) told
       ∙ ap Over (ends_by number line c.calls few))
 
 -- ---- what is left is bytes
@@ -265,7 +265,7 @@ module _ (p : Setting) (n : ℕ) (call : Caller) (next : Next) (c : Activated) (
         ∙ ap (λ b. checks (code_in p) b number line (raw code after place)) in_)
 
     fails_test : (code z : ℤ) (after : Memory) (place line number : ℕ) (low high : ℤ) → code ≡ z
-        → is_in_range low high z ≡ false → number ≤ 11 → fetch (code_in p) c.routine place ≡ Some
+        → is_in_range low high z ≡ false → IsLanguageError number → fetch (code_in p) c.routine place ≡ Some
         (i.CheckRange e low high number line) → Stops (machine_of p) (suc n) (raw code after place)
         (w.transcript ++ marks, failed number line c.calls)
     fails_test code z after place line number low high q out few at = fails_here p c active (suc n)

@@ -260,10 +260,15 @@ open_calls program a (c ∷ cs) =
 
 -- ---- errors
 
+-- The ending that an error's number means. A test with number 0 is one that can't fail: what it does where it would fail
+-- has no rule.
+abbrev pub test_ending : (number line : ℕ) → (calls : List ℕ) → Ending
+test_ending number line calls = if nat_eq number 0 then Stuck else ending_by number line calls
+
 module _ (code : Code) where
-  -- the ending that an error's number means, with the calls that are open
+  -- the same, with the calls that are open
   abbrev pub fails : ℕ → ℕ → State → Step
-  fails number line s = Over (ending_by number line (open_calls (length code.program) s.current s.callers))
+  fails number line s = Over (test_ending number line (open_calls (length code.program) s.current s.callers))
 
   abbrev pub gives_computed : ℕ → Computed → ℕ → State → Step
   gives_computed t (Gives z) line s = gives t (Number z) s

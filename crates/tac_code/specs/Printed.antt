@@ -1,5 +1,5 @@
 -- The printed form of the code, as bytes: a line for each instruction. The forms are this project's own.
-use Rattle.std.specs.Prelude.{ℕ, suc, List, [], ◌∷◌, ◌++◌, length, codes, decimal, flat_map}
+use Rattle.std.specs.Prelude.{ℕ, suc, List, [], ◌∷◌, ◌++◌, if◌then◌else◌, nat_eq, length, codes, decimal, flat_map}
 use Rattle.std.specs.Fmt.{signed_decimal}
 use Rattle.tac_code.specs.declared.code.Operator.{Operator}
 use Rattle.tac_code.specs.declared.code.Operator.TheVariants.{Add, Subtract, Multiply, Divide, Modulo}
@@ -59,9 +59,10 @@ printed_base (base.Temporary t) = codes "t" ++ decimal t
 abbrev pub printed_bytes : List ℕ → List ℕ
 printed_bytes bytes = flat_map (λ b. codes " " ++ decimal b) bytes
 
--- the error that an instruction may end with
+-- the error that an instruction may end with; nothing where its test can't fail
 unfoldable pub or_error : ℕ → ℕ → List ℕ
-or_error number line = codes ", else error " ++ decimal number ++ codes " at line " ++ decimal line
+or_error number line =
+    if nat_eq number 0 then [] else codes ", else error " ++ decimal number ++ codes " at line " ++ decimal line
 
 -- the temporary that is written comes last, after an arrow
 abbrev pub printed : Instruction → List ℕ

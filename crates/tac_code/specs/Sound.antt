@@ -30,6 +30,10 @@ code_of raw =
 abbrev pub IsErrorNumber : ℕ → Type 0
 IsErrorNumber n = (1 ≤ n) × (n ≤ 13)
 
+-- the number of a test's error, or 0 for a test that can't fail
+abbrev pub IsTestNumber : ℕ → Type 0
+IsTestNumber n = n ≤ 13
+
 abbrev pub IsLine : ℕ → Type 0
 IsLine n = (1 ≤ n) × (n ≤ 65535)
 
@@ -57,16 +61,16 @@ abbrev pub IsSoundAt : Limits → ℕ → Instruction → Type 0
 IsSoundAt l place (Literal t z) = (t < l.temporaries) × IsInteger z
 IsSoundAt l place (Copy t a) = (t < l.temporaries) × (a < l.temporaries)
 IsSoundAt l place (Arithmetic operator t a b error line) =
-    (t < l.temporaries) × (a < l.temporaries) × IsOperand l.temporaries b × IsErrorNumber error × IsLine line
+    (t < l.temporaries) × (a < l.temporaries) × IsOperand l.temporaries b × IsTestNumber error × IsLine line
 IsSoundAt l place (Bits operator t a b) = (t < l.temporaries) × (a < l.temporaries) × IsOperand l.temporaries b
 IsSoundAt l place (Compare relation t a b) = (t < l.temporaries) × (a < l.temporaries) × IsOperand l.temporaries b
 IsSoundAt l place (CheckRange a low high error line) =
-    (a < l.temporaries) × IsInteger low × IsInteger high × IsErrorNumber error × IsLine line
-IsSoundAt l place (CheckPointer a error line) = (a < l.temporaries) × IsErrorNumber error × IsLine line
+    (a < l.temporaries) × IsInteger low × IsInteger high × IsTestNumber error × IsLine line
+IsSoundAt l place (CheckPointer a error line) = (a < l.temporaries) × IsTestNumber error × IsLine line
 IsSoundAt l place (Text t bytes) = (t < l.temporaries) × (length bytes % 4 ≡ 0)
 IsSoundAt l place (Offset t a n extent) = (t < l.temporaries) × IsBase l a n extent
 IsSoundAt l place (Index t a i low high width error line) =
-    (t < l.temporaries) × IsBase l a 0 0 × (i < l.temporaries) × IsInteger low × IsInteger high × IsErrorNumber error
+    (t < l.temporaries) × IsBase l a 0 0 × (i < l.temporaries) × IsInteger low × IsInteger high × IsTestNumber error
     × IsLine line
 IsSoundAt l place (RoutineValue t r) = (t < l.temporaries) × (r < l.routines)
 IsSoundAt l place (Load t a offset) = (t < l.temporaries) × IsBase l a offset 4

@@ -3,7 +3,7 @@
 ghost use Rattle.std.specs.Prelude.{◌≡◌, ℕ, suc, ◌+◌, ◌<◌, ◌≤◌, ◌%◌, ◌↔◌, IsTrue, length};
 ghost use Rattle.tac_code.specs.Meaning.{size};
 ghost use Rattle.tac_code.specs.Sound.{AreOperands, IsInteger, IsOperand, IsBase, IsSoundAt, IsSoundBody};
-ghost use Rattle.tac_code.specs.Sound.{IsSoundRoutine, IsLeaf, Each, CallsNone, IsErrorNumber, IsLine};
+ghost use Rattle.tac_code.specs.Sound.{IsSoundRoutine, IsLeaf, Each, CallsNone, IsErrorNumber, IsTestNumber, IsLine};
 
 use crate::code::{Base, Instruction, Operand, Operands, TacRoutine};
 
@@ -37,6 +37,13 @@ fn is_error(error: u8, line: u16) -> bool
     is_error_number(error) && is_line(line)
 }
 
+// The number of a test's error, or 0 for a test that can't fail, and the test's line.
+fn is_test(error: u8, line: u16) -> bool
+    ensures { IsTrue result ↔ (IsTestNumber error × IsLine line) }
+{
+    error <= 13 && is_line(line)
+}
+
 // Every number of this type is one, a fact that proofs about the code need.
 fn is_integer(number: i32) -> bool
     ensures { IsTrue result ↔ IsInteger number }
@@ -47,9 +54,9 @@ fn is_integer(number: i32) -> bool
 
 // A range, and the error for what is outside it.
 fn is_range(low: i32, high: i32, error: u8, line: u16) -> bool
-    ensures { IsTrue result ↔ (IsInteger low × IsInteger high × IsErrorNumber error × IsLine line) }
+    ensures { IsTrue result ↔ (IsInteger low × IsInteger high × IsTestNumber error × IsLine line) }
 {
-    is_integer(low) && is_integer(high) && is_error(error, line)
+    is_integer(low) && is_integer(high) && is_test(error, line)
 }
 
 fn are_operands(temporaries: u32, operands: &Operands) -> bool
@@ -124,7 +131,7 @@ fn is_sound_at(l: Limits, place: usize, instruction: &Instruction) -> bool
         } => {
             *to < l.temporaries
                 && are_compared(l.temporaries, *left, *right)
-                && is_error(*error, *line)
+                && is_test(*error, *line)
         }
         Instruction::Bits {
             operator: _,
@@ -149,7 +156,7 @@ fn is_sound_at(l: Limits, place: usize, instruction: &Instruction) -> bool
             pointer,
             error,
             line,
-        } => { *pointer < l.temporaries && is_error(*error, *line) }
+        } => { *pointer < l.temporaries && is_test(*error, *line) }
         Instruction::Text { to, bytes } => {
             *to < l.temporaries && bytes.as_slice().len() % 4 == 0
         }

@@ -191,6 +191,7 @@ pub enum Instruction {
         to: u32,
         left: u32,
         right: Operand,
+        /// 0 says that the test can't fail.
         error: u8,
         line: u16,
     },
@@ -212,12 +213,14 @@ pub enum Instruction {
         value: u32,
         low: i32,
         high: i32,
+        /// 0 says that the test can't fail.
         error: u8,
         line: u16,
     },
     /// The error where the pointer is nil.
     CheckPointer {
         pointer: u32,
+        /// 0 says that the test can't fail.
         error: u8,
         line: u16,
     },
@@ -241,6 +244,7 @@ pub enum Instruction {
         low: i32,
         high: i32,
         width: u32,
+        /// 0 says that the test can't fail.
         error: u8,
         line: u16,
     },
@@ -328,9 +332,9 @@ pub enum Instruction {
     End,
 }
 
-/// The instructions of a routine.
+/// The instructions of a routine. Several codes may share them.
 pub struct Body {
-    list: Vec<Instruction>,
+    list: Rc<Vec<Instruction>>,
 }
 
 impl Drop for Body {
@@ -345,15 +349,26 @@ impl Model for Body {
 
     ghost Value = { List Instruction };
 
-    ghost view = { λ b. b.list.items };
+    ghost view = { λ b. b.list.value.items };
 }
 
 impl Body {
     /// A body of these instructions.
-    pub fn new(instructions: Vec<Instruction>) -> Body
-        ensures { result ≡ instructions.items }
+    pub fn new(alloc: Global, instructions: Vec<Instruction>) -> Result<Body, OutOfMemory>
+        ensures { IfOk result (λ body. body ≡ instructions.items) }
     {
-        Body { list: instructions }
+        Ok(Body {
+            list: Rc::new(alloc, instructions)?,
+        })
+    }
+
+    /// The same body, which is shared: no instruction is copied.
+    pub fn share(&self) -> Result<Body, OutOfMemory>
+        ensures { IfOk result (λ body. body ≡ self.now) }
+    {
+        Ok(Body {
+            list: self.list.clone()?,
+        })
     }
 
     /// The instructions, in order.

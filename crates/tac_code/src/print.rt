@@ -119,7 +119,7 @@ impl fmt::Display for Constant {
     }
 }
 
-// The error that an instruction may end with, and its line.
+// The error that an instruction may end with, and its line; nothing is written where its test can't fail.
 #[derive(Clone, Copy)]
 struct Otherwise {
     error: u8,
@@ -132,6 +132,9 @@ impl fmt::Display for Otherwise {
 
     fn fmt<W: fmt::Write>(&self, f: &mut fmt::Formatter<W>) -> fmt::Result {
         let (error, line) = (self.error, self.line);
+        if error == 0 {
+            return Ok(());
+        }
         write!(f, ", else error {error} at line {line}")
     }
 }

@@ -3,7 +3,7 @@ use Rattle.std.proofs.Common.{◌≡◌, ◌≢◌, ℕ, suc, ◌+◌, ◌-◌, 
 use Rattle.std.proofs.Common.{List, [], ◌∷◌, length, slice_get, Option, Some, None, ℤ, pos, negsuc, refl, sym, ap, ◌∙◌}
 use Rattle.std.proofs.lemmas.Bool.{eq-eqb, ne_eqb}
 use Rattle.behavior.specs.Endings as ending
-use Rattle.behavior.specs.Endings.{failed, ending_by}
+use Rattle.behavior.specs.Endings.{failed}
 use Rattle.tac_code.specs.declared.code.Block.{Block}
 use Rattle.tac_code.specs.declared.code.Value.{Value}
 use Rattle.tac_code.specs.declared.code.Value.TheVariants.{Number, Address, Routine}
@@ -24,21 +24,23 @@ use Rattle.tac_code.specs.Meaning.{Code, Tape, Activation, State, Step, Goes, Ov
 use Rattle.tac_code.specs.Meaning.{with_address, with_routine, with_byte_value, text_at, pointer_of, related}
 use Rattle.tac_code.specs.Meaning.{operand_value, base_value, is_nil, gives_address, gives_computed, gives_component}
 use Rattle.tac_code.specs.Meaning.{gives, checks, fails, goes_on, goes_to, routines, is_full, values_of, onward}
-use Rattle.tac_code.specs.Meaning.{entered, enter, calls, open_calls, fetch, act, step}
+use Rattle.tac_code.specs.Meaning.{entered, enter, calls, open_calls, fetch, act, step, test_ending}
 use Rattle.tac_code.specs.Run.{after, run}
 use Rattle.tac_code_runner.specs.Effect.{ending_of, ended_by, if_some, if_number, if_address, if_routine, if_byte}
 use Rattle.tac_code_runner.specs.Effect.{given_address, given_computed, given_component, checked_by, operands_in}
 use Rattle.tac_code_runner.specs.Effect.{effect_of, perform, values_after, with_activation, KeepsShown, ended_at}
 
 pub ending_of-ended_by : (number line : ℕ) (lines : List ℕ) → ending_of (ended_by number line) lines
-    ≡ ending_by number line lines
-ending_of-ended_by number line lines = split (nat_eq number 12) (nat_eq number 13)
+    ≡ test_ending number line lines
+ending_of-ended_by number line lines = split (nat_eq number 0) (nat_eq number 12) (nat_eq number 13)
   where
-    split : (a b : Bool) → ending_of (if a then OutOfStack line else if b then OutOfHeap line else Error number line)
-        lines ≡ (if a then ending.Stack line else if b then ending.Heap line else failed number line lines)
-    split true b = refl
-    split false true = refl
-    split false false = refl
+    split : (none a b : Bool) → ending_of (if none then Stuck else if a then OutOfStack line else if b then OutOfHeap line
+        else Error number line) lines ≡ (if none then ending.Stuck else if a then ending.Stack line
+        else if b then ending.Heap line else failed number line lines)
+    split true a b = refl
+    split false true b = refl
+    split false false true = refl
+    split false false false = refl
 
 module _ (code : Code) (F G : ℕ → ℕ) (S H : ℕ) (operands : List ℕ) (s : State) where
   abbrev does : Effect → Step

@@ -39,9 +39,13 @@ ending_of (OutOfStack line) lines = ending.Stack line
 ending_of (OutOfHeap line) lines = ending.Heap line
 ending_of Stuck lines = ending.Stuck
 
+-- the ending that an error's number means; 0 is the number of a test that can't fail
 abbrev pub ended_by : ℕ → ℕ → Ending
 ended_by number line =
-    if nat_eq number 12 then OutOfStack line else if nat_eq number 13 then OutOfHeap line else Error number line
+    if nat_eq number 0 then Stuck
+    else if nat_eq number 12 then OutOfStack line
+    else if nat_eq number 13 then OutOfHeap line
+    else Error number line
 
 -- ---- operands
 

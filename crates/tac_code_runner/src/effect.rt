@@ -45,11 +45,12 @@ ghost use Rattle.tac_code.specs.Meaning.{pointer_of, same_pointer, pointers_rela
 ghost use Rattle.tac_code_runner.specs.Effect.{ended_by, if_some, if_number, if_address, if_routine, if_byte};
 ghost use Rattle.tac_code_runner.specs.Effect.{checked_by, given_address, given_component, given_computed};
 
-/// The ending that the number of an error means.
+/// The ending that the number of an error means; 0 is the number of a test that can't fail.
 pub(crate) fn ending_by_number(number: u8, line: u16) -> Ending
     ensures { result ≡ ended_by number line }
 {
     match number {
+        0 => Ending::Stuck,
         12 => Ending::OutOfStack { line },
         13 => Ending::OutOfHeap { line },
         _ => Ending::Error { number, line },

@@ -1,7 +1,7 @@
 -- Each step of the old code is followed by the new code's, by the rules: what all steps have in common.
 use Rattle.std.proofs.Common.{◌≡◌, ℕ, suc, ◌<◌, ℤ, pos, negsuc, Bool, true, false, nat_lt, if◌then◌else◌, length}
 use Rattle.std.proofs.Common.{slice_get, Option, Some, None, refl, ap, ◌∙◌, subst, arith}
-use Rattle.behavior.specs.Endings.{Ending, Stuck, ending_by}
+use Rattle.behavior.specs.Endings.{Ending, Stuck}
 use Rattle.tac_code.specs.declared.code.Block.{Block}
 use Rattle.tac_code.specs.declared.code.Value.{Value}
 use Rattle.tac_code.specs.declared.code.Value.TheVariants.{Number, Address, Routine}
@@ -9,7 +9,7 @@ use Rattle.tac_code.specs.declared.code.Instruction.{Instruction}
 use Rattle.tac_code.specs.Numbers.{Computed, Gives, Fails}
 use Rattle.tac_code.specs.Memory.{known}
 use Rattle.tac_code.specs.Meaning.{Code, State, Step, Goes, Over, fetch, act, put, with_some, with_number}
-use Rattle.tac_code.specs.Meaning.{with_address, with_routine, with_byte_value, open_calls, fails, gives}
+use Rattle.tac_code.specs.Meaning.{with_address, with_routine, with_byte_value, open_calls, fails, gives, test_ending}
 use Rattle.tac_code.specs.Meaning.{gives_address, gives_computed, checks, goes_on}
 use Rattle.tac_code_steps.specs.Turns.{turns_aside}
 use Rattle.tac_code_steps.specs.InTurns.{Setting}
@@ -87,8 +87,8 @@ module _ (old new : Code) (p : Setting) (e : Certificate) where
 
     failed_alike : (number line : ℕ) → fails new number line s' ≡ fails old number line s
     failed_alike number line =
-        ap (λ n. Over (ending_by number line (open_calls n s'.current s'.callers))) same_count
-        ∙ ap (λ calls. Over (ending_by number line calls))
+        ap (λ n. Over (test_ending number line (open_calls n s'.current s'.callers))) same_count
+        ∙ ap (λ calls. Over (test_ending number line calls))
         (open_alike e (length old.program) s.current.result s'.current.result s.current s'.current s.callers
         s'.callers a.rest a.outside.call.routine a.outside.call.line a.outside.callers)
 

@@ -1,2 +1,2 @@
-mod Keeping
+mod Passing
 mod Staying

@@ -1,8 +1,8 @@
 -- A routine that stays as it is was passed by a plan: one by which each instruction is kept, and each temporary stands
--- in the one of its number.
+-- in the one of its number. And it is lean of itself.
 use Rattle.std.proofs.Common.{◌≡◌, ◌≢◌, inl, inr, ℕ, zero, suc, ◌+◌, ◌-◌, ◌<◌, ◌≤◌, ◌*◌, ◌++◌, Bool, true, false}
 use Rattle.std.proofs.Common.{◌&&◌, nat_eq, nat_lt, List, [], ◌∷◌, length, slice_get, slice_set, map}
-use Rattle.std.proofs.Common.{Option, Some, None, IfSome, refl, sym, ◌∙◌, subst, ap, arith, true≢false}
+use Rattle.std.proofs.Common.{Option, Some, None, refl, sym, ◌∙◌, subst, ap, arith, true≢false}
 use Rattle.std.specs.List.{All}
 use Rattle.std.proofs.lemmas.Bool.{eq-eqb, ne_eqb}
 use Rattle.std.proofs.lemmas.Option.{none-some, same_Some}
@@ -39,6 +39,8 @@ use Rattle.tac_pass.specs.Walk.{spot, Becomes, Steps, Passed, PassedRoutine}
 use Rattle.tac_pass.proofs.Memories.{length_map}
 use Rattle.tac_pass.proofs.Placing.{forgetful_itself}
 use Rattle.tac_pass.proofs.Words.{length_set}
+use Rattle.tac_known.proofs.Itself.{itself_is_lean}
+use Rattle.tac_plan.specs.Passes.{PassesRoutine}
 
 both_true : (a b : Bool) → a ≡ true → b ≡ true → (a && b) ≡ true
 both_true true b e f = f
@@ -504,11 +506,19 @@ routine_stays r puts l routine routine' none sound same p e =
       shorter = most;
     })
 
--- the same of what a copy gives
+-- the same of what a copy gives, where nothing is lean
 pub all_stay : {E : Type 0} (r : ℕ) (puts : Vec Put_in) (l : Limits) (routine : TacRoutine)
-    (result : Result (Option TacRoutine) E) → length puts.items ≡ 0 → IsSoundRoutine l routine → l.temporaries
-    ≡ routine.temporaries → l.places ≡ length routine.body → IfOk result
-    (λ made. IfSome made (λ copy. copy ≡ routine)) → IfOk result (λ made. IfSome made (PassedRoutine r routine))
-all_stay r puts l routine (Ok None) none sound same p h = h
-all_stay r puts l routine (Ok (Some copy)) none sound same p h = routine_stays r puts l routine copy none sound same p h
+    (result : Result TacRoutine E) → length puts.items ≡ 0 → IsSoundRoutine l routine → l.temporaries
+    ≡ routine.temporaries → l.places ≡ length routine.body → IfOk result (λ copy. copy ≡ routine)
+    → IfOk result (PassesRoutine r routine)
+all_stay r puts l routine (Ok copy) none sound same p h =
+    subst (λ (x : TacRoutine). PassesRoutine r routine x) (sym h) (record {
+      between = routine;
+      passed = routine_stays r puts l routine routine none sound same p refl;
+      lean = record {
+        heading = record { parameters = refl; frame = refl; scratch = refl; line = refl };
+        temporaries = refl;
+        body = itself_is_lean routine.body;
+      };
+    })
 all_stay r puts l routine (Err e) none sound same p h = h

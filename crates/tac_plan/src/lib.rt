@@ -3,10 +3,10 @@
 #![tactic(auto)]
 
 pub mod choice;
-mod copies;
 mod draft;
 mod flow;
 pub mod pass;
 mod regions;
 mod sets;
+mod stays;
 mod words;

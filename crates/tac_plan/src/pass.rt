@@ -2,16 +2,18 @@
 
 ghost use Rattle.std.specs.Prelude.{length, IfOk, IfSome};
 ghost use Rattle.tac_code.specs.Sound.{IsSoundRoutine, AreSoundRoutines, limits_of};
-ghost use Rattle.tac_pass.specs.Keeps.{Keeps};
-ghost use Rattle.tac_pass.specs.Walk.{PassedRoutine, PassedSoFar, ArePassed};
+ghost use Rattle.tac_known.specs.Lean.{LeanBody};
+ghost use Rattle.tac_pass_laws.specs.Passed.{IsPassed};
+ghost use Rattle.tac_plan.specs.Passes.{PassesBody, PassesRoutine, PassesSoFar, Passes};
 
 use crate::choice::plan_of;
-use crate::copies::stayed;
 use crate::flow::has_loop;
+use crate::stays::stayed;
 use std::alloc::Global;
-use tac_code::code::{Body, OutOfMemory, TacRaw, TacRoutine};
+use tac_code::code::{Body, Instruction, OutOfMemory, TacRaw, TacRoutine};
 use tac_code::tac::Tac;
-use tac_pass::laws::passed_keeps;
+use tac_known::claims::claims;
+use tac_known::walk::lean_body;
 use tac_pass::plan::Plan;
 use tac_pass::walk::{starts_of, walk};
 
@@ -88,35 +90,71 @@ fn plan_at(plans: &[Option<Plan>], at: usize) -> Option<&Plan> {
     }
 }
 
+// A body whose tests that can't fail have the number 0. None where more was claimed of it than is known.
+#[tactic(auto, using(tac_known::proofs::Itself::itself_is_lean))]
+fn leaned(
+    alloc: Global,
+    temporaries: usize,
+    body: Vec<Instruction>,
+) -> Result<Option<Vec<Instruction>>, OutOfMemory>
+    ensures { IfOk result (λ made. IfSome made (λ new_body. LeanBody body.items new_body.items)) }
+{
+    let mut list = body;
+    let Some(claims) = claims(alloc, temporaries, list.as_slice())? else {
+        return Ok(Some(list));
+    };
+    if lean_body(alloc, temporaries, claims.as_slice(), list.as_mut_slice())? {
+        Ok(Some(list))
+    } else {
+        Ok(None)
+    }
+}
+
+// A body by a plan, and then without tests that can't fail. None where the rules don't allow what is planned or claimed.
+#[tactic(auto, using(crate::proofs::Passing::body_passes))]
+fn passed_body(
+    alloc: Global,
+    number: usize,
+    routine: &TacRoutine,
+    plan: &Plan,
+) -> Result<Option<Vec<Instruction>>, OutOfMemory>
+    ensures { IfOk result (λ made. IfSome made (λ new_body. PassesBody number routine.now.body new_body.items)) }
+{
+    let Some(list) = walk(alloc, number, routine.body.as_slice(), plan)? else {
+        return Ok(None);
+    };
+    leaned(alloc, routine.temporaries as usize, list)
+}
+
 // By the plan that was chosen, or as it is.
-#[tactic(auto, using(tac_pass::proofs::Passing::routine_passed))]
+#[tactic(auto, using(crate::proofs::Passing::routine_passes))]
 fn passed_routine(
     alloc: Global,
     tac: &Tac,
     number: usize,
     routine: &TacRoutine,
     plan: Option<&Plan>,
-) -> Result<Option<TacRoutine>, OutOfMemory>
+) -> Result<TacRoutine, OutOfMemory>
     requires { IsSoundRoutine (limits_of tac.now routine.now) routine.now }
-    ensures { IfOk result (λ made. IfSome made (PassedRoutine number routine.now)) }
+    ensures { IfOk result (PassesRoutine number routine.now) }
 {
     let Some(plan) = plan else {
         return stayed(alloc, tac, number, routine);
     };
-    let Some(list) = walk(alloc, number, routine.body.as_slice(), plan)? else {
+    let Some(list) = passed_body(alloc, number, routine, plan)? else {
         return stayed(alloc, tac, number, routine);
     };
-    Ok(Some(TacRoutine {
+    Ok(TacRoutine {
         parameters: routine.parameters,
         temporaries: routine.temporaries,
         frame: routine.frame,
         scratch: routine.scratch,
         line: routine.line,
-        body: Body::new(list),
-    }))
+        body: Body::new(alloc, list)?,
+    })
 }
 
-#[tactic(auto, using(tac_pass::proofs::Passing::so_far_more))]
+#[tactic(auto, using(crate::proofs::Passing::so_far_none))]
 fn passed_routines(
     alloc: Global,
     tac: &Tac,
@@ -126,26 +164,23 @@ fn passed_routines(
 ) -> Result<Option<Vec<TacRoutine>>, OutOfMemory>
     requires { AreSoundRoutines tac.now routines.now }
     ensures { IfOk result (λ made. IfSome made
-        (λ list. PassedSoFar first routines.now (length routines.now) list.items)) }
+        (λ list. PassesSoFar first routines.now (length routines.now) list.items)) }
 {
     let mut list = Vec::with_capacity(alloc, routines.len())?;
     for at in 0..routines.len() {
         let Some(number) = first.checked_add(at) else {
             return Ok(None);
         };
-        let Some(routine) = passed_routine(alloc, tac, number, &routines[at], plan_at(plans, at))?
-        else {
-            return Ok(None);
-        };
+        let routine = passed_routine(alloc, tac, number, &routines[at], plan_at(plans, at))?;
         list.push(routine)?;
     }
     Ok(Some(list))
 }
 
 // New code that was made by plans.
-#[tactic(auto, using(tac_pass::proofs::Passing::are_passed))]
+#[tactic(auto, using(crate::proofs::Passing::passes))]
 fn made_by(alloc: Global, tac: &Tac, plans: &[Option<Plan>]) -> Result<Option<Tac>, OutOfMemory>
-    ensures { IfOk result (λ made. IfSome made (λ new_one. ArePassed tac.now new_one)) }
+    ensures { IfOk result (λ made. IfSome made (λ new_one. Passes tac.now new_one)) }
 {
     tac.keeps_invariant();
     let Some(program) = passed_routines(alloc, tac, tac.program(), 0, plans)? else {
@@ -201,15 +236,14 @@ pub struct Passed {
     pub starts: Vec<Option<Vec<u64>>>,
 }
 
-/// New code that keeps what the old one shows, with words of frames in temporaries. Each routine has as many
-/// temporaries as it had, the same blocks, and no more instructions. None where none is found: then the old code
-/// stands.
-#[tactic(auto, using(crate::proofs::Keeping::all_keep))]
+/// New code that keeps what the old one shows, with words of frames in temporaries, and with the number 0 at tests that
+/// can't fail. Each routine has as many temporaries as it had, the same blocks, and no more instructions. None where none
+/// is found: then the old code stands.
+#[tactic(auto, using(crate::proofs::Passing::is_passed))]
 pub fn pass(alloc: Global, tac: &Tac) -> Result<Option<Passed>, OutOfMemory>
-    ensures passed { IfOk result (λ made. IfSome made (λ passed. ArePassed tac.now passed.tac)) }
-    ensures keeps { IfOk result (λ made. IfSome made (λ passed. Keeps tac.now passed.tac)) }
+    ensures made { IfOk result (λ made. IfSome made (λ passed. Passes tac.now passed.tac)) }
+    ensures passed { IfOk result (λ made. IfSome made (λ passed. IsPassed tac.now passed.tac)) }
 {
-    passed_keeps();
     let plans = plans_of(alloc, tac.program())?;
     if !is_any(plans.as_slice()) {
         return Ok(None);

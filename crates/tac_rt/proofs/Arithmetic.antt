@@ -17,22 +17,22 @@ lt-ltb-no a b l = go (nat_lt a b) refl
     go true e = let h = ltb-true a b e in absurd (omega (arith, h))
     go false e = refl
 
-pub gives_natural : (n : ℕ) → n < 2147483648 → within 1 (pos n) ≡ Gives (pos n)
-gives_natural n l = ap (λ b. if b then Gives (pos n) else Fails 1) (lt-ltb n 2147483648 l)
+pub gives_natural : (n : ℕ) → n < 2147483648 → within 0 (pos n) ≡ Gives (pos n)
+gives_natural n l = ap (λ b. if b then Gives (pos n) else Fails 0) (lt-ltb n 2147483648 l)
 
-pub gives_negative : (n : ℕ) → n < 2147483648 → within 1 (negsuc n) ≡ Gives (negsuc n)
-gives_negative n l = ap (λ b. if b then Gives (negsuc n) else Fails 1) (lt-ltb n 2147483648 l)
+pub gives_negative : (n : ℕ) → n < 2147483648 → within 0 (negsuc n) ≡ Gives (negsuc n)
+gives_negative n l = ap (λ b. if b then Gives (negsuc n) else Fails 0) (lt-ltb n 2147483648 l)
 
-pub difference : (w n : ℕ) → n ≤ w → w < 2147483648 → computed Subtract 1 (pos w) (pos n) ≡ Gives (pos (w - n))
-difference w n l h = let e : pos w -ℤ pos n ≡ pos (w - n) = omega (arith, ints) in ap (within 1) e ∙ gives_natural
+pub difference : (w n : ℕ) → n ≤ w → w < 2147483648 → computed Subtract 0 (pos w) (pos n) ≡ Gives (pos (w - n))
+difference w n l h = let e : pos w -ℤ pos n ≡ pos (w - n) = omega (arith, ints) in ap (within 0) e ∙ gives_natural
     (w - n) (omega arith)
 
-pub shortfall : (w n : ℕ) → w < n → n < 2147483648 → computed Subtract 1 (pos w) (pos n) ≡ Gives (negsuc (n - suc w))
-shortfall w n l h = let e : pos w -ℤ pos n ≡ negsuc (n - suc w) = omega (arith, ints) in ap (within 1) e
+pub shortfall : (w n : ℕ) → w < n → n < 2147483648 → computed Subtract 0 (pos w) (pos n) ≡ Gives (negsuc (n - suc w))
+shortfall w n l h = let e : pos w -ℤ pos n ≡ negsuc (n - suc w) = omega (arith, ints) in ap (within 0) e
     ∙ gives_negative (n - suc w) (omega arith)
 
-pub one_less : (k : ℕ) → suc k < 2147483648 → computed Subtract 1 (pos (suc k)) (pos 1) ≡ Gives (pos k)
-one_less k l = let e : pos (suc k) -ℤ pos 1 ≡ pos k = omega (arith, ints) in ap (within 1) e ∙ gives_natural k
+pub one_less : (k : ℕ) → suc k < 2147483648 → computed Subtract 0 (pos (suc k)) (pos 1) ≡ Gives (pos k)
+one_less k l = let e : pos (suc k) -ℤ pos 1 ≡ pos k = omega (arith, ints) in ap (within 0) e ∙ gives_natural k
     (omega arith)
 
 -- ---- sums modulo 2 ^ 32
@@ -84,39 +84,39 @@ halves (suc n) = go (halves n)
 abbrev pub minus : ℕ → ℤ
 minus n = neg_ℤ (pos n)
 
-gives_minus : (n : ℕ) → n ≤ 2147483648 → within 1 (minus n) ≡ Gives (minus n)
+gives_minus : (n : ℕ) → n ≤ 2147483648 → within 0 (minus n) ≡ Gives (minus n)
 gives_minus zero l = refl
 gives_minus (suc n) l = gives_negative n (omega arith)
 
-pub negated : (n : ℕ) → n ≤ 2147483648 → computed Subtract 1 (pos 0) (pos n) ≡ Gives (minus n)
+pub negated : (n : ℕ) → n ≤ 2147483648 → computed Subtract 0 (pos 0) (pos n) ≡ Gives (minus n)
 negated zero l = refl
-negated (suc n) l = let e : pos 0 -ℤ pos (suc n) ≡ negsuc n = omega (arith, ints) in ap (within 1) e ∙ gives_negative n
+negated (suc n) l = let e : pos 0 -ℤ pos (suc n) ≡ negsuc n = omega (arith, ints) in ap (within 0) e ∙ gives_negative n
     (omega arith)
 
-pub divided : (n p : ℕ) → 0 < p → n ≤ 2147483648 → computed Divide 1 (minus n) (pos p) ≡ Gives (minus (n / p))
+pub divided : (n p : ℕ) → 0 < p → n ≤ 2147483648 → computed Divide 0 (minus n) (pos p) ≡ Gives (minus (n / p))
 divided n zero l h = absurd (omega arith)
-divided zero (suc p) l h = let e : 0 / suc p ≡ 0 = div-eq_of_lt l in ap (λ q. within 1 (pos q)) e
+divided zero (suc p) l h = let e : 0 / suc p ≡ 0 = div-eq_of_lt l in ap (λ q. within 0 (pos q)) e
     ∙ ap (λ q. Gives (minus q)) (sym e)
 divided (suc n) (suc p) l h = let m = div-le_self (suc n) (suc p) in gives_minus (suc n / suc p) (omega (arith, m))
 
-pub a_tenth : (p : ℕ) → p < 2147483648 → computed Divide 1 (pos p) (pos 10) ≡ Gives (pos (p / 10))
+pub a_tenth : (p : ℕ) → p < 2147483648 → computed Divide 0 (pos p) (pos 10) ≡ Gives (pos (p / 10))
 a_tenth p l = gives_natural (p / 10) (omega arith)
 
-pub ten_times : (p : ℕ) → p * 10 < 2147483648 → computed Multiply 1 (pos p) (pos 10) ≡ Gives (pos (p * 10))
+pub ten_times : (p : ℕ) → p * 10 < 2147483648 → computed Multiply 0 (pos p) (pos 10) ≡ Gives (pos (p * 10))
 ten_times p l = gives_natural (p * 10) l
 
-pub digit_of : (d : ℕ) → d < 10 → computed Subtract 1 (pos 48) (minus d) ≡ Gives (pos (48 + d))
+pub digit_of : (d : ℕ) → d < 10 → computed Subtract 0 (pos 48) (minus d) ≡ Gives (pos (48 + d))
 digit_of zero l = refl
-digit_of (suc d) l = let e : pos 48 -ℤ negsuc d ≡ pos (48 + suc d) = omega (arith, ints) in ap (within 1) e
+digit_of (suc d) l = let e : pos 48 -ℤ negsuc d ≡ pos (48 + suc d) = omega (arith, ints) in ap (within 0) e
     ∙ gives_natural (48 + suc d) (omega arith)
 
-pub multiplied : (d p : ℕ) → d * p ≤ 2147483648 → computed Multiply 1 (minus d) (pos p) ≡ Gives (minus (d * p))
-multiplied zero p l = let e : 0 * p ≡ 0 = omega arith in ap (λ q. within 1 (pos q)) e ∙ ap (λ q. Gives (minus q))
+pub multiplied : (d p : ℕ) → d * p ≤ 2147483648 → computed Multiply 0 (minus d) (pos p) ≡ Gives (minus (d * p))
+multiplied zero p l = let e : 0 * p ≡ 0 = omega arith in ap (λ q. within 0 (pos q)) e ∙ ap (λ q. Gives (minus q))
     (sym e)
 multiplied (suc d) p l = gives_minus (suc d * p) l
 
-pub what_is_left : (n k : ℕ) → k ≤ n → n ≤ 2147483648 → computed Subtract 1 (minus n) (minus k) ≡ Gives (minus (n - k))
-what_is_left n k l h = ap (within 1) (same n k l) ∙ gives_minus (n - k) (omega arith)
+pub what_is_left : (n k : ℕ) → k ≤ n → n ≤ 2147483648 → computed Subtract 0 (minus n) (minus k) ≡ Gives (minus (n - k))
+what_is_left n k l h = ap (within 0) (same n k l) ∙ gives_minus (n - k) (omega arith)
   where
     zero_less : (m : ℕ) → m ≡ 0 → pos 0 ≡ minus m
     zero_less m e = ap minus (sym e)
@@ -137,18 +137,18 @@ what_is_left n k l h = ap (within 1) (same n k l) ∙ gives_minus (n - k) (omega
 
 -- ---- what is left of a field
 
-pub remains : (w n : ℕ) → w < 2147483648 → n < 2147483648 → within 1 (pos w -ℤ pos n) ≡ Gives (pos w -ℤ pos n)
+pub remains : (w n : ℕ) → w < 2147483648 → n < 2147483648 → within 0 (pos w -ℤ pos n) ≡ Gives (pos w -ℤ pos n)
 remains w n l h = go (nat_lt w n) refl
   where
-    go : (b : Bool) → nat_lt w n ≡ b → within 1 (pos w -ℤ pos n) ≡ Gives (pos w -ℤ pos n)
+    go : (b : Bool) → nat_lt w n ≡ b → within 0 (pos w -ℤ pos n) ≡ Gives (pos w -ℤ pos n)
     go true e = let s = ltb-true w n e in let z : pos w -ℤ pos n ≡ negsuc (n - suc w) = omega (arith, ints)
         in shortfall w n s h ∙ ap Gives (sym z)
     go false e = let s = ltb-false w n e in let z : pos w -ℤ pos n ≡ pos (w - n) = omega (arith, ints) in difference w n
         (omega (arith, s)) l ∙ ap Gives (sym z)
 
-pub one_narrower : (w n : ℕ) → w < 2147483648 → suc n < 2147483648 → computed Subtract 1 (pos w -ℤ pos n) (pos 1)
+pub one_narrower : (w n : ℕ) → w < 2147483648 → suc n < 2147483648 → computed Subtract 0 (pos w -ℤ pos n) (pos 1)
     ≡ Gives (pos w -ℤ pos (suc n))
-one_narrower w n l h = let e : (pos w -ℤ pos n) -ℤ pos 1 ≡ pos w -ℤ pos (suc n) = omega (arith, ints) in ap (within 1) e
+one_narrower w n l h = let e : (pos w -ℤ pos n) -ℤ pos 1 ≡ pos w -ℤ pos (suc n) = omega (arith, ints) in ap (within 0) e
     ∙ remains w (suc n) l h
 
 -- ---- comparisons of numbers that are not positive

@@ -193,11 +193,11 @@ module _ (m : Machine) (s : State) (k : ℕ) (routine : TacRoutine) (has : HasRo
 
       -- the number that an operator gives, which is in range
       pub computes : (operator : Operator) (t a : ℕ) (b : Operand) (x y z : ℤ) → slice_get routine.body pc ≡ Some
-          (Arithmetic operator t a b 1 1) → temporaries a ≡ Some (Number x) → operand_value temporaries b ≡ Some
-          (Number y) → computed operator 1 x y ≡ Gives z → Comes m now
+          (Arithmetic operator t a b 0 1) → temporaries a ≡ Some (Number x) → operand_value temporaries b ≡ Some
+          (Number y) → computed operator 0 x y ≡ Gives z → Comes m now
           (here_at (suc pc) (put temporaries t (Number z)) memory tape)
       computes operator t a b x y z i e f g = a_step now _
-          (arithmetic_step m now operator t a b 1 1 x y (at pc ∙ i) e f ∙ ap (λ c. gives_computed m.code t c 1 now) g)
+          (arithmetic_step m now operator t a b 0 1 x y (at pc ∙ i) e f ∙ ap (λ c. gives_computed m.code t c 1 now) g)
 
       pub joins : (operator : BitOperator) (t a : ℕ) (b : Operand) (x y : ℤ) → slice_get routine.body pc ≡ Some
           (Bits operator t a b) → temporaries a ≡ Some (Number x) → operand_value temporaries b ≡ Some (Number y)
@@ -257,13 +257,13 @@ module _ (m : Machine) (s : State) (k : ℕ) (routine : TacRoutine) (has : HasRo
 
       -- the address of one of a set's eight words
       pub indexes : (t a i : ℕ) (block : Block) (offset q : ℕ) → slice_get routine.body pc ≡ Some
-          (Index t (base.Temporary a) i (pos 0) (pos 7) 4 1 1) → temporaries a ≡ Some (Address block offset)
+          (Index t (base.Temporary a) i (pos 0) (pos 7) 4 0 1) → temporaries a ≡ Some (Address block offset)
           → temporaries i ≡ Some (Number (pos q)) → q < 8 → offset + 32 < 2147483648 → Comes m now
           (here_at (suc pc) (put temporaries t (Address block (offset + q * 4))) memory tape)
       indexes t a i block offset q f e g l h =
           a_step now _
-          (index_step m now t (base.Temporary a) i (pos 0) (pos 7) 4 1 1 block offset (pos q) (at pc ∙ f) e g
-          ∙ ap (λ b. gives_component m.code b t block (offset + steps_above (pos 0) (pos q) * 4) 1 1 now) (in_set q l)
+          (index_step m now t (base.Temporary a) i (pos 0) (pos 7) 4 0 1 block offset (pos q) (at pc ∙ f) e g
+          ∙ ap (λ b. gives_component m.code b t block (offset + steps_above (pos 0) (pos q) * 4) 0 1 now) (in_set q l)
           ∙ ap (λ k. gives_address t block (offset + k * 4) now) (above_zero q)
           ∙ ap (λ b. if b then gives t (Address block (offset + q * 4)) now else Over Stuck)
           (lt-ltb (offset + q * 4) 2147483648 (omega arith)))

@@ -38,12 +38,12 @@ routine = routine_of 2 7 READ_NUMBER
 
 -- ---- numbers
 
-gives_minus : (n : ℕ) → n ≤ 2147483648 → within 1 (minus n) ≡ Gives (minus n)
+gives_minus : (n : ℕ) → n ≤ 2147483648 → within 0 (minus n) ≡ Gives (minus n)
 gives_minus zero l = refl
 gives_minus (suc n) l = gives_negative n (omega arith)
 
-digit_less : (a d : ℕ) → a + d ≤ 2147483648 → computed Subtract 1 (minus a) (pos d) ≡ Gives (minus (a + d))
-digit_less a d l = ap (within 1) (same a d) ∙ gives_minus (a + d) l
+digit_less : (a d : ℕ) → a + d ≤ 2147483648 → computed Subtract 0 (minus a) (pos d) ≡ Gives (minus (a + d))
+digit_less a d l = ap (within 0) (same a d) ∙ gives_minus (a + d) l
   where
     zero_less : (d n : ℕ) → n ≡ d → pos 0 -ℤ pos d ≡ minus n
     zero_less zero zero e = refl
@@ -59,8 +59,8 @@ digit_less a d l = ap (within 1) (same a d) ∙ gives_minus (a + d) l
     same zero d = zero_less d (0 + d) (omega arith)
     same (suc a) d = less a d (suc a + d) (omega arith)
 
-zero_less_minus : (n : ℕ) → n < 2147483648 → computed Subtract 1 (pos 0) (minus n) ≡ Gives (pos n)
-zero_less_minus n l = ap (within 1) (same n) ∙ gives_natural n l
+zero_less_minus : (n : ℕ) → n < 2147483648 → computed Subtract 0 (pos 0) (minus n) ≡ Gives (pos n)
+zero_less_minus n l = ap (within 0) (same n) ∙ gives_natural n l
   where
     same : (n : ℕ) → pos 0 -ℤ minus n ≡ pos n
     same zero = refl
@@ -131,17 +131,17 @@ first_small b rest h = h 0 0 (omega arith)
 rest_small : (b : ℕ) (rest : List ℕ) → All (λ b. b < 256) (b ∷ rest) → All (λ b. b < 256) rest
 rest_small b rest h i d l = h (suc i) d (omega (arith, l))
 
-subtracted : (u : List ℕ) → All (λ b. b < 256) u → computed Subtract 1 (first_or_end u) (pos 48) ≡ Gives (digit_value u)
+subtracted : (u : List ℕ) → All (λ b. b < 256) u → computed Subtract 0 (first_or_end u) (pos 48) ≡ Gives (digit_value u)
 subtracted [] h = refl
 subtracted (b ∷ rest) h =
     let small = first_small b rest h in
     go (nat_lt b 48) refl small
   where
-    go : (q : Bool) → nat_lt b 48 ≡ q → b < 256 → within 1 (pos b -ℤ pos 48) ≡ Gives (pos b -ℤ pos 48)
+    go : (q : Bool) → nat_lt b 48 ≡ q → b < 256 → within 0 (pos b -ℤ pos 48) ≡ Gives (pos b -ℤ pos 48)
     go true e small = let l = ltb-true b 48 e in let z : pos b -ℤ pos 48 ≡ negsuc (47 - b) = omega (arith, ints, l)
-        in ap (within 1) z ∙ gives_negative (47 - b) (omega arith) ∙ ap Gives (sym z)
+        in ap (within 0) z ∙ gives_negative (47 - b) (omega arith) ∙ ap Gives (sym z)
     go false e small = let l = ltb-false b 48 e in let z : pos b -ℤ pos 48 ≡ pos (b - 48) = omega (arith, ints, l)
-        in ap (within 1) z ∙ gives_natural (b - 48) (omega (arith, small)) ∙ ap Gives (sym z)
+        in ap (within 0) z ∙ gives_natural (b - 48) (omega (arith, small)) ∙ ap Gives (sym z)
 
 digit_known : (b : ℕ) (rest : List ℕ) → IsDigit b → digit_value (b ∷ rest) ≡ pos (b - 48)
 digit_known b rest d = let l = d.low in omega (arith, ints, l)

@@ -9,7 +9,7 @@ use Rattle.tac_code.specs.declared.code.TacRoutine.{TacRoutine}
 use Rattle.tac_code.specs.declared.check.Limits.{Limits}
 use Rattle.tac_code.specs.Numbers.{is_integer}
 use Rattle.tac_code.specs.Meaning.{Code}
-use Rattle.tac_code.specs.Sound.{IsOperand, IsErrorNumber, IsLine, IsSoundAt, CallsNone, limits_of, IsSoundRoutine}
+use Rattle.tac_code.specs.Sound.{IsOperand, IsTestNumber, IsLine, IsSoundAt, CallsNone, limits_of, IsSoundRoutine}
 use Rattle.tac_code.specs.Sound.{IsLeaf}
 use Rattle.tac_rt.specs.declared.step.Step.{Step}
 use Rattle.tac_rt.specs.declared.step.Step.TheVariants as step
@@ -61,8 +61,8 @@ both : (a b : Bool) → (a && b) ≡ true → (a ≡ true) × (b ≡ true)
 both true b e = (refl, e)
 both false b e = absurd (cc)
 
-error_one : IsErrorNumber 1
-error_one = (omega arith, omega arith)
+no_error : IsTestNumber 0
+no_error = omega arith
 
 line_one : IsLine 1
 line_one = (omega arith, omega arith)
@@ -87,7 +87,7 @@ step_sound l pc (step.Literal t z) e = let p = both (nat_lt t l.temporaries) (is
     in (ltb-true t l.temporaries p.0, p.1)
 step_sound l pc (step.Copy t a) e = two_sound l.temporaries t a e
 step_sound l pc (step.Arithmetic operator t a b) e = let p = three_sound l.temporaries t a b e
-    in (p.0, p.1, p.2, error_one, line_one)
+    in (p.0, p.1, p.2, no_error, line_one)
 step_sound l pc (step.Bits operator t a b) e = three_sound l.temporaries t a b e
 step_sound l pc (step.Compare relation t a b) e = three_sound l.temporaries t a b e
 step_sound l pc (step.Offset t a n) e = two_sound l.temporaries t a e
@@ -99,7 +99,7 @@ step_sound l pc (step.SetWord t a i) e =
       ltb-true i l.temporaries q.1,
       refl,
       refl,
-      error_one,
+      no_error,
       line_one,
     )
 step_sound l pc (step.Load t a n) e = two_sound l.temporaries t a e

@@ -13,15 +13,15 @@ use Rattle.tac_rt.specs.declared.sets.TheConstants.{ADD_RANGE, UNITE, SUBTRACT, 
 use Rattle.tac_rt.specs.declared.writing.TheConstants.{WRITE_NUMBER, WRITE_CHARACTER, WRITE_STRING}
 use Rattle.tac_rt.specs.declared.reading.TheConstants.{LOOK, READ_CHARACTER, READ_NUMBER, READ_LINE}
 
--- A step's instruction. Its error and line are dummies: no step fails.
+-- A step's instruction. No step fails, so its error is 0, and its line a dummy.
 abbrev pub instruction_of : Step → Instruction
 instruction_of (step.Literal t z) = Literal t z
 instruction_of (step.Copy t a) = Copy t a
-instruction_of (step.Arithmetic operator t a b) = Arithmetic operator t a b 1 1
+instruction_of (step.Arithmetic operator t a b) = Arithmetic operator t a b 0 1
 instruction_of (step.Bits operator t a b) = Bits operator t a b
 instruction_of (step.Compare relation t a b) = Compare relation t a b
 instruction_of (step.Offset t a n) = Offset t (base.Temporary a) n 0
-instruction_of (step.SetWord t a i) = Index t (base.Temporary a) i (pos 0) (pos 7) 4 1 1
+instruction_of (step.SetWord t a i) = Index t (base.Temporary a) i (pos 0) (pos 7) 4 0 1
 instruction_of (step.Load t a n) = Load t (base.Temporary a) n
 instruction_of (step.Store a n b) = Store (base.Temporary a) n b
 instruction_of (step.LoadByte t a n) = LoadByte t (base.Temporary a) n

@@ -19,7 +19,7 @@ fn body(alloc: Global, steps: &[Step]) -> Result<Body, OutOfMemory>
     for step in steps {
         list.push(step.instruction())?;
     }
-    Ok(Body::new(list))
+    Body::new(alloc, list)
 }
 
 /// A routine with this many parameters and temporaries. It has no variables, and no line is ever reported for it.

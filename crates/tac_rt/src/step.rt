@@ -44,7 +44,7 @@ impl Step {
                 to,
                 left,
                 right,
-                error: 1,
+                error: 0,
                 line: 1,
             },
             Step::Bits(operator, to, left, right) => Instruction::Bits {
@@ -72,7 +72,7 @@ impl Step {
                 low: 0,
                 high: 7,
                 width: 4,
-                error: 1,
+                error: 0,
                 line: 1,
             },
             Step::Load(to, base, offset) => Instruction::Load {

@@ -29,7 +29,7 @@ fn routine(alloc: Global, text: &str) -> Result<TacRoutine, AllocError> {
         frame: 8,
         scratch: u32_of(word(&mut counts)),
         line: 3,
-        body: Body::new(instructions),
+        body: Body::new(alloc, instructions)?,
     })
 }
 

@@ -1,8 +1,7 @@
 use Rattle.std.proofs.Common.{◌≡◌, ◌+◌, ℕ, arith, length, refl, subst}
 use Rattle.std.proofs.lemmas.Option.{slice_get_read}
-use Rattle.tac_pass.specs.Walk.{PassedRoutine}
-use Rattle.tac_pass.proofs.Passing.{so_far_more}
-use Rattle.tac_pass.proofs.Placing.{if_some}
+use Rattle.tac_plan.specs.Passes.{PassesRoutine}
+use Rattle.tac_plan.proofs.Passing.{so_far_more}
 use Rattle.tac_plan.proofs.pass.passed_routines.Goals as goal
 
 pub loop-at-preserved : goal.loop-at-preserved
@@ -10,10 +9,10 @@ loop-at-preserved c =
     let number : c.in-Some.number ≡ c.args.first + c.loop-at.at = first_of
     (assumption c.in-Some.ensures, omega (arith, c.in-Some.ensures), grind (arith, c.in-Some.ensures)) in
     so_far_more c.args.first c.args.routines.now c.loop-at.at c.loop-at.list.items c.push.new.self.items
-    c.index-routines-at.result c.in-Some-2.routine c.loop-at.invariant (slice_get_read c.args.routines.now
+    c.index-routines-at.result c.in_ok-routine.routine c.loop-at.invariant (slice_get_read c.args.routines.now
     (length c.args.routines.now) c.loop-at.at c.index-routines-at.result refl c.loop-at-test.true
-    c.index-routines-at.is) (subst (λ (k : ℕ). PassedRoutine k c.index-routines-at.result c.in-Some-2.routine) number
-    (if_some _ c.in_ok-routine.field-0 c.in-Some-2.routine c.in-Some-2.is c.in_ok-routine.ensures))
+    c.index-routines-at.is) (subst (λ (k : ℕ). PassesRoutine k c.index-routines-at.result c.in_ok-routine.routine) number
+    c.in_ok-routine.ensures)
     c.in_ok-push.ensures.items
 
 pub passed_routine-requires : goal.passed_routine-requires

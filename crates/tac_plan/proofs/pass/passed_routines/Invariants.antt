@@ -1,6 +1,6 @@
-use Rattle.tac_pass.specs.Walk.{PassedSoFar}
+use Rattle.tac_plan.specs.Passes.{PassesSoFar}
 use Rattle.tac_plan.proofs.pass.passed_routines.Given as goal
 
 abbrev pub invariant-loop-at : goal.invariant-loop-at
 invariant-loop-at l =
-    PassedSoFar l.first l.routines l.at l.list.items
+    PassesSoFar l.first l.routines l.at l.list.items

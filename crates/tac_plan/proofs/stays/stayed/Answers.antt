@@ -1,9 +1,9 @@
 use Rattle.std.proofs.Common.{length, refl, ap}
 use Rattle.tac_code.specs.Sound.{limits_of}
 use Rattle.tac_plan.proofs.Staying.{all_stay}
-use Rattle.tac_plan.proofs.copies.stayed.Goals as goal
+use Rattle.tac_plan.proofs.stays.stayed.Goals as goal
 
 pub returns : goal.returns
 returns c =
     all_stay c.args.number c.new-nothing.result (limits_of c.args.tac.now c.args.routine.now) c.args.routine.now
-    c.copied_routine.result (ap length c.new-nothing.ensures.items) c.requires refl refl c.copied_routine.ensures
+    c.shared.result (ap length c.new-nothing.ensures.items) c.requires refl refl c.shared.ensures

@@ -1,0 +1,136 @@
+-- Integers within bounds.
+use Rattle.std.proofs.Common.{◌≡◌, ◌≢◌, ℕ, zero, suc, ◌+◌, ◌-◌, ◌%◌, ◌<◌, ◌≤◌, Bool, true, false, not}
+use Rattle.std.proofs.Common.{◌&&◌, nat_lt, if◌then◌else◌, ℤ, pos, negsuc, ◌+ℤ◌, refl, sym, ap, ◌∙◌, arith}
+use Rattle.std.proofs.Common.{eq-eqb, eqb-true}
+use Rattle.std.specs.Prelude.{int_lt, ◌≤ℤ◌, ◌<ℤ◌}
+use Rattle.std.specs.Ordering.{int_eq}
+use Rattle.std.specs.Int.{int_rem_euclid}
+use Rattle.std.proofs.lemmas.Int.{ints}
+use Rattle.std.proofs.lemmas.Bool.{ltb-true, ltb-false, lt-ltb, true≢false}
+use Rattle.tac_code.specs.Numbers.{is_integer, is_in_range, number_of, bits, same_number}
+use Rattle.tac_code.specs.declared.code.BitOperator.TheVariants.{Plus}
+use Rattle.tac_known.specs.Kinds.{least, greatest}
+
+pub not_below : (low x : ℤ) → int_lt x low ≡ false → low ≤ℤ x
+not_below low x e = grind (arith, ints)
+
+pub is_below : (low x : ℤ) → int_lt x low ≡ true → x <ℤ low
+is_below low x e = grind (arith, ints)
+
+pub no_less : (low x : ℤ) → low ≤ℤ x → int_lt x low ≡ false
+no_less low x h = grind (arith, ints)
+
+pub both_true : (a b : Bool) → (a && b) ≡ true → (a ≡ true) × (b ≡ true)
+both_true true true e = (refl, refl)
+both_true true false e = absurd (true≢false (sym e))
+both_true false b e = absurd (true≢false (sym e))
+
+pub not_false : (a : Bool) → not a ≡ true → a ≡ false
+not_false true e = absurd (true≢false (sym e))
+not_false false e = refl
+
+pub bounds_of : (low high x : ℤ) → is_in_range low high x ≡ true → (low ≤ℤ x) × (x ≤ℤ high)
+bounds_of low high x e =
+    let b = both_true (not (int_lt x low)) (not (int_lt high x)) e in (
+      not_below low x (not_false (int_lt x low) b.0),
+      not_below x high (not_false (int_lt high x) b.1),
+    )
+
+pub in_range : (low high x : ℤ) → low ≤ℤ x → x ≤ℤ high → is_in_range low high x ≡ true
+in_range low high x l h =
+    ap (λ b. not b && not (int_lt high x)) (no_less low x l) ∙ ap (λ b. not b) (no_less x high h)
+
+pub integer_bounds : (z : ℤ) → is_integer z ≡ true → (least ≤ℤ z) × (z ≤ℤ greatest)
+integer_bounds (pos n) e = let l = ltb-true n 2147483648 e in (omega (arith, ints, l), omega (arith, ints, l))
+integer_bounds (negsuc n) e = let l = ltb-true n 2147483648 e in (omega (arith, ints, l), omega (arith, ints, l))
+
+pub is_integer_between : (z : ℤ) → least ≤ℤ z → z ≤ℤ greatest → is_integer z ≡ true
+is_integer_between (pos n) l h = lt-ltb n 2147483648 (omega (arith, ints, h))
+is_integer_between (negsuc n) l h = lt-ltb n 2147483648 (omega (arith, ints, l))
+
+-- ---- sums modulo 2 ^ 32
+
+signed : (m : ℕ) (z : ℤ) → (m < 2147483648 → z ≡ pos m) → (2147483648 ≤ m → z ≡ negsuc (4294967296 - suc m))
+    → number_of m ≡ z
+signed m z f g = go (nat_lt m 2147483648) refl
+  where
+    go : (b : Bool) → nat_lt m 2147483648 ≡ b → number_of m ≡ z
+    go true e = ap (λ b. if b then pos m else negsuc (4294967296 - suc m)) e ∙ sym (f (ltb-true m 2147483648 e))
+    go false e = ap (λ b. if b then pos m else negsuc (4294967296 - suc m)) e ∙ sym (g (ltb-false m 2147483648 e))
+
+mixed : (a b m : ℕ) → m ≡ (a + (4294967296 - suc b)) % 4294967296 → a < 2147483648 → b < 2147483648 → number_of m
+    ≡ pos a +ℤ negsuc b
+mixed a b m is la lb = go (nat_lt b a) refl
+  where
+    go : (t : Bool) → nat_lt b a ≡ t → number_of m ≡ pos a +ℤ negsuc b
+    go true e =
+        let l = ltb-true b a e in
+        let at : m ≡ a - suc b = omega (arith, is, la, lb, l) in
+        signed m (pos a +ℤ negsuc b) (λ q. omega (arith, ints, l, at)) (λ q. absurd (omega (arith, at, la, q)))
+    go false e =
+        let l = ltb-false b a e in
+        let at : m + suc b ≡ a + 4294967296 = omega (arith, is, la, lb, l) in
+        signed m (pos a +ℤ negsuc b) (λ q. absurd (omega (arith, at, lb, q)))
+        (λ q. omega (arith, ints, l, at, lb))
+
+pub plain : (x y : ℤ) → is_integer x ≡ true → is_integer y ≡ true → is_integer (x +ℤ y) ≡ true → bits Plus x y
+    ≡ x +ℤ y
+plain (pos a) (pos b) i j k =
+    let l = ltb-true (a + b) 2147483648 k in
+    let at : (a + b) % 4294967296 ≡ a + b = omega (arith, l) in
+    ap number_of at ∙ signed (a + b) (pos (a + b)) (λ q. refl) (λ q. absurd (omega (arith, l, q)))
+plain (pos a) (negsuc b) i j k = mixed a b _ refl (ltb-true a 2147483648 i) (ltb-true b 2147483648 j)
+plain (negsuc b) (pos a) i j k =
+    mixed a b _ (ap (λ n. n % 4294967296) (omega arith)) (ltb-true a 2147483648 j) (ltb-true b 2147483648 i)
+    ∙ (let e : pos a +ℤ negsuc b ≡ negsuc b +ℤ pos a = omega (arith, ints) in e)
+plain (negsuc a) (negsuc b) i j k =
+    let la = ltb-true a 2147483648 i in
+    let lb = ltb-true b 2147483648 j in
+    let h = (integer_bounds (negsuc a +ℤ negsuc b) k).0 in
+    let at : (4294967296 - suc a + (4294967296 - suc b)) % 4294967296 ≡ 4294967296 - suc (suc (a + b))
+    = omega (arith, ints, la, lb, h) in
+    ap number_of at
+    ∙ signed (4294967296 - suc (suc (a + b))) (negsuc a +ℤ negsuc b)
+    (λ q. absurd (omega (arith, ints, la, lb, h, q))) (λ q. omega (arith, ints, la, lb, h))
+
+-- ---- remainders
+
+pub remainder_bounds : (x y : ℤ) → pos 0 <ℤ y → (pos 0 ≤ℤ int_rem_euclid x y) × (int_rem_euclid x y <ℤ y)
+remainder_bounds (pos a) (pos zero) h = absurd (omega (arith, ints, h))
+remainder_bounds (pos a) (pos (suc n)) h = let l : a % suc n < suc n = omega arith in
+    (omega (arith, ints), omega (arith, ints, l))
+remainder_bounds (negsuc a) (pos zero) h = absurd (omega (arith, ints, h))
+remainder_bounds (negsuc a) (pos (suc n)) h = (omega (arith, ints), omega (arith, ints))
+remainder_bounds x (negsuc n) h = absurd (omega (arith, ints, h))
+
+-- ---- equal numbers
+
+pub same_int : (x y : ℤ) → same_number x y ≡ true → x ≡ y
+same_int (pos a) (pos b) e = ap pos (eqb-true a b e)
+same_int (pos a) (negsuc b) e = absurd (true≢false (sym e))
+same_int (negsuc a) (pos b) e = absurd (true≢false (sym e))
+same_int (negsuc a) (negsuc b) e = ap negsuc (eqb-true a b e)
+
+same_itself : (x : ℤ) → same_number x x ≡ true
+same_itself (pos a) = eq-eqb a a refl
+same_itself (negsuc a) = eq-eqb a a refl
+
+pub other_int : (x y : ℤ) → same_number x y ≡ false → x ≢ y
+other_int x y e same = true≢false (sym (same_itself x) ∙ ap (same_number x) same ∙ e)
+
+pub eq_int : (x y : ℤ) → int_eq x y ≡ true → x ≡ y
+eq_int x y e = grind (arith, ints)
+
+-- the test of an integer, as a program makes it
+pub integer_test : (z : ℤ) → (not (int_lt z least) && not (int_lt greatest z)) ≡ is_integer z
+integer_test z = which (is_integer z) refl
+  where
+    outside : (a b : Bool) → int_lt z least ≡ a → int_lt greatest z ≡ b → is_integer z ≡ false → (not a && not b) ≡ false
+    outside true b e f g = refl
+    outside false true e f g = refl
+    outside false false e f g =
+        absurd (true≢false (sym (is_integer_between z (not_below least z e) (not_below z greatest f)) ∙ g))
+
+    which : (t : Bool) → is_integer z ≡ t → (not (int_lt z least) && not (int_lt greatest z)) ≡ t
+    which true e = let b = integer_bounds z e in in_range least greatest z b.0 b.1
+    which false e = outside (int_lt z least) (int_lt greatest z) refl refl e

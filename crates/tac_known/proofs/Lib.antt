@@ -1,0 +1,10 @@
+pub mod Integers
+pub mod Results
+pub mod Holding
+pub mod Acts
+pub mod Goes
+pub mod Whole
+pub mod Leaned
+pub mod Itself
+pub mod Walked
+pub mod Room

@@ -1,0 +1,337 @@
+-- The kinds of results are what is said of them.
+use Rattle.std.proofs.Common.{◌≡◌, ◌≢◌, ℕ, Bool, true, false, not, ◌&&◌, if◌then◌else◌}
+use Rattle.std.proofs.Common.{Option, Some, ℤ, pos, ◌+ℤ◌, ◌-ℤ◌, ◌*ℤ◌, refl, sym, ap, ◌∙◌, subst, arith}
+use Rattle.std.specs.Prelude.{int_lt, int_div, ◌≤ℤ◌, ◌<ℤ◌}
+use Rattle.std.specs.Ordering.{int_eq}
+use Rattle.std.specs.Int.{int_max, int_min, int_rem_euclid}
+use Rattle.std.proofs.lemmas.Int.{ints, clamps}
+use Rattle.std.proofs.lemmas.Bool.{true≢false}
+use Rattle.std.proofs.lemmas.Option.{same_Some}
+use Rattle.tac_code.specs.declared.code.Value.{Value}
+use Rattle.tac_code.specs.declared.code.Value.TheVariants.{Number, Address, Routine}
+use Rattle.tac_code.specs.declared.code.Operator.{Operator}
+use Rattle.tac_code.specs.declared.code.Operator.TheVariants.{Add, Subtract, Multiply, Divide, Modulo}
+use Rattle.tac_code.specs.declared.code.BitOperator.{BitOperator}
+use Rattle.tac_code.specs.declared.code.BitOperator.TheVariants.{And, Or, AndNot, ShiftLeft, Plus}
+use Rattle.tac_code.specs.declared.code.Relation.{Relation}
+use Rattle.tac_code.specs.declared.code.Relation.TheVariants.{Equal, NotEqual, Less, LessEqual, Greater, GreaterEqual}
+use Rattle.tac_code.specs.Numbers.{is_integer, is_zero, is_in_range, Computed, Gives, Fails, within, computed, bits}
+use Rattle.tac_code.specs.Numbers.{compared, same_number}
+use Rattle.tac_known.specs.declared.kind.Kind.{Kind}
+use Rattle.tac_known.specs.declared.kind.Kind.TheVariants.{Unknown, Pointer, Between}
+use Rattle.tac_known.specs.Kinds.{IsOf, least, greatest, met, low_of, high_of, sum, difference, remainder, computed_kind}
+use Rattle.tac_known.specs.Kinds.{are_integers, plain_sum, bits_kind, fits, lies_within, opposite, one_less, one_more, without, narrowed}
+use Rattle.tac_known.specs.Kinds.{related_kind, says_no_more}
+use Rattle.tac_known.proofs.Integers.{not_below, is_below, both_true, not_false, in_range}
+use Rattle.tac_known.proofs.Integers.{integer_bounds, is_integer_between, plain, remainder_bounds, same_int, other_int}
+use Rattle.tac_known.proofs.Integers.{eq_int}
+
+abbrev number_of_value : Value → ℤ
+number_of_value (Number x) = x
+number_of_value (Address block o) = pos 0
+number_of_value (Routine r) = pos 0
+
+same_in : (x y : ℤ) → Some (Number x) ≡ Some (Number y) → x ≡ y
+same_in x y e = ap number_of_value (same_Some (Number x) (Number y) e)
+
+-- a number of a kind is within its bounds
+pub number_within : (l h x : ℤ) → IsOf (Between l h) (Some (Number x)) → (l ≤ℤ x) × (x ≤ℤ h)
+number_within l h x (y, e, p, q) = let s = same_in x y e in
+    (subst (λ z. l ≤ℤ z) (sym s) p, subst (λ z. z ≤ℤ h) (sym s) q)
+
+pub is_between : (l h x : ℤ) → l ≤ℤ x → x ≤ℤ h → IsOf (Between l h) (Some (Number x))
+is_between l h x p q = (x, refl, p, q)
+
+pub met_is : (k : Kind) (low high x : ℤ) → IsOf k (Some (Number x)) → low ≤ℤ x → x ≤ℤ high → IsOf (met k low high)
+    (Some (Number x))
+met_is Unknown low high x is l h = is_between low high x l h
+met_is Pointer low high x is l h = is_between low high x l h
+met_is (Between a b) low high x is l h =
+    let n = number_within a b x is in
+    let p = n.0 in let q = n.1 in
+    is_between (int_max a low) (int_min b high) x (omega (arith, ints, clamps, p, l)) (omega (arith, ints, clamps, q, h))
+
+-- ---- what is computed
+
+above_low : (l z : ℤ) → l ≤ℤ z → is_integer z ≡ true → low_of l ≤ℤ z
+above_low l z p i = which (is_integer l)
+  where
+    which : (t : Bool) → (if t then l else least) ≤ℤ z
+    which true = p
+    which false = (integer_bounds z i).0
+
+below_high : (h z : ℤ) → z ≤ℤ h → is_integer z ≡ true → z ≤ℤ high_of h
+below_high h z q i = which (is_integer h)
+  where
+    which : (t : Bool) → z ≤ℤ (if t then h else greatest)
+    which true = q
+    which false = (integer_bounds z i).1
+
+clipped : (l h z : ℤ) → l ≤ℤ z → z ≤ℤ h → is_integer z ≡ true → IsOf (Between (low_of l) (high_of h))
+    (Some (Number z))
+clipped l h z p q i = is_between (low_of l) (high_of h) z (above_low l z p i) (below_high h z q i)
+
+an_integer : (z : ℤ) → is_integer z ≡ true → IsOf (Between least greatest) (Some (Number z))
+an_integer z i = let b = integer_bounds z i in is_between least greatest z b.0 b.1
+
+sum_is : (k k' : Kind) (x y : ℤ) → IsOf k (Some (Number x)) → IsOf k' (Some (Number y)) → is_integer (x +ℤ y) ≡ true
+    → IsOf (sum k k') (Some (Number (x +ℤ y)))
+sum_is Unknown k' x y a b i = an_integer (x +ℤ y) i
+sum_is Pointer k' x y a b i = an_integer (x +ℤ y) i
+sum_is (Between l h) Unknown x y a b i = an_integer (x +ℤ y) i
+sum_is (Between l h) Pointer x y a b i = an_integer (x +ℤ y) i
+sum_is (Between l h) (Between l' h') x y a b i =
+    let m = number_within l h x a in let n = number_within l' h' y b in
+    let m0 = m.0 in let m1 = m.1 in let n0 = n.0 in let n1 = n.1 in
+    clipped (l +ℤ l') (h +ℤ h') (x +ℤ y) (omega (arith, ints, m0, n0)) (omega (arith, ints, m1, n1)) i
+
+difference_is : (k k' : Kind) (x y : ℤ) → IsOf k (Some (Number x)) → IsOf k' (Some (Number y)) → is_integer (x -ℤ y)
+    ≡ true → IsOf (difference k k') (Some (Number (x -ℤ y)))
+difference_is Unknown k' x y a b i = an_integer (x -ℤ y) i
+difference_is Pointer k' x y a b i = an_integer (x -ℤ y) i
+difference_is (Between l h) Unknown x y a b i = an_integer (x -ℤ y) i
+difference_is (Between l h) Pointer x y a b i = an_integer (x -ℤ y) i
+difference_is (Between l h) (Between l' h') x y a b i =
+    let m = number_within l h x a in let n = number_within l' h' y b in
+    let m0 = m.0 in let m1 = m.1 in let n0 = n.0 in let n1 = n.1 in
+    clipped (l -ℤ h') (h -ℤ l') (x -ℤ y) (omega (arith, ints, m0, n1)) (omega (arith, ints, m1, n0)) i
+
+remainder_is : (k' : Kind) (x y : ℤ) → IsOf k' (Some (Number y)) → int_lt (pos 0) y ≡ true → IsOf (remainder k')
+    (Some (Number (int_rem_euclid x y)))
+remainder_is Unknown x y b p = tt
+remainder_is Pointer x y b p = tt
+remainder_is (Between l h) x y b p = which (int_lt (pos 0) l && int_lt (pos 0) h)
+  where
+    which : (t : Bool) → IsOf (if t then Between (pos 0) (h -ℤ pos 1) else Unknown) (Some (Number (int_rem_euclid x y)))
+    which false = tt
+    which true =
+        let n = (number_within l h y b).1 in
+        let r = remainder_bounds x y (is_below y (pos 0) p) in
+        let r0 = r.0 in let r1 = r.1 in
+        is_between (pos 0) (h -ℤ pos 1) (int_rem_euclid x y) r0 (omega (arith, ints, n, r1))
+
+abbrev given_in : Computed → ℤ
+given_in (Gives z) = z
+given_in (Fails n) = pos 0
+
+gives_no : (n : ℕ) (z : ℤ) → Fails n ≡ Gives z → ⊥
+gives_no n z e = absurd (cc e)
+
+within_gives : (P : ℤ → Type 0) (error : ℕ) (w z : ℤ) → within error w ≡ Gives z → (is_integer w ≡ true → P w) → P z
+within_gives P error w z e go = which (is_integer w) refl e
+  where
+    which : (t : Bool) → is_integer w ≡ t → (if t then Gives w else Fails error) ≡ Gives z → P z
+    which true i f = subst P (ap given_in f) (go i)
+    which false i f = absurd (gives_no error z f)
+
+pub computed_is : (operator : Operator) (error : ℕ) (k k' : Kind) (x y z : ℤ) → IsOf k (Some (Number x)) → IsOf k'
+    (Some (Number y)) → computed operator error x y ≡ Gives z → IsOf (computed_kind operator k k') (Some (Number z))
+computed_is Add error k k' x y z a b e =
+    within_gives (λ z. IsOf (sum k k') (Some (Number z))) error (x +ℤ y) z e (sum_is k k' x y a b)
+computed_is Subtract error k k' x y z a b e =
+    within_gives (λ z. IsOf (difference k k') (Some (Number z))) error (x -ℤ y) z e (difference_is k k' x y a b)
+computed_is Multiply error k k' x y z a b e =
+    within_gives (λ z. IsOf (Between least greatest) (Some (Number z))) error (x *ℤ y) z e (an_integer (x *ℤ y))
+computed_is Divide error k k' x y z a b e = which (is_zero y) e
+  where
+    which : (t : Bool) → (if t then Fails 2 else within error (int_div x y)) ≡ Gives z → IsOf (Between least greatest)
+        (Some (Number z))
+    which true e = absurd (gives_no 2 z e)
+    which false e =
+        within_gives (λ z. IsOf (Between least greatest) (Some (Number z))) error (int_div x y) z e
+        (an_integer (int_div x y))
+computed_is Modulo error k k' x y z a b e = which (int_lt (pos 0) y) refl e
+  where
+    which : (t : Bool) → int_lt (pos 0) y ≡ t → (if t then Gives (int_rem_euclid x y) else Fails 3) ≡ Gives z → IsOf
+        (remainder k') (Some (Number z))
+    which true p e = subst (λ z. IsOf (remainder k') (Some (Number z))) (ap given_in e) (remainder_is k' x y b p)
+    which false p e = absurd (gives_no 3 z e)
+
+integer_in : (l h x : ℤ) → are_integers l h ≡ true → l ≤ℤ x → x ≤ℤ h → is_integer x ≡ true
+integer_in l h x e p q =
+    let b = both_true (is_integer l) (is_integer h) e in
+    let m = (integer_bounds l b.0).0 in let n = (integer_bounds h b.1).1 in
+    is_integer_between x (omega (arith, ints, m, p)) (omega (arith, ints, n, q))
+
+plain_is : (k k' : Kind) (x y : ℤ) → IsOf k (Some (Number x)) → IsOf k' (Some (Number y)) → IsOf (plain_sum k k')
+    (Some (Number (bits Plus x y)))
+plain_is Unknown k' x y a b = tt
+plain_is Pointer k' x y a b = tt
+plain_is (Between l h) Unknown x y a b = tt
+plain_is (Between l h) Pointer x y a b = tt
+plain_is (Between l h) (Between l' h') x y a b =
+    which (are_integers l h && (are_integers l' h' && are_integers (l +ℤ l') (h +ℤ h'))) refl
+  where
+    which : (t : Bool) → (are_integers l h && (are_integers l' h' && are_integers (l +ℤ l') (h +ℤ h'))) ≡ t → IsOf
+        (if t then Between (low_of (l +ℤ l')) (high_of (h +ℤ h')) else Unknown) (Some (Number (bits Plus x y)))
+    which false e = tt
+    which true e =
+        let c = both_true (are_integers l h) (are_integers l' h' && are_integers (l +ℤ l') (h +ℤ h')) e in
+        let d = both_true (are_integers l' h') (are_integers (l +ℤ l') (h +ℤ h')) c.1 in
+        let m = number_within l h x a in let n = number_within l' h' y b in
+        let m0 = m.0 in let m1 = m.1 in let n0 = n.0 in let n1 = n.1 in
+        let p : (l +ℤ l') ≤ℤ (x +ℤ y) = omega (arith, ints, m0, n0) in
+        let q : (x +ℤ y) ≤ℤ (h +ℤ h') = omega (arith, ints, m1, n1) in
+        let i = integer_in (l +ℤ l') (h +ℤ h') (x +ℤ y) d.1 p q in
+        subst (λ z. IsOf (Between (low_of (l +ℤ l')) (high_of (h +ℤ h'))) (Some (Number z)))
+        (sym (plain x y (integer_in l h x c.0 m0 m1) (integer_in l' h' y d.0 n0 n1) i))
+        (clipped (l +ℤ l') (h +ℤ h') (x +ℤ y) p q i)
+
+pub bits_is : (operator : BitOperator) (k k' : Kind) (x y : ℤ) → IsOf k (Some (Number x)) → IsOf k' (Some (Number y))
+    → IsOf (bits_kind operator k k') (Some (Number (bits operator x y)))
+bits_is And k k' x y a b = tt
+bits_is Or k k' x y a b = tt
+bits_is AndNot k k' x y a b = tt
+bits_is ShiftLeft k k' x y a b = tt
+bits_is Plus k k' x y a b = plain_is k k' x y a b
+
+-- ---- tests that can't fail
+
+pub fits_gives : (operator : Operator) (k k' : Kind) (x y : ℤ) → fits operator k k' ≡ true → IsOf k (Some (Number x))
+    → IsOf k' (Some (Number y)) → (z : ℤ) × ((error : ℕ) → computed operator error x y ≡ Gives z)
+fits_gives Add (Between l h) (Between l' h') x y e a b =
+    let m = number_within l h x a in let n = number_within l' h' y b in
+    let m0 = m.0 in let m1 = m.1 in let n0 = n.0 in let n1 = n.1 in
+    let i = integer_in (l +ℤ l') (h +ℤ h') (x +ℤ y) e (omega (arith, ints, m0, n0)) (omega (arith, ints, m1, n1)) in
+    (x +ℤ y, λ error. ap (λ t. if t then Gives (x +ℤ y) else Fails error) i)
+fits_gives Subtract (Between l h) (Between l' h') x y e a b =
+    let m = number_within l h x a in let n = number_within l' h' y b in
+    let m0 = m.0 in let m1 = m.1 in let n0 = n.0 in let n1 = n.1 in
+    let i = integer_in (l -ℤ h') (h -ℤ l') (x -ℤ y) e (omega (arith, ints, m0, n1)) (omega (arith, ints, m1, n0)) in
+    (x -ℤ y, λ error. ap (λ t. if t then Gives (x -ℤ y) else Fails error) i)
+fits_gives Add Unknown k' x y e a b = absurd (true≢false (sym e))
+fits_gives Add Pointer k' x y e a b = absurd (true≢false (sym e))
+fits_gives Add (Between l h) Unknown x y e a b = absurd (true≢false (sym e))
+fits_gives Add (Between l h) Pointer x y e a b = absurd (true≢false (sym e))
+fits_gives Subtract Unknown k' x y e a b = absurd (true≢false (sym e))
+fits_gives Subtract Pointer k' x y e a b = absurd (true≢false (sym e))
+fits_gives Subtract (Between l h) Unknown x y e a b = absurd (true≢false (sym e))
+fits_gives Subtract (Between l h) Pointer x y e a b = absurd (true≢false (sym e))
+fits_gives Multiply k k' x y e a b = absurd (true≢false (sym e))
+fits_gives Divide k k' x y e a b = absurd (true≢false (sym e))
+fits_gives Modulo k k' x y e a b = absurd (true≢false (sym e))
+
+pub lies_in : (k : Kind) (low high x : ℤ) → lies_within k low high ≡ true → IsOf k (Some (Number x)) → is_in_range low
+    high x ≡ true
+lies_in Unknown low high x e is = absurd (true≢false (sym e))
+lies_in Pointer low high x e is = absurd (true≢false (sym e))
+lies_in (Between l h) low high x e is =
+    let n = number_within l h x is in let n0 = n.0 in let n1 = n.1 in
+    let b = both_true (not (int_lt l low)) (not (int_lt high h)) e in
+    let p = not_below low l (not_false (int_lt l low) b.0) in
+    let q = not_below h high (not_false (int_lt high h) b.1) in
+    in_range low high x (omega (arith, ints, n0, p)) (omega (arith, ints, n1, q))
+
+-- ---- relations
+
+other_relation : (relation : Relation) (x y : ℤ) → compared relation x y ≡ false → compared (opposite relation) x y
+    ≡ true
+other_relation Equal x y e = ap not e
+other_relation NotEqual x y e = negated (same_number x y) e
+  where
+    negated : (b : Bool) → not b ≡ false → b ≡ true
+    negated true e = refl
+    negated false e = absurd (true≢false e)
+other_relation Less x y e = ap not e
+other_relation LessEqual x y e = negated (int_lt y x) e
+  where
+    negated : (b : Bool) → not b ≡ false → b ≡ true
+    negated true e = refl
+    negated false e = absurd (true≢false e)
+other_relation Greater x y e = ap not e
+other_relation GreaterEqual x y e = negated (int_lt x y) e
+  where
+    negated : (b : Bool) → not b ≡ false → b ≡ true
+    negated true e = refl
+    negated false e = absurd (true≢false e)
+
+under : (h x : ℤ) → x <ℤ h → x ≤ℤ one_less h
+under h x l = which (int_lt least h)
+  where
+    which : (t : Bool) → x ≤ℤ (if t then h -ℤ pos 1 else h)
+    which true = omega (arith, ints, l)
+    which false = omega (arith, ints, l)
+
+over : (l x : ℤ) → l <ℤ x → one_more l ≤ℤ x
+over l x h = which (int_lt l greatest)
+  where
+    which : (t : Bool) → (if t then l +ℤ pos 1 else l) ≤ℤ x
+    which true = omega (arith, ints, h)
+    which false = omega (arith, ints, h)
+
+without_is : (l h z x : ℤ) → x ≢ z → l ≤ℤ x → x ≤ℤ h → IsOf (without l h z) (Some (Number x))
+without_is l h z x ne p q = first (int_eq l z) refl
+  where
+    second : (t : Bool) → int_eq h z ≡ t → IsOf (if t then Between l (one_less h) else Between l h) (Some (Number x))
+    second true e =
+        let s = eq_int h z e in
+        let r : x ≢ h = λ same. ne (same ∙ s) in
+        is_between l (one_less h) x p (under h x (omega (arith, ints, q, r)))
+    second false e = is_between l h x p q
+
+    first : (t : Bool) → int_eq l z ≡ t → IsOf (if t then Between (one_more l) h else if int_eq h z then Between l
+        (one_less h) else Between l h) (Some (Number x))
+    first true e =
+        let s = eq_int l z e in
+        let r : x ≢ l = λ same. ne (same ∙ s) in
+        is_between (one_more l) h x (over l x (omega (arith, ints, p, r))) q
+    first false e = second (int_eq h z) refl
+
+narrowed_is : (relation : Relation) (l h l' h' x y : ℤ) → compared relation x y ≡ true → l ≤ℤ x → x ≤ℤ h → l' ≤ℤ y
+    → y ≤ℤ h' → IsOf (narrowed relation l h l' h') (Some (Number x))
+narrowed_is Equal l h l' h' x y e p q p' q' =
+    let s = same_int x y e in
+    met_is (Between l h) l' h' x (is_between l h x p q) (subst (λ z. l' ≤ℤ z) (sym s) p')
+    (subst (λ z. z ≤ℤ h') (sym s) q')
+narrowed_is NotEqual l h l' h' x y e p q p' q' = which (int_eq l' h') refl
+  where
+    which : (t : Bool) → int_eq l' h' ≡ t → IsOf (if t then without l h l' else Between l h) (Some (Number x))
+    which true f =
+        let s = eq_int l' h' f in
+        let only : y ≡ l' = omega (arith, ints, p', q', s) in
+        without_is l h l' x (λ same. other_int x y (not_false (same_number x y) e) (same ∙ sym only)) p q
+    which false f = is_between l h x p q
+narrowed_is Less l h l' h' x y e p q p' q' =
+    let s = is_below y x e in
+    let t = under h' x (omega (arith, ints, q', s)) in
+    is_between l (int_min h (one_less h')) x p (omega (arith, ints, clamps, q, t))
+narrowed_is LessEqual l h l' h' x y e p q p' q' =
+    let s = not_below x y (not_false (int_lt y x) e) in
+    is_between l (int_min h h') x p (omega (arith, ints, clamps, q, q', s))
+narrowed_is Greater l h l' h' x y e p q p' q' =
+    let s = is_below x y e in
+    let t = over l' x (omega (arith, ints, p', s)) in
+    is_between (int_max l (one_more l')) h x (omega (arith, ints, clamps, p, t)) q
+narrowed_is GreaterEqual l h l' h' x y e p q p' q' =
+    let s = not_below y x (not_false (int_lt x y) e) in
+    is_between (int_max l l') h x (omega (arith, ints, clamps, p, p', s)) q
+
+pub related_is : (relation : Relation) (k k' : Kind) (x y : ℤ) → compared relation x y ≡ true → IsOf k (Some (Number x))
+    → IsOf k' (Some (Number y)) → IsOf (related_kind relation k k') (Some (Number x))
+related_is relation Unknown k' x y e a b = a
+related_is relation Pointer k' x y e a b = a
+related_is relation (Between l h) Unknown x y e a b = a
+related_is relation (Between l h) Pointer x y e a b = a
+related_is relation (Between l h) (Between l' h') x y e a b =
+    let m = number_within l h x a in let n = number_within l' h' y b in
+    narrowed_is relation l h l' h' x y e m.0 m.1 n.0 n.1
+
+pub unrelated_is : (relation : Relation) (k k' : Kind) (x y : ℤ) → compared relation x y ≡ false → IsOf k
+    (Some (Number x)) → IsOf k' (Some (Number y)) → IsOf (related_kind (opposite relation) k k') (Some (Number x))
+unrelated_is relation k k' x y e a b =
+    related_is (opposite relation) k k' x y (other_relation relation x y e) a b
+
+-- ---- where places meet
+
+pub less_is : (k k' : Kind) (o : Option Value) → says_no_more k k' ≡ true → IsOf k o → IsOf k' o
+less_is k Unknown o e is = tt
+less_is Pointer Pointer o e is = is
+less_is Unknown Pointer o e is = absurd (true≢false (sym e))
+less_is (Between l h) Pointer o e is = absurd (true≢false (sym e))
+less_is Unknown (Between l' h') o e is = absurd (true≢false (sym e))
+less_is Pointer (Between l' h') o e is = absurd (true≢false (sym e))
+less_is (Between l h) (Between l' h') o e (x, f, p, q) =
+    let b = both_true (not (int_lt l l')) (not (int_lt h' h)) e in
+    let m = not_below l' l (not_false (int_lt l l') b.0) in
+    let n = not_below h h' (not_false (int_lt h' h) b.1) in
+    (x, f, omega (arith, ints, p, m), omega (arith, ints, q, n))

@@ -1,0 +1,45 @@
+-- Lean code has the room of the code that it was made from.
+use Rattle.std.proofs.Common.{◌≡◌, ℕ, zero, suc, ◌<◌, List, [], ◌∷◌, ◌++◌, length, slice_get, Some, arith}
+use Rattle.tac_code.specs.declared.code.TacRoutine.{TacRoutine}
+use Rattle.tac_code.specs.Meaning.{Code, size}
+use Rattle.tac_pass_laws.specs.Passed.{IsPassed}
+use Rattle.tac_known.specs.Lean.{LeanRoutine, IsLean}
+use Rattle.tac_known.proofs.Whole.{lean_keeps}
+
+in_both : {X : Type 0} (xs ys : List X) (r : ℕ) (x : X) → slice_get xs r ≡ Some x → slice_get (xs ++ ys) r ≡ Some x
+in_both [] ys r x e = absurd (cc e)
+in_both (z ∷ xs) ys zero x e = e
+in_both (z ∷ xs) ys (suc r) x e = in_both xs ys r x e
+
+in_first : {X : Type 0} (xs ys : List X) (r : ℕ) (x : X) → r < length xs → slice_get (xs ++ ys) r ≡ Some x → slice_get
+    xs r ≡ Some x
+in_first [] ys r x lt e = absurd (omega (arith, lt))
+in_first (z ∷ xs) ys zero x lt e = e
+in_first (z ∷ xs) ys (suc r) x lt e = in_first xs ys r x (omega (arith, lt)) e
+
+within : {X : Type 0} (xs : List X) (r : ℕ) (x : X) → slice_get xs r ≡ Some x → r < length xs
+within [] r x e = absurd (cc e)
+within (z ∷ xs) zero x e = omega arith
+within (z ∷ xs) (suc r) x e = let lt = within xs r x e in omega (arith, lt)
+
+sized : (routine routine' : TacRoutine) → LeanRoutine routine routine' → size routine' ≡ size routine
+sized routine routine' l =
+    let f = l.heading.frame in let s = l.heading.scratch in let t = l.temporaries in omega (arith, f, s, t)
+
+pub lean_are_passed : (old new : Code) → IsLean old new → IsPassed old new
+lean_are_passed old new made = record {
+  keeps = lean_keeps old new made;
+  room = record {
+    program = made.program;
+    run_time = made.run_time;
+    objects = made.objects;
+    sizes = λ r routine e.
+        let one = made.routines r routine (in_both old.program old.run_time r routine e) in
+        let lt : r < length old.program = within old.program r routine e in
+        let as_many = made.program in (
+          one.0,
+          in_first new.program new.run_time r one.0 (omega (arith, lt, as_many)) one.1,
+          sized routine one.0 one.2,
+        );
+  };
+}

@@ -1,0 +1,17 @@
+-- The laws of tests that are left out, stated for callers of this crate.
+use Rattle.tac_code.specs.Meaning.{Code}
+use Rattle.tac_pass.specs.Keeps.{Keeps}
+use Rattle.tac_pass_laws.specs.Passed.{IsPassed}
+use Rattle.tac_known.specs.Lean.{IsLean}
+
+-- Code in which tests that can't fail have the number 0 shows what the code shows that it was made from.
+abbrev pub LeanKeeps : Type 0
+LeanKeeps = (old new : Code) → IsLean old new → Keeps old new
+
+-- And it may stand in that code's place.
+abbrev pub LeanArePassed : Type 0
+LeanArePassed = (old new : Code) → IsLean old new → IsPassed old new
+
+-- A code is lean in its own place, with nothing known anywhere.
+abbrev pub UnchangedIsLean : Type 0
+UnchangedIsLean = (code : Code) → IsLean code code

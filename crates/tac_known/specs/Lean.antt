@@ -1,0 +1,123 @@
+-- Code in which tests that can't fail have the number 0 in place of an error's: what is known at each place, and what
+-- each instruction becomes.
+use Rattle.std.specs.Prelude.{◌≡◌, ℕ, suc, ◌+◌, ◌-◌, Bool, true, false, List, length, map}
+use Rattle.std.specs.Prelude.{slice_get, slice_set, Some, pos}
+use Rattle.tac_code.specs.declared.code.Instruction.{Instruction}
+use Rattle.tac_code.specs.declared.code.Instruction.TheVariants.{Literal, Copy, Arithmetic, Bits, Compare, CheckRange}
+use Rattle.tac_code.specs.declared.code.Instruction.TheVariants.{CheckPointer, Text, Offset, Index, RoutineValue, Load}
+use Rattle.tac_code.specs.declared.code.Instruction.TheVariants.{Store, LoadByte, StoreByte, Jump, JumpBack, Branch}
+use Rattle.tac_code.specs.declared.code.Instruction.TheVariants.{BranchBack, Return, Trap, Take, Put}
+use Rattle.tac_code.specs.declared.code.Instruction.TheVariants.{New, End}
+use Rattle.tac_code.specs.declared.code.Operand.{Operand}
+use Rattle.tac_code.specs.declared.code.Relation.{Relation}
+use Rattle.tac_code.specs.declared.code.TacRoutine.{TacRoutine}
+use Rattle.tac_code.specs.Meaning.{Code, routines}
+use Rattle.tac_pass.specs.Follows.{SameHeading}
+use Rattle.tac_known.specs.declared.kind.Kind.{Kind}
+use Rattle.tac_known.specs.declared.kind.Kind.TheVariants.{Unknown, Pointer, Between}
+use Rattle.tac_known.specs.Kinds.{kind_in, operand_kind, met, computed_kind, bits_kind, fits, lies_within, is_pointer}
+use Rattle.tac_known.specs.Kinds.{opposite, related_kind, say_no_more, forget}
+
+-- ---- what an instruction becomes
+
+abbrev pub number_unless : Bool → ℕ → ℕ
+number_unless true error = 0
+number_unless false error = error
+
+abbrev pub lean : List Kind → Instruction → Instruction
+lean kinds (Arithmetic operator t a b error line) =
+    Arithmetic operator t a b (number_unless (fits operator (kind_in kinds a) (operand_kind kinds b)) error) line
+lean kinds (CheckRange a low high error line) =
+    CheckRange a low high (number_unless (lies_within (kind_in kinds a) low high) error) line
+lean kinds (CheckPointer a error line) = CheckPointer a (number_unless (is_pointer (kind_in kinds a)) error) line
+lean kinds (Index t b x low high width error line) =
+    Index t b x low high width (number_unless (lies_within (kind_in kinds x) low high) error) line
+lean kinds i = i
+
+-- the same by a test and a change
+abbrev pub is_vain : List Kind → Instruction → Bool
+is_vain kinds (Arithmetic operator t a b error line) = fits operator (kind_in kinds a) (operand_kind kinds b)
+is_vain kinds (CheckRange a low high error line) = lies_within (kind_in kinds a) low high
+is_vain kinds (CheckPointer a error line) = is_pointer (kind_in kinds a)
+is_vain kinds (Index t b x low high width error line) = lies_within (kind_in kinds x) low high
+is_vain kinds _ = false
+
+abbrev pub cleared : Instruction → Instruction
+cleared (Arithmetic operator t a b error line) = Arithmetic operator t a b 0 line
+cleared (CheckRange a low high error line) = CheckRange a low high 0 line
+cleared (CheckPointer a error line) = CheckPointer a 0 line
+cleared (Index t b x low high width error line) = Index t b x low high width 0 line
+cleared i = i
+
+-- ---- what is known behind it, where the next place follows
+
+abbrev pub known : List Kind → ℕ → Kind → List Kind
+known kinds t k = slice_set kinds t k
+
+abbrev pub behind : List Kind → Instruction → List Kind
+behind kinds (Literal t z) = known kinds t (Between z z)
+behind kinds (Copy t a) = known kinds t (kind_in kinds a)
+behind kinds (Arithmetic operator t a b error line) =
+    known kinds t (computed_kind operator (kind_in kinds a) (operand_kind kinds b))
+behind kinds (Bits operator t a b) = known kinds t (bits_kind operator (kind_in kinds a) (operand_kind kinds b))
+behind kinds (Compare relation t a b) = known kinds t (Between (pos 0) (pos 1))
+behind kinds (CheckRange a low high error line) = known kinds a (met (kind_in kinds a) low high)
+behind kinds (CheckPointer a error line) = known kinds a Pointer
+behind kinds (Text t bytes) = known kinds t Unknown
+behind kinds (Offset t b n extent) = known kinds t Unknown
+behind kinds (Index t b x low high width error line) =
+    known (known kinds x (met (kind_in kinds x) low high)) t Unknown
+behind kinds (RoutineValue t r) = known kinds t Unknown
+behind kinds (Load t b n) = known kinds t Unknown
+behind kinds (LoadByte t b n) = known kinds t Unknown
+behind kinds (Take t) = known kinds t Unknown
+behind kinds (New t object_type line) = known kinds t Pointer
+behind kinds (Store b n a) = kinds
+behind kinds (StoreByte b n a) = kinds
+behind kinds (Put a) = kinds
+behind kinds _ = map forget kinds
+
+-- where a branch finds that a relation holds, or that it doesn't
+abbrev pub where_related : Relation → ℕ → Operand → List Kind → List Kind
+where_related relation a b kinds = known kinds a (related_kind relation (kind_in kinds a) (operand_kind kinds b))
+
+-- ---- bodies
+
+-- by places of a body: what is known there
+abbrev pub Leads : (ℕ → List Kind) → ℕ → Instruction → Type 0
+Leads at place (Jump n) = say_no_more (at place) (at (suc place + n)) ≡ true
+Leads at place (JumpBack n) = say_no_more (at place) (at (place - n)) ≡ true
+Leads at place (Branch relation a b n) =
+    (say_no_more (where_related relation a b (at place)) (at (suc place + n)) ≡ true)
+    × (say_no_more (where_related (opposite relation) a b (at place)) (at (suc place)) ≡ true)
+Leads at place (BranchBack relation a b n) =
+    (say_no_more (where_related relation a b (at place)) (at (place - n)) ≡ true)
+    × (say_no_more (where_related (opposite relation) a b (at place)) (at (suc place)) ≡ true)
+Leads at place (Return a) = Unit {0}
+Leads at place (Trap error line) = Unit {0}
+Leads at place End = Unit {0}
+Leads at place i = say_no_more (behind (at place) i) (at (suc place)) ≡ true
+
+pub record LeanBody (body body' : List Instruction) : Type 0 where
+  pub at : ℕ → List Kind
+  -- nothing is known at the begin
+  pub begins : (u : ℕ) → kind_in (at 0) u ≡ Unknown
+  pub as_many : length body' ≡ length body
+  pub there : (place : ℕ) (i : Instruction) → slice_get body place ≡ Some i
+      → slice_get body' place ≡ Some (lean (at place) i)
+  pub leads : (place : ℕ) (i : Instruction) → slice_get body place ≡ Some i → Leads at place i
+
+-- ---- code
+
+pub record LeanRoutine (routine routine' : TacRoutine) : Type 0 where
+  pub heading : SameHeading routine routine'
+  pub temporaries : routine'.temporaries ≡ routine.temporaries
+  pub body : LeanBody routine.body routine'.body
+
+-- each routine of the old code has one of the new code in its place
+pub record IsLean (old new : Code) : Type 0 where
+  pub program : length new.program ≡ length old.program
+  pub run_time : length new.run_time ≡ length old.run_time
+  pub objects : new.objects ≡ old.objects
+  pub routines : (r : ℕ) (routine : TacRoutine) → slice_get (routines old) r ≡ Some routine → (routine' : TacRoutine)
+      × (slice_get (routines new) r ≡ Some routine') × LeanRoutine routine routine'

@@ -1,0 +1,4 @@
+pub mod Kinds
+pub mod Lean
+pub mod Walk
+pub mod Laws

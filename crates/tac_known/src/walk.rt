@@ -1,0 +1,209 @@
+// A walk over a body, a place after the other.
+
+ghost use Rattle.std.specs.Prelude.{◌≡◌, ℕ, suc, ◌+◌, ◌-◌, length, slice_get, IsTrue, IfOk, IfSome, true};
+ghost use Rattle.std.specs.Option.{option_copied};
+ghost use Rattle.tac_known.specs.Kinds.{say_no_more};
+ghost use Rattle.tac_known.specs.Lean.{lean, where_related, LeanBody};
+ghost use Rattle.tac_known.specs.Walk.{claim_at, claimed_or, falls, nothing, kinds_at, allows, aims, aims_well};
+ghost use Rattle.tac_known.specs.Walk.{goes_on_to_next, falls_well, is_well};
+
+use crate::kind::Kinds;
+use crate::lean::{fall, lean};
+use std::alloc::Global;
+use tac_code::code::{Instruction, Operand, OutOfMemory, Relation};
+
+// What is claimed at a place.
+fn claim(claims: &[Option<Kinds>], place: usize) -> Option<&Kinds>
+    ensures { option_copied result ≡ claim_at claims.now place }
+{
+    if place < claims.len() {
+        match &claims[place] {
+            Some(claimed) => Some(claimed),
+            None => None,
+        }
+    } else {
+        None
+    }
+}
+
+// Takes what is claimed at a place, if that is no more than what falls there.
+fn fall_in(claims: &[Option<Kinds>], kinds: &mut Kinds, place: usize) -> bool
+    ensures allowed { IsTrue result → allows (claim_at claims.now place) kinds.old ≡ true }
+    ensures taken { IsTrue result → kinds.new ≡ claimed_or (claim_at claims.now place) kinds.old }
+{
+    match claim(claims, place) {
+        Some(claimed) => kinds.allow(claimed) && kinds.replace(claimed),
+        None => true,
+    }
+}
+
+// The same where nothing falls.
+fn take_in(claims: &[Option<Kinds>], kinds: &mut Kinds, place: usize) -> bool
+    ensures { IsTrue result → kinds.new ≡ claimed_or (claim_at claims.now place) kinds.old }
+{
+    match claim(claims, place) {
+        Some(claimed) => kinds.replace(claimed),
+        None => true,
+    }
+}
+
+// Whether no more is claimed where a jump leads.
+fn aim(claims: &[Option<Kinds>], kinds: &Kinds, place: usize) -> bool
+    ensures { IsTrue result → aims (claim_at claims.now place) kinds.now ≡ true }
+{
+    match claim(claims, place) {
+        Some(claimed) => kinds.allow(claimed),
+        None => false,
+    }
+}
+
+fn ahead(place: usize, distance: u64) -> Option<usize>
+    ensures { IfSome result (λ target. target ≡ suc place + distance) }
+{
+    let target = (place as u64).checked_add(1)?.checked_add(distance)?;
+    Some(target as usize)
+}
+
+fn back(place: usize, distance: u64) -> Option<usize>
+    ensures { IfSome result (λ target. target ≡ place - distance) }
+{
+    let target = (place as u64).checked_sub(distance)?;
+    Some(target as usize)
+}
+
+// The same where a branch leads, whose relation then holds. What is known is put back.
+#[tactic(auto, using(crate::proofs::Walked::set_back))]
+fn aim_related(
+    claims: &[Option<Kinds>],
+    kinds: &mut Kinds,
+    place: usize,
+    relation: Relation,
+    left: u32,
+    right: Operand,
+) -> bool
+    ensures aimed { IsTrue result → aims (claim_at claims.now place) (where_related relation left right kinds.old) ≡ true }
+    ensures kept { kinds.new ≡ kinds.old }
+{
+    let was = kinds.kind(left);
+    kinds.relate(relation, left, right);
+    let is_aimed = aim(claims, kinds, place);
+    kinds.learn(left, was);
+    is_aimed
+}
+
+// Whether no more is claimed where an instruction jumps to.
+fn turn(
+    claims: &[Option<Kinds>],
+    kinds: &mut Kinds,
+    place: usize,
+    instruction: &Instruction,
+) -> bool
+    ensures well { IsTrue result → aims_well claims.now kinds.old place instruction.now ≡ true }
+    ensures kept { kinds.new ≡ kinds.old }
+{
+    match instruction {
+        Instruction::Jump { forward } => match ahead(place, *forward) {
+            Some(target) => aim(claims, kinds, target),
+            None => false,
+        },
+        Instruction::JumpBack { back: distance } => match back(place, *distance) {
+            Some(target) => aim(claims, kinds, target),
+            None => false,
+        },
+        Instruction::Branch {
+            relation,
+            left,
+            right,
+            forward,
+        } => match ahead(place, *forward) {
+            Some(target) => aim_related(claims, kinds, target, *relation, *left, *right),
+            None => false,
+        },
+        Instruction::BranchBack {
+            relation,
+            left,
+            right,
+            back: distance,
+        } => match back(place, *distance) {
+            Some(target) => aim_related(claims, kinds, target, *relation, *left, *right),
+            None => false,
+        },
+        _ => true,
+    }
+}
+
+// Whether an instruction goes on to the next place.
+fn goes_on(instruction: &Instruction) -> bool
+    ensures { result ≡ goes_on_to_next instruction.now }
+{
+    match instruction {
+        Instruction::Jump { .. }
+        | Instruction::JumpBack { .. }
+        | Instruction::Return { .. }
+        | Instruction::Trap { .. }
+        | Instruction::End => false,
+        _ => true,
+    }
+}
+
+// Goes on to the next place.
+fn go_on(
+    claims: &[Option<Kinds>],
+    kinds: &mut Kinds,
+    place: usize,
+    instruction: &Instruction,
+) -> bool
+    ensures well { IsTrue result → falls_well claims.now kinds.old place instruction.now ≡ true }
+    ensures taken { IsTrue result → kinds.new ≡ claimed_or (claim_at claims.now (suc place))
+        (falls kinds.old instruction.now) }
+{
+    let Some(next) = place.checked_add(1) else {
+        return false;
+    };
+    fall(kinds, instruction);
+    if goes_on(instruction) {
+        fall_in(claims, kinds, next)
+    } else {
+        take_in(claims, kinds, next)
+    }
+}
+
+// One place; false where more is claimed than is known.
+fn lean_place(
+    claims: &[Option<Kinds>],
+    kinds: &mut Kinds,
+    place: usize,
+    instruction: &mut Instruction,
+) -> bool
+    ensures well { IsTrue result → is_well claims.now kinds.old place instruction.old ≡ true }
+    ensures made { IsTrue result → instruction.new ≡ lean kinds.old instruction.old }
+    ensures taken { IsTrue result → kinds.new ≡ claimed_or (claim_at claims.now (suc place))
+        (falls kinds.old instruction.old) }
+{
+    if !turn(claims, kinds, place, instruction) {
+        return false;
+    }
+    lean(kinds, instruction);
+    go_on(claims, kinds, place, instruction)
+}
+
+/// Makes a body lean, where what is claimed by places is no more than what is known there. After false the body is of no use.
+pub fn lean_body(
+    alloc: Global,
+    temporaries: usize,
+    claims: &[Option<Kinds>],
+    body: &mut [Instruction],
+) -> Result<bool, OutOfMemory>
+    ensures { IfOk result (λ done. IsTrue done → LeanBody body.old body.new) }
+{
+    let mut kinds = Kinds::new(alloc, temporaries)?;
+    if claims.len() != body.len() || !fall_in(claims, &mut kinds, 0) {
+        return Ok(false);
+    }
+    for place in 0..body.len() {
+        if !lean_place(claims, &mut kinds, place, &mut body[place]) {
+            return Ok(false);
+        }
+    }
+    Ok(true)
+}
