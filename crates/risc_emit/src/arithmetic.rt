@@ -1,6 +1,7 @@
 // Operations on numbers.
 
-ghost use Rattle.std.specs.Prelude.{◌≡◌, ◌+◌, ◌++◌, [], ◌∷◌, length, pos, ◌≤ℤ◌, true, false, OnOk};
+ghost use Rattle.std.specs.Prelude.{◌≡◌, ◌+◌, ◌++◌, [], ◌∷◌, length, pos, ◌≤ℤ◌, true, false, if◌then◌else◌, nat_eq};
+ghost use Rattle.std.specs.Prelude.{OnOk};
 ghost use Rattle.risc_word.specs.declared.instr.Instr.TheVariants as word;
 ghost use Rattle.risc_word.specs.declared.instr.Operand.TheVariants.{Content, Constant};
 ghost use Rattle.risc_word.specs.declared.instr.Operation.TheVariants as op;
@@ -9,6 +10,7 @@ ghost use Rattle.risc_emit_relation.specs.Context.{home};
 ghost use Rattle.risc_emit_forms.specs.Pieces as piece;
 ghost use Rattle.risc_emit_forms.specs.Forms as form;
 ghost use Rattle.risc_emit.specs.Frames.{context_of};
+ghost use Rattle.risc_emit.specs.Meant.{meant, all_meant};
 
 use crate::frame::Frame;
 use crate::operands::{
@@ -16,7 +18,7 @@ use crate::operands::{
     save, target,
 };
 use crate::pieces::{Piece, Pieces};
-use crate::words::{computed, constant, r12, r15, set, skip};
+use crate::words::{computed, constant, idle, r12, r15, set, skip};
 use risc_word::{Condition, Instr, Operand as Right, Operation, Register};
 use tac_code::code::{BitOperator, Operand, Operator, OutOfMemory, Relation};
 
@@ -191,6 +193,23 @@ pub(crate) fn put_compare(
     }
 }
 
+// The words of a test, unless it can't fail, and then what was made goes to the temporary's slot.
+fn finish_tested(
+    frame: &Frame<'_>,
+    pieces: &mut Pieces,
+    test: &[Piece],
+    error: u8,
+    to: u32,
+) -> Result<(), OutOfMemory>
+    ensures { OnOk result (pieces.new ≡ pieces.old ++ form.tested error (all_meant test.now)
+        (form.save (context_of frame.now) frame.now.number (home (context_of frame.now) frame.now.number to))) }
+{
+    if error != 0 {
+        pieces.all(test)?;
+    }
+    save(frame, pieces, to)
+}
+
 // A sum or a difference.
 fn put_sum(
     frame: &Frame<'_>,
@@ -204,12 +223,13 @@ fn put_sum(
 ) -> Result<(), OutOfMemory>
     ensures { OnOk result (pieces.new ≡ pieces.old ++ form.both (context_of frame.now) frame.now.number left operand
         (form.operate (context_of frame.now) frame.now.number operation
-        (home (context_of frame.now) frame.now.number to) left operand ∷ piece.Fails on.OverflowSet error line
-        ∷ form.save (context_of frame.now) frame.now.number (home (context_of frame.now) frame.now.number to))) }
+        (home (context_of frame.now) frame.now.number to) left operand ∷ form.tested error
+        (piece.Fails on.OverflowSet error line ∷ []) (form.save (context_of frame.now) frame.now.number
+        (home (context_of frame.now) frame.now.number to)))) }
 {
     put_operate(frame, pieces, operation, to, left, operand)?;
     let fails = Piece::Fails(Condition::OverflowSet, error, line);
-    finish(frame, pieces, &[fails], to)
+    finish_tested(frame, pieces, &[fails], error, to)
 }
 
 // The product in its home, after a test that it has 32 bits.
@@ -235,7 +255,7 @@ fn put_product(
         Piece::Plain(Instr::MoveHigh { to: r15() }),
         Piece::Fails(Condition::NotEqual, error, line),
     ];
-    finish(frame, pieces, &beyond, to)
+    finish_tested(frame, pieces, &beyond, error, to)
 }
 
 // The floored quotient in a register rounded toward zero.
@@ -320,6 +340,17 @@ fn put_negated(frame: &Frame<'_>, pieces: &mut Pieces, left: u32) -> Result<(), 
     put_quotient(frame, pieces, left)
 }
 
+// An opposite that is no integer is an error, unless there can't be one.
+fn opposite_test(error: u8, line: u16) -> Piece
+    ensures { meant result ≡ (if nat_eq error 0 then form.idle else piece.Fails on.OverflowSet error line) }
+{
+    if error == 0 {
+        Piece::Plain(idle())
+    } else {
+        Piece::Fails(Condition::OverflowSet, error, line)
+    }
+}
+
 // The quotient is negated; the least divisor has words of its own.
 fn put_negated_back(
     frame: &Frame<'_>,
@@ -330,14 +361,14 @@ fn put_negated_back(
 ) -> Result<(), OutOfMemory>
     ensures { OnOk result (pieces.new ≡ pieces.old
         ++ (piece.Plain (word.Move 15 (Constant (pos 0))) ∷ piece.Plain (word.Operate op.Sub 12 15 (Content 12))
-        ∷ piece.Fails on.OverflowSet error line ∷ form.skip on.Always
+        ∷ form.opposite_test (context_of frame.now) frame.now.number error line ∷ form.skip on.Always
         (length (form.quotient_by_least (context_of frame.now) frame.now.number left)) ∷ form.quotient_by_least
         (context_of frame.now) frame.now.number left)) }
 {
     pieces.all(&[
         Piece::Plain(set(r15(), 0)),
         Piece::Plain(computed(Operation::Sub, r12(), r15(), Right::Content(r12()))),
-        Piece::Fails(Condition::OverflowSet, error, line),
+        opposite_test(error, line),
         Piece::Plain(skip(Condition::Always, least_length(frame, left))),
     ])?;
     put_quotient_by_least(frame, pieces, left)

@@ -1,8 +1,9 @@
 // Where a register is short of the offset of a block: between an index and the load by it.
 
-ghost use Rattle.std.specs.Prelude.{◌≡◌, ◌<◌, slice_get, Some, IfSome};
+ghost use Rattle.std.specs.Prelude.{◌≡◌, ◌<◌, ◌≤◌, slice_get, Some, IfSome};
 ghost use Rattle.risc_emit_relation.specs.Context.{home};
-ghost use Rattle.risc_emit_forms.specs.Told.{jumped, block_at, bend_in, bend_load, bend, bent};
+ghost use Rattle.risc_emit_forms.specs.Told.{jumped, block_at, fold_near, fold_by, folded, offset_of, bend_in, bend_load};
+ghost use Rattle.risc_emit_forms.specs.Told.{bend, bent};
 ghost use Rattle.risc_emit.specs.Frames.{context_of};
 
 use crate::frame::Frame;
@@ -23,13 +24,77 @@ fn block_at(frame: &Frame<'_>, base: Base) -> Option<u64>
     }
 }
 
-// The register of a temporary is short of it, where a load `behind` bytes after it can include both.
-fn bend_in(frame: &Frame<'_>, to: u32, behind: u32, block: Option<u64>) -> Option<(Register, u64)>
-    requires { IfSome block (λ offset. offset < 1099511627776) }
-    ensures { result ≡ bend_in (home (context_of frame.now) frame.now.number to) behind block }
+// What is left of the offset of a block without `first` steps of a width, where `last` steps are no more than a product
+// can be.
+fn fold_near(first: u32, last: u32, width: u32, offset: u64) -> Option<u64>
+    ensures is { result ≡ fold_near first last width offset }
+    ensures small { IfSome result (λ rest. rest ≤ offset) }
+{
+    let taken = u64::from(first) * u64::from(width);
+    let most = u64::from(last) * u64::from(width);
+    if taken <= offset && most < 2147483648 {
+        Some(offset - taken)
+    } else {
+        None
+    }
+}
+
+fn fold_by(low: i32, high: i32, width: u32, offset: u64) -> Option<u64>
+    ensures is { result ≡ fold_by low high width offset }
+    ensures small { IfSome result (λ rest. rest ≤ offset) }
+{
+    if low < 0 {
+        return None;
+    }
+    if high < 0 {
+        return None;
+    }
+    fold_near(low.unsigned_abs(), high.unsigned_abs(), width, offset)
+}
+
+/// The offset of a block that takes the lowest index in, where an index isn't tested.
+pub(crate) fn folded(
+    frame: &Frame<'_>,
+    base: Base,
+    low: i32,
+    high: i32,
+    width: u32,
+    error: u8,
+) -> Option<u64>
+    ensures is { result ≡ folded (context_of frame.now) frame.now.number base low high width error }
+    ensures small { IfSome result (λ offset. offset < 1099511627776) }
+{
+    match block_at(frame, base) {
+        Some(offset) if error == 0 => fold_by(low, high, width, offset),
+        _ => None,
+    }
+}
+
+// That, or else the offset of the block.
+fn offset_of(
+    frame: &Frame<'_>,
+    base: Base,
+    low: i32,
+    high: i32,
+    width: u32,
+    error: u8,
+) -> Option<u64>
+    ensures is { result ≡ offset_of (context_of frame.now) frame.now.number base low high width error }
+    ensures small { IfSome result (λ offset. offset < 1099511627776) }
+{
+    match folded(frame, base, low, high, width, error) {
+        Some(offset) => Some(offset),
+        None => block_at(frame, base),
+    }
+}
+
+// The register of a temporary is short of an offset, where a load `behind` bytes after it can include both.
+fn bend_in(frame: &Frame<'_>, to: u32, behind: u32, short: Option<u64>) -> Option<(Register, u64)>
+    requires { IfSome short (λ offset. offset < 1099511627776) }
+    ensures { result ≡ bend_in (home (context_of frame.now) frame.now.number to) behind short }
 {
     match frame.seat(to) {
-        Seat::Register(register) => match block {
+        Seat::Register(register) => match short {
             Some(offset) if offset + u64::from(behind) < 524288 => Some((register, offset)),
             _ => None,
         },
@@ -41,10 +106,11 @@ fn bend_in(frame: &Frame<'_>, to: u32, behind: u32, block: Option<u64>) -> Optio
 fn bend_by(
     frame: &Frame<'_>,
     to: u32,
-    base: Base,
+    short: Option<u64>,
     instruction: &Instruction,
 ) -> Option<(Register, u64)>
-    ensures { result ≡ bend_load (context_of frame.now) frame.now.number to base (Some instruction.now) }
+    requires { IfSome short (λ offset. offset < 1099511627776) }
+    ensures { result ≡ bend_load (context_of frame.now) frame.now.number to short (Some instruction.now) }
 {
     match instruction {
         Instruction::Load {
@@ -53,7 +119,7 @@ fn bend_by(
             offset,
         } => {
             if *other == to && *address == to {
-                bend_in(frame, to, *offset, block_at(frame, base))
+                bend_in(frame, to, *offset, short)
             } else {
                 None
             }
@@ -66,14 +132,15 @@ fn bend_by(
 fn bend_load(
     frame: &Frame<'_>,
     to: u32,
-    base: Base,
+    short: Option<u64>,
     body: &[Instruction],
     place: usize,
 ) -> Option<(Register, u64)>
-    ensures { result ≡ bend_load (context_of frame.now) frame.now.number to base (slice_get body.now place) }
+    requires { IfSome short (λ offset. offset < 1099511627776) }
+    ensures { result ≡ bend_load (context_of frame.now) frame.now.number to short (slice_get body.now place) }
 {
     match body.get(place) {
-        Some(instruction) => bend_by(frame, to, base, instruction),
+        Some(instruction) => bend_by(frame, to, short, instruction),
         None => None,
     }
 }
@@ -87,7 +154,18 @@ fn bend(
     ensures { result ≡ bend (context_of frame.now) frame.now.number (Some instruction.now) (slice_get body.now place) }
 {
     match instruction {
-        Instruction::Index { to, base, .. } => bend_load(frame, *to, *base, body, place),
+        Instruction::Index {
+            to,
+            base,
+            low,
+            high,
+            width,
+            error,
+            ..
+        } => {
+            let short = offset_of(frame, *base, *low, *high, *width, *error);
+            bend_load(frame, *to, short, body, place)
+        }
         _ => None,
     }
 }

@@ -1,18 +1,19 @@
 // Checks of ranges and pointers, and the addresses of components.
 
-ghost use Rattle.std.specs.Prelude.{◌≡◌, ◌++◌, [], ◌∷◌, OnOk, IfOk};
+ghost use Rattle.std.specs.Prelude.{◌≡◌, ◌++◌, [], ◌∷◌, None, OnOk, IfOk};
 ghost use Rattle.risc_word.specs.declared.instr.Condition.TheVariants as on;
 ghost use Rattle.risc_emit_relation.specs.Context.{home};
 ghost use Rattle.risc_emit_forms.specs.Pieces as piece;
 ghost use Rattle.risc_emit_forms.specs.Forms as form;
 ghost use Rattle.risc_emit.specs.Frames.{context_of};
 
+use crate::bent::folded;
 use crate::frame::Frame;
-use crate::memory::{base_register, put_base_address};
+use crate::memory::{base_register, put_base_address, put_sum};
 use crate::numbers::put_exact;
 use crate::operands::{bring, fetch, finish, is_told, natural_right, number_right, target};
 use crate::pieces::{Piece, Pieces};
-use crate::words::{computed, constant, r12, r15};
+use crate::words::{computed, constant, idle, r12, r15};
 use risc_word::{Condition, Operand as Right, Operation, Register};
 use tac_code::code::{Base, OutOfMemory};
 
@@ -84,6 +85,7 @@ fn put_range(
     Ok(above)
 }
 
+/// A number in its range, where the test can fail; a test that can't is one idle word.
 pub(crate) fn put_check(
     frame: &Frame<'_>,
     pieces: &mut Pieces,
@@ -96,11 +98,15 @@ pub(crate) fn put_check(
     ensures { OnOk result (pieces.new ≡ pieces.old ++ form.check_form
         (context_of frame.now) frame.now.number value low high error line) }
 {
+    if error == 0 {
+        return pieces.plain(idle());
+    }
     let register = fetch(frame, pieces, r12(), value)?;
     put_range(frame, pieces, register, low, high, error, line)?;
     Ok(())
 }
 
+/// A pointer that is not nil, where the test can fail; a test that can't is one idle word.
 pub(crate) fn put_pointer_check(
     frame: &Frame<'_>,
     pieces: &mut Pieces,
@@ -112,6 +118,9 @@ pub(crate) fn put_pointer_check(
     ensures { OnOk result (pieces.new ≡ pieces.old ++ form.pointer_form
         (context_of frame.now) frame.now.number told pointer error line) }
 {
+    if error == 0 {
+        return pieces.plain(idle());
+    }
     if !is_told(frame, told, pointer) {
         bring(frame, pieces, r12(), pointer)?;
     }
@@ -181,6 +190,116 @@ fn put_steps(
     put_component(frame, pieces, bent, to, base, distance)
 }
 
+// How far an index is above the lowest one, after a test where that can fail: gives the register.
+fn put_index_steps(
+    frame: &Frame<'_>,
+    pieces: &mut Pieces,
+    register: Register,
+    low: i32,
+    high: i32,
+    error: u8,
+    line: u16,
+) -> Result<Register, OutOfMemory>
+    ensures words { OnOk result (pieces.new ≡ pieces.old ++ form.index_code
+        (context_of frame.now) frame.now.number register low high error line) }
+    ensures register { IfOk result (λ q. q ≡ form.above_register (context_of frame.now) frame.now.number register low) }
+{
+    if error != 0 {
+        return put_range(frame, pieces, register, low, high, error, line);
+    }
+    put_above(frame, pieces, register, low)
+}
+
+// The address at the distance in a register from an offset that takes the lowest index in.
+fn put_near_component(
+    frame: &Frame<'_>,
+    pieces: &mut Pieces,
+    rest: u64,
+    bent: Option<(Register, u64)>,
+    to: u32,
+    base: Base,
+    distance: Register,
+) -> Result<(), OutOfMemory>
+    ensures { OnOk result (pieces.new ≡ pieces.old ++ form.near_component
+        (context_of frame.now) frame.now.number rest bent to base distance) }
+{
+    let near = base_register(frame, base);
+    if let Some((register, _)) = bent {
+        let sum = computed(Operation::Add, register, near, Right::Content(distance));
+        return pieces.plain(sum);
+    }
+    put_sum(frame, pieces, near, rest)?;
+    let sum = computed(
+        Operation::Add,
+        target(frame, to),
+        r15(),
+        Right::Content(distance),
+    );
+    finish(frame, pieces, &[Piece::Plain(sum)], to)
+}
+
+// The address of a component by the index itself.
+fn put_near(
+    frame: &Frame<'_>,
+    pieces: &mut Pieces,
+    rest: u64,
+    bent: Option<(Register, u64)>,
+    to: u32,
+    base: Base,
+    index: Register,
+    width: u32,
+) -> Result<(), OutOfMemory>
+    ensures { OnOk result (pieces.new ≡ pieces.old ++ (form.scaled (context_of frame.now) frame.now.number index width
+        ++ form.near_component (context_of frame.now) frame.now.number rest bent to base
+        (form.scaled_register (context_of frame.now) frame.now.number index width))) }
+{
+    let distance = put_scaled(frame, pieces, index, width)?;
+    put_near_component(frame, pieces, rest, bent, to, base, distance)
+}
+
+// The same by how far it is above the lowest one.
+fn put_far(
+    frame: &Frame<'_>,
+    pieces: &mut Pieces,
+    bent: Option<(Register, u64)>,
+    to: u32,
+    base: Base,
+    index: u32,
+    low: i32,
+    high: i32,
+    width: u32,
+    error: u8,
+    line: u16,
+) -> Result<(), OutOfMemory>
+    ensures { OnOk result (pieces.new ≡ pieces.old ++ form.index_by
+        (context_of frame.now) frame.now.number None bent to base index low high width error line) }
+{
+    let register = fetch(frame, pieces, r12(), index)?;
+    let steps = put_index_steps(frame, pieces, register, low, high, error, line)?;
+    put_steps(frame, pieces, bent, to, base, steps, width)
+}
+
+fn put_folded(
+    frame: &Frame<'_>,
+    pieces: &mut Pieces,
+    rest: u64,
+    bent: Option<(Register, u64)>,
+    to: u32,
+    base: Base,
+    index: u32,
+    width: u32,
+) -> Result<(), OutOfMemory>
+    ensures { OnOk result (pieces.new ≡ pieces.old ++ (form.fetch (context_of frame.now) frame.now.number 12
+        (home (context_of frame.now) frame.now.number index) ++ (form.scaled (context_of frame.now) frame.now.number
+        (form.fetched (context_of frame.now) frame.now.number 12 (home (context_of frame.now) frame.now.number index))
+        width ++ form.near_component (context_of frame.now) frame.now.number rest bent to base
+        (form.scaled_register (context_of frame.now) frame.now.number (form.fetched (context_of frame.now)
+        frame.now.number 12 (home (context_of frame.now) frame.now.number index)) width)))) }
+{
+    let register = fetch(frame, pieces, r12(), index)?;
+    put_near(frame, pieces, rest, bent, to, base, register, width)
+}
+
 /// The address of a component.
 pub(crate) fn put_index(
     frame: &Frame<'_>,
@@ -198,7 +317,10 @@ pub(crate) fn put_index(
     ensures { OnOk result (pieces.new ≡ pieces.old ++ form.index_form
         (context_of frame.now) frame.now.number bent to base index low high width error line) }
 {
-    let register = fetch(frame, pieces, r12(), index)?;
-    let steps = put_range(frame, pieces, register, low, high, error, line)?;
-    put_steps(frame, pieces, bent, to, base, steps, width)
+    match folded(frame, base, low, high, width, error) {
+        Some(rest) => put_folded(frame, pieces, rest, bent, to, base, index, width),
+        None => put_far(
+            frame, pieces, bent, to, base, index, low, high, width, error, line,
+        ),
+    }
 }

@@ -164,8 +164,8 @@ pub(crate) fn put_offset(
     save(frame, pieces, to)
 }
 
-// R15 takes the address a number of bytes after what a register holds.
-fn put_sum(
+/// R15 takes the address a number of bytes after what a register holds.
+pub(crate) fn put_sum(
     frame: &Frame<'_>,
     pieces: &mut Pieces,
     register: Register,

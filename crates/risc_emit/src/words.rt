@@ -81,6 +81,13 @@ pub(crate) fn set(to: Register, value: i32) -> Instr
     }
 }
 
+/// A word that does nothing, for an instruction or a skip that needs one.
+pub(crate) fn idle() -> Instr
+    ensures { result ≡ word.Move 15 (Constant (pos 0)) }
+{
+    set(r15(), 0)
+}
+
 pub(crate) fn copied(to: Register, from: Register) -> Instr
     ensures { result ≡ word.Move to (Content from) }
 {

@@ -1,5 +1,5 @@
 -- Ranges and pointers checked by their words.
-use Rattle.std.proofs.Common.{◌≡◌, ◌≢◌, ℕ, zero, suc, ◌+◌, ◌<◌, ◌≤◌, inr, Bool, true, false, cond, not, ◌&&◌, nat_eq}
+use Rattle.std.proofs.Common.{◌≡◌, ◌≢◌, ℕ, zero, suc, ◌+◌, ◌<◌, ◌≤◌, Bool, true, false, cond, not, ◌&&◌, nat_eq}
 use Rattle.std.proofs.Common.{nat_lt, List, [], ◌∷◌, ◌++◌, length, take, Option, Some, None, ℤ, pos, negsuc, ◌-ℤ◌}
 use Rattle.std.proofs.Common.{refl, sym, ap, ◌∙◌, subst, arith, append_assoc}
 use Rattle.std.specs.Prelude.{int_lt, ◌≤ℤ◌, ◌<ℤ◌}
@@ -19,7 +19,7 @@ use Rattle.tac_code.specs.declared.code.Value.{Value}
 use Rattle.tac_code.specs.declared.code.Value.TheVariants.{Number}
 use Rattle.tac_code.specs.declared.code.Instruction.TheVariants.{CheckRange, CheckPointer}
 use Rattle.tac_code.specs.Numbers.{is_zero, word_of, natural, steps_above, is_in_range}
-use Rattle.tac_code.specs.Meaning.{fetch, open_calls, State, checks, onward, pointer_of, is_nil}
+use Rattle.tac_code.specs.Meaning.{fetch, open_calls, State, Over, checks, onward, pointer_of, is_nil}
 use Rattle.risc_emit_relation.specs.Context.{Context, home, Places, Passes, IsNumber}
 use Rattle.risc_emit_relation.specs.Context as ctx
 use Rattle.risc_emit_relation.specs.Related.{Machine, Related, value_of}
@@ -32,12 +32,12 @@ use Rattle.risc_emit_forms.specs.Pieces.{Piece, Plain, Left}
 use Rattle.risc_emit_forms.specs.Told.{told_at}
 use Rattle.risc_emit_forms.specs.Forms as form
 use Rattle.risc_emit_forms.specs.Forms.{exact, fetched, right, right_operand, bring, above, above_register, at_most}
-use Rattle.risc_emit_forms.specs.Forms.{range_code}
-use Rattle.risc_emit_forms.specs.Follows.{machine_of, Built, Belongs, Stops, Follows}
+use Rattle.risc_emit_forms.specs.Forms.{idle, range_code, index_code}
+use Rattle.risc_emit_forms.specs.Follows.{machine_of, Built, Belongs, Follows}
 use Rattle.risc_emit_forms.proofs.Basics.{left_after, left_next, is_read, passes, among_first, integer_is}
 use Rattle.risc_emit_forms.proofs.Runs.{step_to, exact_run, fetched_not, right_run}
-use Rattle.risc_emit_forms.proofs.Comes.{failing, framed, left_whole, fetched_is, come_to, stop_to, stop_way}
-use Rattle.risc_emit_forms.proofs.Comes.{fails_not, fails_walked, walk_near, goes_end}
+use Rattle.risc_emit_forms.proofs.Comes.{test_failing, framed, left_whole, fetched_is, come_to}
+use Rattle.risc_emit_forms.proofs.Comes.{fails_not, test_walked, untested, walk_near, goes_end}
 use Rattle.risc_emit_forms.proofs.Operands.{code, stands_in, one_run, brought_run}
 use Rattle.risc_emit_forms.proofs.Branches.{told_stands}
 use Rattle.risc_emit_forms.proofs.Compares.{not_not, pointer_word, points, object_high}
@@ -178,7 +178,7 @@ module _ (c : Context) (words : List ℕ) (b : Built c words) (p : Places) (s : 
     goes : inside ≡ true → (w : View) × (t : To words c.size m same_tape w)
         × ((q : ℕ) → q ≢ 15 → w.registers q ≡ v.registers q) × ((y : ℕ) → w.words y ≡ v.words y)
         × Left c words w.place ps next
-    stops : inside ≡ false → Stops c words s m (failing c s error line)
+    stops : inside ≡ false → Follows c words (Over (test_failing c s error line)) s m
 
   -- after a subtraction into R15
   borrowed : (condition : _) (error line : ℕ) (ps : List Piece) (next : ℕ) (inside : Bool) (m : machine.State)
@@ -198,8 +198,8 @@ module _ (c : Context) (words : List ℕ) (b : Built c words) (p : Places) (s : 
               left_next c words w.place next _ ps
                   l,
             );
-        stops = λ e. stop_to c words b s m (failing c s error line) w t
-            (fails_walked c words b s condition error line ps next t.to w
+        stops = λ e. follows_to c words b s m w t (Over (test_failing c s error line))
+            (test_walked c words b s condition error line ps next t.to w
             (walks v w near (regs 14 (omega arith)) mem) t.shows l (holds ∙ ap not e));
       }
 
@@ -255,7 +255,7 @@ module _ (c : Context) (words : List ℕ) (b : Built c words) (p : Places) (s : 
     pub goes : inside ≡ true → (w : View) × (t : To words c.size m same_tape w) × Near (machine_of v) (machine_of w)
         × (w.registers (above_register c s.current.routine a low) ≡ difference_of (word_of x) (word_of low))
         × Left c words w.place ps next
-    pub stops : inside ≡ false → Stops c words s m (failing c s error line)
+    pub stops : inside ≡ false → Follows c words (Over (test_failing c s error line)) s m
 
   pub above_not : (a : ℕ) (low : ℤ) → a ≢ 15 → above_register c s.current.routine a low ≢ 15
   above_not a low ne = go (is_zero low)
@@ -279,7 +279,7 @@ module _ (c : Context) (words : List ℕ) (b : Built c words) (p : Places) (s : 
       go true e l =
           record {
             goes = λ ins. absurd (differ (sym ins ∙ none_within low high x e));
-            stops = λ ins. fails_walked c words b s on.Always error line ps next m v
+            stops = λ ins. test_walked c words b s on.Always error line ps next m v
                 (walks v v near refl (λ y. refl)) sh l refl;
           }
         where
@@ -314,11 +314,44 @@ module _ (c : Context) (words : List ℕ) (b : Built c words) (p : Places) (s : 
                   h.2 q (above_not a low n15) ∙ g.value,
                   h.4,
                 );
-            stops = λ ins. stop_way c words b s m (failing c s error line) v1 g.way (k.stops (test_is ∙ ins));
+            stops = λ ins. follows_way c words b s m v1 g.way (Over (test_failing c s error line))
+                (k.stops (test_is ∙ ins));
           }
         where
           narrow : (n : ℕ) → pos n ≡ high -ℤ low → n < 4294967296
           narrow n is = omega (arith, ints, is, hl, hh)
+
+  -- ---- an index
+
+  -- how far an index is above the lowest one: the run goes on behind that, or the index was not in its range
+  pub record Indexed (a : ℕ) (low x : ℤ) (error line : ℕ) (ps : List Piece) (next : ℕ) (inside : Bool) (m : machine.State) (v : View) : Type 0 where
+    pub goes : inside ≡ true → (w : View) × (t : Way words c.size m same_tape w) × Near (machine_of v) (machine_of w)
+        × (w.registers (above_register c s.current.routine a low) ≡ difference_of (word_of x) (word_of low))
+        × Left c words w.place ps next
+    pub stops : inside ≡ false → Follows c words (Over (test_failing c s error line)) s m
+
+  pub index_run : (a : ℕ) (low high x : ℤ) (error line : ℕ) (ps : List Piece) (next : ℕ) (m : machine.State) (v : View)
+      → Shows words c.size m v → a ≢ 15 → Near m0 (machine_of v) → IsNumber low → IsNumber high → IsNumber x
+      → v.registers a ≡ word_of x → Left c words v.place
+      (index_code c s.current.routine a low high error line ++ ps) next → Indexed a low x error line ps next
+      (is_in_range low high x) m v
+  index_run a low high x error line ps next m v sh n15 near hl hh hx ex l = go (nat_eq error 0) refl l
+    where
+      go : (none : Bool) → nat_eq error 0 ≡ none → Left c words v.place
+          (cond none (above c s.current.routine a low) (range_code c s.current.routine a low high error line) ++ ps)
+          next → Indexed a low x error line ps next (is_in_range low high x) m v
+      go true e l =
+          let g = above_run a low x ps next m v sh n15 (e14_of v near) hl hx ex l in
+          record {
+            goes = λ ins. (g.view, g.way, g.near, g.value, g.left);
+            stops = λ ins. untested c words b s error line m e;
+          }
+      go false e l =
+          let k = range_run a low high x error line ps next m v sh n15 near hl hh hx ex l in
+          record {
+            goes = λ ins. let h = k.goes ins in (h.0, way_of words c.size m same_tape h.0 h.1, h.2, h.3, h.4);
+            stops = k.stops;
+          }
 
 module _ (c : Context) (words : List ℕ) (b : Built c words) (p : Places) (s : State) (f : ℕ) (m : machine.State) (v : View) (sh : Shows words c.size m v) (be : Belongs c words p s v f) where
   -- the run goes on where a check was passed
@@ -339,46 +372,70 @@ module _ (c : Context) (words : List ℕ) (b : Built c words) (p : Places) (s : 
       at_end : (w : ℕ) → Left c words w [] (c.site s.current.routine (suc s.current.place)) → w
           ≡ c.site s.current.routine (suc s.current.place)
       at_end w l = let e = l.ends in omega (arith, e)
-  goes_behind a low x error line inside v1 n near ps k false e = inr (k.stops e)
+  goes_behind a low x error line inside v1 n near ps k false e = k.stops e
+
+  -- a check that is not made, with a word that does nothing
+  idle_follows : (error line : ℕ) (inside : Bool) → nat_eq error 0 ≡ true → Passes c s.current.routine s.current.place
+      (suc s.current.place) → Left c words v.place (idle ∷ []) (c.site s.current.routine (suc s.current.place))
+      → Follows c words (checks c.code inside error line s) s m
+  idle_follows error line true e ps l =
+      let i = word.Move 15 (instr_operand.Constant (pos 0)) in
+      let t1 = step_to c words b.stood i m v sh l.stands.0 tt in
+      let v1 = after i v in
+      let ends = l.ends in
+      come_to c words b s (record s { current = onward s.current }) m same_tape v1 t1 refl
+      (goes_end c words b p s (machine_of v) f (suc s.current.place) t1.to v1 be.related be.input ps t1.shows
+      (record {
+        registers = λ q n12 n15. update_other v.registers 15 _ q n15;
+        words = λ y. refl;
+      }) (sym ends))
+  idle_follows error line false e ps l = untested c words b s error line m e
 
   pub check_range_follows : (a : ℕ) (low high : ℤ) (error line : ℕ) (x : ℤ)
       → fetch c.code s.current.routine s.current.place ≡ Some (CheckRange a low high error line)
       → s.current.temporaries a ≡ Some (Number x) → Follows c words
       (checks c.code (is_in_range low high x) error line s) s m
-  check_range_follows a low high error line x here ea =
-      let r = s.current.routine in
-      let k = s.current.place in
-      let i = CheckRange a low high error line in
-      let so = fetched_is c words b r k i here in
-      let fa = form.fetch c r 12 (home c r a) in
-      let d = fetched c r 12 (home c r a) in
-      let rc = range_code c r d low high error line in
-      let l = code c words b p s f m v sh be i here in
-      let g = one_run c words b p s f m v sh be 12 a (Number x) rc _ (omega arith)
-      (is_read c r k i here a (among_first a [])) ea l in
-      let v1 = g.view in
-      let l1 = left_after c words v.place v1.place _ fa rc l g.place in
-      let near : Near (machine_of v) (machine_of v1) = record {
-        registers = λ q n12 n15. g.moved.registers q n12;
-        words = g.moved.words;
-      } in
-      let n15 = fetched_not c words b.stood b.laid b.placed r f
-      (framed c words b p s (machine_of v) f be.related) 12 a 15 (omega arith) (omega arith) in
-      let z = range_run c words b p s f (machine_of v) be.related d low high x error line [] _ g.way.to v1 g.way.shows
-      n15 near (integer_is low so.sound.1) (integer_is high so.sound.2) g.good g.value
-      (left_whole c words v1.place _ rc l1) in
-      follows_way c words b s m v1 g.way (checks c.code (is_in_range low high x) error line s)
-      (goes_behind d low x error line (is_in_range low high x) v1 g.way.to near
-      (passes c r k i here (suc k) refl (among_first (suc k) [])) z (is_in_range low high x) refl)
+  check_range_follows a low high error line x here ea = go (nat_eq error 0) refl
+      (code c words b p s f m v sh be (CheckRange a low high error line) here)
+    where
+      go : (none : Bool) → nat_eq error 0 ≡ none → Left c words v.place
+          (cond none (idle ∷ []) (form.fetch c s.current.routine 12 (home c s.current.routine a) ++ range_code c
+          s.current.routine (fetched c s.current.routine 12 (home c s.current.routine a)) low high error line))
+          (c.site s.current.routine (suc s.current.place)) → Follows c words
+          (checks c.code (is_in_range low high x) error line s) s m
+      go true e l = idle_follows error line (is_in_range low high x) e
+          (passes c s.current.routine s.current.place (CheckRange a low high error line) here (suc s.current.place) refl
+          (among_first (suc s.current.place) [])) l
+      go false e l =
+          let r = s.current.routine in
+          let k = s.current.place in
+          let i = CheckRange a low high error line in
+          let so = fetched_is c words b r k i here in
+          let fa = form.fetch c r 12 (home c r a) in
+          let d = fetched c r 12 (home c r a) in
+          let rc = range_code c r d low high error line in
+          let g = one_run c words b p s f m v sh be 12 a (Number x) rc _ (omega arith)
+          (is_read c r k i here a (among_first a [])) ea l in
+          let v1 = g.view in
+          let l1 = left_after c words v.place v1.place _ fa rc l g.place in
+          let near : Near (machine_of v) (machine_of v1) = record {
+            registers = λ q n12 n15. g.moved.registers q n12;
+            words = g.moved.words;
+          } in
+          let n15 = fetched_not c words b.stood b.laid b.placed r f
+          (framed c words b p s (machine_of v) f be.related) 12 a 15 (omega arith) (omega arith) in
+          let z = range_run c words b p s f (machine_of v) be.related d low high x error line [] _ g.way.to v1
+          g.way.shows n15 near (integer_is low so.sound.1) (integer_is high so.sound.2) g.good g.value
+          (left_whole c words v1.place _ rc l1) in
+          follows_way c words b s m v1 g.way (checks c.code (is_in_range low high x) error line s)
+          (goes_behind d low x error line (is_in_range low high x) v1 g.way.to near
+          (passes c r k i here (suc k) refl (among_first (suc k) [])) z (is_in_range low high x) refl)
 
   pub check_pointer_follows : (a error line : ℕ) (x : Value) (q : Option ℕ)
       → fetch c.code s.current.routine s.current.place ≡ Some (CheckPointer a error line) → s.current.temporaries a
       ≡ Some x → pointer_of (Some x) ≡ Some q → Follows c words (checks c.code (not (is_nil q)) error line s) s m
-  check_pointer_follows a error line x q here ea eq =
-      let r = s.current.routine in
-      let k = s.current.place in
-      let i = CheckPointer a error line in
-      by (form.is_told c r (told_at c r k) a) refl (code c words b p s f m v sh be i here)
+  check_pointer_follows a error line x q here ea eq = number (nat_eq error 0) refl
+      (code c words b p s f m v sh be (CheckPointer a error line) here)
     where
       nil_word : (q : Option ℕ) → ((n : ℕ) → q ≡ Some n → n < p.objects) → nat_eq
           (pointer_word c b.laid p s v.words f be.related.held q) 0 ≡ is_nil q
@@ -394,9 +451,9 @@ module _ (c : Context) (words : List ℕ) (b : Built c words) (p : Places) (s : 
           (c.site s.current.routine (suc s.current.place)) → v1.equal ≡ is_nil q → (t : Bool) → is_nil q ≡ t
           → Follows c words (checks c.code (not t) error line s) s n
       go v1 n sh1 near l1 nil true e =
-          inr (fails_walked c words b s on.Equal error line [] _ n v1
+          test_walked c words b s on.Equal error line [] _ n v1
           (walk_near c words b p s (machine_of v) f v1 be.related
-          (near.registers 14 (omega arith) (omega arith)) near.words) sh1 l1 (nil ∙ e))
+          (near.registers 14 (omega arith) (omega arith)) near.words) sh1 l1 (nil ∙ e)
       go v1 n sh1 near l1 nil false e =
           let t2 = fails_not c words b on.Equal error line [] _ n v1 sh1 l1 (nil ∙ e) in
           let v2 = at_view (v1.place + 1) v1 in
@@ -436,3 +493,14 @@ module _ (c : Context) (words : List ℕ) (b : Built c words) (p : Places) (s : 
           let nil : v1.equal ≡ is_nil q = g.zero ∙ ap (λ y. nat_eq y 0) pt.is ∙ nil_word q pt.named in
           follows_to c words b s m v1 g.to (checks c.code (not (is_nil q)) error line s)
           (go v1 g.to.to g.to.shows near l1 nil (is_nil q) refl)
+
+      number : (none : Bool) → nat_eq error 0 ≡ none → Left c words v.place
+          (cond none (idle ∷ []) (cond (form.is_told c s.current.routine
+          (told_at c s.current.routine s.current.place) a) (piece.Fails on.Equal error line ∷ [])
+          (bring c s.current.routine 12 (home c s.current.routine a) ++ piece.Fails on.Equal error line ∷ [])))
+          (c.site s.current.routine (suc s.current.place)) → Follows c words
+          (checks c.code (not (is_nil q)) error line s) s m
+      number true e l = idle_follows error line (not (is_nil q)) e
+          (passes c s.current.routine s.current.place (CheckPointer a error line) here (suc s.current.place) refl
+          (among_first (suc s.current.place) [])) l
+      number false e l = by (form.is_told c s.current.routine (told_at c s.current.routine s.current.place) a) refl l

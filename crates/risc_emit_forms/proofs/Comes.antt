@@ -1,9 +1,9 @@
 -- How an instruction's words are followed: parts joined, and the ends in which they reach the next state or a stop.
-use Rattle.std.proofs.Common.{◌≡◌, ◌≢◌, ℕ, zero, suc, ◌+◌, ◌*◌, ◌%◌, ◌<◌, ◌≤◌, ◌⊎◌, inl, inr, true, false, cond}
+use Rattle.std.proofs.Common.{◌≡◌, ◌≢◌, ℕ, zero, suc, ◌+◌, ◌*◌, ◌%◌, ◌<◌, ◌≤◌, ◌⊎◌, inl, inr, Bool, true, false, cond}
 use Rattle.std.proofs.Common.{nat_eq, nat_le, List, [], ◌∷◌, ◌++◌, length, take, Option, Some, None, slice_get, pos}
 use Rattle.std.proofs.Common.{negsuc, refl, sym, ap, ◌∙◌, subst, arith}
 use Rattle.std.proofs.lemmas.Int.{ints}
-use Rattle.behavior.specs.Endings.{Ending, Stack, Heap, Error, ending_by}
+use Rattle.behavior.specs.Endings.{Ending, Stack, Heap, Error, Stuck, ending_by}
 use Rattle.behavior.specs.Transcripts.{AreBytes}
 use Rattle.risc_word.specs.declared.instr.Condition.{Condition}
 use Rattle.risc_word.specs.declared.instr.Operand.TheVariants.{Constant}
@@ -21,7 +21,7 @@ use Rattle.risc_machine_laws.proofs.Numbers.{target_reached}
 use Rattle.tac_code.specs.declared.code.Value.{Value}
 use Rattle.tac_code.specs.declared.code.Instruction.{Instruction}
 use Rattle.tac_code.specs.declared.code.TacRoutine.{TacRoutine}
-use Rattle.tac_code.specs.Meaning.{routines, body_at, fetch, State, giving, open_calls}
+use Rattle.tac_code.specs.Meaning.{routines, body_at, fetch, State, Over, giving, open_calls, test_ending}
 use Rattle.tac_code.specs.Sound.{IsSoundAt, IsSoundRoutine, limits_of}
 use Rattle.risc_alloc.specs.declared.homes.Home.TheVariants.{Reg}
 use Rattle.risc_emit_relation.specs.Context.{Context, home, Places, word, IsValue, Passes, Writes}
@@ -36,7 +36,7 @@ use Rattle.risc_emit_forms.specs.Pieces.{Label, label_place, Piece, Goes, Fails,
 use Rattle.risc_emit_forms.specs.Forms.{target, save, receive, skip}
 use Rattle.risc_emit_forms.specs.Told.{flagged_by, bent_at}
 use Rattle.risc_emit_forms.specs.Follows.{machine_of, stub, Built, tape_of, Flags, Straight, unbent, Meets, Belongs}
-use Rattle.risc_emit_forms.specs.Follows.{Comes, Stops, trapped, told}
+use Rattle.risc_emit_forms.specs.Follows.{Comes, Stops, Follows, trapped, told}
 use Rattle.risc_emit_forms.proofs.Flags.{told_behind, flagged_straight, passed_silent}
 use Rattle.risc_emit_forms.proofs.Runs.{Aside, Framed, in_register, save_run, receive_run}
 
@@ -62,6 +62,10 @@ link_told c v w n e =
 -- the ending of an error in a state
 abbrev pub failing : Context → State → ℕ → ℕ → Ending
 failing c s number line = ending_by number line (open_calls (length c.code.program) s.current s.callers)
+
+-- and of a test that fails, which is stuck where its number is 0
+abbrev pub test_failing : Context → State → ℕ → ℕ → Ending
+test_failing c s number line = test_ending number line (open_calls (length c.code.program) s.current s.callers)
 
 pub append_nil : (ps : List Piece) → ps ++ [] ≡ ps
 append_nil [] = refl
@@ -339,6 +343,23 @@ module _ (c : Context) (words : List ℕ) (b : Built c words) where
         by = λ k. let x = st.by k (tape_of s.tape) in let y = t2.runs x.0 (tape_of s.tape) in let z = t1.runs y.0
             (tape_of s.tape) in (z.0, omega (arith, x.1, y.1, z.1), z.2 ∙ y.2 ∙ x.2);
       }
+
+  -- the same for a test, where nothing is required if its number is 0
+  pub test_walked : (s : State) (condition : Condition) (number line : ℕ) (ps : List Piece) (next : ℕ)
+      (m : machine.State) (v : View) → walk c.line c.size 16 v.words (v.registers 14) ≡ take 16
+      (open_calls (length c.code.program) s.current s.callers) → Shows words c.size m v → Left c words v.place
+      (Fails condition number line ∷ ps) next → holds_view v condition ≡ true → Follows c words
+      (Over (test_failing c s number line)) s m
+  test_walked s condition number line ps next m v walked sh l e = go (nat_eq number 0)
+    where
+      go : (none : Bool) → Follows c words (Over (cond none Stuck (failing c s number line))) s m
+      go true = inl refl
+      go false = inr (fails_walked s condition number line ps next m v walked sh l e)
+
+  -- a test that has no words, and would fail
+  pub untested : (s : State) (number line : ℕ) (m : machine.State) → nat_eq number 0 ≡ true → Follows c words
+      (Over (test_failing c s number line)) s m
+  untested s number line m e = inl (ap (λ t. cond t Stuck (failing c s number line)) e)
 
   pub walk_near : (p : Places) (s : State) (m0 : Machine) (f : ℕ) (v : View) → Related c p s m0 f → v.registers 14
       ≡ m0.registers 14 → ((a : ℕ) → v.words a ≡ m0.words a) → walk c.line c.size 16 v.words (v.registers 14) ≡ take 16

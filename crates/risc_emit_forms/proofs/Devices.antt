@@ -16,7 +16,7 @@ use Rattle.risc_machine_laws.specs.Runs.{same_tape}
 use Rattle.risc_machine_laws.proofs.Runs.{to_join, put_to, take_to, takes_byte, takes_end, stop_at}
 use Rattle.tac_code.specs.declared.code.Value.TheVariants.{Number}
 use Rattle.tac_code.specs.declared.code.Instruction.TheVariants.{Trap, Take, Put, End}
-use Rattle.tac_code.specs.Meaning.{fetch, State, Tape, onward, giving, told, end_taken, takes}
+use Rattle.tac_code.specs.Meaning.{fetch, State, Over, Tape, onward, giving, told, end_taken, takes}
 use Rattle.risc_emit_relation.specs.Context.{Context, home, Places, IsNumber}
 use Rattle.risc_emit_relation.specs.Related.{Related}
 use Rattle.risc_emit_relation.specs.Changes.{Near}
@@ -29,15 +29,15 @@ use Rattle.risc_emit_forms.specs.Follows.{machine_of, Built, Belongs, Comes, Sto
 use Rattle.risc_emit_forms.proofs.Basics.{left_after, left_next, is_read, passes, writes_it, among_first}
 use Rattle.risc_emit_forms.proofs.Flags.{silent}
 use Rattle.risc_emit_forms.proofs.Runs.{step_to, fetched_not, target_not}
-use Rattle.risc_emit_forms.proofs.Comes.{framed, failing, come_to, come_way, stop_to, Arrives, goes_end, gives_end}
-use Rattle.risc_emit_forms.proofs.Comes.{fails_walked}
+use Rattle.risc_emit_forms.proofs.Comes.{framed, test_failing, come_to, come_way, stop_to, Arrives, goes_end, gives_end}
+use Rattle.risc_emit_forms.proofs.Comes.{test_walked}
 use Rattle.risc_emit_forms.proofs.Operands.{code, one_run}
 
 module _ (c : Context) (words : List ℕ) (b : Built c words) (p : Places) (s : State) (f : ℕ) (m : machine.State) (v : View) (sh : Shows words c.size m v) (be : Belongs c words p s v f) where
   pub trap_follows : (number line : ℕ) → fetch c.code s.current.routine s.current.place ≡ Some (Trap number line)
-      → Stops c words s m (failing c s number line)
+      → Follows c words (Over (test_failing c s number line)) s m
   trap_follows number line here =
-      fails_walked c words b s on.Always number line [] _ m v
+      test_walked c words b s on.Always number line [] _ m v
       (walk_is c b.laid p b.stood.unlinked 16 s (machine_of v) f be.related) sh
       (code c words b p s f m v sh be (Trap number line) here) refl
 

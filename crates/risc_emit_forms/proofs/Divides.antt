@@ -25,7 +25,7 @@ use Rattle.tac_code.specs.declared.code.Operand.{Operand}
 use Rattle.tac_code.specs.declared.code.Value.TheVariants.{Number}
 use Rattle.tac_code.specs.declared.code.Instruction.TheVariants.{Arithmetic}
 use Rattle.tac_code.specs.Numbers.{is_integer, is_zero, same_number, word_of, Gives, Fails, within}
-use Rattle.tac_code.specs.Meaning.{fetch, State, giving, operand_value, gives_computed}
+use Rattle.tac_code.specs.Meaning.{fetch, State, Over, giving, operand_value, gives_computed}
 use Rattle.risc_alloc.specs.declared.homes.Home.{Home}
 use Rattle.risc_alloc.specs.declared.homes.Home.TheVariants.{Slot, Reg}
 use Rattle.risc_alloc.specs.Flow.{in_operand}
@@ -37,13 +37,14 @@ use Rattle.risc_emit_forms.specs.Pieces as piece
 use Rattle.risc_emit_forms.specs.Pieces.{Piece, Plain, Left}
 use Rattle.risc_emit_forms.specs.Forms as form
 use Rattle.risc_emit_forms.specs.Forms.{is_near, fetched, right_operand, target, save, receive, divisor, is_divisor}
-use Rattle.risc_emit_forms.specs.Forms.{skip, rounded, quotient, quotient_by_least, quotient_by_negative}
+use Rattle.risc_emit_forms.specs.Forms.{skip, idle, rounded, quotient, quotient_by_least, quotient_by_negative}
 use Rattle.risc_emit_forms.specs.Follows.{machine_of, Built, Straight, Belongs, Comes, Follows}
 use Rattle.risc_emit_forms.proofs.Basics.{left_after, left_next, left_at, is_read, writes_it, among_first, among_rest}
 use Rattle.risc_emit_forms.proofs.Flags as flags
 use Rattle.risc_emit_forms.proofs.Runs.{Moved, step_to, fetch_run, target_not}
 use Rattle.risc_emit_forms.proofs.Comes.{framed, fetched_is, come_to, Arrives, skip_run, skip_not, fails_not}
-use Rattle.risc_emit_forms.proofs.Comes.{fails_walked, walk_near, gives_end, receives_end}
+use Rattle.risc_emit_forms.proofs.Comes.{fails_walked, test_failing, test_walked, untested, walk_near, gives_end}
+use Rattle.risc_emit_forms.proofs.Comes.{receives_end}
 use Rattle.risc_emit_forms.proofs.Operands.{code, stands_in}
 use Rattle.risc_emit_forms.proofs.Numbers.{overflow_is, number_of_integer}
 use Rattle.risc_emit_forms.proofs.Compares.{differs}
@@ -183,8 +184,8 @@ module _ (c : Context) (words : List ℕ) (b : Built c words) (p : Places) (s : 
   negative_length a error line =
       let n = length-append (quotient c s.current.routine a)
       (Plain (word.Move 15 (Constant (pos 0))) ∷ Plain (word.Operate op.Sub 12 15 (Content 12))
-      ∷ piece.Fails on.OverflowSet error line ∷ skip on.Always (length (quotient_by_least c s.current.routine a))
-      ∷ quotient_by_least c s.current.routine a) in
+      ∷ form.opposite_test c s.current.routine error line ∷ skip on.Always
+      (length (quotient_by_least c s.current.routine a)) ∷ quotient_by_least c s.current.routine a) in
       omega (arith, n)
 
   -- ---- an immediate divisor
@@ -403,8 +404,8 @@ module _ (c : Context) (words : List ℕ) (b : Built c words) (p : Places) (s : 
   abbrev behind_quotient : ℕ → ℕ → ℕ → List Piece → List Piece
   behind_quotient a error line ps =
       Plain (word.Move 15 (Constant (pos 0))) ∷ Plain (word.Operate op.Sub 12 15 (Content 12))
-      ∷ piece.Fails on.OverflowSet error line ∷ skip on.Always (length (quotient_by_least c s.current.routine a))
-      ∷ (quotient_by_least c s.current.routine a ++ ps)
+      ∷ form.opposite_test c s.current.routine error line ∷ skip on.Always
+      (length (quotient_by_least c s.current.routine a)) ∷ (quotient_by_least c s.current.routine a ++ ps)
 
   -- the result goes to the temporary, or the error
   pub given : (t error line : ℕ) (z : ℤ) (n : machine.State) → Writes c s.current.routine s.current.place t
@@ -418,6 +419,54 @@ module _ (c : Context) (words : List ℕ) (b : Built c words) (p : Places) (s : 
       go true e' =
           come_to c words b s (record s { current = giving t (Number z) s.current }) n same_tape k.view k.to refl
           (made_end t z k.to.to k.view silent k.to.shows k.near wr (number_of_integer z e) k.value k.left)
+
+  -- past the test of an opposite, or the word in its place
+  record Behind (ps : List Piece) (next : ℕ) (n : machine.State) (w : View) : Type 0 where
+    view : View
+    to : To words c.size n same_tape view
+    registers : (q : ℕ) → q ≢ 15 → view.registers q ≡ w.registers q
+    memory : (q : ℕ) → view.words q ≡ w.words q
+    left : Left c words view.place ps next
+
+  test_passed : (error line : ℕ) (ps : List Piece) (next : ℕ) (n : machine.State) (w : View) → Shows words c.size n w
+      → Left c words w.place (form.opposite_test c s.current.routine error line ∷ ps) next → w.overflow ≡ false
+      → Behind ps next n w
+  test_passed error line ps next n w sh1 l e = go (nat_eq error 0) l
+    where
+      go : (none : Bool) → Left c words w.place (cond none idle (piece.Fails on.OverflowSet error line) ∷ ps) next
+          → Behind ps next n w
+      go true l =
+          let i = word.Move 15 (Constant (pos 0)) in
+          record {
+            view = after i w;
+            to = step_to c words b.stood i n w sh1 l.stands.0 tt;
+            registers = λ q n15. update_other w.registers 15 _ q n15;
+            memory = λ q. refl;
+            left = left_next c words w.place next _ ps l;
+          }
+      go false l =
+          record {
+            view = at_view (w.place + 1) w;
+            to = fails_not c words b on.OverflowSet error line ps next n w sh1 l e;
+            registers = λ q n15. refl;
+            memory = λ q. refl;
+            left = left_next c words w.place next _ ps l;
+          }
+
+  test_failed : (error line : ℕ) (ps : List Piece) (next : ℕ) (n : machine.State) (w : View) → Shows words c.size n w
+      → Near (machine_of v) (machine_of w) → Left c words w.place
+      (form.opposite_test c s.current.routine error line ∷ ps) next → w.overflow ≡ true → Follows c words
+      (Over (test_failing c s error line)) s n
+  test_failed error line ps next n w sh1 near l e = go (nat_eq error 0) refl l
+    where
+      go : (none : Bool) → nat_eq error 0 ≡ none → Left c words w.place
+          (cond none idle (piece.Fails on.OverflowSet error line) ∷ ps) next → Follows c words
+          (Over (test_failing c s error line)) s n
+      go true is l = untested c words b s error line n is
+      go false is l =
+          test_walked c words b s on.OverflowSet error line ps next n w
+          (walk_near c words b p s (machine_of v) f w be.related
+          (near.registers 14 (omega arith) (omega arith)) near.words) sh1 l e
 
   -- R12 negated, with the test of overflow
   negated_end : (t a error line : ℕ) (q z : ℤ) (n : machine.State) (w : View) → Shows words c.size n w → Near
@@ -448,7 +497,7 @@ module _ (c : Context) (words : List ℕ) (b : Built c words) (p : Places) (s : 
       (λ h. less.1 (subst IsNumber ez h) ∙ ap word_of (sym ez)) (is_integer z) refl)
     where
       ends : (n : machine.State) (w : View) → Shows words c.size n w → Near (machine_of v) (machine_of w)
-          → Left c words w.place (piece.Fails on.OverflowSet error line ∷ skip on.Always
+          → Left c words w.place (form.opposite_test c s.current.routine error line ∷ skip on.Always
           (length (quotient_by_least c s.current.routine a))
           ∷ (quotient_by_least c s.current.routine a ++ receive c s.current.routine (home c s.current.routine t)))
           (c.site s.current.routine (suc s.current.place)) → w.overflow ≡ overflows z
@@ -456,23 +505,23 @@ module _ (c : Context) (words : List ℕ) (b : Built c words) (p : Places) (s : 
           (gives_computed c.code t (within error z) line s) s n
       ends n w sh1 near l over value true e =
           let r = s.current.routine in
-          let t1 = fails_not c words b on.OverflowSet error line _ _ n w sh1 l (over ∙ overflow_is z ∙ ap not e) in
-          let w1 = at_view (w.place + 1) w in
-          let l1 = left_next c words w.place _ _ _ l in
+          let g = test_passed error line _ _ n w sh1 l (over ∙ overflow_is z ∙ ap not e) in
+          let w1 = g.view in
+          let l1 = g.left in
           let len = least_length a in
           let short = fetch_short (home c r a) in
-          let t2 = skip_run c words b on.Always (length (quotient_by_least c r a)) _ _ t1.to w1 t1.shows l1 refl
+          let t2 = skip_run c words b on.Always (length (quotient_by_least c r a)) _ _ g.to.to w1 g.to.shows l1 refl
           (omega (arith, len, short)) in
           let w2 = at_view (w1.place + 1 + length (quotient_by_least c r a)) w1 in
           let l2 = left_after c words (w1.place + 1) w2.place _ (quotient_by_least c r a) (receive c r (home c r t))
           (left_next c words w1.place _ _ _ l1) refl in
           given t error line z n wr silent e (record {
             view = w2;
-            to = to_join words c.size n same_tape same_tape w1 w2 t1 t2;
-            value = value (number_of_integer z e);
+            to = to_join words c.size n same_tape same_tape w1 w2 g.to t2;
+            value = g.registers 12 (omega arith) ∙ value (number_of_integer z e);
             near = record {
-              registers = near.registers;
-              words = near.words;
+              registers = λ y n12 n15. g.registers y n15 ∙ near.registers y n12 n15;
+              words = λ y. g.memory y ∙ near.words y;
             };
             left = l2;
           })
@@ -481,10 +530,7 @@ module _ (c : Context) (words : List ℕ) (b : Built c words) (p : Places) (s : 
           fail : (i : Bool) → i ≡ false → Follows c words
               (gives_computed c.code t (cond i (Gives z) (Fails error)) line s) s n
           fail true e' = absurd (cc e')
-          fail false e' =
-              inr (fails_walked c words b s on.OverflowSet error line _ _ n w
-              (walk_near c words b p s (machine_of v) f w be.related
-              (near.registers 14 (omega arith) (omega arith)) near.words) sh1 l (over ∙ overflow_is z ∙ ap not e))
+          fail false e' = test_failed error line _ _ n w sh1 near l (over ∙ overflow_is z ∙ ap not e)
 
   pub negative_follows : (t a error line : ℕ) (x y : ℤ) (n : machine.State) (w : View) → Shows words c.size n w → Near
       (machine_of v) (machine_of w) → Writes c s.current.routine s.current.place t
@@ -519,8 +565,9 @@ module _ (c : Context) (words : List ℕ) (b : Built c words) (p : Places) (s : 
       ends : (n : machine.State) (w : View) → Shows words c.size n w → Near (machine_of v) (machine_of w)
           → Left c words w.place (skip on.OverflowSet (length (quotient c s.current.routine a) + 4)
           ∷ ((quotient c s.current.routine a ++ (Plain (word.Move 15 (Constant (pos 0))) ∷ Plain
-          (word.Operate op.Sub 12 15 (Content 12)) ∷ piece.Fails on.OverflowSet error line ∷ skip on.Always
-          (length (quotient_by_least c s.current.routine a)) ∷ quotient_by_least c s.current.routine a))
+          (word.Operate op.Sub 12 15 (Content 12)) ∷ form.opposite_test c s.current.routine error line
+          ∷ skip on.Always (length (quotient_by_least c s.current.routine a))
+          ∷ quotient_by_least c s.current.routine a))
           ++ receive c s.current.routine (home c s.current.routine t))) (c.site s.current.routine (suc s.current.place))
           → w.overflow ≡ overflows (pos 0 -ℤ y) → (IsNumber (pos 0 -ℤ y) → w.registers 15 ≡ word_of (pos 0 -ℤ y))
           → w.registers 15 ≡ difference_of 0 (word_of y) → (i : Bool) → is_integer (pos 0 -ℤ y) ≡ i → Follows c words
@@ -537,7 +584,7 @@ module _ (c : Context) (words : List ℕ) (b : Built c words) (p : Places) (s : 
           let behind = behind_quotient a error line rc in
           let la = subst (λ q. Left c words w1.place q (c.site r (suc s.current.place)))
           (append_assoc (quotient c r a) (Plain (word.Move 15 (Constant (pos 0))) ∷ Plain
-          (word.Operate op.Sub 12 15 (Content 12)) ∷ piece.Fails on.OverflowSet error line ∷ skip on.Always
+          (word.Operate op.Sub 12 15 (Content 12)) ∷ form.opposite_test c r error line ∷ skip on.Always
           (length (quotient_by_least c r a)) ∷ quotient_by_least c r a) rc) l1 in
           let lb = subst (λ q. Left c words w1.place q (c.site r (suc s.current.place)))
           (append_assoc fa (di ∷ rounded 12) behind) la in
@@ -564,7 +611,7 @@ module _ (c : Context) (words : List ℕ) (b : Built c words) (p : Places) (s : 
           let behind = behind_quotient a error line rc in
           let la = subst (λ q. Left c words (w.place + 1) q (c.site r (suc s.current.place)))
           (append_assoc (quotient c r a) (Plain (word.Move 15 (Constant (pos 0))) ∷ Plain
-          (word.Operate op.Sub 12 15 (Content 12)) ∷ piece.Fails on.OverflowSet error line ∷ skip on.Always
+          (word.Operate op.Sub 12 15 (Content 12)) ∷ form.opposite_test c r error line ∷ skip on.Always
           (length (quotient_by_least c r a)) ∷ quotient_by_least c r a) rc) l1 in
           let at = w.place + 1 + length (quotient c r a) in
           let lb = left_after c words (w.place + 1) at _ (quotient c r a) behind la refl in

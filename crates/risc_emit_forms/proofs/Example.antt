@@ -488,7 +488,7 @@ block_body (suc zero) i e =
 block_body (suc (suc zero)) i e =
     let z : Arithmetic Add 1 1 (operand.Temporary 0) 1 4 ≡ i = cc e in
     subst (IsSoundAt (limits_of code block) 2) z
-    (omega arith, omega arith, omega arith, (omega arith, omega arith), (omega arith, omega arith))
+    (omega arith, omega arith, omega arith, omega arith, (omega arith, omega arith))
 block_body (suc (suc (suc zero))) i e =
     let z : Store base.Frame 0 1 ≡ i = cc e in subst (IsSoundAt (limits_of code block) 3) z (tt, omega arith)
 block_body (suc (suc (suc (suc zero)))) i e =

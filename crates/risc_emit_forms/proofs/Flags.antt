@@ -22,7 +22,7 @@ use Rattle.tac_code.specs.declared.code.Base.{Base}
 use Rattle.tac_code.specs.declared.code.Base.TheVariants as base
 use Rattle.risc_emit_relation.proofs.Basics.{eq_of, eqb_same}
 use Rattle.risc_emit_forms.specs.Told.{sets_flags, flagged_by, flagged_in, jump_of, set_in, marked, jumped, told_in}
-use Rattle.risc_emit_forms.specs.Told.{told_at, block_at, bend_in, bend_load, bend, bent_in, bent_at}
+use Rattle.risc_emit_forms.specs.Told.{told_at, offset_of, bend_in, bend_load, bend, bent_in, bent_at}
 use Rattle.risc_emit_forms.specs.Follows.{Flags, Straight}
 
 -- ---- instructions
@@ -405,10 +405,10 @@ entered_silent c r v = (
 
 -- ---- what a register is short of
 
--- after an index it is the offset of its base's block
-pub record BentIndex (c : Context) (r t : ℕ) (a : Base) (x : ℕ × ℕ) : Type 0 where
+-- after an index it is the offset of its base's block, or what the lowest index leaves of it
+pub record BentIndex (c : Context) (r t : ℕ) (o : Option ℕ) (x : ℕ × ℕ) : Type 0 where
   pub home : home c r t ≡ Reg x.0
-  pub offset : block_at c r a ≡ Some x.1
+  pub offset : o ≡ Some x.1
 
 -- and the load takes it
 pub record BentLoad (c : Context) (r k : ℕ) (x : ℕ × ℕ) : Type 0 where
@@ -418,11 +418,11 @@ pub record BentLoad (c : Context) (r k : ℕ) (x : ℕ × ℕ) : Type 0 where
   pub home : home c r to ≡ Reg x.0
   pub near : x.1 + behind < 524288
 
-record Bent (c : Context) (r t : ℕ) (a : Base) (next : Option Instruction) (x : ℕ × ℕ) : Type 0 where
+record Bent (c : Context) (r t : ℕ) (o : Option ℕ) (next : Option Instruction) (x : ℕ × ℕ) : Type 0 where
   behind : ℕ
   load : next ≡ Some (Load t (base.Temporary t) behind)
   home : home c r t ≡ Reg x.0
-  offset : block_at c r a ≡ Some x.1
+  offset : o ≡ Some x.1
   near : x.1 + behind < 524288
 
 bent_home : (h : Home) (n : ℕ) (o : Option ℕ) (x : ℕ × ℕ) → bend_in h n o ≡ Some x → (h ≡ Reg x.0) × (o ≡ Some x.1)
@@ -441,14 +441,14 @@ bent_home (Reg q) n (Some m) x e = go (nat_lt (m + n) 524288) refl e
         (ap (λ y. Reg y.0) same, ap (λ y. Some y.1) same, subst (λ y. y.1 + n < 524288) same (less (m + n) 524288 lt))
     go false lt e = absurd (cc e)
 
-bent_load : (c : Context) (r t : ℕ) (a : Base) (next : Option Instruction) (x : ℕ × ℕ) → bend_load c r t a next ≡ Some x
-    → Bent c r t a next x
-bent_load c r t a (Some (Load u (base.Temporary w) n)) x e = go (nat_eq u t) (nat_eq w t) refl refl e
+bent_load : (c : Context) (r t : ℕ) (o : Option ℕ) (next : Option Instruction) (x : ℕ × ℕ) → bend_load c r t o next
+    ≡ Some x → Bent c r t o next x
+bent_load c r t o (Some (Load u (base.Temporary w) n)) x e = go (nat_eq u t) (nat_eq w t) refl refl e
   where
-    go : (y z : Bool) → nat_eq u t ≡ y → nat_eq w t ≡ z → cond (y && z) (bend_in (home c r t) n (block_at c r a)) None
-        ≡ Some x → Bent c r t a (Some (Load u (base.Temporary w) n)) x
+    go : (y z : Bool) → nat_eq u t ≡ y → nat_eq w t ≡ z → cond (y && z) (bend_in (home c r t) n o) None
+        ≡ Some x → Bent c r t o (Some (Load u (base.Temporary w) n)) x
     go true true ey ez e =
-        let k = bent_home (home c r t) n (block_at c r a) x e in
+        let k = bent_home (home c r t) n o x e in
         let ut = eq_of u t ey in
         let wt = eq_of w t ez in
         record {
@@ -460,36 +460,36 @@ bent_load c r t a (Some (Load u (base.Temporary w) n)) x e = go (nat_eq u t) (na
         }
     go true false ey ez e = absurd (cc e)
     go false z ey ez e = absurd (cc e)
-bent_load c r t a (Some (Load u base.Frame n)) x e = absurd (cc e)
-bent_load c r t a (Some (Load u base.Scratch n)) x e = absurd (cc e)
-bent_load c r t a (Some (Load u base.Program n)) x e = absurd (cc e)
-bent_load c r t a None x e = absurd (cc e)
-bent_load c r t a (Some (Literal t' z')) x e = absurd (cc e)
-bent_load c r t a (Some (Copy t' a')) x e = absurd (cc e)
-bent_load c r t a (Some (Arithmetic operator' t' a' b' error' line')) x e = absurd (cc e)
-bent_load c r t a (Some (Bits operator' t' a' b')) x e = absurd (cc e)
-bent_load c r t a (Some (Compare relation' t' a' b')) x e = absurd (cc e)
-bent_load c r t a (Some (CheckRange a' low' high' error' line')) x e = absurd (cc e)
-bent_load c r t a (Some (CheckPointer a' error' line')) x e = absurd (cc e)
-bent_load c r t a (Some (Text t' bytes')) x e = absurd (cc e)
-bent_load c r t a (Some (Offset t' a' n' extent')) x e = absurd (cc e)
-bent_load c r t a (Some (RoutineValue t' q')) x e = absurd (cc e)
-bent_load c r t a (Some (Store a' n' u')) x e = absurd (cc e)
-bent_load c r t a (Some (LoadByte t' a' n')) x e = absurd (cc e)
-bent_load c r t a (Some (StoreByte a' n' u')) x e = absurd (cc e)
-bent_load c r t a (Some (Jump n')) x e = absurd (cc e)
-bent_load c r t a (Some (JumpBack n')) x e = absurd (cc e)
-bent_load c r t a (Some (Branch relation' a' b' n')) x e = absurd (cc e)
-bent_load c r t a (Some (BranchBack relation' a' b' n')) x e = absurd (cc e)
-bent_load c r t a (Some (Call t' q' us' line')) x e = absurd (cc e)
-bent_load c r t a (Some (CallValue t' a' us' line')) x e = absurd (cc e)
-bent_load c r t a (Some (Return a')) x e = absurd (cc e)
-bent_load c r t a (Some (Trap error' line')) x e = absurd (cc e)
-bent_load c r t a (Some (Take t')) x e = absurd (cc e)
-bent_load c r t a (Some (Put a')) x e = absurd (cc e)
-bent_load c r t a (Some (New t' type' line')) x e = absurd (cc e)
-bent_load c r t a (Some End) x e = absurd (cc e)
-bent_load c r t a (Some (Index t' a' i' low' high' width' error' line')) x e = absurd (cc e)
+bent_load c r t o (Some (Load u base.Frame n)) x e = absurd (cc e)
+bent_load c r t o (Some (Load u base.Scratch n)) x e = absurd (cc e)
+bent_load c r t o (Some (Load u base.Program n)) x e = absurd (cc e)
+bent_load c r t o None x e = absurd (cc e)
+bent_load c r t o (Some (Literal t' z')) x e = absurd (cc e)
+bent_load c r t o (Some (Copy t' a')) x e = absurd (cc e)
+bent_load c r t o (Some (Arithmetic operator' t' a' b' error' line')) x e = absurd (cc e)
+bent_load c r t o (Some (Bits operator' t' a' b')) x e = absurd (cc e)
+bent_load c r t o (Some (Compare relation' t' a' b')) x e = absurd (cc e)
+bent_load c r t o (Some (CheckRange a' low' high' error' line')) x e = absurd (cc e)
+bent_load c r t o (Some (CheckPointer a' error' line')) x e = absurd (cc e)
+bent_load c r t o (Some (Text t' bytes')) x e = absurd (cc e)
+bent_load c r t o (Some (Offset t' a' n' extent')) x e = absurd (cc e)
+bent_load c r t o (Some (RoutineValue t' q')) x e = absurd (cc e)
+bent_load c r t o (Some (Store a' n' u')) x e = absurd (cc e)
+bent_load c r t o (Some (LoadByte t' a' n')) x e = absurd (cc e)
+bent_load c r t o (Some (StoreByte a' n' u')) x e = absurd (cc e)
+bent_load c r t o (Some (Jump n')) x e = absurd (cc e)
+bent_load c r t o (Some (JumpBack n')) x e = absurd (cc e)
+bent_load c r t o (Some (Branch relation' a' b' n')) x e = absurd (cc e)
+bent_load c r t o (Some (BranchBack relation' a' b' n')) x e = absurd (cc e)
+bent_load c r t o (Some (Call t' q' us' line')) x e = absurd (cc e)
+bent_load c r t o (Some (CallValue t' a' us' line')) x e = absurd (cc e)
+bent_load c r t o (Some (Return a')) x e = absurd (cc e)
+bent_load c r t o (Some (Trap error' line')) x e = absurd (cc e)
+bent_load c r t o (Some (Take t')) x e = absurd (cc e)
+bent_load c r t o (Some (Put a')) x e = absurd (cc e)
+bent_load c r t o (Some (New t' type' line')) x e = absurd (cc e)
+bent_load c r t o (Some End) x e = absurd (cc e)
+bent_load c r t o (Some (Index t' a' i' low' high' width' error' line')) x e = absurd (cc e)
 
 bent_both : (c : Context) (r : ℕ) (o : Option TacRoutine) (k : ℕ) (x : ℕ × ℕ) → bent_in c r o (suc k) ≡ Some x
     → bend c r (body_at o k) (body_at o (suc k)) ≡ Some x
@@ -503,10 +503,10 @@ bent_both c r (Some routine) k x e = go (get_or (jumped routine.body) (suc k) tr
 
 pub bent_index_is : (c : Context) (r k t : ℕ) (a : Base) (i : ℕ) (low high : ℤ) (width error line : ℕ) (x : ℕ × ℕ)
     → fetch c.code r k ≡ Some (Index t a i low high width error line) → bent_at c r (suc k) ≡ Some x
-    → BentIndex c r t a x
+    → BentIndex c r t (offset_of c r a low high width error) x
 bent_index_is c r k t a i low high width error line x here e =
     let both = bent_both c r (slice_get (routines c.code) r) k x e in
-    let is = bent_load c r t a (fetch c.code r (suc k)) x
+    let is = bent_load c r t (offset_of c r a low high width error) (fetch c.code r (suc k)) x
     (ap (λ o. bend c r o (fetch c.code r (suc k))) (sym here) ∙ both) in
     record { home = is.home; offset = is.offset }
 
@@ -522,7 +522,7 @@ bent_load_is c r (suc k) x e = go (fetch c.code r k) refl (bent_both c r (slice_
         (suc k) x
     go None is e = absurd (cc e)
     go (Some (Index t a i low high width error line)) is e =
-        let b = bent_load c r t a (fetch c.code r (suc k)) x e in
+        let b = bent_load c r t (offset_of c r a low high width error) (fetch c.code r (suc k)) x e in
         record { to = t; behind = b.behind; here = b.load; home = b.home; near = b.near }
     go (Some (Literal t z)) is e = absurd (cc e)
     go (Some (Copy t a)) is e = absurd (cc e)

@@ -1,10 +1,10 @@
 -- Components of arrays: the index checked, and the address of the component.
-use Rattle.std.proofs.Common.{◌≡◌, ◌≢◌, ℕ, zero, suc, ◌+◌, ◌*◌, ◌/◌, ◌%◌, ◌^◌, ◌<◌, inl, inr, Bool, true, false, cond}
-use Rattle.std.proofs.Common.{not, ◌&&◌, nat_eq, nat_lt, List, [], ◌∷◌, ◌++◌, length, Some, ℤ, pos, ◌*ℤ◌, refl, sym}
-use Rattle.std.proofs.Common.{ap, ◌∙◌, subst, arith, append_assoc, Option, None}
+use Rattle.std.proofs.Common.{◌≡◌, ◌≢◌, ℕ, zero, suc, ◌+◌, ◌*◌, ◌/◌, ◌%◌, ◌^◌, ◌<◌, inl, Bool, true, false, cond}
+use Rattle.std.proofs.Common.{not, ◌&&◌, ◌-◌, ◌≤◌, nat_eq, nat_le, nat_lt, List, [], ◌∷◌, ◌++◌, length, Some, ℤ, pos}
+use Rattle.std.proofs.Common.{negsuc, ◌*ℤ◌, refl, sym, ap, ◌∙◌, subst, arith, append_assoc, Option, None}
 use Rattle.std.specs.Prelude.{int_lt, ◌≤ℤ◌}
 use Rattle.std.proofs.lemmas.Int.{ints}
-use Rattle.std.proofs.lemmas.Bool.{ltb-true}
+use Rattle.std.proofs.lemmas.Bool.{leb-true, ltb-true}
 use Rattle.behavior.specs.Endings.{Stuck}
 use Rattle.risc_word.specs.declared.instr.Operation.TheVariants as op
 use Rattle.risc_word.specs.declared.instr.Operand.TheVariants.{Content, Constant}
@@ -35,19 +35,19 @@ use Rattle.risc_emit_relation.proofs.Steps.{home_read, value_near}
 use Rattle.risc_emit_forms.specs.Pieces.{Piece, Plain, Left}
 use Rattle.risc_emit_forms.specs.Forms as form
 use Rattle.risc_emit_forms.specs.Forms.{constant, exact, fetched, target, save, base_register, right, right_operand}
-use Rattle.risc_emit_forms.specs.Forms.{above_register, range_code, scaled, scaled_register, base_address}
-use Rattle.risc_emit_forms.specs.Forms.{address_register, steps_form}
-use Rattle.risc_emit_forms.specs.Told.{block_at, bent_at}
+use Rattle.risc_emit_forms.specs.Forms.{above_register, index_code, scaled, scaled_register, base_address}
+use Rattle.risc_emit_forms.specs.Forms.{address_register, steps_form, near_component, index_by}
+use Rattle.risc_emit_forms.specs.Told.{block_at, fold_near, fold_by, fold_in, short_of, folded, bent_at}
 use Rattle.risc_emit_forms.specs.Follows.{machine_of, Built, Belongs, Comes, Follows}
 use Rattle.risc_emit_forms.proofs.Basics.{left_after, left_next, is_read, writes_it, among_first, among_rest}
 use Rattle.risc_emit_forms.proofs.Basics.{integer_is}
 use Rattle.risc_emit_forms.proofs.Flags.{unflagged, bent_index_is}
 use Rattle.risc_emit_forms.proofs.Runs.{Moved, step_to, constant_run, exact_run, fetch_run, fetched_not}
-use Rattle.risc_emit_forms.proofs.Comes.{framed, fetched_is, come_to, come_way, come_step, gives_end, bends_end}
+use Rattle.risc_emit_forms.proofs.Comes.{framed, fetched_is, come_to, come_way, gives_end, bends_end, untested}
 use Rattle.risc_emit_forms.proofs.Operands.{code, one_run}
 use Rattle.risc_emit_forms.proofs.Memory.{innermost, ReadsBase, named_low}
 use Rattle.risc_emit_forms.proofs.Numbers.{read_back, number_in}
-use Rattle.risc_emit_forms.proofs.Checks.{steps_are, not_below, narrow_difference, above_not, Checked, range_run}
+use Rattle.risc_emit_forms.proofs.Checks.{steps_are, not_below, narrow_difference, above_not, Indexed, index_run}
 use Rattle.risc_emit_forms.proofs.Calls.{follows_way}
 
 -- ---- products of words
@@ -105,6 +105,120 @@ product_steps (suc a) (suc n) la ln h =
 steps_word : (low x : ℤ) → IsNumber low → IsNumber x → low ≤ℤ x → difference_of (word_of_int x) (word_of_int low)
     ≡ steps_above low x
 steps_word low x hl hx le = let e = steps_are low x le in omega (arith, ints, e, hl, hx)
+
+-- ---- the lowest index in an offset
+
+-- what is left of the offset of a block where its lowest index is taken from it
+record Folded (c : Context) (r : ℕ) (a : Base) (low high : ℤ) (width error n : ℕ) : Type 0 where
+  first : ℕ
+  last : ℕ
+  whole : ℕ
+  none : nat_eq error 0 ≡ true
+  low_is : low ≡ pos first
+  high_is : high ≡ pos last
+  block : block_at c r a ≡ Some whole
+  rest : n + first * width ≡ whole
+  narrow : last * width < 2147483648
+
+near_is : (k h width m n : ℕ) → fold_near k h width m ≡ Some n → (n + k * width ≡ m) × (h * width < 2147483648)
+near_is k h width m n e = go (nat_le (k * width) m) (nat_lt (h * width) 2147483648) refl refl e
+  where
+    less : (x m n : ℕ) → x ≤ m → m - x ≡ n → n + x ≡ m
+    less x m n le e = omega (arith, le, e)
+
+    go : (x y : Bool) → nat_le (k * width) m ≡ x → nat_lt (h * width) 2147483648 ≡ y → cond (x && y)
+        (Some (m - k * width)) None ≡ Some n → (n + k * width ≡ m) × (h * width < 2147483648)
+    go true true ex ey e =
+        let same : m - k * width ≡ n = cc e in
+        (less (k * width) m n (leb-true (k * width) m ex) same, ltb-true (h * width) 2147483648 ey)
+    go true false ex ey e = absurd (cc e)
+    go false y ex ey e = absurd (cc e)
+
+folded_is : (c : Context) (r : ℕ) (a : Base) (low high : ℤ) (width error n : ℕ) → folded c r a low high width error
+    ≡ Some n → Folded c r a low high width error n
+folded_is c r a low high width error n e = of_block (block_at c r a) refl e
+  where
+    of_bounds : (low' high' : ℤ) (m : ℕ) → low ≡ low' → high ≡ high' → block_at c r a ≡ Some m → nat_eq error 0 ≡ true
+        → fold_by low' high' width m ≡ Some n → Folded c r a low high width error n
+    of_bounds (pos k) (pos h) m el eh eb ee e =
+        let near = near_is k h width m n e in
+        record {
+          first = k;
+          last = h;
+          whole = m;
+          none = ee;
+          low_is = el;
+          high_is = eh;
+          block = eb;
+          rest = near.0;
+          narrow = near.1;
+        }
+    of_bounds (pos k) (negsuc h) m el eh eb ee e = absurd (cc e)
+    of_bounds (negsuc k) high' m el eh eb ee e = absurd (cc e)
+
+    of_error : (none : Bool) (m : ℕ) → nat_eq error 0 ≡ none → block_at c r a ≡ Some m → cond none
+        (fold_by low high width m) None ≡ Some n → Folded c r a low high width error n
+    of_error true m ee eb e = of_bounds low high m refl refl eb ee e
+    of_error false m ee eb e = absurd (cc e)
+
+    of_block : (o : Option ℕ) → block_at c r a ≡ o → fold_in error low high width o ≡ Some n
+        → Folded c r a low high width error n
+    of_block None eb e = absurd (cc e)
+    of_block (Some m) eb e = of_error (nat_eq error 0) m refl eb e
+
+-- an index between natural bounds
+record Natural (low x : ℤ) (k h : ℕ) : Type 0 where
+  number : ℕ
+  is : x ≡ pos number
+  most : number ≤ h
+  above : k + steps_above low x ≡ number
+
+natural_between : (low high x : ℤ) (k h : ℕ) → low ≡ pos k → high ≡ pos h → is_in_range low high x ≡ true
+    → Natural low x k h
+natural_between low high x k h el eh e = go x (not_below low x (first (int_lt x low) (int_lt high x) e))
+    (not_below x high (second (int_lt x low) (int_lt high x) e))
+  where
+    first : (y z : Bool) → not y && not z ≡ true → y ≡ false
+    first true z e = absurd (cc e)
+    first false z e = refl
+
+    second : (y z : Bool) → not y && not z ≡ true → z ≡ false
+    second true z e = absurd (cc e)
+    second false true e = absurd (cc e)
+    second false false e = refl
+
+    go : (x : ℤ) → low ≤ℤ x → x ≤ℤ high → Natural low x k h
+    go (pos j) above below =
+        let st = steps_are low (pos j) above in
+        record {
+          number = j;
+          is = refl;
+          most = omega (arith, ints, below, eh);
+          above = omega (arith, ints, st, el);
+        }
+    go (negsuc j) above below = absurd (omega (arith, ints, above, el))
+
+times_le : (j h w : ℕ) → j ≤ h → j * w ≤ h * w
+times_le zero h w le = omega arith
+times_le (suc j) zero w le = absurd (omega (arith, le))
+times_le (suc j) (suc h) w le =
+    let r = times_le j h w (omega (arith, le)) in
+    let e : suc j * w ≡ j * w + w = grind arith in
+    let e' : suc h * w ≡ h * w + w = grind arith in
+    omega (arith, r, e, e')
+
+spread : (k n j w : ℕ) → k + n ≡ j → j * w ≡ k * w + n * w
+spread k n j w e = ap (λ z. z * w) (sym e) ∙ both k n w
+  where
+    both : (k n w : ℕ) → (k + n) * w ≡ k * w + n * w
+    both k n w = grind arith
+
+-- a block that is in a frame is not at the address in R15
+framed_register : (c : Context) (r : ℕ) (a : Base) (n : ℕ) → block_at c r a ≡ Some n → base_register c r a ≢ 15
+framed_register c r base.Frame n e = omega arith
+framed_register c r base.Scratch n e = omega arith
+framed_register c r base.Program n e = omega arith
+framed_register c r (base.Temporary t) n e = absurd (cc e)
 
 module _ (c : Context) (words : List ℕ) (b : Built c words) (p : Places) (s : State) (f : ℕ) (m : machine.State) (v : View) (sh : Shows words c.size m v) (be : Belongs c words p s v f) where
   -- ---- a count of steps times a width
@@ -385,28 +499,28 @@ module _ (c : Context) (words : List ℕ) (b : Built c words) (p : Places) (s : 
       (omega (arith, word_same, pg, e13, is), subst (IsValue c p) same (be.related.held.some, omega arith))
   short_base (base.Temporary u) block offset n w near at e = absurd (cc at)
 
-  -- ---- the instruction
+  -- ---- by the distance from the lowest index
 
-  pub index_follows : (t : ℕ) (a : Base) (i : ℕ) (low high : ℤ) (width error line : ℕ) (block : Block) (offset : ℕ)
+  steps_follow : (t : ℕ) (a : Base) (i : ℕ) (low high : ℤ) (width error line : ℕ) (block : Block) (offset : ℕ)
       (x : ℤ) → fetch c.code s.current.routine s.current.place ≡ Some (Index t a i low high width error line)
       → base_value s.current a ≡ Some (Address block offset) → s.current.temporaries i ≡ Some (Number x)
-      → Follows c words (gives_component c.code (is_in_range low high x) t block
-      (offset + steps_above low x * width) error line s) s m
-  index_follows t a i low high width error line block offset x here ea ei =
+      → folded c s.current.routine a low high width error ≡ None → Left c words v.place
+      (index_by c s.current.routine None (bent_at c s.current.routine (suc s.current.place)) t a i low high width error
+      line) (c.site s.current.routine (suc s.current.place)) → Follows c words
+      (gives_component c.code (is_in_range low high x) t block (offset + steps_above low x * width) error line s) s m
+  steps_follow t a i low high width error line block offset x here ea ei whole_offset l =
       let r = s.current.routine in
       let k = s.current.place in
       let ins = Index t a i low high width error line in
       let so = fetched_is c words b r k ins here in
       let fi = form.fetch c r 12 (home c r i) in
       let d = fetched c r 12 (home c r i) in
-      let rc = range_code c r d low high error line in
+      let ic = index_code c r d low high error line in
       let rest = steps_form c r (bent_at c r (suc k)) t a (above_register c r d low) width in
-      let l = subst (λ y. Left c words v.place y (c.site r (suc k))) (append_assoc fi rc rest)
-      (code c words b p s f m v sh be ins here) in
-      let g = one_run c words b p s f m v sh be 12 i (Number x) (rc ++ rest) _ (omega arith)
+      let g = one_run c words b p s f m v sh be 12 i (Number x) (ic ++ rest) _ (omega arith)
       (is_read c r k ins here i (among_first i (in_base a))) ei l in
       let v1 = g.view in
-      let l1 = left_after c words v.place v1.place _ fi (rc ++ rest) l g.place in
+      let l1 = left_after c words v.place v1.place _ fi (ic ++ rest) l g.place in
       let near : Near (machine_of v) (machine_of v1) = record {
         registers = λ q n12 n15. g.moved.registers q n12;
         words = g.moved.words;
@@ -415,7 +529,7 @@ module _ (c : Context) (words : List ℕ) (b : Built c words) (p : Places) (s : 
       (framed c words b p s (machine_of v) f be.related) 12 i 15 (omega arith) (omega arith) in
       let hl = integer_is low so.sound.3 in
       let hh = integer_is high so.sound.4 in
-      let z = range_run c words b p s f (machine_of v) be.related d low high x error line rest _ g.way.to v1 g.way.shows
+      let z = index_run c words b p s f (machine_of v) be.related d low high x error line rest _ g.way.to v1 g.way.shows
       n15 near hl hh g.good g.value l1 in
       follows_way c words b s m v1 g.way (gives_component c.code (is_in_range low high x) t block
       (offset + steps_above low x * width) error line s)
@@ -428,14 +542,14 @@ module _ (c : Context) (words : List ℕ) (b : Built c words) (p : Places) (s : 
 
       go : (v1 : View) (n : machine.State) → Near (machine_of v) (machine_of v1) → above_register c s.current.routine
           (fetched c s.current.routine 12 (home c s.current.routine i)) low ≢ 15 → IsNumber low → IsNumber x
-          → Checked c words b p s f (machine_of v) be.related
+          → Indexed c words b p s f (machine_of v) be.related
           (fetched c s.current.routine 12 (home c s.current.routine i)) low x error line
           (steps_form c s.current.routine (bent_at c s.current.routine (suc s.current.place)) t a
           (above_register c s.current.routine (fetched c s.current.routine 12 (home c s.current.routine i)) low) width)
           (c.site s.current.routine (suc s.current.place)) (is_in_range low high x) n v1 → (inside : Bool)
           → is_in_range low high x ≡ inside → Follows c words
           (gives_component c.code inside t block (offset + steps_above low x * width) error line s) s n
-      go v1 n near n15 hl hx k false e = inr (k.stops e)
+      go v1 n near n15 hl hx k false e = k.stops e
       go v1 n near n15 hl hx k true e = fits (nat_lt (offset + steps_above low x * width) 2147483648) refl
         where
           fits : (small : Bool) → nat_lt (offset + steps_above low x * width) 2147483648 ≡ small → Follows c words
@@ -455,7 +569,7 @@ module _ (c : Context) (words : List ℕ) (b : Built c words) (p : Places) (s : 
               let narrow = subst (λ j. j < 4294967296)
               (steps_word low x hl hx (not_below low x (in_range (int_lt x low) (not (int_lt high x)) e)))
               (narrow_difference (word_of x) (word_of low)) in
-              come_step c words b s (record s {
+              come_way c words b s (record s {
                 current = giving t
                     (Address block (offset + steps_above low x * width)) s.current;
               }) n v2 t2
@@ -538,7 +652,8 @@ module _ (c : Context) (words : List ℕ) (b : Built c words) (p : Places) (s : 
                   } in
                   let ins = Index t a i low high width error line in
                   let k = bent_index_is c r s.current.place t a i low high width error line bent here bends in
-                  let base = short_base a block offset bent.1 v3 near3 k.offset ea in
+                  let at = ap (λ o. short_of o (block_at c r a)) (sym whole_offset) ∙ k.offset in
+                  let base = short_base a block offset bent.1 v3 near3 at ea in
                   let t5 = step_to c words b.stood i5 g3.way.to v3 g3.way.shows g3.left.stands.0 tt in
                   let v5 = after i5 v3 in
                   let whole : v5.registers bent.0 + bent.1 ≡ place c p block
@@ -558,3 +673,179 @@ module _ (c : Context) (words : List ℕ) (b : Built c words) (p : Places) (s : 
                   (unflagged c r s.current.place ins here refl v5) bends k.home (base.1.0, lt) t5.shows whole
                   (λ j n12 n15' nd. update_other v3.registers bent.0 _ j nd ∙ near3.registers j n12 n15')
                   (λ j. near3.words j) (omega (arith, l5.ends))))
+
+  -- ---- by the index itself
+
+  fold_follows : (t : ℕ) (a : Base) (i : ℕ) (low high : ℤ) (width error line : ℕ) (block : Block) (offset : ℕ) (x : ℤ)
+      (n : ℕ) → fetch c.code s.current.routine s.current.place ≡ Some (Index t a i low high width error line)
+      → base_value s.current a ≡ Some (Address block offset) → s.current.temporaries i ≡ Some (Number x)
+      → folded c s.current.routine a low high width error ≡ Some n → Left c words v.place
+      (index_by c s.current.routine (Some n) (bent_at c s.current.routine (suc s.current.place)) t a i low high width
+      error line) (c.site s.current.routine (suc s.current.place)) → Follows c words
+      (gives_component c.code (is_in_range low high x) t block (offset + steps_above low x * width) error line s) s m
+  fold_follows t a i low high width error line block offset x n here ea ei ef l = go (is_in_range low high x) refl
+    where
+      fold : Folded c s.current.routine a low high width error n
+      fold = folded_is c s.current.routine a low high width error n ef
+
+      go : (inside : Bool) → is_in_range low high x ≡ inside → Follows c words
+          (gives_component c.code inside t block (offset + steps_above low x * width) error line s) s m
+      go false e = untested c words b s error line m fold.none
+      go true e = fits (nat_lt (offset + steps_above low x * width) 2147483648) refl
+        where
+          between : Natural low x fold.first fold.last
+          between = natural_between low high x fold.first fold.last fold.low_is fold.high_is e
+
+          fits : (small : Bool) → nat_lt (offset + steps_above low x * width) 2147483648 ≡ small → Follows c words
+              (cond small (Goes (record s {
+                current = giving t
+                    (Address block (offset + steps_above low x * width)) s.current;
+              })) (Over Stuck)) s m
+          fits false es = inl refl
+          fits true es =
+              let r = s.current.routine in
+              let k = s.current.place in
+              let ins = Index t a i low high width error line in
+              let j = between.number in
+              let d = fetched c r 12 (home c r i) in
+              let y = scaled_register c r d width in
+              let rest = near_component c r n (bent_at c r (suc k)) t a y in
+              let lt = ltb-true (offset + steps_above low x * width) 2147483648 es in
+              let g = one_run c words b p s f m v sh be 12 i (Number x) (scaled c r d width ++ rest) _ (omega arith)
+              (is_read c r k ins here i (among_first i (in_base a))) ei l in
+              let v1 = g.view in
+              let l1 = left_after c words v.place v1.place _ (form.fetch c r 12 (home c r i))
+              (scaled c r d width ++ rest) l g.place in
+              let n15 = fetched_not c words b.stood b.laid b.placed r f
+              (framed c words b p s (machine_of v) f be.related) 12 i 15 (omega arith) (omega arith) in
+              let jn : IsNumber (pos j) = subst IsNumber between.is g.good in
+              let narrow : j < 4294967296 = number_narrow j jn in
+              let is : v1.registers d ≡ j = g.value ∙ ap word_of between.is ∙ word_is j narrow in
+              let product = spread fold.first (steps_above low x) j width between.above in
+              let low_product : j * width < 2147483648 = below_last (j * width) (fold.last * width)
+              (times_le j fold.last width between.most) fold.narrow in
+              let g2 = scaled_run d j width rest _ g.way.to v1 g.way.shows n15 is narrow low_product l1 in
+              let near2 : Near (machine_of v) (machine_of g2.view) = record {
+                registers = λ q n12 n15'. g2.near.registers q n12 n15' ∙ g.moved.registers q n12;
+                words = λ q. g2.near.words q ∙ g.moved.words q;
+              } in
+              let y15 = scaled_not d width n15 in
+              come_way c words b s (record s {
+                current = giving t
+                    (Address block (offset + steps_above low x * width)) s.current;
+              }) m v1 g.way (come_way c words b s (record s {
+                current = giving t
+                    (Address block (offset + steps_above low x * width)) s.current;
+              }) g.way.to g2.view g2.way
+              (ends (bent_at c r (suc k)) refl g2.view g2.way.to g2.way.shows near2 y y15 (j * width) g2.value
+              product lt g2.left))
+            where
+              number_narrow : (j : ℕ) → IsNumber (pos j) → j < 4294967296
+              number_narrow j h = omega (arith, ints, h.0, h.1)
+
+              below_last : (x y : ℕ) → x ≤ y → y < 2147483648 → x < 2147483648
+              below_last x y le lt = omega (arith, le, lt)
+
+              -- a register with an offset, and the distance of the index itself
+              total : (g w kw d z z' o : ℕ) → g + w ≡ place c p block + offset → n + kw ≡ w → z ≡ z' → z' ≡ kw + d
+                  → offset + d < 2147483648 → o ≡ g + n → (o + z + 0) % 2 ^ 32 ≡ place c p block + (offset + d)
+              total g w kw d z z' o e e' ez e'' lt eo = let h = named_low c words b p s f m v sh be block in omega
+                  (arith, e, e', ez, e'', lt, eo, h)
+
+              short : (g w kw d z z' o : ℕ) → g + w ≡ place c p block + offset → n + kw ≡ w → z ≡ z' → z' ≡ kw + d
+                  → offset + d < 2147483648 → o ≡ n → (g + z + 0) % 2 ^ 32 + o ≡ place c p block + (offset + d)
+              short g w kw d z z' o e e' ez e'' lt eo = let h = named_low c words b p s f m v sh be block in omega
+                  (arith, e, e', ez, e'', lt, eo, h)
+
+              room : (g w kw d : ℕ) → g + w ≡ place c p block + offset → n + kw ≡ w → offset + d < 2147483648
+                  → g + n < 4294967296
+              room g w kw d e e' lt = let h = named_low c words b p s f m v sh be block in omega (arith, e, e', lt, h)
+
+              ends : (bent : Option (ℕ × ℕ)) → bent_at c s.current.routine (suc s.current.place) ≡ bent → (v2 : View)
+                  (n2 : machine.State) → Shows words c.size n2 v2 → Near (machine_of v) (machine_of v2) → (y : ℕ) → y
+                  ≢ 15 → (far : ℕ) → v2.registers y ≡ far → far ≡ fold.first * width + steps_above low x * width
+                  → offset + steps_above low x * width < 2147483648 → Left c words v2.place
+                  (near_component c s.current.routine n bent t a y) (c.site s.current.routine (suc s.current.place))
+                  → Comes c words s
+                  (record s { current = giving t (Address block (offset + steps_above low x * width)) s.current }) n2
+              ends None straight v2 n2 sh2 near2 y y15 far there far_is lt l2 =
+                  let r = s.current.routine in
+                  let h = home c r t in
+                  let dd = target c r h in
+                  let q = base_register c r a in
+                  let i5 = word.Operate op.Add dd 15 (Content y) in
+                  let last = Plain i5 ∷ save c r h in
+                  let ins = Index t a i low high width error line in
+                  let base = short_base a block offset fold.whole v2 near2 fold.block ea in
+                  let g4 = sum_run q n last _ n2 v2 sh2 (framed_register c r a fold.whole fold.block)
+                  (room (v2.registers q) fold.whole (fold.first * width) (steps_above low x * width) base.0 fold.rest
+                  lt) l2 in
+                  let v4 = g4.view in
+                  let t5 = step_to c words b.stood i5 g4.way.to v4 g4.way.shows g4.left.stands.0 tt in
+                  let v5 = after i5 v4 in
+                  let whole : v5.registers dd ≡ place c p block
+                  + (offset + steps_above low x * width) = update_same v4.registers dd _ ∙ total (v2.registers q)
+                  fold.whole (fold.first * width) (steps_above low x * width) (v4.registers y) far (v4.registers 15)
+                  base.0 fold.rest (g4.moved.registers y y15 ∙ there) far_is lt g4.value in
+                  let s' = record s {
+                    current = giving t
+                        (Address block (offset + steps_above low x * width)) s.current;
+                  } in
+                  come_way c words b s s' n2 v4 g4.way
+                  (come_to c words b s s' g4.way.to same_tape v5 t5 refl
+                  (gives_end c words b p s (machine_of v) f t
+                  (Address block (offset + steps_above low x * width)) t5.to v5 be.related be.input
+                  (writes_it c r s.current.place ins here t refl refl)
+                  (λ w. (unflagged c r s.current.place ins here refl w, straight)) (base.1.0, lt) t5.shows
+                  (record {
+                    here = whole;
+                    registers = λ j n12 n15' nd. update_other v4.registers dd _ j nd ∙ g4.moved.registers j n15'
+                        ∙ near2.registers j n12 n15';
+                    words = λ j. g4.moved.words j ∙ near2.words j;
+                  }) (left_next c words v4.place _ (Plain i5) (save c r h) g4.left)))
+              ends (Some bent) bends v2 n2 sh2 near2 y y15 far there far_is lt l2 =
+                  let r = s.current.routine in
+                  let q = base_register c r a in
+                  let i5 = word.Operate op.Add bent.0 q (Content y) in
+                  let ins = Index t a i low high width error line in
+                  let k = bent_index_is c r s.current.place t a i low high width error line bent here bends in
+                  let at : Some n ≡ Some bent.1 = ap (λ o. short_of o (block_at c r a)) (sym ef) ∙ k.offset in
+                  let left : bent.1 ≡ n = cc at in
+                  let base = short_base a block offset fold.whole v2 near2 fold.block ea in
+                  let t5 = step_to c words b.stood i5 n2 v2 sh2 l2.stands.0 tt in
+                  let v5 = after i5 v2 in
+                  let whole : v5.registers bent.0 + bent.1 ≡ place c p block
+                  + (offset + steps_above low x * width) = ap (λ z. z + bent.1) (update_same v2.registers bent.0 _)
+                  ∙ short (v2.registers q) fold.whole (fold.first * width) (steps_above low x * width)
+                  (v2.registers y) far bent.1 base.0 fold.rest there far_is lt left in
+                  let l5 = left_next c words v2.place _ (Plain i5) [] l2 in
+                  let s' = record s {
+                    current = giving t
+                        (Address block (offset + steps_above low x * width)) s.current;
+                  } in
+                  come_to c words b s s' n2 same_tape v5 t5 refl
+                  (bends_end c words b p s (machine_of v) f t
+                  (Address block (offset + steps_above low x * width)) bent t5.to v5 be.related be.input
+                  (writes_it c r s.current.place ins here t refl refl)
+                  (unflagged c r s.current.place ins here refl v5) bends k.home (base.1.0, lt) t5.shows whole
+                  (λ j n12 n15' nd. update_other v2.registers bent.0 _ j nd ∙ near2.registers j n12 n15')
+                  (λ j. near2.words j) (omega (arith, l5.ends)))
+
+  -- ---- the instruction
+
+  pub index_follows : (t : ℕ) (a : Base) (i : ℕ) (low high : ℤ) (width error line : ℕ) (block : Block) (offset : ℕ)
+      (x : ℤ) → fetch c.code s.current.routine s.current.place ≡ Some (Index t a i low high width error line)
+      → base_value s.current a ≡ Some (Address block offset) → s.current.temporaries i ≡ Some (Number x)
+      → Follows c words (gives_component c.code (is_in_range low high x) t block
+      (offset + steps_above low x * width) error line s) s m
+  index_follows t a i low high width error line block offset x here ea ei =
+      by (folded c s.current.routine a low high width error) refl
+      (code c words b p s f m v sh be (Index t a i low high width error line) here)
+    where
+      by : (o : Option ℕ) → folded c s.current.routine a low high width error ≡ o → Left c words v.place
+          (index_by c s.current.routine o (bent_at c s.current.routine (suc s.current.place)) t a i low high width error
+          line) (c.site s.current.routine (suc s.current.place)) → Follows c words
+          (gives_component c.code (is_in_range low high x) t block (offset + steps_above low x * width) error line s)
+          s m
+      by None e l = steps_follow t a i low high width error line block offset x here ea ei e l
+      by (Some n) e l = fold_follows t a i low high width error line block offset x n here ea ei e l

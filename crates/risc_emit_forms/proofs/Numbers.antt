@@ -1,6 +1,6 @@
 -- Sums, differences, products and bits followed by their words.
-use Rattle.std.proofs.Common.{◌≡◌, ◌≢◌, ℕ, zero, suc, ◌+◌, ◌-◌, ◌/◌, ◌%◌, ◌^◌, ◌<◌, ◌≤◌, inr, Bool, true, false, cond}
-use Rattle.std.proofs.Common.{not, ◌||◌, nat_eq, nat_lt, nat_le, List, [], ◌∷◌, ◌++◌, length, take, Some, ℤ, pos}
+use Rattle.std.proofs.Common.{◌≡◌, ◌≢◌, ℕ, zero, suc, ◌+◌, ◌-◌, ◌/◌, ◌%◌, ◌^◌, ◌<◌, ◌≤◌, Bool, true, false, cond}
+use Rattle.std.proofs.Common.{not, ◌||◌, nat_eq, nat_lt, nat_le, List, [], ◌∷◌, ◌++◌, Some, ℤ, pos}
 use Rattle.std.proofs.Common.{negsuc, ◌+ℤ◌, ◌-ℤ◌, ◌*ℤ◌, refl, sym, ap, ◌∙◌, subst, arith, length-append, append_assoc}
 use Rattle.std.specs.Int.{w32, int_shr}
 use Rattle.std.proofs.lemmas.Int.{ints, of_z-to_z}
@@ -13,11 +13,10 @@ use Rattle.risc_machine.specs.Step as machine
 use Rattle.risc_machine.specs.Step.{word_of_int, signed, overflows, product}
 use Rattle.risc_machine_laws.specs.View.{View, Shows, operand_view, after, at_view}
 use Rattle.risc_machine_laws.specs.View as shown
-use Rattle.risc_machine_laws.specs.Runs.{Way, same_tape}
+use Rattle.risc_machine_laws.specs.Runs.{To, Way, same_tape}
 use Rattle.risc_machine_laws.specs.Numbers.{sum_of, difference_of, product_of, sign_of}
 use Rattle.risc_machine_laws.proofs.Numbers.{signed_word, is_number, sum_word, difference_word, product_word}
 use Rattle.risc_machine_laws.proofs.Numbers.{product_test}
-use Rattle.risc_machine_laws.proofs.Runs.{to_join}
 use Rattle.tac_code.specs.declared.code.Operator.TheVariants.{Add, Subtract, Multiply}
 use Rattle.tac_code.specs.declared.code.BitOperator.{BitOperator}
 use Rattle.tac_code.specs.declared.code.BitOperator.TheVariants.{And, Or, AndNot, ShiftLeft, Plus}
@@ -27,14 +26,11 @@ use Rattle.tac_code.specs.declared.code.Instruction.{Instruction}
 use Rattle.tac_code.specs.declared.code.Instruction.TheVariants.{Arithmetic, Bits}
 use Rattle.tac_code.specs.Numbers.{is_integer, word_of, number_of, Gives, Fails, within, combined, bits}
 use Rattle.tac_code.specs.Sound.{IsOperand}
-use Rattle.tac_code.specs.Meaning.{fetch, Activation, State, open_calls, giving, operand_value, gives_computed}
+use Rattle.tac_code.specs.Meaning.{fetch, State, giving, operand_value, gives_computed}
 use Rattle.risc_alloc.specs.Flow.{in_operand, is_among, read_by}
 use Rattle.risc_emit_relation.specs.Context.{Context, home, reads, Places, Writes, IsNumber}
-use Rattle.risc_emit_relation.specs.Related.{Machine, Related}
 use Rattle.risc_emit_relation.specs.Changes.{Near}
 use Rattle.risc_emit_relation.proofs.Basics.{update_same, update_other}
-use Rattle.risc_emit_relation.proofs.Steps.{value_near, held_slots, related_gives}
-use Rattle.risc_emit_relation.proofs.Walk.{walk_is}
 use Rattle.risc_emit_forms.specs.Pieces as piece
 use Rattle.risc_emit_forms.specs.Pieces.{Piece, Plain, Left}
 use Rattle.risc_emit_forms.specs.Forms as form
@@ -43,9 +39,9 @@ use Rattle.risc_emit_forms.specs.Told.{flagged_by}
 use Rattle.risc_emit_forms.specs.Follows.{machine_of, Built, Belongs, Comes, Follows}
 use Rattle.risc_emit_forms.proofs.Basics.{left_after, left_next, left_at, is_read, writes_it, among_first, among_rest}
 use Rattle.risc_emit_forms.proofs.Flags.{silent}
-use Rattle.risc_emit_forms.proofs.Runs.{Aside, step_to, save_run, target_not}
-use Rattle.risc_emit_forms.proofs.Comes.{framed, fetched_is, come_to, come_way, arrive_here, fails_not, fails_walked}
-use Rattle.risc_emit_forms.proofs.Comes.{walk_near, skip_run, skip_not, gives_end, tells_end}
+use Rattle.risc_emit_forms.proofs.Runs.{step_to, target_not}
+use Rattle.risc_emit_forms.proofs.Comes.{framed, fetched_is, come_to, come_way, Arrives, fails_not, test_walked}
+use Rattle.risc_emit_forms.proofs.Comes.{untested, walk_near, skip_run, skip_not, gives_end, tells_end}
 use Rattle.risc_emit_forms.proofs.Operands.{code, two_run}
 use Rattle.risc_emit_forms.proofs.Branches.{right_sound}
 use Rattle.risc_emit_forms.proofs.Calls.{follows_way, follows_to}
@@ -196,9 +192,48 @@ module _ (c : Context) (words : List ℕ) (b : Built c words) (p : Places) (s : 
           let r = s.current.routine in
           let n14 = target_not c words b.stood b.laid b.placed r f
           (framed c words b p s (machine_of v) f be.related) t 14 (omega arith) in
-          inr (fails_walked c words b s on.OverflowSet error line _ _ n w
+          test_walked c words b s on.OverflowSet error line _ _ n w
           (walk_near c words b p s (machine_of v) f w be.related
-          (regs 14 (omega arith) (omega arith) (λ x. n14 (sym x))) mem) sh' l (over ∙ overflow_is z ∙ ap not e))
+          (regs 14 (omega arith) (omega arith) (λ x. n14 (sym x))) mem) sh' l (over ∙ overflow_is z ∙ ap not e)
+
+  -- a result that is not tested
+  untested_follows : (t error line : ℕ) (z : ℤ) (n : machine.State) (w : View) (a : To words c.size n same_tape w)
+      → nat_eq error 0 ≡ true
+      → (IsNumber z → Arrives c words (record s { current = giving t (Number z) s.current }) a.to) → Follows c words
+      (gives_computed c.code t (within error z) line s) s n
+  untested_follows t error line z n w a none ends = go (is_integer z) refl
+    where
+      go : (fit : Bool) → is_integer z ≡ fit → Follows c words
+          (gives_computed c.code t (cond fit (Gives z) (Fails error)) line s) s n
+      go true e =
+          come_to c words b s (record s { current = giving t (Number z) s.current }) n same_tape w a refl
+          (ends (number_of_integer z e))
+      go false e = untested c words b s error line n none
+
+  -- a sum or a difference in its register, with the test of overflow or without
+  made_follows : (i : Instruction) (t error line : ℕ) (z : ℤ) (n : machine.State) (w : View)
+      (a : To words c.size n same_tape w) → Writes c s.current.routine s.current.place t
+      → fetch c.code s.current.routine s.current.place ≡ Some i → flagged_by i ≡ Some t → (w.equal ≡ nat_eq
+      (w.registers (target c s.current.routine (home c s.current.routine t))) 0)
+      × (w.negative ≡ nat_le 2147483648 (w.registers (target c s.current.routine (home c s.current.routine t))))
+      → (IsNumber z → w.registers (target c s.current.routine (home c s.current.routine t)) ≡ word_of z) → w.overflow
+      ≡ overflows z → ((q : ℕ) → q ≢ 12 → q ≢ 15 → q ≢ target c s.current.routine (home c s.current.routine t)
+      → w.registers q ≡ v.registers q) → ((x : ℕ) → w.words x ≡ v.words x) → (none : Bool) → nat_eq error 0 ≡ none
+      → Left c words w.place (cond none (save c s.current.routine (home c s.current.routine t))
+      (piece.Fails on.OverflowSet error line ∷ save c s.current.routine (home c s.current.routine t)))
+      (c.site s.current.routine (suc s.current.place)) → Follows c words
+      (gives_computed c.code t (within error z) line s) s n
+  made_follows i t error line z n w a wr here told flags value over regs mem false e l =
+      follows_to c words b s n w a (gives_computed c.code t (within error z) line s)
+      (checked_follows i t error line z a.to w a.shows wr here told flags value over regs mem l)
+  made_follows i t error line z n w a wr here told flags value over regs mem true e l =
+      untested_follows t error line z n w a e
+      (λ is. tells_end c words b p s (machine_of v) f t (Number z) i a.to w be.related be.input wr here told
+      (flags.0 ∙ ap (λ q. nat_eq q 0) (value is), flags.1 ∙ ap (nat_le 2147483648) (value is)) is a.shows (record {
+        here = value is;
+        registers = regs;
+        words = mem;
+      }) l)
 
   pub add_follows : (t a : ℕ) (o : Operand) (error line : ℕ) (x y : ℤ) → fetch c.code s.current.routine s.current.place
       ≡ Some (Arithmetic Add t a o error line) → s.current.temporaries a ≡ Some (Number x)
@@ -211,7 +246,7 @@ module _ (c : Context) (words : List ℕ) (b : Built c words) (p : Places) (s : 
       let so = fetched_is c words b r k i here in
       let d = target c r (home c r t) in
       let j = word.Operate op.Add d (fetched c r 12 (home c r a)) (right_operand c r o) in
-      let rest = piece.Fails on.OverflowSet error line ∷ save c r (home c r t) in
+      let rest = form.tested error (piece.Fails on.OverflowSet error line ∷ []) (save c r (home c r t)) in
       let g = operands_run i a o x y (Plain j ∷ rest) _ _ here refl so.sound.2 ea eo
       (code c words b p s f m v sh be i here) in
       let v1 = g.view in
@@ -226,14 +261,14 @@ module _ (c : Context) (words : List ℕ) (b : Built c words) (p : Places) (s : 
       ∙ ap (λ q. overflows (signed (word_of x) +ℤ signed q +ℤ pos 0)) g.second
       ∙ ap (λ q. overflows (q +ℤ signed (word_of y) +ℤ pos 0)) (signed_word x g.good)
       ∙ ap (λ q. overflows (x +ℤ q +ℤ pos 0)) (signed_word y g.good_right) ∙ ap overflows (plus_zero (x +ℤ y)) in
-      follows_way c words b s m v1 g.way step (follows_to c words b s g.way.to v2 t2 step
-      (checked_follows i t error line (x +ℤ y) t2.to v2 t2.shows (writes_it c r k i here t refl refl) here refl (
+      follows_way c words b s m v1 g.way step
+      (made_follows i t error line (x +ℤ y) g.way.to v2 t2 (writes_it c r k i here t refl refl) here refl (
         ap (λ q. nat_eq q 0) (sym (update_same v1.registers d _)),
         ap (nat_le 2147483648)
             (sym (update_same v1.registers d _)),
       ) (λ is. sum ∙ sum_word x y g.good g.good_right is) over
       (λ q n12 n15 nd. update_other v1.registers d _ q nd ∙ g.near.registers q n12 n15) g.near.words
-      (left_next c words v1.place _ _ rest g.left)))
+      (nat_eq error 0) refl (left_next c words v1.place _ _ rest g.left))
     where
       plus_zero : (z : ℤ) → z +ℤ pos 0 ≡ z
       plus_zero z = omega (arith, ints)
@@ -249,7 +284,7 @@ module _ (c : Context) (words : List ℕ) (b : Built c words) (p : Places) (s : 
       let so = fetched_is c words b r k i here in
       let d = target c r (home c r t) in
       let j = word.Operate op.Sub d (fetched c r 12 (home c r a)) (right_operand c r o) in
-      let rest = piece.Fails on.OverflowSet error line ∷ save c r (home c r t) in
+      let rest = form.tested error (piece.Fails on.OverflowSet error line ∷ []) (save c r (home c r t)) in
       let g = operands_run i a o x y (Plain j ∷ rest) _ _ here refl so.sound.2 ea eo
       (code c words b p s f m v sh be i here) in
       let v1 = g.view in
@@ -264,14 +299,14 @@ module _ (c : Context) (words : List ℕ) (b : Built c words) (p : Places) (s : 
       ∙ ap (λ q. overflows (signed (word_of x) -ℤ signed q -ℤ pos 0)) g.second
       ∙ ap (λ q. overflows (q -ℤ signed (word_of y) -ℤ pos 0)) (signed_word x g.good)
       ∙ ap (λ q. overflows (x -ℤ q -ℤ pos 0)) (signed_word y g.good_right) ∙ ap overflows (minus_zero (x -ℤ y)) in
-      follows_way c words b s m v1 g.way step (follows_to c words b s g.way.to v2 t2 step
-      (checked_follows i t error line (x -ℤ y) t2.to v2 t2.shows (writes_it c r k i here t refl refl) here refl (
+      follows_way c words b s m v1 g.way step
+      (made_follows i t error line (x -ℤ y) g.way.to v2 t2 (writes_it c r k i here t refl refl) here refl (
         ap (λ q. nat_eq q 0) (sym (update_same v1.registers d _)),
         ap (nat_le 2147483648)
             (sym (update_same v1.registers d _)),
       ) (λ is. sum ∙ difference_word x y g.good g.good_right is) over
       (λ q n12 n15 nd. update_other v1.registers d _ q nd ∙ g.near.registers q n12 n15) g.near.words
-      (left_next c words v1.place _ _ rest g.left)))
+      (nat_eq error 0) refl (left_next c words v1.place _ _ rest g.left))
     where
       minus_zero : (z : ℤ) → z -ℤ pos 0 ≡ z
       minus_zero z = omega (arith, ints)
@@ -417,10 +452,10 @@ module _ (c : Context) (words : List ℕ) (b : Built c words) (p : Places) (s : 
           let r = s.current.routine in
           let n14 = target_not c words b.stood b.laid b.placed r f
           (framed c words b p s (machine_of v) f be.related) t 14 (omega arith) in
-          inr (fails_walked c words b s on.NotEqual error line _ _ n w
+          test_walked c words b s on.NotEqual error line _ _ n w
           (walk_near c words b p s (machine_of v) f w be.related
           (regs 14 (omega arith) (omega arith) (λ x. n14 (sym x))) mem) sh' l
-          (ap not (equal ∙ ap not (overflow_is z ∙ ap not e))))
+          (ap not (equal ∙ ap not (overflow_is z ∙ ap not e)))
 
   pub multiply_follows : (t a : ℕ) (o : Operand) (error line : ℕ) (x y : ℤ)
       → fetch c.code s.current.routine s.current.place ≡ Some (Arithmetic Multiply t a o error line)
@@ -434,7 +469,7 @@ module _ (c : Context) (words : List ℕ) (b : Built c words) (p : Places) (s : 
       let h = home c r t in
       let d = target c r h in
       let j = word.Operate op.Mul d (fetched c r 12 (home c r a)) (right_operand c r o) in
-      let rest = form.beyond ++ piece.Fails on.NotEqual error line ∷ save c r h in
+      let rest = form.tested error (form.beyond ++ piece.Fails on.NotEqual error line ∷ []) (save c r h) in
       let g = operands_run i a o x y (Plain j ∷ rest) _ _ here refl so.sound.2 ea eo
       (code c words b p s f m v sh be i here) in
       let v1 = g.view in
@@ -448,10 +483,9 @@ module _ (c : Context) (words : List ℕ) (b : Built c words) (p : Places) (s : 
       let high : v2.high ≡ product (word_of x) (word_of y) / 2 ^ 32 = ap (λ q. q / 2 ^ 32) whole in
       let negative : v2.negative ≡ nat_le 2147483648 n = ap (λ q. nat_le 2147483648 (q % 2 ^ 32)) whole in
       follows_way c words b s m v1 g.way (gives_computed c.code t (within error (x *ℤ y)) line s)
-      (follows_to c words b s g.way.to v2 t2 (gives_computed c.code t (within error (x *ℤ y)) line s)
-      (tested g.good g.good_right t2.to v2 t2.shows is high (modulo (product (word_of x) (word_of y)))
-      (λ q n12 n15 nd. update_other v1.registers d _ q nd ∙ g.near.registers q n12 n15) g.near.words
-      (left_next c words v1.place _ _ rest g.left) v2.negative refl negative))
+      (multiplied g.good g.good_right g.way.to v2 t2 is high (modulo (product (word_of x) (word_of y)))
+      (λ q n12 n15 nd. update_other v1.registers d _ q nd ∙ g.near.registers q n12 n15) g.near.words negative
+      (nat_eq error 0) refl (left_next c words v1.place _ _ rest g.left))
     where
       modulo : (q : ℕ) → q % 2 ^ 32 < 4294967296
       modulo q = omega arith
@@ -522,3 +556,28 @@ module _ (c : Context) (words : List ℕ) (b : Built c words) (p : Places) (s : 
           (product_ends t a o error line (x *ℤ y) t4.to v4 here t4.shows
           (λ z. update_other v3.registers 15 _ d n15 ∙ is ∙ product_word x y g_good g_right z) equal
           (λ q n12 ne nd. update_other v3.registers 15 _ q ne ∙ regs q n12 ne nd) mem l4))
+
+      multiplied : IsNumber x → IsNumber y → (n1 : machine.State) (v2 : View) (run : To words c.size n1 same_tape v2)
+          → v2.registers (target c s.current.routine (home c s.current.routine t)) ≡ product_of (word_of x) (word_of y)
+          → v2.high ≡ product (word_of x) (word_of y) / 2 ^ 32 → product_of (word_of x) (word_of y) < 4294967296
+          → ((q : ℕ) → q ≢ 12 → q ≢ 15 → q ≢ target c s.current.routine (home c s.current.routine t) → v2.registers q
+          ≡ v.registers q) → ((q : ℕ) → v2.words q ≡ v.words q) → v2.negative
+          ≡ nat_le 2147483648 (product_of (word_of x) (word_of y)) → (none : Bool) → nat_eq error 0 ≡ none
+          → Left c words v2.place (cond none (save c s.current.routine (home c s.current.routine t))
+          (form.beyond ++ piece.Fails on.NotEqual error line ∷ save c s.current.routine (home c s.current.routine t)))
+          (c.site s.current.routine (suc s.current.place)) → Follows c words
+          (gives_computed c.code t (within error (x *ℤ y)) line s) s n1
+      multiplied hx hy n1 v2 run is high low regs mem told false e l =
+          follows_to c words b s n1 v2 run (gives_computed c.code t (within error (x *ℤ y)) line s)
+          (tested hx hy run.to v2 run.shows is high low regs mem l v2.negative refl told)
+      multiplied hx hy n1 v2 run is high low regs mem told true e l =
+          let r = s.current.routine in
+          let i = Arithmetic Multiply t a o error line in
+          untested_follows t error line (x *ℤ y) n1 v2 run e
+          (λ z. gives_end c words b p s (machine_of v) f t (Number (x *ℤ y)) run.to v2 be.related be.input
+          (writes_it c r s.current.place i here t refl refl) (silent c r s.current.place i here refl) z run.shows
+          (record {
+            here = is ∙ product_word x y hx hy z;
+            registers = regs;
+            words = mem;
+          }) l)

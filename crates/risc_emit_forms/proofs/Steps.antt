@@ -218,7 +218,7 @@ module _ (c : Context) (words : List ℕ) (b : Built c words) (p : Places) (S H 
       (λ q e. value_call_follows t a us line q here e (nat_lt q (length c.code.program)) refl)
   act_follows (Some (Return a)) here =
       option_follows (s.current.temporaries a) _ (λ y e. leave_follows a y s.callers here e refl)
-  act_follows (Some (Trap error line)) here = inr (trap_follows c words b p s f m v sh be error line here)
+  act_follows (Some (Trap error line)) here = trap_follows c words b p s f m v sh be error line here
   act_follows (Some (Take t)) here = take_follows c words b p s f m v sh be t s.tape.input here refl
   act_follows (Some (Put a)) here =
       number_follows (s.current.temporaries a) _

@@ -35,7 +35,7 @@ use Rattle.risc_alloc.specs.Flow.{is_it}
 use Rattle.risc_alloc.specs.declared.homes.Home.{Home}
 use Rattle.risc_alloc.specs.declared.homes.Home.TheVariants.{Slot, Reg}
 use Rattle.risc_emit_relation.specs.Context.{Context, home, is_program, slot_at}
-use Rattle.risc_emit_forms.specs.Told.{told_at, bent_at}
+use Rattle.risc_emit_forms.specs.Told.{told_at, bent_at, folded}
 use Rattle.risc_emit_forms.specs.Pieces.{Label, AtPlace, AtEntry, AtText, Piece, Plain, Goes, Fails, Enters, Joins}
 use Rattle.risc_emit_forms.specs.Pieces.{EntersAt, High, Low}
 
@@ -163,6 +163,14 @@ is_clear n j (Slot k) = nat_lt j 8
 -- it goes through no memory of the caller
 abbrev pub is_direct : ℕ → ℕ → Home → Bool
 is_direct n j h = stands j h || is_clear n j h
+
+-- A test, and what follows it. A test with number 0 can't fail, and has no words.
+abbrev pub tested : ℕ → List Piece → List Piece → List Piece
+tested error test rest = if nat_eq error 0 then rest else test ++ rest
+
+-- a word that does nothing, for an instruction or a skip that needs one
+abbrev pub idle : Piece
+idle = Plain (word.Move 15 (Constant (pos 0)))
 
 -- the device page is FFFFC0H
 abbrev pub device : ℕ → Piece
@@ -326,7 +334,8 @@ module _ (c : Context) (r : ℕ) where
 
   abbrev pub multiply_form : ℕ → ℕ → Operand → ℕ → ℕ → List Piece
   multiply_form t a b error line =
-      both a b (operate op.Mul (home c r t) a b ∷ (beyond ++ Fails on.NotEqual error line ∷ save (home c r t)))
+      both a b (operate op.Mul (home c r t) a b
+      ∷ tested error (beyond ++ Fails on.NotEqual error line ∷ []) (save (home c r t)))
 
   -- R15 takes a right operand, with N and Z
   abbrev pub divisor : Operand → List Piece
@@ -344,13 +353,17 @@ module _ (c : Context) (r : ℕ) where
       fetch 12 (home c r a) ++ (Plain (word.Operate op.Sub 12 (fetched 12 (home c r a)) (Content 15)) ∷ skip on.Equal 2
       ∷ Plain (word.Move 12 (Constant (pos 0))) ∷ skip on.Always 1 ∷ Plain (word.Move 12 (Constant (pos 1))) ∷ [])
 
+  -- an opposite that is no integer is an error
+  abbrev pub opposite_test : ℕ → ℕ → Piece
+  opposite_test error line = if nat_eq error 0 then idle else Fails on.OverflowSet error line
+
   -- by a divisor below 0, which is negated, and then the quotient
   abbrev pub quotient_by_negative : ℕ → ℕ → ℕ → List Piece
   quotient_by_negative a error line =
       Plain (word.Move 12 (Constant (pos 0))) ∷ Plain (word.Operate op.Sub 15 12 (Content 15)) ∷ skip on.OverflowSet
       (length (quotient a) + 4) ∷ (quotient a
       ++ (Plain (word.Move 15 (Constant (pos 0))) ∷ Plain (word.Operate op.Sub 12 15 (Content 12))
-      ∷ Fails on.OverflowSet error line ∷ skip on.Always (length (quotient_by_least a)) ∷ quotient_by_least a))
+      ∷ opposite_test error line ∷ skip on.Always (length (quotient_by_least a)) ∷ quotient_by_least a))
 
   abbrev pub divide_form : ℕ → ℕ → Operand → ℕ → ℕ → List Piece
   divide_form t a b error line =
@@ -382,9 +395,11 @@ module _ (c : Context) (r : ℕ) where
 
   abbrev pub arithmetic_form : Operator → ℕ → ℕ → Operand → ℕ → ℕ → List Piece
   arithmetic_form Add t a b error line =
-      both a b (operate op.Add (home c r t) a b ∷ Fails on.OverflowSet error line ∷ save (home c r t))
+      both a b (operate op.Add (home c r t) a b
+      ∷ tested error (Fails on.OverflowSet error line ∷ []) (save (home c r t)))
   arithmetic_form Subtract t a b error line =
-      both a b (operate op.Sub (home c r t) a b ∷ Fails on.OverflowSet error line ∷ save (home c r t))
+      both a b (operate op.Sub (home c r t) a b
+      ∷ tested error (Fails on.OverflowSet error line ∷ []) (save (home c r t)))
   arithmetic_form Multiply t a b error line = multiply_form t a b error line
   arithmetic_form Divide t a b error line = divide_form t a b error line
   arithmetic_form Modulo t a b error line = modulo_form t a b line
@@ -414,9 +429,14 @@ module _ (c : Context) (r : ℕ) where
       if int_lt high low then Fails on.Always error line ∷ []
       else above a low ++ at_most (above_register a low) (steps_above low high) error line
 
+  -- how far an index is above the lowest one, tested or not
+  abbrev pub index_code : ℕ → ℤ → ℤ → ℕ → ℕ → List Piece
+  index_code a low high error line = if nat_eq error 0 then above a low else range_code a low high error line
+
   abbrev pub check_form : ℕ → ℤ → ℤ → ℕ → ℕ → List Piece
   check_form a low high error line =
-      fetch 12 (home c r a) ++ range_code (fetched 12 (home c r a)) low high error line
+      if nat_eq error 0 then idle ∷ []
+      else fetch 12 (home c r a) ++ range_code (fetched 12 (home c r a)) low high error line
 
   -- what register q holds times a width, in R12, or in place if the width is 1
   abbrev pub scaled : ℕ → ℕ → List Piece
@@ -457,9 +477,24 @@ module _ (c : Context) (r : ℕ) where
   abbrev pub steps_form : Option (ℕ × ℕ) → ℕ → Base → ℕ → ℕ → List Piece
   steps_form bent t a q width = scaled q width ++ component bent t a (scaled_register q width)
 
+  -- the same with an offset that takes the lowest index in
+  abbrev pub near_component : ℕ → Option (ℕ × ℕ) → ℕ → Base → ℕ → List Piece
+  near_component n None t a q =
+      sum (base_register a) n ++ (Plain (word.Operate op.Add (target (home c r t)) 15 (Content q)) ∷ save (home c r t))
+  near_component n (Some bent) t a q = Plain (word.Operate op.Add bent.0 (base_register a) (Content q)) ∷ []
+
+  -- an index is its own distance from such an offset
+  abbrev pub index_by : Option ℕ → Option (ℕ × ℕ) → ℕ → Base → ℕ → ℤ → ℤ → ℕ → ℕ → ℕ → List Piece
+  index_by None bent t a i low high width error line =
+      fetch 12 (home c r i) ++ (index_code (fetched 12 (home c r i)) low high error line
+      ++ steps_form bent t a (above_register (fetched 12 (home c r i)) low) width)
+  index_by (Some n) bent t a i low high width error line =
+      fetch 12 (home c r i) ++ (scaled (fetched 12 (home c r i)) width
+      ++ near_component n bent t a (scaled_register (fetched 12 (home c r i)) width))
+
   abbrev pub index_form : Option (ℕ × ℕ) → ℕ → Base → ℕ → ℤ → ℤ → ℕ → ℕ → ℕ → List Piece
   index_form bent t a i low high width error line =
-      check_form i low high error line ++ steps_form bent t a (above_register (fetched 12 (home c r i)) low) width
+      index_by (folded c r a low high width error) bent t a i low high width error line
 
   -- ---- devices, calls, objects
 
@@ -542,7 +577,9 @@ module _ (c : Context) (r : ℕ) where
 
   abbrev pub pointer_form : Option ℕ → ℕ → ℕ → ℕ → List Piece
   pointer_form told a error line =
-      if is_told told a then Fails on.Equal error line ∷ [] else bring 12 (home c r a) ++ Fails on.Equal error line ∷ []
+      if nat_eq error 0 then idle ∷ []
+      else if is_told told a then Fails on.Equal error line ∷ []
+      else bring 12 (home c r a) ++ Fails on.Equal error line ∷ []
 
   -- the words of the instruction at a place
   abbrev pub form : ℕ → Instruction → List Piece

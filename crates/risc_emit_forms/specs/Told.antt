@@ -1,7 +1,8 @@
 -- Where the flags are those of a temporary: after an instruction whose last word sets them by its result, if no jump
 -- leads there. And where a register is short of an offset: between an index and the load by it.
-use Rattle.std.specs.Prelude.{ℕ, zero, suc, ◌+◌, ◌-◌, Bool, true, false, ◌&&◌, nat_eq, nat_lt, if◌then◌else◌, List, []}
-use Rattle.std.specs.Prelude.{◌∷◌, length, slice_get, slice_set, get_or, replicate, Option, Some, None}
+use Rattle.std.specs.Prelude.{ℕ, zero, suc, ◌+◌, ◌-◌, ◌*◌, Bool, true, false, ◌&&◌, nat_eq, nat_le, nat_lt, List, []}
+use Rattle.std.specs.Prelude.{if◌then◌else◌, ◌∷◌, length, slice_get, slice_set, get_or, replicate, Option, Some}
+use Rattle.std.specs.Prelude.{None, ℤ, pos, negsuc}
 use Rattle.tac_code.specs.declared.code.Operator.{Operator}
 use Rattle.tac_code.specs.declared.code.Operator.TheVariants.{Add, Subtract, Multiply, Divide, Modulo}
 use Rattle.tac_code.specs.declared.code.Instruction.{Instruction}
@@ -15,7 +16,7 @@ use Rattle.risc_alloc.specs.declared.homes.Home.{Home}
 use Rattle.risc_alloc.specs.declared.homes.Home.TheVariants.{Slot, Reg}
 use Rattle.risc_emit_relation.specs.Context.{Context, home}
 
--- the last word that writes the result of a product is followed by its test, and a quotient is rounded by a branch
+-- the word that writes a product is followed by its test, if it has one, and a quotient is rounded by a branch
 abbrev pub sets_flags : Operator → Bool
 sets_flags Add = true
 sets_flags Subtract = true
@@ -81,6 +82,26 @@ block_at c r base.Scratch = Some (c.scratch_at r)
 block_at c r base.Program = Some (c.frame_at 0)
 block_at c r (base.Temporary t) = None
 
+-- What is left of the offset n of a block without k steps of a width, k the lowest index: a component is as many steps
+-- from there as its index says. The highest one, h, times the width may be no overflow.
+abbrev pub fold_near : ℕ → ℕ → ℕ → ℕ → Option ℕ
+fold_near k h width n =
+    if nat_le (k * width) n && nat_lt (h * width) 2147483648 then Some (n - k * width) else None
+
+abbrev pub fold_by : ℤ → ℤ → ℕ → ℕ → Option ℕ
+fold_by (pos k) (pos h) width n = fold_near k h width n
+fold_by (pos k) (negsuc h) width n = None
+fold_by (negsuc k) high width n = None
+
+abbrev pub fold_in : ℕ → ℤ → ℤ → ℕ → Option ℕ → Option ℕ
+fold_in error low high width None = None
+fold_in error low high width (Some n) = if nat_eq error 0 then fold_by low high width n else None
+
+-- the offset of an index that isn't tested, or else that of the block
+abbrev pub short_of : Option ℕ → Option ℕ → Option ℕ
+short_of (Some n) whole = Some n
+short_of None whole = whole
+
 -- register q is short of m, where a load n bytes after its address can include both
 abbrev pub bend_near : ℕ → ℕ → ℕ → Option (ℕ × ℕ)
 bend_near q n m = if nat_lt (m + n) 524288 then Some (q, m) else None
@@ -94,14 +115,22 @@ bend_in (Reg q) n o = bend_by q n o
 bend_in (Slot k) n o = None
 
 module _ (c : Context) (r : ℕ) where
-  -- the address of an index into t, which the next instruction loads from into t
-  abbrev pub bend_load : ℕ → Base → Option Instruction → Option (ℕ × ℕ)
-  bend_load t a (Some (Load u (base.Temporary w) n)) = if nat_eq u t && nat_eq w t then bend_in (home c r t) n
-      (block_at c r a) else None
-  bend_load t a _ = None
+  -- the offset that takes the lowest index in, where an index isn't tested
+  abbrev pub folded : Base → ℤ → ℤ → ℕ → ℕ → Option ℕ
+  folded a low high width error = fold_in error low high width (block_at c r a)
+
+  -- the offset that the register of a base and the distance of a component are short of
+  abbrev pub offset_of : Base → ℤ → ℤ → ℕ → ℕ → Option ℕ
+  offset_of a low high width error = short_of (folded a low high width error) (block_at c r a)
+
+  -- the address of an index into t, short of an offset, which the next instruction loads from into t
+  abbrev pub bend_load : ℕ → Option ℕ → Option Instruction → Option (ℕ × ℕ)
+  bend_load t o (Some (Load u (base.Temporary w) n)) = if nat_eq u t && nat_eq w t then bend_in (home c r t) n o
+      else None
+  bend_load t o _ = None
 
   abbrev pub bend : Option Instruction → Option Instruction → Option (ℕ × ℕ)
-  bend (Some (Index t a i low high width error line)) next = bend_load t a next
+  bend (Some (Index t a i low high width error line)) next = bend_load t (offset_of a low high width error) next
   bend _ next = None
 
   abbrev pub bent : List Instruction → ℕ → Option (ℕ × ℕ)

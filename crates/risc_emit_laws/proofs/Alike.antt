@@ -22,7 +22,7 @@ use Rattle.tac_code.specs.declared.code.TacRoutine.{TacRoutine}
 use Rattle.risc_alloc.specs.declared.homes.Home.{Home}
 use Rattle.risc_alloc.specs.declared.homes.Home.TheVariants.{Slot, Reg}
 use Rattle.risc_emit_relation.specs.Context.{Context, home}
-use Rattle.risc_emit_forms.specs.Told.{told_at, bent_at}
+use Rattle.risc_emit_forms.specs.Told.{block_at, fold_in, folded, told_at, bent_at}
 use Rattle.risc_emit_forms.specs.Forms as form
 use Rattle.risc_emit_forms.specs.Forms.{carried}
 use Rattle.risc_emit_laws.specs.Emits.{start_form}
@@ -178,14 +178,31 @@ module _ (c : Context) (r : ℕ) where
   word_bare None t a n = load_bare _ t a n
   word_bare (Some bent) t a n = refl
 
-  index_bare : (o : Option (ℕ × ℕ)) (t : ℕ) (a : Base) (i : ℕ) (low high : ℤ) (width error line : ℕ)
-      → form.index_form b r o t a i low high width error line ≡ form.index_form c r o t a i low high width error line
-  index_bare None t a i low high width error line =
+  block_bare : (a : Base) → block_at b r a ≡ block_at c r a
+  block_bare base.Frame = refl
+  block_bare base.Scratch = refl
+  block_bare base.Program = refl
+  block_bare (base.Temporary t) = refl
+
+  index_by_bare : (n : Option ℕ) (o : Option (ℕ × ℕ)) (t : ℕ) (a : Base) (i : ℕ) (low high : ℤ) (width error line : ℕ)
+      → form.index_by b r n o t a i low high width error line ≡ form.index_by c r n o t a i low high width error line
+  index_by_bare None None t a i low high width error line =
       rw (fetch_bare 12 (home c r i)) (rw (fetched_bare 12 (home c r i))
       (rw (base_address_bare a) (rw (address_register_bare a)
       (rw (target_bare (home c r t)) (rw (save_bare (home c r t)) refl)))))
-  index_bare (Some bent) t a i low high width error line =
+  index_by_bare None (Some bent) t a i low high width error line =
       rw (fetch_bare 12 (home c r i)) (rw (fetched_bare 12 (home c r i)) (rw (base_register_bare a) refl))
+  index_by_bare (Some n) None t a i low high width error line =
+      rw (fetch_bare 12 (home c r i)) (rw (fetched_bare 12 (home c r i))
+      (rw (base_register_bare a) (rw (target_bare (home c r t)) (rw (save_bare (home c r t)) refl))))
+  index_by_bare (Some n) (Some bent) t a i low high width error line =
+      rw (fetch_bare 12 (home c r i)) (rw (fetched_bare 12 (home c r i)) (rw (base_register_bare a) refl))
+
+  index_bare : (o : Option (ℕ × ℕ)) (t : ℕ) (a : Base) (i : ℕ) (low high : ℤ) (width error line : ℕ)
+      → form.index_form b r o t a i low high width error line ≡ form.index_form c r o t a i low high width error line
+  index_bare o t a i low high width error line =
+      ap (λ x. form.index_by b r (fold_in error low high width x) o t a i low high width error line) (block_bare a)
+      ∙ index_by_bare (folded c r a low high width error) o t a i low high width error line
 
   store_bare : (width : Width) (a : Base) (n u : ℕ) → form.store_form b r width a n u ≡ form.store_form c r width a n u
   store_bare width a n u =

@@ -1,9 +1,10 @@
 -- The numbers and lines in the pieces of sound code are in their ranges.
-use Rattle.std.proofs.Common.{ℕ, zero, suc, ◌+◌, ◌*◌, Bool, true, false, cond, ◌&&◌, not, nat_eq, nat_lt, List, []}
-use Rattle.std.proofs.Common.{◌∷◌, ◌++◌, length, slice_index, Option, Some, None, ℤ, pos, arith}
+use Rattle.std.proofs.Common.{◌≡◌, ℕ, zero, suc, ◌+◌, ◌*◌, ◌≤◌, Bool, true, false, cond, ◌&&◌, not, nat_eq, nat_lt}
+use Rattle.std.proofs.Common.{List, [], ◌∷◌, ◌++◌, length, slice_index, Option, Some, None, ℤ, pos, refl, arith}
 use Rattle.std.specs.Prelude.{int_lt}
 use Rattle.risc_word.specs.declared.instr.Width.{Width}
 use Rattle.risc_word.specs.declared.instr.Condition.{Condition}
+use Rattle.risc_word.specs.declared.instr.Condition.TheVariants as on
 use Rattle.tac_code.specs.declared.code.Operator.{Operator}
 use Rattle.tac_code.specs.declared.code.Operator.TheVariants.{Add, Subtract, Multiply, Divide, Modulo}
 use Rattle.tac_code.specs.declared.code.Relation.{Relation}
@@ -21,12 +22,12 @@ use Rattle.tac_code.specs.declared.code.Instruction.TheVariants.{New, End}
 use Rattle.tac_code.specs.declared.code.TacRoutine.{TacRoutine}
 use Rattle.tac_code.specs.declared.check.Limits.{Limits}
 use Rattle.tac_code.specs.Numbers.{is_zero, steps_above}
-use Rattle.tac_code.specs.Sound.{IsErrorNumber, IsLine, IsSoundAt}
+use Rattle.tac_code.specs.Sound.{IsErrorNumber, IsTestNumber, IsLine, IsSoundAt}
 use Rattle.risc_alloc.specs.declared.homes.Home.{Home}
 use Rattle.risc_alloc.specs.declared.homes.Home.TheVariants.{Slot, Reg}
 use Rattle.risc_emit_relation.specs.Context.{Context, home, is_program, slot_at}
 use Rattle.risc_emit_forms.specs.Pieces.{Label, Piece, Fails, Enters, Joins, EntersAt}
-use Rattle.risc_emit_forms.specs.Told.{told_at, bent_at}
+use Rattle.risc_emit_forms.specs.Told.{told_at, bent_at, folded}
 use Rattle.risc_emit_forms.specs.Forms as form
 use Rattle.risc_emit_forms.specs.Forms.{is_near, is_small, is_divisor, carried, is_taken, is_stored, stands}
 use Rattle.risc_emit_laws.specs.Emits.{start_form}
@@ -49,6 +50,28 @@ good_append (p ∷ ps) qs h k = (h.0, good_append ps qs h.1 k)
 by_test : (b : Bool) (ps qs : List Piece) → AreGood ps → AreGood qs → AreGood (cond b ps qs)
 by_test true ps qs h k = h
 by_test false ps qs h k = k
+
+-- ---- tests, which have no words if their number is 0
+
+not_null : (n : ℕ) → nat_eq n 0 ≡ false → 1 ≤ n
+not_null n e = grind (arith, e)
+
+number_of : (n : ℕ) → IsTestNumber n → nat_eq n 0 ≡ false → IsErrorNumber n
+number_of n h e = (not_null n e, h)
+
+by_number : (b : Bool) (ps qs : List Piece) → AreGood ps → (b ≡ false → AreGood qs) → AreGood (cond b ps qs)
+by_number true ps qs h k = h
+by_number false ps qs h k = k refl
+
+tested_good : (error : ℕ) (test rest : List Piece) → IsTestNumber error → (IsErrorNumber error → AreGood test) → AreGood
+    rest → AreGood (form.tested error test rest)
+tested_good error test rest e h k =
+    by_number (nat_eq error 0) rest (test ++ rest) k (λ is. good_append test rest (h (number_of error e is)) k)
+
+opposite_piece : (b : Bool) (error line : ℕ) → (b ≡ false → IsErrorNumber error) → IsLine line → IsGood
+    (cond b form.idle (Fails on.OverflowSet error line))
+opposite_piece true error line e l = tt
+opposite_piece false error line e l = (e refl, l)
 
 error_two : IsErrorNumber 2
 error_two = (omega arith, omega arith)
@@ -158,12 +181,22 @@ module _ (c : Context) (r : ℕ) where
   least_good a =
       good_append (form.fetch c r 12 (home c r a)) _ (fetch_good 12 (home c r a)) (tt, (tt, (tt, (tt, (tt, tt)))))
 
-  negative_good : (a error line : ℕ) → IsErrorNumber error → IsLine line → AreGood
+  opposite_good : (error line : ℕ) → IsTestNumber error → IsLine line → IsGood (form.opposite_test c r error line)
+  opposite_good error line e l = opposite_piece (nat_eq error 0) error line (number_of error e) l
+
+  negative_good : (a error line : ℕ) → IsTestNumber error → IsLine line → AreGood
       (form.quotient_by_negative c r a error line)
   negative_good a error line e l =
-      (tt, (tt, (tt, good_append (form.quotient c r a) _ (quotient_good a) (tt, (tt, ((e, l), (tt, least_good a)))))))
+      let last : AreGood (form.skip on.Always (length (form.quotient_by_least c r a)) ∷ form.quotient_by_least c r a) =
+      (tt, least_good a) in (
+        tt,
+        (
+          tt,
+          (tt, good_append (form.quotient c r a) _ (quotient_good a) (tt, (tt, (opposite_good error line e l, last)))),
+        ),
+      )
 
-  divide_good : (t a : ℕ) (o : Operand) (error line : ℕ) → IsErrorNumber error → IsLine line → AreGood
+  divide_good : (t a : ℕ) (o : Operand) (error line : ℕ) → IsTestNumber error → IsLine line → AreGood
       (form.divide_form c r t a o error line)
   divide_good t a o error line e l =
       by_test (is_divisor o) _ _ (good_append (form.fetch c r 12 (home c r a)) _ (fetch_good 12 (home c r a))
@@ -192,12 +225,30 @@ module _ (c : Context) (r : ℕ) where
         ),
       ))
 
-  arithmetic_good : (operator : Operator) (t a : ℕ) (o : Operand) (error line : ℕ) → IsErrorNumber error → IsLine line
+  overflow_good : (t a : ℕ) (o : Operand) (error line : ℕ) → IsTestNumber error → IsLine line → (p : Piece) → IsGood p
+      → AreGood (form.both c r a o (p ∷ form.tested error (Fails on.OverflowSet error line ∷ []) (form.save c r
+      (home c r t))))
+  overflow_good t a o error line e l p h =
+      both_good a o _ (
+        h,
+        tested_good error (Fails on.OverflowSet error line ∷ []) (form.save c r (home c r t)) e
+            (λ n. ((n, l), tt)) (save_good (home c r t)),
+      )
+
+  product_good : (t a : ℕ) (o : Operand) (error line : ℕ) → IsTestNumber error → IsLine line → AreGood
+      (form.multiply_form c r t a o error line)
+  product_good t a o error line e l =
+      both_good a o _ (
+        tt,
+        tested_good error (form.beyond ++ Fails on.NotEqual error line ∷ [])
+            (form.save c r (home c r t)) e (λ n. (tt, (tt, (tt, (tt, (tt, ((n, l), tt))))))) (save_good (home c r t)),
+      )
+
+  arithmetic_good : (operator : Operator) (t a : ℕ) (o : Operand) (error line : ℕ) → IsTestNumber error → IsLine line
       → AreGood (form.arithmetic_form c r operator t a o error line)
-  arithmetic_good Add t a o error line e l = both_good a o _ (tt, ((e, l), save_good (home c r t)))
-  arithmetic_good Subtract t a o error line e l = both_good a o _ (tt, ((e, l), save_good (home c r t)))
-  arithmetic_good Multiply t a o error line e l =
-      both_good a o _ (tt, (tt, (tt, (tt, (tt, (tt, ((e, l), save_good (home c r t))))))))
+  arithmetic_good Add t a o error line e l = overflow_good t a o error line e l _ tt
+  arithmetic_good Subtract t a o error line e l = overflow_good t a o error line e l _ tt
+  arithmetic_good Multiply t a o error line e l = product_good t a o error line e l
   arithmetic_good Divide t a o error line e l = divide_good t a o error line e l
   arithmetic_good Modulo t a o error line e l = modulo_good t a o line l
 
@@ -209,14 +260,30 @@ module _ (c : Context) (r : ℕ) where
   at_most_good : (q n error line : ℕ) → IsErrorNumber error → IsLine line → AreGood (form.at_most c r q n error line)
   at_most_good q n error line e l = by_test (nat_lt n 65535) _ _ (tt, ((e, l), tt)) (tt, (tt, (tt, ((e, l), tt))))
 
-  check_good : (i : ℕ) (low high : ℤ) (error line : ℕ) → IsErrorNumber error → IsLine line → AreGood
+  range_good : (q : ℕ) (low high : ℤ) (error line : ℕ) → IsErrorNumber error → IsLine line → AreGood
+      (form.range_code c r q low high error line)
+  range_good q low high error line e l =
+      by_test (int_lt high low) _ _ ((e, l), tt) (good_append (form.above c r q low) _ (above_good q low)
+      (at_most_good (form.above_register c r q low) (steps_above low high) error line e l))
+
+  check_good : (i : ℕ) (low high : ℤ) (error line : ℕ) → IsTestNumber error → IsLine line → AreGood
       (form.check_form c r i low high error line)
   check_good i low high error line e l =
-      let at = form.fetched c r 12 (home c r i) in
-      good_append (form.fetch c r 12 (home c r i)) _ (fetch_good 12 (home c r i))
-      (by_test (int_lt high low) _ _ ((e, l), tt)
-      (good_append (form.above c r at low) _ (above_good at low)
-      (at_most_good (form.above_register c r at low) (steps_above low high) error line e l)))
+      by_number (nat_eq error 0) _ _ (tt, tt) (λ is. good_append (form.fetch c r 12 (home c r i)) _
+      (fetch_good 12 (home c r i)) (range_good _ low high error line (number_of error e is) l))
+
+  pointer_good : (told : Option ℕ) (a error line : ℕ) → IsTestNumber error → IsLine line → AreGood
+      (form.pointer_form c r told a error line)
+  pointer_good told a error line e l =
+      by_number (nat_eq error 0) _ _ (tt, tt) (λ is. by_test (form.is_told c r told a) _ _
+      ((number_of error e is, l), tt) (good_append (form.bring c r 12 (home c r a)) _ (bring_good 12 (home c r a))
+      ((number_of error e is, l), tt)))
+
+  index_code_good : (q : ℕ) (low high : ℤ) (error line : ℕ) → IsTestNumber error → IsLine line → AreGood
+      (form.index_code c r q low high error line)
+  index_code_good q low high error line e l =
+      by_number (nat_eq error 0) _ _ (above_good q low)
+      (λ is. range_good q low high error line (number_of error e is) l)
 
   scaled_good : (q width : ℕ) → AreGood (form.scaled c r q width)
   scaled_good q width =
@@ -231,6 +298,32 @@ module _ (c : Context) (r : ℕ) where
   steps_good bent t a q width =
       good_append (form.scaled c r q width) _ (scaled_good q width)
       (component_good bent t a (form.scaled_register c r q width))
+
+  near_component_good : (n : ℕ) (bent : Option (ℕ × ℕ)) (t : ℕ) (a : Base) (q : ℕ) → AreGood
+      (form.near_component c r n bent t a q)
+  near_component_good n None t a q =
+      good_append (form.sum c r (form.base_register c r a) n) _ (sum_good (form.base_register c r a) n)
+      (tt, save_good (home c r t))
+  near_component_good n (Some bent) t a q = (tt, tt)
+
+  index_by_good : (o : Option ℕ) (bent : Option (ℕ × ℕ)) (t : ℕ) (a : Base) (i : ℕ) (low high : ℤ)
+      (width error line : ℕ) → IsTestNumber error → IsLine line → AreGood
+      (form.index_by c r o bent t a i low high width error line)
+  index_by_good None bent t a i low high width error line e l =
+      let at = form.fetched c r 12 (home c r i) in
+      good_append (form.fetch c r 12 (home c r i)) _ (fetch_good 12 (home c r i))
+      (good_append (form.index_code c r at low high error line) _ (index_code_good at low high error line e l)
+      (steps_good bent t a (form.above_register c r at low) width))
+  index_by_good (Some n) bent t a i low high width error line e l =
+      let at = form.fetched c r 12 (home c r i) in
+      good_append (form.fetch c r 12 (home c r i)) _ (fetch_good 12 (home c r i))
+      (good_append (form.scaled c r at width) _ (scaled_good at width)
+      (near_component_good n bent t a (form.scaled_register c r at width)))
+
+  index_good : (bent : Option (ℕ × ℕ)) (t : ℕ) (a : Base) (i : ℕ) (low high : ℤ) (width error line : ℕ) → IsTestNumber
+      error → IsLine line → AreGood (form.index_form c r bent t a i low high width error line)
+  index_good bent t a i low high width error line e l =
+      index_by_good (folded c r a low high width error) bent t a i low high width error line e l
 
   word_good : (bent : Option (ℕ × ℕ)) (t : ℕ) (a : Base) (n : ℕ) → AreGood (form.word_form c r bent t a n)
   word_good None t a n = load_form_good _ t a n
@@ -307,14 +400,12 @@ module _ (c : Context) (r : ℕ) where
   form_good limits k (CheckRange a low high error line) h =
       check_good a low high error line h.3 h.4
   form_good limits k (CheckPointer a error line) h =
-      by_test (form.is_told c r (told_at c r k) a) _ _ ((h.1, h.2), tt)
-      (good_append (form.bring c r 12 (home c r a)) _ (bring_good 12 (home c r a)) ((h.1, h.2), tt))
+      pointer_good (told_at c r k) a error line h.1 h.2
   form_good limits k (Text t bytes) h = (tt, (tt, save_good (home c r t)))
   form_good limits k (Offset t a n extent) h =
       good_append (form.address c r (form.target c r (home c r t)) a n) _ (address_good _ a n) (save_good (home c r t))
   form_good limits k (Index t a i low high width error line) h =
-      good_append (form.check_form c r i low high error line) _ (check_good i low high error line h.5 h.6)
-      (steps_good (bent_at c r (suc k)) t a (form.above_register c r (form.fetched c r 12 (home c r i)) low) width)
+      index_good (bent_at c r (suc k)) t a i low high width error line h.5 h.6
   form_good limits k (RoutineValue t q) h = (tt, (tt, save_good (home c r t)))
   form_good limits k (Load t a n) h = word_good (bent_at c r k) t a n
   form_good limits k (Store a n u) h = store_form_good _ a n u
