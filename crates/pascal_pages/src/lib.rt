@@ -5,6 +5,8 @@ ghost use Rattle.std.specs.Prelude.{◌≡◌, option_map, slice_get};
 ghost use Rattle.pascal_pages.specs.Asked.{asks, is_spelled, names_of};
 ghost use Rattle.pascal_pages.specs.Pages.{pages};
 
+mod endings;
+mod refusals;
 mod texts;
 
 pub use texts::COUNT;

@@ -1,7 +1,7 @@
 -- What a block that was read has: its names are its points, each means what its point gives, and the same holds of its
 -- routines.
-use Rattle.std.proofs.Common.{◌≡◌, ℕ, ◌+◌, List, [], ◌∷◌, ◌++◌, length, map, take, slice_get, refl, sym, ap, ◌∙◌}
-use Rattle.std.proofs.Common.{subst, append_assoc, append-nil, length-append, arith}
+use Rattle.std.proofs.Common.{◌≡◌, ℕ, ◌+◌, List, [], ◌∷◌, ◌++◌, length, map, take, slice_get, refl, sym, ap, ◌∙◌, subst}
+use Rattle.std.proofs.Common.{append_assoc, append-nil, length-append, arith}
 use Rattle.std.proofs.lemmas.List.{map-append}
 use Rattle.ps_syntax.specs.declared.program.ConstantDefinition.{ConstantDefinition}
 use Rattle.ps_syntax.specs.declared.program.TypeDefinition.{TypeDefinition}
@@ -16,7 +16,7 @@ use Rattle.ps_check_judgement.specs.declared.change.Change.{Change}
 use Rattle.ps_check_judgement.specs.Judged.{Yes, steps}
 use Rattle.ps_check_judgement.proofs.Binds.{inside_yes, then_yes}
 use Rattle.ps_check_names.specs.Spelling.{spelled, line_in}
-use Rattle.ps_check_names.specs.Regions.{Region, BlockRegion, Context}
+use Rattle.ps_check_names.specs.Regions.{Region, BlockRegion, Context, Meaning}
 use Rattle.ps_check_declarations.specs.Points.{Points, all, add_points, constant_points, definition_points}
 use Rattle.ps_check_declarations.specs.Points.{variables_points, block_points, type_points}
 use Rattle.ps_check_declarations.specs.Denoters.{Frame, Declared}
@@ -49,9 +49,10 @@ use Rattle.ps_check_laws.proofs.Domains.{declarations_length, domains_stay, decl
 use Rattle.ps_check_laws.proofs.Forwards.{none_open, all_open, are_completed}
 use Rattle.ps_check_laws.specs.Counts.{block_domains, own_domains}
 use Rattle.ps_check_laws.proofs.Drawn.{block_domains_are}
-use Rattle.ps_check_names.specs.Regions.{Meaning}
-use Rattle.ps_check_laws.proofs.Steps.{Longer, Grown, Ready, BlockGrows, RoutineGrows, points, names_length}
-use Rattle.ps_check_laws.proofs.Steps.{changes_of, At, AllTold, all_told}
+use Rattle.ps_check_laws.proofs.Steps.{AllTold, all_told}
+use Rattle.ps_check_laws.proofs.Headed.{At}
+use Rattle.ps_check_laws.proofs.BlockPoints.{points, names_length}
+use Rattle.ps_check_laws.proofs.GatheredSoFar.{Longer, Grown, Ready, BlockGrows, RoutineGrows, changes_of}
 
 -- ---- the points of the declarations
 

@@ -26,8 +26,10 @@ use Rattle.ps_check_laws.proofs.Lists.{get_last, compare, Each}
 use Rattle.ps_check_laws.proofs.Formals.{heading_told}
 use Rattle.ps_check_laws.proofs.Routines.{read, sp}
 pub use Rattle.ps_check_laws.proofs.Routines.{placed}
-use Rattle.ps_check_laws.proofs.Steps.{declares_plain, plain_not, not_both, heading_or, Keeps, RoutineGrows, At, How}
-use Rattle.ps_check_laws.proofs.Steps.{completing, introducing, HasHeading, one_taken, step_at, all_more, before, f}
+use Rattle.ps_check_laws.proofs.Steps.{one_taken, step_at}
+use Rattle.ps_check_laws.proofs.Headed.{At, How, completing, introducing, HasHeading, before, f}
+use Rattle.ps_check_laws.proofs.BlockPoints.{declares_plain, plain_not, heading_or, all_more}
+use Rattle.ps_check_laws.proofs.GatheredSoFar.{not_both, Keeps, RoutineGrows}
 
 -- ---- places
 

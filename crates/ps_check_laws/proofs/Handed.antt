@@ -1,7 +1,6 @@
 -- What the judgement of an expression passes on as changed is what the checked expression threatens.
-use Rattle.std.proofs.Common.{◌≡◌, ℕ, Bool, true, false, not, ◌&&◌, ◌==◌, List, [], ◌∷◌, ◌++◌, length, map, Option}
-use Rattle.std.proofs.Common.{Some, None, refl, sym, ap, ◌∙◌, subst, append-nil, append_assoc}
-use Rattle.std.proofs.lemmas.List.{map-append}
+use Rattle.std.proofs.Common.{◌≡◌, ℕ, Bool, true, false, not, ◌==◌, List, [], ◌∷◌, ◌++◌, length, map, Option, Some}
+use Rattle.std.proofs.Common.{None, refl, sym, ap, ◌∙◌, subst, append-nil}
 use Rattle.std.specs.Prelude.{if◌then◌else◌}
 use Rattle.ps_text.specs.declared.Span.{Span}
 use Rattle.ps_syntax.specs.First.{sign_or}
@@ -24,291 +23,50 @@ use Rattle.ps_syntax.specs.declared.expression.Expr.TheVariants as e
 use Rattle.ps_syntax.specs.declared.expression.Factor.TheVariants as f
 use Rattle.ps_syntax.specs.declared.expression.Member.TheVariants as m
 use Rattle.ps_syntax.specs.declared.expression.Selector.TheVariants as s
-use Rattle.ps_tree.specs.declared.types.Ordinal.{Ordinal}
-use Rattle.ps_tree.specs.declared.tree.RequiredFunction.{RequiredFunction}
-use Rattle.ps_tree.specs.declared.types.Host.TheVariants.{Integer}
-use Rattle.ps_tree.specs.Types.{DataType, OrdinalType, SetType, NilType, is_same_host, is_same_type, is_assignable}
+use Rattle.ps_tree.specs.Types.{NilType}
 use Rattle.ps_tree.specs.Tree as Tree
 use Rattle.ps_check_judgement.specs.declared.change.Change.{Change}
-use Rattle.ps_check_judgement.specs.declared.refusal.Rule.TheVariants.{NotInProfile, WrongKind, WrongType}
-use Rattle.ps_check_judgement.specs.declared.refusal.Rule.TheVariants.{NotAssignable, PackedVariable, NotCongruous}
-use Rattle.ps_check_judgement.specs.declared.refusal.Rule.TheVariants.{ControlVariable}
+use Rattle.ps_check_judgement.specs.declared.refusal.Rule.TheVariants.{NotInProfile, WrongKind, NotCongruous}
 use Rattle.ps_check_judgement.specs.Judged as j
-use Rattle.ps_check_judgement.specs.Judged.{Judged, Yes, No, provided, holds, some_or, steps}
-use Rattle.ps_check_judgement.specs.Changing.{Changing, ◌>>=◌, still, one_more, pairs, through}
-use Rattle.ps_check_judgement.proofs.Binds.{no_yes, inside_yes, then_yes, provided_yes, some_or_yes, if_yes}
+use Rattle.ps_check_judgement.specs.Judged.{Yes, No, holds, some_or}
+use Rattle.ps_check_judgement.specs.Changing.{Changing, ◌>>=◌, still, pairs, through}
+use Rattle.ps_check_judgement.proofs.Binds.{no_yes, then_yes, provided_yes, some_or_yes}
 use Rattle.ps_check_names.specs.declared.meaning.Required.{Required}
-use Rattle.ps_check_names.specs.declared.meaning.Required.TheVariants as required
 use Rattle.ps_check_names.specs.Spelling.{line_in}
 use Rattle.ps_check_names.specs.Constants.{OrdinalConstant, TextConstant}
 use Rattle.ps_check_names.specs.Regions.{Context, Region, Point, BlockPoint, FieldPoint, Section, ValueSection}
 use Rattle.ps_check_names.specs.Regions.{VariableSection, RoutineSection, Sections, ConstantMeaning, TextMeaning}
 use Rattle.ps_check_names.specs.Regions.{VariableMeaning, ParameterMeaning, RoutineMeaning, RoutineParameterMeaning}
 use Rattle.ps_check_names.specs.Regions.{RequiredMeaning}
-use Rattle.ps_check_expressions.specs.Values.{Value, SimpleValue, SetValue, StructureValue, Variable, Operand, plain}
-use Rattle.ps_check_expressions.specs.Values.{ordinal_of, loaded, argument_list, member_list}
+use Rattle.ps_check_expressions.specs.Values.{Value, SimpleValue, Variable, Operand, plain, loaded, argument_list}
 use Rattle.ps_check_expressions.specs.Names.{denoted}
-use Rattle.ps_check_expressions.specs.Changed.{is_control, changed, changed_entry}
+use Rattle.ps_check_expressions.specs.Changed.{changed}
 use Rattle.ps_check_expressions.specs.Operators.{added}
 use Rattle.ps_check_expressions.specs.Places.{variable_at}
-use Rattle.ps_check_expressions.specs.Calls.{by_value, by_variable, by_routine, named_routine, actual, actuals}
-use Rattle.ps_check_expressions.specs.Calls.{parameters, is_procedure, needs_integer, function_of, applied}
+use Rattle.ps_check_expressions.specs.Calls.{by_routine, named_routine, actual, actuals, parameters, is_procedure}
 use Rattle.ps_check_expressions.specs.Calls.{required_value, look, standing_alone, names_input, function_call}
 use Rattle.ps_check_expressions.specs.Calls.{required_call, called}
-use Rattle.ps_check_expressions.specs.Expressions.{Step, TypedMember, SeenMember, Gathered, gathered, constructed}
-use Rattle.ps_check_expressions.specs.Expressions.{gather, single, several, alone, operands, standing, named_variable}
-use Rattle.ps_check_expressions.specs.Expressions.{selected_variable, indexed, first_term, variable_seen, term_seen}
-use Rattle.ps_check_expressions.specs.Expressions.{simple_seen, operand, factor_operand, member_at, select, add_term}
-use Rattle.ps_check_expressions.specs.Expressions.{multiply_factor, simple_operand, term_operand, variable_operand}
+use Rattle.ps_check_expressions.specs.Expressions.{Step, TypedMember, SeenMember, Gathered, constructed, gather, alone}
+use Rattle.ps_check_expressions.specs.Expressions.{operands, standing, named_variable, selected_variable, indexed}
+use Rattle.ps_check_expressions.specs.Expressions.{first_term, variable_seen, term_seen, simple_seen, operand}
+use Rattle.ps_check_expressions.specs.Expressions.{factor_operand, member_at, select, add_term, multiply_factor}
+use Rattle.ps_check_expressions.specs.Expressions.{simple_operand, term_operand, variable_operand}
 use Rattle.ps_check_expressions.proofs.Equations.{operand_simple, operand_compare, factor_variable, factor_call}
 use Rattle.ps_check_expressions.proofs.Equations.{factor_number, factor_text, factor_nil, factor_set, factor_group}
-use Rattle.ps_check_expressions.proofs.Equations.{factor_not, member_single, member_several, select_index}
-use Rattle.ps_check_expressions.proofs.Equations.{select_field, select_content, simple_is, term_is, add_term_is}
-use Rattle.ps_check_expressions.proofs.Equations.{multiply_factor_is, variable_is}
-use Rattle.ps_check_laws.specs.Threats.{Threatened, whole, place_threatens, expr_threatens, set_threatens}
-use Rattle.ps_check_laws.specs.Threats.{member_threatens, members_threaten, argument_threatens, arguments_threaten}
-use Rattle.ps_check_laws.specs.Threats.{entries_of}
-use Rattle.ps_check_laws.proofs.Lists.{none_some, inside, then_still, last_still, never, Each, each_append}
-use Rattle.ps_check_laws.proofs.Values.{value_threatens, ordinal_is, contents_threaten, constant_threatens}
-use Rattle.ps_check_laws.proofs.Values.{negated_threatens, first_term_threatens, added_both, multiplied_both}
-use Rattle.ps_check_laws.proofs.Values.{compared_both, variable_none, element_both, component_same, target_same}
-
--- ---- more changes
-
--- none of these entries is a control variable of an enclosing `for` statement
-abbrev pub Free : Context → Threatened → Type 0
-Free c a = Each (λ (e : ℕ × ℕ). is_control c e.0 e.1 ≡ false) a
-
--- what is changed further on
-pub record Adds (c : Context) (cs ds : List Change) (a : Threatened) : Type 0 where
-  pub entries : entries_of ds ≡ entries_of cs ++ a
-  pub free : Free c a
-
-pub adds_none : {c : Context} (cs : List Change) → Adds c cs cs []
-adds_none cs = record { entries = sym (append-nil (entries_of cs)); free = tt }
-
-pub adds_both : {c : Context} (cs ds es : List Change) (a b : Threatened) → Adds c cs ds a → Adds c ds es b
-    → Adds c cs es (a ++ b)
-adds_both {c = c} cs ds es a b x y = record {
-  entries = y.entries ∙ ap (λ l. l ++ b) x.entries ∙ append_assoc (entries_of cs) a b;
-  free = each_append (λ (e : ℕ × ℕ). is_control c e.0 e.1 ≡ false) a b x.free y.free;
-}
-
-pub adds_as : {c : Context} (cs ds : List Change) (a b : Threatened) → a ≡ b → Adds c cs ds a → Adds c cs ds b
-adds_as {c = c} cs ds a b e x = record {
-  entries = x.entries ∙ ap (λ l. entries_of cs ++ l) e;
-  free = subst (Free c) e x.free;
-}
-
--- what is added to what is threatened already
-pub record More (c : Context) (cs ds : List Change) (a b : Threatened) : Type 0 where
-  pub more : Threatened
-  pub grown : b ≡ a ++ more
-  pub adds : Adds c cs ds more
-
-pub more_none : {c : Context} (cs : List Change) (a : Threatened) → More c cs cs a a
-more_none cs a = record { more = []; grown = sym (append-nil a); adds = adds_none cs }
-
-pub more_both : {c : Context} (cs ds es : List Change) (a b d : Threatened) → More c cs ds a b → More c ds es b d
-    → More c cs es a d
-more_both cs ds es a b d x y = record {
-  more = x.more ++ y.more;
-  grown = y.grown ∙ ap (λ l. l ++ y.more) x.grown ∙ append_assoc a x.more y.more;
-  adds = adds_both cs ds es x.more y.more x.adds y.adds;
-}
-
-pub adds_more : {c : Context} (cs ds es : List Change) (a b : Threatened) → Adds c cs ds a → More c ds es a b
-    → Adds c cs es b
-adds_more cs ds es a b x m = adds_as cs es (a ++ m.more) b (sym m.grown) (adds_both cs ds es a m.more x m.adds)
-
--- from nothing on
-pub adds_all : {c : Context} (cs ds : List Change) (b : Threatened) → More c cs ds [] b → Adds c cs ds b
-adds_all cs ds b m = adds_as cs ds m.more b (sym m.grown) m.adds
-
-module _ {c : Context} {A : Type 0} (f : A → Threatened) where
-  pub made_adds : (v : A) (cs ds : List Change) (p : A × List Change) → Yes (v, ds) ≡ Yes p → Adds c cs ds (f v)
-      → Adds c cs p.1 (f p.0)
-  made_adds v cs ds p e x = subst (λ (z : A × List Change). Adds c cs z.1 (f z.0)) (inside_yes (v, ds) p e) x
-
-  pub still_adds : (q : Judged A) (cs ds : List Change) (b : Threatened) (p : A × List Change) → still q ds ≡ Yes p
-      → Adds c cs ds b → ((v : A) → q ≡ Yes v → f v ≡ b) → Adds c cs p.1 (f p.0)
-  still_adds q cs ds b p e x h = (let a = last_still q ds p e in subst
-      (λ (z : A × List Change). Adds c cs z.1 (f z.0)) a.2 (adds_as cs ds b (f a.0) (sym (h a.0 a.1)) x))
-
-  pub still_more : (q : Judged A) (cs ds : List Change) (a b : Threatened) (p : A × List Change) → still q ds ≡ Yes p
-      → Adds c cs ds b → ((v : A) → q ≡ Yes v → f v ≡ a ++ b) → More c cs p.1 a (f p.0)
-  still_more q cs ds a b p e x h = (let v = last_still q ds p e in subst
-      (λ (z : A × List Change). More c cs z.1 a (f z.0)) v.2 (record {
-        more = b;
-        grown = h v.0 v.1;
-        adds = x;
-      }))
-
-  -- steps one after the other
-  pub through_more : {B : Type 0} (step : A → B → Changing A) (bs : List B) → Each
-      (λ b. (s : A) (cs : List Change) (p : A × List Change) → step s b cs ≡ Yes p → More c cs p.1 (f s) (f p.0)) bs
-      → (s : A) (cs : List Change) (p : A × List Change) → through step s bs cs ≡ Yes p → More c cs p.1 (f s) (f p.0)
-  through_more step [] h s cs p e = subst (λ (z : A × List Change). More c cs z.1 (f s) (f z.0))
-      (inside_yes (s, cs) p e) (more_none cs (f s))
-  through_more step (b ∷ bs) h s cs p e =
-      let q = then_yes (step s b cs) _ p e in
-      more_both cs q.0.1 p.1 (f s) (f q.0.0) (f p.0) (h.0 s cs q.0 q.1) (through_more step bs h.1 q.0.0 q.0.1 p q.2)
-
--- the images of each, which together threaten what each does
-pub each_more : {c : Context} {X B : Type 0} (g : X → Changing B) (h : B → Threatened) (F : List B → Threatened)
-    → ((ys : List B) (y : B) → F (ys ++ y ∷ []) ≡ F ys ++ h y) → (xs : List X) → Each
-    (λ x. (cs : List Change) (p : B × List Change) → g x cs ≡ Yes p → Adds c cs p.1 (h p.0)) xs
-    → (s t : List B × List Change) → steps (one_more g) s xs ≡ Yes t → More c s.1 t.1 (F s.0) (F t.0)
-each_more {c = c} g h F last [] all s t e = subst (λ z. More c s.1 z.1 (F s.0) (F z.0)) (inside_yes s t e)
-    (more_none s.1 (F s.0))
-each_more {c = c} g h F last (x ∷ xs) all s t e =
-    let one = then_yes (one_more g s x) _ t e in
-    let a = then_yes (g x s.1) _ one.0 one.1 in
-    let here : More c s.1 a.0.1 (F s.0) (F (s.0 ++ a.0.0 ∷ [])) = record {
-      more = h a.0.0;
-      grown = last s.0 a.0.0;
-      adds = all.0 s.1 a.0 a.1;
-    } in
-    let first : More c s.1 one.0.1 (F s.0) (F one.0.0) = subst (λ z. More c s.1 z.1 (F s.0) (F z.0))
-    (inside_yes (s.0 ++ a.0.0 ∷ [], a.0.1) one.0 a.2) here in
-    more_both s.1 one.0.1 t.1 (F s.0) (F one.0.0) (F t.0) first (each_more g h F last xs all.1 one.0 t one.2)
-
-pub each_all : {X : Type 0} (P : X → Type 0) → ((x : X) → P x) → (xs : List X) → Each P xs
-each_all P h [] = tt
-each_all P h (x ∷ xs) = (h x, each_all P h xs)
-
-turned : (b : Bool) → not b ≡ true → b ≡ false
-turned true e = never e
-turned false e = refl
-
--- a variable that is changed
-pub changed_adds : (c : Context) (place : Tree.Place) (at : ℕ) (cs : List Change) (p : Unit {0} × List Change)
-    → changed c place at cs ≡ Yes p → Adds c cs p.1 (whole place)
-unfolding changed changed_entry
-changed_adds c (Tree.Variable (Tree.Entry up entry) Tree.no_selector) at cs p e =
-    let is = provided_yes (not (is_control c up entry)) ControlVariable at (
-      tt,
-      cs ++ record {
-        up = up;
-        entry = entry;
-        at = at;
-      } ∷ [],
-    ) p e in
-    let x : Change = record { up = up; entry = entry; at = at } in
-    subst (λ (z : Unit {0} × List Change). Adds c cs z.1 ((up, entry) ∷ [])) is.1 (record {
-      entries = map-append (λ (x : Change). (x.up, x.entry)) cs (x ∷ []);
-      free = (turned (is_control c up entry) is.0, tt);
-    })
-changed_adds c place at cs p e = subst (λ (z : Unit {0} × List Change). Adds c cs z.1 []) (inside_yes (tt, cs) p e)
-    (adds_none cs)
-
--- ---- lists of the checked tree
-
-pub arguments_last : (xs : List Tree.Argument) (a : Tree.Argument) → arguments_threaten (argument_list (xs ++ a ∷ []))
-    ≡ arguments_threaten (argument_list xs) ++ argument_threatens a
-unfolding arguments_threaten
-arguments_last [] a = append-nil (argument_threatens a)
-arguments_last (x ∷ xs) a = ap (λ l. argument_threatens x ++ l) (arguments_last xs a) ∙ sym
-    (append_assoc (argument_threatens x) (arguments_threaten (argument_list xs)) (argument_threatens a))
-
-members_last : (xs : List Tree.Member) (m : Tree.Member) → members_threaten (member_list (xs ++ m ∷ []))
-    ≡ members_threaten (member_list xs) ++ member_threatens m
-unfolding members_threaten
-members_last [] m = append-nil (member_threatens m)
-members_last (x ∷ xs) m = ap (λ l. member_threatens x ++ l) (members_last xs m) ∙ sym
-    (append_assoc (member_threatens x) (members_threaten (member_list xs)) (member_threatens m))
-
--- ---- actual parameters and required functions
-
-value_passed : (at : ℕ) (type : DataType) (v : Value) (line : ℕ) (a : Tree.Argument) → by_value at type v line ≡ Yes a
-    → argument_threatens a ≡ value_threatens v
-unfolding by_value argument_threatens
-value_passed at type (SimpleValue e from) line a h = ap argument_threatens
-    (sym (provided_yes (is_assignable from type) NotAssignable at _ a h).1)
-value_passed at (SetType b k o) (SetValue e from) line a h = ap argument_threatens
-    (sym (provided_yes (is_assignable from (SetType b k o)) NotAssignable at _ a h).1)
-value_passed at type (SetValue e from) line a h = absurd (no_yes h)
-value_passed at type (StructureValue e from) line a h = ap argument_threatens
-    (sym (provided_yes (is_assignable from type) NotAssignable at _ a h).1)
-
-variable_passed : (at : ℕ) (type : DataType) (v : Variable) (a : Tree.Argument) → by_variable at type v ≡ Yes a
-    → argument_threatens a ≡ place_threatens v.place ++ whole v.place
-unfolding by_variable argument_threatens
-variable_passed at type v a h =
-    let same_type = if_yes (is_same_type v.type type)
-    (provided (not v.in_packed) PackedVariable at (Tree.ByVariable v.place)) WrongType at a h in
-    ap argument_threatens (sym (provided_yes (not v.in_packed) PackedVariable at
-    (Tree.ByVariable v.place) a same_type.1).1)
-
-routine_passed : (at : ℕ) (sections : Sections) (result : Option DataType) (p : Point) (a : Tree.Argument)
-    → by_routine at sections result p ≡ Yes a → argument_threatens a ≡ []
-unfolding by_routine argument_threatens
-routine_passed at sections result (BlockPoint up (RoutineMeaning h)) a e = ap argument_threatens
-    (sym (provided_yes _ _ at (Tree.ByRoutine h.number up) a e).1)
-routine_passed at sections result (BlockPoint up (RoutineParameterMeaning entry s r)) a e = ap argument_threatens
-    (sym (provided_yes _ _ at (Tree.ByFormal up entry) a e).1)
-routine_passed at sections result p a e = absurd (no_yes e)
-
-looked : (r : Required) (line : ℕ) (v : Value) → look r line ≡ Some v → value_threatens v ≡ []
-unfolding look expr_threatens
-looked required.Eof line v e = ap value_threatens (sym (inside _ v e))
-looked required.Eoln line v e = ap value_threatens (sym (inside _ v e))
-looked r line v e = absurd (none_some e)
-
-applied_threatens : (at : ℕ) (r : Required) (line : ℕ) (x : Tree.Expr × Ordinal)
-    (o : Option (RequiredFunction × Ordinal)) (w : Value) → applied at r line x o ≡ Yes w → value_threatens w
-    ≡ expr_threatens x.0
-unfolding expr_threatens
-applied_threatens at r line x None w e = absurd (no_yes e)
-applied_threatens at r line x (Some f) w e = by (needs_integer r && not (is_same_host x.1.host Integer)) e
-  where
-    by : (b : Bool) → (if b then No WrongType at else Yes (SimpleValue (Tree.Apply f.0 x.0 line) (OrdinalType f.1)))
-        ≡ Yes w → value_threatens w ≡ expr_threatens x.0
-    by true h = absurd (no_yes h)
-    by false h = ap value_threatens (sym (inside_yes _ w h))
-
-required_threatens : (at : ℕ) (r : Required) (line : ℕ) (v w : Value) → required_value at r line v ≡ Yes w
-    → value_threatens w ≡ value_threatens v
-unfolding required_value
-required_threatens at r line v w e = (let x = then_yes (ordinal_of at v) _ w e in applied_threatens at r line x.0
-    (function_of r x.0.1) w x.2 ∙ sym (ordinal_is at v x.0 x.1))
-
--- ---- members of sets
-
-abbrev gathered_threatens : Gathered → Threatened
-gathered_threatens g = members_threaten (member_list g.0)
-
-gathered_both : (at : ℕ) (g : Gathered) (m : TypedMember) (h : Gathered) → gathered at g m ≡ Yes h
-    → gathered_threatens h ≡ gathered_threatens g ++ member_threatens m.0
-unfolding gathered
-gathered_both at (ms, None) (m, o) h e = ap gathered_threatens (sym (inside_yes (ms ++ m ∷ [], Some o) h e))
-    ∙ members_last ms m
-gathered_both at (ms, Some p) (m, o) h e = ap gathered_threatens
-    (sym (provided_yes (is_same_host p.host o.host) WrongType at (ms ++ m ∷ [], Some p) h e).1) ∙ members_last ms m
-
-constructed_threatens : (g : Gathered) → value_threatens (constructed g) ≡ gathered_threatens g
-unfolding constructed set_threatens
-constructed_threatens (ms, None) = refl
-constructed_threatens (ms, Some o) = refl
-
-abbrev member_of : TypedMember → Threatened
-member_of m = member_threatens m.0
-
-single_threatens : (at : ℕ) (v : Value) (line : ℕ) (m : TypedMember) → single at v line ≡ Yes m → member_of m
-    ≡ value_threatens v
-unfolding member_threatens
-single_threatens at v line m e = (let a = then_yes (ordinal_of at v) _ m e in ap member_of
-    (sym (inside_yes (Tree.One a.0.0 line, a.0.1) m a.2)) ∙ sym (ordinal_is at v a.0 a.1))
-
-several_threaten : (first second : ℕ) (v w : Value) (line : ℕ) (m : TypedMember) → several
-    (operands first second) v w line ≡ Yes m → member_of m ≡ value_threatens v ++ value_threatens w
-unfolding member_threatens
-several_threaten first second v w line m e =
-    let a = then_yes (ordinal_of first v) _ m e in
-    let b = then_yes (ordinal_of second w) _ m a.2 in
-    ap member_of (sym (provided_yes _ WrongType second (Tree.Several a.0.0 b.0.0 line, a.0.1) m b.2).1)
-    ∙ ap (λ l. l ++ expr_threatens b.0.0) (sym (ordinal_is first v a.0 a.1)) ∙ ap (λ l. value_threatens v ++ l)
-    (sym (ordinal_is second w b.0 b.1))
+use Rattle.ps_check_expressions.proofs.Equations.{factor_not, member_single, member_several, select_index, select_field}
+use Rattle.ps_check_expressions.proofs.Equations.{select_content, simple_is, term_is, add_term_is, multiply_factor_is}
+use Rattle.ps_check_expressions.proofs.Equations.{variable_is}
+use Rattle.ps_check_laws.specs.Threats.{Threatened, whole, place_threatens, expr_threatens, members_threaten}
+use Rattle.ps_check_laws.specs.Threats.{argument_threatens, arguments_threaten}
+use Rattle.ps_check_laws.proofs.Lists.{then_still, Each}
+use Rattle.ps_check_laws.proofs.Values.{value_threatens, contents_threaten, constant_threatens, negated_threatens}
+use Rattle.ps_check_laws.proofs.Values.{first_term_threatens, added_both, multiplied_both, compared_both, variable_none}
+use Rattle.ps_check_laws.proofs.Values.{element_both, component_same, target_same}
+use Rattle.ps_check_laws.proofs.Additions.{Adds, adds_none, adds_both, adds_as, More, adds_more, adds_all, made_adds}
+use Rattle.ps_check_laws.proofs.Additions.{still_adds, still_more, through_more, each_more, changed_adds}
+use Rattle.ps_check_laws.proofs.Parts.{arguments_last, value_passed, variable_passed, routine_passed, looked}
+use Rattle.ps_check_laws.proofs.Parts.{required_threatens, gathered_threatens, gathered_both, constructed_threatens}
+use Rattle.ps_check_laws.proofs.Parts.{member_of, single_threatens, several_threaten}
 
 abbrev pub place_of : Variable → Threatened
 place_of v = place_threatens v.place

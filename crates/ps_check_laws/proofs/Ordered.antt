@@ -27,7 +27,7 @@ use Rattle.ps_check_laws.proofs.Shown.{split_at}
 use Rattle.ps_check_laws.proofs.Domains.{declarations_length}
 use Rattle.ps_check_laws.proofs.Routines.{same_equal, same_itself, or_true, read, introduced_append, introduced_more}
 use Rattle.ps_check_laws.proofs.Routines.{introduced_last, sp}
-use Rattle.ps_check_laws.proofs.Steps.{points, points_last, points_names_last}
+use Rattle.ps_check_laws.proofs.BlockPoints.{points, points_last, points_names_last}
 use Rattle.ps_check_laws.proofs.Forwards.{and_left, and_right}
 
 -- ---- lists

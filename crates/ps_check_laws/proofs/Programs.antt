@@ -27,7 +27,9 @@ use Rattle.ps_check_laws.specs.Rule.{OneProgramIsRead}
 use Rattle.ps_check_laws.proofs.Lists.{none_some, inside, there_is, take_next, take_all, Each}
 use Rattle.ps_check_laws.proofs.Shown.{differ, closed, shown, shown_from, shown_all, shown_closed, all_some}
 use Rattle.ps_check_laws.proofs.Rebuilt.{equal_true}
-use Rattle.ps_check_laws.proofs.Recovered.{BlockRecovers, RoutineRecovers, recovered, tree_parts}
+use Rattle.ps_check_laws.proofs.Recovered.{recovered}
+use Rattle.ps_check_laws.proofs.ByParts.{tree_parts}
+use Rattle.ps_check_laws.proofs.RecoveredRoutines.{BlockRecovers, RoutineRecovers}
 
 -- ---- the limits of a program
 

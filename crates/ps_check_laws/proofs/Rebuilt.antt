@@ -19,7 +19,7 @@ use Rattle.ps_check_laws.proofs.Lists.{take_next, compare, difference, has_appen
 use Rattle.ps_check_laws.proofs.Shown.{split_at, take_add, differ, opened, closed}
 use Rattle.ps_check_laws.proofs.Routines.{sp, introduced_last, introduced_more, introduced_append, names_last, own}
 use Rattle.ps_check_laws.proofs.Routines.{counts, counted_none, counted_last}
-use Rattle.ps_check_laws.proofs.Steps.{points}
+use Rattle.ps_check_laws.proofs.BlockPoints.{points}
 use Rattle.ps_check_laws.proofs.Forwards.{and_left, and_right}
 use Rattle.ps_check_laws.proofs.Ordered.{has_at, before, Point, new, old, routed}
 

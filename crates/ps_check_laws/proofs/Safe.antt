@@ -24,7 +24,7 @@ use Rattle.ps_check_laws.proofs.Shown.{differ}
 use Rattle.ps_check_laws.proofs.Rebuilt.{equal_true}
 use Rattle.ps_check_laws.proofs.Threatened.{what_is_threatened_is_changed}
 use Rattle.ps_check_laws.proofs.Controls.{IsKept, AreKept, loops_kept}
-use Rattle.ps_check_laws.proofs.Paths.{checked_programs_are_read}
+use Rattle.ps_check_laws.proofs.Accepted.{checked_programs_are_read}
 
 -- ---- lists
 

@@ -1,531 +1,70 @@
 -- The routines of a block: each defines its name or has the heading that did, and its block is read where the points
 -- before it are known.
-use Rattle.std.proofs.Common.{◌≡◌, ℕ, zero, suc, ◌+◌, ◌<◌, ◌≤◌, Bool, true, false, ◌&&◌, ◌||◌, if◌then◌else◌, List, []}
-use Rattle.std.proofs.Common.{◌∷◌, ◌++◌, length, map, take, nat_lt, Option, Some, None, is_none, option_map}
-use Rattle.std.proofs.Common.{option_and_then, get_or, slice_get, slice_set, refl, sym, ap, ◌∙◌, subst, append_assoc}
-use Rattle.std.proofs.Common.{append-nil, length-append, arith}
-use Rattle.std.proofs.lemmas.List.{map-append}
-use Rattle.std.proofs.lemmas.Option.{slice_get-map}
-use Rattle.ps_text.specs.declared.Span.{Span}
+use Rattle.std.proofs.Common.{◌≡◌, ℕ, zero, suc, ◌+◌, ◌<◌, ◌≤◌, Bool, true, false, ◌||◌, if◌then◌else◌, List, [], ◌∷◌}
+use Rattle.std.proofs.Common.{◌++◌, length, map, take, Option, Some, None, is_none, option_map, option_and_then, get_or}
+use Rattle.std.proofs.Common.{slice_get, slice_set, refl, sym, ap, ◌∙◌, subst, append_assoc, append-nil, length-append}
+use Rattle.std.proofs.Common.{arith}
 use Rattle.ps_syntax.specs.declared.program.Heading as syntax
 use Rattle.ps_syntax.specs.declared.program.Block as syntax_block
 use Rattle.ps_syntax.specs.declared.program.Routine.{Routine, out-Routine}
-use Rattle.ps_tree.specs.Types.{DataType}
 use Rattle.ps_tree.specs.Tree as Tree
 use Rattle.ps_check_judgement.specs.declared.change.Change.{Change}
 use Rattle.ps_check_judgement.specs.declared.refusal.Rule.TheVariants.{Limit, NoResultAssigned}
 use Rattle.ps_check_judgement.specs.Judged.{Yes, provided, steps}
 use Rattle.ps_check_judgement.proofs.Binds.{no_yes, inside_yes, then_yes, provided_yes}
-use Rattle.ps_check_names.specs.Spelling.{spelled, same, has, place}
+use Rattle.ps_check_names.specs.Spelling.{spelled, has, place}
 use Rattle.ps_check_names.specs.Regions.{Region, BlockRegion, BlockPoint, Meaning, RoutineMeaning, Heading, Context}
 use Rattle.ps_check_names.specs.Regions.{find, find_past}
-use Rattle.ps_check_names.specs.Constants.{ConstantValue, OrdinalConstant, TextConstant}
 use Rattle.ps_check_declarations.specs.Denoters.{Frame}
-use Rattle.ps_check_declarations.specs.Declarations.{meaning_of_constant}
-use Rattle.ps_check_declarations.specs.Headings as headings
-use Rattle.ps_check_declarations.specs.Headings.{heading, section_list, formal_meanings}
-use Rattle.ps_check.specs.Readings.{Gathered, Start, Done, Routines, RoutineReading, heading_name, heading_list}
-use Rattle.ps_check.specs.Forwards.{may_complete, add_routine, add_routines, is_vacant, is_open, is_same_kind}
-use Rattle.ps_check.specs.Forwards.{is_waiting}
-use Rattle.ps_check.specs.Entries.{first_entry, start}
-use Rattle.ps_check.specs.Blocks.{routine_tree, is_small_routine, finished, known_as, heading_at, hidden_in_heading}
-use Rattle.ps_check.specs.Blocks.{new_heading, headed, introduce, introduced as introduced_to, read_block}
-use Rattle.ps_check.specs.Blocks.{one_routine, block, routine}
+use Rattle.ps_check_declarations.specs.Headings.{heading}
+use Rattle.ps_check.specs.Readings.{Gathered, Start, Done, Routines, heading_name}
+use Rattle.ps_check.specs.Forwards.{add_routine, add_routines}
+use Rattle.ps_check.specs.Entries.{start}
+use Rattle.ps_check.specs.Blocks.{routine_tree, is_small_routine, finished, known_as, heading_at, headed, introduce}
+use Rattle.ps_check.specs.Blocks.{introduced as introduced_to, read_block, one_routine, block, routine}
 use Rattle.ps_check.specs.Changes.{assigns, outward}
 use Rattle.ps_check.specs.Paths.{routine_block}
-use Rattle.ps_check_laws.specs.Option.{◌>>=◌}
-use Rattle.ps_check_laws.specs.Controls.{changes_by, changes_from}
-use Rattle.ps_check_laws.specs.Definitions.{Declaration, Declarations, OfFile, OfFormal, OfConstant, OfEnumeration}
-use Rattle.ps_check_laws.specs.Definitions.{OfType, OfVariable, Definition, OfDeclaration, OfRoutine, InPart, numbered}
-use Rattle.ps_check_laws.specs.Definitions.{formal_points, formal_declarations, routine_name, routine_heading}
-use Rattle.ps_check_laws.specs.Definitions.{routine_names, introduced, of_routine, point, names_of, as_routine}
+use Rattle.ps_check_laws.specs.Controls.{changes_by}
+use Rattle.ps_check_laws.specs.Definitions.{Declarations, Definition, OfRoutine, numbered, formal_points}
+use Rattle.ps_check_laws.specs.Definitions.{formal_declarations, routine_name, routine_heading, routine_names}
+use Rattle.ps_check_laws.specs.Definitions.{introduced, names_of}
 use Rattle.ps_check_laws.specs.Denoting.{counted, headings_within}
-use Rattle.ps_check_laws.specs.Meanings.{Declares, Defines, IsHeading}
-use Rattle.ps_check_declarations.specs.Points as points_of
-use Rattle.ps_check_laws.proofs.Lists.{or_false, none_some, inside, never, compare, get_below, there_is, get_left}
-use Rattle.ps_check_laws.proofs.Lists.{get_stays, get_at, get_end, take_whole, set_same, set_other, set_length, Each}
-use Rattle.ps_check_laws.proofs.Lists.{each_at, has_append, there_place, new_place}
+use Rattle.ps_check_laws.proofs.Lists.{none_some, inside, never, compare, get_below, there_is, get_left, get_end}
+use Rattle.ps_check_laws.proofs.Lists.{take_whole, set_same, set_other, set_length, Each, there_place, new_place}
 use Rattle.ps_check_laws.specs.Counts.{sum, routine_domains, block_domains}
 use Rattle.ps_check_laws.proofs.Drawn.{inner_domains as inner_drawn, domains_are as drawn_are, sum_last}
 use Rattle.ps_check_laws.proofs.Found.{found_at}
-use Rattle.ps_check_laws.proofs.Declared.{Standing, Stand, one_more_stands}
-use Rattle.ps_check.specs.RegionNames.{AreApart}
+use Rattle.ps_check_laws.proofs.Declared.{Standing}
 use Rattle.ps_check_laws.proofs.Apart.{start_apart}
-use Rattle.ps_check_laws.proofs.Formals.{IsPlain, formals_plain, points_told, Begins, begun, formals_stand}
-use Rattle.ps_check_laws.proofs.Routines.{placed, same_equal, same_itself, or_true, read, heading_named, count_is}
-use Rattle.ps_check_laws.proofs.Routines.{inner_count, sp, introduced_last, own, counts, counted_last}
-
--- ---- what is gathered
-
--- the routines that have their blocks keep them
-abbrev pub Keeps : Gathered → Gathered → Type 0
-Keeps g h = (n : ℕ) (x : Tree.Routine) → slice_get g.routines n ≡ Some (Some x) → slice_get h.routines n ≡ Some (Some x)
-
--- the routines with lower numbers are as they were
-abbrev pub Same : ℕ → Gathered → Gathered → Type 0
-Same limit g h = (n : ℕ) → n < limit → slice_get h.routines n ≡ slice_get g.routines n
-
--- more domain types
-abbrev pub Longer : Gathered → Gathered → Type 0
-Longer g h = (more : List DataType) × (h.domains ≡ g.domains ++ more)
-
-pub longer_both : (g h j : Gathered) → Longer g h → Longer h j → Longer g j
-longer_both g h j a b = (a.0 ++ b.0, b.1 ∙ ap (λ l. l ++ b.0) a.1 ∙ append_assoc g.domains a.0 b.0)
-
--- n further headings
-pub record Grown (g h : Gathered) (n m : ℕ) : Type 0 where
-  pub count : length h.routines ≡ length g.routines + n
-  pub keeps : Keeps g h
-  pub lower : Same (length g.routines) g h
-  pub domains : Longer g h
-  pub drawn : length h.domains ≡ length g.domains + m
-
-or_vacant : Option (Option Tree.Routine) → Option Tree.Routine
-or_vacant None = None
-or_vacant (Some o) = o
-
-vacant_is : (o : Option (Option Tree.Routine)) → is_vacant o ≡ true → o ≡ Some None
-vacant_is (Some None) e = refl
-vacant_is (Some (Some x)) e = never e
-vacant_is None e = never e
-
-pub not_both : (o : Option (Option Tree.Routine)) (x : Tree.Routine) → o ≡ Some None → o ≡ Some (Some x) → ⊥
-unfolding or_vacant
-not_both o x e f = none_some (ap or_vacant (sym e ∙ f))
-
-pub none_stays : {A B : Type 0} (g : A → B) (o : Option A) → is_none (option_map g o) ≡ is_none o
-none_stays g None = refl
-none_stays g (Some x) = refl
-
--- ---- no declaration is a routine
-
-constant_plain : (v : ConstantValue) → IsPlain (meaning_of_constant v)
-unfolding meaning_of_constant
-constant_plain (OrdinalConstant o n) = tt
-constant_plain (TextConstant w) = tt
-
-pub plain_not : (m : Meaning) (h : Heading) → m ≡ RoutineMeaning h → IsPlain m → ⊥
-plain_not m h e k = subst IsPlain e k
-
-pub declares_plain : (f : Frame) (first : ℕ) (before : List Meaning) (d : Declaration) (m : Meaning)
-    → Declares f first before d m → IsPlain m
-declares_plain f first before (OfFile name) m k = subst IsPlain (sym k.1) tt
-declares_plain f first before (OfFormal x i name) m k = each_at IsPlain
-    (formal_meanings (first_entry k.0.result) k.0.sections) i m
-    (formals_plain (first_entry k.0.result) k.0.sections) k.2
-declares_plain f first before (OfConstant c) m k = subst IsPlain (sym k.2) (constant_plain k.0)
-declares_plain f first before (OfEnumeration at count i name) m k = subst IsPlain (sym k) tt
-declares_plain f first before (OfType t) m k = subst IsPlain (sym k.2) tt
-declares_plain f first before (OfVariable v i name) m k = subst IsPlain (sym k.5) tt
-
-abbrev pub heading_or : Heading → Meaning → Heading
-heading_or h (RoutineMeaning g) = g
-heading_or h m = h
-
-module _ (text : List ℕ) where
-  -- a routine's name is among those of the routines
-  among_routines : (I : List InPart) (i j : ℕ) (q : Routine) (s : List ℕ) → slice_get (map of_routine I) i ≡ Some
-      (OfRoutine j q) → same s (sp text q) ≡ true → has (routine_names text I) s ≡ true
-  unfolding routine_names
-  among_routines [] i j q s e k = absurd (none_some e)
-  among_routines (y ∷ I) zero j q s e k =
-      let is : y ≡ (j, q) = inside y (j, q) (ap (λ (o : Option Definition). o >>= as_routine) e) in
-      ap (λ (z : InPart). same s (spelled text (routine_name z.1)) || has (routine_names text I) s) is
-      ∙ ap (λ b. b || has (routine_names text I) s) k
-  among_routines (y ∷ I) (suc i) j q s e k = ap (λ b. same s (sp text y.1) || b) (among_routines I i j q s e k)
-      ∙ or_true (same s (sp text y.1))
-
-  among : (D : Declarations) (I : List InPart) (i j : ℕ) (q : Routine) (s : List ℕ) → slice_get
-      (map OfDeclaration D ++ map of_routine I) i ≡ Some (OfRoutine j q) → same s (sp text q) ≡ true → has
-      (routine_names text I) s ≡ true
-  among [] I i j q s e k = among_routines I i j q s e k
-  among (d ∷ D) I zero j q s e k = absurd (none_some (ap (λ (o : Option Definition). o >>= as_routine) e))
-  among (d ∷ D) I (suc i) j q s e k = among D I i j q s e k
-
-  -- all points of a block so far
-  abbrev pub points : Declarations → List InPart → List Definition
-  points D I = map OfDeclaration D ++ map of_routine I
-
-  -- a routine of the points is one that is introduced
-  in_routines : (I : List InPart) (i j : ℕ) (q : Routine) → slice_get (map of_routine I) i ≡ Some (OfRoutine j q)
-      → (a : ℕ) × (slice_get I a ≡ Some (j, q))
-  in_routines [] i j q e = absurd (none_some e)
-  in_routines (y ∷ I) zero j q e = (0, ap (λ (o : Option Definition). o >>= as_routine) e)
-  in_routines (y ∷ I) (suc i) j q e = let r = in_routines I i j q e in (suc r.0, r.1)
-
-  pub in_part : (D : Declarations) (I : List InPart) (i j : ℕ) (q : Routine) → slice_get (points D I) i ≡ Some
-      (OfRoutine j q) → (a : ℕ) × (slice_get I a ≡ Some (j, q))
-  in_part [] I i j q e = in_routines I i j q e
-  in_part (d ∷ D) I zero j q e = absurd (none_some (ap (λ (o : Option Definition). o >>= as_routine) e))
-  in_part (d ∷ D) I (suc i) j q e = in_part D I i j q e
-
-  pub points_last : (D : Declarations) (I : List InPart) (k : ℕ) (x : Routine) → points D (I ++ (k, x) ∷ [])
-      ≡ points D I ++ OfRoutine k x ∷ []
-  points_last D I k x = ap (λ l. map OfDeclaration D ++ l) (map-append of_routine I ((k, x) ∷ [])) ∙ sym
-      (append_assoc (map OfDeclaration D) (map of_routine I) (OfRoutine k x ∷ []))
-
-  pub points_names : (D : Declarations) (I : List InPart) → names_of text (points D I) ≡ names_of text
-      (map OfDeclaration D) ++ names_of text (map of_routine I)
-  unfolding names_of
-  points_names D I = map-append (λ d. spelled text (point d)) (map OfDeclaration D) (map of_routine I)
-
-  pub routines_names : (I : List InPart) → names_of text (map of_routine I) ≡ routine_names text I
-  unfolding names_of routine_names
-  routines_names [] = refl
-  routines_names (y ∷ I) = ap (λ l. sp text y.1 ∷ l) (routines_names I)
-
-  pub points_names_last : (ds : List Definition) (k : ℕ) (x : Routine) → names_of text (ds ++ OfRoutine k x ∷ [])
-      ≡ names_of text ds ++ sp text x ∷ []
-  unfolding names_of
-  points_names_last ds k x = map-append (λ d. spelled text (point d)) ds (OfRoutine k x ∷ [])
-
-  pub names_length : (ds : List Definition) → length (names_of text ds) ≡ length ds
-  unfolding names_of
-  names_length [] = refl
-  names_length (d ∷ ds) = ap suc (names_length ds)
-
-  -- a name that no point has is not among the routines'
-  not_routine : (D : Declarations) (I : List InPart) (s : List ℕ) → has (names_of text (points D I)) s ≡ false → has
-      (routine_names text I) s ≡ false
-  not_routine D I s e =
-      let a = names_of text (map OfDeclaration D) in
-      (or_false (has a s) (has (routine_names text I) s)
-      (sym (has_append a (routine_names text I) s) ∙ ap (λ l. has l s)
-      (sym (points_names D I ∙ ap (λ l. a ++ l) (routines_names I))) ∙ e)).1
-
-  name_there : (ds : List Definition) (i : ℕ) (d : Definition) (s : List ℕ) → slice_get ds i ≡ Some d → slice_get
-      (names_of text ds) i ≡ Some s → s ≡ spelled text (point d)
-  unfolding names_of
-  name_there ds i d s e g = inside s (spelled text (point d))
-      (sym g ∙ slice_get-map (λ d. spelled text (point d)) ds i ∙ ap (option_map (λ d. spelled text (point d))) e)
-
--- names are added at the end
-added_more : (text : List ℕ) (x : RoutineReading) (xs : List (List ℕ)) → (more : List (List ℕ))
-    × (add_routine text xs x ≡ xs ++ more)
-unfolding add_routine
-added_more text x xs = at (is_none x.heading || has xs (spelled text x.name))
-  where
-    at : (b : Bool) → (more : List (List ℕ)) × ((if b then xs else xs ++ spelled text x.name ∷ []) ≡ xs ++ more)
-    at true = ([], sym (append-nil xs))
-    at false = (spelled text x.name ∷ [], refl)
-
-pub all_more : (text : List ℕ) (rs : List RoutineReading) (xs : List (List ℕ)) → (more : List (List ℕ))
-    × (add_routines text xs rs ≡ xs ++ more)
-all_more text [] xs = ([], sym (append-nil xs))
-all_more text (r ∷ rs) xs =
-    let a = added_more text r xs in
-    let b = all_more text rs (add_routine text xs r) in
-    (a.0 ++ b.0, b.1 ∙ ap (λ l. l ++ b.0) a.1 ∙ append_assoc xs a.0 b.0)
-
--- a spelling that occurs at a place is present
-has_at : (xs : List (List ℕ)) (i : ℕ) (s : List ℕ) → slice_get xs i ≡ Some s → has xs s ≡ true
-has_at [] i s e = absurd (none_some e)
-has_at (x ∷ xs) zero s e = ap (λ b. b || has xs s) (ap (same s) (inside x s e) ∙ same_itself s)
-has_at (x ∷ xs) (suc i) s e = ap (λ b. same s x || b) (has_at xs i s e) ∙ or_true (same s x)
-
--- ---- what the routines change
-
--- what the block of each changes, one after the other
-abbrev pub changes_of : List (List Change) → List Routine → List Change
-changes_of [] rs = []
-changes_of (p ∷ ps) [] = []
-changes_of (p ∷ ps) (r ∷ rs) = changes_by p (routine_block r) ++ changes_of ps rs
-
-part_there : (done ps : List (List Change)) (p : List Change) → get_or (done ++ p ∷ ps) (length done) [] ≡ p
-part_there [] ps p = refl
-part_there (d ∷ done) ps p = part_there done ps p
-
-parts_told : (done ps : List (List Change)) (rs : List Routine) → length ps ≡ length rs → changes_from
-    (λ k. get_or (done ++ ps) k []) (length done) rs ≡ changes_of ps rs
-unfolding changes_from
-parts_told done [] [] e = refl
-parts_told done [] (r ∷ rs) e = absurd (omega (arith, e))
-parts_told done (p ∷ ps) [] e = absurd (omega (arith, e))
-parts_told done (p ∷ ps) (r ∷ rs) e =
-    let longer : (done ++ p ∷ []) ++ ps ≡ done ++ p ∷ ps = append_assoc done (p ∷ []) ps in
-    let l : length (done ++ p ∷ []) ≡ length done + 1 = length-append done (p ∷ []) in
-    let rest = parts_told (done ++ p ∷ []) ps rs (omega (arith, e)) in
-    ap (λ c. changes_by c (routine_block r) ++ changes_from (λ k. get_or (done ++ p ∷ ps) k []) (length done + 1) rs)
-    (part_there done ps p)
-    ∙ ap (λ n. changes_by p (routine_block r) ++ changes_from (λ k. get_or (done ++ p ∷ ps) k []) n rs) (sym l)
-    ∙ ap (λ l. changes_by p (routine_block r) ++ changes_from (λ k. get_or l k []) (length (done ++ p ∷ [])) rs)
-    (sym longer)
-    ∙ ap (λ l. changes_by p (routine_block r) ++ l) rest
-
-pub changes_told : (parts : List (List Change)) (rs : List Routine) → length parts ≡ length rs → changes_from
-    (λ k. get_or parts k []) 0 rs ≡ changes_of parts rs
-changes_told parts rs e = parts_told [] parts rs e
-
-pub part_at : (parts : List (List Change)) (k : ℕ) (p : List Change) → slice_get parts k ≡ Some p → get_or parts k []
-    ≡ p
-part_at [] k p e = absurd (none_some e)
-part_at (x ∷ xs) zero p e = inside x p e
-part_at (x ∷ xs) (suc k) p e = part_at xs k p e
-
--- ---- the blocks of the routines
-
--- a block begins with its first points, which mean what they declare
-pub record Ready (text : List ℕ) (outer : List Region) (s : Start) (D : Declarations) : Type 0 where
-  pub names : s.names ≡ names_of text (map OfDeclaration D)
-  pub apart : AreApart s.names
-  pub stands : (number : ℕ) (names : List (List ℕ)) (first : ℕ) (numbers : ℕ → ℕ) → Stand (record {
-    text = text;
-    routine = number;
-    names = names;
-    begun = [];
-    outer = outer;
-  }) first numbers D s.known
-
-abbrev pub BlockGrows : Context → syntax_block.Block → Type 0
-BlockGrows c b = (outer : List Region) (s : Start) (g : Gathered) (d : Done) (D : Declarations) → Ready c.text outer s D
-    → block c b outer s g ≡ Yes d → Grown g d.gathered (headings_within c.text b) (block_domains b)
-
-abbrev pub RoutineGrows : Context → Routine → Type 0
-RoutineGrows c x = (b : syntax_block.Block) → routine_block x ≡ Some b → BlockGrows c b
-
-pub formals_names : (text : List ℕ) (x : syntax.Heading) (n : ℕ) (names : List Span) → names_of text
-    (map OfDeclaration (numbered (OfFormal x) n names)) ≡ map (spelled text) names
-unfolding names_of
-formals_names text x n [] = refl
-formals_names text x n (name ∷ names) = ap (λ l. spelled text name ∷ l) (formals_names text x (n + 1) names)
+use Rattle.ps_check_laws.proofs.Formals.{Begins, begun, formals_stand}
+use Rattle.ps_check_laws.proofs.Routines.{placed, same_itself, or_true, read, heading_named, count_is, inner_count, sp}
+use Rattle.ps_check_laws.proofs.Routines.{own, counts, counted_last}
+use Rattle.ps_check_laws.proofs.GatheredSoFar.{Keeps, Same, Longer, longer_both, not_both, changes_of, Ready}
+use Rattle.ps_check_laws.proofs.GatheredSoFar.{RoutineGrows}
+use Rattle.ps_check_laws.proofs.BlockPoints.{points, names_length, all_more, has_at, formals_names}
+use Rattle.ps_check_laws.proofs.Headed as by_heading
+use Rattle.ps_check_laws.proofs.Headed.{completing, introducing}
 
 module _ (c : Context) (number : ℕ) (names : List (List ℕ)) (outer : List Region) (first : ℕ) (chain : List ℕ) (D : Declarations) (base drawn : ℕ) (all : List Routine) where
-  abbrev pub f : Frame
+  abbrev f : Frame
   f = record { text = c.text; routine = number; names = names; begun = []; outer = outer }
 
   abbrev numbers : ℕ → ℕ
   numbers k = base + counted c.text [] (counts c.text (take k all))
 
-  abbrev pub before : List Routine → List Definition
+  abbrev before : List Routine → List Definition
   before done = points c.text D (introduced c.text done)
 
-  -- what holds before a routine, where those before it are done
-  pub record At (done : List Routine) (r : Routines) : Type 0 where
-    pub stands : Standing f first numbers (before done) r.known
-    pub count : length r.gathered.routines ≡ base + counted c.text [] (counts c.text done)
-    pub drawn_so : length r.gathered.domains ≡ drawn + sum (map routine_domains done)
+  -- what is said of headings, of this block's
+  abbrev At : List Routine → Routines → Type 0
+  At done r = by_heading.At c number names outer first chain D base drawn all done r
 
-  -- a heading is that of a name before, which the routine completes, or it is new
-  pub data How (done : List Routine) (x : Routine) (r s : Routines) (index : ℕ) (by : Routine) (heading : Heading) : Type 0 where
-    completing : has (names_of c.text (before done)) (sp c.text x) ≡ true → r ≡ s → is_same_kind (routine c x) heading
-        ≡ true → may_complete (routine c x) ≡ true → How done x r s index by heading
-    introducing : by ≡ x → index ≡ length r.known → s.known ≡ r.known ++ RoutineMeaning heading ∷ [] → heading.number
-        ≡ length r.gathered.routines → How done x r s index by heading
+  abbrev HasHeading : List Routine → Routine → Routines → Routines → ℕ → Type 0
+  HasHeading done x r s index = by_heading.HasHeading c number names outer first chain D base drawn all done x r s index
 
-  -- the heading of a routine is there
-  pub record HasHeading (done : List Routine) (x : Routine) (r s : Routines) (index : ℕ) : Type 0 where
-    pub stands : Standing f first numbers (before (done ++ x ∷ [])) s.known
-    pub count : length s.gathered.routines ≡ length r.gathered.routines + own c.text (introduced c.text done) x
-    pub keeps : Keeps r.gathered s.gathered
-    pub lower : Same (length r.gathered.routines) r.gathered s.gathered
-    pub domains : s.gathered.domains ≡ r.gathered.domains
-    pub changes : s.changes ≡ r.changes
-    pub number_in_part : ℕ
-    pub by : Routine
-    pub at : slice_get (before (done ++ x ∷ [])) index ≡ Some (OfRoutine number_in_part by)
-    pub heading : Heading
-    pub said : syntax.Heading
-    pub known_there : slice_get s.known index ≡ Some (RoutineMeaning heading)
-    pub numbered_so : heading.number ≡ numbers number_in_part
-    pub is_said : routine_heading by ≡ Some said
-    pub known : List Meaning
-    pub is : IsHeading f known said heading
-    pub named : sp c.text by ≡ sp c.text x
-    pub vacant : slice_get s.gathered.routines heading.number ≡ Some None
-    pub how : How done x r s index by heading
-    pub names_so : names_of c.text (before (done ++ x ∷ []))
-        ≡ (if has (names_of c.text (before done)) (sp c.text x) then names_of c.text (before done) else names_of c.text
-        (before done) ++ sp c.text x ∷ [])
-
-  left : (a b : Bool) → (a && b) ≡ true → a ≡ true
-  left true b e = refl
-  left false b e = never e
-
-  right : (a b : Bool) → (a && b) ≡ true → b ≡ true
-  right true b e = e
-  right false b e = never e
-
-  module _ (done : List Routine) (x : Routine) (r s : Routines) (at : At done r) (index : ℕ) (found : place names (sp c.text x) ≡ Some index) where
-    -- a name that is present already
-    record Waits (m : Meaning) : Type 0 where
-      heading : Heading
-      is : m ≡ RoutineMeaning heading
-      vacant : slice_get r.gathered.routines heading.number ≡ Some None
-      alike : is_same_kind (routine c x) heading ≡ true
-      may : may_complete (routine c x) ≡ true
-
-    waiting_at : (m : Meaning) → is_waiting r.gathered (routine c x) m ≡ true → Waits m
-    unfolding is_waiting
-    waiting_at (RoutineMeaning h) e =
-        let rest = right (may_complete (routine c x)) (is_open r.gathered h && is_same_kind (routine c x) h) e in
-        record {
-          heading = h;
-          is = refl;
-          vacant = vacant_is (slice_get r.gathered.routines h.number)
-              (left (is_open r.gathered h) (is_same_kind (routine c x) h) rest);
-          alike = right (is_open r.gathered h) (is_same_kind (routine c x) h) rest;
-          may = left (may_complete (routine c x)) (is_open r.gathered h && is_same_kind (routine c x) h) e;
-        }
-    waiting_at m e = never e
-
-    old_at : (d : Definition) (m : Meaning) → slice_get (before done) index ≡ Some d → slice_get r.known index ≡ Some m
-        → Defines f first numbers (take index r.known) d m → is_waiting r.gathered (routine c x) m ≡ true → same
-        (sp c.text x) (spelled c.text (point d)) ≡ true
-        → has (names_of c.text (before done)) (sp c.text x) ≡ true → HasHeading done x r r index
-    old_at (OfDeclaration y) m e g defines w alike here = absurd
-        (plain_not m (waiting_at m w).heading (waiting_at m w).is
-        (declares_plain f first (take index r.known) y m defines))
-    old_at (OfRoutine j q) m e g defines w alike here =
-        let I = introduced c.text done in
-        let waits = waiting_at m w in
-        let there : has (routine_names c.text I) (sp c.text x) ≡ true = among c.text D I index j q (sp c.text x) e alike
-        in
-        let kept : introduced c.text (done ++ x ∷ []) ≡ I = introduced_last c.text done x
-        ∙ ap (λ b. if b then I else I ++ (length done, x) ∷ []) there in
-        let same_heading : waits.heading ≡ defines.0 = ap (heading_or defines.0) (sym waits.is ∙ defines.2) in
-        record {
-          stands = subst (λ l. Standing f first numbers (points c.text D l) r.known) (sym kept) at.stands;
-          count = (let z : length r.gathered.routines ≡ length r.gathered.routines + 0 = omega arith in z)
-              ∙ ap (λ b. length r.gathered.routines + (if b then 0 else 1)) (sym there);
-          keeps = λ n y k. k;
-          lower = λ n l. refl;
-          domains = refl;
-          changes = refl;
-          number_in_part = j;
-          by = q;
-          at = ap (λ l. slice_get (points c.text D l) index) kept ∙ e;
-          heading = defines.0;
-          said = defines.1;
-          known_there = g ∙ ap (λ y. Some y) defines.2;
-          numbered_so = defines.3;
-          is_said = defines.4;
-          known = take index r.known;
-          is = defines.5;
-          named = sym (same_equal (sp c.text x) (sp c.text q) alike);
-          vacant = ap (λ (h : Heading). slice_get r.gathered.routines h.number) (sym same_heading) ∙ waits.vacant;
-          how = completing here refl (ap (is_same_kind (routine c x)) (sym same_heading) ∙ waits.alike) waits.may;
-          names_so = ap (λ l. names_of c.text (points c.text D l)) kept
-              ∙ ap (λ b. if b then names_of c.text (before done) else names_of c.text (before done) ++ sp c.text x ∷ [])
-              (sym here);
-        }
-
-    old : (more : List (List ℕ)) → names ≡ names_of c.text (before done) ++ more → has (names_of c.text (before done))
-        (sp c.text x) ≡ true → introduce f (routine c x) r (slice_get r.known index) ≡ Yes s
-        → HasHeading done x r s index
-    unfolding introduce
-    old more whole there e =
-        let st = there_place 0 (names_of c.text (before done)) more (sp c.text x) there in
-        let same_index : st.index ≡ index = (let z : st.index ≡ 0 + st.index = omega arith in z) ∙ inside
-        (0 + st.index) index (sym st.found ∙ ap (λ l. place l (sp c.text x)) (sym whole) ∙ found) in
-        let below = st.below in
-        let long = names_length c.text (before done) in
-        let many = at.stands.many in
-        let m = there_is r.known index (omega (arith, below, long, many, same_index)) in
-        let d = there_is (before done) index (omega (arith, below, long, same_index)) in
-        let waits = provided_yes (is_waiting r.gathered (routine c x) m.0) _ _ r s
-        (ap (introduce f (routine c x) r) (sym m.1) ∙ e) in
-        let name : st.name ≡ spelled c.text (point d.0) = name_there c.text (before done) index d.0 st.name d.1
-        (ap (slice_get (names_of c.text (before done))) (sym same_index) ∙ st.there) in
-        subst (λ y. HasHeading done x r y index) waits.1
-        (old_at d.0 m.0 d.1 m.1 (at.stands.are index d.0 m.0 d.1 m.1) waits.0
-        (ap (same (sp c.text x)) (sym name) ∙ st.alike) there)
-
-    -- a new name
-    new_at : (xh : syntax.Heading) → routine_heading x ≡ Some xh → (rest : List Routine) → all ≡ done ++ x ∷ rest → has
-        (names_of c.text (before done)) (sp c.text x) ≡ false → index ≡ length r.known → new_heading f
-        (is_none (routine c x).block) r xh ≡ Yes s
-        → HasHeading done x r s index
-    unfolding new_heading formal_points
-    new_at xh is_said rest split new last e =
-        let I = introduced c.text done in
-        let k = length done in
-        let n = then_yes (provided (nat_lt (length r.gathered.routines) 1048576) Limit (heading_name xh).from
-        (length r.gathered.routines)) _ s e in
-        let next = provided_yes (nat_lt (length r.gathered.routines) 1048576) Limit (heading_name xh).from
-        (length r.gathered.routines) n.0 n.1 in
-        let g = then_yes ((heading f r.known xh).1 (hidden_in_heading f xh)) _ s n.2 in
-        let h : Heading = record {
-          number = n.0;
-          at = (heading_name xh).from;
-          sections = section_list g.0.0;
-          result = g.0.1;
-          names = map (spelled c.text) (points_of.all (map (headings.section_points f r.known) (heading_list xh)));
-          is_forward = is_none (routine c x).block;
-        } in
-        let made : Routines = record {
-          known = r.known ++ RoutineMeaning h ∷ [];
-          changes = r.changes;
-          gathered = record {
-            domains = r.gathered.domains;
-            routines = r.gathered.routines ++ None ∷ [];
-          };
-        } in
-        let is_heading : IsHeading f r.known xh h = record {
-          said = g.0;
-          reading = g.1;
-          at = refl;
-          sections = refl;
-          result = refl;
-          names = ap (map (spelled c.text)) (points_told f r.known (heading_list xh));
-        } in
-        let number_is : h.number ≡ numbers k = sym next.1 ∙ at.count
-        ∙ ap (λ l. base + counted c.text [] (counts c.text l))
-        (sym (ap (take k) split ∙ take_whole done (x ∷ rest))) in
-        let absent = not_routine c.text D I (sp c.text x) new in
-        let grows : introduced c.text (done ++ x ∷ []) ≡ I ++ (k, x) ∷ [] = introduced_last c.text done x
-        ∙ ap (λ b. if b then I else I ++ (k, x) ∷ []) absent in
-        let longer : before (done ++ x ∷ []) ≡ before done ++ OfRoutine k x ∷ [] = ap (points c.text D) grows
-        ∙ points_last c.text D I k x in
-        let made_is : made ≡ s = inside_yes made s g.2 in
-        let result : HasHeading done x r made index = record {
-          stands = subst (λ l. Standing f first numbers l made.known) (sym longer)
-              (one_more_stands f first numbers (before done) r.known (OfRoutine k x) (RoutineMeaning h) at.stands (
-                h,
-                xh,
-                refl,
-                number_is,
-                is_said,
-                is_heading,
-                ap is_none (read c x).block_is ∙ none_stays (block c)
-                    (routine_block x),
-              ));
-          count = length-append r.gathered.routines (None ∷ [])
-              ∙ ap (λ b. length r.gathered.routines + (if b then 0 else 1)) (sym absent);
-          keeps = λ j y z. get_stays r.gathered.routines (None ∷ []) j (Some y) z;
-          lower = λ n l. get_left r.gathered.routines (None ∷ []) n l;
-          domains = refl;
-          changes = refl;
-          number_in_part = k;
-          by = x;
-          at = ap (λ l. slice_get l index) longer ∙ ap (slice_get (before done ++ OfRoutine k x ∷ []))
-              (last ∙ at.stands.many) ∙ get_at (before done) (OfRoutine k x) [];
-          heading = h;
-          said = xh;
-          known_there = ap (slice_get (r.known ++ RoutineMeaning h ∷ [])) last ∙ get_at r.known (RoutineMeaning h) [];
-          numbered_so = number_is;
-          is_said = is_said;
-          known = r.known;
-          is = is_heading;
-          named = refl;
-          vacant = ap (slice_get (r.gathered.routines ++ None ∷ [])) (sym next.1) ∙ get_at r.gathered.routines None [];
-          how = introducing refl last refl (sym next.1);
-          names_so = ap (names_of c.text) longer ∙ points_names_last c.text (before done) k x
-              ∙ ap (λ b. if b then names_of c.text (before done) else names_of c.text (before done) ++ sp c.text x ∷ [])
-              (sym new);
-        } in
-        subst (λ y. HasHeading done x r y index) made_is result
-
-    new_name : (xh : syntax.Heading) → routine_heading x ≡ Some xh → (rest : List Routine) → all ≡ done ++ x ∷ rest
-        → has (names_of c.text (before done)) (sp c.text x) ≡ false → index ≡ length (names_of c.text (before done))
-        → introduce f (routine c x) r (slice_get r.known index) ≡ Yes s → HasHeading done x r s index
-    unfolding introduce
-    new_name xh is_said rest split new at_end e =
-        let long = names_length c.text (before done) in
-        let many = at.stands.many in
-        let last : index ≡ length r.known = omega (arith, at_end, long, many) in
-        let nothing : slice_get r.known index ≡ None = get_end r.known index (omega (arith, last)) in
-        new_at xh is_said rest split new last (ap (headed f (routine c x) r) (sym ((read c x).heading ∙ is_said))
-        ∙ ap (introduce f (routine c x) r) (sym nothing) ∙ e)
+  abbrev How : List Routine → Routine → Routines → Routines → ℕ → Routine → Heading → Type 0
+  How done x r s index by heading = by_heading.How c number names outer first chain D base drawn all done x r s index by
+      heading
 
   -- ---- the block of a routine
 
@@ -884,7 +423,8 @@ module _ (c : Context) (number : ℕ) (names : List (List ℕ)) (outer : List Re
         let st = there_place 0 so_far more (sp c.text x) there in
         let found : place names (sp c.text x) ≡ Some st.index = ap (λ l. place l (sp c.text x)) names_is ∙ st.found
         ∙ (let z : 0 + st.index ≡ st.index = omega arith in ap (λ n. Some n) z) in
-        let intro = old done x r s at st.index found more names_is there
+        let intro = by_heading.old c number names outer first chain D base drawn all done x r s at st.index found more
+        names_is there
         (ap (λ o. introduce f (routine c x) r (named_so o)) (sym found) ∙ e) in
         record {
           index = st.index;
@@ -900,7 +440,8 @@ module _ (c : Context) (number : ℕ) (names : List (List ℕ)) (outer : List Re
         ap (λ l. place l (sp c.text x)) (names_is ∙ append_assoc so_far (sp c.text x ∷ []) more)
         ∙ new_place 0 so_far more (sp c.text x) (sp c.text x) new (same_itself (sp c.text x))
         ∙ (let z : 0 + length so_far ≡ length so_far = omega arith in ap (λ n. Some n) z) in
-        let intro = new_name done x r s at (length so_far) found xh is rest split new refl
+        let intro = by_heading.new_name c number names outer first chain D base drawn all done x r s at
+        (length so_far) found xh is rest split new refl
         (ap (λ o. introduce f (routine c x) r (named_so o)) (sym found) ∙ e) in
         record {
           index = length so_far;

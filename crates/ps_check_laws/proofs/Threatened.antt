@@ -52,8 +52,7 @@ use Rattle.ps_check_statements.specs.Structured.{bound_at, labels, repeated, wit
 use Rattle.ps_check_statements.specs.Structured.{opened, open_next}
 use Rattle.ps_check_statements.specs.Statements.{statement_list, element_list, Reading, ElementReading, sequence_in}
 use Rattle.ps_check_statements.specs.Statements.{condition_at, governed, index_at, one_element, elements, control_of}
-use Rattle.ps_check_statements.specs.Statements.{for_head, statement_step, element_step, statement, element}
-use Rattle.ps_check_statements.specs.Statements.{statements}
+use Rattle.ps_check_statements.specs.Statements.{for_head, statement_step, element_step, statement, element, statements}
 use Rattle.ps_check_laws.specs.Threats.{Threatened, is_entry, whole, place_threatens, selectors_threaten}
 use Rattle.ps_check_laws.specs.Threats.{expr_threatens, set_threatens, argument_threatens, arguments_threaten}
 use Rattle.ps_check_laws.specs.Threats.{write_threatens, places_threaten, read_threatens, reads_threaten}
@@ -62,9 +61,10 @@ use Rattle.ps_check_laws.specs.Threats.{statements_threaten, elements_threaten, 
 use Rattle.ps_check_laws.proofs.Lists.{none_some, inside, never, then_still, Each}
 use Rattle.ps_check_laws.proofs.Shown.{differ}
 use Rattle.ps_check_laws.proofs.Values.{value_threatens, ordinal_is, variable_none}
-use Rattle.ps_check_laws.proofs.Handed.{Free, Adds, adds_none, adds_both, More, adds_all, made_adds, still_adds}
-use Rattle.ps_check_laws.proofs.Handed.{still_more, through_more, each_more, each_all, changed_adds, arguments_last}
+use Rattle.ps_check_laws.proofs.Additions.{Free, Adds, adds_none, adds_both, More, adds_all, made_adds, still_adds}
+use Rattle.ps_check_laws.proofs.Additions.{still_more, through_more, each_more, each_all, changed_adds}
 use Rattle.ps_check_laws.proofs.Handed.{place_of, parts, read_each, actual_adds, exprs_hand, variables_hand}
+use Rattle.ps_check_laws.proofs.Parts.{arguments_last}
 
 -- ---- what is made of what is judged already
 

@@ -1,4 +1,4 @@
-use Rattle.ps_check_laws.proofs.Paths.{names_mean_their_points}
+use Rattle.ps_check_laws.proofs.Accepted.{names_mean_their_points}
 use Rattle.ps_check_laws.proofs.names_mean_their_points.Goals as goal
 
 pub returns : goal.returns
