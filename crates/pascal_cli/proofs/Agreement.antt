@@ -28,7 +28,7 @@ use Rattle.pascal_cli.specs.Command.{Given, Limits, Request, Work, are_digits, c
 use Rattle.pascal_cli.specs.Command.{certify_request, check, check_given, check_request, compile}
 use Rattle.pascal_cli.specs.Command.{compile_request, default_limits, explain, explain_request, go, go_request}
 use Rattle.pascal_cli.specs.Command.{has_digits, has_letters, image_name, is_line_fault, limit_names, limits_of, list}
-use Rattle.pascal_cli.specs.Command.{list_given, list_request, needs, needs_request, number_of, read, request_of, run}
+use Rattle.pascal_cli.specs.Command.{list_request, needs, needs_request, number_of, read, request_of, run}
 use Rattle.pascal_cli.specs.Command.{run_request, source_name, standard_request, topic_of, topic_words, value_of, verify}
 use Rattle.pascal_cli.specs.Command.{verify_given, verify_request, watch, watch_request}
 use Rattle.pascal_cli.specs.declared.job.Watch.{Watch}

@@ -1,5 +1,5 @@
 -- Images and certificates that are of a source, or not.
-use Rattle.std.proofs.Common.{◌≡◌, ◌⊎◌, ◌∙◌, ◌&&◌, ◌==◌, ap, refl, sym, subst, ℕ, Bool, true, false, List, ◌∷◌, Some, None, String}
+use Rattle.std.proofs.Common.{◌≡◌, ◌⊎◌, ◌∙◌, ◌==◌, ap, refl, sym, subst, ℕ, Bool, true, false, List, Some, None, String}
 use Rattle.std.proofs.Common.{Option, inl, inr, length, map, string_bytes}
 use Rattle.std.proofs.lemmas.Bool.{and_parts, true≢false}
 use Rattle.std.specs.Prelude.{IfOk, IfSome, Result, Ok, Err, option_map}
@@ -8,13 +8,13 @@ use Rattle.ps_build.specs.Headline.{Compiles}
 use Rattle.ps_needs_image.specs.Needed.{IsNeeded}
 use Rattle.ps_needs_image.specs.declared.needed.Needed.{Needed}
 use Rattle.pascal_certificate.specs.Compared.{CertifiesFound, differing, holds}
-use Rattle.pascal_certificate.specs.Form.{CertifiesWith, IsCertificate, certificate_text, values_of}
+use Rattle.pascal_certificate.specs.Form.{CertifiesWith, certificate_text, values_of}
 use Rattle.pascal_certificate.proofs.Sealing.{values_sealed}
 use Rattle.pascal_certificate.specs.Sealed.{IsSeal, sealed_values}
 use Rattle.pascal_certificate.specs.declared.made.Seal.{Seal}
 use Rattle.pascal_certificate.specs.declared.comparison.Comparison.{Comparison}
 use Rattle.pascal_certificate.specs.declared.comparison.Found.{Found}
-use Rattle.pascal_cli.specs.Certificates.{AreCertified, HasAnother, IsBeside, IsBuiltOf, IsComparison, IsFound, is_same}
+use Rattle.pascal_cli.specs.Certificates.{HasAnother, IsBeside, IsBuiltOf, IsComparison, is_same}
 use Rattle.pascal_cli.specs.Certificates.{HasCertificate, TellsLeast, TellsOfStack, TellsStack, least_text}
 use Rattle.pascal_cli.specs.Certificates.{stack_told}
 use Rattle.pascal_cli.specs.declared.certificates.Beside.{Beside}

@@ -1,5 +1,5 @@
 -- What becomes of texts whose runs are watched.
-use Rattle.std.proofs.Common.{◌≡◌, ◌⊎◌, ◌∙◌, ◌+◌, inl, inr, refl, sym, subst, ap, ℕ, suc, Bool, true, false, not, List}
+use Rattle.std.proofs.Common.{◌≡◌, ◌⊎◌, ◌∙◌, ◌+◌, inl, inr, refl, sym, subst, ap, ℕ, Bool, true, false, not, List}
 use Rattle.std.proofs.Common.{Option, Some, None, arith}
 use Rattle.std.specs.Prelude.{is_some, nat_eq, if◌then◌else◌}
 use Rattle.risc_machine.specs.Console.{World}
@@ -7,8 +7,8 @@ use Rattle.ps_build.specs.Headline.{Compiles}
 use Rattle.ps_map.specs.declared.map.Map.{Map}
 use Rattle.pascal_cli.specs.Command.{Limits, Text}
 use Rattle.pascal_cli.specs.Failures.{Keeps}
-use Rattle.pascal_cli.specs.Jobs.{RanBuilt, RanImage, RanOf}
-use Rattle.pascal_cli.specs.Watched.{Covers, IsRun, IsTraced, IsWatched, IsWatchedFile, IsWatchedText, first, more}
+use Rattle.pascal_cli.specs.Jobs.{RanBuilt, RanImage}
+use Rattle.pascal_cli.specs.Watched.{Covers, IsRun, IsTraced, IsWatched, IsWatchedFile, first, more}
 use Rattle.pascal_cli.specs.Watched.{first_failed, has_routine, lacks_routine}
 use Rattle.pascal_cli.proofs.Ran.{ran_of}
 

@@ -1,5 +1,5 @@
 -- What becomes of a text whose run is watched, as the status tells.
-use Rattle.std.specs.Prelude.{◌≡◌, ◌⊎◌, ◌&&◌, ℕ, suc, nat_eq, if◌then◌else◌, Bool, true, false, not, List, Option}
+use Rattle.std.specs.Prelude.{◌≡◌, ◌⊎◌, ℕ, suc, nat_eq, if◌then◌else◌, Bool, true, false, not, List, Option}
 use Rattle.std.specs.Prelude.{Some, None, is_some, option_map, string_bytes}
 use Rattle.std.specs.List.{list_any}
 use Rattle.std.specs.Str.{str_eq_ignore_ascii_case}

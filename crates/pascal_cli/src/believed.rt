@@ -2,4 +2,4 @@
 
 /// The sum.
 pub(crate) const BELIEVED: &str =
-    "74dcae26e6014b59117945917ac2b5f8b604b250cbf7291e7bcba496b4f2f709";
+    "28e84d72db9cc1f33416cd142089349c7b673b05d736185776521dacf3bbdef2";

@@ -58,6 +58,9 @@ pub enum OptionFault<'a> {
     /// An option has no value behind it.
     #[error("error: a value is required for '{0}' but none was supplied\n\nFor more information, try '--help'.\n")]
     NoValue(&'a str),
+    /// The name of a file is empty.
+    #[error("error: the name of a file is missing for '{0}'\n\nFor more information, try '--help'.\n")]
+    NoFile(&'a str),
     /// A number is no number, or too large.
     #[error("error: invalid value '{text}' for '{option}': a number is wanted\n\nFor more information, try '--help'.\n")]
     NoNumber { option: &'a str, text: &'a str },
@@ -287,12 +290,20 @@ fn line_of<'a>(option: &'a str, text: &'a str) -> Result<u32, OptionFault<'a>> {
     Ok(u32::try_from(number).unwrap_or(u32::MAX))
 }
 
+// Whether the value of an option is the name of a file.
+fn names_file(option: &str) -> bool {
+    option == "--map" || option == "--input"
+}
+
 // Takes an option with its value.
 fn take_value<'a>(
     options: &mut Options<'a>,
     option: &'a str,
     value: &'a str,
 ) -> Result<(), OptionFault<'a>> {
+    if value.is_empty() && names_file(option) {
+        return Err(OptionFault::NoFile(option));
+    }
     match option {
         "--map" => options.map = Some(value),
         "--input" => {

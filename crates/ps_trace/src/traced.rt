@@ -1,7 +1,7 @@
 //! Runs that are traced.
 
-ghost use Rattle.std.specs.Prelude.{◌≡◌, IfOk, IfSome, IfNone, OnErr, true};
-ghost use Rattle.ps_build.specs.Runs.{RunsImage};
+ghost use Rattle.std.specs.Prelude.{◌≡◌, IfOk, IfErr, IfSome, IfNone, OnErr, true};
+ghost use Rattle.ps_build.specs.Runs.{RunsImage, IsRunRefused};
 ghost use Rattle.ps_build.specs.Slices.{IsImageLeft};
 
 use crate::accesses::accesses_of;
@@ -72,6 +72,7 @@ fn run_followed<C: Paced, T: Teller + Drop>(
     ensures left { IfOk result (λ traced. IfNone traced.outcome
         (IsImageLeft image.now budget max_steps (C.world console.old) (C.world console.new))) }
     ensures failed { IfOk result (λ traced. IfNone traced.outcome (C.has_failed console.new ≡ true)) }
+    ensures refused { IfErr result (IsRunRefused image.now budget) }
     ensures unchanged { OnErr result (C.world console.new ≡ C.world console.old) }
 {
     let mut tracer = tracer;

@@ -1,4 +1,3 @@
-use Rattle.std.proofs.Common.{List, ℕ}
 use Rattle.std.proofs.lemmas.Result.{IfOk-weaker}
 use Rattle.pascal_cli.proofs.Certified.{stack_is_told, with_stack}
 use Rattle.pascal_cli.proofs.certificates.certificate.Goals as goal

@@ -1,4 +1,4 @@
-use Rattle.std.proofs.Common.{◌≡◌, ◌+◌, subst, length, drop, arith, length-drop}
+use Rattle.std.proofs.Common.{subst, arith, length-drop}
 use Rattle.pascal_cli.specs.Failures.{has_failed}
 use Rattle.pascal_cli.specs.Jobs.{limits_in}
 use Rattle.pascal_cli.specs.Watched.{Covers, IsRun, first}
