@@ -12,7 +12,7 @@ TOP = os.path.dirname(HERE)
 # what each of them stands on
 CRATES = {
     "runs_codes": "tac_code tac_code_runner risc_alloc risc_emit risc_image risc_load risc_machine risc_emit_trail",
-    "runs_passes": "tac_code tac_code_runner tac_pass tac_plan",
+    "runs_passes": "tac_code tac_code_runner tac_pass tac_known tac_plan",
 }
 SECONDS = "120"
 
