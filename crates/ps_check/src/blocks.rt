@@ -31,6 +31,7 @@ use ps_check_judgement::refusal::Fault;
 use ps_check_names::meaning::Meaning;
 use ps_check_names::reading::Reading;
 use ps_check_names::scope::Scope;
+use ps_check_names::wides::Wides;
 use ps_check_statements::statement::statements;
 use ps_syntax::{Block, Routine, Statement};
 use ps_text::Span;
@@ -40,8 +41,8 @@ use ps_tree::types::Ty;
 use std::alloc::{AllocError, Global};
 use std::mem;
 
-/// The same reading, with these domain types known.
-fn reading_with<'a>(reading: &Reading<'a>, domains: &'a [Ty]) -> Reading<'a>
+/// The same reading, with these domain types and these types with many fields known.
+fn reading_with<'a>(reading: &Reading<'a>, domains: &'a [Ty], wides: &'a Wides) -> Reading<'a>
     ensures { context_of result ≡ of_statements (context_of reading.now) (map type_of domains.now) [] }
 {
     Reading {
@@ -49,6 +50,7 @@ fn reading_with<'a>(reading: &Reading<'a>, domains: &'a [Ty]) -> Reading<'a>
         lines: reading.lines,
         seed: reading.seed,
         domains,
+        wides,
         has_input: reading.has_input,
         has_output: reading.has_output,
     }
@@ -77,13 +79,14 @@ fn read_statements(
     alloc: Global,
     local: &Local,
     domains: &[Ty],
+    wides: &Wides,
 ) -> Result<(Vec<StatementTree>, Vec<Change>), Fault>
     ensures { Answers result (λ read. (statements_of read.0.items, read.1.items))
         (statements (of_statements (context_of frame.now.reading.now) (map type_of domains.now) local.now.changes.items)
         (BlockRegion frame.now.routine frame.now.names.now (map meaning_of local.now.known.items)
         ∷ scope_of frame.now.outer.now) list.now []) }
 {
-    let reading = reading_with(frame.reading, domains);
+    let reading = reading_with(frame.reading, domains, wides);
     let scope = scope_within(frame, &local.known);
     let inner = Inner::new(alloc, &local.changes)?;
     let site = Site {
@@ -143,15 +146,18 @@ fn declare(
         domains: mem::replace(&mut gathered.domains, Vec::new(alloc)),
         pending: Vec::new(alloc),
         variables: Vec::new(alloc),
+        wides: mem::replace(&mut gathered.wides, Wides::new(alloc, frame.reading.seed)),
     };
     declarations(frame, alloc, first, &mut declared, &parts_of(written))?;
     let Declared {
         known,
         domains,
         variables,
+        wides,
         ..
     } = declared;
     gathered.domains = domains;
+    gathered.wides = wides;
     let changes = Vec::new(alloc);
     Ok((Local { known, changes }, variables))
 }
@@ -171,7 +177,8 @@ fn read_body(
 {
     all_complete(gathered, &local.known)?;
     let list = written.statements.as_slice();
-    read_statements(list, frame, alloc, local, &gathered.domains)
+    let wides = &gathered.wides;
+    read_statements(list, frame, alloc, local, &gathered.domains, wides)
 }
 
 /// A block, and the routines within it. The names of its region and their meanings are added to those that it begins

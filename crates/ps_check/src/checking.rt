@@ -18,6 +18,7 @@ use ps_check_judgement::answer::paired;
 use ps_check_judgement::refusal::{CheckRefusal, Fault};
 use ps_check_names::reading::Reading;
 use ps_check_names::scope::Scope;
+use ps_check_names::wides::Wides;
 use ps_syntax::Program;
 use ps_text::{LineTable, Source};
 use ps_tree::names::Seed;
@@ -36,7 +37,10 @@ fn read_program(
         (block (context_of reading.now) written.now.block (scope_of outer.now)
         (start_of program_chain start.old) nothing_gathered) }
 {
-    let (chain, mut gathered) = paired(Chain::program(alloc), nothing_gathered(alloc))?;
+    let (chain, mut gathered) = paired(
+        Chain::program(alloc),
+        nothing_gathered(alloc, reading.seed),
+    )?;
     let done = block(
         &written.block,
         reading,
@@ -84,7 +88,7 @@ fn check_block(
 }
 
 /// The program before any of it is read: routine 0 is that of the program block.
-fn nothing_gathered(alloc: Global) -> Result<Gathered, AllocError>
+fn nothing_gathered(alloc: Global, seed: Seed) -> Result<Gathered, AllocError>
     ensures { IfOk result (λ g. gathered_of g ≡ nothing_gathered) }
 {
     let mut routines = Vec::new(alloc);
@@ -92,6 +96,7 @@ fn nothing_gathered(alloc: Global) -> Result<Gathered, AllocError>
     Ok(Gathered {
         domains: Vec::new(alloc),
         routines,
+        wides: Wides::new(alloc, seed),
     })
 }
 
@@ -106,6 +111,7 @@ fn check_text(alloc: Global, heading: &Reading, written: &Program) -> Result<Che
         lines: heading.lines,
         seed: heading.seed,
         domains: &[],
+        wides: heading.wides,
         has_input: files.names.contains(b"input"),
         has_output: files.names.contains(b"output"),
     };
@@ -123,11 +129,14 @@ pub fn check(alloc: Global, source: &Source, written: &Program) -> Result<Checke
         Err(_) => return Err(CheckRefusal::OutOfMemory),
         Ok(lines) => lines,
     };
+    let seed = Seed::of(source.bytes());
+    let none = Wides::new(alloc, seed);
     let heading = Reading {
         source: &*source,
         lines: &lines,
-        seed: Seed::of(source.bytes()),
+        seed,
         domains: &[],
+        wides: &none,
         has_input: false,
         has_output: false,
     };

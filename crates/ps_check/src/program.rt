@@ -226,7 +226,11 @@ fn all_routines(
 fn assembled(alloc: Global, gathered: Gathered, at: u32) -> Result<Checked, Fault>
     ensures { Answers result (λ checked. program_in checked) (assembled at (gathered_of gathered)) }
 {
-    let Gathered { routines, domains } = gathered;
+    let Gathered {
+        routines,
+        domains,
+        ..
+    } = gathered;
     let routines = all_routines(alloc, routines, at);
     let (routines, domains) = paired(routines, Ok(domains))?;
     Checked::new(routines, domains).ok_or(broken(Rule::Limit, at))

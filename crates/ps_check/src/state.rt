@@ -3,17 +3,20 @@
 use crate::chain::Finished;
 use ps_check_judgement::change::Change;
 use ps_check_names::meaning::Meaning;
+use ps_check_names::wides::Wides;
 use ps_tree::line::Line;
 use ps_tree::names::Names;
 use ps_tree::tree::Statement;
 use ps_tree::types::Ty;
 
 /// The whole program so far: the domain types of its pointer types by their numbers, and its routines by theirs, which
-/// follow the order of their first headings. A routine whose block hasn't come, or is being read, has none yet.
+/// follow the order of their first headings, and its record types with many fields. A routine whose block hasn't come,
+/// or is being read, has none yet.
 #[derive(Drop)]
 pub struct Gathered {
     pub domains: Vec<Ty>,
     pub routines: Vec<Option<Finished>>,
+    pub wides: Wides,
 }
 
 /// What a block begins with: the names that its region has before its own (formal parameters, or the files of a program

@@ -25,11 +25,13 @@ use ps_check_names::constants::{ConstantValue, constant, misplacement};
 use ps_check_names::meaning::Meaning;
 use ps_check_names::reading::Reading;
 use ps_check_names::scope::{Found, Scope, within_own};
+use ps_check_names::wides::Wides;
 use ps_syntax::{Constant, Fields, Ordinal as OrdinalDenoter, Structure, TypeDenoter};
 use ps_text::Span;
-use ps_tree::names::Names;
+use ps_tree::names::{Names, Seed};
 use ps_tree::types::{Component, Fields as RecordFields, Host, Ordinal, Packing, Ty, same_host};
 use std::alloc::{AllocError, Global};
+use std::mem;
 use std::rc::Rc;
 
 /// A name that begins at an offset, and is hidden by no definition within which the place lies.
@@ -684,6 +686,15 @@ fn one_record(
     small(Ty::Record { at, packed, fields }, at)
 }
 
+/// Notes a record type, if it has many fields.
+fn note_type(alloc: Global, seed: Seed, declared: &mut Declared, ty: &Ty) -> Result<(), AllocError>
+    ensures { OnOk result (declared_of declared.new ≡ declared_of declared.old) }
+{
+    let wides = mem::replace(&mut declared.wides, Wides::new(alloc, seed));
+    declared.wides = wides.with(alloc, ty)?;
+    Ok(())
+}
+
 #[cycle(denoter)]
 #[tactic(auto, unfolding(crate::specs::Denoters::record_type))]
 fn record_type(
@@ -699,11 +710,13 @@ fn record_type(
 {
     let names = record_names(&place.frame, place.alloc, sections)?;
     let types = all_fields(sections, place, declared, &names)?;
-    one_record(
+    let ty = one_record(
         place.alloc,
         is_packed(packed),
         begins(packed, at),
         names,
         types,
-    )
+    )?;
+    note_type(place.alloc, place.frame.reading.seed, declared, &ty)?;
+    Ok(ty)
 }

@@ -3,6 +3,7 @@
 use ps_check_names::meaning::Meaning;
 use ps_check_names::reading::Reading;
 use ps_check_names::scope::Scope;
+use ps_check_names::wides::Wides;
 use ps_syntax::{ConstantDefinition, TypeDefinition, Variables};
 use ps_text::Span;
 use ps_tree::names::Names;
@@ -29,14 +30,15 @@ pub struct Frame<'a> {
 }
 
 /// What the declarations so far give: the meanings of the block's names, the domain types of the pointer types, the
-/// names of the domain types still pending, each with the number of the block's names known before it, and the types of
-/// the block's variables.
+/// names of the domain types still pending, each with the number of the block's names known before it, the types of the
+/// block's variables, and the record types with many fields.
 #[derive(Drop)]
 pub struct Declared {
     pub known: Vec<Meaning>,
     pub domains: Vec<Ty>,
     pub pending: Vec<(Span, usize)>,
     pub variables: Vec<Ty>,
+    pub wides: Wides,
 }
 
 /// What a place in a block's declarations lies within, from the inside out.

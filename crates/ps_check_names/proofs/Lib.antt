@@ -4,3 +4,4 @@ pub mod CodeLemmas
 pub mod OpenedLemmas
 pub mod NoteLemmas
 pub mod PlaceLemmas
+pub mod WideLemmas

@@ -1,21 +1,22 @@
 -- What is noted of the fields of opened records.
 use Rattle.std.proofs.Common.{◌≡◌, ◌≢◌, ◌+◌, ◌<◌, ◌≤◌, ◌⊎◌, inl, inr, ℕ, zero, suc, Bool, true, false, not, ◌&&◌, ◌||◌}
 use Rattle.std.proofs.Common.{List, [], ◌∷◌, ◌++◌, length, Option, Some, None, refl, sym, ap, ◌∙◌, cond, arith}
-use Rattle.std.proofs.Common.{nat_eq, eqb-true, eq-eqb, slice_get, get_or, set}
-use Rattle.std.specs.Prelude.{if◌then◌else◌, option_and_then, option_map, is_some, nat_le}
+use Rattle.std.proofs.Common.{Result, Ok, Err, nat_eq, eqb-true, eq-eqb, slice_get, get_or, set}
+use Rattle.std.specs.Prelude.{OnOk, if◌then◌else◌, option_and_then, option_map, nat_le}
 use Rattle.std.specs.List.{list_any, position_from}
 use Rattle.std.proofs.lemmas.List.{length-set, length-append, get_or-set_same, get_or-set_other, get_or_append_left}
 use Rattle.std.proofs.Math.Nat.{eq-or-lt_of_le}
 use Rattle.std.proofs.Math.Seq.{get_or-append_seam}
 use Rattle.std.proofs.lemmas.Option.{slice_get_within}
 use Rattle.ps_tree.specs.declared.types.Ty.{Ty}
-use Rattle.std.proofs.lemmas.Bool.{le-leb, leb-true}
+use Rattle.std.proofs.lemmas.Bool.{leb-true, leb-false}
 use Rattle.ps_tree.specs.Types.{DataType, DataTypes, no_type, type_before, FieldList, field_list, field_in, field_at}
 use Rattle.ps_tree.specs.Types.{type_at, type_count, HaveSameNames}
 use Rattle.ps_tree.specs.Names.{same, has, place}
 use Rattle.ps_tree.specs.View.{type_of}
 use Rattle.ps_check_names.specs.Regions.{fields_of}
-use Rattle.ps_check_names.specs.Opened.{HasField, HasFieldsOf, at_place, reach_of, stands_for, Covers, Keeps, NoneBehind}
+use Rattle.ps_check_names.specs.Opened.{HasField, at_place, reach_of, Covers, Keeps, NoneBehind}
+use Rattle.ps_check_names.specs.Sets.{Holds, Passed, Reached}
 
 pub none_some : {A : Type 0} {x : A} → (let n : Option A = None in n) ≡ Some x → ⊥
 none_some q = cc
@@ -39,6 +40,20 @@ eq-or-not i j = by (nat_eq i j) refl
     by : (b : Bool) → nat_eq i j ≡ b → (i ≡ j) ⊎ (i ≢ j)
     by true q = inl (eqb-true i j q)
     by false q = inr (λ e. never (sym q ∙ eq-eqb i j e))
+
+pub lt-or-le : (i j : ℕ) → (i < j) ⊎ (j ≤ i)
+lt-or-le i j = by (nat_le j i) refl
+  where
+    by : (b : Bool) → nat_le j i ≡ b → (i < j) ⊎ (j ≤ i)
+    by true q = inr (leb-true j i q)
+    by false q = inl (leb-false j i q)
+
+pub le-or-lt : (i j : ℕ) → (i ≤ j) ⊎ (j < i)
+le-or-lt i j = by (nat_le i j) refl
+  where
+    by : (b : Bool) → nat_le i j ≡ b → (i ≤ j) ⊎ (j < i)
+    by true q = inl (leb-true i j q)
+    by false q = inr (leb-false i j q)
 
 -- ---- spellings
 
@@ -251,9 +266,9 @@ field_placed all names fields types parts same s f e = by (place fields s) refl
     by None q r = absurd (none_some r)
     by (Some m) q r = (m, q)
 
-pub covers_none : (records : List Ty) (names : List (List ℕ)) (reaches asked : List ℕ) → records ≡ []
-    → Covers records names reaches asked
-covers_none records names reaches asked e = λ s k ty is has apart. absurd
+pub covers_none : (records : List Ty) (asked : ℕ) (names : List (List ℕ)) (reaches : List ℕ) (kinds : List ℕ → List ℕ)
+    (present latest : List ℕ) → records ≡ [] → Covers records asked names reaches kinds present latest
+covers_none records asked names reaches kinds present latest e = λ s k ty is has. absurd
     (none_some (ap (λ l. slice_get l k) (sym e) ∙ is))
 
 -- a record of as many types and the same names has a field of each name too
@@ -284,161 +299,34 @@ field_too (field_list names types) (field_list names' types') same s f e =
     (ap (λ l. option_and_then (field_at types') (place l s)) same.0 ∙ e)
 
 pub has_fields : (ty other : Ty) (a b : FieldList) → fields_of (type_of ty) ≡ a → fields_of (type_of other) ≡ b
-    → HaveSameNames a b → HasFieldsOf ty other
+    → HaveSameNames a b → (s : List ℕ) → HasField other s → HasField ty s
 has_fields ty other a b is is' same = λ s h.
     let g = field_too a b same s h.0 (ap (λ l. field_in l s) (sym is') ∙ h.1) in
     (g.0, ap (λ l. field_in l s) is ∙ g.1)
 
--- ---- lists of which one holds what the other does
+-- ---- the record behind the last
 
-module _ (p q : ℕ → Bool) (weaker : (n : ℕ) → p n ≡ true → q n ≡ true) where
-  or_false : (b c : Bool) → (b || c) ≡ false → (b ≡ false) × (c ≡ false)
-  or_false true c e = never (sym e)
-  or_false false c e = (refl, e)
+module _ (records : List Ty) (ty : Ty) (asked : ℕ) (names : List (List ℕ)) (reaches : List ℕ) (kinds : List ℕ → List ℕ) (present latest : List ℕ) (covers : Covers records asked names reaches kinds present latest) where
+  -- its fields are noted, or it is asked
+  pub covers_narrow : (asked' before : ℕ) (names' : List (List ℕ)) (reaches' : List ℕ) → before ≡ length records → asked
+      ≤ asked' → Keeps names reaches names' reaches' → ((s : List ℕ) → HasField ty s → asked' < before + 1 → before + 1
+      ≤ reach_of names' reaches' s) → Covers (records ++ ty ∷ []) asked' names' reaches' kinds present latest
+  covers_narrow asked' before names' reaches' last more keeps noted = λ s k t is h apart passed. last_or records ty k t _
+      is
+      (λ e. let l = covers s k t e h (omega (arith, apart, more)) passed in let b = keeps s in omega (arith, l, b))
+      (λ e f. let l = noted s (rw (sym f) at h) (omega (arith, apart, e, last)) in omega (arith, l, e, last))
 
-  fails : (n : ℕ) → q n ≡ false → p n ≡ false
-  fails n e = by (p n) refl
-    where
-      by : (b : Bool) → p n ≡ b → p n ≡ false
-      by false r = r
-      by true r = never (sym e ∙ weaker n r)
-
-  any_weaker : (xs : List ℕ) → list_any q xs ≡ false → list_any p xs ≡ false
-  any_weaker [] e = refl
-  any_weaker (x ∷ xs) e =
-      let h = or_false (q x) (list_any q xs) e in
-      ap (λ b. b || list_any p xs) (fails x h.0) ∙ any_weaker xs h.1
-
-  -- one more
-  any_before : (xs : List ℕ) (m : ℕ) → list_any q (xs ++ m ∷ []) ≡ false → list_any p xs ≡ false
-  any_before [] m e = refl
-  any_before (x ∷ xs) m e =
-      let h = or_false (q x) (list_any q (xs ++ m ∷ [])) e in
-      ap (λ b. b || list_any p xs) (fails x h.0) ∙ any_before xs m h.1
-
-  -- one in the place of another
-  any_put : (xs : List ℕ) (i m : ℕ) → i < length xs → (p (get_or xs i 0) ≡ true → q m ≡ true) → list_any q (set xs i m)
-      ≡ false → list_any p xs ≡ false
-  any_put [] i m l stands e = refl
-  any_put (x ∷ xs) zero m l stands e =
-      let h = or_false (q m) (list_any q xs) e in
-      ap (λ b. b || list_any p xs) (here (p x) refl h.0) ∙ any_weaker xs h.1
-    where
-      here : (b : Bool) → p x ≡ b → q m ≡ false → p x ≡ false
-      here false r n = r
-      here true r n = never (sym n ∙ stands r)
-  any_put (x ∷ xs) (suc i) m l stands e =
-      let h = or_false (q x) (list_any q (set xs i m)) e in
-      ap (λ b. b || list_any p xs) (fails x h.0) ∙ any_put xs i m (omega (arith, l)) stands h.1
-
-module _ (q : ℕ → Bool) (m : ℕ) (holds : q m ≡ true) where
-  or_true : (b c : Bool) → c ≡ true → (b || c) ≡ true
-  or_true true c e = refl
-  or_true false c e = e
-
-  any_last : (xs : List ℕ) → list_any q (xs ++ m ∷ []) ≡ true
-  any_last [] = ap (λ b. b || false) holds
-  any_last (x ∷ xs) = or_true (q x) (list_any q (xs ++ m ∷ [])) (any_last xs)
-
-  any_set : (xs : List ℕ) (i : ℕ) → i < length xs → list_any q (set xs i m) ≡ true
-  any_set [] i l = absurd (omega (arith, l))
-  any_set (x ∷ xs) zero l = ap (λ b. b || list_any q xs) holds
-  any_set (x ∷ xs) (suc i) l = or_true (q x) (list_any q (set xs i m)) (any_set xs i (omega (arith, l)))
-
--- ---- a record that stands for another
-
-module _ (records : List Ty) (s : List ℕ) (k m : ℕ) where
-  abbrev asks : Option Ty → Bool
-  asks o = is_some (option_and_then (λ ty. field_in (fields_of (type_of ty)) s) o)
-
-  stands : (ty : Ty) → k ≤ m → slice_get records m ≡ Some ty → HasField ty s → stands_for records s k m ≡ true
-  stands ty l e h =
-      let first : nat_le k m ≡ true = le-leb k m l in
-      ap (λ b. b && asks (slice_get records m)) first ∙ ap asks e ∙ ap is_some h.1
-
-  stands_is : stands_for records s k m ≡ true → (k ≤ m) × ((ty : Ty) × (slice_get records m ≡ Some ty) × HasField ty s)
-  stands_is e = first (nat_le k m) refl e
-    where
-      third : (ty : Ty) (o : Option (ℕ × DataType)) → field_in (fields_of (type_of ty)) s ≡ o → is_some o ≡ true
-          → HasField ty s
-      third ty None q e = never e
-      third ty (Some f) q e = (f, q)
-
-      second : (o : Option Ty) → slice_get records m ≡ o → asks o ≡ true → (ty : Ty) × (slice_get records m ≡ Some ty)
-          × HasField ty s
-      second None q e = never e
-      second (Some ty) q e = (ty, q, third ty (field_in (fields_of (type_of ty)) s) refl e)
-
-      first : (b : Bool) → nat_le k m ≡ b → (b && asks (slice_get records m)) ≡ true → (k ≤ m) × ((ty : Ty)
-          × (slice_get records m ≡ Some ty) × HasField ty s)
-      first false q e = never e
-      first true q e = (leb-true k m q, second (slice_get records m) refl e)
-
--- the record behind the last
-module _ (records : List Ty) (ty : Ty) where
-  more_there : {A : Type 0} (xs : List A) (y : A) (i : ℕ) (x : A) → slice_get xs i ≡ Some x → slice_get (xs ++ y ∷ []) i
-      ≡ Some x
-  more_there [] y i x e = absurd (none_some e)
-  more_there (z ∷ xs) y zero x e = e
-  more_there (z ∷ xs) y (suc i) x e = more_there xs y i x e
-
-  last_there : {A : Type 0} (xs : List A) (y : A) → slice_get (xs ++ y ∷ []) (length xs) ≡ Some y
-  last_there [] y = refl
-  last_there (z ∷ xs) y = last_there xs y
-
-  stands_still : (s : List ℕ) (k m : ℕ) → stands_for records s k m ≡ true → stands_for (records ++ ty ∷ []) s k m ≡ true
-  stands_still s k m e =
-      let h = stands_is records s k m e in
-      stands (records ++ ty ∷ []) s k m h.1.0 h.0 (more_there records ty m h.1.0 h.1.1) h.1.2
-
-  last_stands : (s : List ℕ) (k m : ℕ) → m ≡ length records → k ≤ m → HasField ty s → stands_for (records ++ ty ∷ []) s k
-      m ≡ true
-  last_stands s k m last l h = stands (records ++ ty ∷ []) s k m ty l
-      (ap (slice_get (records ++ ty ∷ [])) last ∙ last_there records ty) h
-
-  module _ (names : List (List ℕ)) (reaches asked : List ℕ) where
-    -- its fields are noted
-    pub covers_fields : Covers records names reaches asked → (names' : List (List ℕ)) (reaches' : List ℕ)
-        (fields : List (List ℕ)) (reach : ℕ) → Keeps names reaches names' reaches'
-        → ((s : List ℕ) → HasField ty s → (m : ℕ) × (place fields s ≡ Some m))
-        → ((s : List ℕ) (m : ℕ) → place fields s ≡ Some m → reach ≤ reach_of names' reaches' s) → reach
-        ≡ length records + 1 → Covers (records ++ ty ∷ []) names' reaches' asked
-    covers_fields covers names' reaches' fields reach keeps has noted last = λ s k t is h apart. last_or records ty k t _
-        is
-        (λ e. let a = covers s k t e h (any_weaker (stands_for records s k) (stands_for (records ++ ty ∷ []) s k)
-        (stands_still s k) asked apart) in let b = keeps s in omega (arith, a, b))
-        (λ e f. let m = has s (rw (sym f) at h) in let a = noted s m.0 m.1 in omega (arith, a, e, last))
-
-    -- it is asked
-    pub covers_asked : (asked' : List ℕ) (m : ℕ) → asked' ≡ asked ++ m ∷ [] → m ≡ length records
-        → Covers records names reaches asked → Covers (records ++ ty ∷ []) names reaches asked'
-    covers_asked asked' m new last covers = λ s k t is h apart.
-        let q = stands_for (records ++ ty ∷ []) s k in
-        let none = ap (list_any q) (sym new) ∙ apart in
-        last_or records ty k t _ is
-        (λ e. covers s k t e h (any_before (stands_for records s k) q (stands_still s k) asked m none))
-        (λ e f. never (sym none ∙ any_last q m (last_stands s k m last (omega (arith, e, last)) (rw (sym f) at h)) asked))
-
-    -- it is asked in the place of another, whose fields it has
-    pub covers_put : (asked' : List ℕ) (i m : ℕ) → asked' ≡ set asked i m → i < length asked → m ≡ length records
-        → ((other : Ty) → slice_get records (get_or asked i 0) ≡ Some other → HasFieldsOf ty other)
-        → Covers records names reaches asked → Covers (records ++ ty ∷ []) names reaches asked'
-    covers_put asked' i m new within last theirs covers = λ s k t is h apart.
-        let q = stands_for (records ++ ty ∷ []) s k in
-        let none = ap (list_any q) (sym new) ∙ apart in
-        last_or records ty k t _ is
-        (λ e. covers s k t e h (any_put (stands_for records s k) q (stands_still s k) asked i m within
-        (λ z. instead s k (stands_is records s k (get_or asked i 0) z)) none))
-        (λ e f. never (sym none ∙ any_set q m (last_stands s k m last (omega (arith, e, last)) (rw (sym f) at h)) asked i
-        within))
-      where
-        instead : (s : List ℕ) (k : ℕ) → (k ≤ get_or asked i 0) × ((other : Ty)
-            × (slice_get records (get_or asked i 0) ≡ Some other) × HasField other s) → stands_for (records ++ ty ∷ [])
-            s k m ≡ true
-        instead s k z =
-            let w = slice_get_within records (get_or asked i 0) z.1.0 z.1.1 in
-            let l = z.0 in
-            last_stands s k m last (omega (arith, w, l, last)) (theirs z.1.0 z.1.1 s z.1.2)
+  -- it is of a type with many fields
+  pub covers_wide : (present' latest' : List ℕ) (number before : ℕ) → before ≡ length records
+      → ((n : ℕ) → Holds present n → Holds present' n) → Holds present' number
+      → ((n : ℕ) → get_or latest n 0 ≤ get_or latest' n 0) → before + 1 ≤ get_or latest' number 0
+      → ((s : List ℕ) → HasField ty s → Holds (kinds s) number) → Covers (records ++ ty ∷ []) asked names reaches kinds
+      present' latest'
+  covers_wide present' latest' number before last kept there further reach has = λ s k t is h apart passed. last_or records
+      ty k t _ is
+      (λ e. covers s k t e h apart
+      (λ n kind here. let a = passed n kind (kept n here) in let b = further n in omega (arith, a, b)))
+      (λ e f. absurd (let a = passed number (has s (rw (sym f) at h)) there in omega (arith, a, e, last, reach)))
 
 -- ---- what is noted of a name
 
@@ -465,70 +353,83 @@ module _ (names : List (List ℕ)) (reaches : List ℕ) (s : List ℕ) (k n : �
       to (x ∷ xs) zero e l = let z = inside x m e in omega (arith, l, z)
       to (x ∷ xs) (suc i) e l = to xs i e l
 
--- ---- asking the records whose fields aren't noted
+-- ---- the records up to the last that may have the field
 
--- the first i of them are asked: those that have the field lie before n
-pub record Asked (records : List Ty) (names : List (List ℕ)) (reaches asked : List ℕ) (s : List ℕ) (n i : ℕ) : Type 0 where
-  pub within : n ≤ length records
-  pub noted : (k : ℕ) → k < length records → k < reach_of names reaches s → k < n
-  pub before : (j k : ℕ) (ty : Ty) → j < i → slice_get asked j ≡ Some k → slice_get records k ≡ Some ty → HasField ty s
-      → k < n
-
-any_placed : (q : ℕ → Bool) (xs : List ℕ) → list_any q xs ≡ true → (j m : ℕ) × (slice_get xs j ≡ Some m)
-    × (q m ≡ true)
-any_placed q [] e = never e
-any_placed q (x ∷ xs) e = here (q x) refl e (any_placed q xs)
-  where
-    here : (b : Bool) → q x ≡ b → (b || list_any q xs) ≡ true
-        → (list_any q xs ≡ true → (j m : ℕ) × (slice_get xs j ≡ Some m) × (q m ≡ true)) → (j m : ℕ)
-        × (slice_get (x ∷ xs) j ≡ Some m) × (q m ≡ true)
-    here true r e rest = (0, x, refl, r)
-    here false r e rest = let z = rest e in (suc z.0, z.1, z.2, z.3)
-
-module _ (records : List Ty) (names : List (List ℕ)) (reaches asked : List ℕ) (s : List ℕ) (n : ℕ) where
-  pub asked_start : n ≤ length records → ((k : ℕ) → k < length records → k < reach_of names reaches s → k < n)
-      → Asked records names reaches asked s n 0
-  asked_start within noted = record { within = within; noted = noted; before = λ j k ty l. absurd (omega (arith, l)) }
-
-  pub asked_within : (i : ℕ) → Asked records names reaches asked s n i → n ≤ length records
-  asked_within i so_far = so_far.within
-
-  -- one more is asked
-  pub asked_next : (i k m : ℕ) → slice_get asked i ≡ Some k → Asked records names reaches asked s n i → n ≤ m
-      → m ≤ length records → ((ty : Ty) → slice_get records k ≡ Some ty → HasField ty s → k < m)
-      → Asked records names reaches asked s m (i + 1)
-  asked_next i k m is so_far more within here = record {
-    within = within;
-    noted = λ p l r. (let z = so_far.noted p l r in omega (arith, z, more));
-    before = λ j p ty l e f h. by j p ty e f h (eq-or-lt_of_le (let z : j ≤ i = omega (arith, l) in z));
-  }
+module _ (records : List Ty) (asked : ℕ) (names : List (List ℕ)) (reaches : List ℕ) (kinds : List ℕ → List ℕ) (present latest : List ℕ) (covers : Covers records asked names reaches kinds present latest) (s : List ℕ) (a b c n : ℕ) where
+  pub none_behind : ((k : ℕ) → k < reach_of names reaches s → k < a) → ((k : ℕ) → Reached (kinds s) present latest k → k < b)
+      → ((k : ℕ) (ty : Ty) → k < asked → slice_get records k ≡ Some ty → HasField ty s → k < c)
+      → ((k : ℕ) → k < length records → (k < a) ⊎ ((k < b) ⊎ (k < c)) → k < n) → NoneBehind records n s
+  none_behind noted wide first all = λ k ty e. by k ty e (field_in (fields_of (type_of ty)) s) refl
     where
-      by : (j p : ℕ) (ty : Ty) → slice_get asked j ≡ Some p → slice_get records p ≡ Some ty → HasField ty s → (j ≡ i)
-          ⊎ (j < i) → p < m
-      by j p ty e f h (inr l) = let z = so_far.before j p ty l e f h in omega (arith, z, more)
-      by j p ty e f h (inl q) = let one : k ≡ p = inside k p (sym is ∙ ap (slice_get asked) (sym q) ∙ e) in rw one at
-          (here ty (ap (slice_get records) one ∙ f) h)
+      -- what is passed, or a type that isn't
+      within : (k m : ℕ) → (m ≤ k) ⊎ (k < m) → (k < b → m ≤ k) → (k < m → k < b) → m ≤ k
+      within k m (inl l) f g = l
+      within k m (inr l) f g = f (g l)
 
-  pub asked_end : (i : ℕ) → length asked ≤ i → Covers records names reaches asked
-      → Asked records names reaches asked s n i → NoneBehind records n s
-  asked_end i all covers so_far = λ k ty e. by k ty e (field_in (fields_of (type_of ty)) s) refl
-    where
-      there : (k : ℕ) (ty : Ty) → slice_get records k ≡ Some ty → HasField ty s → (b : Bool) → list_any
-          (stands_for records s k) asked ≡ b → k < n
-      there k ty e h false q = so_far.noted k (slice_get_within records k ty e) (covers s k ty e h q)
-      there k ty e h true q =
-          let r = any_placed (stands_for records s k) asked q in
-          let w = slice_get_within asked r.0 r.1 r.2 in
-          let z = stands_is records s k r.1 r.3 in
-          let l = so_far.before r.0 r.1 z.1.0 (omega (arith, w, all)) r.2 z.1.1 z.1.2 in
-          let m = z.0 in
-          omega (arith, l, m)
+      before : (k : ℕ) (ty : Ty) → slice_get records k ≡ Some ty → HasField ty s → (k < asked) ⊎ (asked ≤ k) → n ≤ k → ⊥
+      before k ty e h (inl l) over = let z = all k (slice_get_within records k ty e) (inr (inr (first k ty l e h))) in
+          omega (arith, z, over)
+      before k ty e h (inr l) over =
+          let passed : Passed (kinds s) present latest k = λ m kind here. within k (get_or latest m 0)
+          (le-or-lt (get_or latest m 0) k)
+          (λ less. absurd (let z = all k (slice_get_within records k ty e) (inr (inl less)) in omega (arith, z, over)))
+          (λ more. wide k (m, kind, here, more)) in
+          let z = all k (slice_get_within records k ty e) (inl (noted k (covers s k ty e h l passed))) in
+          omega (arith, z, over)
 
       by : (k : ℕ) (ty : Ty) → slice_get records (n + k) ≡ Some ty → (o : Option (ℕ × DataType)) → field_in
           (fields_of (type_of ty)) s ≡ o → field_in (fields_of (type_of ty)) s ≡ None
       by k ty e None q = q
-      by k ty e (Some f) q = let z = there (n + k) ty e (f, q) (list_any (stands_for records s (n + k)) asked) refl in absurd
-          (omega (arith, z))
+      by k ty e (Some f) q = absurd
+          (before (n + k) ty e (f, q) (lt-or-le (n + k) asked) (omega arith))
+
+-- what is noted of one record more
+pub record_noted : (ty : Ty) (fields names : List (List ℕ)) (reaches : List ℕ) (reach asked : ℕ)
+    → ((s : List ℕ) → HasField ty s → (m : ℕ) × (place fields s ≡ Some m))
+    → ((s : List ℕ) (m : ℕ) → place fields s ≡ Some m → reach ≤ reach_of names reaches s) → (s : List ℕ) → HasField ty s
+    → asked < reach → reach ≤ reach_of names reaches s
+record_noted ty fields names reaches reach asked has noted s h l = let m = has s h in noted s m.0 m.1
+
+pub record_asked : (ty : Ty) (names : List (List ℕ)) (reaches : List ℕ) (reach asked : ℕ) → reach ≤ asked
+    → (s : List ℕ) → HasField ty s → asked < reach → reach ≤ reach_of names reaches s
+record_asked ty names reaches reach asked l s h m = absurd (omega (arith, l, m))
+
+-- what follows where a call succeeded
+pub on_ok : {X E A B : Type 0} (r : Result X E) → OnOk r A → (A → B) → OnOk r B
+on_ok (Ok x) h f = f h
+on_ok (Err e) h f = h
+
+pub on_ok_both : {X E A B C : Type 0} (r : Result X E) → OnOk r A → OnOk r B → (A → B → C) → OnOk r C
+on_ok_both (Ok x) h g f = f h g
+on_ok_both (Err e) h g f = h
+
+-- each of three is before the greatest
+pub before_all : (a b c noted reach k : ℕ) → a ≤ noted → b ≤ noted → noted ≤ reach → c ≤ reach → (k < a)
+    ⊎ ((k < b) ⊎ (k < c)) → k < reach
+before_all a b c noted reach k p q r s (inl l) = omega (arith, p, r, l)
+before_all a b c noted reach k p q r s (inr (inl l)) = omega (arith, q, r, l)
+before_all a b c noted reach k p q r s (inr (inr l)) = omega (arith, s, l)
+
+-- the first i of the records are asked
+abbrev pub AskedTo : (records : List Ty) (s : List ℕ) (i n : ℕ) → Type 0
+AskedTo records s i n = (k : ℕ) (ty : Ty) → k < i → slice_get records k ≡ Some ty → HasField ty s → k < n
+
+pub asked_start : (records : List Ty) (s : List ℕ) → AskedTo records s 0 0
+asked_start records s = λ k ty l e h. absurd (omega (arith, l))
+
+pub asked_next : (records : List Ty) (s : List ℕ) (i n here n' : ℕ) → AskedTo records s i n
+    → ((ty : Ty) → slice_get records i ≡ Some ty → HasField ty s → i < here) → n ≤ n' → here ≤ n' → AskedTo records s
+    (i + 1) n'
+asked_next records s i n here n' so_far last more also = λ k ty l e h. by k ty e h
+    (eq-or-lt_of_le (let z : k ≤ i = omega (arith, l) in z))
+  where
+    by : (k : ℕ) (ty : Ty) → slice_get records k ≡ Some ty → HasField ty s → (k ≡ i) ⊎ (k < i) → k < n'
+    by k ty e h (inr l) = let z = so_far k ty l e h in omega (arith, z, more)
+    by k ty e h (inl q) = let z = last ty (ap (slice_get records) (sym q) ∙ e) h in omega (arith, z, also, q)
+
+pub asked_end : (records : List Ty) (s : List ℕ) (i count n : ℕ) → count ≤ i → AskedTo records s i n → (k : ℕ) (ty : Ty)
+    → k < count → slice_get records k ≡ Some ty → HasField ty s → k < n
+asked_end records s i count n end so_far k ty l e h = so_far k ty (omega (arith, l, end)) e h
 
 -- one without the field, or none at all
 pub no_field : (ty : Ty) (s : List ℕ) (k n : ℕ) → field_in (fields_of (type_of ty)) s ≡ None → HasField ty s → k < n

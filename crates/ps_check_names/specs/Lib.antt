@@ -8,3 +8,5 @@ pub mod SectionDepth
 pub mod Codes
 pub mod Views
 pub mod Opened
+pub mod Sets
+pub mod Wides

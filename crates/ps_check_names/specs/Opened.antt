@@ -1,20 +1,16 @@
 -- What is noted of the fields of opened records, so that a name needs not be looked for in each of them.
-use Rattle.std.specs.Prelude.{◌≡◌, ◌+◌, ◌<◌, ◌≤◌, ℕ, Bool, false, ◌&&◌, nat_lt, nat_le, List, length, Option, Some, None, is_some}
+use Rattle.std.specs.Prelude.{◌≡◌, ◌+◌, ◌<◌, ◌≤◌, ℕ, Bool, nat_lt, List, length, Option, Some, None, is_some}
 use Rattle.std.specs.Prelude.{option_and_then, slice_get, get_or}
-use Rattle.std.specs.List.{list_any}
 use Rattle.ps_tree.specs.declared.types.Ty.{Ty}
 use Rattle.ps_tree.specs.Types.{DataType, field_in, field_names}
 use Rattle.ps_tree.specs.Names.{place}
 use Rattle.ps_tree.specs.View.{type_of}
 use Rattle.ps_check_names.specs.Regions.{fields_of}
+use Rattle.ps_check_names.specs.Sets.{Passed}
 
 -- a record of this type has a field of this name
 abbrev pub HasField : Ty → List ℕ → Type 0
 HasField ty s = (f : ℕ × DataType) × (field_in (fields_of (type_of ty)) s ≡ Some f)
-
--- the first type has each field that the second has, by their names
-abbrev pub HasFieldsOf : Ty → Ty → Type 0
-HasFieldsOf ty other = (s : List ℕ) → HasField other s → HasField ty s
 
 abbrev pub at_place : List ℕ → Option ℕ → ℕ
 at_place reaches None = 0
@@ -24,15 +20,12 @@ at_place reaches (Some i) = get_or reaches i 0
 abbrev pub reach_of : (names : List (List ℕ)) (reaches : List ℕ) → List ℕ → ℕ
 reach_of names reaches s = at_place reaches (place names s)
 
--- record m is not before record k, and has a field of the name
-abbrev pub stands_for : List Ty → List ℕ → (k m : ℕ) → Bool
-stands_for records s k m = nat_le k m && is_some
-    (option_and_then (λ ty. field_in (fields_of (type_of ty)) s) (slice_get records m))
-
--- record k is noted for the name of each of its fields, unless one of the records that are asked stands for it
-abbrev pub Covers : List Ty → (names : List (List ℕ)) (reaches asked : List ℕ) → Type 0
-Covers records names reaches asked = (s : List ℕ) (k : ℕ) (ty : Ty) → slice_get records k ≡ Some ty → HasField ty s
-    → list_any (stands_for records s k) asked ≡ false → k < reach_of names reaches s
+-- record k is noted for the name of each of its fields, unless it is asked, or is not behind the last of a type with
+-- many fields that has the name
+abbrev pub Covers : List Ty → (asked : ℕ) (names : List (List ℕ)) (reaches : List ℕ) (kinds : List ℕ → List ℕ)
+    (present latest : List ℕ) → Type 0
+Covers records asked names reaches kinds present latest = (s : List ℕ) (k : ℕ) (ty : Ty) → slice_get records k ≡ Some ty
+    → HasField ty s → asked ≤ k → Passed (kinds s) present latest k → k < reach_of names reaches s
 
 -- a record of this type has more fields than are noted one by one
 abbrev pub has_many_fields : DataType → Bool
@@ -56,11 +49,11 @@ abbrev pub StandsIn : Ty → List Ty → ℕ → Type 0
 StandsIn ty records number = (number < length records) × ((s : List ℕ) → has_field ty s
     ≡ has_field_at records number s)
 
--- a record that has a place among those that are asked is like the one there
-abbrev pub Placed : List Ty → (places : List (Option ℕ)) → (asked : List ℕ) → Type 0
-Placed records places asked = (length places ≡ length records) × ((k place : ℕ) → slice_get places k
-    ≡ Some (Some place) → (place < length asked) × (get_or asked place 0 < length records) × ((s : List ℕ)
-    → has_field_at records k s ≡ has_field_at records (get_or asked place 0) s))
+-- a record that has a place has the fields of the type there
+abbrev pub Placed : List Ty → (places : List (Option ℕ)) → (types : List Ty) → Type 0
+Placed records places types = (length places ≡ length records) × ((k place : ℕ) → slice_get places k
+    ≡ Some (Some place) → (place < length types) × ((s : List ℕ) → has_field_at records k s
+    ≡ has_field_at types place s))
 
 -- what is noted stays so
 abbrev pub Keeps : (names : List (List ℕ)) (reaches : List ℕ) (names' : List (List ℕ)) (reaches' : List ℕ) → Type 0

@@ -7,3 +7,4 @@ pub mod opened;
 pub mod reading;
 pub mod scope;
 pub mod sections;
+pub mod wides;

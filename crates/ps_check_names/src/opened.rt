@@ -6,36 +6,40 @@ ghost use Rattle.ps_tree.specs.Names.{place};
 ghost use Rattle.ps_tree.specs.Types.{DataType, field_in};
 ghost use Rattle.ps_tree.specs.View.{type_of};
 ghost use Rattle.ps_check_names.specs.Regions.{fields_of};
-ghost use Rattle.ps_check_names.specs.Opened.{HasField, IsLike, reach_of, Covers, Keeps, NoneBehind, StandsIn, Placed};
-ghost use Rattle.ps_check_names.specs.Opened.{has_many_fields};
+ghost use Rattle.ps_check_names.specs.Opened.{HasField, reach_of, Covers, Keeps, NoneBehind, StandsIn, Placed};
+ghost use Rattle.ps_check_names.specs.Sets.{Reached};
+ghost use Rattle.ps_check_names.specs.Wides.{kind_of};
 
+use crate::wides::{Wides, common_reach, insert, larger, names_of, raise_at};
 use ps_tree::names::{Names, Seed};
-use ps_tree::types::{Fields, Ty};
+use ps_tree::types::Ty;
 use std::alloc::{AllocError, Global};
-
-// A record with more fields is asked for each name: to note all their names each time that it is opened would take
-// longer than to read the text that opens it.
-const MOST_NOTED: usize = 128;
 
 /// The types of the records that a `with` opens one after the other, each within those before it. A type that is no
 /// record has no fields.
 ///
-/// So that a name needs not be looked for in each of them, the names of their fields are noted, but for those of the
-/// first record and of records with many fields: these are asked, of several of one type the last alone.
+/// So that a name needs not be looked for in each of them, the names of their fields are noted. For a record with many
+/// fields that was done when its type was made, and it is only noted how far the last record of the type reaches. The
+/// first record of a `with` is asked, unless it has many fields: most have no other.
 #[derive(Drop)]
-pub struct Opened {
+pub struct Opened<'a> {
     pub records: Vec<Ty>,
+    // the types with many fields
+    wides: &'a Wides,
+    // how many of the records are asked
+    asked: usize,
     // the names of fields, and how many of the records there are up to the last that has the field
     names: Names,
     reaches: Vec<usize>,
-    // The numbers of records whose fields aren't noted. Each other has a record here that isn't before it and has its
-    // fields.
-    asked: Vec<usize>,
-    // for each record the place of one that is asked for it
+    // the set of the types with many fields that are opened, and how many records there are up to the last of each
+    present: Vec<usize>,
+    latest: Vec<usize>,
+    // for each record the number of its type, if that has many fields
     places: Vec<Option<usize>>,
-    ghost covers: { Covers records.items names reaches.items asked.items },
+    ghost covers: { Covers records.items asked names reaches.items (kind_of wides.now.names
+        (map (λ v. v.items) wides.now.kinds.items)) present.items latest.items },
     ghost even: { length reaches.items ≡ length names },
-    ghost placed: { Placed records.items places.items asked.items },
+    ghost placed: { Placed records.items places.items wides.now.types.items },
 }
 
 /// The field of this name of a record type: its number and its type.
@@ -47,14 +51,6 @@ pub(crate) fn field_of<'a>(ty: &'a Ty, name: &[u8]) -> Option<(u32, &'a Ty)>
         Ty::Record { fields, .. } => fields.find(name),
         _ => None,
     }
-}
-
-/// The larger of two.
-fn larger(a: usize, b: usize) -> usize
-    ensures first { a ≤ result }
-    ensures second { b ≤ result }
-{
-    if a < b { b } else { a }
 }
 
 /// Makes the number at a place at least this one: what it is then.
@@ -134,139 +130,41 @@ fn note_all(
     Ok(())
 }
 
-/// The names of a record's fields, if they are few.
-fn few_names(fields: &Fields) -> Option<&[Vec<u8>]>
-    ensures { IfSome result (λ names. (s : List ℕ) (f : ℕ × DataType) → field_in fields.now s ≡ Some f → (m : ℕ)
-        × (place (map (λ v. v.items) names.now) s ≡ Some m)) }
-{
-    let names = fields.names();
-    if names.len() <= MOST_NOTED {
-        Some(names.as_slice())
-    } else {
-        None
-    }
-}
-
-/// The names of the fields of the record with this number, if they are to be noted.
-#[tactic(auto, unfolding(crate::specs::Regions::fields_of, ps_tree::specs::View::type_of))]
-fn noted_names(ty: &Ty, number: usize) -> Option<&[Vec<u8>]>
-    ensures { IfSome result (λ names. (s : List ℕ) → HasField ty.now s → (m : ℕ)
-        × (place (map (λ v. v.items) names.now) s ≡ Some m)) }
-{
-    match ty {
-        Ty::Record { fields, .. } if number > 0 => few_names(fields),
-        _ => None,
-    }
-}
-
-/// Whether a record of the type has so many fields that it is asked for each name.
-#[tactic(auto, unfolding(crate::specs::Regions::fields_of, ps_tree::specs::View::type_of))]
-pub fn has_many_fields(ty: &Ty) -> bool
-    ensures { result ≡ has_many_fields (type_of ty.now) }
-{
-    match ty {
-        Ty::Record { fields, .. } => fields.names().len() > MOST_NOTED,
-        _ => false,
-    }
-}
-
-/// Whether the type is that of the other record, so that each has the fields of the other.
-fn is_like(ty: &Ty, other: &Ty) -> bool
-    ensures { IsTrue result → IsLike ty.now other.now }
-{
-    match (ty, other) {
-        (
-            Ty::Record { at: x, fields, .. },
-            Ty::Record {
-                at: y,
-                fields: others,
-                ..
-            },
-        ) => *x == *y && fields.has_names_of(others),
-        _ => false,
-    }
-}
-
-/// Whether there is a record with this number and it is of the type.
-#[tactic(auto, using(crate::proofs::PlaceLemmas::like_there))]
-fn is_like_at(ty: &Ty, records: &[Ty], number: usize) -> bool
-    ensures { IsTrue result → StandsIn ty.now records.now number }
-{
-    match records.get(number) {
-        None => false,
-        Some(other) => is_like(ty, other),
-    }
-}
-
-/// The place of one of these numbers of records, which is of the type.
-fn place_of_like(ty: &Ty, records: &[Ty], numbers: &[usize]) -> Option<usize>
-    ensures { IfSome result (λ place. (place < length numbers.now) × StandsIn ty.now records.now
-        (get_or numbers.now place 0)) }
-{
-    for i in 0..numbers.len() {
-        if is_like_at(ty, records, numbers[i]) {
-            return Some(i);
-        }
-    }
-    None
-}
-
-/// Puts a number in the place of another.
-fn put(numbers: &mut Vec<usize>, place: usize, number: usize)
-    requires { place < length numbers.old.items }
-    ensures { numbers.new.items ≡ set numbers.old.items place number }
-{
-    numbers[place] = number;
-}
-
-/// Notes that a record behind others is to be asked, in the place of one that is like it: that place.
-#[tactic(auto, using(crate::proofs::NoteLemmas::covers_asked))]
-fn note_asked(asked: &mut Vec<usize>, records: &[Ty], ty: &Ty) -> Result<usize, AllocError>
-    ensures covers { OnOk result ((names : List (List ℕ)) (reaches : List ℕ) → Covers records.now names reaches
-        asked.old.items → Covers (records.now ++ ty.now ∷ []) names reaches asked.new.items) }
-    ensures placed { IfOk result (λ place. (places : List (Option ℕ)) → Placed records.now places asked.old.items
-        → Placed (records.now ++ ty.now ∷ []) (places ++ Some place ∷ []) asked.new.items) }
-{
-    let number = records.len();
-    match place_of_like(ty, records, asked.as_slice()) {
-        Some(place) => {
-            put(asked, place, number);
-            Ok(place)
-        }
-        None => {
-            let place = asked.as_slice().len();
-            asked.push(number)?;
-            Ok(place)
-        }
-    }
-}
-
-/// Notes the fields of a record behind others, or that it is to be asked: the place of what is asked for it.
+/// Notes the fields of the last of so many records, or that it is to be asked.
+#[tactic(auto, using(crate::proofs::NoteLemmas::record_noted, crate::proofs::NoteLemmas::record_asked, crate::proofs::NoteLemmas::keeps_same))]
 fn note_record(
     alloc: Global,
+    asked: &mut usize,
     names: &mut Names,
     reaches: &mut Vec<usize>,
-    asked: &mut Vec<usize>,
-    records: &[Ty],
+    reach: usize,
     ty: &Ty,
-) -> Result<Option<usize>, AllocError>
+) -> Result<(), AllocError>
     requires even { length reaches.old.items ≡ length names.old }
-    requires covers { Covers records.now names.old reaches.old.items asked.old.items }
     ensures even { OnOk result (length reaches.new.items ≡ length names.new) }
-    ensures covers { OnOk result (Covers (records.now ++ ty.now ∷ []) names.new reaches.new.items asked.new.items) }
-    ensures placed { IfOk result (λ place. (places : List (Option ℕ)) → Placed records.now places asked.old.items
-        → Placed (records.now ++ ty.now ∷ []) (places ++ place ∷ []) asked.new.items) }
+    ensures asked { OnOk result (asked.old ≤ asked.new) }
+    ensures keeps { OnOk result (Keeps names.old reaches.old.items names.new reaches.new.items) }
+    ensures noted { OnOk result ((s : List ℕ) → HasField ty.now s → asked.new < reach → reach ≤ reach_of names.new
+        reaches.new.items s) }
 {
-    let number = records.len();
-    let Some(fields) = noted_names(ty, number) else {
-        let place = note_asked(asked, records, ty)?;
-        return Ok(Some(place));
-    };
-    note_all(alloc, names, reaches, fields, number + 1)?;
-    Ok(None)
+    match names_of(ty) {
+        Some(fields) if reach > 1 => note_all(alloc, names, reaches, fields, reach),
+        _ => {
+            *asked = larger(*asked, reach);
+            Ok(())
+        }
+    }
 }
 
-/// The place of what is asked for the record with this number.
+/// The smaller of two.
+fn smaller(a: usize, b: usize) -> usize
+    ensures within { result ≤ b }
+    ensures both { (k : ℕ) → k < a → k < b → k < result }
+{
+    if a < b { a } else { b }
+}
+
+/// The number of the type of the record with this number, if that has many fields.
 fn place_at(places: &[Option<usize>], number: usize) -> Option<usize>
     ensures { IfSome result (λ place. slice_get places.now number ≡ Some (Some place)) }
 {
@@ -276,131 +174,180 @@ fn place_at(places: &[Option<usize>], number: usize) -> Option<usize>
     }
 }
 
-impl Opened {
-    /// No records, of a text with this seed.
+impl<'a> Opened<'a> {
+    /// No records, of a text with this seed and these types with many fields.
     #[tactic(auto, using(crate::proofs::NoteLemmas::covers_none, crate::proofs::PlaceLemmas::placed_none))]
-    pub fn new(alloc: Global, seed: Seed) -> Opened
+    pub fn new(alloc: Global, seed: Seed, wides: &'a Wides) -> Opened<'a>
         ensures { result.records.items ≡ [] }
     {
         Opened {
             records: Vec::new(alloc),
+            wides,
+            asked: 0,
             names: Names::new(alloc, seed),
             reaches: Vec::new(alloc),
-            asked: Vec::new(alloc),
+            present: Vec::new(alloc),
+            latest: Vec::new(alloc),
             places: Vec::new(alloc),
         }
     }
 
     /// One record more, within these.
-    pub fn with(self, alloc: Global, ty: Ty) -> Result<Opened, AllocError>
-        ensures { IfOk result (λ opened. opened.records.items ≡ self.records.items ++ ty ∷ []) }
+    pub fn with(self, alloc: Global, ty: Ty) -> Result<Opened<'a>, AllocError>
+        ensures { IfOk result (λ opened. opened.records.items ≡ self.entry.records.items ++ ty ∷ []) }
+    {
+        match self.wides.number_of(&ty) {
+            Some(number) => self.with_wide(ty, number),
+            None => self.with_narrow(alloc, ty),
+        }
+    }
+
+    /// The same of a record whose fields are noted with it.
+    fn with_narrow(self, alloc: Global, ty: Ty) -> Result<Opened<'a>, AllocError>
+        ensures { IfOk result (λ opened. opened.records.items ≡ self.entry.records.items ++ ty ∷ []) }
     {
         let Opened {
             mut records,
+            wides,
+            mut asked,
             mut names,
             mut reaches,
-            mut asked,
+            present,
+            latest,
             mut places,
         } = self;
-        let place = note_record(
-            alloc,
-            &mut names,
-            &mut reaches,
-            &mut asked,
-            records.as_slice(),
-            &ty,
-        )?;
-        places.push(place)?;
+        let before = records.as_slice().len();
+        note_record(alloc, &mut asked, &mut names, &mut reaches, before + 1, &ty)?;
+        places.push(None)?;
         records.push(ty)?;
         Ok(Opened {
             records,
+            wides,
+            asked,
             names,
             reaches,
+            present,
+            latest,
+            places,
+        })
+    }
+
+    /// The same of a record of the type with this number.
+    fn with_wide(self, ty: Ty, number: usize) -> Result<Opened<'a>, AllocError>
+        requires { StandsIn ty self.wides.now.types.items number }
+        ensures { IfOk result (λ opened. opened.records.items ≡ self.entry.records.items ++ ty ∷ []) }
+    {
+        let Opened {
+            mut records,
+            wides,
             asked,
+            names,
+            reaches,
+            mut present,
+            mut latest,
+            mut places,
+        } = self;
+        let before = records.as_slice().len();
+        insert(&mut present, number)?;
+        raise_at(&mut latest, number, before + 1)?;
+        places.push(Some(number))?;
+        records.push(ty)?;
+        Ok(Opened {
+            records,
+            wides,
+            asked,
+            names,
+            reaches,
+            present,
+            latest,
             places,
         })
     }
 
     /// One record more, of the type of the record with this number, within these. It takes no longer where that has many
     /// fields.
-    pub fn with_like(self, alloc: Global, another: Ty, like: usize) -> Result<Opened, AllocError>
+    pub fn with_like(
+        self,
+        alloc: Global,
+        another: Ty,
+        like: usize,
+    ) -> Result<Opened<'a>, AllocError>
         requires { (other : Ty) → slice_get self.records.items like ≡ Some other → type_of another ≡ type_of other }
-        ensures { IfOk result (λ opened. opened.records.items ≡ self.records.items ++ another ∷ []) }
+        ensures { IfOk result (λ opened. opened.records.items ≡ self.entry.records.items ++ another ∷ []) }
     {
-        let Some(place) = place_at(self.places.as_slice(), like) else {
-            return self.with(alloc, another);
-        };
-        let Opened {
-            mut records,
-            names,
-            reaches,
-            mut asked,
-            mut places,
-        } = self;
-        let number = records.as_slice().len();
-        put(&mut asked, place, number);
-        places.push(Some(place))?;
-        records.push(another)?;
-        Ok(Opened {
-            records,
-            names,
-            reaches,
-            asked,
-            places,
-        })
+        match place_at(self.places.as_slice(), like) {
+            Some(number) => self.with_wide(another, number),
+            None => self.with(alloc, another),
+        }
     }
 
-    /// The number of records up to the last that has a field of this name, by what is noted.
+    /// The number of records up to the last that has a field of this name, by what is noted with the records.
     #[tactic(auto, using(crate::proofs::NoteLemmas::unnoted, crate::proofs::NoteLemmas::noted_past, crate::proofs::NoteLemmas::noted_to))]
     fn noted_reach(&self, name: &[u8]) -> usize
-        ensures within { result ≤ length self.now.records.items }
-        ensures noted { (k : ℕ) → k < length self.now.records.items
-            → k < reach_of self.now.names self.now.reaches.items name.now → k < result }
+        ensures { (k : ℕ) → k < reach_of self.now.names self.now.reaches.items name.now → k < result }
     {
         let Some(index) = self.names.find(name) else {
             return 0;
         };
-        let Some(reach) = self.reaches.get(index) else {
-            return 0;
-        };
-        if *reach < self.records.len() {
-            *reach
-        } else {
-            self.records.len()
+        match self.reaches.get(index) {
+            None => 0,
+            Some(reach) => *reach,
         }
     }
 
-    /// The same, where the record with this number is asked too.
+    /// The same by what is noted of types with many fields.
+    #[tactic(auto, using(crate::proofs::WideLemmas::none_reached))]
+    fn wide_reach(&self, name: &[u8]) -> usize
+        ensures { (k : ℕ) → Reached (kind_of self.now.wides.now.names (map (λ v. v.items) self.now.wides.now.kinds.items)
+            name.now) self.now.present.items self.now.latest.items k → k < result }
+    {
+        if self.latest.as_slice().len() == 0 {
+            return 0;
+        }
+        common_reach(
+            self.wides.kind(name),
+            self.present.as_slice(),
+            self.latest.as_slice(),
+        )
+    }
+
+    /// The same of the record with this number alone.
     #[tactic(auto, using(crate::proofs::NoteLemmas::no_field, crate::proofs::NoteLemmas::no_record))]
-    fn asked_reach(&self, name: &[u8], reach: usize, number: usize) -> usize
-        requires { reach ≤ length self.now.records.items }
-        ensures within { result ≤ length self.now.records.items }
-        ensures kept { reach ≤ result }
-        ensures asked { (ty : Ty) → slice_get self.now.records.items number ≡ Some ty → HasField ty name.now
+    fn asked_at(&self, name: &[u8], number: usize) -> usize
+        ensures { (ty : Ty) → slice_get self.now.records.items number ≡ Some ty → HasField ty name.now
             → number < result }
     {
         let Some(record) = self.records.get(number) else {
-            return reach;
+            return 0;
         };
-        if number < reach {
-            return reach;
-        }
         match field_of(record, name) {
-            None => reach,
+            None => 0,
             Some(_) => number + 1,
         }
     }
 
+    /// The same of the first records, which are asked.
+    #[tactic(auto, using(crate::proofs::NoteLemmas::asked_start, crate::proofs::NoteLemmas::asked_next, crate::proofs::NoteLemmas::asked_end))]
+    fn asked_reach(&self, name: &[u8]) -> usize
+        ensures { (k : ℕ) (ty : Ty) → k < self.now.asked → slice_get self.now.records.items k ≡ Some ty
+            → HasField ty name.now → k < result }
+    {
+        let mut reach = 0;
+        for number in 0..self.asked {
+            let here = self.asked_at(name, number);
+            reach = larger(reach, here);
+        }
+        reach
+    }
+
     /// The number of records up to the last that may have a field of this name.
-    #[tactic(auto, using(crate::proofs::NoteLemmas::asked_start, crate::proofs::NoteLemmas::asked_next, crate::proofs::NoteLemmas::asked_within))]
     pub(crate) fn reach(&self, name: &[u8]) -> usize
         ensures within { result ≤ length self.now.records.items }
         ensures none { NoneBehind self.now.records.items result name.now }
     {
-        let mut reach = self.noted_reach(name);
-        for number in &self.asked {
-            reach = self.asked_reach(name, reach, *number);
-        }
-        reach
+        let noted = larger(self.noted_reach(name), self.wide_reach(name));
+        let reach = larger(noted, self.asked_reach(name));
+        let count = self.records.as_slice().len();
+        smaller(reach, count)
     }
 }

@@ -3,6 +3,7 @@
 ghost use Rattle.std.specs.Prelude.{◌≡◌};
 
 use crate::scope::{Found, Scope, denoted_at};
+use crate::wides::Wides;
 use ps_check_judgement::refusal::Fault;
 use ps_scan::name_spelling;
 use ps_text::{LineTable, Source, Span};
@@ -13,13 +14,14 @@ use smallvec::SmallVec;
 use std::alloc::{AllocError, Global};
 
 /// The text that is read, with its lines and the seed of its names' hashes, the domain types of the pointer types so
-/// far, by their numbers, and which of input and output the program heading lists.
+/// far, by their numbers, its record types with many fields, and which of input and output the program heading lists.
 #[derive(Clone, Copy)]
 pub struct Reading<'a> {
     pub source: &'a Source<'a>,
     pub lines: &'a LineTable<'a>,
     pub seed: Seed,
     pub domains: &'a [Ty],
+    pub wides: &'a Wides,
     pub has_input: bool,
     pub has_output: bool,
     ghost one_text: { lines.now ≡ source.now },

@@ -30,7 +30,7 @@ pub enum Scope<'a> {
     /// The records that a `with` opens one after the other, each within those before it. A type that is not a record
     /// has no fields.
     Opened {
-        records: &'a Opened,
+        records: &'a Opened<'a>,
         outer: &'a Scope<'a>,
     },
     /// A record within its own denoter, a list of formal parameters, or the variables of a declaration: their names,
@@ -117,7 +117,7 @@ fn more(count: u32, further: usize) -> Option<u32>
 /// The number of opened records before what encloses these, the last of which is the innermost, if none of them has a
 /// field with this name; or else what ends the search.
 #[tactic(auto, using(crate::proofs::OpenedLemmas::behind_uncounted))]
-fn past_opened<'a>(opened: &'a Opened, which: u32, name: &[u8]) -> Result<u32, Lookup<'a>>
+fn past_opened<'a>(opened: &'a Opened<'a>, which: u32, name: &[u8]) -> Result<u32, Lookup<'a>>
     ensures ok { IfOk result (λ n. (up at : ℕ) (Γ : List Region) → find_past up which
         (opened_in Γ opened.now.records.items) name.now at ≡ find_past up n Γ name.now at) }
     ensures err { IfErr result (λ end. (up at : ℕ) (Γ : List Region) → find_past up which

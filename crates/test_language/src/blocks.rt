@@ -16,6 +16,7 @@ use ps_check_names::constants::{BOOLEAN, CHAR, INTEGER};
 use ps_check_names::meaning::Meaning;
 use ps_check_names::reading::Reading;
 use ps_check_names::scope::Scope;
+use ps_check_names::wides::Wides;
 use ps_check_statements::statement::statements;
 use ps_syntax::{Block, Expr, Statement, Variable};
 use ps_text::{LineTable, Source};
@@ -64,6 +65,7 @@ fn nothing(alloc: Global, seed: Seed) -> Known {
             domains: Vec::new(alloc),
             pending: Vec::new(alloc),
             variables: Vec::new(alloc),
+            wides: Wides::new(alloc, seed),
         },
     }
 }
@@ -218,6 +220,7 @@ fn put_below(
         lines: around.reading.lines,
         seed: around.reading.seed,
         domains: &declared.domains,
+        wides: &declared.wides,
         has_input: false,
         has_output: false,
     };
@@ -282,11 +285,14 @@ pub(crate) fn answer(alloc: Global, line: &mut Line, source: &Source, block: &Bl
     let Ok(lines) = LineTable::new(alloc, source) else {
         return line.fall_short();
     };
+    let seed = Seed::of(source.bytes());
+    let none = Wides::new(alloc, seed);
     let reading = Reading {
         source,
         lines: &lines,
-        seed: Seed::of(source.bytes()),
+        seed,
         domains: &[],
+        wides: &none,
         has_input: false,
         has_output: false,
     };

@@ -1,14 +1,8 @@
-use Rattle.std.proofs.Common.{map, refl, None}
-use Rattle.ps_check_names.proofs.NoteLemmas.{covers_fields}
-use Rattle.ps_check_names.proofs.PlaceLemmas.{placed_noted}
+use Rattle.std.proofs.Common.{map}
+use Rattle.ps_check_names.proofs.NoteLemmas.{on_ok, record_noted}
 use Rattle.ps_check_names.proofs.opened.note_record.Goals as goal
 
-pub returns-clause-covers : goal.returns-clause-covers
-returns-clause-covers c = covers_fields c.args.records.now c.args.ty.now c.args.names.now c.args.reaches.now.items
-    c.args.asked.now.items c.requires.covers c.note_all.new.names c.note_all.new.reaches.items
-    (map (λ v. v.items) c.in-Some.fields.now) _ c.in_ok-note_all.ensures.keeps c.in-Some.ensures
-    c.in_ok-note_all.ensures.noted refl
-
-pub returns-clause-placed : goal.returns-clause-placed
-returns-clause-placed c = λ places placed. placed_noted c.args.records.now c.args.ty.now places c.args.asked.now.items
-    placed None refl
+pub returns-in-Some-clause-noted : goal.returns-in-Some-clause-noted
+returns-in-Some-clause-noted c = on_ok c.note_all.result c.note_all.ensures.noted
+    (record_noted c.args.ty.now (map (λ v. v.items) c.in-Some.fields.now) c.note_all.new.names
+    c.note_all.new.reaches.items c.args.reach c.args.asked.now c.in-Some.ensures)

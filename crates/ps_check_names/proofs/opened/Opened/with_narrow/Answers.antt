@@ -1,0 +1,16 @@
+use Rattle.std.proofs.Common.{length, None, refl, ap}
+use Rattle.ps_check_names.proofs.NoteLemmas.{covers_narrow}
+use Rattle.ps_check_names.proofs.PlaceLemmas.{placed_narrow}
+use Rattle.ps_check_names.proofs.opened.Opened.with_narrow.Goals as goal
+
+pub invariant_of-result : goal.invariant_of-result
+invariant_of-result c = record {
+  covers = rw c.in_ok-push-2.ensures.items (covers_narrow c.args.self.records.items c.args.ty c.args.self.asked
+      c.args.self.names c.args.self.reaches.items _ c.args.self.present.items c.args.self.latest.items
+      c.args.self.covers c.note_record.new.asked _ c.note_record.new.names c.note_record.new.reaches.items
+      (ap length c.as_slice-before.ensures.value) c.in_ok-note_record.ensures.asked
+      c.in_ok-note_record.ensures.keeps c.in_ok-note_record.ensures.noted);
+  even = c.in_ok-note_record.ensures.even;
+  placed = rw (c.in_ok-push.ensures.items, c.in_ok-push-2.ensures.items)
+      (placed_narrow c.args.self.records.items c.args.ty c.args.self.places.items _ c.args.self.placed None refl);
+}

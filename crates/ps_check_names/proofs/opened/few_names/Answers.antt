@@ -1,8 +1,0 @@
-use Rattle.std.proofs.Common.{map}
-use Rattle.ps_tree.specs.Types.{field_types}
-use Rattle.ps_check_names.proofs.NoteLemmas.{field_placed}
-use Rattle.ps_check_names.proofs.opened.few_names.Goals as goal
-
-pub returns-then-len-le-MOST_NOTED : goal.returns-then-len-le-MOST_NOTED
-returns-then-len-le-MOST_NOTED c = field_placed c.args.fields.now c.names-names.result.now
-    (map (λ v. v.items) c.as_slice.result.now) (field_types c.args.fields.now) c.names-names.ensures c.as_slice.ensures

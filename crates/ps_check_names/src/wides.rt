@@ -1,0 +1,375 @@
+//! The record types of a program that have many fields, and which of them have a field of a name.
+
+ghost use Rattle.std.specs.Prelude.{◌≡◌, ◌+◌, ◌≤◌, ◌<◌, ℕ, List, [], length, map, get_or, Some, None, set, IfSome, OnOk, IsTrue};
+ghost use Rattle.std.specs.Int.{bit_at};
+ghost use Rattle.ps_tree.specs.Names.{place};
+ghost use Rattle.ps_tree.specs.Types.{DataType, field_in};
+ghost use Rattle.ps_tree.specs.View.{type_of};
+ghost use Rattle.ps_check_names.specs.Opened.{HasField, IsLike, StandsIn, has_many_fields};
+ghost use Rattle.ps_check_names.specs.Sets.{Holds, Reached};
+ghost use Rattle.ps_check_names.specs.Wides.{kind_of, Listed, KeepsKinds};
+
+use ps_tree::names::{Names, Seed};
+use ps_tree::types::{Fields, Ty};
+use std::alloc::{AllocError, Global};
+
+// A type with more fields is noted once, when it is made: to note all their names each time that such a record is opened
+// would take longer than to read the text that opens it.
+const MOST_NOTED: usize = 128;
+
+/// Whether a record of the type has so many fields that they are noted once for the type.
+#[tactic(auto, unfolding(crate::specs::Regions::fields_of, ps_tree::specs::View::type_of))]
+pub fn has_many_fields(ty: &Ty) -> bool
+    ensures { result ≡ has_many_fields (type_of ty.now) }
+{
+    match ty {
+        Ty::Record { fields, .. } => fields.names().len() > MOST_NOTED,
+        _ => false,
+    }
+}
+
+/// The names of these fields.
+fn all_names(fields: &Fields) -> &[Vec<u8>]
+    ensures { (s : List ℕ) (f : ℕ × DataType) → field_in fields.now s ≡ Some f → (m : ℕ)
+        × (place (map (λ v. v.items) result.now) s ≡ Some m) }
+{
+    fields.names().as_slice()
+}
+
+/// The names of a record's fields.
+#[tactic(auto, unfolding(crate::specs::Regions::fields_of, ps_tree::specs::View::type_of))]
+pub(crate) fn names_of(ty: &Ty) -> Option<&[Vec<u8>]>
+    ensures { IfSome result (λ names. (s : List ℕ) → HasField ty.now s → (m : ℕ)
+        × (place (map (λ v. v.items) names.now) s ≡ Some m)) }
+{
+    match ty {
+        Ty::Record { fields, .. } => Some(all_names(fields)),
+        _ => None,
+    }
+}
+
+/// Whether the type is that of the other record, so that each has the fields of the other.
+fn is_like(ty: &Ty, other: &Ty) -> bool
+    ensures { IsTrue result → IsLike ty.now other.now }
+{
+    match (ty, other) {
+        (
+            Ty::Record { at: x, fields, .. },
+            Ty::Record {
+                at: y,
+                fields: others,
+                ..
+            },
+        ) => *x == *y && fields.has_names_of(others),
+        _ => false,
+    }
+}
+
+/// Whether there is a type with this number and it is the same.
+#[tactic(auto, using(crate::proofs::PlaceLemmas::like_there))]
+fn is_like_at(ty: &Ty, types: &[Ty], number: usize) -> bool
+    ensures { IsTrue result → StandsIn ty.now types.now number }
+{
+    match types.get(number) {
+        None => false,
+        Some(other) => is_like(ty, other),
+    }
+}
+
+/// The larger of two.
+pub(crate) fn larger(a: usize, b: usize) -> usize
+    ensures first { a ≤ result }
+    ensures second { b ≤ result }
+{
+    if a < b { b } else { a }
+}
+
+/// The number at a place, or 0.
+#[tactic(auto, using(crate::proofs::WideLemmas::number_there, crate::proofs::WideLemmas::number_past))]
+fn number_at(numbers: &[usize], index: usize) -> usize
+    ensures { result ≡ get_or numbers.now index 0 }
+{
+    match numbers.get(index) {
+        None => 0,
+        Some(number) => *number,
+    }
+}
+
+/// Adds zeros until there is a place.
+#[tactic(auto, using(crate::proofs::WideLemmas::zero_start, crate::proofs::WideLemmas::zero_next))]
+fn lengthen(numbers: &mut Vec<usize>, index: usize) -> Result<(), AllocError>
+    ensures room { OnOk result (index < length numbers.new.items) }
+    ensures same { OnOk result ((n : ℕ) → get_or numbers.new.items n 0 ≡ get_or numbers.old.items n 0) }
+{
+    while numbers.len() <= index {
+        numbers.push(0)?;
+    }
+    Ok(())
+}
+
+/// Puts a number in the place of another.
+fn put(numbers: &mut Vec<usize>, index: usize, number: usize)
+    requires { index < length numbers.old.items }
+    ensures { numbers.new.items ≡ set numbers.old.items index number }
+{
+    numbers[index] = number;
+}
+
+/// A word with one bit more.
+fn with_bit(word: usize, bit: usize) -> usize
+    requires { bit < 64 }
+    ensures there { bit_at result bit ≡ 1 }
+    ensures kept { (i : ℕ) → bit_at word i ≡ 1 → bit_at result i ≡ 1 }
+{
+    word | (1 << bit)
+}
+
+/// Puts a number into a set, which has a bit for each.
+#[tactic(auto, using(crate::proofs::WideLemmas::inserted, crate::proofs::WideLemmas::insert_kept))]
+pub(crate) fn insert(words: &mut Vec<usize>, number: usize) -> Result<(), AllocError>
+    ensures kept { OnOk result ((n : ℕ) → Holds words.old.items n → Holds words.new.items n) }
+    ensures there { OnOk result (Holds words.new.items number) }
+{
+    lengthen(words, number / 64)?;
+    let word = number_at(words.as_slice(), number / 64);
+    put(words, number / 64, with_bit(word, number % 64));
+    Ok(())
+}
+
+/// Makes the number at a place at least this one, where it was 0 if there was none.
+#[tactic(auto, using(crate::proofs::WideLemmas::raised, crate::proofs::WideLemmas::raise_kept))]
+pub(crate) fn raise_at(
+    numbers: &mut Vec<usize>,
+    index: usize,
+    least: usize,
+) -> Result<(), AllocError>
+    ensures kept { OnOk result ((n : ℕ) → get_or numbers.old.items n 0 ≤ get_or numbers.new.items n 0) }
+    ensures least { OnOk result (least ≤ get_or numbers.new.items index 0) }
+{
+    lengthen(numbers, index)?;
+    let before = number_at(numbers.as_slice(), index);
+    put(numbers, index, larger(least, before));
+    Ok(())
+}
+
+/// The number that belongs to a bit of a word, or 0 where that is 0.
+#[tactic(auto, using(crate::proofs::WideLemmas::bit_off))]
+fn number_of_bit(word: usize, bit: usize, numbers: &[usize], from: usize) -> usize
+    requires bit { bit < 64 }
+    requires from { from ≤ length numbers.now }
+    ensures { bit_at word bit ≡ 1 → get_or numbers.now (from + bit) 0 ≤ result }
+{
+    if (word >> bit) & 1 == 1 {
+        number_at(numbers, from + bit)
+    } else {
+        0
+    }
+}
+
+/// The greatest of 64 numbers from a place on at which there is a 1 in a word.
+#[tactic(auto, using(crate::proofs::WideLemmas::greatest_start, crate::proofs::WideLemmas::greatest_next, crate::proofs::WideLemmas::greatest_end))]
+fn greatest(word: usize, numbers: &[usize], from: usize) -> usize
+    requires { from ≤ length numbers.now }
+    ensures { (i : ℕ) → i < 64 → bit_at word i ≡ 1 → get_or numbers.now (from + i) 0 ≤ result }
+{
+    let mut reach = 0;
+    for i in 0..64 {
+        let here = number_of_bit(word, i, numbers, from);
+        reach = larger(reach, here);
+    }
+    reach
+}
+
+/// The same, fast where no bit is set.
+#[tactic(auto, using(crate::proofs::WideLemmas::no_bit))]
+fn greatest_in(word: usize, numbers: &[usize], from: usize) -> usize
+    requires { from ≤ length numbers.now }
+    ensures { (i : ℕ) → i < 64 → bit_at word i ≡ 1 → get_or numbers.now (from + i) 0 ≤ result }
+{
+    if word == 0 {
+        return 0;
+    }
+    greatest(word, numbers, from)
+}
+
+/// The greatest of the numbers for what is in two sets.
+#[tactic(auto, using(crate::proofs::WideLemmas::common_start, crate::proofs::WideLemmas::common_next, crate::proofs::WideLemmas::common_end))]
+pub(crate) fn common_reach(kind: &[usize], present: &[usize], latest: &[usize]) -> usize
+    ensures { (k : ℕ) → Reached kind.now present.now latest.now k → k < result }
+{
+    let count = latest.len() / 64 + 1;
+    let mut reach = 0;
+    for i in 0..count {
+        let a = number_at(kind, i);
+        let b = number_at(present, i);
+        let here = greatest_in(a & b, latest, 64 * i);
+        reach = larger(reach, here);
+    }
+    reach
+}
+
+/// Notes that the type with this number has a field of this name, which is new.
+fn note_new(
+    alloc: Global,
+    names: &mut Names,
+    kinds: &mut Vec<Vec<usize>>,
+    name: &[u8],
+    number: usize,
+) -> Result<(), AllocError>
+    requires even { length kinds.old.items ≡ length names.old }
+    requires new { place names.old name.now ≡ None }
+    ensures even { OnOk result (length kinds.new.items ≡ length names.new) }
+    ensures keeps { OnOk result (KeepsKinds names.old (map (λ v. v.items) kinds.old.items) names.new
+        (map (λ v. v.items) kinds.new.items)) }
+    ensures noted { OnOk result (Holds (kind_of names.new (map (λ v. v.items) kinds.new.items) name.now) number) }
+{
+    let mut kind = Vec::new(alloc);
+    insert(&mut kind, number)?;
+    let _added = names.add(Vec::from_slice(alloc, name)?)?;
+    kinds.push(kind)?;
+    Ok(())
+}
+
+/// Puts a number into the set at a place.
+fn insert_at(kinds: &mut Vec<Vec<usize>>, index: usize, number: usize) -> Result<(), AllocError>
+    requires { index < length kinds.old.items }
+    ensures { OnOk result ((kind : List ℕ) × (map (λ v. v.items) kinds.new.items
+        ≡ set (map (λ v. v.items) kinds.old.items) index kind) × Holds kind number
+        × ((n : ℕ) → Holds (get_or (map (λ v. v.items) kinds.old.items) index []) n → Holds kind n)) }
+{
+    insert(&mut kinds[index], number)
+}
+
+/// Notes that the type with this number has a field of this name.
+fn note(
+    alloc: Global,
+    names: &mut Names,
+    kinds: &mut Vec<Vec<usize>>,
+    name: &[u8],
+    number: usize,
+) -> Result<(), AllocError>
+    requires even { length kinds.old.items ≡ length names.old }
+    ensures even { OnOk result (length kinds.new.items ≡ length names.new) }
+    ensures keeps { OnOk result (KeepsKinds names.old (map (λ v. v.items) kinds.old.items) names.new
+        (map (λ v. v.items) kinds.new.items)) }
+    ensures noted { OnOk result (Holds (kind_of names.new (map (λ v. v.items) kinds.new.items) name.now) number) }
+{
+    match names.find(name) {
+        Some(index) => insert_at(kinds, index, number),
+        None => note_new(alloc, names, kinds, name, number),
+    }
+}
+
+/// Notes the names of the fields of the type with this number.
+fn note_all(
+    alloc: Global,
+    names: &mut Names,
+    kinds: &mut Vec<Vec<usize>>,
+    fields: &[Vec<u8>],
+    number: usize,
+) -> Result<(), AllocError>
+    requires even { length kinds.old.items ≡ length names.old }
+    ensures even { OnOk result (length kinds.new.items ≡ length names.new) }
+    ensures keeps { OnOk result (KeepsKinds names.old (map (λ v. v.items) kinds.old.items) names.new
+        (map (λ v. v.items) kinds.new.items)) }
+    ensures noted { OnOk result ((s : List ℕ) (m : ℕ) → place (map (λ v. v.items) fields.now) s ≡ Some m → Holds
+        (kind_of names.new (map (λ v. v.items) kinds.new.items) s) number) }
+{
+    for name in fields {
+        note(alloc, names, kinds, name, number)?;
+    }
+    Ok(())
+}
+
+/// The bytes by which a type is found again: the offset of its denoter.
+fn key_of(at: u32) -> [u8; 4] {
+    at.to_le_bytes()
+}
+
+/// The record types of a program so far that have many fields, by their numbers. Each has an offset of its own, by which
+/// it is found. For the name of a field there is the set of the types that have it, so that none of them is asked for a
+/// name.
+#[derive(Drop)]
+pub struct Wides {
+    pub(crate) types: Vec<Ty>,
+    keys: Names,
+    pub(crate) names: Names,
+    pub(crate) kinds: Vec<Vec<usize>>,
+    ghost listed: { Listed types.items names (map (λ v. v.items) kinds.items) },
+    ghost even: { length kinds.items ≡ length names },
+}
+
+impl Wides {
+    /// No types, of a text with this seed.
+    pub fn new(alloc: Global, seed: Seed) -> Wides {
+        Wides {
+            types: Vec::new(alloc),
+            keys: Names::new(alloc, seed),
+            names: Names::new(alloc, seed),
+            kinds: Vec::new(alloc),
+        }
+    }
+
+    /// One type more, if it has many fields.
+    pub fn with(self, alloc: Global, ty: &Ty) -> Result<Wides, AllocError> {
+        match ty {
+            Ty::Record { at, .. } if has_many_fields(ty) => self.with_wide(alloc, ty, *at),
+            _ => Ok(self),
+        }
+    }
+
+    /// One type more, with this offset.
+    fn with_wide(self, alloc: Global, ty: &Ty, at: u32) -> Result<Wides, AllocError> {
+        let Some(fields) = names_of(ty) else {
+            return Ok(self);
+        };
+        let Wides {
+            mut types,
+            mut keys,
+            mut names,
+            mut kinds,
+        } = self;
+        let number = types.as_slice().len();
+        note_all(alloc, &mut names, &mut kinds, fields, number)?;
+        let _added = keys.add(Vec::from_slice(alloc, key_of(at).as_slice())?)?;
+        let copy = ty.copy()?;
+        types.push(copy)?;
+        Ok(Wides {
+            types,
+            keys,
+            names,
+            kinds,
+        })
+    }
+
+    /// The number of a type that has many fields.
+    pub(crate) fn number_of(&self, ty: &Ty) -> Option<usize>
+        ensures { IfSome result (λ number. StandsIn ty.now self.now.types.items number) }
+    {
+        let Ty::Record { at, .. } = ty else {
+            return None;
+        };
+        if !has_many_fields(ty) {
+            return None;
+        }
+        let number = self.keys.find(key_of(*at).as_slice())?;
+        if is_like_at(ty, self.types.as_slice(), number) {
+            Some(number)
+        } else {
+            None
+        }
+    }
+
+    /// The set of the numbers of types that have a field of this name.
+    pub(crate) fn kind(&self, name: &[u8]) -> &[usize]
+        ensures { result.now ≡ kind_of self.now.names (map (λ v. v.items) self.now.kinds.items) name.now }
+    {
+        let Some(index) = self.names.find(name) else {
+            return &[];
+        };
+        match self.kinds.get(index) {
+            None => &[],
+            Some(kind) => kind.as_slice(),
+        }
+    }
+}
