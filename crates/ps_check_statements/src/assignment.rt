@@ -42,7 +42,6 @@ fn result_of(alloc: Global, heading: &Heading, levels: u32, at: u32) -> Result<T
                     index: 0,
                 },
                 selectors: Vec::new(alloc),
-                at,
             };
             Ok(TypedPlace {
                 place,
@@ -190,8 +189,8 @@ fn assigned(
             let fits = assignable(&from, &ty);
             let range = range_of(&ty);
             let statement = Statement::Assign {
-                target,
                 range,
+                target,
                 value,
                 line,
             };

@@ -8,7 +8,7 @@ ghost use Rattle.ps_check_expressions.specs.View.{context_at, regions_at};
 ghost use Rattle.ps_check_statements.specs.Procedures.{is_file, name_of_parameter, names_file, told_unlisted_by};
 ghost use Rattle.ps_check_statements.specs.Procedures.{unlisted_name, behind_file};
 
-use ps_check_expressions::expression::name_alone;
+use ps_check_expressions::alone::name_alone;
 use ps_check_expressions::site::Site;
 use ps_check_judgement::answer::broken;
 use ps_check_judgement::refusal::{Fault, Rule};

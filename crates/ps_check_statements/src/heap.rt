@@ -106,27 +106,27 @@ fn parameter_index(
     }
 }
 
-/// A variable's place, on the heap, with its type.
-fn boxed_place(alloc: Global, variable: TypedPlace) -> Result<(Box<Place>, Ty), Fault>
+/// A variable's place and its type, each on the heap.
+fn boxed_place(alloc: Global, variable: TypedPlace) -> Result<(Box<Place>, Box<Ty>), Fault>
     ensures place { IfOk result (λ pair. variable.place ≡ pair.0.value) }
-    ensures ty { IfOk result (λ pair. variable.ty ≡ pair.1) }
+    ensures ty { IfOk result (λ pair. variable.ty ≡ pair.1.value) }
     ensures err { IfErr result (λ fault. IsFault fault → ⊥) }
 {
     let TypedPlace { place, ty, .. } = variable;
-    paired(boxed_answer(alloc, Ok(place)), Ok(ty))
+    paired(boxed_answer(alloc, Ok(place)), boxed_answer(alloc, Ok(ty)))
 }
 
-/// An array that is not packed and a packed one, on the heap, each with its type. They go together, and with an index.
+/// An array that is not packed and a packed one, each with its type, all on the heap. They go together, and with an index.
 fn transferred(
     alloc: Global,
     unpacked: TypedPlace,
     packed: TypedPlace,
     index: Ordinal,
     at: Places,
-) -> Result<((Box<Place>, Ty), (Box<Place>, Ty)), Fault>
+) -> Result<((Box<Place>, Box<Ty>), (Box<Place>, Box<Ty>)), Fault>
     ensures ok { IfOk result (λ pair. (spec.goes_with_pack (places_of at) (type_of unpacked.ty)
-        (type_of packed.ty) index ≡ Yes tt) × (unpacked.place ≡ pair.0.0.value) × (unpacked.ty ≡ pair.0.1)
-        × (packed.place ≡ pair.1.0.value) × (packed.ty ≡ pair.1.1)) }
+        (type_of packed.ty) index ≡ Yes tt) × (unpacked.place ≡ pair.0.0.value) × (unpacked.ty ≡ pair.0.1.value)
+        × (packed.place ≡ pair.1.0.value) × (packed.ty ≡ pair.1.1.value)) }
     ensures err { IfErr result (λ fault. Told fault
         (spec.goes_with_pack (places_of at) (type_of unpacked.ty) (type_of packed.ty) index)) }
 {

@@ -20,8 +20,9 @@ use ps_check_expressions::value::TypedPlace;
 use ps_check_judgement::answer::broken;
 use ps_check_judgement::change::Change;
 use ps_check_judgement::refusal::{Fault, Rule};
-use ps_check_names::opened::{Opened, has_many_fields};
+use ps_check_names::opened::Opened;
 use ps_check_names::scope::Scope;
+use ps_check_names::wides::has_many_fields;
 use ps_syntax::{Selector as Syntax, Variable};
 use ps_tree::tree::{Place, PlaceBase, Selector};
 use ps_tree::types::Ty;
@@ -60,7 +61,7 @@ fn base_in(base: &PlaceBase, count: usize) -> usize
 {
     match base {
         PlaceBase::Entry { .. } => 0,
-        PlaceBase::Opened { which, .. } => count.saturating_sub(*which as usize),
+        PlaceBase::Opened(field) => count.saturating_sub(field.which as usize),
     }
 }
 
@@ -89,18 +90,18 @@ fn source_of(x: &Variable, place: &Place, count: usize) -> Option<Source>
 }
 
 /// Opens a record of many fields within those before it, where a source gives it its type.
-fn open_again(
+fn open_again<'a>(
     x: &Variable,
     source: Source,
-    site: Site<'_>,
+    site: Site<'a>,
     ty: Ty,
-    opened: Opened,
+    opened: Opened<'a>,
     known: Known,
-) -> Result<(Opened, Known), AllocError>
+) -> Result<(Opened<'a>, Known), AllocError>
     requires given { IsGiven (context_at site).domains (regions_at site) opened.records.items
         (spelled (context_at site).text x.now.name) source (type_of ty) }
     requires known { Knows (context_at site).domains (regions_at site) opened.records.items known }
-    ensures records { IfOk result (λ all. all.0.records.items ≡ opened.records.items ++ ty ∷ []) }
+    ensures records { IfOk result (λ all. all.0.records.items ≡ opened.entry.records.items ++ ty ∷ []) }
     ensures known { IfOk result (λ all. Knows (context_at site.entry).domains (regions_at site.entry)
         all.0.records.items all.1) }
 {
@@ -116,18 +117,18 @@ fn open_again(
 }
 
 /// Opens a record of this place and type within those before it.
-fn open_within(
+fn open_within<'a>(
     x: &Variable,
     place: &Place,
-    site: Site<'_>,
+    site: Site<'a>,
     ty: Ty,
-    opened: Opened,
+    opened: Opened<'a>,
     known: Known,
-) -> Result<(Opened, Known), AllocError>
+) -> Result<(Opened<'a>, Known), AllocError>
     requires variable { IsVariable (context_at site) (opened_in (regions_at site) opened.records.items)
         x.now (place_of place.now) (type_of ty) }
     requires known { Knows (context_at site).domains (regions_at site) opened.records.items known }
-    ensures records { IfOk result (λ all. all.0.records.items ≡ opened.records.items ++ ty ∷ []) }
+    ensures records { IfOk result (λ all. all.0.records.items ≡ opened.entry.records.items ++ ty ∷ []) }
     ensures known { IfOk result (λ all. Knows (context_at site.entry).domains (regions_at site.entry)
         all.0.records.items all.1) }
 {
@@ -142,14 +143,14 @@ fn open_within(
 
 /// Opens a record within those before it, whose places and types are given, with what is known of them.
 #[tactic(auto, unfolding(ps_check_names::specs::Views::scope_of))]
-fn open_next(
+fn open_next<'a>(
     x: &Variable,
-    site: Site<'_>,
+    site: Site<'a>,
     changes: &mut Vec<Change>,
     places: &mut Vec<Place>,
-    opened: Opened,
+    opened: Opened<'a>,
     known: Known,
-) -> Result<(Opened, Known), Fault>
+) -> Result<(Opened<'a>, Known), Fault>
     requires { Knows (context_at site).domains (regions_at site) opened.records.items known }
     ensures opened { Answers result (λ all. (
       (
@@ -162,7 +163,7 @@ fn open_next(
         (open_next (context_at site.entry) (
           map place_of places.old.items,
           opened_in
-              (regions_at site.entry) opened.records.items,
+              (regions_at site.entry) opened.entry.records.items,
         ) x.now changes.old.items) }
     ensures known { IfOk result (λ all. Knows (context_at site.entry).domains (regions_at site.entry)
         all.0.records.items all.1) }
@@ -178,11 +179,11 @@ fn open_next(
 }
 
 /// Opens records one after the other, each within those before it: their places, and the records.
-pub(crate) fn open_all(
+pub(crate) fn open_all<'a>(
     records: &[Variable],
-    site: Site<'_>,
+    site: Site<'a>,
     changes: &mut Vec<Change>,
-) -> Result<(Vec<Place>, Opened), Fault>
+) -> Result<(Vec<Place>, Opened<'a>), Fault>
     ensures { Answers result (λ p. (
       (map place_of p.0.items, opened_in (regions_at site.entry) p.1.records.items),
       changes.new.items,
@@ -190,7 +191,7 @@ pub(crate) fn open_all(
         ([], regions_at site.entry) records.now changes.old.items) }
 {
     let mut places = Vec::with_capacity(site.alloc, records.len())?;
-    let mut opened = Opened::new(site.alloc, site.reading.seed);
+    let mut opened = Opened::new(site.alloc, site.reading.seed, site.reading.wides);
     let mut known = Known::new(site.alloc, site.reading.seed);
     for x in records {
         (opened, known) = open_next(x, site, changes, &mut places, opened, known)?;

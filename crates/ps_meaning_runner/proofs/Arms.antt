@@ -94,7 +94,7 @@ member_is x left_box left right_box right is h0 h1 = ap (λ k. t.In (expr_of k) 
     ∙ ap (λ k. t.In (expr_of left_box.value) (set_of k)) h1 ∙ sym (ap expr_of is)
 
 pub assign_is : (x : Statement) (target : Place) (range : Range) (value : Expr) (line : Line) → x
-    ≡ Assign target range value line → t.Assign (place_of target) range (expr_of value) line.number ≡ statement_of x
+    ≡ Assign range target value line → t.Assign (place_of target) range (expr_of value) line.number ≡ statement_of x
 unfolding statement_of
 assign_is x target range value line is = sym (ap statement_of is)
 
@@ -158,25 +158,35 @@ pub new_is : (x : Statement) (place : Place) (pointer : ℕ) (line : Line) → x
 unfolding statement_of
 new_is x place pointer line is = sym (ap statement_of is)
 
-pub pack_is : (x : Statement) (from_box : Box Place Global) (from : Place) (from_ty : Ty) (index : Expr) (line : Line)
-    (to_box : Box Place Global) (to : Place) (to_ty : Ty) → x ≡ Pack from_box from_ty index line to_box to_ty → from
-    ≡ from_box.value → to ≡ to_box.value → t.Pack (place_of from) (type_of from_ty) (expr_of index) line.number
+pub pack_is : (x : Statement) (from_box : Box Place Global) (from : Place) (from_ty_box : Box Ty Global) (from_ty : Ty)
+    (index : Expr) (line : Line) (to_box : Box Place Global) (to : Place) (to_ty_box : Box Ty Global) (to_ty : Ty) → x
+    ≡ Pack from_box from_ty_box index line to_box to_ty_box → from ≡ from_box.value → from_ty ≡ from_ty_box.value → to
+    ≡ to_box.value → to_ty ≡ to_ty_box.value → t.Pack (place_of from) (type_of from_ty) (expr_of index) line.number
     (place_of to) (type_of to_ty) ≡ statement_of x
 unfolding statement_of
-pack_is x from_box from from_ty index line to_box to to_ty is h0 h1 =
+pack_is x from_box from from_ty_box from_ty index line to_box to to_ty_box to_ty is h0 h1 h2 h3 =
     ap (λ k. t.Pack (place_of k) (type_of from_ty) (expr_of index) line.number (place_of to) (type_of to_ty)) h0
-    ∙ ap (λ k. t.Pack (place_of from_box.value) (type_of from_ty) (expr_of index) line.number (place_of k)
-    (type_of to_ty)) h1 ∙ sym (ap statement_of is)
+    ∙ ap (λ k. t.Pack (place_of from_box.value) (type_of k) (expr_of index) line.number (place_of to)
+    (type_of to_ty)) h1
+    ∙ ap (λ k. t.Pack (place_of from_box.value) (type_of from_ty_box.value) (expr_of index) line.number (place_of k)
+    (type_of to_ty)) h2
+    ∙ ap (λ k. t.Pack (place_of from_box.value) (type_of from_ty_box.value) (expr_of index) line.number
+    (place_of to_box.value) (type_of k)) h3 ∙ sym (ap statement_of is)
 
-pub unpack_is : (x : Statement) (from_box : Box Place Global) (from : Place) (from_ty : Ty) (to_box : Box Place Global)
-    (to : Place) (to_ty : Ty) (index : Expr) (line : Line) → x ≡ Unpack from_box from_ty to_box to_ty index line → from
-    ≡ from_box.value → to ≡ to_box.value → t.Unpack (place_of from) (type_of from_ty) (place_of to) (type_of to_ty)
-    (expr_of index) line.number ≡ statement_of x
+pub unpack_is : (x : Statement) (from_box : Box Place Global) (from : Place) (from_ty_box : Box Ty Global)
+    (from_ty : Ty) (to_box : Box Place Global) (to : Place) (to_ty_box : Box Ty Global) (to_ty : Ty) (index : Expr)
+    (line : Line) → x ≡ Unpack from_box from_ty_box to_box to_ty_box index line → from ≡ from_box.value → from_ty
+    ≡ from_ty_box.value → to ≡ to_box.value → to_ty ≡ to_ty_box.value → t.Unpack (place_of from) (type_of from_ty)
+    (place_of to) (type_of to_ty) (expr_of index) line.number ≡ statement_of x
 unfolding statement_of
-unpack_is x from_box from from_ty to_box to to_ty index line is h0 h1 =
+unpack_is x from_box from from_ty_box from_ty to_box to to_ty_box to_ty index line is h0 h1 h2 h3 =
     ap (λ k. t.Unpack (place_of k) (type_of from_ty) (place_of to) (type_of to_ty) (expr_of index) line.number) h0
-    ∙ ap (λ k. t.Unpack (place_of from_box.value) (type_of from_ty) (place_of k) (type_of to_ty)
-    (expr_of index) line.number) h1 ∙ sym (ap statement_of is)
+    ∙ ap (λ k. t.Unpack (place_of from_box.value) (type_of k) (place_of to) (type_of to_ty)
+    (expr_of index) line.number) h1
+    ∙ ap (λ k. t.Unpack (place_of from_box.value) (type_of from_ty_box.value) (place_of k) (type_of to_ty)
+    (expr_of index) line.number) h2
+    ∙ ap (λ k. t.Unpack (place_of from_box.value) (type_of from_ty_box.value) (place_of to_box.value) (type_of k)
+    (expr_of index) line.number) h3 ∙ sym (ap statement_of is)
 
 pub read_is : (x : Statement) (variables_items : Vec ReadVariable Global) (variables : List ReadVariable) → x
     ≡ Read variables_items → variables ≡ variables_items.items → t.Read (map read_of variables) ≡ statement_of x

@@ -4,6 +4,7 @@ ghost use Rattle.std.specs.Prelude.{◌≡◌, ◌++◌, ◌∷◌, [], map, get
 ghost use Rattle.ps_tree.specs.View.{type_of, base_of};
 ghost use Rattle.ps_meaning.specs.Worlds.{contents_in, settled, no_spot, Gives, and_then, give, done};
 ghost use Rattle.ps_meaning.specs.Expressions as m;
+ghost use Rattle.ps_meaning.specs.Values.{step};
 ghost use Rattle.ps_meaning.specs.Statements.{index_place};
 ghost use Rattle.ps_meaning_runner.specs.View.{listed, members_of_set, number_of_place, value_of, spot_of, computed_of};
 ghost use Rattle.ps_meaning_runner.specs.Worlds.{Answers, callee_env, callee_routine, context_of, env_of, world_of};
@@ -14,7 +15,7 @@ use crate::operators::{Computed, fits, interval, set_fits, strings_hold, truth};
 use crate::stop::Halt;
 use crate::value::{Root, Spot, Value, text_values};
 use crate::world::{Context, Env, World, above, routine_above, spot_above};
-use ps_tree::tree::{PlaceBase, Range, Relation};
+use ps_tree::tree::{OpenedField, PlaceBase, Range, Relation};
 use ps_tree::types::{Host, Ordinal, Ty};
 use std::alloc::AllocError;
 use std::rc::Rc;
@@ -228,13 +229,21 @@ impl<'a> World<'a> {
         }
     }
 
+    /// A field of a record that a `with` opened.
+    fn field(&self, field: &OpenedField, c: &Context) -> Result<Spot, AllocError>
+        ensures { IfOk result (λ s. spot_of s ≡ step (get_or (map spot_of c.now.opened.items) field.now.which no_spot)
+            field.now.number) }
+    {
+        self.opened(field.which, c)?.step(field.number)
+    }
+
     /// What a variable's name denotes by itself.
     pub fn denoted(&self, base: &PlaceBase, c: &Context) -> Result<Spot, AllocError>
         ensures { IfOk result (λ s. spot_of s ≡ m.denoted (base_of base.now) (context_of c.now)) }
     {
         match base {
             PlaceBase::Entry { up, index } => spot_above(c, *up, *index),
-            PlaceBase::Opened { which, number, .. } => self.opened(*which, c)?.step(*number),
+            PlaceBase::Opened(field) => self.field(field, c),
         }
     }
 

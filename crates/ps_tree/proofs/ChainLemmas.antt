@@ -46,7 +46,7 @@ unchained : (e : Expr) → ((b : Box Expr Global) (v : Vec ArithmeticStep Global
 unfolding calculated expr_of
 unchained (Number n) h operator line x = refl
 unchained Nil h operator line x = refl
-unchained (Load' p base shape row at) h operator line x = refl
+unchained (Load' p base shape row) h operator line x = refl
 unchained (Plus' p a) h operator line x = refl
 unchained (Minus' p a n) h operator line x = refl
 unchained (Not' p a) h operator line x = refl
@@ -117,8 +117,8 @@ unjoined (Number n) h And x = refl
 unjoined (Number n) h Or x = refl
 unjoined Nil h And x = refl
 unjoined Nil h Or x = refl
-unjoined (Load' p base shape row at) h And x = refl
-unjoined (Load' p base shape row at) h Or x = refl
+unjoined (Load' p base shape row) h And x = refl
+unjoined (Load' p base shape row) h Or x = refl
 unjoined (Plus' p a) h And x = refl
 unjoined (Plus' p a) h Or x = refl
 unjoined (Minus' p a n) h And x = refl
@@ -212,7 +212,7 @@ uncombined : (e : SetExpr) → ((b : Box SetExpr Global) (v : Vec SetStep Global
     → (operator : SetOperator) (x : Tree.SetExpr) → combined operator (set_of e) x ≡ Tree.Combine (set_of e)
     (Tree.set_step_before operator x Tree.no_set_step)
 unfolding combined set_of
-uncombined (LoadSet' p base shape row at) h operator x = refl
+uncombined (LoadSet' p base shape row) h operator x = refl
 uncombined (Constructor' shape row) h operator x = refl
 uncombined (Combine' p a shape row) h operator x = absurd
     (h _ _ (sym (roll-out-SetExpr (Combine' p a shape row)) ∙ ap roll-SetExpr (outs-Combine' p a shape row)

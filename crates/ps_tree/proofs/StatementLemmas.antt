@@ -112,9 +112,9 @@ for_counted s variable at low high from a from_line direction to b to_line body 
     ⊕ statement_extent (statement_of t)) k
     ∙ sym (ap (λ t. statement_extent (statement_of t)) f)
 
-pub pack_counted : (s : Statement) (from : Box Place Global) (p : Place) (from_ty : Ty) (e : Expr) (line : Line)
-    (to : Box Place Global) (q : Place) (to_ty : Ty) → s ≡ Pack from from_ty e line to to_ty → p ≡ from.value → q
-    ≡ to.value → node ⊕ (node ⊕ place_extent (place_of p)) ⊕ (node ⊕ expr_extent (expr_of e))
+pub pack_counted : (s : Statement) (from : Box Place Global) (p : Place) (from_ty : Box Ty Global) (e : Expr)
+    (line : Line) (to : Box Place Global) (q : Place) (to_ty : Box Ty Global) → s
+    ≡ Pack from from_ty e line to to_ty → p ≡ from.value → q ≡ to.value → node ⊕ (node ⊕ place_extent (place_of p)) ⊕ (node ⊕ expr_extent (expr_of e))
     ⊕ (node ⊕ place_extent (place_of q)) ≡ statement_extent (statement_of s)
 unfolding statement_extent statement_of
 pack_counted s from p from_ty e line to q to_ty f g h =
@@ -124,8 +124,8 @@ pack_counted s from p from_ty e line to q to_ty f g h =
     ⊕ (node ⊕ place_extent (place_of x))) h
     ∙ sym (ap (λ t. statement_extent (statement_of t)) f)
 
-pub unpack_counted : (s : Statement) (from : Box Place Global) (p : Place) (from_ty : Ty) (to : Box Place Global)
-    (q : Place) (to_ty : Ty) (e : Expr) (line : Line) → s ≡ Unpack from from_ty to to_ty e line → p ≡ from.value → q
+pub unpack_counted : (s : Statement) (from : Box Place Global) (p : Place) (from_ty : Box Ty Global)
+    (to : Box Place Global) (q : Place) (to_ty : Box Ty Global) (e : Expr) (line : Line) → s ≡ Unpack from from_ty to to_ty e line → p ≡ from.value → q
     ≡ to.value → node ⊕ (node ⊕ place_extent (place_of p)) ⊕ (node ⊕ place_extent (place_of q))
     ⊕ (node ⊕ expr_extent (expr_of e)) ≡ statement_extent (statement_of s)
 unfolding statement_extent statement_of

@@ -45,7 +45,7 @@ use Rattle.ps_tree.specs.declared.tree.Routine.{Routine}
 
 abbrev pub base_of : PlaceBase → Tree.PlaceBase
 base_of (Entry up index) = Tree.Entry up index
-base_of (Opened which ty number) = Tree.Opened which (type_of ty) number
+base_of (Opened field) = Tree.Opened field.value.which (type_of field.value.ty) field.value.number
 
 unfoldable mutual
   pub selector_of : Selector → Tree.Selector
@@ -60,7 +60,7 @@ unfoldable mutual
   pub expr_of : Expr → Tree.Expr
   expr_of (Number n) = Tree.Number n
   expr_of Nil = Tree.Nil
-  expr_of (Load' p base shape row at) = Tree.Load (Tree.Variable (base_of base) (selectors_of_row row))
+  expr_of (Load' p base shape row) = Tree.Load (Tree.Variable (base_of base) (selectors_of_row row))
   expr_of (Plus' p e) = Tree.Plus (expr_of e)
   expr_of (Minus' p e line) = Tree.Minus (expr_of e) line.number
   expr_of (Not' p e) = Tree.Not (expr_of e)
@@ -87,7 +87,7 @@ unfoldable mutual
   operands_of_row (more_of-Expr e rest) = Tree.operand_before (expr_of e) (operands_of_row rest)
 
   pub set_of : SetExpr → Tree.SetExpr
-  set_of (LoadSet' p base shape row at) = Tree.LoadSet (Tree.Variable (base_of base) (selectors_of_row row))
+  set_of (LoadSet' p base shape row) = Tree.LoadSet (Tree.Variable (base_of base) (selectors_of_row row))
   set_of (Constructor' shape row) = Tree.Constructor (members_of_row row)
   set_of (Combine' p e shape row) = Tree.Combine (set_of e) (set_steps_of_row row)
 
@@ -105,14 +105,14 @@ unfoldable mutual
 
   pub structure_of : Structure → Tree.Structure
   structure_of (Literal characters) = Tree.Literal characters
-  structure_of (Contents' p base shape row at ty) = Tree.Contents (Tree.Variable (base_of base) (selectors_of_row row))
+  structure_of (Contents' p base shape row ty) = Tree.Contents (Tree.Variable (base_of base) (selectors_of_row row))
       (type_of ty)
 
   pub argument_of : Argument → Tree.Argument
   argument_of (ByValue e range line) = Tree.ByValue (expr_of e) range line.number
   argument_of (BySet e low high line) = Tree.BySet (set_of e) low high line.number
   argument_of (ByCopy e ty) = Tree.ByCopy (structure_of e) (type_of ty)
-  argument_of (ByVariable' base shape row at) = Tree.ByVariable (Tree.Variable (base_of base) (selectors_of_row row))
+  argument_of (ByVariable' base shape row) = Tree.ByVariable (Tree.Variable (base_of base) (selectors_of_row row))
   argument_of (ByRoutine routine up) = Tree.ByRoutine routine up
   argument_of (ByFormal up index) = Tree.ByFormal up index
 
@@ -120,8 +120,7 @@ unfoldable mutual
   arguments_of_row end_of-Argument = Tree.no_argument
   arguments_of_row (more_of-Argument a rest) = Tree.argument_before (argument_of a) (arguments_of_row rest)
 
--- lists of selectors, and a variable: the place of its name in the text is left out, as for the control variable of a
--- `for` statement
+-- lists of selectors, and a variable
 unfoldable pub selectors_of : List Selector → Tree.Selectors
 selectors_of [] = Tree.no_selector
 selectors_of (s ∷ rest) = Tree.selector_before (selector_of s) (selectors_of rest)
@@ -170,7 +169,7 @@ write_of (WriteText e width) = Tree.WriteText (structure_of e) (width_of width)
 unfoldable mutual
   pub statement_of : Statement → Tree.Statement
   statement_of Empty = Tree.Empty
-  statement_of (Assign place range e line) = Tree.Assign (place_of place) range (expr_of e) line.number
+  statement_of (Assign range place e line) = Tree.Assign (place_of place) range (expr_of e) line.number
   statement_of (AssignSet place low high e line) = Tree.AssignSet (place_of place) low high (set_of e) line.number
   statement_of (AssignStructure place e) = Tree.AssignStructure (place_of place) (structure_of e)
   statement_of (CallProcedure routine up arguments line) = Tree.CallProcedure routine up
@@ -187,10 +186,10 @@ unfoldable mutual
       (expr_of a.value) from_line.number direction (expr_of b.value) to_line.number (statement_of s)
   statement_of (With' places p s) = Tree.With (map place_of places.items) (statement_of s)
   statement_of (New place pointer line) = Tree.New (place_of place) pointer line.number
-  statement_of (Pack a from_ty e line z to_ty) = Tree.Pack (place_of a.value) (type_of from_ty) (expr_of e) line.number
-      (place_of z.value) (type_of to_ty)
-  statement_of (Unpack z from_ty a to_ty e line) = Tree.Unpack (place_of z.value) (type_of from_ty) (place_of a.value)
-      (type_of to_ty) (expr_of e) line.number
+  statement_of (Pack a from_ty e line z to_ty) = Tree.Pack (place_of a.value) (type_of from_ty.value)
+      (expr_of e) line.number (place_of z.value) (type_of to_ty.value)
+  statement_of (Unpack z from_ty a to_ty e line) = Tree.Unpack (place_of z.value) (type_of from_ty.value)
+      (place_of a.value) (type_of to_ty.value) (expr_of e) line.number
   statement_of (Read variables) = Tree.Read (map read_of variables.items)
   statement_of (Readln variables line) = Tree.Readln (map read_of variables.items) line.number
   statement_of (Write parameters) = Tree.Write (map write_of parameters.items)

@@ -87,13 +87,11 @@ pub enum Direction {
     Downto,
 }
 
-/// A variable (6.5): what its name denotes, and the selectors after the name, from left to right. `at` is where the
-/// name begins in the text; it has no bearing on what the program does, and serves only to report a refusal there.
+/// A variable (6.5): what its name denotes, and the selectors after the name, from left to right.
 #[cycle(tree)]
 pub struct Place {
     pub base: PlaceBase,
     pub selectors: Vec<Selector>,
-    pub at: u32,
 }
 
 /// What a variable's name denotes by itself.
@@ -101,8 +99,15 @@ pub enum PlaceBase {
     /// An entire variable, a formal parameter or a function's result: entry `index` of the routine `up` levels out.
     /// A routine's entries are its result, if it is a function, then its formal parameters and its variables.
     Entry { up: u32, index: u32 },
-    /// A field's name alone: field `number` of the record opened by an enclosing `with`; the innermost is 0.
-    Opened { which: u32, ty: Ty, number: u32 },
+    /// A field's name alone. Few names are such, and a place without it is much smaller, so it is on the heap.
+    Opened(Box<OpenedField>),
+}
+
+/// Field `number` of a record opened by an enclosing `with`, of the type `ty`; the innermost is 0.
+pub struct OpenedField {
+    pub which: u32,
+    pub number: u32,
+    pub ty: Ty,
 }
 
 /// A step from a variable to one that it contains or points to.
@@ -304,8 +309,8 @@ pub enum Statement {
     Empty,
     /// An assignment at an ordinal or pointer type; `line` is that of the `:=`, as in the next one.
     Assign {
-        target: Place,
         range: Range,
+        target: Place,
         value: Expr,
         line: Line,
     },
@@ -359,7 +364,7 @@ pub enum Statement {
         condition: Expr,
     },
     /// The control variable is entry `variable` of the routine itself, with values from `low` to `high`; the lines
-    /// are those of the first tokens of the two bounds. `at` is where its name begins in the text, as in a `Place`.
+    /// are those of the first tokens of the two bounds. `at` is where its name begins in the text.
     For {
         variable: u32,
         at: u32,
@@ -385,18 +390,18 @@ pub enum Statement {
     /// `pack(from, index, to)`, with the types of the two arrays; `line` is that of the index's first token.
     Pack {
         from: Box<Place>,
-        from_ty: Ty,
+        from_ty: Box<Ty>,
         index: Expr,
         line: Line,
         to: Box<Place>,
-        to_ty: Ty,
+        to_ty: Box<Ty>,
     },
     /// `unpack(from, to, index)`
     Unpack {
         from: Box<Place>,
-        from_ty: Ty,
+        from_ty: Box<Ty>,
         to: Box<Place>,
-        to_ty: Ty,
+        to_ty: Box<Ty>,
         index: Expr,
         line: Line,
     },
@@ -474,20 +479,11 @@ impl Place {
     /// The variable with one more selector (6.5.3, 6.5.4).
     #[tactic(auto, using(crate::proofs::ChainLemmas::selectors_pushed))]
     pub fn selected(self, selector: Selector) -> Result<Place, AllocError>
-        ensures place { IfOk result (λ p. place_of p ≡ selected (place_of self) (selector_of selector)) }
-        ensures named { IfOk result (λ p. p.at ≡ self.at) }
+        ensures { IfOk result (λ p. place_of p ≡ selected (place_of self) (selector_of selector)) }
     {
-        let Place {
-            base,
-            selectors,
-            at,
-        } = self;
+        let Place { base, selectors } = self;
         let selectors = appended(selectors, selector)?;
-        Ok(Place {
-            base,
-            selectors,
-            at,
-        })
+        Ok(Place { base, selectors })
     }
 }
 
@@ -608,7 +604,6 @@ impl Drop for Place {
         let Place {
             base: _,
             selectors: _,
-            at: _,
         } = self;
     }
 }
@@ -617,12 +612,18 @@ impl Drop for PlaceBase {
     fn drop(self) {
         match self {
             PlaceBase::Entry { up: _, index: _ } => {}
-            PlaceBase::Opened {
-                which: _,
-                ty: _,
-                number: _,
-            } => {}
+            PlaceBase::Opened(_) => {}
         }
+    }
+}
+
+impl Drop for OpenedField {
+    fn drop(self) {
+        let OpenedField {
+            which: _,
+            number: _,
+            ty: _,
+        } = self;
     }
 }
 

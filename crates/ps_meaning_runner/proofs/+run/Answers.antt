@@ -849,14 +849,14 @@ statements::act-returns-in_ok-spot-in-New t c = arm.statement_runs c.args.here.j
 pub statements::act-returns-in-Pack : goal.statements::act-returns-in-Pack
 statements::act-returns-in-Pack t c = arm.statement_runs c.args.here.job.now c.args.here.fuel
     (context_of c.args.here.context.now) (world_of c.args.world.now) c.args.statement.now _ _ c.pack.result
-    c.pack.new.world c.args.here.depth (arm.pack_is _ _ _ _ _ _ _ _ _ c.in-Pack.is c.deref-in-Pack.ensures
-    c.deref-in-Pack-2.ensures) refl c.pack.ensures
+    c.pack.new.world c.args.here.depth (arm.pack_is _ _ _ _ _ _ _ _ _ _ _ c.in-Pack.is c.deref-in-Pack.ensures
+    c.deref-in-Pack-2.ensures c.deref-in-Pack-3.ensures c.deref-in-Pack-4.ensures) refl c.pack.ensures
 
 pub statements::act-returns-in-Unpack : goal.statements::act-returns-in-Unpack
 statements::act-returns-in-Unpack t c = arm.statement_runs c.args.here.job.now c.args.here.fuel
     (context_of c.args.here.context.now) (world_of c.args.world.now) c.args.statement.now _ _ c.unpack.result
-    c.unpack.new.world c.args.here.depth (arm.unpack_is _ _ _ _ _ _ _ _ _ c.in-Unpack.is c.deref-in-Unpack.ensures
-    c.deref-in-Unpack-2.ensures) refl c.unpack.ensures
+    c.unpack.new.world c.args.here.depth (arm.unpack_is _ _ _ _ _ _ _ _ _ _ _ c.in-Unpack.is c.deref-in-Unpack.ensures
+    c.deref-in-Unpack-2.ensures c.deref-in-Unpack-3.ensures c.deref-in-Unpack-4.ensures) refl c.unpack.ensures
 
 pub statements::act-returns-in-Read : goal.statements::act-returns-in-Read
 statements::act-returns-in-Read t c = arm.statement_runs c.args.here.job.now c.args.here.fuel
