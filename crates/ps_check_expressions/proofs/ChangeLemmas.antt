@@ -22,7 +22,7 @@ module _ (c : Context) (at : ℕ) (cs : List Change) where
   unfolding changed selectors_of
   part_of base [] h = absurd (h refl)
   part_of (Entry up entry) (s ∷ ss) h = refl
-  part_of (Opened which ty number) (s ∷ ss) h = refl
+  part_of (Opened field) (s ∷ ss) h = refl
 
   -- a component is not a whole variable
   pub changed_part : (p : Place) → (p.selectors.items ≡ [] → ⊥) → changed c (place_of p) at cs ≡ Yes (tt, cs)

@@ -71,7 +71,7 @@ pub fn changed(
         return Ok(());
     }
     match &place.base {
-        PlaceBase::Opened { .. } => Ok(()),
+        PlaceBase::Opened(_) => Ok(()),
         PlaceBase::Entry { up, index } => {
             let change = Change {
                 up: *up,

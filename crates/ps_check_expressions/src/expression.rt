@@ -1,15 +1,18 @@
 //! The typing of variables and expressions (ISO 7185, 6.5 and 6.7).
+//!
+//! Expressions lie hundreds of levels deep in one another, and each level has a frame of each function of the cycle.
+//! The frames are kept small by hints: what is called beside the recursion is not inlined into it, and the steps that
+//! lead on to the next level share a frame.
 
-ghost use Rattle.std.specs.Prelude.{◌≡◌, List, [], ◌∷◌, ◌++◌, map, option_map, Ok, Err, IfOk, IfErr, IsTrue, Some};
+ghost use Rattle.std.specs.Prelude.{◌≡◌, List, [], ◌∷◌, ◌++◌, map, Ok, Err, IsTrue, Some};
 ghost use Rattle.std.specs.Prelude.{None};
 ghost use Rattle.ps_tree.specs.View.{type_of, expr_of, argument_of, member_of};
 ghost use Rattle.ps_syntax.specs.declared.expression.Simple.{out-Simple};
 ghost use Rattle.ps_syntax.specs.declared.expression.Term.{out-Term};
 ghost use Rattle.ps_check_judgement.specs.declared.change.Change.{Change};
-ghost use Rattle.ps_check_judgement.specs.declared.refusal.Rule.TheVariants.{WrongKind, NotInProfile};
-ghost use Rattle.ps_check_judgement.specs.Judged as j;
-ghost use Rattle.ps_check_judgement.specs.Judged.{Judged, Yes, Answers, some_or};
-ghost use Rattle.ps_tree.specs.Types.{DataType, OrdinalType};
+ghost use Rattle.ps_check_judgement.specs.declared.refusal.Rule.TheVariants.{WrongKind};
+ghost use Rattle.ps_check_judgement.specs.Judged.{Answers};
+ghost use Rattle.ps_tree.specs.Types.{OrdinalType};
 ghost use Rattle.ps_check_names.specs.Constants.{integer, number_at};
 ghost use Rattle.ps_check_judgement.specs.Changing.{through};
 ghost use Rattle.ps_check_names.specs.Regions.{Context, Region};
@@ -17,9 +20,8 @@ ghost use Rattle.ps_check_names.specs.Spelling.{line_in};
 ghost use Rattle.ps_check_names.specs.SectionViews.{section_of};
 ghost use Rattle.ps_check_names.specs.Views.{point_of};
 ghost use Rattle.ps_tree.specs.Tree as Tree;
-ghost use Rattle.ps_check_expressions.specs.Values.{Value, SimpleValue, argument_list};
+ghost use Rattle.ps_check_expressions.specs.Values.{Value, SimpleValue};
 ghost use Rattle.ps_check_expressions.specs.Calls.{passed_variable, actual, actuals, parameters, called, required_call};
-ghost use Rattle.ps_check_expressions.specs.Calls.{standing_alone, look, names_input};
 ghost use Rattle.ps_check_expressions.specs.Expressions as spec;
 ghost use Rattle.ps_check_expressions.specs.Expressions.{negation, gathered, constructed, first_term, standing};
 ghost use Rattle.ps_check_expressions.specs.Expressions.{set_value, indexed, operand, factor_operand, member_at};
@@ -27,10 +29,12 @@ ghost use Rattle.ps_check_expressions.specs.Expressions.{select, add_term, multi
 ghost use Rattle.ps_check_expressions.specs.Expressions.{term_operand, variable_operand};
 ghost use Rattle.ps_check_expressions.specs.View.{context_at, regions_at, value_of, variable_of};
 
-use crate::changed::changed;
-use crate::function::{
-    is_input, is_procedure, look, of_constant, ordinal_of, required_value, text_at,
+use crate::alone::{
+    declared_call, formal_call, is_the_input, look_at_input, look_at_name, name_alone, result_type,
+    standing,
 };
+use crate::changed::changed;
+use crate::function::{is_procedure, of_constant, ordinal_of, required_value, text_at};
 use crate::operators::{Operands, added, compared, multiplied, negated, with_sign, wrong_type};
 use crate::parameter::{by_routine, by_value, by_variable, parameters};
 use crate::place::{component, element, target, variable_found};
@@ -39,7 +43,7 @@ use crate::value::{TypedPlace, TypedValue, loaded};
 use ps_check_judgement::answer::{broken, paired, push_answer};
 use ps_check_judgement::change::Change;
 use ps_check_judgement::refusal::{Fault, Rule};
-use ps_check_names::constants::{ConstantValue, INTEGER, misplacement, number_at};
+use ps_check_names::constants::{INTEGER, misplacement, number_at};
 use ps_check_names::meaning::{Meaning, Required};
 use ps_check_names::scope::Found;
 use ps_check_names::sections::{Section, SectionList};
@@ -48,12 +52,11 @@ use ps_syntax::{
     Simple, Term, Variable,
 };
 use ps_text::Span;
-use ps_tree::line::Line;
 use ps_tree::tree::{Argument, Expr, Member, SetExpr};
 use ps_tree::types::{Ordinal, Packing, Ty, same_host};
-use std::alloc::AllocError;
 
 /// The first term of a simple expression with its sign, if it has one (6.7.1).
+#[inline(never)]
 #[tactic(auto, unfolding(crate::specs::Expressions::first_term))]
 fn first_term(
     site: Site<'_>,
@@ -91,6 +94,7 @@ fn joined(base: Option<Ordinal>, ordinal: Ordinal, at: u32) -> Result<Ordinal, F
 }
 
 /// The set of some members; `base` is the type of the first.
+#[inline(never)]
 #[tactic(auto, using(crate::proofs::Judgement::members_listed, ps_tree::proofs::TreeLemmas::set_of_Constructor), unfolding(crate::specs::Expressions::constructed, crate::specs::View::value_of, ps_tree::specs::View::type_of))]
 fn constructed(members: Vec<Member>, base: Option<Ordinal>) -> TypedValue
     ensures { value_of result ≡ constructed (map member_of members.items, base) }
@@ -107,6 +111,7 @@ fn constructed(members: Vec<Member>, base: Option<Ordinal>) -> TypedValue
 }
 
 /// Members from the first to the last value, the first of which begins at `at`.
+#[inline(never)]
 #[tactic(auto, unfolding(ps_tree::specs::View::member_of))]
 fn range(
     site: Site<'_>,
@@ -130,127 +135,8 @@ fn range(
     Ok((member, from.1))
 }
 
-/// The type of a function's result; its name is at `at`.
-fn result_type(ty: &Option<Ty>, at: u32) -> Result<Ty, Fault>
-    ensures { Answers result (λ t. type_of t) (some_or WrongKind at (option_map type_of ty.now)) }
-{
-    match ty {
-        None => Err(broken(Rule::WrongKind, at)),
-        Some(ty) => Ok(ty.copy()?),
-    }
-}
-
-/// The name that a term is, if it is nothing else.
-#[tactic(auto, using(crate::proofs::Judgement::term_name, crate::proofs::Equations::factor_call, crate::proofs::Equations::factor_number, crate::proofs::Equations::factor_text, crate::proofs::Equations::factor_nil, crate::proofs::Equations::factor_set, crate::proofs::Equations::factor_group, crate::proofs::Equations::factor_not))]
-fn term_name(x: &Term) -> Option<Span>
-    ensures { (c : Context) (Γ : List Region) → (term_operand c Γ x.now).name ≡ result }
-{
-    if !x.more.is_empty() {
-        return None;
-    }
-    match &x.first {
-        Factor::Variable(variable) => {
-            if variable.selectors.is_empty() {
-                Some(variable.name)
-            } else {
-                None
-            }
-        }
-        Factor::Call(..)
-        | Factor::Number(_)
-        | Factor::Text(_)
-        | Factor::Nil(_)
-        | Factor::Set(..)
-        | Factor::Group(..)
-        | Factor::Not(..) => None,
-    }
-}
-
-/// The name that an expression is, if it is nothing else.
-#[tactic(auto, using(crate::proofs::Equations::operand_simple, crate::proofs::Equations::operand_compare, crate::proofs::Judgement::simple_name, crate::proofs::Judgement::simple_no_name, crate::proofs::Judgement::signed_no_name))]
-pub fn name_alone(x: &Syntax) -> Option<Span>
-    ensures { (c : Context) (Γ : List Region) → (operand c Γ x.now).name ≡ result }
-{
-    match x {
-        Syntax::Compare(..) => None,
-        Syntax::Simple(simple) => match &simple.sign {
-            Some(_) => None,
-            None => {
-                if simple.more.is_empty() {
-                    term_name(&simple.first)
-                } else {
-                    None
-                }
-            }
-        },
-    }
-}
-
-/// Whether an expression is the name of the input.
-#[tactic(auto)]
-fn is_the_input(site: Site<'_>, x: &Syntax) -> Result<bool, AllocError>
-    ensures { IfOk result (λ b. b ≡ names_input (context_at site.entry) (regions_at site.entry)
-        (operand (context_at site.entry) (regions_at site.entry) x.now)) }
-{
-    match name_alone(x) {
-        None => Ok(false),
-        Some(name) => match site.denoted(name) {
-            Ok(found) => Ok(is_input(found)),
-            Err(fault) => match fault {
-                Fault::OutOfMemory => Err(AllocError),
-                Fault::Broken { .. } => Ok(false),
-            },
-        },
-    }
-}
-
-/// The call of a declared function whose result is of this type.
-#[tactic(auto, using(crate::proofs::Judgement::arguments_listed, ps_tree::proofs::TreeLemmas::expr_of_Call), unfolding(crate::specs::View::value_of))]
-fn declared_call(routine: u32, up: u32, line: Line, ty: Ty, arguments: Vec<Argument>) -> TypedValue
-    ensures { value_of result ≡ SimpleValue (Tree.Call routine up
-        (argument_list (map argument_of arguments.items)) line.number) (type_of ty) }
-{
-    let call = Expr::Call {
-        routine,
-        up,
-        arguments,
-        line,
-    };
-    TypedValue::Simple(call, ty)
-}
-
-/// The call of a functional parameter whose result is of this type.
-#[tactic(auto, using(crate::proofs::Judgement::arguments_listed, ps_tree::proofs::TreeLemmas::expr_of_CallFormal), unfolding(crate::specs::View::value_of))]
-fn formal_call(up: u32, index: u32, line: Line, ty: Ty, arguments: Vec<Argument>) -> TypedValue
-    ensures { value_of result ≡ SimpleValue (Tree.CallFormal up index
-        (argument_list (map argument_of arguments.items)) line.number) (type_of ty) }
-{
-    let call = Expr::CallFormal {
-        up,
-        index,
-        arguments,
-        line,
-    };
-    TypedValue::Simple(call, ty)
-}
-
-/// No actual parameters, if there are no formal ones. The called name is at `at`.
-pub(crate) fn no_arguments(
-    site: Site<'_>,
-    sections: &SectionList,
-    at: u32,
-) -> Result<Vec<Argument>, Fault>
-    ensures { (changes : List Change) → Answers result (λ list. (map argument_of list.items, changes))
-        (actuals (context_at site.entry) (regions_at site.entry) at sections.now [] changes) }
-{
-    let formals = parameters(site.alloc, sections)?;
-    if formals.len() != 0 {
-        return Err(broken(Rule::NotCongruous, at));
-    }
-    Ok(Vec::new(site.alloc))
-}
-
 /// The value of an unsigned integer.
+#[inline(never)]
 #[tactic(auto, unfolding(crate::specs::View::value_of, ps_tree::specs::View::type_of, ps_tree::specs::View::expr_of))]
 fn number_value(site: Site<'_>, at: Span) -> TypedValue
     ensures { value_of result ≡ SimpleValue (Tree.Number (number_at (context_at site.entry).text at))
@@ -258,121 +144,6 @@ fn number_value(site: Site<'_>, at: Span) -> TypedValue
 {
     let value = number_at(site.reading, at);
     TypedValue::Simple(Expr::Number(value), Ty::Simple(INTEGER))
-}
-
-/// A required function of the input, whose name is at `at`: only eof and eoln look at it.
-fn look_at_name(required: Required, line: Line, at: u32) -> Result<TypedValue, Fault>
-    ensures { Answers result (λ v. value_of v) (some_or NotInProfile at (look required line.number)) }
-{
-    match look(required, line) {
-        None => Err(broken(Rule::NotInProfile, at)),
-        Some(value) => Ok(value),
-    }
-}
-
-/// A required function without actual parameters: eof or eoln of the input, which the program heading has to list.
-fn look_at_input(site: Site<'_>, required: Required, at: u32) -> Result<TypedValue, Fault>
-    ensures { Answers result (λ v. value_of v)
-        (standing_alone at (context_at site.entry).has_input (look required (line_in (context_at site.entry).text at))) }
-{
-    match look(required, site.reading.line(at)) {
-        None => Err(broken(Rule::NotCongruous, at)),
-        Some(value) => {
-            if !site.reading.has_input {
-                drop(value);
-                return Err(broken(Rule::NoInputOutput, at));
-            }
-            Ok(value)
-        }
-    }
-}
-
-/// A required routine whose name is used alone; a procedure has no value.
-#[tactic(auto, unfolding(crate::specs::Calls::required_call, crate::specs::Calls::function_call))]
-fn required_alone(site: Site<'_>, required: Required, at: u32) -> Result<TypedValue, Fault>
-    ensures { (changes : List Change) → Answers result (λ v. (value_of v, changes))
-        (required_call (context_at site.entry) (regions_at site.entry) at required [] changes) }
-{
-    if is_procedure(required) {
-        return Err(broken(Rule::WrongKind, at));
-    }
-    look_at_input(site, required, at)
-}
-
-/// The value of a function that a name denotes, without actual parameters.
-#[tactic(auto, unfolding(crate::specs::Calls::called, ps_check_names::specs::Views::meaning_of))]
-fn call_alone(site: Site<'_>, found: Found<'_>, name: Span) -> Result<TypedValue, Fault>
-    ensures { (changes : List Change) → Answers result (λ v. (value_of v, changes))
-        (called (context_at site.entry) (regions_at site.entry) name.from (point_of found.entry) [] changes) }
-{
-    let line = site.reading.line(name.from);
-    match found {
-        Found::Field { .. } => Err(broken(misplacement(&found), name.from)),
-        Found::Name { up, meaning } => match meaning {
-            Meaning::Routine(heading) => {
-                let ty = result_type(&heading.result, name.from);
-                let arguments = no_arguments(site, &heading.sections, name.from);
-                let (ty, arguments) = paired(ty, arguments)?;
-                Ok(declared_call(heading.number, up, line, ty, arguments))
-            }
-            Meaning::RoutineParameter {
-                entry,
-                sections,
-                result: outcome,
-            } => {
-                let ty = result_type(outcome, name.from);
-                let arguments = no_arguments(site, sections, name.from);
-                let (ty, arguments) = paired(ty, arguments)?;
-                Ok(formal_call(up, *entry, line, ty, arguments))
-            }
-            Meaning::Required(required) => required_alone(site, *required, name.from),
-            Meaning::Constant { .. }
-            | Meaning::Text(_)
-            | Meaning::Type(_)
-            | Meaning::Variable { .. }
-            | Meaning::Parameter { .. }
-            | Meaning::File(_)
-            | Meaning::LeftOut => Err(broken(misplacement(&found), name.from)),
-        },
-    }
-}
-
-/// What a name alone denotes: a constant, the contents of a variable, or a function's value.
-#[tactic(auto, unfolding(crate::specs::Expressions::standing, ps_check_names::specs::Views::constant_of, ps_check_names::specs::Views::meaning_of))]
-fn standing(site: Site<'_>, found: Found<'_>, name: Span) -> Result<TypedValue, Fault>
-    ensures { (changes : List Change) → Answers result (λ v. (value_of v, changes))
-        (standing (context_at site.entry) (regions_at site.entry) name.from (point_of found.entry) changes) }
-{
-    match found {
-        Found::Field { .. } => loaded(
-            site.alloc,
-            variable_found(site.alloc, found, name.from)?,
-            name.from,
-        ),
-        Found::Name { meaning, .. } => match meaning {
-            Meaning::Constant { ordinal, value } => {
-                let constant = ConstantValue::Ordinal(*ordinal, *value);
-                of_constant(constant, name.from)
-            }
-            Meaning::Text(text) => {
-                let text = text.clone()?;
-                of_constant(ConstantValue::Text(text), name.from)
-            }
-            Meaning::Variable { .. } | Meaning::Parameter { .. } => {
-                loaded(
-                    site.alloc,
-                    variable_found(site.alloc, found, name.from)?,
-                    name.from,
-                )
-            }
-            Meaning::Type(_)
-            | Meaning::RoutineParameter { .. }
-            | Meaning::Routine(_)
-            | Meaning::File(_)
-            | Meaning::Required(_)
-            | Meaning::LeftOut => call_alone(site, found, name),
-        },
-    }
 }
 
 /// Whether a simple expression is one factor, without sign and operators, as most are.
@@ -410,6 +181,7 @@ pub fn expr_value(
 
 /// The same, through all levels of operators: a relation of two simple expressions (6.7.2.5), or one alone.
 #[cycle(expression)]
+#[inline(never)]
 #[tactic(auto, using(crate::proofs::Equations::operand_simple, crate::proofs::Judgement::compare_value))]
 fn compared_value(
     x: &Syntax,
@@ -435,6 +207,7 @@ fn compared_value(
 }
 
 #[cycle(expression)]
+#[inline(never)]
 #[tactic(auto, using(crate::proofs::Judgement::simple_value))]
 fn simple_value(x: &Simple, site: Site<'_>, changes: &mut Vec<Change>) -> Result<TypedValue, Fault>
     ensures { Answers result (λ v. (value_of v, changes.new.items))
@@ -447,6 +220,7 @@ fn simple_value(x: &Simple, site: Site<'_>, changes: &mut Vec<Change>) -> Result
 
 /// Terms that are added to a value, which begins at `at`.
 #[cycle(expression)]
+#[inline(never)]
 #[tactic(auto, using(ps_check_judgement::proofs::Lists::stepped_start, ps_check_judgement::proofs::Lists::stepped_next, ps_check_judgement::proofs::Lists::stepped_fault, ps_check_judgement::proofs::Lists::stepped_end))]
 fn add_terms(
     terms: &[AddedTerm],
@@ -467,6 +241,7 @@ fn add_terms(
 }
 
 #[cycle(expression)]
+#[inline(always)]
 #[tactic(auto, using(crate::proofs::Judgement::add_term_value))]
 fn add_term(
     added_term: &AddedTerm,
@@ -488,6 +263,7 @@ fn add_term(
 }
 
 #[cycle(expression)]
+#[inline(never)]
 #[tactic(auto, using(crate::proofs::Judgement::term_value))]
 fn term_value(x: &Term, site: Site<'_>, changes: &mut Vec<Change>) -> Result<TypedValue, Fault>
     ensures { Answers result (λ v. (value_of v, changes.new.items))
@@ -499,6 +275,7 @@ fn term_value(x: &Term, site: Site<'_>, changes: &mut Vec<Change>) -> Result<Typ
 
 /// Factors that a value, which begins at `at`, is multiplied by.
 #[cycle(expression)]
+#[inline(never)]
 #[tactic(auto, using(ps_check_judgement::proofs::Lists::stepped_start, ps_check_judgement::proofs::Lists::stepped_next, ps_check_judgement::proofs::Lists::stepped_fault, ps_check_judgement::proofs::Lists::stepped_end))]
 fn multiply_factors(
     factors: &[MultipliedFactor],
@@ -519,6 +296,7 @@ fn multiply_factors(
 }
 
 #[cycle(expression)]
+#[inline(always)]
 #[tactic(auto, using(crate::proofs::Judgement::multiply_factor_value))]
 fn multiply_factor(
     by: &MultipliedFactor,
@@ -540,6 +318,7 @@ fn multiply_factor(
 }
 
 #[cycle(expression)]
+#[inline(never)]
 #[tactic(auto, using(crate::proofs::Equations::factor_variable, crate::proofs::Equations::factor_call, crate::proofs::Equations::factor_number, crate::proofs::Equations::factor_text, crate::proofs::Equations::factor_nil, crate::proofs::Equations::factor_set, crate::proofs::Equations::factor_group, crate::proofs::Equations::factor_not))]
 fn factor_value(x: &Factor, site: Site<'_>, changes: &mut Vec<Change>) -> Result<TypedValue, Fault>
     ensures { Answers result (λ v. (value_of v, changes.new.items))
@@ -562,6 +341,7 @@ fn factor_value(x: &Factor, site: Site<'_>, changes: &mut Vec<Change>) -> Result
 
 /// The value of the negation of a factor (6.7.2.3).
 #[cycle(expression)]
+#[inline(never)]
 #[tactic(auto, using(crate::proofs::Judgement::negation_value))]
 fn negated_value(x: &Factor, site: Site<'_>, changes: &mut Vec<Change>) -> Result<TypedValue, Fault>
     ensures { Answers result (λ v. (value_of v, changes.new.items))
@@ -574,6 +354,7 @@ fn negated_value(x: &Factor, site: Site<'_>, changes: &mut Vec<Change>) -> Resul
 
 /// The value of a set constructor (6.7.1).
 #[cycle(expression)]
+#[inline(never)]
 #[tactic(auto, using(ps_check_judgement::proofs::Lists::stepped_start, crate::proofs::CallLemmas::gathered_end))]
 fn set_value(
     members: &[SyntaxMember],
@@ -594,6 +375,7 @@ fn set_value(
 }
 
 #[cycle(expression)]
+#[inline(never)]
 #[tactic(auto, using(crate::proofs::Judgement::member_one, crate::proofs::Judgement::member_range))]
 fn member_value(
     x: &SyntaxMember,
@@ -626,6 +408,7 @@ fn member_value(
 }
 
 #[cycle(expression)]
+#[inline(never)]
 #[tactic(auto, using(crate::proofs::Judgement::value_alone, crate::proofs::Judgement::value_selected))]
 fn variable_value(
     x: &Variable,
@@ -646,6 +429,7 @@ fn variable_value(
 
 /// A variable (6.5).
 #[cycle(expression)]
+#[inline(never)]
 #[tactic(auto, using(crate::proofs::Judgement::variable_variable))]
 pub fn variable_place(
     x: &Variable,
@@ -662,6 +446,7 @@ pub fn variable_place(
 
 /// What selectors select of a variable that begins at `at`.
 #[cycle(expression)]
+#[inline(always)]
 #[tactic(auto, using(ps_check_judgement::proofs::Lists::stepped_start, ps_check_judgement::proofs::Lists::stepped_next, ps_check_judgement::proofs::Lists::stepped_fault, ps_check_judgement::proofs::Lists::stepped_end))]
 fn select_all(
     selectors: &[Selector],
@@ -682,6 +467,7 @@ fn select_all(
 }
 
 #[cycle(expression)]
+#[inline(always)]
 #[tactic(auto, using(crate::proofs::Equations::select_index, crate::proofs::Equations::select_field, crate::proofs::Equations::select_content))]
 fn select(
     selector: &Selector,
@@ -709,6 +495,7 @@ fn select(
 
 /// The element of an array, which begins at `at`, at several indices.
 #[cycle(expression)]
+#[inline(always)]
 #[tactic(auto, using(ps_check_judgement::proofs::Lists::stepped_start, crate::proofs::CallLemmas::next_map, crate::proofs::CallLemmas::fault_map, crate::proofs::CallLemmas::end_map))]
 fn index_all(
     indices: &[Syntax],
@@ -729,6 +516,7 @@ fn index_all(
 }
 
 #[cycle(expression)]
+#[inline(always)]
 #[tactic(auto, using(crate::proofs::Judgement::index_value))]
 fn index_one(
     index: &Syntax,
@@ -753,6 +541,7 @@ fn index_one(
 
 /// The value of a function that a name denotes, with its actual parameters.
 #[cycle(expression)]
+#[inline(never)]
 #[tactic(auto, unfolding(crate::specs::Calls::called, ps_check_names::specs::Views::meaning_of))]
 fn call_value(
     operands: &[Syntax],
@@ -800,6 +589,7 @@ fn call_value(
 
 /// The value of a required function (6.6.6).
 #[cycle(expression)]
+#[inline(never)]
 #[tactic(auto, unfolding(crate::specs::Calls::required_call, crate::specs::Calls::function_call))]
 fn required_call(
     operands: &[Syntax],
@@ -833,6 +623,7 @@ fn required_call(
 
 /// The actual parameters of a call whose name is at `at`.
 #[cycle(expression)]
+#[inline(always)]
 pub(crate) fn argument_all(
     operands: &[Syntax],
     site: Site<'_>,
@@ -856,6 +647,7 @@ pub(crate) fn argument_all(
 }
 
 /// A variable that begins at `at` as a variable parameter, for a formal one of type `ty`: it is changed there.
+#[inline(never)]
 fn passed(
     site: Site<'_>,
     changes: &mut Vec<Change>,
@@ -873,6 +665,7 @@ fn passed(
 
 /// The actual parameter for a formal one (6.6.3).
 #[cycle(expression)]
+#[inline(never)]
 pub fn argument(
     x: &Syntax,
     site: Site<'_>,
@@ -908,6 +701,7 @@ pub fn argument(
 
 /// An expression that is a variable alone.
 #[cycle(expression)]
+#[inline(never)]
 pub fn referent(x: &Syntax, site: Site<'_>, changes: &mut Vec<Change>) -> Result<TypedPlace, Fault>
     ensures { Answers result (λ v. (variable_of v, changes.new.items))
         ((operand (context_at site.entry) (regions_at site.entry) x.now).variable changes.old.items) }
@@ -929,6 +723,7 @@ pub fn referent(x: &Syntax, site: Site<'_>, changes: &mut Vec<Change>) -> Result
 
 /// A term that is a variable alone.
 #[cycle(expression)]
+#[inline(never)]
 #[tactic(auto, using(crate::proofs::Judgement::term_variable, crate::proofs::Equations::factor_call, crate::proofs::Equations::factor_number, crate::proofs::Equations::factor_text, crate::proofs::Equations::factor_nil, crate::proofs::Equations::factor_set, crate::proofs::Equations::factor_group, crate::proofs::Equations::factor_not))]
 fn term_referent(x: &Term, site: Site<'_>, changes: &mut Vec<Change>) -> Result<TypedPlace, Fault>
     ensures { Answers result (λ v. (variable_of v, changes.new.items))

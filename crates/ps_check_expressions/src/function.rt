@@ -31,6 +31,7 @@ use ps_tree::types::{Host, Ordinal, Ty, same_host};
 use std::alloc::{AllocError, Global};
 
 /// The constant that a string's token is.
+#[inline(never)]
 pub(crate) fn text_at(site: Site<'_>, at: Span) -> Result<ConstantValue, AllocError>
     ensures { IfOk result (λ v. constant_of v ≡ text_constant (characters (bytes_at (context_at site.entry).text at))) }
 {
@@ -39,6 +40,7 @@ pub(crate) fn text_at(site: Site<'_>, at: Span) -> Result<ConstantValue, AllocEr
 }
 
 /// The value of a constant, whose first token is at `at`.
+#[inline(never)]
 #[tactic(auto, unfolding(crate::specs::Expressions::constant_value, ps_check_names::specs::Views::constant_of, crate::specs::View::value_of, ps_tree::specs::View::type_of, ps_tree::specs::View::expr_of, ps_tree::specs::View::structure_of))]
 pub(crate) fn of_constant(constant: ConstantValue, at: u32) -> Result<TypedValue, Fault>
     ensures { Answers result (λ v. value_of v) (constant_value at (constant_of constant)) }
@@ -62,6 +64,7 @@ pub(crate) fn of_constant(constant: ConstantValue, at: u32) -> Result<TypedValue
 }
 
 /// An expression of an ordinal type, which begins at `at`.
+#[inline(never)]
 #[tactic(auto, unfolding(crate::specs::Values::ordinal_of, crate::specs::View::value_of, ps_tree::specs::View::type_of))]
 pub fn ordinal_of(value: TypedValue, at: u32) -> Result<(Expr, Ordinal), Fault>
     ensures { Answers result (λ v. (expr_of v.0, v.1)) (ordinal_of at (value_of value)) }
@@ -168,6 +171,7 @@ pub(crate) fn function_of(
 }
 
 /// The value of a required function of one operand, which begins at `at`.
+#[inline(never)]
 #[tactic(auto, unfolding(crate::specs::Calls::required_value, crate::specs::View::value_of, ps_tree::specs::View::type_of, ps_tree::specs::View::expr_of))]
 pub(crate) fn required_value(
     alloc: Global,

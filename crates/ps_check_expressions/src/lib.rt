@@ -1,6 +1,7 @@
 //! Code: checks variables, expressions and actual parameters, and gives their types (ISO 7185, 6.5 to 6.7).
 #![tactic(auto)]
 
+pub mod alone;
 pub mod changed;
 pub mod expression;
 pub mod function;

@@ -102,6 +102,7 @@ fn truth(value: Expr) -> TypedValue
 }
 
 /// An operand with a sign before it; `at` is where the operand begins.
+#[inline(never)]
 #[tactic(auto, unfolding(crate::specs::Operators::with_sign, ps_tree::specs::View::expr_of))]
 pub(crate) fn with_sign(
     alloc: Global,
@@ -120,6 +121,7 @@ pub(crate) fn with_sign(
 }
 
 /// `not` before an operand, which begins at `at`.
+#[inline(never)]
 #[tactic(auto, unfolding(crate::specs::Operators::negated, ps_tree::specs::View::expr_of))]
 pub(crate) fn negated(alloc: Global, operand: TypedValue, at: u32) -> Result<TypedValue, Fault>
     ensures { Answers result (λ v. value_of v) (negated at (value_of operand)) }
@@ -215,6 +217,7 @@ fn logic(
 }
 
 /// An adding operator.
+#[inline(never)]
 #[tactic(auto, unfolding(crate::specs::Operators::added))]
 pub(crate) fn added(
     alloc: Global,
@@ -240,6 +243,7 @@ pub(crate) fn added(
 }
 
 /// A multiplying operator.
+#[inline(never)]
 #[tactic(auto, unfolding(crate::specs::Operators::multiplied))]
 pub(crate) fn multiplied(
     alloc: Global,
@@ -492,6 +496,7 @@ fn unlike_values(relation: Relation, left: &TypedValue, at: Operands) -> Fault
 }
 
 /// A relational operator.
+#[inline(never)]
 #[tactic(auto, unfolding(crate::specs::Operators::compared, crate::specs::View::value_of))]
 pub(crate) fn compared(
     alloc: Global,

@@ -118,6 +118,7 @@ fn set_by_value(ty: &Ty, value: SetExpr, from: Ty, line: Line, at: u32) -> Resul
 }
 
 /// An actual parameter by value, for a formal one of type `ty`.
+#[inline(never)]
 #[tactic(auto, unfolding(crate::specs::Calls::by_value, crate::specs::View::value_of, ps_tree::specs::View::type_of, ps_tree::specs::View::argument_of))]
 pub fn by_value(ty: &Ty, value: TypedValue, line: Line, at: u32) -> Result<Argument, Fault>
     ensures { Answers result (λ a. argument_of a) (by_value at (type_of ty.now) (value_of value) line.number) }
@@ -144,6 +145,7 @@ pub fn by_value(ty: &Ty, value: TypedValue, line: Line, at: u32) -> Result<Argum
 }
 
 /// An actual variable parameter, for a formal one of type `ty`.
+#[inline(never)]
 #[tactic(auto, using(ps_tree::proofs::TreeLemmas::argument_of_Variable), unfolding(crate::specs::Calls::by_variable))]
 pub fn by_variable(ty: &Ty, variable: TypedPlace, at: u32) -> Result<Argument, Fault>
     ensures { Answers result (λ a. argument_of a) (by_variable at (type_of ty.now) (variable_of variable)) }
@@ -195,6 +197,7 @@ fn unlike_routine(a: &Option<Ty>, b: &Option<Ty>) -> Rule
 }
 
 /// An actual procedural or functional parameter; its name is at `at`.
+#[inline(never)]
 #[tactic(auto, unfolding(crate::specs::Calls::by_routine, ps_check_names::specs::Views::meaning_of, ps_tree::specs::View::argument_of))]
 pub fn by_routine(
     sections: &SectionList,

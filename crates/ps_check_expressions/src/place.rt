@@ -20,28 +20,35 @@ use ps_check_names::constants::misplacement;
 use ps_check_names::meaning::Meaning;
 use ps_check_names::scope::Found;
 use ps_tree::line::Line;
-use ps_tree::tree::{Expr, Place, PlaceBase, Selector};
+use ps_tree::tree::{Expr, OpenedField, Place, PlaceBase, Selector};
 use ps_tree::types::{Ordinal, Ty, compatible};
-use std::alloc::Global;
+use std::alloc::{AllocError, Global};
 
-/// A variable without selectors; its name is at `at`.
+/// A variable without selectors.
 #[tactic(auto, unfolding(ps_tree::specs::View::selectors_of))]
-fn entire(alloc: Global, base: PlaceBase, at: u32) -> Place
-    ensures place { place_of result ≡ Tree.Variable (base_of base) Tree.no_selector }
-    ensures at { result.at ≡ at }
+fn entire(alloc: Global, base: PlaceBase) -> Place
+    ensures { place_of result ≡ Tree.Variable (base_of base) Tree.no_selector }
 {
     Place {
         base,
         selectors: Vec::new(alloc),
-        at,
     }
 }
 
+/// A field's name alone: a field of a record that an enclosing `with` opened.
+fn opened_field(alloc: Global, which: u32, whole: &Ty, number: u32) -> Result<PlaceBase, AllocError>
+    ensures { IfOk result (λ base. base_of base ≡ Tree.Opened which (type_of whole.now) number) }
+{
+    let ty = whole.copy()?;
+    let field = Box::new(alloc, OpenedField { which, number, ty })?;
+    Ok(PlaceBase::Opened(field))
+}
+
 /// The variable that a name denotes; the name is at `at`.
+#[inline(never)]
 #[tactic(auto, unfolding(crate::specs::Places::variable_at, ps_check_names::specs::Views::meaning_of))]
 pub fn variable_found(alloc: Global, found: Found<'_>, at: u32) -> Result<TypedPlace, Fault>
-    ensures found { Answers result (λ v. variable_of v) (variable_at at (point_of found.entry)) }
-    ensures named { IfOk result (λ v. v.place.at ≡ at) }
+    ensures { Answers result (λ v. variable_of v) (variable_at at (point_of found.entry)) }
 {
     match found {
         Found::Field {
@@ -50,15 +57,10 @@ pub fn variable_found(alloc: Global, found: Found<'_>, at: u32) -> Result<TypedP
             number,
             ty,
         } => {
-            let opened = record.copy()?;
+            let base = opened_field(alloc, which, record, number)?;
             let ty = ty.copy()?;
-            let base = PlaceBase::Opened {
-                which,
-                ty: opened,
-                number,
-            };
             Ok(TypedPlace {
-                place: entire(alloc, base, at),
+                place: entire(alloc, base),
                 ty,
                 in_packed: is_packed(record),
             })
@@ -68,7 +70,7 @@ pub fn variable_found(alloc: Global, found: Found<'_>, at: u32) -> Result<TypedP
                 let ty = ty.copy()?;
                 let base = PlaceBase::Entry { up, index: *entry };
                 Ok(TypedPlace {
-                    place: entire(alloc, base, at),
+                    place: entire(alloc, base),
                     ty,
                     in_packed: false,
                 })
@@ -147,6 +149,7 @@ fn index_of(ty: &Ty, index: TypedValue, at: Operands) -> Result<(Expr, Ty), Faul
 }
 
 /// The element of an array, which begins at `at.first`, at an index, which begins at `at.second`.
+#[inline(never)]
 #[tactic(auto, unfolding(ps_tree::specs::View::selector_of))]
 pub(crate) fn element(
     array: TypedPlace,
@@ -195,6 +198,7 @@ fn field_of(ty: &Ty, name: &[u8], first: u32, at: u32) -> Result<(u32, Ty), Faul
 }
 
 /// The field of a record, which begins at `first`; the field's name is at `at`.
+#[inline(never)]
 #[tactic(auto, unfolding(ps_tree::specs::View::selector_of))]
 pub(crate) fn component(
     base: TypedPlace,
@@ -239,6 +243,7 @@ fn domain_of(site: Site<'_>, ty: &Ty, first: u32) -> Result<(u32, Ty), Fault>
 }
 
 /// What a pointer, which begins at `first`, identifies; `line` is that of the `^`.
+#[inline(never)]
 #[tactic(auto, unfolding(ps_tree::specs::View::selector_of))]
 pub(crate) fn target(
     site: Site<'_>,

@@ -163,6 +163,7 @@ pub(crate) fn set_type_of_both(a: &Ty, b: &Ty) -> Ty
 }
 
 /// The contents of a variable, whose first token is at `at`.
+#[inline(never)]
 #[tactic(auto, using(ps_tree::proofs::TreeLemmas::expr_of_Load, ps_tree::proofs::TreeLemmas::set_of_Load, ps_tree::proofs::TreeLemmas::structure_of_Contents), unfolding(crate::specs::Values::contents, crate::specs::View::value_of, ps_tree::specs::View::type_of))]
 pub(crate) fn loaded(alloc: Global, variable: TypedPlace, at: u32) -> Result<TypedValue, Fault>
     ensures { Answers result (λ v. value_of v) (loaded at (variable_of variable)) }

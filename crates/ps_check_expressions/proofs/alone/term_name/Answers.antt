@@ -2,7 +2,7 @@ use Rattle.std.proofs.Common.{sym, ◌∙◌}
 use Rattle.std.proofs.lemmas.Bool.{true≢false}
 use Rattle.ps_check_expressions.proofs.Equations.{factor_variable}
 use Rattle.ps_check_expressions.proofs.Judgement.{name_alone, name_selected, term_name, term_no_name}
-use Rattle.ps_check_expressions.proofs.expression.term_name.Goals as goal
+use Rattle.ps_check_expressions.proofs.alone.term_name.Goals as goal
 
 pub returns-then-not-is_empty : goal.returns-then-not-is_empty
 returns-then-not-is_empty c = λ d Γ. term_no_name d Γ c.args.x.now

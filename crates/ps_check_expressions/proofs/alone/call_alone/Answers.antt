@@ -4,7 +4,7 @@ use Rattle.ps_check_names.specs.Views.{meaning_of}
 use Rattle.ps_check_expressions.specs.Calls.{called}
 use Rattle.ps_check_expressions.specs.Values.{SimpleValue, argument_list}
 use Rattle.ps_check_expressions.proofs.RoutineLemmas.{call_told, call_yes}
-use Rattle.ps_check_expressions.proofs.expression.call_alone.Goals as goal
+use Rattle.ps_check_expressions.proofs.alone.call_alone.Goals as goal
 
 pub returns-in_err-ty-in-Routine : goal.returns-in_err-ty-in-Routine
 unfolding called meaning_of
