@@ -569,6 +569,11 @@ many(
     f"q({','.join('s' * 32)});", " end.\n",
 )
 many(
+    "set_values_sum", "such calls in one expression",
+    f"program p; type t=set of 1..2; var s:t;y:integer; function f({names('a', 32)}:t):integer;begin f:=1 end; begin y:=",
+    f"f({','.join('s' * 32)})", " end.\n", "+",
+)
+many(
     "text_values", "strings as values",
     "program p; type t=packed array[1..2]of char; procedure q(a,b,c,d:t);begin end; begin ",
     "q('ab','ab','ab','ab');", " end.\n",

@@ -41,7 +41,7 @@ unfolding statement_of
 empty_is x is = sym (ap statement_of is)
 
 pub assign_is : (x : Statement) (target : Place) (range : Range) (e : Expr) (line : Line) → x
-    ≡ Assign target range e line → t.Assign (place_of target) range (expr_of e) line.number ≡ statement_of x
+    ≡ Assign range target e line → t.Assign (place_of target) range (expr_of e) line.number ≡ statement_of x
 unfolding statement_of
 assign_is x target range e line is = sym (ap statement_of is)
 

@@ -14,24 +14,30 @@ pub new_is : (x : Statement) (p : Place) (pointer : ℕ) (line : Line) → x ≡
 unfolding statement_of
 new_is x p pointer line is = sym (ap statement_of is)
 
-pub pack_is : (x : Statement) (first : Box Place Global) (p : Place) (from : Ty) (e : Expr) (line : Line)
-    (second : Box Place Global) (q : Place) (to : Ty) → x ≡ Pack first from e line second to → p ≡ first.value → q
-    ≡ second.value → t.Pack (place_of p) (type_of from) (expr_of e) line.number (place_of q) (type_of to)
-    ≡ statement_of x
+pub pack_is : (x : Statement) (first : Box Place Global) (p : Place) (from : Box Ty Global) (a : Ty) (e : Expr)
+    (line : Line) (second : Box Place Global) (q : Place) (to : Box Ty Global) (b : Ty) → x
+    ≡ Pack first from e line second to → p ≡ first.value → a ≡ from.value → q ≡ second.value → b ≡ to.value → t.Pack
+    (place_of p) (type_of a) (expr_of e) line.number (place_of q) (type_of b) ≡ statement_of x
 unfolding statement_of
-pack_is x first p from e line second q to is g h =
-    ap (λ y. t.Pack (place_of y) (type_of from) (expr_of e) line.number (place_of q) (type_of to)) g
-    ∙ ap (λ y. t.Pack (place_of first.value) (type_of from) (expr_of e) line.number (place_of y) (type_of to)) h
+pack_is x first p from a e line second q to b is f g h k =
+    ap (λ y. t.Pack (place_of y) (type_of a) (expr_of e) line.number (place_of q) (type_of b)) f
+    ∙ ap (λ y. t.Pack (place_of first.value) (type_of y) (expr_of e) line.number (place_of q) (type_of b)) g
+    ∙ ap (λ y. t.Pack (place_of first.value) (type_of from.value) (expr_of e) line.number (place_of y) (type_of b)) h
+    ∙ ap (λ y. t.Pack (place_of first.value) (type_of from.value) (expr_of e) line.number (place_of second.value)
+    (type_of y)) k
     ∙ sym (ap statement_of is)
 
-pub unpack_is : (x : Statement) (first : Box Place Global) (p : Place) (from : Ty) (second : Box Place Global)
-    (q : Place) (to : Ty) (e : Expr) (line : Line) → x ≡ Unpack first from second to e line → p ≡ first.value → q
-    ≡ second.value → t.Unpack (place_of p) (type_of from) (place_of q) (type_of to) (expr_of e) line.number
-    ≡ statement_of x
+pub unpack_is : (x : Statement) (first : Box Place Global) (p : Place) (from : Box Ty Global) (a : Ty)
+    (second : Box Place Global) (q : Place) (to : Box Ty Global) (b : Ty) (e : Expr) (line : Line) → x
+    ≡ Unpack first from second to e line → p ≡ first.value → a ≡ from.value → q ≡ second.value → b ≡ to.value
+    → t.Unpack (place_of p) (type_of a) (place_of q) (type_of b) (expr_of e) line.number ≡ statement_of x
 unfolding statement_of
-unpack_is x first p from second q to e line is g h =
-    ap (λ y. t.Unpack (place_of y) (type_of from) (place_of q) (type_of to) (expr_of e) line.number) g
-    ∙ ap (λ y. t.Unpack (place_of first.value) (type_of from) (place_of y) (type_of to) (expr_of e) line.number) h
+unpack_is x first p from a second q to b e line is f g h k =
+    ap (λ y. t.Unpack (place_of y) (type_of a) (place_of q) (type_of b) (expr_of e) line.number) f
+    ∙ ap (λ y. t.Unpack (place_of first.value) (type_of y) (place_of q) (type_of b) (expr_of e) line.number) g
+    ∙ ap (λ y. t.Unpack (place_of first.value) (type_of from.value) (place_of y) (type_of b) (expr_of e) line.number) h
+    ∙ ap (λ y. t.Unpack (place_of first.value) (type_of from.value) (place_of second.value) (type_of y)
+    (expr_of e) line.number) k
     ∙ sym (ap statement_of is)
 
 pub read_is : (x : Statement) (v : Vec ReadVariable Global) (items : List ReadVariable) → x ≡ Read v → items ≡ v.items

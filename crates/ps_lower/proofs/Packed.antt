@@ -2,7 +2,6 @@
 use Rattle.std.proofs.Common.{◌≡◌, ℕ, zero, suc, pos, ◌+◌, ◌-◌, ◌+ℤ◌, ◌<◌, ◌≤◌, nat_le, if◌then◌else◌, Bool, true}
 use Rattle.std.proofs.Common.{false, List, [], ◌∷◌, ◌++◌, length, map, get_or, Result, OnOk, refl, ap, sym, subst, ◌∙◌}
 use Rattle.std.proofs.Common.{arith, length-append}
-use Rattle.std.specs.Prelude.{Ok}
 use Rattle.std.proofs.lemmas.Bool.Decides.{nat_tests}
 use Rattle.ps_tree.specs.Types.{DataType, PointerType}
 use Rattle.ps_tree.specs.declared.types.Ordinal.{Ordinal}
@@ -19,8 +18,6 @@ use Rattle.ps_lower_layout.specs.Shapes.{shape_of, component_bytes}
 use Rattle.ps_lower_code.specs.Scopes.{Scope, Site, PackBytes, UnpackBytes, even_from, held, site_code, helper}
 use Rattle.ps_lower_code.specs.Values.{is_byte, is_byte_array, place_code, place_site, store_code}
 use Rattle.ps_lower_code.specs.Statements.{expr_code, first_code, components_code, room_code, statement_code}
-use Rattle.ps_lower.specs.Refused.{most_instructions}
-use Rattle.ps_lower.specs.declared.refusal.LowerRefusal.{LowerRefusal}
 use Rattle.ps_lower.proofs.Appends.{and_then}
 use Rattle.ps_lower.proofs.Arms.{behind}
 
@@ -202,19 +199,6 @@ new_made k p pointer line d a b s site byte r new o2 o1 old at_a at_b at_s h1 is
     (shape_of (t.domain_at k.program pointer))) h1 h2)
     (subst (λ (y : Site). OnOk r (new ≡ o2 ++ store_code (is_byte p) y b)) is_site
     (subst (λ c. OnOk r (new ≡ o2 ++ store_code c site b)) is_width h)))))
-
--- what is too large after the first values
-pub new_large : (k : Scope) (p : t.Place) (pointer line d a b s : ℕ) (site : Site) (byte : Bool)
-    (o2 o1 old : List Instruction) → a ≡ held true d → b ≡ held true (suc a) → s ≡ even_from (suc b) → o1 ≡ old
-    ++ place_code k p a 0 → site ≡ place_site k p a → byte ≡ is_byte p → o2 ≡ o1 ++ i.New b pointer line ∷ first_code k
-    (base.Temporary b) s 0 (shape_of (t.domain_at k.program pointer)) → most_instructions < length o2
-    → most_instructions < length (old ++ statement_code k (t.New p pointer line) d)
-new_large k p pointer line d a b s site byte o2 o1 old at_a at_b at_s h1 is_site is_width h2 large =
-    let r : Result (Unit {0}) LowerRefusal = Ok tt in
-    let made : o2 ++ store_code byte site b ≡ old ++ statement_code k
-    (t.New p pointer line) d = new_made k p pointer line d a b s site byte r
-    (o2 ++ store_code byte site b) o2 o1 old at_a at_b at_s h1 is_site is_width h2 refl in
-    omega (arith, large, ap length made, length-append o2 (store_code byte site b))
 
 -- ---- the domain of a pointer type
 

@@ -22,7 +22,8 @@ use tac_code::code::{TacRaw, TacRoutine};
 use tac_code::tac::Tac;
 use tac_rt::routines;
 
-// The code of all routines, with their marks; refused where together they have more than `MOST_INSTRUCTIONS` instructions.
+// The code of all routines, with their marks; refused where together they have more than `MOST_INSTRUCTIONS`
+// instructions.
 fn routines_of(
     alloc: Global,
     checked: &Frames,
@@ -110,7 +111,7 @@ pub fn lower_marked(alloc: Global, checked: &Checked) -> Result<Marked, LowerRef
 /// # Errors
 ///
 /// A growth was refused, or the program's own routines have more instructions than an image holds words: it is then
-/// refused as soon as they are complete, before the others are made.
+/// refused behind the statement or the routine that has too many.
 pub fn lower(alloc: Global, checked: &Checked) -> Result<Tac, LowerRefusal>
     requires sound { IsSound (code_of run_time_routines (program_in checked.now)) }
     requires light { AreLight (program_in checked.now) }

@@ -5,7 +5,6 @@ ghost use Rattle.ps_lower_bounds.specs.Weights.{first_weight, statement_weight};
 ghost use Rattle.ps_lower_code.specs.Statements.{first_code, statement_code};
 ghost use Rattle.ps_lower_layout.specs.Shapes.{shape_of};
 ghost use Rattle.ps_lower.specs.Levels.{scope_of};
-ghost use Rattle.ps_lower.specs.Refused.{Adds};
 ghost use Rattle.ps_tree.specs.Tree as tree;
 ghost use Rattle.ps_tree.specs.Tree.{domain_at};
 ghost use Rattle.ps_tree.specs.View.{place_of};
@@ -17,7 +16,6 @@ use crate::firsts::first_object;
 use crate::level::Level;
 use crate::out::Code;
 use crate::places::{is_byte, keep};
-use crate::refusal::{LowerRefusal, MOST_INSTRUCTIONS, lifted};
 use crate::values::place;
 use ps_tree::line::Line;
 use ps_tree::tree::Place;
@@ -69,8 +67,7 @@ fn object(
     first_of_domain(out, k, pointer, to, t)
 }
 
-/// An object that a pointer variable points to from now on. Its first values are the only code that is longer than the
-/// text, so the limit is checked after them.
+/// An object that a pointer variable points to from now on.
 pub fn create(
     out: &mut Code,
     k: &Level,
@@ -78,9 +75,9 @@ pub fn create(
     pointer: u32,
     line: Line,
     d: u32,
-) -> Result<(), LowerRefusal>
+) -> Result<(), AllocError>
     requires { d + statement_weight (scope_of k.now) (tree.New (place_of target.now) pointer line.number) d ≤ DEEPEST }
-    ensures { Adds result out.old out.new (statement_code (scope_of k.now)
+    ensures { OnOk result (out.new ≡ out.old ++ statement_code (scope_of k.now)
         (tree.New (place_of target.now) pointer line.number) d) }
 {
     let at = held(true, d);
@@ -88,8 +85,5 @@ pub fn create(
     let free = even_above(to);
     let site = place(out, k, target, at, 0)?;
     object(out, k, pointer, to, free, line)?;
-    if out.place() > MOST_INSTRUCTIONS {
-        return Err(LowerRefusal::CodeTooLarge);
-    }
-    lifted(keep(out, is_byte(target), site, to))
+    keep(out, is_byte(target), site, to)
 }

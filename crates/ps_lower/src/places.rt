@@ -20,7 +20,7 @@ use crate::out::Code;
 use crate::shapes::{component_bytes, field_offset, index_of, is_byte_array};
 use crate::site::Site;
 use ps_tree::line::Line;
-use ps_tree::tree::{Place, PlaceBase, Selector};
+use ps_tree::tree::{OpenedField, Place, PlaceBase, Selector};
 use ps_tree::types::Ty;
 use std::alloc::AllocError;
 use tac_code::code::{Base, Instruction};
@@ -104,19 +104,19 @@ fn opened(k: &Level, which: u32) -> Option<Site>
 }
 
 /// A field of a record that `with` opened.
-fn field(k: &Level, which: u32, ty: &Ty, number: u32) -> Site
-    requires { (field_site (scope_of k.now) (slice_get (scope_of k.now).opened which)
-        (field_offset (shape_of (type_of ty.now)) number)).offset ≤ 2147483647 }
-    ensures { site_of result ≡ field_site (scope_of k.now) (slice_get (scope_of k.now).opened which)
-        (field_offset (shape_of (type_of ty.now)) number) }
+fn field(k: &Level, field: &OpenedField) -> Site
+    requires { (field_site (scope_of k.now) (slice_get (scope_of k.now).opened field.now.which)
+        (field_offset (shape_of (type_of field.now.ty)) field.now.number)).offset ≤ 2147483647 }
+    ensures { site_of result ≡ field_site (scope_of k.now) (slice_get (scope_of k.now).opened field.now.which)
+        (field_offset (shape_of (type_of field.now.ty)) field.now.number) }
 {
-    let Some(record) = opened(k, which) else {
+    let Some(record) = opened(k, field.which) else {
         return Site {
             base: Base::Frame,
             offset: 0,
         };
     };
-    behind(record, field_offset(ty, number))
+    behind(record, field_offset(&field.ty, field.number))
 }
 
 /// What a name denotes.
@@ -130,7 +130,7 @@ pub fn name(out: &mut Code, k: &Level, name: &PlaceBase, t: u32) -> Result<Site,
             let base = frame(out, k, t, *up)?;
             reference(out, k, base, t, *up, *index)
         }
-        PlaceBase::Opened { which, ty, number } => Ok(field(k, *which, ty, *number)),
+        PlaceBase::Opened(opened) => Ok(field(k, opened)),
     }
 }
 

@@ -5,6 +5,7 @@ ghost use Rattle.tac_code.specs.declared.code.Instruction.{Instruction};
 ghost use Rattle.ps_lower.specs.Refused.{Adds};
 ghost use Rattle.ps_lower.specs.declared.refusal.LowerRefusal.TheVariants.{OutOfMemory};
 
+use crate::out::Code;
 use std::alloc::{AllocError, AllocFailed};
 
 /// The most instructions of a program. An image holds no more words, and each instruction takes at least one word.
@@ -40,5 +41,16 @@ pub fn lifted(added: Result<(), AllocError>) -> Result<(), LowerRefusal>
     ensures { (old new code : List Instruction) → OnOk added (new ≡ old ++ code) → Adds result old new code }
 {
     added?;
+    Ok(())
+}
+
+/// Refuses code that no image holds. Each statement ends with this look, so that code which is too large is told before
+/// it takes much more memory than the largest that an image holds.
+pub fn limited(out: &Code) -> Result<(), LowerRefusal>
+    ensures { (old code : List Instruction) → out.now ≡ old ++ code → Adds result old out.now code }
+{
+    if out.place() > MOST_INSTRUCTIONS {
+        return Err(LowerRefusal::CodeTooLarge);
+    }
     Ok(())
 }

@@ -23,23 +23,23 @@ use crate::out::Code;
 use crate::packing::{pack, unpack};
 use crate::procedures::{call_formal_procedure, call_procedure};
 use crate::reads::{readln, reads};
-use crate::refusal::{LowerRefusal, lifted};
+use crate::refusal::{LowerRefusal, lifted, limited};
 use crate::turns::{Control, control_of, end_turn, open_turns, past_relation, turns_of};
 use crate::values::{front, value};
 use crate::writes::{writeln, writes};
 use ps_tree::line::Line;
 use ps_tree::tree::{CaseElement, Expr, Place, Statement};
 
-/// The code of a statement, marked as that of the next one in the text.
+/// The code of a statement, marked as that of the next one in the text, and refused where there is too much code then.
 #[cycle(statements)]
 pub fn statement(out: &mut Code, k: &Level, action: &Statement, d: u32) -> Result<(), LowerRefusal>
     requires { d + statement_weight (scope_of k.now) (statement_of action.now) d ≤ DEEPEST }
     ensures { Adds result out.old out.new (statement_code (scope_of k.now) (statement_of action.now) d) }
 {
     let outer = out.begin_statement();
-    let done = act(out, k, action, d);
+    act(out, k, action, d)?;
     out.end_statement(outer);
-    done
+    limited(out)
 }
 
 /// The code of a statement, by its form.
@@ -120,7 +120,7 @@ fn act(out: &mut Code, k: &Level, action: &Statement, d: u32) -> Result<(), Lowe
             place,
             pointer,
             line,
-        } => create(out, k, place, *pointer, *line, d),
+        } => lifted(create(out, k, place, *pointer, *line, d)),
         Statement::Pack {
             from,
             from_ty,

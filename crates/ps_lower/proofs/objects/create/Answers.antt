@@ -1,17 +1,14 @@
-use Rattle.ps_tree.specs.Tree as tree
 use Rattle.ps_tree.specs.View.{place_of}
-use Rattle.ps_lower_code.specs.Statements.{statement_code}
 use Rattle.ps_lower.specs.Levels.{scope_of, site_of}
 use Rattle.ps_lower.proofs.Packed.{held_told, new_made}
 use Rattle.ps_lower.proofs.objects.create.Goals as goal
 
 pub returns : goal.returns
-returns c = c.lifted.ensures c.args.out.now c.keep.new.out
-    (statement_code (scope_of c.args.k.now) (tree.New (place_of c.args.target.now) c.args.pointer c.args.line.number) c.args.d)
-    (new_made (scope_of c.args.k.now) (place_of c.args.target.now) c.args.pointer c.args.line.number c.args.d c.held-at.result
+returns c =
+    new_made (scope_of c.args.k.now) (place_of c.args.target.now) c.args.pointer c.args.line.number c.args.d c.held-at.result
     c.held-to.result c.even_above-free.result
     (site_of c.in_ok-site.site) c.is_byte.result c.keep.result c.keep.new.out c.object.new.out c.place.new.out
     c.args.out.now
     c.held-at.ensures.value (held_told c.held-at.result c.held-to.result c.held-to.ensures.value)
     c.even_above-free.ensures.value c.in_ok-site.ensures.code c.in_ok-site.ensures.site c.is_byte.ensures
-    c.in_ok-object.ensures c.keep.ensures)
+    c.in_ok-object.ensures c.keep.ensures

@@ -194,19 +194,22 @@ act-returns-in-AssignSet t c = act_lifted
     c.assign_set.ensures
 
 pub act-returns-in-New : goal.act-returns-in-New
-act-returns-in-New t c = act (scope_of c.args.k.now) c.args.action.now _ c.args.d c.create.result c.create.new.out
-    c.args.out.now (new_is _ _ _ _ c.in-New.is) c.create.ensures
+act-returns-in-New t c = act_lifted
+    (scope_of c.args.k.now) c.args.action.now _ c.args.d c.create.result c.lifted-in-New.result c.create.new.out
+    c.args.out.now (new_is _ _ _ _ c.in-New.is) c.lifted-in-New.ensures c.create.ensures
 
 pub act-returns-in-Pack : goal.act-returns-in-Pack
 act-returns-in-Pack t c = act_lifted
     (scope_of c.args.k.now) c.args.action.now _ c.args.d c.pack.result c.lifted-in-Pack.result c.pack.new.out
-    c.args.out.now (pack_is _ _ _ _ _ _ _ _ _ c.in-Pack.is c.deref-in-Pack.ensures c.deref-in-Pack-2.ensures)
+    c.args.out.now (pack_is _ _ _ _ _ _ _ _ _ _ _ c.in-Pack.is c.deref-in-Pack.ensures c.deref-in-Pack-2.ensures
+    c.deref-in-Pack-3.ensures c.deref-in-Pack-4.ensures)
     c.lifted-in-Pack.ensures c.pack.ensures
 
 pub act-returns-in-Unpack : goal.act-returns-in-Unpack
 act-returns-in-Unpack t c = act_lifted
     (scope_of c.args.k.now) c.args.action.now _ c.args.d c.unpack.result c.lifted-in-Unpack.result c.unpack.new.out
-    c.args.out.now (unpack_is _ _ _ _ _ _ _ _ _ c.in-Unpack.is c.deref-in-Unpack.ensures c.deref-in-Unpack-2.ensures)
+    c.args.out.now (unpack_is _ _ _ _ _ _ _ _ _ _ _ c.in-Unpack.is c.deref-in-Unpack.ensures c.deref-in-Unpack-2.ensures
+    c.deref-in-Unpack-3.ensures c.deref-in-Unpack-4.ensures)
     c.lifted-in-Unpack.ensures c.unpack.ensures
 
 pub act-returns-in-Read : goal.act-returns-in-Read
@@ -362,11 +365,13 @@ act-create-requires t c = let l = room_in (scope_of c.args.k.now) c.args.action.
 
 pub act-pack-requires : goal.act-pack-requires
 act-pack-requires t c = let l = room_in (scope_of c.args.k.now) c.args.action.now _ c.args.d
-    (pack_is _ _ _ _ _ _ _ _ _ c.in-Pack.is c.deref-in-Pack.ensures c.deref-in-Pack-2.ensures) c.requires in l
+    (pack_is _ _ _ _ _ _ _ _ _ _ _ c.in-Pack.is c.deref-in-Pack.ensures c.deref-in-Pack-2.ensures
+    c.deref-in-Pack-3.ensures c.deref-in-Pack-4.ensures) c.requires in l
 
 pub act-unpack-requires : goal.act-unpack-requires
 act-unpack-requires t c = let l = room_in (scope_of c.args.k.now) c.args.action.now _ c.args.d
-    (unpack_is _ _ _ _ _ _ _ _ _ c.in-Unpack.is c.deref-in-Unpack.ensures c.deref-in-Unpack-2.ensures) c.requires in l
+    (unpack_is _ _ _ _ _ _ _ _ _ _ _ c.in-Unpack.is c.deref-in-Unpack.ensures c.deref-in-Unpack-2.ensures
+    c.deref-in-Unpack-3.ensures c.deref-in-Unpack-4.ensures) c.requires in l
 
 pub act-reads-requires : goal.act-reads-requires
 act-reads-requires t c = let l = room_in (scope_of c.args.k.now) c.args.action.now _ c.args.d
@@ -397,6 +402,13 @@ statements-statement-requires t c =
     (search (rules, the_lemmas, get_or_read), omega (arith, l, r))
 
 -- ---- refusals that are handed on
+
+pub statement-returns : goal.statement-returns
+statement-returns t c = c.limited.ensures c.args.out.now
+    (statement_code (scope_of c.args.k.now) (statement_of c.args.action.now) c.args.d)
+    (c.end_statement.ensures ∙ c.in_ok-act.ensures
+    ∙ ap (λ o. o ++ statement_code (scope_of c.args.k.now) (statement_of c.args.action.now) c.args.d)
+    c.begin_statement-outer.ensures)
 
 pub statements-returns-in_err-statement : goal.statements-returns-in_err-statement
 statements-returns-in_err-statement t c =
