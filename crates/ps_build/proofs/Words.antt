@@ -24,7 +24,7 @@ use Rattle.risc_alloc.specs.Slots.{every_slot}
 use Rattle.risc_alloc.proofs.Whole.{every_slot_valid}
 use Rattle.risc_emit_relation.specs.Context.{Context, home, is_program}
 use Rattle.risc_emit_forms.specs.Pieces.{Label, Piece}
-use Rattle.risc_emit_forms.specs.Told.{folded}
+use Rattle.risc_emit_forms.specs.Told.{short_of, near_of, folded}
 use Rattle.risc_emit_forms.specs.Forms as form
 use Rattle.risc_emit_laws.specs.Drawn.{body_pieces, routine_pieces, routines_pieces, start_pieces}
 use Rattle.risc_emit.specs.Layout.{laid_out}
@@ -119,19 +119,19 @@ module _ (c : Context) (r : ℕ) where
   pointer_word told a error line = either (nat_eq error 0) _ _ (one _ _)
       (either (form.is_told c r told a) _ _ (one _ _) (before (form.bring c r 12 _) _ (bring_word 12 _)))
 
-  component_word : (bent : Option (ℕ × ℕ)) (t : ℕ) (a : Base) (q : ℕ) → HasWord (form.component c r bent t a q)
+  component_word : (bent : Option (ℕ × ℤ)) (t : ℕ) (a : Base) (q : ℕ) → HasWord (form.component c r bent t a q)
   component_word None t a q = behind (form.base_address c r a) _ (one _ _)
   component_word (Some bent) t a q = one _ _
 
-  steps_word : (bent : Option (ℕ × ℕ)) (t : ℕ) (a : Base) (q width : ℕ) → HasWord (form.steps_form c r bent t a q width)
+  steps_word : (bent : Option (ℕ × ℤ)) (t : ℕ) (a : Base) (q width : ℕ) → HasWord (form.steps_form c r bent t a q width)
   steps_word bent t a q width = behind (form.scaled c r q width) _ (component_word bent t a _)
 
-  near_component_word : (n : ℕ) (bent : Option (ℕ × ℕ)) (t : ℕ) (a : Base) (q : ℕ) → HasWord
+  near_component_word : (n : ℕ) (bent : Option (ℕ × ℤ)) (t : ℕ) (a : Base) (q : ℕ) → HasWord
       (form.near_component c r n bent t a q)
   near_component_word n None t a q = behind (form.sum c r (form.base_register c r a) n) _ (one _ _)
-  near_component_word n (Some bent) t a q = one _ _
+  near_component_word n (Some bent) t a q = behind (form.near_code c r a) _ (one _ _)
 
-  index_by_word : (o : Option ℕ) (bent : Option (ℕ × ℕ)) (t : ℕ) (a : Base) (i : ℕ) (low high : ℤ)
+  index_by_word : (o : Option ℕ) (bent : Option (ℕ × ℤ)) (t : ℕ) (a : Base) (i : ℕ) (low high : ℤ)
       (width error line : ℕ) → HasWord (form.index_by c r o bent t a i low high width error line)
   index_by_word None bent t a i low high width error line =
       let at = form.fetched c r 12 (home c r i) in
@@ -142,10 +142,10 @@ module _ (c : Context) (r : ℕ) where
       behind (form.fetch c r 12 (home c r i)) _
       (behind (form.scaled c r at width) _ (near_component_word n bent t a _))
 
-  index_word : (bent : Option (ℕ × ℕ)) (t : ℕ) (a : Base) (i : ℕ) (low high : ℤ) (width error line : ℕ) → HasWord
+  index_word : (bent : Option (ℕ × ℤ)) (t : ℕ) (a : Base) (i : ℕ) (low high : ℤ) (width error line : ℕ) → HasWord
       (form.index_form c r bent t a i low high width error line)
   index_word bent t a i low high width error line =
-      index_by_word (folded c r a low high width error) bent t a i low high width error line
+      index_by_word (short_of (folded c r a low high width error) (near_of bent a)) bent t a i low high width error line
 
   address_word : (d : ℕ) (a : Base) (n : ℕ) → HasWord (form.address c r d a n)
   address_word d a n = behind (form.base_code c r a) _ (either _ _ _ (one _ _) (one _ _))
@@ -153,7 +153,7 @@ module _ (c : Context) (r : ℕ) where
   load_form_word : (width : _) (t : ℕ) (a : Base) (n : ℕ) → HasWord (form.load_form c r width t a n)
   load_form_word width t a n = behind (form.reach c r a n) _ (one _ _)
 
-  word_form_word : (bent : Option (ℕ × ℕ)) (t : ℕ) (a : Base) (n : ℕ) → HasWord (form.word_form c r bent t a n)
+  word_form_word : (bent : Option (ℕ × ℤ)) (t : ℕ) (a : Base) (n : ℕ) → HasWord (form.word_form c r bent t a n)
   word_form_word None t a n = load_form_word _ t a n
   word_form_word (Some bent) t a n = one _ _
 

@@ -1,6 +1,6 @@
 -- What is known of the flags at a place of a body is what is known there for the code.
-use Rattle.std.proofs.Common.{◌≡◌, ℕ, zero, suc, ◌+◌, ◌-◌, ◌<◌, ◌≤◌, Bool, true, false, cond, List, [], ◌∷◌, length}
-use Rattle.std.proofs.Common.{Option, Some, None, slice_get, get_or, refl, sym, ap, ◌∙◌, subst, arith}
+use Rattle.std.proofs.Common.{◌≡◌, ℕ, zero, suc, ◌+◌, ◌-◌, ◌<◌, ◌≤◌, ◌⊎◌, inl, inr, Bool, true, false, cond, List, [], ◌∷◌, length}
+use Rattle.std.proofs.Common.{ℤ, Option, Some, None, slice_get, get_or, refl, sym, ap, ◌∙◌, subst, arith}
 use Rattle.tac_code.specs.declared.code.Instruction.{Instruction}
 use Rattle.tac_code.specs.declared.code.TacRoutine.{TacRoutine}
 use Rattle.tac_code.specs.declared.code.Instruction.TheVariants.{Literal, Copy, Arithmetic, Bits, Compare, CheckRange}
@@ -9,22 +9,23 @@ use Rattle.tac_code.specs.declared.code.Instruction.TheVariants.{Store, LoadByte
 use Rattle.tac_code.specs.declared.code.Instruction.TheVariants.{BranchBack, Call, CallValue, Return, Trap, Take, Put}
 use Rattle.tac_code.specs.declared.code.Instruction.TheVariants.{New, End}
 use Rattle.tac_code.specs.Meaning.{routines, fetch}
-use Rattle.risc_emit_forms.proofs.Flags.{bent_load_is}
+use Rattle.risc_emit_forms.proofs.Flags.{IsLoad, BentLoad, BentRow, bent_is}
 use Rattle.risc_emit.specs.Passes.{LoadsNear}
 use Rattle.risc_emit_relation.specs.Context.{Context}
-use Rattle.risc_emit_forms.specs.Told.{jumped, told, told_in, told_at, bend, bent, bent_in, bent_at}
+use Rattle.risc_emit_forms.specs.Told.{jumped, told, told_in, told_at, row, row_bent, bend, load_bent, bent, bent_in}
+use Rattle.risc_emit_forms.specs.Told.{bent_at}
 
 pub told_here : (c : Context) (r k : ℕ) (routine : TacRoutine) (body : List Instruction) (t : Option ℕ) → slice_get
     (routines c.code) r ≡ Some routine → body ≡ routine.body → t ≡ told body k → t ≡ told_at c r k
 told_here c r k routine body t own same is =
     is ∙ ap (λ b. told b k) same ∙ ap (λ o. told_in o k) (sym own)
 
-pub bent_here : (c : Context) (r k : ℕ) (routine : TacRoutine) (body : List Instruction) (b : Option (ℕ × ℕ))
+pub bent_here : (c : Context) (r k : ℕ) (routine : TacRoutine) (body : List Instruction) (b : Option (ℕ × ℤ))
     → slice_get (routines c.code) r ≡ Some routine → body ≡ routine.body → b ≡ bent c r body k → b ≡ bent_at c r k
 bent_here c r k routine body b own same is =
     is ∙ ap (λ x. bent c r x k) same ∙ ap (λ o. bent_in c r o k) (sym own)
 
-pub bent_next : (c : Context) (r k : ℕ) (routine : TacRoutine) (body : List Instruction) (b : Option (ℕ × ℕ))
+pub bent_next : (c : Context) (r k : ℕ) (routine : TacRoutine) (body : List Instruction) (b : Option (ℕ × ℤ))
     → slice_get (routines c.code) r ≡ Some routine → body ≡ routine.body → b ≡ bent c r body (k + 1) → b ≡ bent_at c r
     (suc k)
 bent_next c r k routine body b own same is =
@@ -39,17 +40,39 @@ get_within [] k lt e = absurd (omega (arith, lt))
 get_within (x ∷ xs) zero lt e = e
 get_within (x ∷ xs) (suc k) lt e = get_within xs k (omega (arith, lt)) e
 
-pub bent_some : (c : Context) (r place : ℕ) (body : List Instruction) (marks : List Bool) (i : Instruction) → 0 < place
-    → marks ≡ jumped body → place < length marks → get_or marks place false ≡ false → slice_get body (place - 1)
-    ≡ Some i → bend c r (Some i) (slice_get body place) ≡ bent c r body place
-bent_some c r zero body marks i lt same within free is = absurd (omega (arith, lt))
-bent_some c r (suc k) body marks i lt same within free is =
-    ap (λ o. bend c r o (slice_get body (suc k))) (sym (ap (slice_get body) (less_one k) ∙ is))
-    ∙ ap (λ b. cond b None (bend c r (slice_get body k) (slice_get body (suc k))))
-    (sym (ap (λ xs. get_or xs (suc k) true) (sym same) ∙ get_within marks (suc k) within free))
-  where
-    less_one : (k : ℕ) → k ≡ suc k - 1
-    less_one k = omega arith
+less_one : (k : ℕ) → k ≡ suc k - 1
+less_one k = omega arith
+
+module _ (c : Context) (r : ℕ) (body : List Instruction) (marks : List Bool) (same : marks ≡ jumped body) where
+  unmarked : (k : ℕ) → k < length marks → get_or marks k false ≡ false → get_or (jumped body) k true ≡ false
+  unmarked k within free = ap (λ xs. get_or xs k true) (sym same) ∙ get_within marks k within free
+
+  pub load_some : (place : ℕ) (i : Instruction) → 0 < place → place < length marks → get_or marks place false ≡ false
+      → slice_get body (place - 1) ≡ Some i → bend c r (row_bent c r body (place - 1)) (Some i) (slice_get body place)
+      ≡ load_bent c r body place
+  load_some zero i lt within free is = absurd (omega (arith, lt))
+  load_some (suc k) i lt within free is =
+      ap (λ j. bend c r (row_bent c r body j) (Some i) (slice_get body (suc k))) (sym (less_one k))
+      ∙ ap (λ o. bend c r (row_bent c r body k) o (slice_get body (suc k)))
+      (sym (ap (slice_get body) (less_one k) ∙ is))
+      ∙ ap (λ b. cond b None (bend c r (row_bent c r body k) (slice_get body k) (slice_get body (suc k))))
+      (sym (unmarked (suc k) within free))
+
+  pub row_some : (place : ℕ) (i : Instruction) → 0 < place → place < length marks → get_or marks place false ≡ false
+      → get_or marks (place + 1) true ≡ false → slice_get body (place - 1) ≡ Some i → row c r (Some i)
+      (slice_get body place) (slice_get body (place + 1)) ≡ row_bent c r body place
+  row_some zero i lt within free free' is = absurd (omega (arith, lt))
+  row_some (suc k) i lt within free free' is =
+      let next : suc k + 1 ≡ suc (suc k) = omega arith in
+      ap (λ j. row c r (Some i) (slice_get body (suc k)) (slice_get body j)) next
+      ∙ ap (λ o. row c r o (slice_get body (suc k)) (slice_get body (suc (suc k))))
+      (sym (ap (slice_get body) (less_one k) ∙ is))
+      ∙ ap (λ b. cond b None (row c r (slice_get body k) (slice_get body (suc k)) (slice_get body (suc (suc k)))))
+      (sym (ap (λ j. get_or (jumped body) j true) (sym next) ∙ ap (λ xs. get_or xs (suc k + 1) true) (sym same)
+      ∙ free'))
+      ∙ ap (λ b. cond b None (cond (get_or (jumped body) (suc (suc k)) true) None
+      (row c r (slice_get body k) (slice_get body (suc k)) (slice_get body (suc (suc k))))))
+      (sym (unmarked (suc k) within free))
 
 pub get_is : {X : Type 0} (xs : List X) (k : ℕ) (x : X) → k < length xs → x ≡ get_or xs k x → slice_get xs k ≡ Some x
 get_is [] k x lt e = absurd (omega (arith, lt))
@@ -61,22 +84,64 @@ get_past [] k le = refl
 get_past (x ∷ xs) zero le = absurd (omega (arith, le))
 get_past (x ∷ xs) (suc k) le = get_past xs k (omega (arith, le))
 
-pub bent_none : (c : Context) (r place : ℕ) (body : List Instruction) → length body ≤ place - 1 → None
-    ≡ bent c r body place
-bent_none c r zero body le = refl
-bent_none c r (suc k) body le = go (get_or (jumped body) (suc k) true)
-  where
-    go : (b : Bool) → None ≡ cond b None (bend c r (slice_get body k) (slice_get body (suc k)))
-    go true = refl
-    go false = sym (ap (λ o. bend c r o (slice_get body (suc k))) (get_past body k (omega (arith, le))))
+-- what a look-up gives that takes what is past the end for jumped to
+pub get_end : (xs : List Bool) (k : ℕ) → length xs ≤ k → true ≡ get_or xs k true
+get_end [] k le = refl
+get_end (x ∷ xs) zero le = absurd (omega (arith, le))
+get_end (x ∷ xs) (suc k) le = get_end xs k (omega (arith, le))
 
-pub loads_near : (c : Context) (r k : ℕ) (i : Instruction) (b : Option (ℕ × ℕ)) → fetch c.code r k ≡ Some i → b
+pub get_inside : (xs : List Bool) (k : ℕ) → k < length xs → get_or xs k false ≡ get_or xs k true
+get_inside [] k lt = absurd (omega (arith, lt))
+get_inside (x ∷ xs) zero lt = refl
+get_inside (x ∷ xs) (suc k) lt = get_inside xs k (omega (arith, lt))
+
+pub row_jumped : (c : Context) (r place : ℕ) (body : List Instruction) (marks : List Bool) → marks ≡ jumped body → get_or
+    marks (place + 1) true ≡ true → None ≡ row_bent c r body place
+row_jumped c r zero body marks same e = refl
+row_jumped c r (suc k) body marks same e =
+    go (get_or (jumped body) (suc k) true) (get_or (jumped body) (suc (suc k)) true)
+    (ap (λ j. get_or (jumped body) j true) next ∙ ap (λ xs. get_or xs (suc k + 1) true) (sym same) ∙ e)
+  where
+    next : suc (suc k) ≡ suc k + 1
+    next = omega arith
+
+    go : (a b : Bool) → b ≡ true → None ≡ cond a None (cond b None
+        (row c r (slice_get body k) (slice_get body (suc k)) (slice_get body (suc (suc k)))))
+    go true b e = refl
+    go false true e = refl
+    go false false e = absurd (cc e)
+
+pub load_none : (c : Context) (r place : ℕ) (body : List Instruction) → length body ≤ place - 1 → None
+    ≡ load_bent c r body place
+load_none c r zero body le = refl
+load_none c r (suc k) body le = go (get_or (jumped body) (suc k) true)
+  where
+    go : (b : Bool) → None ≡ cond b None (bend c r (row_bent c r body k) (slice_get body k) (slice_get body (suc k)))
+    go true = refl
+    go false = sym (ap (λ o. bend c r (row_bent c r body k) o (slice_get body (suc k)))
+        (get_past body k (omega (arith, le))))
+
+pub row_none : (c : Context) (r place : ℕ) (body : List Instruction) → length body ≤ place - 1 → None
+    ≡ row_bent c r body place
+row_none c r zero body le = refl
+row_none c r (suc k) body le = go (get_or (jumped body) (suc k) true) (get_or (jumped body) (suc (suc k)) true)
+  where
+    go : (a b : Bool) → None ≡ cond a None (cond b None
+        (row c r (slice_get body k) (slice_get body (suc k)) (slice_get body (suc (suc k)))))
+    go true b = refl
+    go false true = refl
+    go false false = sym (ap (λ o. row c r o (slice_get body (suc k)) (slice_get body (suc (suc k))))
+        (get_past body k (omega (arith, le))))
+
+pub loads_near : (c : Context) (r k : ℕ) (i : Instruction) (b : Option (ℕ × ℤ)) → fetch c.code r k ≡ Some i → b
     ≡ bent_at c r k → LoadsNear i b
 loads_near c r k (Load t a n) None here is = tt
 loads_near c r k (Load t a n) (Some x) here is =
-    let l = bent_load_is c r k x (sym is) in
-    let same : l.behind ≡ n = cc (sym l.here ∙ here) in
-    subst (λ z. x.1 + z < 524288) same l.near
+    by (bent_is c r k x (sym is))
+  where
+    by : BentLoad c r k x ⊎ BentRow c r k x → LoadsNear (Load t a n) (Some x)
+    by (inl l) = let same : l.behind ≡ n = cc (sym l.here ∙ here) in subst (λ z. IsLoad x.1 z) same l.near
+    by (inr w) = absurd (cc (sym w.here ∙ here))
 loads_near c r k (Literal t z) x here is = tt
 loads_near c r k (Copy t a) x here is = tt
 loads_near c r k (Arithmetic operator t a b error line) x here is = tt

@@ -1,6 +1,6 @@
 -- What is required of instructions whose words depend on more: that a call passes no more operands than a frame has
 -- room for; and how far after a register a load goes that is short of an offset.
-use Rattle.std.specs.Prelude.{ℕ, ◌+◌, ◌<◌, ◌≤◌, length, Option, Some, None}
+use Rattle.std.specs.Prelude.{ℕ, ◌≤◌, length, Option, Some, None, ℤ, pos, negsuc, ◌+ℤ◌, ◌≤ℤ◌}
 use Rattle.tac_code.specs.declared.code.Instruction.{Instruction}
 use Rattle.tac_code.specs.declared.code.Instruction.TheVariants.{Load, Call, CallValue}
 
@@ -9,10 +9,10 @@ PassesFew (Call t r list line) = length list ≤ 65
 PassesFew (CallValue t a list line) = length list ≤ 65
 PassesFew _ = Unit {0}
 
-abbrev pub IsNear : Option (ℕ × ℕ) → ℕ → Type 0
+abbrev pub IsNear : Option (ℕ × ℤ) → ℕ → Type 0
 IsNear None n = Unit {0}
-IsNear (Some bent) n = bent.1 + n < 524288
+IsNear (Some bent) n = (negsuc 524287 ≤ℤ (bent.1 +ℤ pos n)) × ((bent.1 +ℤ pos n) ≤ℤ pos 524287)
 
-abbrev pub LoadsNear : Instruction → Option (ℕ × ℕ) → Type 0
+abbrev pub LoadsNear : Instruction → Option (ℕ × ℤ) → Type 0
 LoadsNear (Load t a n) bent = IsNear bent n
 LoadsNear _ bent = Unit {0}

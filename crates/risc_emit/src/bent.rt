@@ -1,9 +1,10 @@
 // Where a register is short of the offset of a block: between an index and the load by it.
 
-ghost use Rattle.std.specs.Prelude.{◌≡◌, ◌<◌, ◌≤◌, slice_get, Some, IfSome};
+ghost use Rattle.std.specs.Prelude.{◌≡◌, ◌<◌, ◌≤◌, ◌≤ℤ◌, pos, negsuc, slice_get, get_or, true, Some, IfSome};
 ghost use Rattle.risc_emit_relation.specs.Context.{home};
-ghost use Rattle.risc_emit_forms.specs.Told.{jumped, block_at, fold_near, fold_by, folded, offset_of, bend_in, bend_load};
-ghost use Rattle.risc_emit_forms.specs.Told.{bend, bent};
+ghost use Rattle.risc_emit_forms.specs.Told.{jumped, block_at, fold_near, fold_by, folded, short_of, back_near, back_by};
+ghost use Rattle.risc_emit_forms.specs.Told.{back, both_short, is_apart, row_near, offset_of, bend_near, bend_in};
+ghost use Rattle.risc_emit_forms.specs.Told.{bend_load, row_from, bend_row, row, row_bent, start, bend, load_bent, bent};
 ghost use Rattle.risc_emit.specs.Frames.{context_of};
 
 use crate::frame::Frame;
@@ -71,7 +72,7 @@ pub(crate) fn folded(
 }
 
 // That, or else the offset of the block.
-fn offset_of(
+fn frame_offset(
     frame: &Frame<'_>,
     base: Base,
     low: i32,
@@ -79,24 +80,106 @@ fn offset_of(
     width: u32,
     error: u8,
 ) -> Option<u64>
-    ensures is { result ≡ offset_of (context_of frame.now) frame.now.number base low high width error }
+    ensures is { result ≡ short_of (folded (context_of frame.now) frame.now.number base low high width error)
+        (block_at (context_of frame.now) frame.now.number base) }
     ensures small { IfSome result (λ offset. offset < 1099511627776) }
 {
     match folded(frame, base, low, high, width, error) {
-        Some(offset) => Some(offset),
+        Some(rest) => Some(rest),
         None => block_at(frame, base),
     }
 }
 
-// The register of a temporary is short of an offset, where a load `behind` bytes after it can include both.
-fn bend_in(frame: &Frame<'_>, to: u32, behind: u32, short: Option<u64>) -> Option<(Register, u64)>
-    requires { IfSome short (λ offset. offset < 1099511627776) }
+// How far a register is ahead of an address in a temporary: `first` steps of a width, where `last` steps are no more than
+// a product can be.
+fn back_near(first: u32, last: u32, width: u32) -> Option<i64>
+    ensures is { result ≡ back_near first last width }
+    ensures least { IfSome result (λ offset. negsuc 16777215 ≤ℤ offset) }
+    ensures most { IfSome result (λ offset. offset ≤ℤ pos 0) }
+{
+    let ahead = u64::from(first) * u64::from(width);
+    let highest = u64::from(last) * u64::from(width);
+    if ahead < 16777216 && highest < 2147483648 {
+        Some(-(ahead as i64))
+    } else {
+        None
+    }
+}
+
+fn back_by(low: i32, high: i32, width: u32) -> Option<i64>
+    ensures is { result ≡ back_by low high width }
+    ensures least { IfSome result (λ offset. negsuc 16777215 ≤ℤ offset) }
+    ensures most { IfSome result (λ offset. offset ≤ℤ pos 0) }
+{
+    if low < 0 {
+        return None;
+    }
+    if high < 0 {
+        return None;
+    }
+    back_near(low.unsigned_abs(), high.unsigned_abs(), width)
+}
+
+fn back(base: Base, low: i32, high: i32, width: u32, error: u8) -> Option<i64>
+    ensures is { result ≡ back base low high width error }
+    ensures least { IfSome result (λ offset. negsuc 16777215 ≤ℤ offset) }
+    ensures most { IfSome result (λ offset. offset ≤ℤ pos 0) }
+{
+    match base {
+        Base::Temporary(_) if error == 0 => back_by(low, high, width),
+        _ => None,
+    }
+}
+
+// What the register of a base and the distance of a component are short of.
+fn offset_of(
+    frame: &Frame<'_>,
+    base: Base,
+    low: i32,
+    high: i32,
+    width: u32,
+    error: u8,
+) -> Option<i64>
+    ensures is { result ≡ offset_of (context_of frame.now) frame.now.number base low high width error }
+    ensures least { IfSome result (λ offset. negsuc 16777215 ≤ℤ offset) }
+    ensures most { IfSome result (λ offset. offset ≤ℤ pos 1099511627776) }
+{
+    match back(base, low, high, width, error) {
+        Some(ahead) => Some(ahead),
+        None => match frame_offset(frame, base, low, high, width, error) {
+            Some(offset) => Some(offset as i64),
+            None => None,
+        },
+    }
+}
+
+// A register is short of an offset, where a load `behind` bytes after it can include both.
+fn bend_near(register: Register, behind: u32, offset: i64) -> Option<(Register, i64)>
+    requires least { negsuc 2147483647 ≤ℤ offset }
+    requires most { offset ≤ℤ pos 1099511627776 }
+    ensures { result ≡ bend_near register behind offset }
+{
+    let whole = offset + i64::from(behind);
+    if whole < -524288 {
+        return None;
+    }
+    if whole < 524288 {
+        Some((register, offset))
+    } else {
+        None
+    }
+}
+
+// The same for the register of a temporary.
+fn bend_in(frame: &Frame<'_>, to: u32, behind: u32, short: Option<i64>) -> Option<(Register, i64)>
+    requires least { IfSome short (λ offset. negsuc 2147483647 ≤ℤ offset) }
+    requires most { IfSome short (λ offset. offset ≤ℤ pos 1099511627776) }
     ensures { result ≡ bend_in (home (context_of frame.now) frame.now.number to) behind short }
 {
     match frame.seat(to) {
         Seat::Register(register) => match short {
-            Some(offset) if offset + u64::from(behind) < 524288 => Some((register, offset)),
-            _ => None,
+            Some(offset) => bend_near(register, behind, offset),
+            None => None,
         },
         Seat::Slot(_) => None,
     }
@@ -106,10 +189,11 @@ fn bend_in(frame: &Frame<'_>, to: u32, behind: u32, short: Option<u64>) -> Optio
 fn bend_by(
     frame: &Frame<'_>,
     to: u32,
-    short: Option<u64>,
+    short: Option<i64>,
     instruction: &Instruction,
-) -> Option<(Register, u64)>
-    requires { IfSome short (λ offset. offset < 1099511627776) }
+) -> Option<(Register, i64)>
+    requires least { IfSome short (λ offset. negsuc 2147483647 ≤ℤ offset) }
+    requires most { IfSome short (λ offset. offset ≤ℤ pos 1099511627776) }
     ensures { result ≡ bend_load (context_of frame.now) frame.now.number to short (Some instruction.now) }
 {
     match instruction {
@@ -132,11 +216,12 @@ fn bend_by(
 fn bend_load(
     frame: &Frame<'_>,
     to: u32,
-    short: Option<u64>,
+    short: Option<i64>,
     body: &[Instruction],
     place: usize,
-) -> Option<(Register, u64)>
-    requires { IfSome short (λ offset. offset < 1099511627776) }
+) -> Option<(Register, i64)>
+    requires least { IfSome short (λ offset. negsuc 2147483647 ≤ℤ offset) }
+    requires most { IfSome short (λ offset. offset ≤ℤ pos 1099511627776) }
     ensures { result ≡ bend_load (context_of frame.now) frame.now.number to short (slice_get body.now place) }
 {
     match body.get(place) {
@@ -145,13 +230,157 @@ fn bend_load(
     }
 }
 
-fn bend(
+// An offset with that of an index that goes on from the same register.
+fn both_short(offset: i64, further: Option<i64>) -> Option<i64>
+    requires least { negsuc 16777215 ≤ℤ offset }
+    requires most { offset ≤ℤ pos 1099511627776 }
+    requires further_least { IfSome further (λ more. negsuc 16777215 ≤ℤ more) }
+    requires further_most { IfSome further (λ more. more ≤ℤ pos 0) }
+    ensures is { result ≡ both_short offset further }
+    ensures least { IfSome result (λ whole. negsuc 2147483647 ≤ℤ whole) }
+    ensures most { IfSome result (λ whole. whole ≤ℤ pos 1099511627776) }
+{
+    match further {
+        Some(more) => Some(offset + more),
+        None => None,
+    }
+}
+
+// Whether a temporary lives elsewhere than in a register.
+fn is_apart(frame: &Frame<'_>, temporary: u32, register: Register) -> bool
+    ensures { result ≡ is_apart (home (context_of frame.now) frame.now.number temporary) register }
+{
+    match frame.seat(temporary) {
+        Seat::Register(other) => other.number() != register.number(),
+        Seat::Slot(_) => true,
+    }
+}
+
+// A register is short of an offset, where an index whose own home is another goes on from it to what a load takes.
+fn row_near(
+    frame: &Frame<'_>,
+    offset: i64,
+    index: u32,
+    found: Option<(Register, i64)>,
+) -> Option<(Register, i64)>
+    requires most { offset ≤ℤ pos 1099511627776 }
+    ensures is { result ≡ row_near offset (home (context_of frame.now) frame.now.number index) found }
+    ensures least { IfSome result (λ bent. negsuc 16777215 ≤ℤ bent.1) }
+    ensures most { IfSome result (λ bent. bent.1 ≤ℤ pos 1099511627776) }
+{
+    match found {
+        Some((register, _)) => {
+            if offset < -16777216 {
+                return None;
+            }
+            if is_apart(frame, index, register) {
+                Some((register, offset))
+            } else {
+                None
+            }
+        }
+        None => None,
+    }
+}
+
+fn row_from(
+    frame: &Frame<'_>,
+    to: u32,
+    short: Option<i64>,
+    index: u32,
+    further: Option<i64>,
+    body: &[Instruction],
+    third: usize,
+) -> Option<(Register, i64)>
+    requires least { IfSome short (λ offset. negsuc 16777215 ≤ℤ offset) }
+    requires most { IfSome short (λ offset. offset ≤ℤ pos 1099511627776) }
+    requires further_least { IfSome further (λ more. negsuc 16777215 ≤ℤ more) }
+    requires further_most { IfSome further (λ more. more ≤ℤ pos 0) }
+    ensures is { result ≡ row_from (context_of frame.now) frame.now.number to short
+        (home (context_of frame.now) frame.now.number index) further (slice_get body.now third) }
+    ensures least { IfSome result (λ bent. negsuc 16777215 ≤ℤ bent.1) }
+    ensures most { IfSome result (λ bent. bent.1 ≤ℤ pos 1099511627776) }
+{
+    match short {
+        Some(offset) => {
+            let whole = both_short(offset, further);
+            let found = bend_load(frame, to, whole, body, third);
+            row_near(frame, offset, index, found)
+        }
+        None => None,
+    }
+}
+
+// The address of an index, if an instruction goes on from it with an index into the same temporary.
+fn row_by(
+    frame: &Frame<'_>,
+    to: u32,
+    short: Option<i64>,
+    instruction: &Instruction,
+    body: &[Instruction],
+    third: usize,
+) -> Option<(Register, i64)>
+    requires least { IfSome short (λ offset. negsuc 16777215 ≤ℤ offset) }
+    requires most { IfSome short (λ offset. offset ≤ℤ pos 1099511627776) }
+    ensures is { result ≡ bend_row (context_of frame.now) frame.now.number to short (Some instruction.now)
+        (slice_get body.now third) }
+    ensures least { IfSome result (λ bent. negsuc 16777215 ≤ℤ bent.1) }
+    ensures most { IfSome result (λ bent. bent.1 ≤ℤ pos 1099511627776) }
+{
+    match instruction {
+        Instruction::Index {
+            to: other,
+            base: Base::Temporary(address),
+            index,
+            low,
+            high,
+            width,
+            error,
+            ..
+        } => {
+            if *address == to && *other == to {
+                let further = back(Base::Temporary(*address), *low, *high, *width, *error);
+                row_from(frame, to, short, *index, further, body, third)
+            } else {
+                None
+            }
+        }
+        _ => None,
+    }
+}
+
+fn bend_row(
+    frame: &Frame<'_>,
+    to: u32,
+    short: Option<i64>,
+    body: &[Instruction],
+    place: usize,
+    third: usize,
+) -> Option<(Register, i64)>
+    requires least { IfSome short (λ offset. negsuc 16777215 ≤ℤ offset) }
+    requires most { IfSome short (λ offset. offset ≤ℤ pos 1099511627776) }
+    ensures is { result ≡ bend_row (context_of frame.now) frame.now.number to short (slice_get body.now place)
+        (slice_get body.now third) }
+    ensures least { IfSome result (λ bent. negsuc 16777215 ≤ℤ bent.1) }
+    ensures most { IfSome result (λ bent. bent.1 ≤ℤ pos 1099511627776) }
+{
+    match body.get(place) {
+        Some(instruction) => row_by(frame, to, short, instruction, body, third),
+        None => None,
+    }
+}
+
+fn row(
     frame: &Frame<'_>,
     instruction: &Instruction,
     body: &[Instruction],
     place: usize,
-) -> Option<(Register, u64)>
-    ensures { result ≡ bend (context_of frame.now) frame.now.number (Some instruction.now) (slice_get body.now place) }
+    third: usize,
+) -> Option<(Register, i64)>
+    ensures is { result ≡ row (context_of frame.now) frame.now.number (Some instruction.now)
+        (slice_get body.now place) (slice_get body.now third) }
+    ensures least { IfSome result (λ bent. negsuc 16777215 ≤ℤ bent.1) }
+    ensures most { IfSome result (λ bent. bent.1 ≤ℤ pos 1099511627776) }
 {
     match instruction {
         Instruction::Index {
@@ -164,9 +393,117 @@ fn bend(
             ..
         } => {
             let short = offset_of(frame, *base, *low, *high, *width, *error);
+            bend_row(frame, *to, short, body, place, third)
+        }
+        _ => None,
+    }
+}
+
+// Whether a jump leads to a place, or no instruction is there.
+#[tactic(auto, using(crate::proofs::Telling::get_end, crate::proofs::Telling::get_inside))]
+fn is_jumped(marks: &[bool], place: usize) -> bool
+    ensures { result ≡ get_or marks.now place true }
+{
+    if place >= marks.len() {
+        return true;
+    }
+    marks[place]
+}
+
+// The address of a row, short of an offset that the next two instructions take.
+#[tactic(auto, using(crate::proofs::Telling::row_jumped))]
+fn row_bent(
+    frame: &Frame<'_>,
+    body: &[Instruction],
+    marks: &[bool],
+    place: usize,
+) -> Option<(Register, i64)>
+    requires { marks.now ≡ jumped body.now }
+    ensures is { result ≡ row_bent (context_of frame.now) frame.now.number body.now place }
+    ensures least { IfSome result (λ bent. negsuc 16777215 ≤ℤ bent.1) }
+    ensures most { IfSome result (λ bent. bent.1 ≤ℤ pos 1099511627776) }
+{
+    if place == 0 || marks.len() <= place || marks[place] {
+        return None;
+    }
+    let third = place + 1;
+    if is_jumped(marks, third) {
+        return None;
+    }
+    match body.get(place - 1) {
+        Some(instruction) => row(frame, instruction, body, place, third),
+        None => None,
+    }
+}
+
+// What an index leaves a register short of, which may be so already.
+fn start(
+    frame: &Frame<'_>,
+    before: Option<(Register, i64)>,
+    base: Base,
+    low: i32,
+    high: i32,
+    width: u32,
+    error: u8,
+) -> Option<i64>
+    requires least { IfSome before (λ bent. negsuc 16777215 ≤ℤ bent.1) }
+    requires most { IfSome before (λ bent. bent.1 ≤ℤ pos 1099511627776) }
+    ensures is { result ≡ start (context_of frame.now) frame.now.number before base low high width error }
+    ensures least { IfSome result (λ offset. negsuc 2147483647 ≤ℤ offset) }
+    ensures most { IfSome result (λ offset. offset ≤ℤ pos 1099511627776) }
+{
+    match before {
+        Some((_, offset)) => both_short(offset, back(base, low, high, width, error)),
+        None => offset_of(frame, base, low, high, width, error),
+    }
+}
+
+fn bend(
+    frame: &Frame<'_>,
+    before: Option<(Register, i64)>,
+    instruction: &Instruction,
+    body: &[Instruction],
+    place: usize,
+) -> Option<(Register, i64)>
+    requires least { IfSome before (λ bent. negsuc 16777215 ≤ℤ bent.1) }
+    requires most { IfSome before (λ bent. bent.1 ≤ℤ pos 1099511627776) }
+    ensures { result ≡ bend (context_of frame.now) frame.now.number before (Some instruction.now)
+        (slice_get body.now place) }
+{
+    match instruction {
+        Instruction::Index {
+            to,
+            base,
+            low,
+            high,
+            width,
+            error,
+            ..
+        } => {
+            let short = start(frame, before, *base, *low, *high, *width, *error);
             bend_load(frame, *to, short, body, place)
         }
         _ => None,
+    }
+}
+
+// The address of a component, which the next instruction loads.
+fn load_bent(
+    frame: &Frame<'_>,
+    body: &[Instruction],
+    marks: &[bool],
+    place: usize,
+) -> Option<(Register, i64)>
+    requires { marks.now ≡ jumped body.now }
+    ensures { result ≡ load_bent (context_of frame.now) frame.now.number body.now place }
+{
+    if place == 0 || place >= marks.len() || marks[place] {
+        return None;
+    }
+    let before = row_bent(frame, body, marks, place - 1);
+    match body.get(place - 1) {
+        Some(instruction) => bend(frame, before, instruction, body, place),
+        None => None,
     }
 }
 
@@ -176,15 +513,12 @@ pub(crate) fn bent(
     body: &[Instruction],
     marks: &[bool],
     place: usize,
-) -> Option<(Register, u64)>
+) -> Option<(Register, i64)>
     requires { marks.now ≡ jumped body.now }
     ensures { result ≡ bent (context_of frame.now) frame.now.number body.now place }
 {
-    if place == 0 || place >= marks.len() || marks[place] {
-        return None;
-    }
-    match body.get(place - 1) {
-        Some(instruction) => bend(frame, instruction, body, place),
-        None => None,
+    match row_bent(frame, body, marks, place) {
+        Some(found) => Some(found),
+        None => load_bent(frame, body, marks, place),
     }
 }

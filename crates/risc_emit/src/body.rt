@@ -92,8 +92,8 @@ pub(crate) fn put_instruction(
     pieces: &mut Pieces,
     place: usize,
     told: Option<u32>,
-    bent: Option<(Register, u64)>,
-    next: Option<(Register, u64)>,
+    bent: Option<(Register, i64)>,
+    next: Option<(Register, i64)>,
     instruction: &Instruction,
 ) -> Result<(), OutOfMemory>
     requires few { PassesFew instruction.now }

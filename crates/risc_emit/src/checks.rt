@@ -4,12 +4,13 @@ ghost use Rattle.std.specs.Prelude.{◌≡◌, ◌++◌, [], ◌∷◌, None, On
 ghost use Rattle.risc_word.specs.declared.instr.Condition.TheVariants as on;
 ghost use Rattle.risc_emit_relation.specs.Context.{home};
 ghost use Rattle.risc_emit_forms.specs.Pieces as piece;
+ghost use Rattle.risc_emit_forms.specs.Told.{near_of};
 ghost use Rattle.risc_emit_forms.specs.Forms as form;
 ghost use Rattle.risc_emit.specs.Frames.{context_of};
 
 use crate::bent::folded;
 use crate::frame::Frame;
-use crate::memory::{base_register, put_base_address, put_sum};
+use crate::memory::{base_register, put_base_address, put_near_base, put_sum};
 use crate::numbers::put_exact;
 use crate::operands::{bring, fetch, finish, is_told, natural_right, number_right, target};
 use crate::pieces::{Piece, Pieces};
@@ -150,7 +151,7 @@ fn put_scaled(
 fn put_component(
     frame: &Frame<'_>,
     pieces: &mut Pieces,
-    bent: Option<(Register, u64)>,
+    bent: Option<(Register, i64)>,
     to: u32,
     base: Base,
     distance: Register,
@@ -177,7 +178,7 @@ fn put_component(
 fn put_steps(
     frame: &Frame<'_>,
     pieces: &mut Pieces,
-    bent: Option<(Register, u64)>,
+    bent: Option<(Register, i64)>,
     to: u32,
     base: Base,
     steps: Register,
@@ -215,7 +216,7 @@ fn put_near_component(
     frame: &Frame<'_>,
     pieces: &mut Pieces,
     rest: u64,
-    bent: Option<(Register, u64)>,
+    bent: Option<(Register, i64)>,
     to: u32,
     base: Base,
     distance: Register,
@@ -223,12 +224,12 @@ fn put_near_component(
     ensures { OnOk result (pieces.new ≡ pieces.old ++ form.near_component
         (context_of frame.now) frame.now.number rest bent to base distance) }
 {
-    let near = base_register(frame, base);
     if let Some((register, _)) = bent {
+        let near = put_near_base(frame, pieces, base)?;
         let sum = computed(Operation::Add, register, near, Right::Content(distance));
         return pieces.plain(sum);
     }
-    put_sum(frame, pieces, near, rest)?;
+    put_sum(frame, pieces, base_register(frame, base), rest)?;
     let sum = computed(
         Operation::Add,
         target(frame, to),
@@ -243,7 +244,7 @@ fn put_near(
     frame: &Frame<'_>,
     pieces: &mut Pieces,
     rest: u64,
-    bent: Option<(Register, u64)>,
+    bent: Option<(Register, i64)>,
     to: u32,
     base: Base,
     index: Register,
@@ -261,7 +262,7 @@ fn put_near(
 fn put_far(
     frame: &Frame<'_>,
     pieces: &mut Pieces,
-    bent: Option<(Register, u64)>,
+    bent: Option<(Register, i64)>,
     to: u32,
     base: Base,
     index: u32,
@@ -283,7 +284,7 @@ fn put_folded(
     frame: &Frame<'_>,
     pieces: &mut Pieces,
     rest: u64,
-    bent: Option<(Register, u64)>,
+    bent: Option<(Register, i64)>,
     to: u32,
     base: Base,
     index: u32,
@@ -300,11 +301,39 @@ fn put_folded(
     put_near(frame, pieces, rest, bent, to, base, register, width)
 }
 
+// Into a base in a temporary, where a load takes the lowest index, by the index itself from the base's address; else by
+// how far it is above the lowest one.
+fn put_unfolded(
+    frame: &Frame<'_>,
+    pieces: &mut Pieces,
+    bent: Option<(Register, i64)>,
+    to: u32,
+    base: Base,
+    index: u32,
+    low: i32,
+    high: i32,
+    width: u32,
+    error: u8,
+    line: u16,
+) -> Result<(), OutOfMemory>
+    ensures { OnOk result (pieces.new ≡ pieces.old ++ form.index_by
+        (context_of frame.now) frame.now.number (near_of bent base) bent to base index low high width error line) }
+{
+    match base {
+        Base::Temporary(_) if bent.is_some() => put_folded(
+            frame, pieces, 0, bent, to, base, index, width,
+        ),
+        _ => put_far(
+            frame, pieces, bent, to, base, index, low, high, width, error, line,
+        ),
+    }
+}
+
 /// The address of a component.
 pub(crate) fn put_index(
     frame: &Frame<'_>,
     pieces: &mut Pieces,
-    bent: Option<(Register, u64)>,
+    bent: Option<(Register, i64)>,
     to: u32,
     base: Base,
     index: u32,
@@ -319,7 +348,7 @@ pub(crate) fn put_index(
 {
     match folded(frame, base, low, high, width, error) {
         Some(rest) => put_folded(frame, pieces, rest, bent, to, base, index, width),
-        None => put_far(
+        None => put_unfolded(
             frame, pieces, bent, to, base, index, low, high, width, error, line,
         ),
     }

@@ -86,8 +86,8 @@ fn put_place(
     places: &mut Vec<Mark>,
     place: usize,
     told: Option<u32>,
-    bent: Option<(Register, u64)>,
-    next: Option<(Register, u64)>,
+    bent: Option<(Register, i64)>,
+    next: Option<(Register, i64)>,
     instruction: &Instruction,
 ) -> Result<(), OutOfMemory>
     requires few { PassesFew instruction.now }

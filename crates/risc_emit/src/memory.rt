@@ -38,6 +38,22 @@ pub(crate) fn base_register(frame: &Frame<'_>, base: Base) -> Register
     }
 }
 
+/// The register that is short of a block's offset, or an address in a register.
+pub(crate) fn put_near_base(
+    frame: &Frame<'_>,
+    pieces: &mut Pieces,
+    base: Base,
+) -> Result<Register, OutOfMemory>
+    ensures words { OnOk result (pieces.new ≡ pieces.old ++ form.near_code (context_of frame.now) frame.now.number base) }
+    ensures register { IfOk result (λ q. q ≡ form.near_register (context_of frame.now) frame.now.number base) }
+{
+    match base {
+        Base::Frame | Base::Scratch => Ok(r14()),
+        Base::Program => Ok(r13()),
+        Base::Temporary(temporary) => fetch(frame, pieces, r15(), temporary),
+    }
+}
+
 // The offset of an address from that register.
 fn base_offset(frame: &Frame<'_>, base: Base, bytes: u32) -> u64
     ensures { result ≡ form.base_offset (context_of frame.now) frame.now.number base bytes }
@@ -78,7 +94,7 @@ fn put_reach(
 pub(crate) fn put_word_form(
     frame: &Frame<'_>,
     pieces: &mut Pieces,
-    bent: Option<(Register, u64)>,
+    bent: Option<(Register, i64)>,
     to: u32,
     base: Base,
     bytes: u32,
@@ -89,7 +105,7 @@ pub(crate) fn put_word_form(
 {
     match bent {
         Some((register, offset)) => {
-            let whole = (offset + u64::from(bytes)) as i32;
+            let whole = (offset + i64::from(bytes)) as i32;
             pieces.plain(loaded(Width::Word, register, register, whole))
         }
         None => put_load_form(frame, pieces, Width::Word, to, base, bytes),

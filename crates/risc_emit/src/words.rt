@@ -109,7 +109,7 @@ pub(crate) fn computed(operation: Operation, to: Register, left: Register, right
 }
 
 pub(crate) fn loaded(width: Width, to: Register, base: Register, bytes: i32) -> Instr
-    requires low { pos 0 ≤ℤ bytes }
+    requires low { negsuc 524287 ≤ℤ bytes }
     requires high { bytes ≤ℤ pos 524287 }
     ensures { result ≡ word.Load width to base bytes }
 {

@@ -1,7 +1,7 @@
 -- How an instruction's words are followed: parts joined, and the ends in which they reach the next state or a stop.
 use Rattle.std.proofs.Common.{◌≡◌, ◌≢◌, ℕ, zero, suc, ◌+◌, ◌*◌, ◌%◌, ◌<◌, ◌≤◌, ◌⊎◌, inl, inr, Bool, true, false, cond}
 use Rattle.std.proofs.Common.{nat_eq, nat_le, List, [], ◌∷◌, ◌++◌, length, take, Option, Some, None, slice_get, pos}
-use Rattle.std.proofs.Common.{negsuc, refl, sym, ap, ◌∙◌, subst, arith}
+use Rattle.std.proofs.Common.{negsuc, ℤ, refl, sym, ap, ◌∙◌, subst, arith}
 use Rattle.std.proofs.lemmas.Int.{ints}
 use Rattle.behavior.specs.Endings.{Ending, Stack, Heap, Error, Stuck, ending_by}
 use Rattle.behavior.specs.Transcripts.{AreBytes}
@@ -13,7 +13,7 @@ use Rattle.risc_machine.specs.Step as machine
 use Rattle.risc_machine.specs.Step.{word_of_int}
 use Rattle.risc_machine.specs.Exec as run
 use Rattle.risc_machine_laws.specs.View.{View, Fits, IsAt, HasAt, Shows, after, at_view, link_view, target_view}
-use Rattle.risc_machine_laws.specs.View.{holds_view}
+use Rattle.risc_machine_laws.specs.View.{holds_view, reached}
 use Rattle.risc_machine_laws.specs.Runs.{To, Way, same_tape}
 use Rattle.risc_machine_laws.specs.Numbers.{distance}
 use Rattle.risc_machine_laws.proofs.Runs.{plain_to, branch_taken, branch_passed, stop_at}
@@ -472,17 +472,17 @@ module _ (c : Context) (words : List ℕ) (b : Built c words) where
       })
 
   -- the register of its home took its word, less what it is short of
-  pub bends_end : (p : Places) (s : State) (m0 : Machine) (f t : ℕ) (x : Value) (bent : ℕ × ℕ) (m : machine.State)
+  pub bends_end : (p : Places) (s : State) (m0 : Machine) (f t : ℕ) (x : Value) (bent : ℕ × ℤ) (m : machine.State)
       (v : View) → Related c p s m0 f → AreBytes s.tape.input → Writes c s.current.routine s.current.place t
       → Flags c s.current.routine (suc s.current.place) v → bent_at c s.current.routine (suc s.current.place)
       ≡ Some bent → home c s.current.routine t ≡ Reg bent.0 → IsValue c p x → Shows words c.size m v
-      → v.registers bent.0 + bent.1 ≡ word c p x
+      → reached (v.registers bent.0) bent.1 ≡ word c p x
       → ((q : ℕ) → q ≢ 12 → q ≢ 15 → q ≢ bent.0 → v.registers q ≡ m0.registers q) → ((a : ℕ) → v.words a ≡ m0.words a)
       → v.place ≡ c.site s.current.routine (suc s.current.place) → Arrives c words
       (record s { current = giving t x s.current }) m
   bends_end p s m0 f t x bent m v h bytes g flags is home_is good sh here regs same e =
       let r = s.current.routine in
-      let v' = record v { registers = update bent.0 (v.registers bent.0 + bent.1) v.registers } in
+      let v' = record v { registers = update bent.0 (reached (v.registers bent.0) bent.1) v.registers } in
       let lt = b.placed.register r t bent.0 home_is in
       let a : Aside bent.0 (word c p x) m0 v' = record {
         here = update_same v.registers bent.0 _ ∙ here;

@@ -1,7 +1,9 @@
 -- At which places flags belong to a temporary, and at which to none.
-use Rattle.std.proofs.Common.{◌≡◌, ◌≢◌, ℕ, zero, suc, ◌+◌, ◌<◌, ◌⊎◌, inl, inr, Bool, true, false, cond, not, ◌&&◌}
-use Rattle.std.proofs.Common.{◌||◌, ℤ, nat_eq, nat_lt, nat_le, List, [], ◌∷◌, length, Option, Some, None, slice_get}
-use Rattle.std.proofs.Common.{slice_set, get_or, replicate, refl, sym, ap, ◌∙◌, subst, arith}
+use Rattle.std.proofs.Common.{◌≡◌, ◌≢◌, ℕ, zero, suc, ◌+◌, ◌⊎◌, inl, inr, Bool, true, false, cond, not, ◌&&◌}
+use Rattle.std.proofs.Common.{◌||◌, ℤ, nat_eq, nat_le, List, [], ◌∷◌, length, Option, Some, None, slice_get}
+use Rattle.std.proofs.Common.{slice_set, get_or, replicate, refl, sym, ap, ◌∙◌, subst, arith, pos, negsuc, ◌+ℤ◌}
+use Rattle.std.specs.Prelude.{int_lt, ◌≤ℤ◌}
+use Rattle.std.proofs.lemmas.Int.{ints}
 use Rattle.std.proofs.lemmas.Bool.{cases_eq}
 use Rattle.risc_machine_laws.specs.View.{View}
 use Rattle.tac_code.specs.declared.code.Operator.TheVariants.{Add, Subtract, Multiply, Divide, Modulo}
@@ -22,7 +24,9 @@ use Rattle.tac_code.specs.declared.code.Base.{Base}
 use Rattle.tac_code.specs.declared.code.Base.TheVariants as base
 use Rattle.risc_emit_relation.proofs.Basics.{eq_of, eqb_same}
 use Rattle.risc_emit_forms.specs.Told.{sets_flags, flagged_by, flagged_in, jump_of, set_in, marked, jumped, told_in}
-use Rattle.risc_emit_forms.specs.Told.{told_at, offset_of, bend_in, bend_load, bend, bent_in, bent_at}
+use Rattle.risc_emit_forms.specs.Told.{told_at, back, both_short, is_apart, row_near, first_of, offset_of, bend_in}
+use Rattle.risc_emit_forms.specs.Told.{bend_load, row_from, bend_row, row, row_bent, start, bend, load_bent, bent, bent_in}
+use Rattle.risc_emit_forms.specs.Told.{bent_at}
 use Rattle.risc_emit_forms.specs.Follows.{Flags, Straight}
 
 -- ---- instructions
@@ -163,41 +167,77 @@ record Bends (i : Instruction) : Type 0 where
   none : flagged_by i ≡ None
   loud : is_silent i ≡ false
 
-bends : (c : Context) (r : ℕ) (i : Instruction) (next : Option Instruction) (x : ℕ × ℕ) → bend c r (Some i) next
-    ≡ Some x → Bends i
-bends c r (Index t a i low high width error line) next x e = record {
+bends : (c : Context) (r : ℕ) (before : Option (ℕ × ℤ)) (i : Instruction) (next : Option Instruction) (x : ℕ × ℤ) → bend c r
+    before (Some i) next ≡ Some x → Bends i
+bends c r before (Index t a i low high width error line) next x e = record {
   to = t;
   written = refl;
   result = refl;
   none = refl;
   loud = refl;
 }
-bends c r (Literal t z) next x e = absurd (cc e)
-bends c r (Copy t a) next x e = absurd (cc e)
-bends c r (Arithmetic operator t a b error line) next x e = absurd (cc e)
-bends c r (Bits operator t a b) next x e = absurd (cc e)
-bends c r (Compare relation t a b) next x e = absurd (cc e)
-bends c r (CheckRange a low high error line) next x e = absurd (cc e)
-bends c r (CheckPointer a error line) next x e = absurd (cc e)
-bends c r (Text t bytes) next x e = absurd (cc e)
-bends c r (Offset t a n extent) next x e = absurd (cc e)
-bends c r (RoutineValue t q) next x e = absurd (cc e)
-bends c r (Load t a n) next x e = absurd (cc e)
-bends c r (Store a n u) next x e = absurd (cc e)
-bends c r (LoadByte t a n) next x e = absurd (cc e)
-bends c r (StoreByte a n u) next x e = absurd (cc e)
-bends c r (Jump n) next x e = absurd (cc e)
-bends c r (JumpBack n) next x e = absurd (cc e)
-bends c r (Branch relation a b n) next x e = absurd (cc e)
-bends c r (BranchBack relation a b n) next x e = absurd (cc e)
-bends c r (Call t q us line) next x e = absurd (cc e)
-bends c r (CallValue t a us line) next x e = absurd (cc e)
-bends c r (Return a) next x e = absurd (cc e)
-bends c r (Trap error line) next x e = absurd (cc e)
-bends c r (Take t) next x e = absurd (cc e)
-bends c r (Put a) next x e = absurd (cc e)
-bends c r (New t type line) next x e = absurd (cc e)
-bends c r End next x e = absurd (cc e)
+bends c r before (Literal t z) next x e = absurd (cc e)
+bends c r before (Copy t a) next x e = absurd (cc e)
+bends c r before (Arithmetic operator t a b error line) next x e = absurd (cc e)
+bends c r before (Bits operator t a b) next x e = absurd (cc e)
+bends c r before (Compare relation t a b) next x e = absurd (cc e)
+bends c r before (CheckRange a low high error line) next x e = absurd (cc e)
+bends c r before (CheckPointer a error line) next x e = absurd (cc e)
+bends c r before (Text t bytes) next x e = absurd (cc e)
+bends c r before (Offset t a n extent) next x e = absurd (cc e)
+bends c r before (RoutineValue t q) next x e = absurd (cc e)
+bends c r before (Load t a n) next x e = absurd (cc e)
+bends c r before (Store a n u) next x e = absurd (cc e)
+bends c r before (LoadByte t a n) next x e = absurd (cc e)
+bends c r before (StoreByte a n u) next x e = absurd (cc e)
+bends c r before (Jump n) next x e = absurd (cc e)
+bends c r before (JumpBack n) next x e = absurd (cc e)
+bends c r before (Branch relation a b n) next x e = absurd (cc e)
+bends c r before (BranchBack relation a b n) next x e = absurd (cc e)
+bends c r before (Call t q us line) next x e = absurd (cc e)
+bends c r before (CallValue t a us line) next x e = absurd (cc e)
+bends c r before (Return a) next x e = absurd (cc e)
+bends c r before (Trap error line) next x e = absurd (cc e)
+bends c r before (Take t) next x e = absurd (cc e)
+bends c r before (Put a) next x e = absurd (cc e)
+bends c r before (New t type line) next x e = absurd (cc e)
+bends c r before End next x e = absurd (cc e)
+
+rows : (c : Context) (r : ℕ) (i : Instruction) (next third : Option Instruction) (x : ℕ × ℤ) → row c r (Some i) next third
+    ≡ Some x → Bends i
+rows c r (Index t a i low high width error line) next third x e = record {
+  to = t;
+  written = refl;
+  result = refl;
+  none = refl;
+  loud = refl;
+}
+rows c r (Literal t z) next third x e = absurd (cc e)
+rows c r (Copy t a) next third x e = absurd (cc e)
+rows c r (Arithmetic operator t a b error line) next third x e = absurd (cc e)
+rows c r (Bits operator t a b) next third x e = absurd (cc e)
+rows c r (Compare relation t a b) next third x e = absurd (cc e)
+rows c r (CheckRange a low high error line) next third x e = absurd (cc e)
+rows c r (CheckPointer a error line) next third x e = absurd (cc e)
+rows c r (Text t bytes) next third x e = absurd (cc e)
+rows c r (Offset t a n extent) next third x e = absurd (cc e)
+rows c r (RoutineValue t q) next third x e = absurd (cc e)
+rows c r (Load t a n) next third x e = absurd (cc e)
+rows c r (Store a n u) next third x e = absurd (cc e)
+rows c r (LoadByte t a n) next third x e = absurd (cc e)
+rows c r (StoreByte a n u) next third x e = absurd (cc e)
+rows c r (Jump n) next third x e = absurd (cc e)
+rows c r (JumpBack n) next third x e = absurd (cc e)
+rows c r (Branch relation a b n) next third x e = absurd (cc e)
+rows c r (BranchBack relation a b n) next third x e = absurd (cc e)
+rows c r (Call t q us line) next third x e = absurd (cc e)
+rows c r (CallValue t a us line) next third x e = absurd (cc e)
+rows c r (Return a) next third x e = absurd (cc e)
+rows c r (Trap error line) next third x e = absurd (cc e)
+rows c r (Take t) next third x e = absurd (cc e)
+rows c r (Put a) next third x e = absurd (cc e)
+rows c r (New t type line) next third x e = absurd (cc e)
+rows c r End next third x e = absurd (cc e)
 
 -- ---- marks
 
@@ -270,33 +310,75 @@ none_of : {X : Type 0} (o : Option X) → ((x : X) → o ≡ Some x → ⊥) →
 none_of None h = refl
 none_of (Some x) h = absurd (h x refl)
 
+-- one of two that a register is short of
+sides_of : (o o' : Option (ℕ × ℤ)) (x : ℕ × ℤ) → first_of o o' ≡ Some x → (o ≡ Some x) ⊎ ((o ≡ None) × (o' ≡ Some x))
+sides_of (Some y) o' x e = inl e
+sides_of None o' x e = inr (refl, e)
+
+module _ (c : Context) (r : ℕ) (body : List Instruction) (k : ℕ) where
+  -- of the instructions before a place, and at it
+  record RowBent (x : ℕ × ℤ) : Type 0 where
+    free : get_or (jumped body) (suc k) true ≡ false
+    clear : get_or (jumped body) (suc (suc k)) true ≡ false
+    is : row c r (slice_get body k) (slice_get body (suc k)) (slice_get body (suc (suc k))) ≡ Some x
+
+  row_is : (x : ℕ × ℤ) → row_bent c r body (suc k) ≡ Some x → RowBent x
+  row_is x e = go (get_or (jumped body) (suc k) true) (get_or (jumped body) (suc (suc k)) true) refl refl e
+    where
+      go : (a b : Bool) → get_or (jumped body) (suc k) true ≡ a → get_or (jumped body) (suc (suc k)) true ≡ b → cond a None
+          (cond b None (row c r (slice_get body k) (slice_get body (suc k)) (slice_get body (suc (suc k))))) ≡ Some x
+          → RowBent x
+      go true b ea eb e = absurd (cc e)
+      go false true ea eb e = absurd (cc e)
+      go false false ea eb e = record { free = ea; clear = eb; is = e }
+
+  record LoadBent (x : ℕ × ℤ) : Type 0 where
+    free : get_or (jumped body) (suc k) true ≡ false
+    is : bend c r (row_bent c r body k) (slice_get body k) (slice_get body (suc k)) ≡ Some x
+
+  load_is : (x : ℕ × ℤ) → load_bent c r body (suc k) ≡ Some x → LoadBent x
+  load_is x e = go (get_or (jumped body) (suc k) true) refl e
+    where
+      go : (a : Bool) → get_or (jumped body) (suc k) true ≡ a → cond a None
+          (bend c r (row_bent c r body k) (slice_get body k) (slice_get body (suc k))) ≡ Some x → LoadBent x
+      go true ea e = absurd (cc e)
+      go false ea e = record { free = ea; is = e }
+
+  -- none where a jump leads
+  none_jumped : (x : ℕ × ℤ) → IsMarked (jumped body) (suc k) → bent c r body (suc k) ≡ Some x → ⊥
+  none_jumped x marked e = go (sides_of (row_bent c r body (suc k)) (load_bent c r body (suc k)) x e)
+    where
+      go : (row_bent c r body (suc k) ≡ Some x) ⊎ ((row_bent c r body (suc k) ≡ None)
+          × (load_bent c r body (suc k) ≡ Some x)) → ⊥
+      go (inl a) = cc (sym (row_is x a).free ∙ marked)
+      go (inr a) = cc (sym (load_is x a.1).free ∙ marked)
+
+  after_index : (i : Instruction) (x : ℕ × ℤ) → slice_get body k ≡ Some i → bent c r body (suc k) ≡ Some x → Bends i
+  after_index i x here e = go (sides_of (row_bent c r body (suc k)) (load_bent c r body (suc k)) x e)
+    where
+      go : (row_bent c r body (suc k) ≡ Some x) ⊎ ((row_bent c r body (suc k) ≡ None)
+          × (load_bent c r body (suc k) ≡ Some x)) → Bends i
+      go (inl a) = rows c r i (slice_get body (suc k)) (slice_get body (suc (suc k))) x
+          (ap (λ o. row c r o (slice_get body (suc k)) (slice_get body (suc (suc k)))) (sym here) ∙ (row_is x a).is)
+      go (inr a) = bends c r (row_bent c r body k) i (slice_get body (suc k)) x
+          (ap (λ o. bend c r (row_bent c r body k) o (slice_get body (suc k))) (sym here) ∙ (load_is x a.1).is)
+
 -- no register is short of an offset but after an index, and none where a jump leads
-bent_next : (c : Context) (r : ℕ) (o : Option TacRoutine) (k : ℕ) (i : Instruction) (x : ℕ × ℕ) → body_at o k ≡ Some i
+bent_next : (c : Context) (r : ℕ) (o : Option TacRoutine) (k : ℕ) (i : Instruction) (x : ℕ × ℤ) → body_at o k ≡ Some i
     → bent_in c r o (suc k) ≡ Some x → Bends i
 bent_next c r None k i x here e = absurd (cc e)
-bent_next c r (Some routine) k i x here e = go (get_or (jumped routine.body) (suc k) true) e
-  where
-    go : (b : Bool) → cond b None (bend c r (slice_get routine.body k) (slice_get routine.body (suc k))) ≡ Some x
-        → Bends i
-    go true e = absurd (cc e)
-    go false e = bends c r i (slice_get routine.body (suc k)) x
-        (ap (λ o. bend c r o (slice_get routine.body (suc k))) (sym here) ∙ e)
+bent_next c r (Some routine) k i x here e = after_index c r routine.body k i x here e
 
-bent_no_jump : (c : Context) (r : ℕ) (o : Option TacRoutine) (k k' : ℕ) (i : Instruction) (x : ℕ × ℕ) → body_at o k
+bent_no_jump : (c : Context) (r : ℕ) (o : Option TacRoutine) (k k' : ℕ) (i : Instruction) (x : ℕ × ℤ) → body_at o k
     ≡ Some i → jump_of i k ≡ Some k' → bent_in c r o k' ≡ Some x → ⊥
 bent_no_jump c r None k k' i x here j e = cc e
 bent_no_jump c r (Some routine) k zero i x here j e = cc e
-bent_no_jump c r (Some routine) k (suc k') i x here j e = go (get_or (jumped routine.body) (suc k') true)
-    (marked_there routine.body 0 (replicate (length routine.body) false) k i (suc k') here
-    (ap (jump_of i) (from_none k) ∙ j)) e
+bent_no_jump c r (Some routine) k (suc k') i x here j e =
+    none_jumped c r routine.body k' x (marked_there routine.body 0 (replicate (length routine.body) false) k i (suc k')
+    here (ap (jump_of i) (from_none k) ∙ j)) e
   where
     from_none : (k : ℕ) → 0 + k ≡ k
     from_none k = omega arith
-
-    go : (b : Bool) → b ≡ true → cond b None (bend c r (slice_get routine.body k') (slice_get routine.body (suc k')))
-        ≡ Some x → ⊥
-    go true is e = cc e
-    go false is e = cc is
 
 module _ (c : Context) (r k : ℕ) where
   -- the flags at the place after an instruction belong only to its own temporary
@@ -304,7 +386,7 @@ module _ (c : Context) (r k : ℕ) where
       ≡ Some t
   told_behind i t here e = told_next (slice_get (routines c.code) r) k i t here e
 
-  bent_behind : (i : Instruction) (x : ℕ × ℕ) → fetch c.code r k ≡ Some i → bent_at c r (suc k) ≡ Some x → Bends i
+  bent_behind : (i : Instruction) (x : ℕ × ℤ) → fetch c.code r k ≡ Some i → bent_at c r (suc k) ≡ Some x → Bends i
   bent_behind i x here e = bent_next c r (slice_get (routines c.code) r) k i x here e
 
   -- to none after most
@@ -350,7 +432,7 @@ module _ (c : Context) (r k : ℕ) where
                   absurd (told_no_jump (slice_get (routines c.code) r) k k' i t is
                   (jumps_there i k k' (leads_there i is) ne) e)
 
-      bent : (x : ℕ × ℕ) → bent_at c r k' ≡ Some x → ⊥
+      bent : (x : ℕ × ℤ) → bent_at c r k' ≡ Some x → ⊥
       bent x e = go (fetch c.code r k) refl
         where
           go : (o : Option Instruction) → fetch c.code r k ≡ o → ⊥
@@ -380,7 +462,7 @@ called_silent c r (suc k) u g v = (flags, none_of (bent_at c r (suc k)) bent)
         go None is = absurd (cc (sym (ap (λ o. gives_to o u) is) ∙ g))
         go (Some i) is = absurd (no_result i is (plainly i t (told_behind c r k i t is e)).result)
 
-    bent : (x : ℕ × ℕ) → bent_at c r (suc k) ≡ Some x → ⊥
+    bent : (x : ℕ × ℤ) → bent_at c r (suc k) ≡ Some x → ⊥
     bent x e = go (fetch c.code r k) refl
       where
         go : (o : Option Instruction) → fetch c.code r k ≡ o → ⊥
@@ -406,42 +488,54 @@ entered_silent c r v = (
 -- ---- what a register is short of
 
 -- after an index it is the offset of its base's block, or what the lowest index leaves of it
-pub record BentIndex (c : Context) (r t : ℕ) (o : Option ℕ) (x : ℕ × ℕ) : Type 0 where
+pub record BentIndex (c : Context) (r t : ℕ) (o : Option ℤ) (x : ℕ × ℤ) : Type 0 where
   pub home : home c r t ≡ Reg x.0
   pub offset : o ≡ Some x.1
 
+-- the offset of a load by it
+abbrev pub IsLoad : ℤ → ℕ → Type 0
+IsLoad m n = (negsuc 524287 ≤ℤ (m +ℤ pos n)) × ((m +ℤ pos n) ≤ℤ pos 524287)
+
 -- and the load takes it
-pub record BentLoad (c : Context) (r k : ℕ) (x : ℕ × ℕ) : Type 0 where
+pub record BentLoad (c : Context) (r k : ℕ) (x : ℕ × ℤ) : Type 0 where
   pub to : ℕ
   pub behind : ℕ
   pub here : fetch c.code r k ≡ Some (Load to (base.Temporary to) behind)
   pub home : home c r to ≡ Reg x.0
-  pub near : x.1 + behind < 524288
+  pub near : IsLoad x.1 behind
 
-record Bent (c : Context) (r t : ℕ) (o : Option ℕ) (next : Option Instruction) (x : ℕ × ℕ) : Type 0 where
+record Bent (c : Context) (r t : ℕ) (o : Option ℤ) (next : Option Instruction) (x : ℕ × ℤ) : Type 0 where
   behind : ℕ
   load : next ≡ Some (Load t (base.Temporary t) behind)
   home : home c r t ≡ Reg x.0
   offset : o ≡ Some x.1
-  near : x.1 + behind < 524288
+  near : IsLoad x.1 behind
 
-bent_home : (h : Home) (n : ℕ) (o : Option ℕ) (x : ℕ × ℕ) → bend_in h n o ≡ Some x → (h ≡ Reg x.0) × (o ≡ Some x.1)
-    × (x.1 + n < 524288)
+bent_home : (h : Home) (n : ℕ) (o : Option ℤ) (x : ℕ × ℤ) → bend_in h n o ≡ Some x → (h ≡ Reg x.0) × (o ≡ Some x.1)
+    × IsLoad x.1 n
 bent_home (Slot j) n o x e = absurd (cc e)
 bent_home (Reg q) n None x e = absurd (cc e)
-bent_home (Reg q) n (Some m) x e = go (nat_lt (m + n) 524288) refl e
+bent_home (Reg q) n (Some m) x e =
+    go (int_lt (m +ℤ pos n) (negsuc 524287)) (int_lt (m +ℤ pos n) (pos 524288)) refl refl e
   where
-    less : (x y : ℕ) → nat_lt x y ≡ true → x < y
-    less x y e = grind arith
+    above : (z : ℤ) → int_lt z (negsuc 524287) ≡ false → negsuc 524287 ≤ℤ z
+    above z e = grind (arith, ints)
 
-    go : (t : Bool) → nat_lt (m + n) 524288 ≡ t → cond t (Some (q, m)) None ≡ Some x → (Reg q ≡ Reg x.0)
-        × (Some m ≡ Some x.1) × (x.1 + n < 524288)
-    go true lt e =
-        let same : (q, m) ≡ x = cc e in
-        (ap (λ y. Reg y.0) same, ap (λ y. Some y.1) same, subst (λ y. y.1 + n < 524288) same (less (m + n) 524288 lt))
-    go false lt e = absurd (cc e)
+    below : (z : ℤ) → int_lt z (pos 524288) ≡ true → z ≤ℤ pos 524287
+    below z e = grind (arith, ints)
 
-bent_load : (c : Context) (r t : ℕ) (o : Option ℕ) (next : Option Instruction) (x : ℕ × ℕ) → bend_load c r t o next
+    go : (t u : Bool) → int_lt (m +ℤ pos n) (negsuc 524287) ≡ t → int_lt (m +ℤ pos n) (pos 524288) ≡ u → cond t None
+        (cond u (Some (q, m)) None) ≡ Some x → (Reg q ≡ Reg x.0) × (Some m ≡ Some x.1) × IsLoad x.1 n
+    go true u et eu e = absurd (cc e)
+    go false true et eu e =
+        let same : (q, m) ≡ x = cc e in (
+          ap (λ y. Reg y.0) same,
+          ap (λ y. Some y.1) same,
+          subst (λ y. IsLoad y.1 n) same (above (m +ℤ pos n) et, below (m +ℤ pos n) eu),
+        )
+    go false false et eu e = absurd (cc e)
+
+bent_load : (c : Context) (r t : ℕ) (o : Option ℤ) (next : Option Instruction) (x : ℕ × ℤ) → bend_load c r t o next
     ≡ Some x → Bent c r t o next x
 bent_load c r t o (Some (Load u (base.Temporary w) n)) x e = go (nat_eq u t) (nat_eq w t) refl refl e
   where
@@ -491,62 +585,333 @@ bent_load c r t o (Some (New t' type' line')) x e = absurd (cc e)
 bent_load c r t o (Some End) x e = absurd (cc e)
 bent_load c r t o (Some (Index t' a' i' low' high' width' error' line')) x e = absurd (cc e)
 
-bent_both : (c : Context) (r : ℕ) (o : Option TacRoutine) (k : ℕ) (x : ℕ × ℕ) → bent_in c r o (suc k) ≡ Some x
-    → bend c r (body_at o k) (body_at o (suc k)) ≡ Some x
-bent_both c r None k x e = absurd (cc e)
-bent_both c r (Some routine) k x e = go (get_or (jumped routine.body) (suc k) true) e
+-- an index into a row: what stands behind the index that made the row's address
+record Row (c : Context) (r t : ℕ) (o : Option ℤ) (next third : Option Instruction) (x : ℕ × ℤ) : Type 0 where
+  index : ℕ
+  low : ℤ
+  high : ℤ
+  width : ℕ
+  error : ℕ
+  line : ℕ
+  further : ℤ
+  is : next ≡ Some (Index t (base.Temporary t) index low high width error line)
+  apart : home c r index ≢ Reg x.0
+  home : home c r t ≡ Reg x.0
+  offset : o ≡ Some x.1
+  least : negsuc 16777215 ≤ℤ x.1
+  ahead : back (base.Temporary t) low high width error ≡ Some further
+  load : bend_load c r t (Some (x.1 +ℤ further)) third ≡ Some (x.0, x.1 +ℤ further)
+
+-- the same at a place
+pub record BentRow (c : Context) (r k : ℕ) (x : ℕ × ℤ) : Type 0 where
+  pub to : ℕ
+  pub index : ℕ
+  pub low : ℤ
+  pub high : ℤ
+  pub width : ℕ
+  pub error : ℕ
+  pub line : ℕ
+  pub further : ℤ
+  pub here : fetch c.code r k ≡ Some (Index to (base.Temporary to) index low high width error line)
+  pub apart : home c r index ≢ Reg x.0
+  pub home : home c r to ≡ Reg x.0
+  pub least : negsuc 16777215 ≤ℤ x.1
+  pub ahead : back (base.Temporary to) low high width error ≡ Some further
+  pub next : bent_at c r (suc k) ≡ Some (x.0, x.1 +ℤ further)
+
+apart_is : (h : Home) (q : ℕ) → is_apart h q ≡ true → h ≢ Reg q
+apart_is (Slot k) q e same = cc same
+apart_is (Reg p) q e same = go (nat_eq p q) refl e
   where
-    go : (b : Bool) → cond b None (bend c r (slice_get routine.body k) (slice_get routine.body (suc k))) ≡ Some x
-        → bend c r (slice_get routine.body k) (slice_get routine.body (suc k)) ≡ Some x
-    go true e = absurd (cc e)
-    go false e = e
+    go : (b : Bool) → nat_eq p q ≡ b → not b ≡ true → ⊥
+    go true eb e = cc e
+    go false eb e =
+        let is : p ≡ q = cc same in cc (sym eb ∙ ap (λ z. nat_eq z q) is ∙ eqb_same q)
 
-pub bent_index_is : (c : Context) (r k t : ℕ) (a : Base) (i : ℕ) (low high : ℤ) (width error line : ℕ) (x : ℕ × ℕ)
-    → fetch c.code r k ≡ Some (Index t a i low high width error line) → bent_at c r (suc k) ≡ Some x
-    → BentIndex c r t (offset_of c r a low high width error) x
-bent_index_is c r k t a i low high width error line x here e =
-    let both = bent_both c r (slice_get (routines c.code) r) k x e in
-    let is = bent_load c r t (offset_of c r a low high width error) (fetch c.code r (suc k)) x
-    (ap (λ o. bend c r o (fetch c.code r (suc k))) (sym here) ∙ both) in
-    record { home = is.home; offset = is.offset }
+-- the parts of such a row
+record RowParts (m : ℤ) (h : Home) (o : Option (ℕ × ℤ)) (x : ℕ × ℤ) : Type 0 where
+  beyond : ℤ
+  found : o ≡ Some (x.0, beyond)
+  offset : m ≡ x.1
+  least : negsuc 16777215 ≤ℤ m
+  apart : h ≢ Reg x.0
 
-pub bent_load_is : (c : Context) (r k : ℕ) (x : ℕ × ℕ) → bent_at c r k ≡ Some x → BentLoad c r k x
-bent_load_is c r zero x e = absurd (none (slice_get (routines c.code) r) e)
+row_parts : (m : ℤ) (h : Home) (o : Option (ℕ × ℤ)) (x : ℕ × ℤ) → row_near m h o ≡ Some x → RowParts m h o x
+row_parts m h None x e = absurd (cc e)
+row_parts m h (Some y) x e = go (int_lt m (negsuc 16777215)) (is_apart h y.0) refl refl e
+  where
+    above : (z : ℤ) → int_lt z (negsuc 16777215) ≡ false → negsuc 16777215 ≤ℤ z
+    above z e = grind (arith, ints)
+
+    go : (a b : Bool) → int_lt m (negsuc 16777215) ≡ a → is_apart h y.0 ≡ b → cond a None
+        (cond b (Some (y.0, m)) None) ≡ Some x → RowParts m h (Some y) x
+    go true b ea eb e = absurd (cc e)
+    go false false ea eb e = absurd (cc e)
+    go false true ea eb e =
+        let same : (y.0, m) ≡ x = cc e in
+        let first : y.0 ≡ x.0 = ap (λ z. z.0) same in
+        record {
+          beyond = y.1;
+          found = ap (λ q. Some (q, y.1)) first;
+          offset = ap (λ z. z.1) same;
+          least = above m ea;
+          apart = subst (λ q. h ≢ Reg q) first (apart_is h y.0 eb);
+        }
+
+bent_row : (c : Context) (r t : ℕ) (o : Option ℤ) (next third : Option Instruction) (x : ℕ × ℤ) → bend_row c r t o next
+    third ≡ Some x → Row c r t o next third x
+bent_row c r t o (Some (Index u (base.Temporary w) j low high width error line)) third x e =
+    go (nat_eq u t) (nat_eq w t) refl refl e
+  where
+    further_is : (m : ℤ) (d : Option ℤ) (z : ℤ) → both_short m d ≡ Some z → (n : ℤ) × (d ≡ Some n) × (z ≡ m +ℤ n)
+    further_is m None z e = absurd (cc e)
+    further_is m (Some n) z e = (n, refl, cc (sym e))
+
+    with_offset : (o' : Option ℤ) → o ≡ o' → u ≡ t → w ≡ t → row_from c r t o' (home c r j)
+        (back (base.Temporary w) low high width error) third ≡ Some x → Row c r t o
+        (Some (Index u (base.Temporary w) j low high width error line)) third x
+    with_offset None eo ut wt e = absurd (cc e)
+    with_offset (Some m) eo ut wt e =
+        let d = back (base.Temporary w) low high width error in
+        let y = row_parts m (home c r j) (bend_load c r t (both_short m d) third) x e in
+        let l = bent_load c r t (both_short m d) third (x.0, y.beyond) y.found in
+        let f = further_is m d y.beyond l.offset in
+        let sum : y.beyond ≡ x.1 +ℤ f.0 = f.2 ∙ ap (λ z. z +ℤ f.0) y.offset in
+        record {
+          index = j;
+          low = low;
+          high = high;
+          width = width;
+          error = error;
+          line = line;
+          further = f.0;
+          is = ap (λ z. Some (Index z (base.Temporary w) j low high width error line)) ut
+              ∙ ap (λ z. Some (Index t (base.Temporary z) j low high width error line)) wt;
+          apart = y.apart;
+          home = l.home;
+          offset = eo ∙ ap Some y.offset;
+          least = subst (λ z. negsuc 16777215 ≤ℤ z) y.offset y.least;
+          ahead = f.1;
+          load = ap (λ z. bend_load c r t (Some z) third) (sym sum) ∙ ap (λ z. bend_load c r t z third) (sym l.offset)
+              ∙ y.found ∙ ap (λ z. Some (x.0, z)) sum;
+        }
+
+    go : (a b : Bool) → nat_eq u t ≡ a → nat_eq w t ≡ b → cond (a && b)
+        (row_from c r t o (home c r j) (back (base.Temporary w) low high width error) third) None ≡ Some x
+        → Row c r t o (Some (Index u (base.Temporary w) j low high width error line)) third x
+    go true true ea eb e = with_offset o refl (eq_of u t ea) (eq_of w t eb) e
+    go true false ea eb e = absurd (cc e)
+    go false b ea eb e = absurd (cc e)
+bent_row c r t o (Some (Index u base.Frame j low high width error line)) third x e = absurd (cc e)
+bent_row c r t o (Some (Index u base.Scratch j low high width error line)) third x e = absurd (cc e)
+bent_row c r t o (Some (Index u base.Program j low high width error line)) third x e = absurd (cc e)
+bent_row c r t o None third x e = absurd (cc e)
+bent_row c r t o (Some (Literal t' z')) third x e = absurd (cc e)
+bent_row c r t o (Some (Copy t' a')) third x e = absurd (cc e)
+bent_row c r t o (Some (Arithmetic operator' t' a' b' error' line')) third x e = absurd (cc e)
+bent_row c r t o (Some (Bits operator' t' a' b')) third x e = absurd (cc e)
+bent_row c r t o (Some (Compare relation' t' a' b')) third x e = absurd (cc e)
+bent_row c r t o (Some (CheckRange a' low' high' error' line')) third x e = absurd (cc e)
+bent_row c r t o (Some (CheckPointer a' error' line')) third x e = absurd (cc e)
+bent_row c r t o (Some (Text t' bytes')) third x e = absurd (cc e)
+bent_row c r t o (Some (Offset t' a' n' extent')) third x e = absurd (cc e)
+bent_row c r t o (Some (RoutineValue t' q')) third x e = absurd (cc e)
+bent_row c r t o (Some (Load t' a' n')) third x e = absurd (cc e)
+bent_row c r t o (Some (Store a' n' u')) third x e = absurd (cc e)
+bent_row c r t o (Some (LoadByte t' a' n')) third x e = absurd (cc e)
+bent_row c r t o (Some (StoreByte a' n' u')) third x e = absurd (cc e)
+bent_row c r t o (Some (Jump n')) third x e = absurd (cc e)
+bent_row c r t o (Some (JumpBack n')) third x e = absurd (cc e)
+bent_row c r t o (Some (Branch relation' a' b' n')) third x e = absurd (cc e)
+bent_row c r t o (Some (BranchBack relation' a' b' n')) third x e = absurd (cc e)
+bent_row c r t o (Some (Call t' q' us' line')) third x e = absurd (cc e)
+bent_row c r t o (Some (CallValue t' a' us' line')) third x e = absurd (cc e)
+bent_row c r t o (Some (Return a')) third x e = absurd (cc e)
+bent_row c r t o (Some (Trap error' line')) third x e = absurd (cc e)
+bent_row c r t o (Some (Take t')) third x e = absurd (cc e)
+bent_row c r t o (Some (Put a')) third x e = absurd (cc e)
+bent_row c r t o (Some (New t' type' line')) third x e = absurd (cc e)
+bent_row c r t o (Some End) third x e = absurd (cc e)
+
+-- the index before it
+record RowBehind (c : Context) (r : ℕ) (next third : Option Instruction) (x : ℕ × ℤ) : Type 0 where
+  to : ℕ
+  o : Option ℤ
+  of : Row c r to o next third x
+
+row_by : (c : Context) (r : ℕ) (i next third : Option Instruction) (x : ℕ × ℤ) → row c r i next third ≡ Some x
+    → RowBehind c r next third x
+row_by c r (Some (Index t a i low high width error line)) next third x e =
+    let o = offset_of c r a low high width error in
+    record { to = t; o = o; of = bent_row c r t o next third x e }
+row_by c r None next third x e = absurd (cc e)
+row_by c r (Some (Literal t' z')) next third x e = absurd (cc e)
+row_by c r (Some (Copy t' a')) next third x e = absurd (cc e)
+row_by c r (Some (Arithmetic operator' t' a' b' error' line')) next third x e = absurd (cc e)
+row_by c r (Some (Bits operator' t' a' b')) next third x e = absurd (cc e)
+row_by c r (Some (Compare relation' t' a' b')) next third x e = absurd (cc e)
+row_by c r (Some (CheckRange a' low' high' error' line')) next third x e = absurd (cc e)
+row_by c r (Some (CheckPointer a' error' line')) next third x e = absurd (cc e)
+row_by c r (Some (Text t' bytes')) next third x e = absurd (cc e)
+row_by c r (Some (Offset t' a' n' extent')) next third x e = absurd (cc e)
+row_by c r (Some (RoutineValue t' q')) next third x e = absurd (cc e)
+row_by c r (Some (Load t' a' n')) next third x e = absurd (cc e)
+row_by c r (Some (Store a' n' u')) next third x e = absurd (cc e)
+row_by c r (Some (LoadByte t' a' n')) next third x e = absurd (cc e)
+row_by c r (Some (StoreByte a' n' u')) next third x e = absurd (cc e)
+row_by c r (Some (Jump n')) next third x e = absurd (cc e)
+row_by c r (Some (JumpBack n')) next third x e = absurd (cc e)
+row_by c r (Some (Branch relation' a' b' n')) next third x e = absurd (cc e)
+row_by c r (Some (BranchBack relation' a' b' n')) next third x e = absurd (cc e)
+row_by c r (Some (Call t' q' us' line')) next third x e = absurd (cc e)
+row_by c r (Some (CallValue t' a' us' line')) next third x e = absurd (cc e)
+row_by c r (Some (Return a')) next third x e = absurd (cc e)
+row_by c r (Some (Trap error' line')) next third x e = absurd (cc e)
+row_by c r (Some (Take t')) next third x e = absurd (cc e)
+row_by c r (Some (Put a')) next third x e = absurd (cc e)
+row_by c r (Some (New t' type' line')) next third x e = absurd (cc e)
+row_by c r (Some End) next third x e = absurd (cc e)
+
+record LoadBehind (c : Context) (r : ℕ) (next : Option Instruction) (x : ℕ × ℤ) : Type 0 where
+  to : ℕ
+  o : Option ℤ
+  of : Bent c r to o next x
+
+bent_by : (c : Context) (r : ℕ) (before : Option (ℕ × ℤ)) (i next : Option Instruction) (x : ℕ × ℤ) → bend c r before i
+    next ≡ Some x → LoadBehind c r next x
+bent_by c r before (Some (Index t a i low high width error line)) next x e =
+    let o = start c r before a low high width error in
+    record { to = t; o = o; of = bent_load c r t o next x e }
+bent_by c r before None next x e = absurd (cc e)
+bent_by c r before (Some (Literal t' z')) next x e = absurd (cc e)
+bent_by c r before (Some (Copy t' a')) next x e = absurd (cc e)
+bent_by c r before (Some (Arithmetic operator' t' a' b' error' line')) next x e = absurd (cc e)
+bent_by c r before (Some (Bits operator' t' a' b')) next x e = absurd (cc e)
+bent_by c r before (Some (Compare relation' t' a' b')) next x e = absurd (cc e)
+bent_by c r before (Some (CheckRange a' low' high' error' line')) next x e = absurd (cc e)
+bent_by c r before (Some (CheckPointer a' error' line')) next x e = absurd (cc e)
+bent_by c r before (Some (Text t' bytes')) next x e = absurd (cc e)
+bent_by c r before (Some (Offset t' a' n' extent')) next x e = absurd (cc e)
+bent_by c r before (Some (RoutineValue t' q')) next x e = absurd (cc e)
+bent_by c r before (Some (Load t' a' n')) next x e = absurd (cc e)
+bent_by c r before (Some (Store a' n' u')) next x e = absurd (cc e)
+bent_by c r before (Some (LoadByte t' a' n')) next x e = absurd (cc e)
+bent_by c r before (Some (StoreByte a' n' u')) next x e = absurd (cc e)
+bent_by c r before (Some (Jump n')) next x e = absurd (cc e)
+bent_by c r before (Some (JumpBack n')) next x e = absurd (cc e)
+bent_by c r before (Some (Branch relation' a' b' n')) next x e = absurd (cc e)
+bent_by c r before (Some (BranchBack relation' a' b' n')) next x e = absurd (cc e)
+bent_by c r before (Some (Call t' q' us' line')) next x e = absurd (cc e)
+bent_by c r before (Some (CallValue t' a' us' line')) next x e = absurd (cc e)
+bent_by c r before (Some (Return a')) next x e = absurd (cc e)
+bent_by c r before (Some (Trap error' line')) next x e = absurd (cc e)
+bent_by c r before (Some (Take t')) next x e = absurd (cc e)
+bent_by c r before (Some (Put a')) next x e = absurd (cc e)
+bent_by c r before (Some (New t' type' line')) next x e = absurd (cc e)
+bent_by c r before (Some End) next x e = absurd (cc e)
+
+pub bent_index_is : (c : Context) (r k t : ℕ) (a : Base) (i : ℕ) (low high : ℤ) (width error line : ℕ) (x : ℕ × ℤ)
+    → fetch c.code r k ≡ Some (Index t a i low high width error line) → bent_at c r k ≡ None → bent_at c r (suc k)
+    ≡ Some x → BentIndex c r t (offset_of c r a low high width error) x
+bent_index_is c r k t a i low high width error line x here straight e =
+    go (slice_get (routines c.code) r) refl here straight e
+  where
+    go : (o : Option TacRoutine) → slice_get (routines c.code) r ≡ o → body_at o k
+        ≡ Some (Index t a i low high width error line) → bent_in c r o k ≡ None → bent_in c r o (suc k) ≡ Some x
+        → BentIndex c r t (offset_of c r a low high width error) x
+    go None own here straight e = absurd (cc e)
+    go (Some routine) own here straight e =
+        by (sides_of (row_bent c r routine.body (suc k)) (load_bent c r routine.body (suc k)) x e)
+      where
+        no_row : (o o' : Option (ℕ × ℤ)) → first_of o o' ≡ None → o ≡ None
+        no_row (Some y) o' e = absurd (cc e)
+        no_row None o' e = refl
+
+        by : (row_bent c r routine.body (suc k) ≡ Some x) ⊎ ((row_bent c r routine.body (suc k) ≡ None)
+            × (load_bent c r routine.body (suc k) ≡ Some x)) → BentIndex c r t (offset_of c r a low high width error) x
+        by (inl a') =
+            let next = slice_get routine.body (suc k) in
+            let third = slice_get routine.body (suc (suc k)) in
+            let w = bent_row c r t (offset_of c r a low high width error) next third x
+            (ap (λ o. row c r o next third) (sym here) ∙ (row_is c r routine.body k x a').is) in
+            record { home = w.home; offset = w.offset }
+        by (inr a') =
+            let next = slice_get routine.body (suc k) in
+            let w = bent_load c r t (offset_of c r a low high width error) next x
+            (ap (λ o. bend c r o (Some (Index t a i low high width error line)) next)
+            (sym (no_row (row_bent c r routine.body k) (load_bent c r routine.body k) straight))
+            ∙ ap (λ o. bend c r (row_bent c r routine.body k) o next) (sym here)
+            ∙ (load_is c r routine.body k x a'.1).is) in
+            record { home = w.home; offset = w.offset }
+
+pub bent_is : (c : Context) (r k : ℕ) (x : ℕ × ℤ) → bent_at c r k ≡ Some x → BentLoad c r k x ⊎ BentRow c r k x
+bent_is c r zero x e = absurd (none (slice_get (routines c.code) r) e)
   where
     none : (o : Option TacRoutine) → bent_in c r o 0 ≡ Some x → ⊥
     none None e = cc e
     none (Some routine) e = cc e
-bent_load_is c r (suc k) x e = go (fetch c.code r k) refl (bent_both c r (slice_get (routines c.code) r) k x e)
+bent_is c r (suc k) x e = go (slice_get (routines c.code) r) refl e
   where
-    go : (o : Option Instruction) → fetch c.code r k ≡ o → bend c r o (fetch c.code r (suc k)) ≡ Some x → BentLoad c r
-        (suc k) x
-    go None is e = absurd (cc e)
-    go (Some (Index t a i low high width error line)) is e =
-        let b = bent_load c r t (offset_of c r a low high width error) (fetch c.code r (suc k)) x e in
-        record { to = t; behind = b.behind; here = b.load; home = b.home; near = b.near }
-    go (Some (Literal t z)) is e = absurd (cc e)
-    go (Some (Copy t a)) is e = absurd (cc e)
-    go (Some (Arithmetic operator t a b error line)) is e = absurd (cc e)
-    go (Some (Bits operator t a b)) is e = absurd (cc e)
-    go (Some (Compare relation t a b)) is e = absurd (cc e)
-    go (Some (CheckRange a low high error line)) is e = absurd (cc e)
-    go (Some (CheckPointer a error line)) is e = absurd (cc e)
-    go (Some (Text t bytes)) is e = absurd (cc e)
-    go (Some (Offset t a n extent)) is e = absurd (cc e)
-    go (Some (RoutineValue t q)) is e = absurd (cc e)
-    go (Some (Load t a n)) is e = absurd (cc e)
-    go (Some (Store a n u)) is e = absurd (cc e)
-    go (Some (LoadByte t a n)) is e = absurd (cc e)
-    go (Some (StoreByte a n u)) is e = absurd (cc e)
-    go (Some (Jump n)) is e = absurd (cc e)
-    go (Some (JumpBack n)) is e = absurd (cc e)
-    go (Some (Branch relation a b n)) is e = absurd (cc e)
-    go (Some (BranchBack relation a b n)) is e = absurd (cc e)
-    go (Some (Call t q us line)) is e = absurd (cc e)
-    go (Some (CallValue t a us line)) is e = absurd (cc e)
-    go (Some (Return a)) is e = absurd (cc e)
-    go (Some (Trap error line)) is e = absurd (cc e)
-    go (Some (Take t)) is e = absurd (cc e)
-    go (Some (Put a)) is e = absurd (cc e)
-    go (Some (New t type line)) is e = absurd (cc e)
-    go (Some End) is e = absurd (cc e)
+    go : (o : Option TacRoutine) → slice_get (routines c.code) r ≡ o → bent_in c r o (suc k) ≡ Some x
+        → BentLoad c r (suc k) x ⊎ BentRow c r (suc k) x
+    go None own e = absurd (cc e)
+    go (Some routine) own e =
+        by (sides_of (row_bent c r routine.body (suc k)) (load_bent c r routine.body (suc k)) x e)
+      where
+        body : List Instruction
+        body = routine.body
+
+        at : (j : ℕ) → fetch c.code r j ≡ slice_get body j
+        at j = ap (λ o. body_at o j) own
+
+        loads : (i : Option Instruction) → bend c r (row_bent c r body k) i (slice_get body (suc k)) ≡ Some x
+            → BentLoad c r (suc k) x
+        loads i e =
+            let w = bent_by c r (row_bent c r body k) i (slice_get body (suc k)) x e in
+            record { to = w.to; behind = w.of.behind; here = at (suc k) ∙ w.of.load; home = w.of.home; near = w.of.near }
+
+        by : (row_bent c r body (suc k) ≡ Some x) ⊎ ((row_bent c r body (suc k) ≡ None)
+            × (load_bent c r body (suc k) ≡ Some x)) → BentLoad c r (suc k) x ⊎ BentRow c r (suc k) x
+        by (inr a) = inl (loads (slice_get body k) (load_is c r body k x a.1).is)
+        by (inl a) =
+            let z = row_is c r body k x a in
+            let w = row_by c r (slice_get body k) (slice_get body (suc k)) (slice_get body (suc (suc k))) x z.is in
+            let y = w.of in
+            inr (record {
+              to = w.to;
+              index = y.index;
+              low = y.low;
+              high = y.high;
+              width = y.width;
+              error = y.error;
+              line = y.line;
+              further = y.further;
+              here = at (suc k) ∙ y.is;
+              home = y.home;
+              apart = y.apart;
+              least = y.least;
+              ahead = y.ahead;
+              next = ap (λ o. bent_in c r o (suc (suc k))) own ∙ ap (λ o. first_of o (load_bent c r body (suc (suc k))))
+                  (no_row w.to w.o y)
+                  ∙ ap (λ b. cond b None (bend c r (row_bent c r body (suc k)) (slice_get body (suc k))
+                  (slice_get body (suc (suc k))))) z.clear
+                  ∙ ap (λ o. bend c r o (slice_get body (suc k)) (slice_get body (suc (suc k)))) a
+                  ∙ ap (λ o. bend c r (Some x) o (slice_get body (suc (suc k)))) y.is
+                  ∙ ap (λ o. bend_load c r w.to (both_short x.1 o) (slice_get body (suc (suc k)))) y.ahead ∙ y.load;
+            })
+          where
+            none_of_both : (a b : Bool) (z : Option (ℕ × ℤ)) → z ≡ None → cond a None (cond b None z) ≡ None
+            none_of_both true b z e = refl
+            none_of_both false true z e = refl
+            none_of_both false false z e = e
+
+            no_row : (t : ℕ) (o : Option ℤ) → Row c r t o (slice_get body (suc k)) (slice_get body (suc (suc k))) x
+                → row_bent c r body (suc (suc k)) ≡ None
+            no_row t o y =
+                let third = slice_get body (suc (suc k)) in
+                let fourth = slice_get body (suc (suc (suc k))) in
+                let w = bent_load c r t (Some (x.1 +ℤ y.further)) third (x.0, x.1 +ℤ y.further) y.load in
+                none_of_both (get_or (jumped body) (suc (suc k)) true) (get_or (jumped body) (suc (suc (suc k))) true)
+                (row c r (slice_get body (suc k)) third fourth)
+                (ap (λ o. row c r o third fourth) y.is ∙ ap (λ o. row c r
+                (Some (Index t (base.Temporary t) y.index y.low y.high y.width y.error y.line)) o fourth) w.load)

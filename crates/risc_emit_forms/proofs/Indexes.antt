@@ -1,7 +1,7 @@
 -- Components of arrays: the index checked, and the address of the component.
 use Rattle.std.proofs.Common.{◌≡◌, ◌≢◌, ℕ, zero, suc, ◌+◌, ◌*◌, ◌/◌, ◌%◌, ◌^◌, ◌<◌, inl, Bool, true, false, cond}
 use Rattle.std.proofs.Common.{not, ◌&&◌, ◌-◌, ◌≤◌, nat_eq, nat_le, nat_lt, List, [], ◌∷◌, ◌++◌, length, Some, ℤ, pos}
-use Rattle.std.proofs.Common.{negsuc, ◌*ℤ◌, refl, sym, ap, ◌∙◌, subst, arith, append_assoc, Option, None}
+use Rattle.std.proofs.Common.{negsuc, neg_ℤ, ◌+ℤ◌, ◌*ℤ◌, refl, sym, ap, ◌∙◌, subst, arith, append_assoc, Option, None}
 use Rattle.std.specs.Prelude.{int_lt, ◌≤ℤ◌}
 use Rattle.std.proofs.lemmas.Int.{ints}
 use Rattle.std.proofs.lemmas.Bool.{leb-true, ltb-true}
@@ -11,7 +11,7 @@ use Rattle.risc_word.specs.declared.instr.Operand.TheVariants.{Content, Constant
 use Rattle.risc_word.specs.declared.instr.Instr.TheVariants as word
 use Rattle.risc_machine.specs.Step as machine
 use Rattle.risc_machine.specs.Step.{word_of_int}
-use Rattle.risc_machine_laws.specs.View.{View, Shows, operand_view, after}
+use Rattle.risc_machine_laws.specs.View.{View, Shows, operand_view, after, reached}
 use Rattle.risc_machine_laws.specs.Runs.{Way, same_tape}
 use Rattle.risc_machine_laws.specs.Numbers.{product_of, difference_of}
 use Rattle.risc_machine_laws.proofs.Runs.{to_join, way_here, way_of, way_to}
@@ -28,7 +28,9 @@ use Rattle.tac_code.specs.Meaning.{fetch, State, Goes, Over, giving, base_value,
 use Rattle.risc_alloc.specs.Flow.{in_base}
 use Rattle.risc_emit_relation.specs.Context.{Context, home, Places, place, IsNumber, IsValue}
 use Rattle.risc_emit_relation.specs.Context as ctx
-use Rattle.risc_emit_relation.specs.Related.{owner_of}
+use Rattle.risc_emit_relation.specs.Related.{Machine, Related, owner_of, value_of}
+use Rattle.risc_alloc.specs.declared.homes.Home.{Home}
+use Rattle.risc_alloc.specs.declared.homes.Home.TheVariants.{Slot, Reg}
 use Rattle.risc_emit_relation.specs.Changes.{Near}
 use Rattle.risc_emit_relation.proofs.Basics.{update_same, update_other}
 use Rattle.risc_emit_relation.proofs.Steps.{home_read, value_near}
@@ -36,12 +38,13 @@ use Rattle.risc_emit_forms.specs.Pieces.{Piece, Plain, Left}
 use Rattle.risc_emit_forms.specs.Forms as form
 use Rattle.risc_emit_forms.specs.Forms.{constant, exact, fetched, target, save, base_register, right, right_operand}
 use Rattle.risc_emit_forms.specs.Forms.{above_register, index_code, scaled, scaled_register, base_address}
-use Rattle.risc_emit_forms.specs.Forms.{address_register, steps_form, near_component, index_by}
-use Rattle.risc_emit_forms.specs.Told.{block_at, fold_near, fold_by, fold_in, short_of, folded, bent_at}
-use Rattle.risc_emit_forms.specs.Follows.{machine_of, Built, Belongs, Comes, Follows}
-use Rattle.risc_emit_forms.proofs.Basics.{left_after, left_next, is_read, writes_it, among_first, among_rest}
+use Rattle.risc_emit_forms.specs.Forms.{address_register, steps_form, near_code, near_register, near_component, index_by}
+use Rattle.risc_emit_forms.specs.Told.{block_at, fold_near, fold_by, fold_in, short_of, back_by, back}
+use Rattle.risc_emit_forms.specs.Told.{short_by, near_of, folded, offset_of, bent_at}
+use Rattle.risc_emit_forms.specs.Follows.{machine_of, unbent, Built, Meets, Belongs, Comes, Follows}
+use Rattle.risc_emit_forms.proofs.Basics.{left_after, left_at, left_next, is_read, writes_it, among_first, among_rest}
 use Rattle.risc_emit_forms.proofs.Basics.{integer_is}
-use Rattle.risc_emit_forms.proofs.Flags.{unflagged, bent_index_is}
+use Rattle.risc_emit_forms.proofs.Flags.{BentIndex, BentRow, unflagged, bent_index_is}
 use Rattle.risc_emit_forms.proofs.Runs.{Moved, step_to, constant_run, exact_run, fetch_run, fetched_not}
 use Rattle.risc_emit_forms.proofs.Comes.{framed, fetched_is, come_to, come_way, gives_end, bends_end, untested}
 use Rattle.risc_emit_forms.proofs.Operands.{code, one_run}
@@ -166,6 +169,91 @@ folded_is c r a low high width error n e = of_block (block_at c r a) refl e
     of_block None eb e = absurd (cc e)
     of_block (Some m) eb e = of_error (nat_eq error 0) m refl eb e
 
+-- what a register is short of after a base in a frame
+record InFrame (c : Context) (r : ℕ) (a : Base) (z : ℤ) (o : Option ℕ) : Type 0 where
+  offset : ℕ
+  is : z ≡ pos offset
+  there : o ≡ Some offset
+
+in_frame : (c : Context) (r : ℕ) (a : Base) (bent : ℕ × ℤ) (low high : ℤ) (width error : ℕ) (z : ℤ) (o : Option ℕ)
+    → near_of (Some bent) a ≡ None → short_by (back a low high width error) o ≡ Some z → InFrame c r a z o
+in_frame c r (base.Temporary u) bent low high width error z o none e = absurd (cc none)
+in_frame c r base.Frame bent low high width error z o none e = of_offset o e
+  where
+    of_offset : (o : Option ℕ) → short_by None o ≡ Some z → InFrame c r base.Frame z o
+    of_offset None e = absurd (cc e)
+    of_offset (Some n) e = record { offset = n; is = cc e; there = refl }
+in_frame c r base.Scratch bent low high width error z o none e = of_offset o e
+  where
+    of_offset : (o : Option ℕ) → short_by None o ≡ Some z → InFrame c r base.Scratch z o
+    of_offset None e = absurd (cc e)
+    of_offset (Some n) e = record { offset = n; is = cc e; there = refl }
+in_frame c r base.Program bent low high width error z o none e = of_offset o e
+  where
+    of_offset : (o : Option ℕ) → short_by None o ≡ Some z → InFrame c r base.Program z o
+    of_offset None e = absurd (cc e)
+    of_offset (Some n) e = record { offset = n; is = cc e; there = refl }
+
+-- a base with a block is not in a temporary
+record Framed (c : Context) (r : ℕ) (a : Base) : Type 0 where
+  code : near_code c r a ≡ []
+  register : near_register c r a ≡ base_register c r a
+  near : (bent : ℕ × ℤ) → near_of (Some bent) a ≡ None
+
+framed_base : (c : Context) (r : ℕ) (a : Base) (n : ℕ) → block_at c r a ≡ Some n → Framed c r a
+framed_base c r base.Frame n e = record { code = refl; register = refl; near = λ bent. refl }
+framed_base c r base.Scratch n e = record { code = refl; register = refl; near = λ bent. refl }
+framed_base c r base.Program n e = record { code = refl; register = refl; near = λ bent. refl }
+framed_base c r (base.Temporary t) n e = absurd (cc e)
+
+-- how far a register is ahead of an address in a temporary
+record Backed (low high : ℤ) (width error : ℕ) (z : ℤ) : Type 0 where
+  first : ℕ
+  last : ℕ
+  none : nat_eq error 0 ≡ true
+  low_is : low ≡ pos first
+  high_is : high ≡ pos last
+  is : z ≡ neg_ℤ (pos (first * width))
+  few : first * width < 16777216
+  narrow : last * width < 2147483648
+
+backed_is : (low high : ℤ) (width error : ℕ) (z : ℤ) → short_by
+    (cond (nat_eq error 0) (back_by low high width) None) None ≡ Some z → Backed low high width error z
+backed_is low high width error z e = of_error (nat_eq error 0) refl e
+  where
+    of_sizes : (k h : ℕ) (x y : Bool) → nat_lt (k * width) 16777216 ≡ x → nat_lt (h * width) 2147483648 ≡ y
+        → low ≡ pos k → high ≡ pos h → nat_eq error 0 ≡ true → short_by
+        (cond (x && y) (Some (neg_ℤ (pos (k * width)))) None) None ≡ Some z → Backed low high width error z
+    of_sizes k h true true ex ey el eh ee e = record {
+      first = k;
+      last = h;
+      none = ee;
+      low_is = el;
+      high_is = eh;
+      is = sym (cc e);
+      few = ltb-true (k * width) 16777216 ex;
+      narrow = ltb-true (h * width) 2147483648 ey;
+    }
+    of_sizes k h true false ex ey el eh ee e = absurd (cc e)
+    of_sizes k h false y ex ey el eh ee e = absurd (cc e)
+
+    of_bounds : (low' high' : ℤ) → low ≡ low' → high ≡ high' → nat_eq error 0 ≡ true → short_by
+        (back_by low' high' width) None ≡ Some z → Backed low high width error z
+    of_bounds (pos k) (pos h) el eh ee e = of_sizes k h (nat_lt (k * width) 16777216)
+        (nat_lt (h * width) 2147483648) refl refl el eh ee e
+    of_bounds (pos k) (negsuc h) el eh ee e = absurd (cc e)
+    of_bounds (negsuc k) high' el eh ee e = absurd (cc e)
+
+    of_error : (none : Bool) → nat_eq error 0 ≡ none → short_by (cond none (back_by low high width) None) None ≡ Some z
+        → Backed low high width error z
+    of_error true ee e = of_bounds low high refl refl ee e
+    of_error false ee e = absurd (cc e)
+
+-- the address d bytes before what a register holds
+reached_back : (r d y : ℕ) → d < 16777216 → y < 4294967296 → r ≡ y + d → reached r (neg_ℤ (pos d)) ≡ y
+reached_back r zero y few narrow e = omega (arith, e)
+reached_back r (suc d) y few narrow e = omega (arith, e, few, narrow)
+
 -- an index between natural bounds
 record Natural (low x : ℤ) (k h : ℕ) : Type 0 where
   number : ℕ
@@ -220,20 +308,20 @@ framed_register c r base.Scratch n e = omega arith
 framed_register c r base.Program n e = omega arith
 framed_register c r (base.Temporary t) n e = absurd (cc e)
 
-module _ (c : Context) (words : List ℕ) (b : Built c words) (p : Places) (s : State) (f : ℕ) (m : machine.State) (v : View) (sh : Shows words c.size m v) (be : Belongs c words p s v f) where
+module _ (c : Context) (words : List ℕ) (b : Built c words) (r : ℕ) where
   -- ---- a count of steps times a width
 
   record Width (n len : ℕ) (m1 : machine.State) (w : View) : Type 0 where
     view : View
     way : Way words c.size m1 same_tape view
-    value : operand_view view (right_operand c s.current.routine (operand.Number (pos n))) ≡ word_of_int (pos n)
+    value : operand_view view (right_operand c r (operand.Number (pos n))) ≡ word_of_int (pos n)
     low : word_of_int (pos n) < 4294967296
     moved : Moved 15 w view
     place : view.place ≡ w.place + len
 
   width_run : (n : ℕ) (ps : List Piece) (next : ℕ) (m1 : machine.State) (w : View) → Shows words c.size m1 w
-      → Left c words w.place (right c s.current.routine (operand.Number (pos n)) ++ ps) next → Width n
-      (length (right c s.current.routine (operand.Number (pos n)))) m1 w
+      → Left c words w.place (right c r (operand.Number (pos n)) ++ ps) next → Width n
+      (length (right c r (operand.Number (pos n)))) m1 w
   width_run n ps next m1 w sh1 l = go (nat_lt n 65536) refl l
     where
       go : (small : Bool) → nat_lt n 65536 ≡ small → Left c words w.place
@@ -268,18 +356,18 @@ module _ (c : Context) (words : List ℕ) (b : Built c words) (p : Places) (s : 
   record Scaled (q n width : ℕ) (ps : List Piece) (next : ℕ) (m1 : machine.State) (w : View) : Type 0 where
     view : View
     way : Way words c.size m1 same_tape view
-    value : view.registers (scaled_register c s.current.routine q width) ≡ n * width
+    value : view.registers (scaled_register c r q width) ≡ n * width
     near : Near (machine_of w) (machine_of view)
     left : Left c words view.place ps next
 
   scaled_run : (q n width : ℕ) (ps : List Piece) (next : ℕ) (m1 : machine.State) (w : View) → Shows words c.size m1 w
       → q ≢ 15 → w.registers q ≡ n → n < 4294967296 → n * width < 2147483648 → Left c words w.place
-      (scaled c s.current.routine q width ++ ps) next → Scaled q n width ps next m1 w
+      (scaled c r q width ++ ps) next → Scaled q n width ps next m1 w
   scaled_run q n width ps next m1 w sh1 n15 eq ln lt l = go (nat_eq width 1) refl l
     where
       go : (one : Bool) → nat_eq width 1 ≡ one → Left c words w.place
-          (cond one [] (right c s.current.routine (operand.Number (pos width))
-          ++ (Plain (word.Operate op.Mul 12 q (right_operand c s.current.routine (operand.Number (pos width)))) ∷ []))
+          (cond one [] (right c r (operand.Number (pos width))
+          ++ (Plain (word.Operate op.Mul 12 q (right_operand c r (operand.Number (pos width)))) ∷ []))
           ++ ps) next → Scaled q n width ps next m1 w
       go true e l =
           record {
@@ -296,7 +384,7 @@ module _ (c : Context) (words : List ℕ) (b : Built c words) (p : Places) (s : 
           alone : (n : ℕ) → n ≡ n * 1
           alone n = omega arith
       go false e l =
-          let r = s.current.routine in
+          let r = r in
           let o = operand.Number (pos width) in
           let i = word.Operate op.Mul 12 q (right_operand c r o) in
           let l0 = subst (λ x. Left c words w.place x next) (append_assoc (right c r o) (Plain i ∷ []) ps) l in
@@ -318,13 +406,14 @@ module _ (c : Context) (words : List ℕ) (b : Built c words) (p : Places) (s : 
             left = left_next c words v1.place next (Plain i) ps l1;
           }
 
-  scaled_not : (q width : ℕ) → q ≢ 15 → scaled_register c s.current.routine q width ≢ 15
+  scaled_not : (q width : ℕ) → q ≢ 15 → scaled_register c r q width ≢ 15
   scaled_not q width ne = go (nat_eq width 1)
     where
       go : (t : Bool) → cond t q 12 ≢ 15
       go true = ne
       go false = omega arith
 
+module _ (c : Context) (words : List ℕ) (b : Built c words) (p : Places) (s : State) (f : ℕ) (m : machine.State) (v : View) (sh : Shows words c.size m v) (be : Belongs c words p s v f) where
   -- ---- the address of a base
 
   record Addressed (a : Base) (block : Block) (offset : ℕ) (ps : List Piece) (next : ℕ) (m1 : machine.State) (w : View) : Type 0 where
@@ -504,11 +593,12 @@ module _ (c : Context) (words : List ℕ) (b : Built c words) (p : Places) (s : 
   steps_follow : (t : ℕ) (a : Base) (i : ℕ) (low high : ℤ) (width error line : ℕ) (block : Block) (offset : ℕ)
       (x : ℤ) → fetch c.code s.current.routine s.current.place ≡ Some (Index t a i low high width error line)
       → base_value s.current a ≡ Some (Address block offset) → s.current.temporaries i ≡ Some (Number x)
-      → folded c s.current.routine a low high width error ≡ None → Left c words v.place
+      → folded c s.current.routine a low high width error ≡ None
+      → near_of (bent_at c s.current.routine (suc s.current.place)) a ≡ None → Left c words v.place
       (index_by c s.current.routine None (bent_at c s.current.routine (suc s.current.place)) t a i low high width error
       line) (c.site s.current.routine (suc s.current.place)) → Follows c words
       (gives_component c.code (is_in_range low high x) t block (offset + steps_above low x * width) error line s) s m
-  steps_follow t a i low high width error line block offset x here ea ei whole_offset l =
+  steps_follow t a i low high width error line block offset x here ea ei whole_offset no_near l =
       let r = s.current.routine in
       let k = s.current.place in
       let ins = Index t a i low high width error line in
@@ -587,7 +677,7 @@ module _ (c : Context) (words : List ℕ) (b : Built c words) (p : Places) (s : 
                   → (g + z + 0) % 2 ^ 32 + o ≡ place c p block + (offset + n)
               short g o z n e e' lt = let h = named_low c words b p s f m v sh be block in omega (arith, e, e', lt, h)
 
-              ends : (bent : Option (ℕ × ℕ)) → bent_at c s.current.routine (suc s.current.place) ≡ bent → (v2 : View)
+              ends : (bent : Option (ℕ × ℤ)) → bent_at c s.current.routine (suc s.current.place) ≡ bent → (v2 : View)
                   (n2 : machine.State) → Shows words c.size n2 v2 → Near (machine_of v) (machine_of v2) → v2.registers
                   (above_register c s.current.routine (fetched c s.current.routine 12 (home c s.current.routine i)) low)
                   ≡ steps_above low x → steps_above low x < 4294967296 → offset + steps_above low x * width < 2147483648
@@ -604,7 +694,7 @@ module _ (c : Context) (words : List ℕ) (b : Built c words) (p : Places) (s : 
                   let ra = address_register c r a in
                   let i5 = word.Operate op.Add dd ra (Content y) in
                   let last = Plain i5 ∷ save c r h in
-                  let g3 = scaled_run q (steps_above low x) width (base_address c r a ++ last) _ n2 v2 sh2 n15 is narrow
+                  let g3 = scaled_run c words b s.current.routine q (steps_above low x) width (base_address c r a ++ last) _ n2 v2 sh2 n15 is narrow
                   (omega (arith, lt)) l2 in
                   let v3 = g3.view in
                   let near3 : Near (machine_of v) (machine_of v3) = record {
@@ -617,7 +707,7 @@ module _ (c : Context) (words : List ℕ) (b : Built c words) (p : Places) (s : 
                   let v4 = g4.view in
                   let t5 = step_to c words b.stood i5 g4.way.to v4 g4.way.shows g4.left.stands.0 tt in
                   let v5 = after i5 v4 in
-                  let s4 : v4.registers y ≡ steps_above low x * width = g4.moved.registers y (scaled_not q width n15)
+                  let s4 : v4.registers y ≡ steps_above low x * width = g4.moved.registers y (scaled_not c words b s.current.routine q width n15)
                   ∙ g3.value in
                   let whole : v5.registers dd ≡ place c p block
                   + (offset + steps_above low x * width) = update_same v4.registers dd _ ∙ sum (v4.registers ra)
@@ -643,7 +733,7 @@ module _ (c : Context) (words : List ℕ) (b : Built c words) (p : Places) (s : 
                   let q = above_register c r (fetched c r 12 (home c r i)) low in
                   let y = scaled_register c r q width in
                   let i5 = word.Operate op.Add bent.0 (base_register c r a) (Content y) in
-                  let g3 = scaled_run q (steps_above low x) width (Plain i5 ∷ []) _ n2 v2 sh2 n15 is narrow
+                  let g3 = scaled_run c words b s.current.routine q (steps_above low x) width (Plain i5 ∷ []) _ n2 v2 sh2 n15 is narrow
                   (omega (arith, lt)) l2 in
                   let v3 = g3.view in
                   let near3 : Near (machine_of v) (machine_of v3) = record {
@@ -651,14 +741,18 @@ module _ (c : Context) (words : List ℕ) (b : Built c words) (p : Places) (s : 
                     words = λ j. g3.near.words j ∙ near2.words j;
                   } in
                   let ins = Index t a i low high width error line in
-                  let k = bent_index_is c r s.current.place t a i low high width error line bent here bends in
-                  let at = ap (λ o. short_of o (block_at c r a)) (sym whole_offset) ∙ k.offset in
-                  let base = short_base a block offset bent.1 v3 near3 at ea in
+                  let k = bent_index_is c r s.current.place t a i low high width error line bent here be.flags.1 bends in
+                  let at = in_frame c r a bent low high width error bent.1 (short_of None (block_at c r a))
+                  (ap (λ o. near_of o a) (sym bends) ∙ no_near)
+                  (ap (λ o. short_by (back a low high width error) (short_of o (block_at c r a))) (sym whole_offset)
+                  ∙ k.offset) in
+                  let base = short_base a block offset at.offset v3 near3 at.there ea in
                   let t5 = step_to c words b.stood i5 g3.way.to v3 g3.way.shows g3.left.stands.0 tt in
                   let v5 = after i5 v3 in
-                  let whole : v5.registers bent.0 + bent.1 ≡ place c p block
-                  + (offset + steps_above low x * width) = ap (λ z. z + bent.1) (update_same v3.registers bent.0 _)
-                  ∙ short (v3.registers (base_register c r a)) bent.1 (v3.registers y)
+                  let whole : reached (v5.registers bent.0) bent.1 ≡ place c p block
+                  + (offset + steps_above low x * width) = ap (reached (v5.registers bent.0)) at.is
+                  ∙ ap (λ z. z + at.offset) (update_same v3.registers bent.0 _)
+                  ∙ short (v3.registers (base_register c r a)) at.offset (v3.registers y)
                   (steps_above low x * width) base.0 g3.value lt in
                   let l5 = left_next c words v3.place _ (Plain i5) [] g3.left in
                   let s' = record s {
@@ -724,12 +818,12 @@ module _ (c : Context) (words : List ℕ) (b : Built c words) (p : Places) (s : 
               let product = spread fold.first (steps_above low x) j width between.above in
               let low_product : j * width < 2147483648 = below_last (j * width) (fold.last * width)
               (times_le j fold.last width between.most) fold.narrow in
-              let g2 = scaled_run d j width rest _ g.way.to v1 g.way.shows n15 is narrow low_product l1 in
+              let g2 = scaled_run c words b s.current.routine d j width rest _ g.way.to v1 g.way.shows n15 is narrow low_product l1 in
               let near2 : Near (machine_of v) (machine_of g2.view) = record {
                 registers = λ q n12 n15'. g2.near.registers q n12 n15' ∙ g.moved.registers q n12;
                 words = λ q. g2.near.words q ∙ g.moved.words q;
               } in
-              let y15 = scaled_not d width n15 in
+              let y15 = scaled_not c words b s.current.routine d width n15 in
               come_way c words b s (record s {
                 current = giving t
                     (Address block (offset + steps_above low x * width)) s.current;
@@ -761,7 +855,7 @@ module _ (c : Context) (words : List ℕ) (b : Built c words) (p : Places) (s : 
                   → g + n < 4294967296
               room g w kw d e e' lt = let h = named_low c words b p s f m v sh be block in omega (arith, e, e', lt, h)
 
-              ends : (bent : Option (ℕ × ℕ)) → bent_at c s.current.routine (suc s.current.place) ≡ bent → (v2 : View)
+              ends : (bent : Option (ℕ × ℤ)) → bent_at c s.current.routine (suc s.current.place) ≡ bent → (v2 : View)
                   (n2 : machine.State) → Shows words c.size n2 v2 → Near (machine_of v) (machine_of v2) → (y : ℕ) → y
                   ≢ 15 → (far : ℕ) → v2.registers y ≡ far → far ≡ fold.first * width + steps_above low x * width
                   → offset + steps_above low x * width < 2147483648 → Left c words v2.place
@@ -808,17 +902,25 @@ module _ (c : Context) (words : List ℕ) (b : Built c words) (p : Places) (s : 
                   let q = base_register c r a in
                   let i5 = word.Operate op.Add bent.0 q (Content y) in
                   let ins = Index t a i low high width error line in
-                  let k = bent_index_is c r s.current.place t a i low high width error line bent here bends in
-                  let at : Some n ≡ Some bent.1 = ap (λ o. short_of o (block_at c r a)) (sym ef) ∙ k.offset in
-                  let left : bent.1 ≡ n = cc at in
+                  let fb = framed_base c r a fold.whole fold.block in
+                  let k = bent_index_is c r s.current.place t a i low high width error line bent here be.flags.1 bends in
+                  let at = in_frame c r a bent low high width error bent.1 (Some n) (fb.near bent)
+                  (ap (λ o. short_by (back a low high width error) (short_of o (block_at c r a))) (sym ef) ∙ k.offset)
+                  in
+                  let left : at.offset ≡ n = sym (cc at.there) in
                   let base = short_base a block offset fold.whole v2 near2 fold.block ea in
-                  let t5 = step_to c words b.stood i5 n2 v2 sh2 l2.stands.0 tt in
+                  let l3 = subst (λ ps. Left c words v2.place (ps ++ (Plain i5 ∷ [])) (c.site r (suc s.current.place)))
+                  fb.code (subst (λ j. Left c words v2.place
+                  (near_code c r a ++ (Plain (word.Operate op.Add bent.0 j (Content y)) ∷ []))
+                  (c.site r (suc s.current.place))) fb.register l2) in
+                  let t5 = step_to c words b.stood i5 n2 v2 sh2 l3.stands.0 tt in
                   let v5 = after i5 v2 in
-                  let whole : v5.registers bent.0 + bent.1 ≡ place c p block
-                  + (offset + steps_above low x * width) = ap (λ z. z + bent.1) (update_same v2.registers bent.0 _)
+                  let whole : reached (v5.registers bent.0) bent.1 ≡ place c p block
+                  + (offset + steps_above low x * width) = ap (reached (v5.registers bent.0)) at.is
+                  ∙ ap (λ z. z + at.offset) (update_same v2.registers bent.0 _)
                   ∙ short (v2.registers q) fold.whole (fold.first * width) (steps_above low x * width)
-                  (v2.registers y) far bent.1 base.0 fold.rest there far_is lt left in
-                  let l5 = left_next c words v2.place _ (Plain i5) [] l2 in
+                  (v2.registers y) far at.offset base.0 fold.rest there far_is lt left in
+                  let l5 = left_next c words v2.place _ (Plain i5) [] l3 in
                   let s' = record s {
                     current = giving t
                         (Address block (offset + steps_above low x * width)) s.current;
@@ -831,6 +933,117 @@ module _ (c : Context) (words : List ℕ) (b : Built c words) (p : Places) (s : 
                   (λ j n12 n15' nd. update_other v2.registers bent.0 _ j nd ∙ near2.registers j n12 n15')
                   (λ j. near2.words j) (omega (arith, l5.ends)))
 
+  -- ---- ahead of an address in a temporary
+
+  back_follows : (t u i : ℕ) (low high : ℤ) (width error line : ℕ) (block : Block) (offset : ℕ) (x : ℤ) (bent : ℕ × ℤ)
+      → fetch c.code s.current.routine s.current.place
+      ≡ Some (Index t (base.Temporary u) i low high width error line) → base_value s.current (base.Temporary u)
+      ≡ Some (Address block offset) → s.current.temporaries i ≡ Some (Number x)
+      → bent_at c s.current.routine (suc s.current.place) ≡ Some bent → Left c words v.place
+      (index_by c s.current.routine (Some 0) (Some bent) t (base.Temporary u) i low high width error line)
+      (c.site s.current.routine (suc s.current.place)) → Follows c words
+      (gives_component c.code (is_in_range low high x) t block (offset + steps_above low x * width) error line s) s m
+  back_follows t u i low high width error line block offset x bent here ea ei bends l =
+      go (is_in_range low high x) refl
+    where
+      ahead : BentIndex c s.current.routine t
+          (offset_of c s.current.routine (base.Temporary u) low high width error) bent
+      ahead = bent_index_is c s.current.routine s.current.place t (base.Temporary u) i low high width error line bent
+          here be.flags.1 bends
+
+      fold : Backed low high width error bent.1
+      fold = backed_is low high width error bent.1 ahead.offset
+
+      go : (inside : Bool) → is_in_range low high x ≡ inside → Follows c words
+          (gives_component c.code inside t block (offset + steps_above low x * width) error line s) s m
+      go false e = untested c words b s error line m fold.none
+      go true e = fits (nat_lt (offset + steps_above low x * width) 2147483648) refl
+        where
+          between : Natural low x fold.first fold.last
+          between = natural_between low high x fold.first fold.last fold.low_is fold.high_is e
+
+          number_narrow : (j : ℕ) → IsNumber (pos j) → j < 4294967296
+          number_narrow j h = omega (arith, ints, h.0, h.1)
+
+          below_last : (x y : ℕ) → x ≤ y → y < 2147483648 → x < 2147483648
+          below_last x y le lt = omega (arith, le, lt)
+
+          -- an address, and the distance of the index itself
+          total : (g z kw d : ℕ) → g ≡ place c p block + offset → z ≡ kw + d → kw < 16777216 → offset + d < 2147483648
+              → (g + z + 0) % 2 ^ 32 ≡ place c p block + (offset + d) + kw
+          total g z kw d e ez few lt = let h = named_low c words b p s f m v sh be block in omega
+              (arith, e, ez, few, lt, h)
+
+          low_place : (d : ℕ) → offset + d < 2147483648 → place c p block + (offset + d) < 4294967296
+          low_place d lt = let h = named_low c words b p s f m v sh be block in omega (arith, lt, h)
+
+          fits : (small : Bool) → nat_lt (offset + steps_above low x * width) 2147483648 ≡ small → Follows c words
+              (cond small (Goes (record s {
+                current = giving t
+                    (Address block (offset + steps_above low x * width)) s.current;
+              })) (Over Stuck)) s m
+          fits false es = inl refl
+          fits true es =
+              let r = s.current.routine in
+              let k = s.current.place in
+              let a = base.Temporary u in
+              let ins = Index t a i low high width error line in
+              let j = between.number in
+              let d = fetched c r 12 (home c r i) in
+              let y = scaled_register c r d width in
+              let q = address_register c r a in
+              let i5 = word.Operate op.Add bent.0 q (Content y) in
+              let last = Plain i5 ∷ [] in
+              let rest = base_address c r a ++ last in
+              let lt = ltb-true (offset + steps_above low x * width) 2147483648 es in
+              let g = one_run c words b p s f m v sh be 12 i (Number x) (scaled c r d width ++ rest) _ (omega arith)
+              (is_read c r k ins here i (among_first i (in_base a))) ei l in
+              let v1 = g.view in
+              let l1 = left_after c words v.place v1.place _ (form.fetch c r 12 (home c r i))
+              (scaled c r d width ++ rest) l g.place in
+              let n15 = fetched_not c words b.stood b.laid b.placed r f
+              (framed c words b p s (machine_of v) f be.related) 12 i 15 (omega arith) (omega arith) in
+              let jn : IsNumber (pos j) = subst IsNumber between.is g.good in
+              let narrow : j < 4294967296 = number_narrow j jn in
+              let is : v1.registers d ≡ j = g.value ∙ ap word_of between.is ∙ word_is j narrow in
+              let product = spread fold.first (steps_above low x) j width between.above in
+              let low_product : j * width < 2147483648 = below_last (j * width) (fold.last * width)
+              (times_le j fold.last width between.most) fold.narrow in
+              let g2 = scaled_run c words b s.current.routine d j width rest _ g.way.to v1 g.way.shows n15 is narrow low_product l1 in
+              let v2 = g2.view in
+              let near2 : Near (machine_of v) (machine_of v2) = record {
+                registers = λ q n12 n15'. g2.near.registers q n12 n15' ∙ g.moved.registers q n12;
+                words = λ q. g2.near.words q ∙ g.moved.words q;
+              } in
+              let g3 = address_run a block offset last _ g2.way.to v2 g2.way.shows near2
+              (λ w eu. is_read c r k ins here w (among_rest w i (in_base a) eu)) ea g2.left in
+              let v3 = g3.view in
+              let t5 = step_to c words b.stood i5 g3.way.to v3 g3.way.shows g3.left.stands.0 tt in
+              let v5 = after i5 v3 in
+              let far : v3.registers y ≡ fold.first * width
+              + steps_above low x * width = g3.moved.registers y (scaled_not c words b s.current.routine d width n15) ∙ g2.value ∙ product in
+              let sum : v5.registers bent.0 ≡ place c p block + (offset + steps_above low x * width)
+              + fold.first * width = update_same v3.registers bent.0 _ ∙ total (v3.registers q) (v3.registers y)
+              (fold.first * width) (steps_above low x * width) g3.value far fold.few lt in
+              let whole : reached (v5.registers bent.0) bent.1 ≡ place c p block
+              + (offset + steps_above low x * width) = ap (reached (v5.registers bent.0)) fold.is
+              ∙ reached_back (v5.registers bent.0) (fold.first * width)
+              (place c p block + (offset + steps_above low x * width)) fold.few
+              (low_place (steps_above low x * width) lt) sum in
+              let l5 = left_next c words v3.place _ (Plain i5) [] g3.left in
+              let s' = record s {
+                current = giving t (Address block (offset + steps_above low x * width)) s.current;
+              } in
+              come_way c words b s s' m v1 g.way (come_way c words b s s' g.way.to v2 g2.way
+              (come_way c words b s s' g2.way.to v3 g3.way
+              (come_to c words b s s' g3.way.to same_tape v5 t5 refl
+              (bends_end c words b p s (machine_of v) f t
+              (Address block (offset + steps_above low x * width)) bent t5.to v5 be.related be.input
+              (writes_it c r k ins here t refl refl) (unflagged c r k ins here refl v5) bends ahead.home
+              (g3.good.0, lt) t5.shows whole
+              (λ z n12 n15' nd. update_other v3.registers bent.0 _ z nd ∙ g3.moved.registers z n15'
+              ∙ near2.registers z n12 n15') (λ z. g3.moved.words z ∙ near2.words z) (omega (arith, l5.ends))))))
+
   -- ---- the instruction
 
   pub index_follows : (t : ℕ) (a : Base) (i : ℕ) (low high : ℤ) (width error line : ℕ) (block : Block) (offset : ℕ)
@@ -842,10 +1055,217 @@ module _ (c : Context) (words : List ℕ) (b : Built c words) (p : Places) (s : 
       by (folded c s.current.routine a low high width error) refl
       (code c words b p s f m v sh be (Index t a i low high width error line) here)
     where
-      by : (o : Option ℕ) → folded c s.current.routine a low high width error ≡ o → Left c words v.place
-          (index_by c s.current.routine o (bent_at c s.current.routine (suc s.current.place)) t a i low high width error
-          line) (c.site s.current.routine (suc s.current.place)) → Follows c words
+      near_same : (o : Option ℕ) → short_of None o ≡ o
+      near_same o = refl
+
+      far : folded c s.current.routine a low high width error ≡ None
+          → near_of (bent_at c s.current.routine (suc s.current.place)) a ≡ None → Left c words v.place
+          (index_by c s.current.routine None (bent_at c s.current.routine (suc s.current.place)) t a i low high width
+          error line) (c.site s.current.routine (suc s.current.place)) → Follows c words
           (gives_component c.code (is_in_range low high x) t block (offset + steps_above low x * width) error line s)
           s m
-      by None e l = steps_follow t a i low high width error line block offset x here ea ei e l
+      far e none l = steps_follow t a i low high width error line block offset x here ea ei e none l
+
+      by_base : (a' : Base) → a ≡ a' → (o : Option (ℕ × ℤ))
+          → bent_at c s.current.routine (suc s.current.place) ≡ o → folded c s.current.routine a low high width error
+          ≡ None → Left c words v.place (index_by c s.current.routine (near_of o a')
+          (bent_at c s.current.routine (suc s.current.place)) t a i low high width error line)
+          (c.site s.current.routine (suc s.current.place)) → Follows c words
+          (gives_component c.code (is_in_range low high x) t block (offset + steps_above low x * width) error line s)
+          s m
+      by_base (base.Temporary u) is (Some bent) bends e l =
+          back_follows t u i low high width error line block offset x bent
+          (here ∙ ap (λ z. Some (Index t z i low high width error line)) is)
+          (ap (base_value s.current) (sym is) ∙ ea) ei bends
+          (subst (λ z. Left c words v.place
+          (index_by c s.current.routine (Some 0) (Some bent) t z i low high width error line)
+          (c.site s.current.routine (suc s.current.place))) is
+          (subst (λ o. Left c words v.place
+          (index_by c s.current.routine (Some 0) o t a i low high width error line)
+          (c.site s.current.routine (suc s.current.place))) bends l))
+      by_base (base.Temporary u) is None bends e l = far e (ap (λ o. near_of o a) bends) l
+      by_base base.Frame is (Some bent) bends e l = far e (ap (λ o. near_of o a) bends ∙ ap (near_of (Some bent)) is) l
+      by_base base.Frame is None bends e l = far e (ap (λ o. near_of o a) bends) l
+      by_base base.Scratch is (Some bent) bends e l =
+          far e (ap (λ o. near_of o a) bends ∙ ap (near_of (Some bent)) is) l
+      by_base base.Scratch is None bends e l = far e (ap (λ o. near_of o a) bends) l
+      by_base base.Program is (Some bent) bends e l =
+          far e (ap (λ o. near_of o a) bends ∙ ap (near_of (Some bent)) is) l
+      by_base base.Program is None bends e l = far e (ap (λ o. near_of o a) bends) l
+
+      by : (o : Option ℕ) → folded c s.current.routine a low high width error ≡ o → Left c words v.place
+          (index_by c s.current.routine (short_of o (near_of (bent_at c s.current.routine (suc s.current.place)) a))
+          (bent_at c s.current.routine (suc s.current.place)) t a i low high width error line)
+          (c.site s.current.routine (suc s.current.place)) → Follows c words
+          (gives_component c.code (is_in_range low high x) t block (offset + steps_above low x * width) error line s)
+          s m
+      by None e l = by_base a refl (bent_at c s.current.routine (suc s.current.place)) refl e
+          (subst (λ o. Left c words v.place (index_by c s.current.routine o
+          (bent_at c s.current.routine (suc s.current.place)) t a i low high width error line)
+          (c.site s.current.routine (suc s.current.place)))
+          (near_same (near_of (bent_at c s.current.routine (suc s.current.place)) a)) l)
       by (Some n) e l = fold_follows t a i low high width error line block offset x n here ea ei e l
+
+-- ---- an index into a row, whose address a register is short of
+
+-- from an address that a register is short of, by a distance with the lowest index
+reached_row : (x z d e y : ℕ) (m n : ℤ) → x < 4294967296 → negsuc 16777215 ≤ℤ m → reached x m ≡ y → y + e < 2164260864
+    → n ≡ neg_ℤ (pos d) → d < 16777216 → z ≡ d + e → reached ((x + z + 0) % 2 ^ 32) (m +ℤ n) ≡ y + e
+reached_row x z d e y (pos a) n narrow least is low en few ez = by (pos a +ℤ n) refl
+  where
+    by : (w : ℤ) → pos a +ℤ n ≡ w → reached ((x + z + 0) % 2 ^ 32) w ≡ y + e
+    by (pos j) ew =
+        let sum : j + d ≡ a = omega (arith, ints, ew, en) in
+        omega (arith, is, low, few, ez, sum, narrow)
+    by (negsuc j) ew =
+        let sum : a + suc j ≡ d = omega (arith, ints, ew, en) in
+        omega (arith, is, low, few, ez, sum, narrow)
+reached_row x z d e y (negsuc a) n narrow least is low en few ez = by (negsuc a +ℤ n) refl
+  where
+    close : a < 16777216
+    close = omega (arith, ints, least)
+
+    back_of : x ≡ y + suc a
+    back_of = omega (arith, is, close, narrow, low)
+
+    by : (w : ℤ) → negsuc a +ℤ n ≡ w → reached ((x + z + 0) % 2 ^ 32) w ≡ y + e
+    by (pos j) ew = absurd (omega (arith, ints, ew, en))
+    by (negsuc j) ew =
+        let sum : j ≡ a + d = omega (arith, ints, ew, en) in
+        omega (arith, back_of, close, low, few, ez, sum)
+
+module _ (c : Context) (words : List ℕ) (b : Built c words) (p : Places) (s : State) (f : ℕ) (m : machine.State) (v : View) (sh : Shows words c.size m v) (me : Meets c words p s v f) where
+  pub row_follows : (bent : ℕ × ℤ) → bent_at c s.current.routine s.current.place ≡ Some bent
+      → (w : BentRow c s.current.routine s.current.place bent) → (block : Block) (offset : ℕ) (x : ℤ)
+      → s.current.temporaries w.to ≡ Some (Address block offset) → s.current.temporaries w.index ≡ Some (Number x)
+      → Follows c words (gives_component c.code (is_in_range w.low w.high x) w.to block
+      (offset + steps_above w.low x * w.width) w.error w.line s) s m
+  row_follows bent is w block offset x ea ei = go (is_in_range w.low w.high x) refl
+    where
+      m0 : Machine
+      m0 = unbent (Some bent) (machine_of v)
+
+      rel : Related c p s m0 f
+      rel = subst (λ o. Related c p s (unbent o (machine_of v)) f) is me.related
+
+      fold : Backed w.low w.high w.width w.error w.further
+      fold = backed_is w.low w.high w.width w.error w.further (ap (λ o. short_by o None) w.ahead)
+
+      below : bent.0 < 12
+      below = b.placed.register s.current.routine w.to bent.0 w.home
+
+      not_frame : 14 ≢ bent.0
+      not_frame = omega (arith, below)
+
+      base_low : place c p block < 16777216
+      base_low = of_block block
+        where
+          of_block : (block : Block) → place c p block < 16777216
+          of_block (blocks.Frame a) = rel.held.places.frame a
+          of_block (blocks.Scratch a) = rel.held.places.scratch a
+          of_block (blocks.Object n) = rel.held.places.object n
+          of_block (blocks.Constant r k) = let e = b.laid.constants r k in omega
+              (arith, e, b.laid.order.1, b.laid.order.2, b.laid.order.3)
+
+      -- another home holds what it did
+      same_home : (h : Home) → h ≢ Reg bent.0 → value_of c s.current.routine f (machine_of v) h
+          ≡ value_of c s.current.routine f m0 h
+      same_home (Slot k) ne = refl
+      same_home (Reg q) ne = sym (update_other v.registers bent.0 _ q (λ e. ne (ap Reg e)))
+
+      go : (inside : Bool) → is_in_range w.low w.high x ≡ inside → Follows c words
+          (gives_component c.code inside w.to block (offset + steps_above w.low x * w.width) w.error w.line s) s m
+      go false e = untested c words b s w.error w.line m fold.none
+      go true e = fits (nat_lt (offset + steps_above w.low x * w.width) 2147483648) refl
+        where
+          between : Natural w.low x fold.first fold.last
+          between = natural_between w.low w.high x fold.first fold.last fold.low_is fold.high_is e
+
+          number_narrow : (j : ℕ) → IsNumber (pos j) → j < 4294967296
+          number_narrow j h = omega (arith, ints, h.0, h.1)
+
+          below_last : (x y : ℕ) → x ≤ y → y < 2147483648 → x < 2147483648
+          below_last x y le lt = omega (arith, le, lt)
+
+          -- the address of the component, from that of the row
+          sums : (d : ℕ) → place c p block + offset + d ≡ place c p block + (offset + d)
+          sums d = omega arith
+
+          low_place : (d : ℕ) → offset + d < 2147483648 → place c p block + offset + d < 2164260864
+          low_place d lt = omega (arith, lt, base_low)
+
+          fits : (small : Bool) → nat_lt (offset + steps_above w.low x * w.width) 2147483648 ≡ small → Follows c words
+              (cond small (Goes (record s {
+                current = giving w.to
+                    (Address block (offset + steps_above w.low x * w.width)) s.current;
+              })) (Over Stuck)) s m
+          fits false es = inl refl
+          fits true es =
+              let r = s.current.routine in
+              let k = s.current.place in
+              let a = base.Temporary w.to in
+              let i = w.index in
+              let ins = Index w.to a i w.low w.high w.width w.error w.line in
+              let further : ℕ × ℤ = (bent.0, bent.1 +ℤ w.further) in
+              let j = between.number in
+              let d = fetched c r 12 (home c r i) in
+              let y = scaled_register c r d w.width in
+              let i5 = word.Operate op.Add bent.0 bent.0 (Content y) in
+              let last = Plain i5 ∷ [] in
+              let rest = scaled c r d w.width ++ last in
+              let lt = ltb-true (offset + steps_above w.low x * w.width) 2147483648 es in
+              let l0 = subst (λ o. Left c words v.place
+              (form.index_form c r o w.to a i w.low w.high w.width w.error w.line) (c.site r (suc k))) w.next
+              (left_at c words (c.site r k) v.place _ (form.form c r k ins) (b.stood.body r k ins w.here) me.place) in
+              let l = subst (λ h. Left c words v.place (form.fetch c r 12 (home c r i)
+              ++ (scaled c r d w.width ++ (form.fetch c r 15 h
+              ++ (Plain (word.Operate op.Add bent.0 (fetched c r 15 h) (Content y)) ∷ [])))) (c.site r (suc k))) w.home
+              l0 in
+              let fr = framed c words b p s m0 f rel in
+              let e14 : v.registers 14 ≡ f = sym (update_other v.registers bent.0 _ 14 not_frame) ∙ rel.stack in
+              let g = fetch_run c words b.stood b.laid b.placed r f fr 12 i rest _ m v sh (omega arith) e14 l in
+              let v1 = g.view in
+              let l1 = left_after c words v.place v1.place _ (form.fetch c r 12 (home c r i)) rest l g.place in
+              let n15 = fetched_not c words b.stood b.laid b.placed r f fr 12 i 15 (omega arith) (omega arith) in
+              let hi = home_read c b.laid b.placed p s m0 f i (Number x) rel
+              (is_read c r k ins w.here i (among_first i (in_base a))) ei in
+              let ha = home_read c b.laid b.placed p s m0 f w.to (Address block offset) rel
+              (is_read c r k ins w.here w.to (among_rest w.to i (in_base a) (among_first w.to []))) ea in
+              let jn : IsNumber (pos j) = subst IsNumber between.is hi.0 in
+              let narrow : j < 4294967296 = number_narrow j jn in
+              let is_j : v1.registers d ≡ j = g.value ∙ same_home (home c r i) w.apart ∙ hi.1 ∙ ap word_of between.is
+              ∙ word_is j narrow in
+              let product = spread fold.first (steps_above w.low x) j w.width between.above in
+              let low_product : j * w.width < 2147483648 = below_last (j * w.width) (fold.last * w.width)
+              (times_le j fold.last w.width between.most) fold.narrow in
+              let g2 = scaled_run c words b r d j w.width last _ g.way.to v1 g.way.shows n15 is_j narrow low_product l1
+              in
+              let v2 = g2.view in
+              let n12 : bent.0 ≢ 12 = omega (arith, below) in
+              let n15' : bent.0 ≢ 15 = omega (arith, below) in
+              let old : v2.registers bent.0 ≡ v.registers bent.0 = g2.near.registers bent.0 n12 n15'
+              ∙ g.moved.registers bent.0 n12 in
+              let row_at : reached (v.registers bent.0) bent.1 ≡ place c p block
+              + offset = sym (update_same v.registers bent.0 _) ∙ ap (value_of c r f m0) (sym w.home) ∙ ha.1 in
+              let t5 = step_to c words b.stood i5 g2.way.to v2 g2.way.shows g2.left.stands.0 tt in
+              let v5 = after i5 v2 in
+              let whole : reached (v5.registers bent.0) (bent.1 +ℤ w.further) ≡ place c p block
+              + (offset + steps_above w.low x * w.width) = ap (λ z. reached z (bent.1 +ℤ w.further))
+              (update_same v2.registers bent.0 _
+              ∙ ap (λ z. (z + v2.registers y + 0) % 2 ^ 32) old)
+              ∙ reached_row (v.registers bent.0) (v2.registers y) (fold.first * w.width)
+              (steps_above w.low x * w.width) (place c p block + offset) bent.1 w.further
+              (sh.narrow bent.0 (omega (arith, below))) w.least row_at (low_place (steps_above w.low x * w.width) lt)
+              fold.is fold.few (g2.value ∙ product) ∙ sums (steps_above w.low x * w.width) in
+              let l5 = left_next c words v2.place _ (Plain i5) [] g2.left in
+              let s' = record s {
+                current = giving w.to (Address block (offset + steps_above w.low x * w.width)) s.current;
+              } in
+              come_way c words b s s' m v1 g.way (come_way c words b s s' g.way.to v2 g2.way
+              (come_to c words b s s' g2.way.to same_tape v5 t5 refl
+              (bends_end c words b p s m0 f w.to (Address block (offset + steps_above w.low x * w.width)) further t5.to
+              v5 rel me.input (writes_it c r k ins w.here w.to refl refl) (unflagged c r k ins w.here refl v5) w.next
+              w.home (ha.0.0, lt) t5.shows whole
+              (λ z z12 z15 nd. update_other v2.registers bent.0 _ z nd ∙ g2.near.registers z z12 z15
+              ∙ g.moved.registers z z12 ∙ sym (update_other v.registers bent.0 _ z nd))
+              (λ z. g2.near.words z ∙ g.moved.words z) (omega (arith, l5.ends)))))

@@ -1,7 +1,8 @@
 -- Words and bytes loaded and stored by address, and addresses.
 use Rattle.std.proofs.Common.{◌≡◌, ◌≢◌, ℕ, zero, suc, ◌+◌, ◌-◌, ◌*◌, ◌/◌, ◌%◌, ◌^◌, ◌<◌, Bool, true, false, cond}
 use Rattle.std.proofs.Common.{nat_eq, nat_lt, nat_le, List, [], ◌∷◌, ◌++◌, length, Option, Some, None, slice_get, ℤ}
-use Rattle.std.proofs.Common.{pos, refl, sym, ap, ◌∙◌, subst, arith, length-append, append_assoc}
+use Rattle.std.proofs.Common.{pos, negsuc, ◌+ℤ◌, refl, sym, ap, ◌∙◌, subst, arith, length-append, append_assoc}
+use Rattle.std.specs.Prelude.{◌≤ℤ◌}
 use Rattle.std.proofs.lemmas.Int.{ints, of_z-to_z}
 use Rattle.std.specs.Int.{w32}
 use Rattle.risc_word.specs.declared.instr.Operation.TheVariants as op
@@ -11,6 +12,7 @@ use Rattle.risc_word.specs.declared.instr.Instr.TheVariants as word
 use Rattle.risc_machine.specs.Step as machine
 use Rattle.risc_machine.specs.Step.{word_of_int}
 use Rattle.risc_machine_laws.specs.View.{View, Shows, IsReadable, IsWritable, after, word_place}
+use Rattle.risc_machine_laws.specs.View.{IsWordOffset, reached}
 use Rattle.risc_machine_laws.specs.View as view
 use Rattle.risc_machine_laws.specs.Runs.{Way, same_tape}
 use Rattle.risc_machine_laws.proofs.Runs.{to_join, way_of, way_then, way_here}
@@ -44,7 +46,7 @@ use Rattle.risc_emit_forms.specs.Told.{bent_at}
 use Rattle.risc_emit_forms.specs.Follows.{machine_of, unbent, Stood, Built, Meets, Belongs, Comes}
 use Rattle.risc_emit_forms.proofs.Basics.{left_after, left_at, left_next, is_read, passes, writes_it, among_first}
 use Rattle.risc_emit_forms.proofs.Basics.{among_rest}
-use Rattle.risc_emit_forms.proofs.Flags.{silent}
+use Rattle.risc_emit_forms.proofs.Flags.{silent, IsLoad}
 use Rattle.risc_emit_forms.proofs.Runs.{Aside, step_to, constant_run, fetch_run, fetched_not}
 use Rattle.risc_emit_forms.proofs.Comes.{framed, come_to, come_way, arrive_to, arrive_here, gives_end, tells_end}
 use Rattle.risc_emit_forms.proofs.Operands.{code, one_run, stands_in}
@@ -650,35 +652,59 @@ module _ (c : Context) (words : List ℕ) (b : Built c words) (p : Places) (s : 
 
 -- ---- a load by a register that is short of an offset
 
+word_offset : (z : ℤ) → negsuc 524287 ≤ℤ z → IsWordOffset z
+word_offset (pos n) h = tt
+word_offset (negsuc n) h = omega (arith, ints, h)
+
+-- n bytes after the address that a register is short of
+reached_on : (x : ℕ) (z : ℤ) (n y : ℕ) → x < 4294967296 → IsLoad z n → y + n < 16777216 → reached x z ≡ y → reached x
+    (z +ℤ pos n) ≡ y + n
+reached_on x (pos k) n y narrow near low e = omega (arith, e)
+reached_on x (negsuc k) n y narrow near low e = by (negsuc k +ℤ pos n) refl
+  where
+    by : (w : ℤ) → negsuc k +ℤ pos n ≡ w → reached x w ≡ y + n
+    by (pos j) is =
+        let sum : j + suc k ≡ n = omega (arith, ints, is) in
+        omega (arith, e, sum, narrow, low)
+    by (negsuc j) is =
+        let sum : j + n ≡ k = omega (arith, ints, is) in
+        let few = subst (λ w. negsuc 524287 ≤ℤ w) is near.0 in
+        let least : j < 524288 = omega (arith, ints, few) in
+        omega (arith, e, sum, narrow, low, least)
+
 module _ (c : Context) (words : List ℕ) (b : Built c words) (p : Places) (s : State) (f : ℕ) (m : machine.State) (v : View) (sh : Shows words c.size m v) (me : Meets c words p s v f) where
-  pub bent_load_follows : (bent : ℕ × ℕ) (t n : ℕ) (block : Block) (offset : ℕ) (x : Value)
+  pub bent_load_follows : (bent : ℕ × ℤ) (t n : ℕ) (block : Block) (offset : ℕ) (x : Value)
       → bent_at c s.current.routine s.current.place ≡ Some bent → home c s.current.routine t ≡ Reg bent.0
-      → fetch c.code s.current.routine s.current.place ≡ Some (Load t (base.Temporary t) n) → s.current.temporaries t
-      ≡ Some (Address block offset) → load (text_at c.code) s.memory block (offset + n) ≡ Some x → Comes c words s
+      → IsLoad bent.1 n → fetch c.code s.current.routine s.current.place ≡ Some (Load t (base.Temporary t) n)
+      → s.current.temporaries t ≡ Some (Address block offset) → load (text_at c.code) s.memory block (offset + n) ≡ Some x → Comes c words s
       (record s { current = giving t x s.current }) m
-  bent_load_follows bent t n block offset x is home_is here et el =
+  bent_load_follows bent t n block offset x is home_is near here et el =
       let r = s.current.routine in
       let k = s.current.place in
       let ins = Load t (base.Temporary t) n in
       let m0 = unbent (Some bent) (machine_of v) in
       let rel : Related c p s m0 f = subst (λ o. Related c p s (unbent o (machine_of v)) f) is me.related in
-      let i = word.Load Word bent.0 bent.0 (pos (bent.1 + n)) in
+      let i = word.Load Word bent.0 bent.0 (bent.1 +ℤ pos n) in
       let l = subst (λ y. Left c words v.place (word_form c r y t (base.Temporary t) n) (c.site r (suc k))) is
       (left_at c words (c.site r k) v.place _ (form.form c r k ins) (b.stood.body r k ins here) me.place) in
       let found = load_found c b.laid p s v.words f block (offset + n) x rel.held
       (constants_stand c words b.stood p m v sh) el in
       let there = home_read c b.laid b.placed p s m0 f t (Address block offset) rel
       (is_read c r k ins here t (among_first t [])) et in
-      let whole : v.registers bent.0 + bent.1 ≡ place c p block + offset = sym (update_same v.registers bent.0 _)
+      let whole : reached (v.registers bent.0) bent.1 ≡ place c p block + offset = sym (update_same v.registers bent.0 _)
       ∙ ap (value_of c r f m0) (sym home_is) ∙ there.1 in
-      let at : v.registers bent.0 + (bent.1 + n) ≡ place c p block + (offset + n) = omega (arith, whole) in
-      let ok : IsReadable c.size (v.registers bent.0 + (bent.1 + n)) = subst (IsReadable c.size) (sym at) (record {
+      let lt = b.placed.register r t bent.0 home_is in
+      let end = b.stood.fits.top in
+      let at : reached (v.registers bent.0) (bent.1 +ℤ pos n) ≡ place c p block + (offset + n) =
+      reached_on (v.registers bent.0) bent.1 n (place c p block + offset) (sh.narrow bent.0 (omega (arith, lt))) near
+      (omega (arith, found.high, end)) whole ∙ sums (place c p block) in
+      let ok : IsReadable c.size (reached (v.registers bent.0) (bent.1 +ℤ pos n)) = subst (IsReadable c.size) (sym at) (record {
         aligned = found.aligned;
         high = found.high;
       }) in
-      let t2 = step_to c words b.stood i m v sh l.stands.0 (tt, ok) in
+      let t2 = step_to c words b.stood i m v sh l.stands.0 (word_offset (bent.1 +ℤ pos n) near.0, ok) in
       let v2 = after i v in
-      let loaded : v.words (v.registers bent.0 + (bent.1 + n)) ≡ related.word c p x = ap v.words at ∙ found.is in
+      let loaded : v.words (reached (v.registers bent.0) (bent.1 +ℤ pos n)) ≡ related.word c p x = ap v.words at ∙ found.is in
       let target_is : target c r (home c r t) ≡ bent.0 = ap (target c r) home_is in
       let aside : Aside bent.0 (related.word c p x) m0 v2 = record {
         here = update_same v.registers bent.0 _ ∙ loaded;
@@ -693,3 +719,6 @@ module _ (c : Context) (words : List ℕ) (b : Built c words) (p : Places) (s : 
       (ap (λ z. nat_eq z 0) loaded, ap (nat_le 2147483648) loaded) found.good t2.shows
       (subst (λ d. Aside d (related.word c p x) m0 v2) (sym target_is) aside)
       (subst (λ y. Left c words v2.place (save c r y) (c.site r (suc k))) (sym home_is) l2))
+    where
+      sums : (x : ℕ) → x + offset + n ≡ x + (offset + n)
+      sums x = omega arith

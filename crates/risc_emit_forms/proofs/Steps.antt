@@ -1,5 +1,5 @@
 -- One step of three-address code, followed by the words of its instruction.
-use Rattle.std.proofs.Common.{◌≡◌, ℕ, suc, ◌+◌, ◌-◌, ◌<◌, inl, inr, Bool, true, false, cond, not, nat_lt, List, []}
+use Rattle.std.proofs.Common.{◌≡◌, ℕ, suc, ◌+◌, ◌-◌, ◌*◌, ◌<◌, ◌⊎◌, inl, inr, Bool, true, false, cond, not, nat_lt, List, []}
 use Rattle.std.proofs.Common.{◌∷◌, length, Option, Some, None, slice_get, ℤ, pos, negsuc, refl, sym, subst, ap, ◌∙◌}
 use Rattle.std.proofs.lemmas.Bool.{ltb-true}
 use Rattle.behavior.specs.Endings.{Stuck, Heap}
@@ -17,7 +17,7 @@ use Rattle.tac_code.specs.declared.code.Instruction.TheVariants.{CheckPointer, T
 use Rattle.tac_code.specs.declared.code.Instruction.TheVariants.{Store, LoadByte, StoreByte, Jump, JumpBack, Branch}
 use Rattle.tac_code.specs.declared.code.Instruction.TheVariants.{BranchBack, Call, CallValue, Return, Trap, Take, Put}
 use Rattle.tac_code.specs.declared.code.Instruction.TheVariants.{New, End}
-use Rattle.tac_code.specs.Numbers.{computed}
+use Rattle.tac_code.specs.Numbers.{computed, steps_above, is_in_range}
 use Rattle.tac_code.specs.Memory.{load, load_byte, store, store_byte}
 use Rattle.tac_code.specs.Meaning as meaning
 use Rattle.tac_code.specs.Meaning.{fetch, text_at, Activation, State, Step, Goes, Over, with_some, with_number}
@@ -30,7 +30,7 @@ use Rattle.risc_emit_relation.specs.Related.{Related}
 use Rattle.tac_code.specs.declared.code.Base.TheVariants as base
 use Rattle.risc_emit_forms.specs.Told.{bent_at}
 use Rattle.risc_emit_forms.specs.Follows.{machine_of, unbent, Built, Meets, Belongs, Comes, Follows}
-use Rattle.risc_emit_forms.proofs.Flags.{BentLoad, bent_load_is}
+use Rattle.risc_emit_forms.proofs.Flags.{BentLoad, BentRow, bent_is}
 use Rattle.risc_emit_forms.proofs.Moves.{literal_follows, copy_follows, text_follows, routine_follows, forward_follows}
 use Rattle.risc_emit_forms.proofs.Moves.{back_follows}
 use Rattle.risc_emit_forms.proofs.Devices.{trap_follows, end_follows, put_follows, take_follows}
@@ -43,7 +43,7 @@ use Rattle.risc_emit_forms.proofs.Numbers.{add_follows, subtract_follows, multip
 use Rattle.risc_emit_forms.proofs.Divisions.{modulo_follows}
 use Rattle.risc_emit_forms.proofs.Divides.{divide_follows}
 use Rattle.risc_emit_forms.proofs.Checks.{check_range_follows, check_pointer_follows}
-use Rattle.risc_emit_forms.proofs.Indexes.{index_follows}
+use Rattle.risc_emit_forms.proofs.Indexes.{index_follows, row_follows}
 use Rattle.risc_emit_forms.proofs.News.{new_follows}
 
 module _ (c : Context) (words : List ℕ) (b : Built c words) (p : Places) (S H : ℕ) (stack : S + c.base ≡ c.size) (heap : H + c.heap_at ≡ c.base) (s : State) (f : ℕ) (m : machine.State) (v : View) (sh : Shows words c.size m v) (be : Belongs c words p s v f) where
@@ -232,7 +232,7 @@ module _ (c : Context) (words : List ℕ) (b : Built c words) (p : Places) (S H 
 -- ---- from any state that meets
 
 module _ (c : Context) (words : List ℕ) (b : Built c words) (p : Places) (S H : ℕ) (stack : S + c.base ≡ c.size) (heap : H + c.heap_at ≡ c.base) (s : State) (f : ℕ) (m : machine.State) (v : View) (sh : Shows words c.size m v) (me : Meets c words p s v f) where
-  loads : (bent : ℕ × ℕ) → bent_at c s.current.routine s.current.place ≡ Some bent
+  loads : (bent : ℕ × ℤ) → bent_at c s.current.routine s.current.place ≡ Some bent
       → (l : BentLoad c s.current.routine s.current.place bent) → Follows c words
       (act c.code c.costs c.sizes S H (Some (Load l.to (base.Temporary l.to) l.behind)) s) s m
   loads bent is l = by_address (s.current.temporaries l.to) refl
@@ -242,7 +242,7 @@ module _ (c : Context) (words : List ℕ) (b : Built c words) (p : Places) (S H 
           (with_some o (λ x. gives l.to x s)) s m
       by_value block offset e None el = inl refl
       by_value block offset e (Some x) el = bent_load_follows c words b p s f m v sh me bent l.to l.behind block offset
-          x is l.home l.here e el
+          x is l.home l.near l.here e el
 
       by_address : (o : Option Value) → s.current.temporaries l.to ≡ o → Follows c words
           (with_address o (λ block offset. with_some (load (text_at c.code) s.memory block (offset + l.behind))
@@ -253,10 +253,34 @@ module _ (c : Context) (words : List ℕ) (b : Built c words) (p : Places) (S H 
       by_address (Some (Address block offset)) e = by_value block offset e
           (load (text_at c.code) s.memory block (offset + l.behind)) refl
 
+  rows : (bent : ℕ × ℤ) → bent_at c s.current.routine s.current.place ≡ Some bent
+      → (w : BentRow c s.current.routine s.current.place bent) → Follows c words
+      (act c.code c.costs c.sizes S H
+      (Some (Index w.to (base.Temporary w.to) w.index w.low w.high w.width w.error w.line)) s) s m
+  rows bent is w = by_address (s.current.temporaries w.to) refl
+    where
+      by_number : (block : Block) (offset : ℕ) → s.current.temporaries w.to ≡ Some (Address block offset)
+          → (o : Option Value) → s.current.temporaries w.index ≡ o → Follows c words
+          (with_number o (λ x. gives_component c.code (is_in_range w.low w.high x) w.to block
+          (offset + steps_above w.low x * w.width) w.error w.line s)) s m
+      by_number block offset e None ei = inl refl
+      by_number block offset e (Some (Address block' offset')) ei = inl refl
+      by_number block offset e (Some (Routine r)) ei = inl refl
+      by_number block offset e (Some (Number x)) ei = row_follows c words b p s f m v sh me bent is w block offset x e ei
+
+      by_address : (o : Option Value) → s.current.temporaries w.to ≡ o → Follows c words
+          (with_address o (λ block offset. with_number (s.current.temporaries w.index)
+          (λ x. gives_component c.code (is_in_range w.low w.high x) w.to block
+          (offset + steps_above w.low x * w.width) w.error w.line s))) s m
+      by_address None e = inl refl
+      by_address (Some (Number z)) e = inl refl
+      by_address (Some (Routine r)) e = inl refl
+      by_address (Some (Address block offset)) e = by_number block offset e (s.current.temporaries w.index) refl
+
   pub step_follows : Follows c words (step c.code c.costs c.sizes S H s) s m
   step_follows = go (bent_at c s.current.routine s.current.place) refl
     where
-      go : (o : Option (ℕ × ℕ)) → bent_at c s.current.routine s.current.place ≡ o → Follows c words
+      go : (o : Option (ℕ × ℤ)) → bent_at c s.current.routine s.current.place ≡ o → Follows c words
           (step c.code c.costs c.sizes S H s) s m
       go None is =
           let be : Belongs c words p s v f = record {
@@ -267,5 +291,11 @@ module _ (c : Context) (words : List ℕ) (b : Built c words) (p : Places) (S H 
           } in
           act_follows c words b p S H stack heap s f m v sh be (fetch c.code s.current.routine s.current.place) refl
       go (Some bent) is =
-          let l = bent_load_is c s.current.routine s.current.place bent is in
-          subst (λ i. Follows c words (act c.code c.costs c.sizes S H i s) s m) (sym l.here) (loads bent is l)
+          by (bent_is c s.current.routine s.current.place bent is)
+        where
+          by : BentLoad c s.current.routine s.current.place bent ⊎ BentRow c s.current.routine s.current.place bent
+              → Follows c words (step c.code c.costs c.sizes S H s) s m
+          by (inl l) =
+              subst (λ i. Follows c words (act c.code c.costs c.sizes S H i s) s m) (sym l.here) (loads bent is l)
+          by (inr w) =
+              subst (λ i. Follows c words (act c.code c.costs c.sizes S H i s) s m) (sym w.here) (rows bent is w)

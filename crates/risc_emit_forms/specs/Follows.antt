@@ -9,7 +9,7 @@ use Rattle.risc_word.specs.declared.instr.Instr.{Instr}
 use Rattle.risc_word.specs.declared.instr.Instr.TheVariants.{Move, Store}
 use Rattle.risc_machine.specs.Step as machine
 use Rattle.risc_machine.specs.Exec as run
-use Rattle.risc_machine_laws.specs.View.{View, Fits, HasAt, Shows}
+use Rattle.risc_machine_laws.specs.View.{View, Fits, HasAt, Shows, reached}
 use Rattle.tac_code.specs.declared.code.Instruction.{Instruction}
 use Rattle.tac_code.specs.declared.code.TacRoutine.{TacRoutine}
 use Rattle.tac_code.specs.declared.code.Value.TheVariants.{Number}
@@ -88,10 +88,10 @@ abbrev pub Straight : Context → ℕ → ℕ → View → Type 0
 Straight c r k v = Flags c r k v × (bent_at c r k ≡ None)
 
 -- the machine with the missing offset added to the register that is short of it
-abbrev pub unbent : Option (ℕ × ℕ) → Machine → Machine
+abbrev pub unbent : Option (ℕ × ℤ) → Machine → Machine
 unbent None m = m
 unbent (Some bent) m =
-    record { registers = update bent.0 (m.registers bent.0 + bent.1) m.registers; words = m.words }
+    record { registers = update bent.0 (reached (m.registers bent.0) bent.1) m.registers; words = m.words }
 
 -- a view, at the words of an instruction, meets a state
 pub record Meets (c : Context) (words : List ℕ) (p : Places) (s : State) (v : View) (f : ℕ) : Type 0 where

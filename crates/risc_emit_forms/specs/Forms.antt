@@ -2,7 +2,7 @@
 -- program block; R12 and R15 are scratch registers, and operands in other registers are used where they are.
 use Rattle.std.specs.Prelude.{ℕ, zero, suc, ◌+◌, ◌-◌, ◌*◌, ◌/◌, ◌%◌, Bool, true, false, ◌&&◌, ◌||◌, not, nat_eq}
 use Rattle.std.specs.Prelude.{nat_lt, int_lt, if◌then◌else◌, List, [], ◌∷◌, ◌++◌, length, slice_index, Option, Some}
-use Rattle.std.specs.Prelude.{None, ℤ, pos, negsuc}
+use Rattle.std.specs.Prelude.{None, ℤ, pos, negsuc, ◌+ℤ◌}
 use Rattle.risc_word.specs.declared.instr.Operation.{Operation}
 use Rattle.risc_word.specs.declared.instr.Operation.TheVariants as op
 use Rattle.risc_word.specs.declared.instr.Operand as machine
@@ -35,7 +35,7 @@ use Rattle.risc_alloc.specs.Flow.{is_it}
 use Rattle.risc_alloc.specs.declared.homes.Home.{Home}
 use Rattle.risc_alloc.specs.declared.homes.Home.TheVariants.{Slot, Reg}
 use Rattle.risc_emit_relation.specs.Context.{Context, home, is_program, slot_at}
-use Rattle.risc_emit_forms.specs.Told.{told_at, bent_at, folded}
+use Rattle.risc_emit_forms.specs.Told.{told_at, short_of, near_of, bent_at, folded}
 use Rattle.risc_emit_forms.specs.Pieces.{Label, AtPlace, AtEntry, AtText, Piece, Plain, Goes, Fails, Enters, Joins}
 use Rattle.risc_emit_forms.specs.Pieces.{EntersAt, High, Low}
 
@@ -264,9 +264,9 @@ module _ (c : Context) (r : ℕ) where
       (home c r t))
 
   -- a word at an offset from a base, or from a register that is short of an offset
-  abbrev pub word_form : Option (ℕ × ℕ) → ℕ → Base → ℕ → List Piece
+  abbrev pub word_form : Option (ℕ × ℤ) → ℕ → Base → ℕ → List Piece
   word_form None t a n = load_form Word t a n
-  word_form (Some bent) t a n = Plain (word.Load Word bent.0 bent.0 (pos (bent.1 + n))) ∷ []
+  word_form (Some bent) t a n = Plain (word.Load Word bent.0 bent.0 (bent.1 +ℤ pos n)) ∷ []
 
   abbrev pub store_form : Width → Base → ℕ → ℕ → List Piece
   store_form width a n b =
@@ -468,23 +468,37 @@ module _ (c : Context) (r : ℕ) where
   address_register (base.Temporary t) = fetched 15 (home c r t)
 
   -- the address at the distance in register q from a base, or that address short of the offset of the base's block
-  abbrev pub component : Option (ℕ × ℕ) → ℕ → Base → ℕ → List Piece
+  abbrev pub component : Option (ℕ × ℤ) → ℕ → Base → ℕ → List Piece
   component None t a q =
       base_address a ++ (Plain (word.Operate op.Add (target (home c r t)) (address_register a) (Content q)) ∷ save
       (home c r t))
   component (Some bent) t a q = Plain (word.Operate op.Add bent.0 (base_register a) (Content q)) ∷ []
 
-  abbrev pub steps_form : Option (ℕ × ℕ) → ℕ → Base → ℕ → ℕ → List Piece
+  abbrev pub steps_form : Option (ℕ × ℤ) → ℕ → Base → ℕ → ℕ → List Piece
   steps_form bent t a q width = scaled q width ++ component bent t a (scaled_register q width)
 
+  -- the register that is short of the offset of a block, or the address of another base in a register
+  abbrev pub near_code : Base → List Piece
+  near_code base.Frame = []
+  near_code base.Scratch = []
+  near_code base.Program = []
+  near_code (base.Temporary t) = fetch 15 (home c r t)
+
+  abbrev pub near_register : Base → ℕ
+  near_register base.Frame = 14
+  near_register base.Scratch = 14
+  near_register base.Program = 13
+  near_register (base.Temporary t) = fetched 15 (home c r t)
+
   -- the same with an offset that takes the lowest index in
-  abbrev pub near_component : ℕ → Option (ℕ × ℕ) → ℕ → Base → ℕ → List Piece
+  abbrev pub near_component : ℕ → Option (ℕ × ℤ) → ℕ → Base → ℕ → List Piece
   near_component n None t a q =
       sum (base_register a) n ++ (Plain (word.Operate op.Add (target (home c r t)) 15 (Content q)) ∷ save (home c r t))
-  near_component n (Some bent) t a q = Plain (word.Operate op.Add bent.0 (base_register a) (Content q)) ∷ []
+  near_component n (Some bent) t a q =
+      near_code a ++ (Plain (word.Operate op.Add bent.0 (near_register a) (Content q)) ∷ [])
 
   -- an index is its own distance from such an offset
-  abbrev pub index_by : Option ℕ → Option (ℕ × ℕ) → ℕ → Base → ℕ → ℤ → ℤ → ℕ → ℕ → ℕ → List Piece
+  abbrev pub index_by : Option ℕ → Option (ℕ × ℤ) → ℕ → Base → ℕ → ℤ → ℤ → ℕ → ℕ → ℕ → List Piece
   index_by None bent t a i low high width error line =
       fetch 12 (home c r i) ++ (index_code (fetched 12 (home c r i)) low high error line
       ++ steps_form bent t a (above_register (fetched 12 (home c r i)) low) width)
@@ -492,9 +506,9 @@ module _ (c : Context) (r : ℕ) where
       fetch 12 (home c r i) ++ (scaled (fetched 12 (home c r i)) width
       ++ near_component n bent t a (scaled_register (fetched 12 (home c r i)) width))
 
-  abbrev pub index_form : Option (ℕ × ℕ) → ℕ → Base → ℕ → ℤ → ℤ → ℕ → ℕ → ℕ → List Piece
+  abbrev pub index_form : Option (ℕ × ℤ) → ℕ → Base → ℕ → ℤ → ℤ → ℕ → ℕ → ℕ → List Piece
   index_form bent t a i low high width error line =
-      index_by (folded c r a low high width error) bent t a i low high width error line
+      index_by (short_of (folded c r a low high width error) (near_of bent a)) bent t a i low high width error line
 
   -- ---- devices, calls, objects
 

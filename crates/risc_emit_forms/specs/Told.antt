@@ -1,8 +1,8 @@
 -- Where the flags are those of a temporary: after an instruction whose last word sets them by its result, if no jump
 -- leads there. And where a register is short of an offset: between an index and the load by it.
-use Rattle.std.specs.Prelude.{ℕ, zero, suc, ◌+◌, ◌-◌, ◌*◌, Bool, true, false, ◌&&◌, nat_eq, nat_le, nat_lt, List, []}
+use Rattle.std.specs.Prelude.{ℕ, zero, suc, ◌+◌, ◌-◌, ◌*◌, Bool, true, false, ◌&&◌, not, nat_eq, nat_le, nat_lt, List, []}
 use Rattle.std.specs.Prelude.{if◌then◌else◌, ◌∷◌, length, slice_get, slice_set, get_or, replicate, Option, Some}
-use Rattle.std.specs.Prelude.{None, ℤ, pos, negsuc}
+use Rattle.std.specs.Prelude.{None, ℤ, pos, negsuc, ◌+ℤ◌, neg_ℤ, int_lt}
 use Rattle.tac_code.specs.declared.code.Operator.{Operator}
 use Rattle.tac_code.specs.declared.code.Operator.TheVariants.{Add, Subtract, Multiply, Divide, Modulo}
 use Rattle.tac_code.specs.declared.code.Instruction.{Instruction}
@@ -102,17 +102,72 @@ abbrev pub short_of : Option ℕ → Option ℕ → Option ℕ
 short_of (Some n) whole = Some n
 short_of None whole = whole
 
--- register q is short of m, where a load n bytes after its address can include both
-abbrev pub bend_near : ℕ → ℕ → ℕ → Option (ℕ × ℕ)
-bend_near q n m = if nat_lt (m + n) 524288 then Some (q, m) else None
+-- An address in a temporary, without a test: a component is as many steps from there as its index says, and the lowest
+-- one, k, times the width is too much.
+abbrev pub back_near : ℕ → ℕ → ℕ → Option ℤ
+back_near k h width =
+    if nat_lt (k * width) 16777216 && nat_lt (h * width) 2147483648 then Some (neg_ℤ (pos (k * width))) else None
 
-abbrev pub bend_by : ℕ → ℕ → Option ℕ → Option (ℕ × ℕ)
+abbrev pub back_by : ℤ → ℤ → ℕ → Option ℤ
+back_by (pos k) (pos h) width = back_near k h width
+back_by (pos k) (negsuc h) width = None
+back_by (negsuc k) high width = None
+
+abbrev pub back : Base → ℤ → ℤ → ℕ → ℕ → Option ℤ
+back (base.Temporary u) low high width error = if nat_eq error 0 then back_by low high width else None
+back base.Frame low high width error = None
+back base.Scratch low high width error = None
+back base.Program low high width error = None
+
+-- that, or else an offset in a frame
+abbrev pub short_by : Option ℤ → Option ℕ → Option ℤ
+short_by (Some m) o = Some m
+short_by None (Some n) = Some (pos n)
+short_by None None = None
+
+-- register q is short of m, where a load n bytes after its address can include both
+abbrev pub bend_near : ℕ → ℕ → ℤ → Option (ℕ × ℤ)
+bend_near q n m =
+    if int_lt (m +ℤ pos n) (negsuc 524287) then None
+    else if int_lt (m +ℤ pos n) (pos 524288) then Some (q, m) else None
+
+abbrev pub bend_by : ℕ → ℕ → Option ℤ → Option (ℕ × ℤ)
 bend_by q n None = None
 bend_by q n (Some m) = bend_near q n m
 
-abbrev pub bend_in : Home → ℕ → Option ℕ → Option (ℕ × ℕ)
+abbrev pub bend_in : Home → ℕ → Option ℤ → Option (ℕ × ℤ)
 bend_in (Reg q) n o = bend_by q n o
 bend_in (Slot k) n o = None
+
+-- an offset with that of an index that goes on from the same register
+abbrev pub both_short : ℤ → Option ℤ → Option ℤ
+both_short m None = None
+both_short m (Some n) = Some (m +ℤ n)
+
+-- the register has no other temporary
+abbrev pub is_apart : Home → ℕ → Bool
+is_apart (Reg p) q = not (nat_eq p q)
+is_apart (Slot k) q = true
+
+-- a register is short of m, where an index goes on from it whose own home is another, to what a load takes
+abbrev pub row_near : ℤ → Home → Option (ℕ × ℤ) → Option (ℕ × ℤ)
+row_near m h None = None
+row_near m h (Some y) =
+    if int_lt m (negsuc 16777215) then None
+    else if is_apart h y.0 then Some (y.0, m) else None
+
+-- the first of two, if there is one
+abbrev pub first_of : Option (ℕ × ℤ) → Option (ℕ × ℤ) → Option (ℕ × ℤ)
+first_of (Some x) o = Some x
+first_of None o = o
+
+-- an index into a base in a temporary is its own distance only if a load takes the lowest one
+abbrev pub near_of : Option (ℕ × ℤ) → Base → Option ℕ
+near_of (Some bent) (base.Temporary u) = Some 0
+near_of (Some bent) base.Frame = None
+near_of (Some bent) base.Scratch = None
+near_of (Some bent) base.Program = None
+near_of None a = None
 
 module _ (c : Context) (r : ℕ) where
   -- the offset that takes the lowest index in, where an index isn't tested
@@ -120,28 +175,63 @@ module _ (c : Context) (r : ℕ) where
   folded a low high width error = fold_in error low high width (block_at c r a)
 
   -- the offset that the register of a base and the distance of a component are short of
-  abbrev pub offset_of : Base → ℤ → ℤ → ℕ → ℕ → Option ℕ
-  offset_of a low high width error = short_of (folded a low high width error) (block_at c r a)
+  abbrev pub offset_of : Base → ℤ → ℤ → ℕ → ℕ → Option ℤ
+  offset_of a low high width error =
+      short_by (back a low high width error) (short_of (folded a low high width error) (block_at c r a))
 
   -- the address of an index into t, short of an offset, which the next instruction loads from into t
-  abbrev pub bend_load : ℕ → Option ℕ → Option Instruction → Option (ℕ × ℕ)
+  abbrev pub bend_load : ℕ → Option ℤ → Option Instruction → Option (ℕ × ℤ)
   bend_load t o (Some (Load u (base.Temporary w) n)) = if nat_eq u t && nat_eq w t then bend_in (home c r t) n o
       else None
   bend_load t o _ = None
 
-  abbrev pub bend : Option Instruction → Option Instruction → Option (ℕ × ℕ)
-  bend (Some (Index t a i low high width error line)) next = bend_load t (offset_of a low high width error) next
-  bend _ next = None
+  -- an index into a row, whose address another index made in the same temporary
+  abbrev pub row_from : ℕ → Option ℤ → Home → Option ℤ → Option Instruction → Option (ℕ × ℤ)
+  row_from t None h d third = None
+  row_from t (Some m) h d third = row_near m h (bend_load t (both_short m d) third)
 
-  abbrev pub bent : List Instruction → ℕ → Option (ℕ × ℕ)
-  bent body zero = None
-  bent body (suc k) = if get_or (jumped body) (suc k) true then None else bend (slice_get body k)
+  abbrev pub bend_row : ℕ → Option ℤ → Option Instruction → Option Instruction → Option (ℕ × ℤ)
+  bend_row t o (Some (Index u (base.Temporary w) j low high width error line)) third =
+      if nat_eq u t && nat_eq w t then row_from t o (home c r j) (back (base.Temporary w) low high width error) third
+      else None
+  bend_row t o _ third = None
+
+  abbrev pub row : Option Instruction → Option Instruction → Option Instruction → Option (ℕ × ℤ)
+  row (Some (Index t a i low high width error line)) next third =
+      bend_row t (offset_of a low high width error) next third
+  row _ next third = None
+
+  -- the address of a row, short of an offset, which the next two instructions take
+  abbrev pub row_bent : List Instruction → ℕ → Option (ℕ × ℤ)
+  row_bent body zero = None
+  row_bent body (suc k) =
+      if get_or (jumped body) (suc k) true then None
+      else if get_or (jumped body) (suc (suc k)) true then None
+      else row (slice_get body k) (slice_get body (suc k)) (slice_get body (suc (suc k)))
+
+  -- what an index leaves a register short of, which may be so already
+  abbrev pub start : Option (ℕ × ℤ) → Base → ℤ → ℤ → ℕ → ℕ → Option ℤ
+  start None a low high width error = offset_of a low high width error
+  start (Some x) a low high width error = both_short x.1 (back a low high width error)
+
+  abbrev pub bend : Option (ℕ × ℤ) → Option Instruction → Option Instruction → Option (ℕ × ℤ)
+  bend before (Some (Index t a i low high width error line)) next =
+      bend_load t (start before a low high width error) next
+  bend before _ next = None
+
+  -- the address of a component, which the next instruction loads
+  abbrev pub load_bent : List Instruction → ℕ → Option (ℕ × ℤ)
+  load_bent body zero = None
+  load_bent body (suc k) = if get_or (jumped body) (suc k) true then None else bend (row_bent body k) (slice_get body k)
       (slice_get body (suc k))
 
-  abbrev pub bent_in : Option TacRoutine → ℕ → Option (ℕ × ℕ)
+  abbrev pub bent : List Instruction → ℕ → Option (ℕ × ℤ)
+  bent body k = first_of (row_bent body k) (load_bent body k)
+
+  abbrev pub bent_in : Option TacRoutine → ℕ → Option (ℕ × ℤ)
   bent_in None k = None
   bent_in (Some routine) k = bent routine.body k
 
   -- the register that is short of an offset at a place, if one is
-  abbrev pub bent_at : ℕ → Option (ℕ × ℕ)
+  abbrev pub bent_at : ℕ → Option (ℕ × ℤ)
   bent_at k = bent_in (slice_get (routines c.code) r) k

@@ -22,7 +22,7 @@ use Rattle.tac_code.specs.declared.code.TacRoutine.{TacRoutine}
 use Rattle.risc_alloc.specs.declared.homes.Home.{Home}
 use Rattle.risc_alloc.specs.declared.homes.Home.TheVariants.{Slot, Reg}
 use Rattle.risc_emit_relation.specs.Context.{Context, home}
-use Rattle.risc_emit_forms.specs.Told.{block_at, fold_in, folded, told_at, bent_at}
+use Rattle.risc_emit_forms.specs.Told.{block_at, fold_in, short_of, near_of, folded, told_at, bent_at}
 use Rattle.risc_emit_forms.specs.Forms as form
 use Rattle.risc_emit_forms.specs.Forms.{carried}
 use Rattle.risc_emit_laws.specs.Emits.{start_form}
@@ -174,7 +174,7 @@ module _ (c : Context) (r : ℕ) where
       rw (base_code_bare a) (rw (base_register_bare a)
       (rw (base_offset_bare a n) (rw (target_bare (home c r t)) (rw (save_bare (home c r t)) refl))))
 
-  word_bare : (o : Option (ℕ × ℕ)) (t : ℕ) (a : Base) (n : ℕ) → form.word_form b r o t a n ≡ form.word_form c r o t a n
+  word_bare : (o : Option (ℕ × ℤ)) (t : ℕ) (a : Base) (n : ℕ) → form.word_form b r o t a n ≡ form.word_form c r o t a n
   word_bare None t a n = load_bare _ t a n
   word_bare (Some bent) t a n = refl
 
@@ -184,7 +184,19 @@ module _ (c : Context) (r : ℕ) where
   block_bare base.Program = refl
   block_bare (base.Temporary t) = refl
 
-  index_by_bare : (n : Option ℕ) (o : Option (ℕ × ℕ)) (t : ℕ) (a : Base) (i : ℕ) (low high : ℤ) (width error line : ℕ)
+  near_code_bare : (a : Base) → form.near_code b r a ≡ form.near_code c r a
+  near_code_bare base.Frame = refl
+  near_code_bare base.Scratch = refl
+  near_code_bare base.Program = refl
+  near_code_bare (base.Temporary t) = fetch_bare 15 (home c r t)
+
+  near_register_bare : (a : Base) → form.near_register b r a ≡ form.near_register c r a
+  near_register_bare base.Frame = refl
+  near_register_bare base.Scratch = refl
+  near_register_bare base.Program = refl
+  near_register_bare (base.Temporary t) = fetched_bare 15 (home c r t)
+
+  index_by_bare : (n : Option ℕ) (o : Option (ℕ × ℤ)) (t : ℕ) (a : Base) (i : ℕ) (low high : ℤ) (width error line : ℕ)
       → form.index_by b r n o t a i low high width error line ≡ form.index_by c r n o t a i low high width error line
   index_by_bare None None t a i low high width error line =
       rw (fetch_bare 12 (home c r i)) (rw (fetched_bare 12 (home c r i))
@@ -196,13 +208,15 @@ module _ (c : Context) (r : ℕ) where
       rw (fetch_bare 12 (home c r i)) (rw (fetched_bare 12 (home c r i))
       (rw (base_register_bare a) (rw (target_bare (home c r t)) (rw (save_bare (home c r t)) refl))))
   index_by_bare (Some n) (Some bent) t a i low high width error line =
-      rw (fetch_bare 12 (home c r i)) (rw (fetched_bare 12 (home c r i)) (rw (base_register_bare a) refl))
+      rw (fetch_bare 12 (home c r i)) (rw (fetched_bare 12 (home c r i))
+      (rw (near_code_bare a) (rw (near_register_bare a) refl)))
 
-  index_bare : (o : Option (ℕ × ℕ)) (t : ℕ) (a : Base) (i : ℕ) (low high : ℤ) (width error line : ℕ)
+  index_bare : (o : Option (ℕ × ℤ)) (t : ℕ) (a : Base) (i : ℕ) (low high : ℤ) (width error line : ℕ)
       → form.index_form b r o t a i low high width error line ≡ form.index_form c r o t a i low high width error line
   index_bare o t a i low high width error line =
-      ap (λ x. form.index_by b r (fold_in error low high width x) o t a i low high width error line) (block_bare a)
-      ∙ index_by_bare (folded c r a low high width error) o t a i low high width error line
+      ap (λ x. form.index_by b r (short_of (fold_in error low high width x) (near_of o a)) o t a i low high width error
+      line) (block_bare a) ∙ index_by_bare (short_of (folded c r a low high width error) (near_of o a)) o t a i low high
+      width error line
 
   store_bare : (width : Width) (a : Base) (n u : ℕ) → form.store_form b r width a n u ≡ form.store_form c r width a n u
   store_bare width a n u =

@@ -27,7 +27,7 @@ use Rattle.risc_alloc.specs.declared.homes.Home.{Home}
 use Rattle.risc_alloc.specs.declared.homes.Home.TheVariants.{Slot, Reg}
 use Rattle.risc_emit_relation.specs.Context.{Context, home, is_program, slot_at}
 use Rattle.risc_emit_forms.specs.Pieces.{Label, Piece, Fails, Enters, Joins, EntersAt}
-use Rattle.risc_emit_forms.specs.Told.{told_at, bent_at, folded}
+use Rattle.risc_emit_forms.specs.Told.{told_at, short_of, near_of, bent_at, folded}
 use Rattle.risc_emit_forms.specs.Forms as form
 use Rattle.risc_emit_forms.specs.Forms.{is_near, is_small, is_divisor, carried, is_taken, is_stored, stands}
 use Rattle.risc_emit_laws.specs.Emits.{start_form}
@@ -290,23 +290,29 @@ module _ (c : Context) (r : ℕ) where
       by_test (nat_eq width 1) _ _ tt (good_append (form.right c r (operand.Number (pos width))) _
       (right_good (operand.Number (pos width))) (tt, tt))
 
-  component_good : (bent : Option (ℕ × ℕ)) (t : ℕ) (a : Base) (q : ℕ) → AreGood (form.component c r bent t a q)
+  component_good : (bent : Option (ℕ × ℤ)) (t : ℕ) (a : Base) (q : ℕ) → AreGood (form.component c r bent t a q)
   component_good None t a q = good_append (form.base_address c r a) _ (base_address_good a) (tt, save_good (home c r t))
   component_good (Some bent) t a q = (tt, tt)
 
-  steps_good : (bent : Option (ℕ × ℕ)) (t : ℕ) (a : Base) (q width : ℕ) → AreGood (form.steps_form c r bent t a q width)
+  steps_good : (bent : Option (ℕ × ℤ)) (t : ℕ) (a : Base) (q width : ℕ) → AreGood (form.steps_form c r bent t a q width)
   steps_good bent t a q width =
       good_append (form.scaled c r q width) _ (scaled_good q width)
       (component_good bent t a (form.scaled_register c r q width))
 
-  near_component_good : (n : ℕ) (bent : Option (ℕ × ℕ)) (t : ℕ) (a : Base) (q : ℕ) → AreGood
+  near_code_good : (a : Base) → AreGood (form.near_code c r a)
+  near_code_good base.Frame = tt
+  near_code_good base.Scratch = tt
+  near_code_good base.Program = tt
+  near_code_good (base.Temporary t) = fetch_good 15 (home c r t)
+
+  near_component_good : (n : ℕ) (bent : Option (ℕ × ℤ)) (t : ℕ) (a : Base) (q : ℕ) → AreGood
       (form.near_component c r n bent t a q)
   near_component_good n None t a q =
       good_append (form.sum c r (form.base_register c r a) n) _ (sum_good (form.base_register c r a) n)
       (tt, save_good (home c r t))
-  near_component_good n (Some bent) t a q = (tt, tt)
+  near_component_good n (Some bent) t a q = good_append (form.near_code c r a) _ (near_code_good a) (tt, tt)
 
-  index_by_good : (o : Option ℕ) (bent : Option (ℕ × ℕ)) (t : ℕ) (a : Base) (i : ℕ) (low high : ℤ)
+  index_by_good : (o : Option ℕ) (bent : Option (ℕ × ℤ)) (t : ℕ) (a : Base) (i : ℕ) (low high : ℤ)
       (width error line : ℕ) → IsTestNumber error → IsLine line → AreGood
       (form.index_by c r o bent t a i low high width error line)
   index_by_good None bent t a i low high width error line e l =
@@ -320,12 +326,13 @@ module _ (c : Context) (r : ℕ) where
       (good_append (form.scaled c r at width) _ (scaled_good at width)
       (near_component_good n bent t a (form.scaled_register c r at width)))
 
-  index_good : (bent : Option (ℕ × ℕ)) (t : ℕ) (a : Base) (i : ℕ) (low high : ℤ) (width error line : ℕ) → IsTestNumber
+  index_good : (bent : Option (ℕ × ℤ)) (t : ℕ) (a : Base) (i : ℕ) (low high : ℤ) (width error line : ℕ) → IsTestNumber
       error → IsLine line → AreGood (form.index_form c r bent t a i low high width error line)
   index_good bent t a i low high width error line e l =
-      index_by_good (folded c r a low high width error) bent t a i low high width error line e l
+      index_by_good (short_of (folded c r a low high width error) (near_of bent a)) bent t a i low high width error line e
+      l
 
-  word_good : (bent : Option (ℕ × ℕ)) (t : ℕ) (a : Base) (n : ℕ) → AreGood (form.word_form c r bent t a n)
+  word_good : (bent : Option (ℕ × ℤ)) (t : ℕ) (a : Base) (n : ℕ) → AreGood (form.word_form c r bent t a n)
   word_good None t a n = load_form_good _ t a n
   word_good (Some bent) t a n = (tt, tt)
 

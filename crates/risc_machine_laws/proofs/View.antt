@@ -27,6 +27,7 @@ use Rattle.risc_machine.specs.declared.stop.Fault.TheVariants.{BadDivisor}
 use Rattle.risc_machine_laws.specs.View.{View, Fits, IsAt, IsWritable, Shows, update, result_view, carries_view}
 use Rattle.risc_machine_laws.specs.View.{high_view, store_view, word_place, byte_in, with_byte, byte_at, operand_view}
 use Rattle.risc_machine_laws.specs.View.{added_view, subtracted_view, operated_view, after, IsPlainOperation, Plain}
+use Rattle.risc_machine_laws.specs.View.{reached}
 use Rattle.risc_machine.proofs.Memory.{length_put, word_same, word_other, put_bytes, word_below}
 use Rattle.risc_machine_laws.proofs.Memory.{byte_is, byte_put}
 
@@ -287,6 +288,21 @@ module _ (code : List ℕ) (size : ℕ) (fits : Fits code size) where
       let e : get_or m.registers b 0 ≡ v.registers b = s.registers b hb in
       omega (arith, high, fits.top)
 
+  -- the machine's addresses have 24 bits
+  reached_is : (m : State) (v : View) (b n : ℕ) → Shows code size m v → b < 16 → n < 4294967296 → reached
+      (v.registers b) (negsuc n) < size → address m b (negsuc n) ≡ reached (v.registers b) (negsuc n)
+  reached_is m v b n s hb few high =
+      let e : get_or m.registers b 0 ≡ v.registers b = s.registers b hb in
+      ap (λ x. (x + word_of_int (negsuc n)) % 16777216) e ∙ same (v.registers b) (word_of_int (negsuc n))
+      (word_back n few) high
+    where
+      word_back : (n : ℕ) → n < 4294967296 → word_of_int (negsuc n) ≡ 4294967296 - suc n
+      word_back n few = omega (arith, ints, few)
+
+      same : (x w : ℕ) → w ≡ 4294967296 - suc n → (x + (4294967296 - suc n)) % 4294967296 < size → (x + w) % 16777216
+          ≡ (x + (4294967296 - suc n)) % 4294967296
+      same x w e high = omega (arith, e, high, fits.top)
+
   -- what an operation does to two words
   abbrev Acts : Act → View → Type 0
   Acts r w = (t : State) × (r ≡ Goes t) × Shows code size t w
@@ -396,7 +412,18 @@ module _ (code : List ℕ) (size : ℕ) (fits : Fits code size) where
         shows = shows_result m v a (v.words x) s r.0 (subst (λ w. w < 4294967296) e (word_below m.memory x s.bytes))
             (place_within v _ at);
       }
-  step_plain (Load Word a b (negsuc n)) m v s p at = absurd p.0
+  step_plain (Load Word a b (negsuc n)) m v s p at =
+      let x = reached (v.registers b) (negsuc n) in
+      let d = p.1 in
+      let r = at.ranges in
+      let e : word_at m.memory x ≡ v.words x = s.words x d.aligned d.high in
+      record {
+        to = next (with_result a (v.words x) m);
+        goes = act_here m v _ s at ∙ ap (λ z. load_word a z m) (reached_is m v b n s r.1 p.0 (omega (arith, d.high)))
+            ∙ load_goes a x m d.aligned (omega (arith, d.high, s.extent)) ∙ ap (λ w. Goes (next (with_result a w m))) e;
+        shows = shows_result m v a (v.words x) s r.0 (subst (λ w. w < 4294967296) e (word_below m.memory x s.bytes))
+            (place_within v _ at);
+      }
   step_plain (Load Byte a b (pos n)) m v s p at =
       let x = v.registers b + n in
       let d = p.1 in

@@ -1,6 +1,6 @@
 -- A view of the processor's state, with functions for the registers and for the words of memory, and what instructions
 -- make of it. On a view the instructions of a straight line are evaluated one after the other.
-use Rattle.std.specs.Prelude.{◌≡◌, ℕ, ◌+◌, ◌-◌, ◌*◌, ◌/◌, ◌%◌, ◌^◌, ◌<◌, ◌≤◌, Bool, true, false, not, ◌||◌, nat_eq}
+use Rattle.std.specs.Prelude.{◌≡◌, ℕ, suc, ◌+◌, ◌-◌, ◌*◌, ◌/◌, ◌%◌, ◌^◌, ◌<◌, ◌≤◌, Bool, true, false, not, ◌||◌, nat_eq}
 use Rattle.std.specs.Prelude.{nat_lt, nat_le, if◌then◌else◌, List, [], ◌∷◌, length, slice_index, slice_get, Some, ℤ}
 use Rattle.std.specs.Prelude.{pos, negsuc, ◌+ℤ◌, ◌-ℤ◌, int_lt, bit_and, bit_or, bit_xor}
 use Rattle.std.specs.Int.{w32, int_shr, rotate_right, int_div_euclid, int_rem_euclid, from_bool}
@@ -128,6 +128,11 @@ abbrev pub offset_of : ℤ → ℕ
 offset_of (pos n) = n
 offset_of (negsuc n) = 0
 
+-- the address at an offset from what a register holds
+abbrev pub reached : ℕ → ℤ → ℕ
+reached x (pos n) = x + n
+reached x (negsuc n) = (x + (4294967296 - suc n)) % 4294967296
+
 abbrev pub added_view : ℕ → ℕ → ℕ → ℕ → View → View
 added_view a x n c v =
     result_view a ((x + n + c) % 2 ^ 32) (carries_view (nat_le (2 ^ 32) (x + n + c))
@@ -179,7 +184,7 @@ after (Move a n) v = result_view a (operand_view v n) v
 after (MoveTop a n) v = result_view a (n * 65536) v
 after (MoveHigh a) v = result_view a v.high v
 after (Operate op a b n) v = operated_view op a (v.registers b) (operand_view v n) v
-after (Load Word a b off) v = result_view a (v.words (v.registers b + offset_of off)) v
+after (Load Word a b off) v = result_view a (v.words (reached (v.registers b) off)) v
 after (Load Byte a b off) v = result_view a (byte_at v (v.registers b + offset_of off)) v
 after (Store Word a b off) v = store_view (v.registers b + offset_of off) (v.registers a) v
 after (Store Byte a b off) v = store_byte_view (v.registers b + offset_of off) (v.registers a % 256) v
@@ -189,12 +194,16 @@ abbrev pub line : List Instr → View → View
 line [] v = v
 line (i ∷ is) v = line is (after i v)
 
--- ---- the instructions that `after` describes: no branch, no access to the device page, no negative offset; a byte is
--- stored past the code, as a word is
+-- ---- the instructions that `after` describes: no branch, no access to the device page, no negative offset but that of a
+-- word that is loaded; a byte is stored past the code, as a word is
 
 abbrev pub IsPlainOffset : ℤ → Type 0
 IsPlainOffset (pos n) = Unit {0}
 IsPlainOffset (negsuc n) = ⊥
+
+abbrev pub IsWordOffset : ℤ → Type 0
+IsWordOffset (pos n) = Unit {0}
+IsWordOffset (negsuc n) = n < 4294967296
 
 -- DIV requires a positive divisor
 abbrev pub IsPlainOperation : Operation → ℕ → Type 0
@@ -206,7 +215,7 @@ Plain code size (Move a n) v = Unit {0}
 Plain code size (MoveTop a n) v = Unit {0}
 Plain code size (MoveHigh a) v = Unit {0}
 Plain code size (Operate op a b n) v = IsPlainOperation op (operand_view v n)
-Plain code size (Load Word a b off) v = IsPlainOffset off × IsReadable size (v.registers b + offset_of off)
+Plain code size (Load Word a b off) v = IsWordOffset off × IsReadable size (reached (v.registers b) off)
 Plain code size (Load Byte a b off) v = IsPlainOffset off × IsReadable size (word_place (v.registers b + offset_of off))
 Plain code size (Store Word a b off) v = IsPlainOffset off × IsWritable code size (v.registers b + offset_of off)
 Plain code size (Store Byte a b off) v =
