@@ -38,12 +38,12 @@ use Rattle.tac_known.proofs.Holding.{operand_is, holds_put, holds_more, nothing_
 -- ---- steps that go on
 
 module _ (P : State → Type 0) where
-  on_some : {A : Type 0} (o : Option A) (go : A → Step) → ((x : A) → o ≡ Some x → OnGoes P (go x)) → OnGoes P
+  pub on_some : {A : Type 0} (o : Option A) (go : A → Step) → ((x : A) → o ≡ Some x → OnGoes P (go x)) → OnGoes P
       (with_some o go)
   on_some None go h = tt
   on_some (Some x) go h = h x refl
 
-  on_number : (o : Option Value) (go : ℤ → Step) → ((x : ℤ) → o ≡ Some (Number x) → OnGoes P (go x)) → OnGoes P
+  pub on_number : (o : Option Value) (go : ℤ → Step) → ((x : ℤ) → o ≡ Some (Number x) → OnGoes P (go x)) → OnGoes P
       (with_number o go)
   on_number None go h = tt
   on_number (Some (Number x)) go h = h x refl
@@ -57,17 +57,17 @@ module _ (P : State → Type 0) where
   on_address (Some (Address block offset)) go h = h block offset
   on_address (Some (Routine r)) go h = tt
 
-  on_routine : (o : Option Value) (go : ℕ → Step) → ((r : ℕ) → OnGoes P (go r)) → OnGoes P (with_routine o go)
+  pub on_routine : (o : Option Value) (go : ℕ → Step) → ((r : ℕ) → OnGoes P (go r)) → OnGoes P (with_routine o go)
   on_routine None go h = tt
   on_routine (Some (Number x)) go h = tt
   on_routine (Some (Address block offset)) go h = tt
   on_routine (Some (Routine r)) go h = h r
 
-  on_if : (b : Bool) (x y : Step) → OnGoes P x → OnGoes P y → OnGoes P (if b then x else y)
+  pub on_if : (b : Bool) (x y : Step) → OnGoes P x → OnGoes P y → OnGoes P (if b then x else y)
   on_if true x y f g = f
   on_if false x y f g = g
 
-  on_byte : (z : ℤ) (go : ℕ → Step) → ((n : ℕ) → OnGoes P (go n)) → OnGoes P (with_byte_value z go)
+  pub on_byte : (z : ℤ) (go : ℕ → Step) → ((n : ℕ) → OnGoes P (go n)) → OnGoes P (with_byte_value z go)
   on_byte (pos n) go h = on_if (nat_lt n 256) (go n) (Over Stuck) (h n) tt
   on_byte (negsuc n) go h = tt
 

@@ -21,7 +21,7 @@ fits_not Multiply k = refl
 fits_not Divide k = refl
 fits_not Modulo k = refl
 
-lean_not : (i : Instruction) → lean [] i ≡ i
+pub lean_not : (i : Instruction) → lean [] i ≡ i
 lean_not (Literal t z) = refl
 lean_not (Copy t a) = refl
 lean_not (Arithmetic o t a b e l) = ap (λ n. Arithmetic o t a b (number_unless n e) l) (fits_not o (operand_kind [] b))

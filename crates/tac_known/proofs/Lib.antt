@@ -8,3 +8,8 @@ pub mod Leaned
 pub mod Itself
 pub mod Walked
 pub mod Room
+pub mod AgainHeld
+pub mod AgainGoes
+pub mod AgainWhole
+pub mod AgainRoom
+pub mod AgainWalked

@@ -6,18 +6,18 @@ use Rattle.tac_pass_laws.specs.Passed.{IsPassed}
 use Rattle.tac_known.specs.Lean.{LeanRoutine, IsLean}
 use Rattle.tac_known.proofs.Whole.{lean_keeps}
 
-in_both : {X : Type 0} (xs ys : List X) (r : ℕ) (x : X) → slice_get xs r ≡ Some x → slice_get (xs ++ ys) r ≡ Some x
+pub in_both : {X : Type 0} (xs ys : List X) (r : ℕ) (x : X) → slice_get xs r ≡ Some x → slice_get (xs ++ ys) r ≡ Some x
 in_both [] ys r x e = absurd (cc e)
 in_both (z ∷ xs) ys zero x e = e
 in_both (z ∷ xs) ys (suc r) x e = in_both xs ys r x e
 
-in_first : {X : Type 0} (xs ys : List X) (r : ℕ) (x : X) → r < length xs → slice_get (xs ++ ys) r ≡ Some x → slice_get
+pub in_first : {X : Type 0} (xs ys : List X) (r : ℕ) (x : X) → r < length xs → slice_get (xs ++ ys) r ≡ Some x → slice_get
     xs r ≡ Some x
 in_first [] ys r x lt e = absurd (omega (arith, lt))
 in_first (z ∷ xs) ys zero x lt e = e
 in_first (z ∷ xs) ys (suc r) x lt e = in_first xs ys r x (omega (arith, lt)) e
 
-within : {X : Type 0} (xs : List X) (r : ℕ) (x : X) → slice_get xs r ≡ Some x → r < length xs
+pub within : {X : Type 0} (xs : List X) (r : ℕ) (x : X) → slice_get xs r ≡ Some x → r < length xs
 within [] r x e = absurd (cc e)
 within (z ∷ xs) zero x e = omega arith
 within (z ∷ xs) (suc r) x e = let lt = within xs r x e in omega (arith, lt)

@@ -2,3 +2,4 @@ pub mod Kinds
 pub mod Lean
 pub mod Walk
 pub mod Laws
+pub mod Again

@@ -1,2 +1,4 @@
+mod Examples
 mod Passing
 mod Staying
+mod Unheld

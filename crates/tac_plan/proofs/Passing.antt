@@ -1,36 +1,56 @@
--- What plans make of routines, and what is lean of it.
+-- What plans make of routines, with copies and then with fewer of them, and what is lean of it.
 use Rattle.std.proofs.Common.{◌≡◌, ℕ, zero, suc, ◌+◌, ◌≤◌, ◌++◌, List, [], ◌∷◌, length, slice_get, Some, None}
-use Rattle.std.proofs.Common.{refl, sym, ap, subst}
+use Rattle.std.proofs.Common.{refl, sym, ap, ◌∙◌, subst, arith}
 use Rattle.std.proofs.lemmas.Option.{none-some, same_Some}
 use Rattle.std.specs.Prelude.{IfOk, IfSome, Option, Result, Ok, Err}
 use Rattle.std.specs.Global.{Vec}
 use Rattle.tac_code.specs.declared.code.Instruction.{Instruction}
 use Rattle.tac_code.specs.declared.code.TacRoutine.{TacRoutine}
 use Rattle.tac_code.specs.Meaning.{Code}
-use Rattle.tac_pass.specs.Walk.{Passed}
-use Rattle.tac_pass.proofs.Passing.{routine_passed, so_far_more as passed_more, are_passed}
+use Rattle.tac_pass.specs.Walk.{Passed, PassedRoutine}
+use Rattle.tac_pass.proofs.Passing.{routine_passed, so_far_many, so_far_more as passed_more, are_passed}
 use Rattle.tac_pass_laws.specs.Passed.{IsPassed}
 use Rattle.tac_pass_laws.proofs.Passed.{planned_are_passed, passes_compose}
+use Rattle.tac_known.specs.Again.{AgainBody, AgainRoutine}
 use Rattle.tac_known.specs.Lean.{LeanBody, LeanRoutine}
+use Rattle.tac_known.proofs.AgainRoom.{again_are_passed}
 use Rattle.tac_known.proofs.Room.{lean_are_passed}
-use Rattle.tac_plan.specs.Passes.{PassesBody, PassesRoutine, AreLean, PassesSoFar, Passes}
+use Rattle.tac_plan.specs.Passes.{PassesBody, PassesRoutine, OneByOne, Each, PassesSoFar, Passes}
 
--- what is lean of a body that a plan made
-pub body_passes : {E : Type 0} (r : ℕ) (body : List Instruction) (between : Vec Instruction)
+-- what is lean of a body that plans made, and copies between
+pub body_passes : {E : Type 0} (r : ℕ) (body : List Instruction) (between copied fewer : Vec Instruction)
     (result : Result (Option (Vec Instruction)) E) → Passed r body between.items → length between.items ≤ length body
-    → IfOk result (λ made. IfSome made (λ new_body. LeanBody between.items new_body.items))
+    → AgainBody between.items copied.items → Passed r copied.items fewer.items → length fewer.items ≤ length copied.items
+    → IfOk result (λ made. IfSome made (λ new_body. LeanBody fewer.items new_body.items))
     → IfOk result (λ made. IfSome made (λ new_body. PassesBody r body new_body.items))
-body_passes r body between (Ok (Some new_body)) passed short lean =
-    record { between = between.items; passed = passed; shorter = short; lean = lean }
-body_passes r body between (Ok None) passed short lean = lean
-body_passes r body between (Err e) passed short lean = lean
+body_passes r body between copied fewer (Ok (Some new_body)) passed short again spared less lean = record {
+  between = between.items;
+  copied = copied.items;
+  fewer = fewer.items;
+  passed = passed;
+  shorter = short;
+  again = again;
+  spared = spared;
+  shorter_yet = less;
+  lean = lean;
+}
+body_passes r body between copied fewer (Ok None) passed short again spared less lean = lean
+body_passes r body between copied fewer (Err e) passed short again spared less lean = lean
 
 pub routine_passes : (r : ℕ) (routine routine' : TacRoutine) → routine'.parameters ≡ routine.parameters
     → routine'.temporaries ≡ routine.temporaries → routine'.frame ≡ routine.frame → routine'.scratch ≡ routine.scratch
     → routine'.line ≡ routine.line → PassesBody r routine.body routine'.body → PassesRoutine r routine routine'
 routine_passes r routine routine' p t f s l b = record {
   between = between;
+  copied = copied;
+  fewer = fewer;
   passed = routine_passed r routine between refl refl refl refl refl b.passed b.shorter;
+  again = record {
+    heading = record { parameters = refl; frame = refl; scratch = refl; line = refl };
+    temporaries = refl;
+    body = b.again;
+  };
+  spared = routine_passed r copied fewer refl refl refl refl refl b.spared b.shorter_yet;
   lean = record {
     heading = record { parameters = p; frame = f; scratch = s; line = l };
     temporaries = t;
@@ -38,50 +58,80 @@ routine_passes r routine routine' p t f s l b = record {
   };
 }
   where
-    between : TacRoutine
-    between = record {
+    with_body : List Instruction → TacRoutine
+    with_body body = record {
       parameters = routine.parameters;
       temporaries = routine.temporaries;
       frame = routine.frame;
       scratch = routine.scratch;
       line = routine.line;
-      body = b.between;
+      body = body;
     }
+
+    between : TacRoutine
+    between = with_body b.between
+
+    copied : TacRoutine
+    copied = with_body b.copied
+
+    fewer : TacRoutine
+    fewer = with_body b.fewer
 
 -- ---- lists of routines
 
-lean_more : (xs ys : List TacRoutine) (x y : TacRoutine) → AreLean xs ys → LeanRoutine x y
-    → AreLean (xs ++ x ∷ []) (ys ++ y ∷ [])
-lean_more [] [] x y are lean = (lean, tt)
-lean_more [] (w ∷ ys) x y are lean = absurd are
-lean_more (z ∷ xs) [] x y are lean = absurd are
-lean_more (z ∷ xs) (w ∷ ys) x y (first, others) lean = (first, lean_more xs ys x y others lean)
+from_none : (k : ℕ) → 0 + k ≡ k
+from_none k = omega arith
 
-lean_both : (xs ys xs' ys' : List TacRoutine) → AreLean xs ys → AreLean xs' ys' → AreLean (xs ++ xs') (ys ++ ys')
-lean_both [] [] xs' ys' are are' = are'
-lean_both [] (w ∷ ys) xs' ys' are are' = absurd are
-lean_both (z ∷ xs) [] xs' ys' are are' = absurd are
-lean_both (z ∷ xs) (w ∷ ys) xs' ys' (first, others) are' = (first, lean_both xs ys xs' ys' others are')
+module _ (Related : ℕ → TacRoutine → TacRoutine → Type 0) where
+  one_more : (r : ℕ) (xs ys : List TacRoutine) (x y : TacRoutine) → OneByOne Related r xs ys
+      → Related (r + length xs) x y → OneByOne Related r (xs ++ x ∷ []) (ys ++ y ∷ [])
+  one_more r [] [] x y are related =
+      let at : r + 0 ≡ r = omega arith in (subst (λ (k : ℕ). Related k x y) at related, tt)
+  one_more r [] (w ∷ ys) x y are related = absurd are
+  one_more r (z ∷ xs) [] x y are related = absurd are
+  one_more r (z ∷ xs) (w ∷ ys) x y (first, others) related =
+      let at : r + suc (length xs) ≡ suc r + length xs = omega arith in
+      (first, one_more (suc r) xs ys x y others (subst (λ (k : ℕ). Related k x y) at related))
 
-lean_many : (xs ys : List TacRoutine) → AreLean xs ys → length ys ≡ length xs
-lean_many [] [] are = refl
-lean_many [] (y ∷ ys) are = absurd are
-lean_many (x ∷ xs) [] are = absurd are
-lean_many (x ∷ xs) (y ∷ ys) (first, others) = ap suc (lean_many xs ys others)
+  both_lists : (r : ℕ) (xs ys xs' ys' : List TacRoutine) → OneByOne Related r xs ys
+      → OneByOne Related (r + length xs) xs' ys' → OneByOne Related r (xs ++ xs') (ys ++ ys')
+  both_lists r [] [] xs' ys' are are' =
+      let at : r + 0 ≡ r = omega arith in subst (λ (k : ℕ). OneByOne Related k xs' ys') at are'
+  both_lists r [] (w ∷ ys) xs' ys' are are' = absurd are
+  both_lists r (z ∷ xs) [] xs' ys' are are' = absurd are
+  both_lists r (z ∷ xs) (w ∷ ys) xs' ys' (first, others) are' =
+      let at : r + suc (length xs) ≡ suc r + length xs = omega arith in
+      (first, both_lists (suc r) xs ys xs' ys' others (subst (λ (k : ℕ). OneByOne Related k xs' ys') at are'))
 
-lean_at : (xs ys : List TacRoutine) (r : ℕ) (x : TacRoutine) → AreLean xs ys → slice_get xs r ≡ Some x
-    → (y : TacRoutine) × (slice_get ys r ≡ Some y) × LeanRoutine x y
-lean_at [] ys r x are e = absurd (none-some x e)
-lean_at (z ∷ xs) [] r x are e = absurd are
-lean_at (z ∷ xs) (y ∷ ys) zero x (first, others) e =
-    (y, refl, subst (λ (z : TacRoutine). LeanRoutine z y) (same_Some z x e) first)
-lean_at (z ∷ xs) (y ∷ ys) (suc r) x (first, others) e = lean_at xs ys r x others e
+  as_many : (r : ℕ) (xs ys : List TacRoutine) → OneByOne Related r xs ys → length ys ≡ length xs
+  as_many r [] [] are = refl
+  as_many r [] (y ∷ ys) are = absurd are
+  as_many r (x ∷ xs) [] are = absurd are
+  as_many r (x ∷ xs) (y ∷ ys) (first, others) = ap suc (as_many (suc r) xs ys others)
+
+  one_at : (r : ℕ) (xs ys : List TacRoutine) (n : ℕ) (x : TacRoutine) → OneByOne Related r xs ys
+      → slice_get xs n ≡ Some x → (y : TacRoutine) × (slice_get ys n ≡ Some y) × Related (r + n) x y
+  one_at r [] ys n x are e = absurd (none-some x e)
+  one_at r (z ∷ xs) [] n x are e = absurd are
+  one_at r (z ∷ xs) (y ∷ ys) zero x (first, others) e =
+      let at : r ≡ r + 0 = omega arith in (
+        y,
+        refl,
+        subst (λ (k : ℕ). Related k x y) at (subst (λ (w : TacRoutine). Related r w y) (same_Some z x e) first),
+      )
+  one_at r (z ∷ xs) (y ∷ ys) (suc n) x (first, others) e =
+      let at : suc r + n ≡ r + suc n = omega arith in let one = one_at (suc r) xs ys n x others e in
+      (one.0, one.1, subst (λ (k : ℕ). Related k x one.0) at one.2)
 
 pub so_far_none : (first : ℕ) (olds news : List TacRoutine) → news ≡ [] → PassesSoFar first olds 0 news
 so_far_none first olds news e = record {
   between = [];
+  copied = [];
+  fewer = [];
   passed = refl;
-  lean = subst (λ (l : List TacRoutine). AreLean [] l) (sym e) tt;
+  again = tt;
+  spared = tt;
+  lean = subst (λ (l : List TacRoutine). OneByOne (Each LeanRoutine) first [] l) (sym e) tt;
 }
 
 pub so_far_more : (first : ℕ) (olds : List TacRoutine) (n : ℕ) (before news : List TacRoutine) (old new : TacRoutine)
@@ -89,34 +139,96 @@ pub so_far_more : (first : ℕ) (olds : List TacRoutine) (n : ℕ) (before news 
     ++ new ∷ [] → PassesSoFar first olds (n + 1) news
 so_far_more first olds n before news old new so_far e p is = record {
   between = so_far.between ++ p.between ∷ [];
+  copied = so_far.copied ++ p.copied ∷ [];
+  fewer = so_far.fewer ++ p.fewer ∷ [];
   passed = passed_more first olds n so_far.between (so_far.between ++ p.between ∷ []) old p.between so_far.passed e
       p.passed refl;
-  lean = subst (λ (l : List TacRoutine). AreLean (so_far.between ++ p.between ∷ []) l) (sym is)
-      (lean_more so_far.between before p.between new so_far.lean p.lean);
+  again = one_more (Each AgainRoutine) first so_far.between so_far.copied p.between p.copied so_far.again p.again;
+  spared = one_more PassedRoutine first so_far.copied so_far.fewer p.copied p.fewer so_far.spared
+      (subst (λ (k : ℕ). PassedRoutine (first + k) p.copied p.fewer) (sym many) p.spared);
+  lean = subst (λ (l : List TacRoutine). OneByOne (Each LeanRoutine) first (so_far.fewer ++ p.fewer ∷ []) l) (sym is)
+      (one_more (Each LeanRoutine) first so_far.fewer before p.fewer new so_far.lean p.lean);
 }
+  where
+    many : length so_far.copied ≡ n
+    many =
+        as_many (Each AgainRoutine) first so_far.between so_far.copied so_far.again
+        ∙ so_far_many first olds n so_far.between so_far.passed
 
 -- of both lists of a code
 pub passes : (old new : Code) → new.objects ≡ old.objects → PassesSoFar 0 old.program (length old.program) new.program
     → PassesSoFar (length old.program) old.run_time (length old.run_time) new.run_time → Passes old new
 passes old new o p q = record {
   between = between;
+  copied = copied;
+  fewer = fewer;
   passed = are_passed old between refl p.passed q.passed;
+  again = record {
+    program = as_many (Each AgainRoutine) 0 p.between p.copied p.again;
+    run_time = as_many (Each AgainRoutine) first q.between q.copied q.again;
+    objects = refl;
+    routines = λ r routine e.
+        one_at (Each AgainRoutine) 0 (p.between ++ q.between) (p.copied ++ q.copied) r routine
+        (both_lists (Each AgainRoutine) 0 p.between p.copied q.between q.copied p.again
+        (subst (λ (k : ℕ). OneByOne (Each AgainRoutine) k q.between q.copied) (sym many_between) q.again)) e;
+  };
+  spared = record {
+    program = as_many PassedRoutine 0 p.copied p.fewer p.spared;
+    run_time = as_many PassedRoutine first q.copied q.fewer q.spared;
+    objects = refl;
+    routines = λ r routine e.
+        let one = one_at PassedRoutine 0 (p.copied ++ q.copied) (p.fewer ++ q.fewer) r routine
+        (both_lists PassedRoutine 0 p.copied p.fewer q.copied q.fewer p.spared
+        (subst (λ (k : ℕ). OneByOne PassedRoutine k q.copied q.fewer) (sym many_copied) q.spared)) e in
+        (one.0, one.1, subst (λ (k : ℕ). PassedRoutine k routine one.0) (from_none r) one.2);
+  };
   lean = record {
-    program = lean_many p.between new.program p.lean;
-    run_time = lean_many q.between new.run_time q.lean;
+    program = as_many (Each LeanRoutine) 0 p.fewer new.program p.lean;
+    run_time = as_many (Each LeanRoutine) first q.fewer new.run_time q.lean;
     objects = o;
     routines = λ r routine e.
-        lean_at (p.between ++ q.between) (new.program ++ new.run_time) r routine
-        (lean_both p.between new.program q.between new.run_time p.lean q.lean) e;
+        one_at (Each LeanRoutine) 0 (p.fewer ++ q.fewer) (new.program ++ new.run_time) r routine
+        (both_lists (Each LeanRoutine) 0 p.fewer new.program q.fewer new.run_time p.lean
+        (subst (λ (k : ℕ). OneByOne (Each LeanRoutine) k q.fewer new.run_time) (sym many_fewer) q.lean)) e;
   };
 }
   where
+    first : ℕ
+    first = length old.program
+
     between : Code
     between = record { program = p.between; run_time = q.between; objects = old.objects }
+
+    copied : Code
+    copied = record { program = p.copied; run_time = q.copied; objects = old.objects }
+
+    fewer : Code
+    fewer = record { program = p.fewer; run_time = q.fewer; objects = old.objects }
+
+    as_between : length p.between ≡ first
+    as_between = so_far_many 0 old.program (length old.program) p.between p.passed
+
+    as_copied : length p.copied ≡ first
+    as_copied = as_many (Each AgainRoutine) 0 p.between p.copied p.again ∙ as_between
+
+    as_fewer : length p.fewer ≡ first
+    as_fewer = as_many PassedRoutine 0 p.copied p.fewer p.spared ∙ as_copied
+
+    many_between : 0 + length p.between ≡ first
+    many_between = from_none (length p.between) ∙ as_between
+
+    many_copied : 0 + length p.copied ≡ first
+    many_copied = from_none (length p.copied) ∙ as_copied
+
+    many_fewer : 0 + length p.fewer ≡ first
+    many_fewer = from_none (length p.fewer) ∙ as_fewer
 
 -- ---- what that is for
 
 -- the new code may stand in the place of the old one
 pub is_passed : (old new : Code) → Passes old new → IsPassed old new
 is_passed old new p =
-    passes_compose old p.between new (planned_are_passed old p.between p.passed) (lean_are_passed p.between new p.lean)
+    passes_compose old p.between new (planned_are_passed old p.between p.passed)
+    (passes_compose p.between p.copied new (again_are_passed p.between p.copied p.again)
+    (passes_compose p.copied p.fewer new (planned_are_passed p.copied p.fewer p.spared)
+    (lean_are_passed p.fewer new p.lean)))

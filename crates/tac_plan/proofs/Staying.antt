@@ -1,5 +1,5 @@
 -- A routine that stays as it is was passed by a plan: one by which each instruction is kept, and each temporary stands
--- in the one of its number. And it is lean of itself.
+-- in the one of its number. No address is copied in it, and it is lean of itself.
 use Rattle.std.proofs.Common.{◌≡◌, ◌≢◌, inl, inr, ℕ, zero, suc, ◌+◌, ◌-◌, ◌<◌, ◌≤◌, ◌*◌, ◌++◌, Bool, true, false}
 use Rattle.std.proofs.Common.{◌&&◌, nat_eq, nat_lt, List, [], ◌∷◌, length, slice_get, slice_set, map}
 use Rattle.std.proofs.Common.{Option, Some, None, refl, sym, ◌∙◌, subst, ap, arith, true≢false}
@@ -41,6 +41,7 @@ use Rattle.tac_pass.proofs.Placing.{forgetful_itself}
 use Rattle.tac_pass.proofs.Words.{length_set}
 use Rattle.tac_known.proofs.Itself.{itself_is_lean}
 use Rattle.tac_plan.specs.Passes.{PassesRoutine}
+use Rattle.tac_plan.proofs.Unheld.{itself_again}
 
 both_true : (a b : Bool) → a ≡ true → b ≡ true → (a && b) ≡ true
 both_true true b e f = f
@@ -506,7 +507,7 @@ routine_stays r puts l routine routine' none sound same p e =
       shorter = most;
     })
 
--- the same of what a copy gives, where nothing is lean
+-- the same of what a copy gives, where no address is copied and nothing is lean
 pub all_stay : {E : Type 0} (r : ℕ) (puts : Vec Put_in) (l : Limits) (routine : TacRoutine)
     (result : Result TacRoutine E) → length puts.items ≡ 0 → IsSoundRoutine l routine → l.temporaries
     ≡ routine.temporaries → l.places ≡ length routine.body → IfOk result (λ copy. copy ≡ routine)
@@ -514,7 +515,15 @@ pub all_stay : {E : Type 0} (r : ℕ) (puts : Vec Put_in) (l : Limits) (routine 
 all_stay r puts l routine (Ok copy) none sound same p h =
     subst (λ (x : TacRoutine). PassesRoutine r routine x) (sym h) (record {
       between = routine;
+      copied = routine;
       passed = routine_stays r puts l routine routine none sound same p refl;
+      again = record {
+        heading = record { parameters = refl; frame = refl; scratch = refl; line = refl };
+        temporaries = refl;
+        body = itself_again routine.body;
+      };
+      fewer = routine;
+      spared = routine_stays r puts l routine routine none sound same p refl;
       lean = record {
         heading = record { parameters = refl; frame = refl; scratch = refl; line = refl };
         temporaries = refl;

@@ -1,12 +1,13 @@
 // The plan of a routine, a place after the other. Nothing is proved of it: what comes out is tested.
 
-use crate::flow::{NONE, Way, is_counted, is_join, is_turn, lives_at, way_at};
+use crate::addresses::{Address, Again, Value};
+use crate::flow::{Flow, NONE, Way, is_counted, is_join, is_turn, lives_at, way_at};
 use crate::regions::Region;
-use crate::sets::{CONSIDERED, has, set_of, short};
+use crate::sets::{CONSIDERED, all_below, has, set_of, short};
 use crate::words::{Items, Pin, Site};
 use std::alloc::Global;
 use std::mem;
-use tac_code::code::OutOfMemory;
+use tac_code::code::{Base, Instruction, OutOfMemory};
 use tac_pass::plan::{Plan, Put, Step};
 use tac_pass::table::{Action, Known, Reach, Rows, Word};
 
@@ -26,6 +27,8 @@ pub struct Part {
 #[derive(Clone, Copy)]
 struct Held {
     word: u32,
+    // its place in the list of words
+    item: usize,
     // the temporary that is to hold it, if one is
     holder: u32,
     // whether the region stores it
@@ -46,14 +49,23 @@ struct Held {
 #[derive(Drop)]
 pub struct Draft<'a> {
     alloc: Global,
+    body: &'a [Instruction],
     ways: &'a [Way],
+    // the temporaries that may hold what others are given
+    usable: u64,
     first_call: usize,
+    // whether there are loops
+    has_loops: bool,
+    // the place before which stores of what never changes wait, or none
+    settles: usize,
     items: &'a Items,
     words: Vec<Held>,
     // of each old temporary the new one that holds it
     holders: Vec<u32>,
     steps: Vec<Step>,
     region: Option<Region>,
+    // the address that is computed again next
+    again: Option<Again>,
     // what is claimed in the region where these are alive and words are held
     common: Option<Rows>,
     alive: u64,
@@ -72,6 +84,28 @@ fn is_bare(ways: &[Way], place: usize) -> bool {
         Some(before) => way_at(ways, before).calls(),
         None => false,
     }
+}
+
+// Behind the branches at the begin of a body that turn off to where nobody looks at words any more; 0 where there are
+// none. What is stored before waits until there, since where the branches lead it isn't needed.
+fn settles(flow: &Flow) -> usize {
+    let mut settled = 0usize;
+    if flow.has_loops {
+        return settled;
+    }
+    let ways = flow.ways.as_slice();
+    for (place, way) in ways.iter().enumerate() {
+        if way.is_join() || way.is_look() || !way.falls {
+            break;
+        }
+        if way.target != NONE {
+            if way_at(ways, way.target).looks {
+                break;
+            }
+            settled = place.saturating_add(1);
+        }
+    }
+    settled
 }
 
 // The only temporary of a set.
@@ -93,10 +127,15 @@ impl<'a> Draft<'a> {
                 let item = items.list[*at];
                 words.push(Held {
                     word: item.word,
+                    item: *at,
                     holder: NOBODY,
                     is_stored: false,
                     is_fixed: item.stores == 1,
-                    last: item.last.max(site.flow.last_look),
+                    last: if site.flow.has_loops {
+                        item.last.max(site.flow.last_look)
+                    } else {
+                        item.last
+                    },
                     is_held: false,
                     is_elsewhere: false,
                     is_stale: false,
@@ -109,13 +148,18 @@ impl<'a> Draft<'a> {
         }
         Ok(Draft {
             alloc,
+            body: site.routine.body.as_slice(),
             ways: site.flow.ways.as_slice(),
+            usable: all_below(site.routine.temporaries) & !site.flow.across,
             first_call: site.flow.first_call,
+            has_loops: site.flow.has_loops,
+            settles: settles(site.flow),
             items,
             words,
             holders,
             steps: Vec::with_capacity(alloc, site.flow.ways.len())?,
             region: None,
+            again: None,
             common: None,
             alive: 0,
         })
@@ -176,6 +220,7 @@ impl<'a> Draft<'a> {
     // behind a region nothing is held
     fn leave(&mut self) {
         self.region = None;
+        self.again = None;
         for at in 0..self.words.len() {
             self.words[at].holder = NOBODY;
             self.words[at].is_held = false;
@@ -193,6 +238,9 @@ impl<'a> Draft<'a> {
 
     // whether nobody looks at a word from a place on
     fn is_dead(&self, place: usize, held: &Held) -> bool {
+        if !self.has_loops {
+            return place > held.last && !way_at(self.ways, place).looks;
+        }
         let is_inside = match self.region {
             Some(region) => place >= region.start && place < region.behind(),
             None => false,
@@ -214,6 +262,11 @@ impl<'a> Draft<'a> {
         }
     }
 
+    // whether a word that is held may wait where jumps lead
+    fn may_wait(&self, held: &Held, way: &Way) -> bool {
+        held.is_stored || (held.is_fixed && self.settles > 0 && !way.looks)
+    }
+
     // what is known where jumps lead; whether words are held in common
     fn set_claimed(&mut self, place: usize, way: &Way) -> bool {
         let holds = self.holds(place);
@@ -222,7 +275,7 @@ impl<'a> Draft<'a> {
             let is_held = holds && held.holder != NOBODY;
             self.words[at].is_held = is_held;
             self.words[at].is_elsewhere = false;
-            self.words[at].is_stale = is_held && held.is_stored;
+            self.words[at].is_stale = is_held && self.may_wait(&held, way);
         }
         for at in 0..self.holders.len() {
             let temporary = short(at);
@@ -248,6 +301,7 @@ impl<'a> Draft<'a> {
             return self.claimed(place);
         }
         if let Some(rows) = &self.common
+            && self.has_loops
             && self.alive == way.lives
         {
             return rows.copied(self.alloc);
@@ -328,6 +382,19 @@ impl<'a> Draft<'a> {
         Ok(())
     }
 
+    // what waited is stored, if it is needed yet
+    fn settle(&mut self, puts: &mut Vec<Put>, place: usize) -> Result<(), OutOfMemory> {
+        for at in 0..self.words.len() {
+            if at < self.words.len() {
+                let held = self.words[at];
+                if held.is_fixed && !self.is_dead(place, &held) {
+                    self.clean(puts, at)?;
+                }
+            }
+        }
+        Ok(())
+    }
+
     // what is needed where a place leads, but for the word that it loads or stores itself
     fn put_for(
         &mut self,
@@ -360,6 +427,9 @@ impl<'a> Draft<'a> {
         };
         if way.calls() {
             self.clean_all(&mut puts)?;
+        }
+        if self.settles > 0 && place == self.settles {
+            self.settle(&mut puts, place)?;
         }
         if region.is_closed && place == region.exit() {
             for at in 0..self.words.len() {
@@ -406,20 +476,21 @@ impl<'a> Draft<'a> {
     }
 
     fn load_action(&mut self, place: usize, way: &Way, at: usize) -> Action {
-        let to = only(way.writes);
+        let old = only(way.writes);
+        let to = self.new_for(place, old);
         if at >= self.words.len() {
             return Action::Keep(to);
         }
         let held = self.words[at];
         if !self.may_share(place, way, at) {
-            self.set_holder(to, to);
+            self.set_holder(old, to);
             return if held.is_held {
                 Action::Move(to)
             } else {
                 Action::Keep(to)
             };
         }
-        self.set_holder(to, held.holder);
+        self.set_holder(old, held.holder);
         if held.is_held {
             return Action::Spare;
         }
@@ -463,7 +534,10 @@ impl<'a> Draft<'a> {
             return Action::Keep(0);
         }
         let holder = self.words[at].holder;
-        if self.words[at].is_fixed {
+        let waits = place < self.settles
+            && self.holder_of(from) == holder
+            && !self.is_busy(place, from, holder);
+        if self.words[at].is_fixed && !waits {
             self.words[at].is_held = self.holder_of(from) == holder;
             self.words[at].is_elsewhere = true;
             return Action::Keep(0);
@@ -497,17 +571,111 @@ impl<'a> Draft<'a> {
     }
 
     fn give_action(&mut self, place: usize, way: &Way) -> Action {
-        let to = only(way.writes);
+        let old = only(way.writes);
         let holder = match self.stored_behind(place, way) {
             Some(at) if at < self.words.len() => {
                 self.words[at].is_held = false;
                 self.words[at].is_stale = false;
                 self.words[at].holder
             }
-            _ => to,
+            _ => self.new_for(place, old),
         };
-        self.set_holder(to, holder);
+        self.set_holder(old, holder);
         Action::Keep(holder)
+    }
+
+    // where an old temporary is given something: in itself, unless that keeps an address
+    fn new_for(&self, place: usize, temporary: u32) -> u32 {
+        match self.again {
+            Some(again) if again.holder == temporary && place < again.until => again.instead,
+            _ => temporary,
+        }
+    }
+
+    // the value of a temporary
+    fn value_of(&self, temporary: u32) -> Value {
+        let holder = self.holder_of(temporary);
+        let mut item = NONE;
+        for held in self.words.iter() {
+            if held.is_held && held.holder == holder {
+                item = held.item;
+            }
+        }
+        Value {
+            item,
+            set: set_of(temporary),
+        }
+    }
+
+    fn value_of_base(&self, base: Base) -> Value {
+        match base {
+            Base::Temporary(temporary) => self.value_of(temporary),
+            _ => Value { item: NONE, set: 0 },
+        }
+    }
+
+    // the address that a place computes
+    fn address_at(&self, place: usize) -> Option<Address> {
+        if place >= self.body.len() {
+            return None;
+        }
+        match &self.body[place] {
+            Instruction::Index {
+                to,
+                base,
+                index,
+                low,
+                high,
+                width,
+                ..
+            } => Some(Address {
+                base: *base,
+                from: self.value_of_base(*base),
+                by: self.value_of(*index),
+                low: *low,
+                high: *high,
+                width: *width,
+                holder: *to,
+            }),
+            _ => None,
+        }
+    }
+
+    // what holds the words that are held
+    fn holders_of_words(&self) -> u64 {
+        let mut set = 0;
+        for held in self.words.iter() {
+            set |= set_of(held.holder);
+        }
+        set
+    }
+
+    // Looks for the place where an address is computed again, which one or what holds it already keeps until there.
+    fn keep_address(&mut self, place: usize, address: Option<Address>) {
+        let was = self.again;
+        if let Some(again) = was
+            && place < again.until
+        {
+            return;
+        }
+        self.again = None;
+        let Some(found) = address else {
+            return;
+        };
+        let holder = match was {
+            Some(again) if place == again.until => again.holder,
+            _ => found.holder,
+        };
+        let given = !set_of(found.holder);
+        let mut address = Address { holder, ..found };
+        address.from.set &= given;
+        address.by.set &= given;
+        let end = match self.region {
+            Some(region) => region.exit(),
+            None => return,
+        };
+        let usable = self.usable & !self.holders_of_words();
+        self.again = address.again(self.body, self.ways, place, end, usable);
     }
 
     fn action(&mut self, place: usize, way: &Way, own: Option<usize>) -> Action {
@@ -531,7 +699,9 @@ impl<'a> Draft<'a> {
         if let Some(at) = own {
             self.fetch_for_load(&mut puts, place, way, at)?;
         }
+        let address = self.address_at(place);
         let action = self.action(place, way, own);
+        self.keep_address(place, address);
         if way.calls() {
             for at in 0..self.words.len() {
                 self.words[at].is_held = false;

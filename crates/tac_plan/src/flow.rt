@@ -54,6 +54,8 @@ pub struct Way {
     pub kind: Kind,
     /// Whether the next place may follow.
     pub falls: bool,
+    /// Whether a call, or a load through an address, may come from here on; told of bodies without loops only.
+    pub looks: bool,
     /// Whether what it gives is used only before any place where jumps lead, any call and any store of a word.
     pub is_short: bool,
 }
@@ -67,6 +69,11 @@ impl Way {
     /// Whether it is a call.
     pub fn calls(&self) -> bool {
         self.kind == Kind::Call
+    }
+
+    /// Whether words of the own frame may be looked at here by others, or by an address.
+    pub fn is_look(&self) -> bool {
+        self.calls() || (self.kind == Kind::Memory && self.writes != 0)
     }
 }
 
@@ -84,6 +91,7 @@ const NO_WAY: Way = Way {
     given: NONE,
     kind: Kind::Plain,
     falls: false,
+    looks: false,
     is_short: false,
 };
 
@@ -319,30 +327,39 @@ struct Back {
     across: u64,
 }
 
-// What is alive behind a place, and what of it goes on to where jumps lead, over a call, or over a store of a word.
+// What is alive behind a place, and what of it goes on to where jumps lead, over a call, or over a store of a word; and
+// whether words may be looked at there.
 #[derive(Clone, Copy)]
 struct Behind {
     alive: u64,
     bound: u64,
+    looks: bool,
 }
 
 fn behind_place(ways: &[Way], way: &Way, next: Behind, is_next_join: bool) -> Behind {
     let mut alive = 0;
     let mut bound = 0;
+    let mut looks = false;
     if way.falls {
         alive = next.alive;
+        looks = next.looks;
         bound = if is_next_join { next.alive } else { next.bound };
     }
     if way.target != NONE {
         let there = lives_at(ways, way.target);
         alive |= there;
         bound |= there;
+        looks = looks || way_at(ways, way.target).looks;
     }
     let is_store = way.kind == Kind::Own && way.writes == 0;
     if is_store || way.calls() {
         bound |= alive;
     }
-    Behind { alive, bound }
+    Behind {
+        alive,
+        bound,
+        looks,
+    }
 }
 
 fn walk_back(ways: &mut [Way]) -> Back {
@@ -350,7 +367,11 @@ fn walk_back(ways: &mut [Way]) -> Back {
         grew: false,
         across: 0,
     };
-    let mut next = Behind { alive: 0, bound: 0 };
+    let mut next = Behind {
+        alive: 0,
+        bound: 0,
+        looks: false,
+    };
     let mut is_next_join = false;
     for place in (0..ways.len()).rev() {
         let way = ways[place];
@@ -363,10 +384,13 @@ fn walk_back(ways: &mut [Way]) -> Back {
             back.grew = true;
         }
         ways[place].lives = alive;
+        let looks = found.looks || way.is_look();
+        ways[place].looks = looks;
         ways[place].is_short = found.bound & way.writes == 0;
         next = Behind {
             alive,
             bound: found.bound & !way.writes,
+            looks,
         };
         is_next_join = way.is_join();
     }
@@ -404,7 +428,7 @@ impl Flow {
         if calls {
             self.first_call = self.first_call.min(place);
         }
-        if calls || (way.kind == Kind::Memory && way.writes != 0) {
+        if way.is_look() {
             self.last_look = place;
         }
         self.has_loops = self.has_loops || way.target <= place;

@@ -2,11 +2,13 @@
 //! the test of plans makes.
 #![tactic(auto)]
 
+mod addresses;
 pub mod choice;
 mod draft;
 mod flow;
 pub mod pass;
 mod regions;
 mod sets;
+mod spares;
 mod stays;
 mod words;

@@ -1,17 +1,21 @@
 // The pass over a whole code.
 
-ghost use Rattle.std.specs.Prelude.{length, IfOk, IfSome};
+ghost use Rattle.std.specs.Prelude.{length, ◌≤◌, IfOk, IfSome};
 ghost use Rattle.tac_code.specs.Sound.{IsSoundRoutine, AreSoundRoutines, limits_of};
+ghost use Rattle.tac_known.specs.Again.{AgainBody};
 ghost use Rattle.tac_known.specs.Lean.{LeanBody};
+ghost use Rattle.tac_pass.specs.Walk.{Passed as PassedBody};
 ghost use Rattle.tac_pass_laws.specs.Passed.{IsPassed};
 ghost use Rattle.tac_plan.specs.Passes.{PassesBody, PassesRoutine, PassesSoFar, Passes};
 
 use crate::choice::plan_of;
 use crate::flow::has_loop;
+use crate::spares::spares_of;
 use crate::stays::stayed;
 use std::alloc::Global;
 use tac_code::code::{Body, Instruction, OutOfMemory, TacRaw, TacRoutine};
 use tac_code::tac::Tac;
+use tac_known::again::again_body;
 use tac_known::claims::claims;
 use tac_known::walk::lean_body;
 use tac_pass::plan::Plan;
@@ -90,6 +94,37 @@ fn plan_at(plans: &[Option<Plan>], at: usize) -> Option<&Plan> {
     }
 }
 
+// A body with copies of addresses that temporaries hold. None where it jumps to behind its end.
+fn copied(alloc: Global, body: Vec<Instruction>) -> Result<Option<Vec<Instruction>>, OutOfMemory>
+    ensures { IfOk result (λ made. IfSome made (λ new_body. AgainBody body.items new_body.items)) }
+{
+    let mut list = body;
+    if again_body(alloc, list.as_mut_slice())? {
+        Ok(Some(list))
+    } else {
+        Ok(None)
+    }
+}
+
+// A body without copies whose source holds what they give. None where no plan is found, or the rules don't allow it; else
+// the new code's begin for each place comes later.
+fn spared(
+    alloc: Global,
+    number: usize,
+    temporaries: u32,
+    body: &[Instruction],
+    later: &mut Option<Vec<u64>>,
+) -> Result<Option<Vec<Instruction>>, OutOfMemory>
+    ensures passed { IfOk result (λ made. IfSome made (λ new_body. PassedBody number body.now new_body.items)) }
+    ensures shorter { IfOk result (λ made. IfSome made (λ new_body. length new_body.items ≤ length body.now)) }
+{
+    let Some(plan) = spares_of(alloc, temporaries, body)? else {
+        return Ok(None);
+    };
+    *later = Some(starts_of(alloc, plan.steps.as_slice())?);
+    walk(alloc, number, body, &plan)
+}
+
 // A body whose tests that can't fail have the number 0. None where more was claimed of it than is known.
 #[tactic(auto, using(tac_known::proofs::Itself::itself_is_lean))]
 fn leaned(
@@ -110,17 +145,25 @@ fn leaned(
     }
 }
 
-// A body by a plan, and then without tests that can't fail. None where the rules don't allow what is planned or claimed.
+// A body by a plan, then with copies of addresses that temporaries hold, then with fewer copies, and then without tests
+// that can't fail. None where the rules don't allow what is planned or claimed.
 #[tactic(auto, using(crate::proofs::Passing::body_passes))]
 fn passed_body(
     alloc: Global,
     number: usize,
     routine: &TacRoutine,
     plan: &Plan,
+    later: &mut Option<Vec<u64>>,
 ) -> Result<Option<Vec<Instruction>>, OutOfMemory>
     ensures { IfOk result (λ made. IfSome made (λ new_body. PassesBody number routine.now.body new_body.items)) }
 {
     let Some(list) = walk(alloc, number, routine.body.as_slice(), plan)? else {
+        return Ok(None);
+    };
+    let Some(list) = copied(alloc, list)? else {
+        return Ok(None);
+    };
+    let Some(list) = spared(alloc, number, routine.temporaries, list.as_slice(), later)? else {
         return Ok(None);
     };
     leaned(alloc, routine.temporaries as usize, list)
@@ -134,6 +177,7 @@ fn passed_routine(
     number: usize,
     routine: &TacRoutine,
     plan: Option<&Plan>,
+    later: &mut Option<Vec<u64>>,
 ) -> Result<TacRoutine, OutOfMemory>
     requires { IsSoundRoutine (limits_of tac.now routine.now) routine.now }
     ensures { IfOk result (PassesRoutine number routine.now) }
@@ -141,7 +185,8 @@ fn passed_routine(
     let Some(plan) = plan else {
         return stayed(alloc, tac, number, routine);
     };
-    let Some(list) = passed_body(alloc, number, routine, plan)? else {
+    let Some(list) = passed_body(alloc, number, routine, plan, later)? else {
+        *later = None;
         return stayed(alloc, tac, number, routine);
     };
     Ok(TacRoutine {
@@ -161,6 +206,7 @@ fn passed_routines(
     routines: &[TacRoutine],
     first: usize,
     plans: &[Option<Plan>],
+    laters: &mut Vec<Option<Vec<u64>>>,
 ) -> Result<Option<Vec<TacRoutine>>, OutOfMemory>
     requires { AreSoundRoutines tac.now routines.now }
     ensures { IfOk result (λ made. IfSome made
@@ -171,23 +217,31 @@ fn passed_routines(
         let Some(number) = first.checked_add(at) else {
             return Ok(None);
         };
-        let routine = passed_routine(alloc, tac, number, &routines[at], plan_at(plans, at))?;
+        let mut later = None;
+        let plan = plan_at(plans, at);
+        let routine = passed_routine(alloc, tac, number, &routines[at], plan, &mut later)?;
         list.push(routine)?;
+        laters.push(later)?;
     }
     Ok(Some(list))
 }
 
 // New code that was made by plans.
 #[tactic(auto, using(crate::proofs::Passing::passes))]
-fn made_by(alloc: Global, tac: &Tac, plans: &[Option<Plan>]) -> Result<Option<Tac>, OutOfMemory>
+fn made_by(
+    alloc: Global,
+    tac: &Tac,
+    plans: &[Option<Plan>],
+    laters: &mut Vec<Option<Vec<u64>>>,
+) -> Result<Option<Tac>, OutOfMemory>
     ensures { IfOk result (λ made. IfSome made (λ new_one. Passes tac.now new_one)) }
 {
     tac.keeps_invariant();
-    let Some(program) = passed_routines(alloc, tac, tac.program(), 0, plans)? else {
+    let Some(program) = passed_routines(alloc, tac, tac.program(), 0, plans, laters)? else {
         return Ok(None);
     };
-    let Some(run_time) = passed_routines(alloc, tac, tac.run_time(), tac.program().len(), &[])?
-    else {
+    let many = tac.program().len();
+    let Some(run_time) = passed_routines(alloc, tac, tac.run_time(), many, &[], laters)? else {
         return Ok(None);
     };
     let objects = tac.objects().to_vec(alloc)?;
@@ -203,26 +257,47 @@ fn made_by(alloc: Global, tac: &Tac, plans: &[Option<Plan>]) -> Result<Option<Ta
 fn starts_in(
     alloc: Global,
     plan: Option<&Plan>,
+    later: &[u64],
     made: &TacRoutine,
 ) -> Result<Option<Vec<u64>>, OutOfMemory> {
     let Some(plan) = plan else {
         return Ok(None);
     };
-    let starts = starts_of(alloc, plan.steps.as_slice())?;
+    let mut starts = starts_of(alloc, plan.steps.as_slice())?;
+    for place in 0..starts.len() {
+        let between = starts[place] as usize;
+        starts[place] = if between < later.len() {
+            later[between]
+        } else {
+            0
+        };
+    }
     match starts.last() {
         Some(end) if *end == made.body.as_slice().len() as u64 => Ok(Some(starts)),
         _ => Ok(None),
     }
 }
 
+fn later_at(laters: &[Option<Vec<u64>>], at: usize) -> &[u64] {
+    if at < laters.len()
+        && let Some(later) = &laters[at]
+    {
+        later.as_slice()
+    } else {
+        &[]
+    }
+}
+
 fn starts_by(
     alloc: Global,
     plans: &[Option<Plan>],
+    laters: &[Option<Vec<u64>>],
     made: &[TacRoutine],
 ) -> Result<Vec<Option<Vec<u64>>>, OutOfMemory> {
     let mut starts = Vec::with_capacity(alloc, made.len())?;
     for (number, routine) in made.iter().enumerate() {
-        starts.push(starts_in(alloc, plan_at(plans, number), routine)?)?;
+        let later = later_at(laters, number);
+        starts.push(starts_in(alloc, plan_at(plans, number), later, routine)?)?;
     }
     Ok(starts)
 }
@@ -236,8 +311,8 @@ pub struct Passed {
     pub starts: Vec<Option<Vec<u64>>>,
 }
 
-/// New code that keeps what the old one shows, with words of frames in temporaries, and with the number 0 at tests that
-/// can't fail. Each routine has as many temporaries as it had, the same blocks, and no more instructions. None where none
+/// New code that keeps what the old one shows, with words of frames in temporaries, with copies of addresses that
+/// temporaries hold, and with the number 0 at tests that can't fail. Each routine has as many temporaries as it had, the same blocks, and no more instructions. None where none
 /// is found: then the old code stands.
 #[tactic(auto, using(crate::proofs::Passing::is_passed))]
 pub fn pass(alloc: Global, tac: &Tac) -> Result<Option<Passed>, OutOfMemory>
@@ -248,9 +323,10 @@ pub fn pass(alloc: Global, tac: &Tac) -> Result<Option<Passed>, OutOfMemory>
     if !is_any(plans.as_slice()) {
         return Ok(None);
     }
-    let Some(made) = made_by(alloc, tac, plans.as_slice())? else {
+    let mut laters = Vec::new(alloc);
+    let Some(made) = made_by(alloc, tac, plans.as_slice(), &mut laters)? else {
         return Ok(None);
     };
-    let starts = starts_by(alloc, plans.as_slice(), made.program())?;
+    let starts = starts_by(alloc, plans.as_slice(), laters.as_slice(), made.program())?;
     Ok(Some(Passed { tac: made, starts }))
 }
