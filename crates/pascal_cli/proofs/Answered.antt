@@ -5,13 +5,13 @@ use Rattle.pascal_cli.specs.Certificates.{AreCertified, AreOthers, CertifiesSome
 use Rattle.pascal_cli.specs.Certificates.{IsNotBuilt, NoCertificate, NoneHolding, SomeCertificate, SomeCertified}
 use Rattle.pascal_cli.specs.Certificates.{SomeHolding, SomeOthers}
 use Rattle.pascal_cli.specs.Failures.{HasRefusal, Tells}
-use Rattle.pascal_cli.specs.Jobs.{HasNeeds, IsAccepted, IsRefusedText, SomeAccepted, SomeNeeds, SomeRefused}
+use Rattle.pascal_cli.specs.Jobs.{HasNeeds, IsAccepted, SomeAccepted, SomeNeeds, SomeRefused}
 use Rattle.pascal_cli.proofs.Failed.{told_as}
 
-pub some_text : (answer failed : Bool) (text : List ℕ) → Tells answer failed (IsAccepted text) (IsRefusedText text)
+pub some_text : (answer failed : Bool) (text : List ℕ) → Tells answer failed (IsAccepted text) (HasRefusal text)
     → Tells answer failed SomeAccepted SomeRefused
-some_text answer failed text = told_as (IsAccepted text) (IsRefusedText text) SomeAccepted SomeRefused answer failed
-    (λ is. (text, is)) (λ is. (text, is))
+some_text answer failed text = told_as (IsAccepted text) (HasRefusal text) SomeAccepted SomeRefused answer failed
+    (λ is. (text, is)) (λ refused. (text, (refused.0, refused.1)))
 
 pub some_certificate : (answer failed : Bool) (source image : List ℕ)
     → Tells answer failed (HasCertificate source image) (IsNotBuilt source image)

@@ -6,7 +6,8 @@ use Rattle.std.specs.Str.{str_eq_ignore_ascii_case}
 use Rattle.risc_machine.specs.Console.{World}
 use Rattle.ps_map.specs.declared.map.Map.{Map}
 use Rattle.pascal_cli.specs.Command.{Limits, Text}
-use Rattle.pascal_cli.specs.Jobs.{IsRefusedText, RanOf}
+use Rattle.pascal_cli.specs.Failures.{HasRefusal}
+use Rattle.pascal_cli.specs.Jobs.{RanOf}
 use Rattle.pascal_cli.specs.declared.options.Options.{Options}
 use Rattle.pascal_cli.specs.declared.job.Watch.{Watch}
 use Rattle.pascal_cli.specs.declared.job.Watch.TheVariants.{Why, Trace, Cover, Profile}
@@ -64,10 +65,10 @@ abbrev pub IsWatched : (text : List ℕ) → Limits → (names failed : Bool) �
 IsWatched text limits names failed status =
     RanOf text limits status ⊎ ((status ≡ 1) × ((failed ≡ true) ⊎ (names ≡ true)))
 
--- the same of a text that may be refused
+-- the same of a text that may be refused, and not for want of memory
 abbrev pub IsWatchedText : (text : List ℕ) → Limits → (names failed : Bool) → (status : ℕ) → Type 0
 IsWatchedText text limits names failed status =
-    IsWatched text limits names failed status ⊎ ((status ≡ 1) × IsRefusedText text)
+    IsWatched text limits names failed status ⊎ ((status ≡ 1) × HasRefusal text)
 
 -- some text was watched so, or none could be read
 abbrev pub IsWatchedFile : Limits → (names failed : Bool) → (status : ℕ) → Type 0

@@ -2,4 +2,4 @@
 
 /// The sum.
 pub(crate) const BELIEVED: &str =
-    "28e84d72db9cc1f33416cd142089349c7b673b05d736185776521dacf3bbdef2";
+    "b3aa2220024a7de405c61b1a20f55f323d511be9458d9a061fde1daa1676b55b";

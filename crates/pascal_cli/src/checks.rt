@@ -3,8 +3,8 @@
 ghost use Rattle.std.specs.Prelude.{◌≡◌, ◌&&◌, length, map};
 ghost use Rattle.pascal_cli.specs.Command as work;
 ghost use Rattle.pascal_cli.specs.Command.{request_in, work_of};
-ghost use Rattle.pascal_cli.specs.Failures.{Answers, Keeps, Tells, has_failed};
-ghost use Rattle.pascal_cli.specs.Jobs.{AreAccepted, IsAccepted, IsRefusedText, IsStatus, SomeAccepted, SomeRefused};
+ghost use Rattle.pascal_cli.specs.Failures.{Answers, HasRefusal, Keeps, Tells, has_failed};
+ghost use Rattle.pascal_cli.specs.Jobs.{AreAccepted, IsAccepted, IsStatus, SomeAccepted, SomeRefused};
 
 use crate::failures::Failures;
 use crate::job::Job;
@@ -147,7 +147,7 @@ fn check_text<R: Print + Eprint + AllocGlobal>(
     manner: Manner,
 ) -> Checked
     ensures kept { Keeps (has_failed failures.old) (has_failed failures.new) }
-    ensures told { Tells result.is_accepted (has_failed failures.new) (IsAccepted text.now) (IsRefusedText text.now) }
+    ensures told { Tells result.is_accepted (has_failed failures.new) (IsAccepted text.now) (HasRefusal text.now) }
 {
     let wants = Wants {
         first: manner.telling.first,

@@ -96,7 +96,10 @@ fn watch_text<R: Files + Print + Eprint + Input + AllocGlobal>(
 {
     let mapped = match build_mapped(rt.alloc(), file.text, Variables::InFrames) {
         Ok(mapped) => mapped,
-        Err(refusal) => return tell(rt, &Err(refusal)),
+        Err(refusal) => {
+            let _ = failures.is_of_text(rt, refusal);
+            return FAILED;
+        }
     };
     let Some(prepared) = prepared_of(rt, failures, file.text, mapped) else {
         return FAILED;

@@ -4,6 +4,7 @@ use Rattle.ps_build.specs.Accepts.{IsAccepted, IsRefused}
 use Rattle.ps_build.specs.Headline.{Compiles}
 use Rattle.ps_build.specs.Refusals.{line_of}
 use Rattle.ps_build.specs.declared.refusal.Refusal.{Refusal}
+use Rattle.ps_build.specs.declared.refusal.Refusal.TheVariants.{OutOfMemory}
 use Rattle.ps_diagnose.specs.Changes.{changed_from}
 use Rattle.ps_diagnostic.specs.declared.Diagnostic.{Diagnostic}
 use Rattle.ps_diagnostic.specs.declared.Mend.{Mend}
@@ -15,15 +16,19 @@ use Rattle.ps_advise.specs.declared.rest.Rest.{Rest}
 use Rattle.ps_advise.specs.declared.trial.Verdict.{Verdict}
 use Rattle.ps_advise.specs.declared.trial.Verdict.TheVariants.{Accepted, Refused}
 
+-- the text is refused, and not for want of memory
+abbrev pub IsAtFault : List ℕ → Refusal → Type 0
+IsAtFault text refusal = IsRefused text refusal × (refusal ≡ OutOfMemory → ⊥)
+
 -- what a verdict says of a text
 abbrev pub Says : List ℕ → Verdict → Type 0
 Says text Accepted = IsAccepted text
-Says text (Refused refusal) = IsRefused text refusal
+Says text (Refused refusal) = IsAtFault text refusal
 
 -- what an outcome tells of the text that was tried: that it is accepted, or the line at which it is refused
 abbrev pub Tells : List ℕ → Outcome → Type 0
 Tells text outcome.Accepted = IsAccepted text
-Tells text (outcome.FaultAt line) = (refusal : Refusal) × IsRefused text refusal
+Tells text (outcome.FaultAt line) = (refusal : Refusal) × IsAtFault text refusal
     × (line ≡ unwrap_or (line_of refusal) 0)
 
 -- what a mend tells of a text is so of the one that it makes of it
@@ -52,7 +57,7 @@ IsRestOf text rest = rest.is_whole ≡ true → rest.text.items ≡ text
 -- the text has an image, or it is refused
 abbrev pub IsTold : List ℕ → Bool → Type 0
 IsTold text true = (bytes : List ℕ) × Compiles text bytes
-IsTold text false = (refusal : Refusal) × IsRefused text refusal
+IsTold text false = (refusal : Refusal) × IsAtFault text refusal
 
 -- The text is told as accepted where it has an image, and else it is refused; and each mend that is told is one of it.
 abbrev pub IsAdviceOn : List ℕ → Advice → Type 0

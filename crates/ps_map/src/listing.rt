@@ -1,5 +1,8 @@
 //! The listing of an image with its source.
 
+ghost use Rattle.std.specs.Prelude.{IfErr};
+ghost use Rattle.ps_build.specs.Accepts.{IsRefused};
+
 use crate::characters::readable;
 use crate::made::{MappedText, mapped_text};
 use crate::map::{Map, Owner, Row};
@@ -276,7 +279,9 @@ fn listed_with(alloc: Global, text: &[u8], built: &MappedText) -> Result<String,
 /// # Errors
 ///
 /// Those of `build`.
-pub fn listed(alloc: Global, text: &[u8]) -> Result<String, Refusal> {
+pub fn listed(alloc: Global, text: &[u8]) -> Result<String, Refusal>
+    ensures { IfErr result (IsRefused text.now) }
+{
     let built = mapped_text(alloc, text, Variables::InTemporaries)?;
     match listed_with(alloc, text, &built) {
         Ok(listing) => Ok(listing),

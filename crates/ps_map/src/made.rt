@@ -1,5 +1,9 @@
 //! How a map is made.
 
+ghost use Rattle.std.specs.Prelude.{IfOk, IfErr};
+ghost use Rattle.ps_build.specs.Headline.{Compiles};
+ghost use Rattle.ps_build.specs.Accepts.{IsRefused};
+
 use crate::blocks::{Block, blocks_of};
 use crate::map::{Map, Owner, Routine, Row};
 use crate::places::{Lines, Place, small};
@@ -302,11 +306,10 @@ pub struct MappedText {
 /// # Errors
 ///
 /// Those of `build`.
-pub fn mapped_text(
-    alloc: Global,
-    text: &[u8],
-    variables: Variables,
-) -> Result<MappedText, Refusal> {
+pub fn mapped_text(alloc: Global, text: &[u8], variables: Variables) -> Result<MappedText, Refusal>
+    ensures compiles { IfOk result (λ built. Compiles text.now built.mapped.built) }
+    ensures refused { IfErr result (IsRefused text.now) }
+{
     let mapped = build_mapped(alloc, text, variables)?;
     match map_of_text(alloc, text, &mapped) {
         Ok(map) => Ok(MappedText { mapped, map }),

@@ -1,6 +1,8 @@
 //! Runs that are traced.
 
-ghost use Rattle.std.specs.Prelude.{◌≡◌, IfOk, IfErr, IfSome, IfNone, OnErr, true};
+ghost use Rattle.std.specs.Prelude.{◌≡◌, ◌⊎◌, IfOk, IfErr, IfSome, IfNone, OnErr, true};
+ghost use Rattle.ps_build.specs.Accepts.{IsRefused};
+ghost use Rattle.ps_build.specs.declared.refusal.Refusal.TheVariants.{OutOfMemory};
 ghost use Rattle.ps_build.specs.Runs.{RunsImage, IsRunRefused};
 ghost use Rattle.ps_build.specs.Slices.{IsImageLeft};
 
@@ -58,6 +60,15 @@ fn tracer_of<'a, T: Teller + Drop>(
     })
 }
 
+// The tokens of a text.
+fn scanned<'a>(alloc: Global, text: &'a [u8]) -> Result<(Source<'a>, Vec<Token>), Refusal>
+    ensures { IfErr result (IsRefused text.now) }
+{
+    let source = Source::new(text)?;
+    let tokens = scan(alloc, &source)?;
+    Ok((source, tokens))
+}
+
 // Runs an image, and shows it to what follows it.
 fn run_followed<C: Paced, T: Teller + Drop>(
     alloc: Global,
@@ -111,11 +122,13 @@ pub fn run_traced<C: Paced, T: Teller + Drop>(
     ensures left { IfOk result (λ traced. IfNone traced.outcome
         (IsImageLeft prepared.now.text.mapped.built budget max_steps (C.world console.old) (C.world console.new))) }
     ensures failed { IfOk result (λ traced. IfNone traced.outcome (C.has_failed console.new ≡ true)) }
+    ensures refused { IfErr result (λ refusal. IsRefused text.now refusal
+        ⊎ IsRunRefused prepared.now.text.mapped.built budget refusal
+        ⊎ (refusal ≡ OutOfMemory)) }
     ensures unchanged { OnErr result (C.world console.new ≡ C.world console.old) }
 {
     let bytes = prepared.text.mapped.built.bytes();
-    let source = Source::new(text)?;
-    let tokens = scan(alloc, &source)?;
+    let (source, tokens) = scanned(alloc, text)?;
     let view = match ImageView::read(bytes) {
         Ok(view) => view,
         Err(refusal) => return Err(Refusal::from(refusal)),
