@@ -5,3 +5,4 @@ pub mod OpenedLemmas
 pub mod NoteLemmas
 pub mod PlaceLemmas
 pub mod WideLemmas
+pub mod MarkLemmas

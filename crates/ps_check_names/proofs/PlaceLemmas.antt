@@ -48,7 +48,7 @@ like_there ty records number other is like = (
 
 -- ---- lists
 
-got_or : {A : Type 0} (xs : List A) (i : ℕ) → i < length xs → (x : A) × (slice_get xs i ≡ Some x)
+pub got_or : {A : Type 0} (xs : List A) (i : ℕ) → i < length xs → (x : A) × (slice_get xs i ≡ Some x)
 got_or [] i l = absurd (omega (arith, l))
 got_or (x ∷ xs) zero l = (x, refl)
 got_or (x ∷ xs) (suc i) l = got_or xs i (omega (arith, l))

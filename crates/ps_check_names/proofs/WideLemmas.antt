@@ -3,10 +3,10 @@ use Rattle.std.proofs.Common.{◌≡◌, ◌≢◌, ◌+◌, ◌*◌, ◌/◌, �
 use Rattle.std.proofs.Common.{List, [], ◌∷◌, ◌++◌, length, map, Option, Some, None, refl, sym, ap, subst, ◌∙◌, arith}
 use Rattle.std.proofs.Common.{slice_get, get_or, set}
 use Rattle.std.proofs.Common.{◌^◌}
-use Rattle.std.specs.Prelude.{if◌then◌else◌, bit_and}
+use Rattle.std.specs.Prelude.{if◌then◌else◌, bit_and, bit_or}
 use Rattle.std.specs.Int.{bit_at}
 use Rattle.std.proofs.lemmas.List.{length-set, length-append, get_or-set_same, get_or-set_other, get_or_append_left}
-use Rattle.std.proofs.lemmas.Nat.Bits.{bit_at_and, bit_at-zero, shr_and_one}
+use Rattle.std.proofs.lemmas.Nat.Bits.{bit_at_and, bit_at_or, bit_at-lt, bit_at-zero, shr_and_one}
 use Rattle.std.proofs.lemmas.Option.{slice_get_within}
 use Rattle.std.proofs.Math.Nat.{eq-or-lt_of_le}
 use Rattle.std.proofs.Math.Seq.{get_or-append_seam}
@@ -85,6 +85,18 @@ pub same_holds : (words words' : List ℕ) → ((n : ℕ) → get_or words' n 0 
     → Holds words' n
 same_holds words words' same n there = ap (λ w. bit_at w (n % 64)) (same (n / 64)) ∙ there
 
+-- a word in the place of another
+pub put_kept : (words words' : List ℕ) (index word new : ℕ) → index < length words → word ≡ get_or words index 0 → words'
+    ≡ set words index new → ((i : ℕ) → bit_at word i ≡ 1 → bit_at new i ≡ 1) → (n : ℕ) → Holds words n → Holds words' n
+put_kept words words' index word new room is put more n there = by (eq-or-not (n / 64) index)
+  where
+    by : (n / 64 ≡ index) ⊎ (n / 64 ≢ index) → Holds words' n
+    by (inl e) = ap (λ i. bit_at (get_or words' i 0) (n % 64)) e
+        ∙ ap (λ w. bit_at w (n % 64)) (ap (λ l. get_or l index 0) put ∙ get_or-set_same words index new 0 room)
+        ∙ more (n % 64) (ap (λ w. bit_at w (n % 64)) is ∙ ap (λ i. bit_at (get_or words i 0) (n % 64)) (sym e) ∙ there)
+    by (inr d) = ap (λ l. bit_at (get_or l (n / 64) 0) (n % 64)) put
+        ∙ ap (λ w. bit_at w (n % 64)) (get_or-set_other words index (n / 64) new 0 d) ∙ there
+
 -- a word in the place of another, in a longer list
 module _ (old words words' : List ℕ) (number word new : ℕ) (longer : (n : ℕ) → get_or words n 0 ≡ get_or old n 0) (room : number / 64 < length words) (is : word ≡ get_or words (number / 64) 0) (put : words' ≡ set words (number / 64) new) where
   here : get_or words' (number / 64) 0 ≡ new
@@ -94,16 +106,50 @@ module _ (old words words' : List ℕ) (number word new : ℕ) (longer : (n : �
   inserted e = ap (λ w. bit_at w (number % 64)) here ∙ e
 
   pub insert_kept : ((i : ℕ) → bit_at word i ≡ 1 → bit_at new i ≡ 1) → (n : ℕ) → Holds old n → Holds words' n
-  insert_kept more n there = by (eq-or-not (n / 64) (number / 64))
-    where
-      also : Holds words n
-      also = same_holds old words longer n there
+  insert_kept more n there = put_kept words words' (number / 64) word new room is put more n
+      (same_holds old words longer n there)
 
-      by : (n / 64 ≡ number / 64) ⊎ (n / 64 ≢ number / 64) → Holds words' n
-      by (inl e) = ap (λ i. bit_at (get_or words' i 0) (n % 64)) e ∙ ap (λ w. bit_at w (n % 64)) here
-          ∙ more (n % 64) (ap (λ w. bit_at w (n % 64)) is ∙ ap (λ i. bit_at (get_or words i 0) (n % 64)) (sym e) ∙ also)
-      by (inr d) = ap (λ l. bit_at (get_or l (n / 64) 0) (n % 64)) put
-          ∙ ap (λ w. bit_at w (n % 64)) (get_or-set_other words (number / 64) (n / 64) new 0 d) ∙ also
+-- the words of a set are joined with those of another
+pub put_as_long : (words words' : List ℕ) (index new : ℕ) → words' ≡ set words index new → length words' ≡ length words
+put_as_long words words' index new put = ap length put ∙ length-set words index new
+
+pub put_there : (words words' : List ℕ) (index new other : ℕ) → index < length words → words' ≡ set words index new
+    → ((i : ℕ) → bit_at other i ≡ 1 → bit_at new i ≡ 1) → (i : ℕ) → bit_at other i ≡ 1 → bit_at (get_or words' index 0) i
+    ≡ 1
+put_there words words' index new other room put more i on = ap (λ w. bit_at w i)
+    (ap (λ l. get_or l index 0) put ∙ get_or-set_same words index new 0 room) ∙ more i on
+
+pub or_first : (a b i : ℕ) → bit_at a i ≡ 1 → bit_at (bit_or a b) i ≡ 1
+or_first a b i on = let e = bit_at_or a b i in let l = bit_at-lt b i in omega (arith, e, l, on)
+
+pub or_second : (a b i : ℕ) → bit_at b i ≡ 1 → bit_at (bit_or a b) i ≡ 1
+or_second a b i on = let e = bit_at_or a b i in let l = bit_at-lt a i in omega (arith, e, l, on)
+
+-- the words before index i are joined
+abbrev pub JoinedTo : (others words : List ℕ) (i : ℕ) → Type 0
+JoinedTo others words i = (n : ℕ) → n / 64 < i → Holds others n → Holds words n
+
+pub joined_start : (others words : List ℕ) → JoinedTo others words 0
+joined_start others words = λ n l. absurd (omega (arith, l))
+
+pub joined_next : (others words words' : List ℕ) (other i : ℕ) → JoinedTo others words i → other ≡ get_or others i 0
+    → ((n : ℕ) → Holds words n → Holds words' n)
+    → ((j : ℕ) → bit_at other j ≡ 1 → bit_at (get_or words' i 0) j ≡ 1) → JoinedTo others words' (i + 1)
+joined_next others words words' other i so_far is kept there = λ n l h. by n h
+    (eq-or-lt_of_le (let z : n / 64 ≤ i = omega (arith, l) in z))
+  where
+    by : (n : ℕ) → Holds others n → (n / 64 ≡ i) ⊎ (n / 64 < i) → Holds words' n
+    by n h (inr l) = kept n (so_far n l h)
+    by n h (inl e) = ap (λ k. bit_at (get_or words' k 0) (n % 64)) e
+        ∙ there (n % 64) (ap (λ w. bit_at w (n % 64)) (is ∙ ap (λ k. get_or others k 0) (sym e)) ∙ h)
+
+pub joined_end : (others words : List ℕ) (i : ℕ) → length others ≤ i → JoinedTo others words i → (n : ℕ) → Holds others n
+    → Holds words n
+joined_end others words i end so_far n h = by (eq-or-not (get_or others (n / 64) 0) 0)
+  where
+    by : (get_or others (n / 64) 0 ≡ 0) ⊎ (get_or others (n / 64) 0 ≢ 0) → Holds words n
+    by (inl e) = absurd (let z = sym h ∙ ap (λ w. bit_at w (n % 64)) e ∙ bit_at-zero (n % 64) in omega (arith, z))
+    by (inr d) = so_far n (let z = not_past others (n / 64) 0 (omega (arith, d)) in omega (arith, z, end)) h
 
 -- a greater number in the place of another, in a longer list
 module _ (old numbers numbers' : List ℕ) (index before new : ℕ) (longer : (n : ℕ) → get_or numbers n 0 ≡ get_or old n 0) (room : index < length numbers) (is : before ≡ get_or numbers index 0) (put : numbers' ≡ set numbers index new) where

@@ -10,3 +10,4 @@ pub mod Views
 pub mod Opened
 pub mod Sets
 pub mod Wides
+pub mod Marks

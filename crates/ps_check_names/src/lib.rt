@@ -2,9 +2,11 @@
 #![tactic(auto)]
 
 pub mod constants;
+pub mod marks;
 pub mod meaning;
 pub mod opened;
 pub mod reading;
 pub mod scope;
 pub mod sections;
+pub mod sets;
 pub mod wides;

@@ -7,20 +7,27 @@ ghost use Rattle.ps_tree.specs.Types.{DataType, field_in};
 ghost use Rattle.ps_tree.specs.View.{type_of};
 ghost use Rattle.ps_check_names.specs.Regions.{fields_of};
 ghost use Rattle.ps_check_names.specs.Opened.{HasField, reach_of, Covers, Keeps, NoneBehind, StandsIn, Placed};
-ghost use Rattle.ps_check_names.specs.Sets.{Reached};
+ghost use Rattle.ps_check_names.specs.Sets.{Holds, Reached};
 ghost use Rattle.ps_check_names.specs.Wides.{kind_of};
+ghost use Rattle.ps_check_names.specs.Marks.{IsMark, MarkedFor, Marked};
+ghost use Rattle.std.specs.Hash.FoldHasher.{finish};
 
-use crate::wides::{Wides, common_reach, insert, larger, names_of, raise_at};
+use crate::marks::{Mark, mark_all};
+use crate::sets::{insert, join};
+use crate::wides::{Wides, common_reach, larger, names_of, raise_at};
 use ps_tree::names::{Names, Seed};
 use ps_tree::types::Ty;
 use std::alloc::{AllocError, Global};
+use std::hash::FoldHasher;
 
 /// The types of the records that a `with` opens one after the other, each within those before it. A type that is no
 /// record has no fields.
 ///
 /// So that a name needs not be looked for in each of them, the names of their fields are noted. For a record with many
 /// fields that was done when its type was made, and it is only noted how far the last record of the type reaches. The
-/// first record of a `with` is asked, unless it has many fields: most have no other.
+/// first record of a `with` is asked, unless it has many fields: most have no other. So that a name needs not be looked
+/// for in each of many `with` statements round it, the marks of all these names are noted: most names without a field
+/// here have a mark that is not among them.
 #[derive(Drop)]
 pub struct Opened<'a> {
     pub records: Vec<Ty>,
@@ -31,6 +38,8 @@ pub struct Opened<'a> {
     // the names of fields, and how many of the records there are up to the last that has the field
     names: Names,
     reaches: Vec<usize>,
+    // the marks of the names of fields
+    marks: Vec<usize>,
     // the set of the types with many fields that are opened, and how many records there are up to the last of each
     present: Vec<usize>,
     latest: Vec<usize>,
@@ -38,6 +47,7 @@ pub struct Opened<'a> {
     places: Vec<Option<usize>>,
     ghost covers: { Covers records.items asked names reaches.items (kind_of wides.now.names
         (map (λ v. v.items) wides.now.kinds.items)) present.items latest.items },
+    ghost marked: { Marked records.items wides.now.start marks.items },
     ghost even: { length reaches.items ≡ length names },
     ghost placed: { Placed records.items places.items wides.now.types.items },
 }
@@ -156,6 +166,27 @@ fn note_record(
     }
 }
 
+/// Puts the marks of the names of a record's fields into a set, unless they are there.
+#[tactic(auto, using(crate::proofs::MarkLemmas::none_marked))]
+fn mark_record(
+    words: &mut Vec<usize>,
+    start: FoldHasher,
+    ty: &Ty,
+    is_marked: bool,
+) -> Result<(), AllocError>
+    requires { IsTrue is_marked → MarkedFor ty.now start words.old.items }
+    ensures kept { OnOk result ((n : ℕ) → Holds words.old.items n → Holds words.new.items n) }
+    ensures there { OnOk result (MarkedFor ty.now start words.new.items) }
+{
+    if is_marked {
+        return Ok(());
+    }
+    match names_of(ty) {
+        None => Ok(()),
+        Some(names) => mark_all(words, start, names),
+    }
+}
+
 /// The smaller of two.
 fn smaller(a: usize, b: usize) -> usize
     ensures within { result ≤ b }
@@ -176,7 +207,7 @@ fn place_at(places: &[Option<usize>], number: usize) -> Option<usize>
 
 impl<'a> Opened<'a> {
     /// No records, of a text with this seed and these types with many fields.
-    #[tactic(auto, using(crate::proofs::NoteLemmas::covers_none, crate::proofs::PlaceLemmas::placed_none))]
+    #[tactic(auto, using(crate::proofs::NoteLemmas::covers_none, crate::proofs::MarkLemmas::marked_none, crate::proofs::PlaceLemmas::placed_none))]
     pub fn new(alloc: Global, seed: Seed, wides: &'a Wides) -> Opened<'a>
         ensures { result.records.items ≡ [] }
     {
@@ -186,6 +217,7 @@ impl<'a> Opened<'a> {
             asked: 0,
             names: Names::new(alloc, seed),
             reaches: Vec::new(alloc),
+            marks: Vec::new(alloc),
             present: Vec::new(alloc),
             latest: Vec::new(alloc),
             places: Vec::new(alloc),
@@ -198,12 +230,13 @@ impl<'a> Opened<'a> {
     {
         match self.wides.number_of(&ty) {
             Some(number) => self.with_wide(ty, number),
-            None => self.with_narrow(alloc, ty),
+            None => self.with_narrow(alloc, ty, false),
         }
     }
 
-    /// The same of a record whose fields are noted with it.
-    fn with_narrow(self, alloc: Global, ty: Ty) -> Result<Opened<'a>, AllocError>
+    /// The same of a record whose fields are noted with it, and perhaps are marked already.
+    fn with_narrow(self, alloc: Global, ty: Ty, is_marked: bool) -> Result<Opened<'a>, AllocError>
+        requires { IsTrue is_marked → MarkedFor ty self.wides.now.start self.marks.items }
         ensures { IfOk result (λ opened. opened.records.items ≡ self.entry.records.items ++ ty ∷ []) }
     {
         let Opened {
@@ -212,12 +245,14 @@ impl<'a> Opened<'a> {
             mut asked,
             mut names,
             mut reaches,
+            mut marks,
             present,
             latest,
             mut places,
         } = self;
         let before = records.as_slice().len();
         note_record(alloc, &mut asked, &mut names, &mut reaches, before + 1, &ty)?;
+        mark_record(&mut marks, wides.start, &ty, is_marked)?;
         places.push(None)?;
         records.push(ty)?;
         Ok(Opened {
@@ -226,6 +261,7 @@ impl<'a> Opened<'a> {
             asked,
             names,
             reaches,
+            marks,
             present,
             latest,
             places,
@@ -243,11 +279,13 @@ impl<'a> Opened<'a> {
             asked,
             names,
             reaches,
+            mut marks,
             mut present,
             mut latest,
             mut places,
         } = self;
         let before = records.as_slice().len();
+        join(&mut marks, wides.marks_of(number))?;
         insert(&mut present, number)?;
         raise_at(&mut latest, number, before + 1)?;
         places.push(Some(number))?;
@@ -258,6 +296,7 @@ impl<'a> Opened<'a> {
             asked,
             names,
             reaches,
+            marks,
             present,
             latest,
             places,
@@ -277,7 +316,10 @@ impl<'a> Opened<'a> {
     {
         match place_at(self.places.as_slice(), like) {
             Some(number) => self.with_wide(another, number),
-            None => self.with(alloc, another),
+            None => {
+                let is_marked = like < self.records.as_slice().len();
+                self.with_narrow(alloc, another, is_marked)
+            }
         }
     }
 
@@ -341,7 +383,7 @@ impl<'a> Opened<'a> {
     }
 
     /// The number of records up to the last that may have a field of this name.
-    pub(crate) fn reach(&self, name: &[u8]) -> usize
+    fn marked_reach(&self, name: &[u8]) -> usize
         ensures within { result ≤ length self.now.records.items }
         ensures none { NoneBehind self.now.records.items result name.now }
     {
@@ -349,5 +391,28 @@ impl<'a> Opened<'a> {
         let reach = larger(noted, self.asked_reach(name));
         let count = self.records.as_slice().len();
         smaller(reach, count)
+    }
+
+    /// The same, at once where no field has the mark of the name.
+    pub(crate) fn reach(&self, name: &[u8], mark: Mark) -> usize
+        requires mark { IsMark mark.state mark.number name.now }
+        requires own { mark.state ≡ finish self.now.wides.now.start }
+        ensures within { result ≤ length self.now.records.items }
+        ensures none { NoneBehind self.now.records.items result name.now }
+    {
+        if mark.is_in(self.marks.as_slice()) {
+            self.marked_reach(name)
+        } else {
+            0
+        }
+    }
+
+    /// The mark of a name by which it is looked for here: the one that is known of it, if that is the same.
+    pub(crate) fn mark(&self, name: &[u8], known: Option<Mark>) -> Mark
+        requires { IfSome known (λ mark. IsMark mark.state mark.number name.now) }
+        ensures mark { IsMark result.state result.number name.now }
+        ensures own { result.state ≡ finish self.now.wides.now.start }
+    {
+        Mark::of(self.wides.start, name, known)
     }
 }

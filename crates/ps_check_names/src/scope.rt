@@ -7,7 +7,10 @@ ghost use Rattle.ps_check_judgement.specs.declared.refusal.Rule.TheVariants.{Wro
 ghost use Rattle.ps_check_names.specs.Regions.{Region, BlockRegion, one_more, missing, find_past, find};
 ghost use Rattle.ps_check_names.specs.Views.{meaning_of, opened_in, scope_of, point_of, found};
 ghost use Rattle.ps_check_names.specs.Denotes.{FindsWhatIsDenoted};
+ghost use Rattle.ps_check_names.specs.Marks.{IsMark};
+ghost use Rattle.std.specs.Hash.FoldHasher.{finish};
 
+use crate::marks::Mark;
 use crate::meaning::Meaning;
 use crate::opened::{Opened, field_of};
 use ps_check_judgement::answer::broken;
@@ -117,13 +120,20 @@ fn more(count: u32, further: usize) -> Option<u32>
 /// The number of opened records before what encloses these, the last of which is the innermost, if none of them has a
 /// field with this name; or else what ends the search.
 #[tactic(auto, using(crate::proofs::OpenedLemmas::behind_uncounted))]
-fn past_opened<'a>(opened: &'a Opened<'a>, which: u32, name: &[u8]) -> Result<u32, Lookup<'a>>
+fn past_opened<'a>(
+    opened: &'a Opened<'a>,
+    which: u32,
+    name: &[u8],
+    mark: Mark,
+) -> Result<u32, Lookup<'a>>
+    requires mark { IsMark mark.state mark.number name.now }
+    requires own { mark.state ≡ finish opened.now.wides.now.start }
     ensures ok { IfOk result (λ n. (up at : ℕ) (Γ : List Region) → find_past up which
         (opened_in Γ opened.now.records.items) name.now at ≡ find_past up n Γ name.now at) }
     ensures err { IfErr result (λ end. (up at : ℕ) (Γ : List Region) → find_past up which
         (opened_in Γ opened.now.records.items) name.now at ≡ found at end) }
 {
-    let reach = opened.reach(name);
+    let reach = opened.reach(name, mark);
     let behind = opened.records.len() - reach;
     match more(which, behind) {
         None => Err(Lookup::Broken(missing(name))),
@@ -166,6 +176,7 @@ pub fn find<'a>(scope: &'a Scope<'a>, name: &[u8]) -> Lookup<'a>
     let mut here = scope;
     let mut up = 0;
     let mut which = 0;
+    let mut known_mark = None;
     loop {
         match here {
             Scope::Outside => return Lookup::Broken(missing(name)),
@@ -182,10 +193,12 @@ pub fn find<'a>(scope: &'a Scope<'a>, name: &[u8]) -> Lookup<'a>
                 here = outer;
             }
             Scope::Opened { records, outer } => {
-                match past_opened(records, which, name) {
+                let mark = records.mark(name, known_mark);
+                match past_opened(records, which, name, mark) {
                     Ok(further) => which = further,
                     Err(end) => return end,
                 }
+                known_mark = Some(mark);
                 here = outer;
             }
             Scope::Own {

@@ -1,17 +1,22 @@
 //! The record types of a program that have many fields, and which of them have a field of a name.
 
-ghost use Rattle.std.specs.Prelude.{◌≡◌, ◌+◌, ◌≤◌, ◌<◌, ℕ, List, [], length, map, get_or, Some, None, set, IfSome, OnOk, IsTrue};
+ghost use Rattle.std.specs.Prelude.{◌≡◌, ◌+◌, ◌≤◌, ◌<◌, ℕ, List, [], length, map, get_or, Some, None, set, IfSome, IfNone, OnOk, IsTrue};
 ghost use Rattle.std.specs.Int.{bit_at};
 ghost use Rattle.ps_tree.specs.Names.{place};
 ghost use Rattle.ps_tree.specs.Types.{DataType, field_in};
 ghost use Rattle.ps_tree.specs.View.{type_of};
+ghost use Rattle.ps_check_names.specs.Regions.{fields_of};
 ghost use Rattle.ps_check_names.specs.Opened.{HasField, IsLike, StandsIn, has_many_fields};
 ghost use Rattle.ps_check_names.specs.Sets.{Holds, Reached};
 ghost use Rattle.ps_check_names.specs.Wides.{kind_of, Listed, KeepsKinds};
+ghost use Rattle.ps_check_names.specs.Marks.{MarkedFor, MarkedTypes};
 
+use crate::marks::mark_all;
+use crate::sets::{insert, lengthen, number_at, put};
 use ps_tree::names::{Names, Seed};
 use ps_tree::types::{Fields, Ty};
 use std::alloc::{AllocError, Global};
+use std::hash::{BuildHasher, FoldHasher};
 
 // A type with more fields is noted once, when it is made: to note all their names each time that such a record is opened
 // would take longer than to read the text that opens it.
@@ -39,8 +44,9 @@ fn all_names(fields: &Fields) -> &[Vec<u8>]
 /// The names of a record's fields.
 #[tactic(auto, unfolding(crate::specs::Regions::fields_of, ps_tree::specs::View::type_of))]
 pub(crate) fn names_of(ty: &Ty) -> Option<&[Vec<u8>]>
-    ensures { IfSome result (λ names. (s : List ℕ) → HasField ty.now s → (m : ℕ)
+    ensures names { IfSome result (λ names. (s : List ℕ) → HasField ty.now s → (m : ℕ)
         × (place (map (λ v. v.items) names.now) s ≡ Some m)) }
+    ensures none { IfNone result ((s : List ℕ) → field_in (fields_of (type_of ty.now)) s ≡ None) }
 {
     match ty {
         Ty::Record { fields, .. } => Some(all_names(fields)),
@@ -82,58 +88,6 @@ pub(crate) fn larger(a: usize, b: usize) -> usize
     ensures second { b ≤ result }
 {
     if a < b { b } else { a }
-}
-
-/// The number at a place, or 0.
-#[tactic(auto, using(crate::proofs::WideLemmas::number_there, crate::proofs::WideLemmas::number_past))]
-fn number_at(numbers: &[usize], index: usize) -> usize
-    ensures { result ≡ get_or numbers.now index 0 }
-{
-    match numbers.get(index) {
-        None => 0,
-        Some(number) => *number,
-    }
-}
-
-/// Adds zeros until there is a place.
-#[tactic(auto, using(crate::proofs::WideLemmas::zero_start, crate::proofs::WideLemmas::zero_next))]
-fn lengthen(numbers: &mut Vec<usize>, index: usize) -> Result<(), AllocError>
-    ensures room { OnOk result (index < length numbers.new.items) }
-    ensures same { OnOk result ((n : ℕ) → get_or numbers.new.items n 0 ≡ get_or numbers.old.items n 0) }
-{
-    while numbers.len() <= index {
-        numbers.push(0)?;
-    }
-    Ok(())
-}
-
-/// Puts a number in the place of another.
-fn put(numbers: &mut Vec<usize>, index: usize, number: usize)
-    requires { index < length numbers.old.items }
-    ensures { numbers.new.items ≡ set numbers.old.items index number }
-{
-    numbers[index] = number;
-}
-
-/// A word with one bit more.
-fn with_bit(word: usize, bit: usize) -> usize
-    requires { bit < 64 }
-    ensures there { bit_at result bit ≡ 1 }
-    ensures kept { (i : ℕ) → bit_at word i ≡ 1 → bit_at result i ≡ 1 }
-{
-    word | (1 << bit)
-}
-
-/// Puts a number into a set, which has a bit for each.
-#[tactic(auto, using(crate::proofs::WideLemmas::inserted, crate::proofs::WideLemmas::insert_kept))]
-pub(crate) fn insert(words: &mut Vec<usize>, number: usize) -> Result<(), AllocError>
-    ensures kept { OnOk result ((n : ℕ) → Holds words.old.items n → Holds words.new.items n) }
-    ensures there { OnOk result (Holds words.new.items number) }
-{
-    lengthen(words, number / 64)?;
-    let word = number_at(words.as_slice(), number / 64);
-    put(words, number / 64, with_bit(word, number % 64));
-    Ok(())
 }
 
 /// Makes the number at a place at least this one, where it was 0 if there was none.
@@ -288,15 +242,19 @@ fn key_of(at: u32) -> [u8; 4] {
 
 /// The record types of a program so far that have many fields, by their numbers. Each has an offset of its own, by which
 /// it is found. For the name of a field there is the set of the types that have it, so that none of them is asked for a
-/// name.
+/// name, and for each type there is the set of the marks of its fields' names.
 #[derive(Drop)]
 pub struct Wides {
     pub(crate) types: Vec<Ty>,
     keys: Names,
     pub(crate) names: Names,
     pub(crate) kinds: Vec<Vec<usize>>,
+    // how the hashes begin by which marks are made
+    pub(crate) start: FoldHasher,
+    pub(crate) marks: Vec<Vec<usize>>,
     ghost listed: { Listed types.items names (map (λ v. v.items) kinds.items) },
     ghost even: { length kinds.items ≡ length names },
+    ghost marked: { MarkedTypes types.items start (map (λ v. v.items) marks.items) },
 }
 
 impl Wides {
@@ -307,6 +265,8 @@ impl Wides {
             keys: Names::new(alloc, seed),
             names: Names::new(alloc, seed),
             kinds: Vec::new(alloc),
+            start: seed.build_hasher(),
+            marks: Vec::new(alloc),
         }
     }
 
@@ -328,9 +288,14 @@ impl Wides {
             mut keys,
             mut names,
             mut kinds,
+            start,
+            mut marks,
         } = self;
         let number = types.as_slice().len();
         note_all(alloc, &mut names, &mut kinds, fields, number)?;
+        let mut marked = Vec::new(alloc);
+        mark_all(&mut marked, start, fields)?;
+        marks.push(marked)?;
         let _added = keys.add(Vec::from_slice(alloc, key_of(at).as_slice())?)?;
         let copy = ty.copy()?;
         types.push(copy)?;
@@ -339,6 +304,8 @@ impl Wides {
             keys,
             names,
             kinds,
+            start,
+            marks,
         })
     }
 
@@ -370,6 +337,16 @@ impl Wides {
         match self.kinds.get(index) {
             None => &[],
             Some(kind) => kind.as_slice(),
+        }
+    }
+
+    /// The set of the marks of the names of the fields of the type with this number.
+    pub(crate) fn marks_of(&self, number: usize) -> &[usize]
+        ensures { result.now ≡ get_or (map (λ v. v.items) self.now.marks.items) number [] }
+    {
+        match self.marks.get(number) {
+            None => &[],
+            Some(marked) => marked.as_slice(),
         }
     }
 }

@@ -1,5 +1,5 @@
 use Rattle.std.proofs.Common.{◌≡◌, ◌+◌, ◌-◌, ℕ, length, get_or}
-use Rattle.ps_check_names.proofs.wides.lengthen.Given as goal
+use Rattle.ps_check_names.proofs.sets.lengthen.Given as goal
 
 -- no number is changed so far
 abbrev pub invariant-loop-numbers : goal.invariant-loop-numbers
