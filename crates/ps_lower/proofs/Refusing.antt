@@ -57,6 +57,14 @@ whole_refused (Err y) P refusal start code whole e none is h =
     subst (λ f. IsRefused f (length whole)) (sym e)
     (subst (λ l. IsRefused refusal (length l)) (ap (λ o. o ++ code) none ∙ is) h)
 
+-- a refusal of a whole that was made from nothing
+pub made_refused : {X : Type 0} (r : Result X LowerRefusal) (refusal : LowerRefusal)
+    (start new code whole : List Instruction) → r ≡ Err refusal → start ≡ [] → code ≡ whole → Adds r start new code
+    → IsRefused refusal (length whole)
+made_refused r refusal start new code whole e none is h =
+    subst (λ l. IsRefused refusal (length l)) (ap (λ o. o ++ code) none ∙ is)
+    (subst (λ x. Adds x start new code) e h)
+
 -- an item of a list
 pub item_refused : {A : Type 0} (code : List A → List Instruction) (one : A → List Instruction)
     → ((x : A) (xs : List A) → code (x ∷ xs) ≡ one x ++ code xs) → (refusal : LowerRefusal) (start : List Instruction)

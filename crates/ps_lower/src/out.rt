@@ -21,6 +21,8 @@ pub struct Code {
     begun: u32,
     /// The number of the statement that the next instruction is of.
     statement: u32,
+    /// How many instructions are made at most.
+    most: usize,
 }
 
 impl Model for Code {
@@ -37,8 +39,8 @@ ghost use Rattle.tac_code.specs.declared.code.Instruction.{Instruction};
 ghost use Rattle.tac_code.specs.declared.code.Instruction.TheVariants as i;
 
 impl Code {
-    /// No instructions.
-    pub fn new(alloc: Global) -> Code
+    /// No instructions. More than `most` are refused, as if there were no memory for them.
+    pub fn new(alloc: Global, most: usize) -> Code
         ensures { result ≡ [] }
     {
         Code {
@@ -47,7 +49,13 @@ impl Code {
             marks: Vec::new(alloc),
             begun: 0,
             statement: 0,
+            most,
         }
+    }
+
+    /// Whether a further instruction is refused, whatever memory there is.
+    pub fn is_full(&self) -> bool {
+        self.list.len() >= self.most
     }
 
     /// Where memory comes from.
@@ -97,6 +105,9 @@ impl Code {
     fn add(&mut self, instruction: Instruction, at: Option<u32>) -> Result<(), AllocError>
         ensures { OnOk result (self.new ≡ self.old ++ instruction ∷ []) }
     {
+        if self.is_full() {
+            return Err(AllocError);
+        }
         self.list.push(instruction)?;
         self.marks.push(Mark {
             statement: self.statement,

@@ -1,6 +1,6 @@
 // The code of routines.
 
-ghost use Rattle.std.specs.Prelude.{◌≡◌, ◌++◌, ◌+◌, ◌*◌, ◌≤◌, length, OnOk, IfOk, MatchResult, option_map};
+ghost use Rattle.std.specs.Prelude.{◌≡◌, ◌++◌, ◌+◌, ◌*◌, ◌≤◌, length, OnOk, IfOk, IfSome, MatchResult, option_map};
 ghost use Rattle.ps_lower_bounds.specs.Weights.{statements_weight, result_weight, begin_weight, routine_weight};
 ghost use Rattle.ps_lower_code.specs.Programs.{tac_of};
 ghost use Rattle.ps_lower_code.specs.Routines.{input_code, parameter_total, begin_code, result_end, end_code};
@@ -22,12 +22,16 @@ use crate::marks::Mark;
 use crate::numbers::{larger, narrow};
 use crate::out::Code;
 use crate::parameters::{count_parameters, parameters};
-use crate::refusal::{LowerRefusal, lifted};
+use crate::refusal::{LowerRefusal, MOST_INSTRUCTIONS, lifted};
 use crate::statements::statements;
+use ps_lower_least::fewest;
 use ps_tree::tree::Routine;
 use ps_tree::types::Ty;
 use std::alloc::{AllocError, Global};
 use tac_code::code::{Base, Body, Instruction, TacRoutine};
+
+/// So many instructions are made of a routine at first, twice as many as an image holds: they take some 150 MB.
+const MOST_MADE: usize = 2_097_152;
 
 /// No frame has more words.
 const MOST_WORDS: u32 = 250_000_000;
@@ -194,7 +198,43 @@ fn block(
     lifted(finish(out, routine))
 }
 
+/// The instructions of a routine, if they are no more than `most`; their marks are added to those of the routines before
+/// it.
+fn body_within(
+    alloc: Global,
+    checked: &Frames,
+    routine: &Routine,
+    words: u32,
+    t: u32,
+    marks: &mut Vec<Vec<Mark>>,
+    most: usize,
+) -> Result<Option<Body>, LowerRefusal>
+    requires small { words ≤ MOST_WORDS }
+    requires exact { words ≡ words_in (routine_of routine.now) }
+    requires free { t ≤ DEEPEST }
+    requires total { t ≡ parameter_total (routine_of routine.now) }
+    requires light { begin_weight (routine_of routine.now) ≤ DEEPEST }
+    requires body { statements_weight (scope_in (program_in checked.now) (routine_of routine.now))
+        (routine_of routine.now).body 0 ≤ DEEPEST }
+    ensures { MatchResult result (λ made. IfSome made (λ body. body ≡ routine_code (program_in checked.now)
+        (routine_of routine.now))) (λ refusal. IsRefused refusal (length (routine_code (program_in checked.now)
+        (routine_of routine.now)))) }
+{
+    let k = level(checked, routine);
+    let mut out = Code::new(alloc, most);
+    if let Err(refusal) = block(&mut out, &k, routine, words, t) {
+        if out.is_full() {
+            return Ok(None);
+        }
+        return Err(refusal);
+    }
+    marks.push(out.take_marks())?;
+    Ok(Some(out.into_body()?))
+}
+
 /// The instructions of a routine; their marks are added to those of the routines before it.
+///
+/// Where they would take too much memory, it is first looked whether they are too many for an image anyway.
 fn body(
     alloc: Global,
     checked: &Frames,
@@ -213,11 +253,16 @@ fn body(
     ensures { MatchResult result (λ body. body ≡ routine_code (program_in checked.now) (routine_of routine.now))
         (λ refusal. IsRefused refusal (length (routine_code (program_in checked.now) (routine_of routine.now)))) }
 {
-    let k = level(checked, routine);
-    let mut out = Code::new(alloc);
-    block(&mut out, &k, routine, words, t)?;
-    marks.push(out.take_marks())?;
-    Ok(out.into_body()?)
+    if let Some(body) = body_within(alloc, checked, routine, words, t, marks, MOST_MADE)? {
+        return Ok(body);
+    }
+    if fewest(&routine.body) > MOST_INSTRUCTIONS as u64 {
+        return Err(LowerRefusal::CodeTooLarge);
+    }
+    match body_within(alloc, checked, routine, words, t, marks, usize::MAX)? {
+        Some(body) => Ok(body),
+        None => Err(LowerRefusal::OutOfMemory),
+    }
 }
 
 /// A routine of the program; the marks of its instructions are added to those of the routines before it.

@@ -1,0 +1,3 @@
+mod Gathering
+mod Arms
+mod Bounding
