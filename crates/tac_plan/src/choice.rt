@@ -19,7 +19,7 @@ fn parts_of(
     let mut parts = Vec::with_capacity(alloc, regions.len())?;
     for region in regions {
         let pins = pins_in(alloc, site, items, *region)?;
-        if pins.len() > 0 {
+        if pins.list.len() > 0 {
             parts.push(Part {
                 region: *region,
                 pins,
@@ -62,7 +62,7 @@ fn minded_of(
 ) -> Result<Vec<usize>, OutOfMemory> {
     let mut minded = Vec::new(alloc);
     for part in parts {
-        for pin in part.pins.iter() {
+        for pin in part.pins.list.iter() {
             mind(&mut minded, items, pin.item)?;
         }
         if site.flow.first_call >= part.region.behind() {

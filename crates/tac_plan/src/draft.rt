@@ -3,8 +3,8 @@
 use crate::addresses::{Address, Again, Value};
 use crate::flow::{Flow, NONE, Way, is_counted, is_join, is_turn, lives_at, way_at};
 use crate::regions::Region;
-use crate::sets::{CONSIDERED, all_below, has, set_of, short};
-use crate::words::{Items, Pin, Site};
+use crate::sets::{CONSIDERED, all_below, has, least, set_of, short};
+use crate::words::{Items, Pins, Site};
 use std::alloc::Global;
 use std::mem;
 use tac_code::code::{Base, Instruction, OutOfMemory};
@@ -20,7 +20,7 @@ const NOWHERE: Reach = Reach::Within(0, 0);
 #[derive(Drop)]
 pub struct Part {
     pub region: Region,
-    pub pins: Vec<Pin>,
+    pub pins: Pins,
 }
 
 /// A word that is kept in mind, and what becomes of it where the draft stands.
@@ -58,12 +58,17 @@ pub struct Draft<'a> {
     has_loops: bool,
     // the place before which stores of what never changes wait, or none
     settles: usize,
+    // whether nobody but the routine's own loads comes to words
+    is_unseen: bool,
     items: &'a Items,
     words: Vec<Held>,
     // of each old temporary the new one that holds it
     holders: Vec<u32>,
     steps: Vec<Step>,
     region: Option<Region>,
+    // the temporaries whose values may stand in others, and those that they may stand in
+    moved: u64,
+    open: u64,
     // the address that is computed again next
     again: Option<Again>,
     // what is claimed in the region where these are alive and words are held
@@ -154,11 +159,14 @@ impl<'a> Draft<'a> {
             first_call: site.flow.first_call,
             has_loops: site.flow.has_loops,
             settles: settles(site.flow),
+            is_unseen: false,
             items,
             words,
             holders,
             steps: Vec::with_capacity(alloc, site.flow.ways.len())?,
             region: None,
+            moved: 0,
+            open: 0,
             again: None,
             common: None,
             alive: 0,
@@ -196,11 +204,17 @@ impl<'a> Draft<'a> {
 
     fn enter(&mut self, part: &Part) {
         self.region = Some(part.region);
+        self.moved = part.pins.moved;
+        self.open = part.pins.open;
+        if !self.has_loops && !part.pins.is_seen {
+            self.is_unseen = true;
+            self.settles = NONE;
+        }
         self.common = None;
         for at in 0..self.holders.len() {
             self.holders[at] = short(at);
         }
-        for pin in part.pins.iter() {
+        for pin in part.pins.list.iter() {
             if pin.item < self.items.list.len() {
                 let at = self.items.list[pin.item].minded;
                 if at < self.words.len() {
@@ -239,7 +253,7 @@ impl<'a> Draft<'a> {
     // whether nobody looks at a word from a place on
     fn is_dead(&self, place: usize, held: &Held) -> bool {
         if !self.has_loops {
-            return place > held.last && !way_at(self.ways, place).looks;
+            return place > held.last && (self.is_unseen || !way_at(self.ways, place).looks);
         }
         let is_inside = match self.region {
             Some(region) => place >= region.start && place < region.behind(),
@@ -264,7 +278,8 @@ impl<'a> Draft<'a> {
 
     // whether a word that is held may wait where jumps lead
     fn may_wait(&self, held: &Held, way: &Way) -> bool {
-        held.is_stored || (held.is_fixed && self.settles > 0 && !way.looks)
+        let is_unseen = self.is_unseen || !way.looks;
+        held.is_stored || (held.is_fixed && self.settles > 0 && is_unseen)
     }
 
     // what is known where jumps lead; whether words are held in common
@@ -584,11 +599,37 @@ impl<'a> Draft<'a> {
         Action::Keep(holder)
     }
 
-    // where an old temporary is given something: in itself, unless that keeps an address
+    // where an old temporary is given something: in itself, unless that keeps an address or a word, or another value
     fn new_for(&self, place: usize, temporary: u32) -> u32 {
+        if has(self.moved, temporary) {
+            return self.place_for(place, temporary);
+        }
         match self.again {
             Some(again) if again.holder == temporary && place < again.until => again.instead,
             _ => temporary,
+        }
+    }
+
+    // what the values stand in that are used behind a place, but for one
+    fn taken(&self, place: usize, temporary: u32) -> u64 {
+        let mut set = 0;
+        let mut rest = lives_at(self.ways, place.saturating_add(1)) & !set_of(temporary);
+        for _ in 0..CONSIDERED {
+            if rest == 0 {
+                return set;
+            }
+            set |= set_of(self.holder_of(rest.trailing_zeros()));
+            rest &= rest.wrapping_sub(1);
+        }
+        set
+    }
+
+    fn place_for(&self, place: usize, temporary: u32) -> u32 {
+        let open = self.open & !self.taken(place, temporary);
+        if has(open, temporary) {
+            temporary
+        } else {
+            least(open).unwrap_or(temporary)
         }
     }
 
@@ -662,6 +703,9 @@ impl<'a> Draft<'a> {
         let Some(found) = address else {
             return;
         };
+        if self.moved != 0 {
+            return;
+        }
         let holder = match was {
             Some(again) if place == again.until => again.holder,
             _ => found.holder,

@@ -58,6 +58,8 @@ pub struct Way {
     pub looks: bool,
     /// Whether what it gives is used only before any place where jumps lead, any call and any store of a word.
     pub is_short: bool,
+    /// The same, whatever is stored.
+    pub is_local: bool,
 }
 
 impl Way {
@@ -93,6 +95,7 @@ const NO_WAY: Way = Way {
     falls: false,
     looks: false,
     is_short: false,
+    is_local: false,
 };
 
 /// What is known of a place.
@@ -122,7 +125,7 @@ pub fn lives_at(ways: &[Way], place: usize) -> u64 {
 #[derive(Drop)]
 pub struct Flow {
     pub ways: Vec<Way>,
-    /// The first call, or the end.
+    /// The first call, or no place.
     pub first_call: usize,
     /// The last call, or load through an address.
     pub last_look: usize,
@@ -327,29 +330,36 @@ struct Back {
     across: u64,
 }
 
-// What is alive behind a place, and what of it goes on to where jumps lead, over a call, or over a store of a word; and
-// whether words may be looked at there.
+// What is alive behind a place, and what of it goes on to where jumps lead or over a call, and those or over a store of a
+// word; and whether words may be looked at there.
 #[derive(Clone, Copy)]
 struct Behind {
     alive: u64,
+    far: u64,
     bound: u64,
     looks: bool,
 }
 
 fn behind_place(ways: &[Way], way: &Way, next: Behind, is_next_join: bool) -> Behind {
     let mut alive = 0;
+    let mut far = 0;
     let mut bound = 0;
     let mut looks = false;
     if way.falls {
         alive = next.alive;
         looks = next.looks;
+        far = if is_next_join { next.alive } else { next.far };
         bound = if is_next_join { next.alive } else { next.bound };
     }
     if way.target != NONE {
         let there = lives_at(ways, way.target);
         alive |= there;
+        far |= there;
         bound |= there;
         looks = looks || way_at(ways, way.target).looks;
+    }
+    if way.calls() {
+        far |= alive;
     }
     let is_store = way.kind == Kind::Own && way.writes == 0;
     if is_store || way.calls() {
@@ -357,6 +367,7 @@ fn behind_place(ways: &[Way], way: &Way, next: Behind, is_next_join: bool) -> Be
     }
     Behind {
         alive,
+        far,
         bound,
         looks,
     }
@@ -369,6 +380,7 @@ fn walk_back(ways: &mut [Way]) -> Back {
     };
     let mut next = Behind {
         alive: 0,
+        far: 0,
         bound: 0,
         looks: false,
     };
@@ -387,8 +399,10 @@ fn walk_back(ways: &mut [Way]) -> Back {
         let looks = found.looks || way.is_look();
         ways[place].looks = looks;
         ways[place].is_short = found.bound & way.writes == 0;
+        ways[place].is_local = found.far & way.writes == 0;
         next = Behind {
             alive,
+            far: found.far & !way.writes,
             bound: found.bound & !way.writes,
             looks,
         };
@@ -405,7 +419,7 @@ impl Flow {
         };
         let mut flow = Flow {
             ways: vec![in alloc; nothing; body.len()]?,
-            first_call: body.len(),
+            first_call: NONE,
             last_look: 0,
             across: 0,
             has_loops: false,

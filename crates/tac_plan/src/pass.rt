@@ -23,7 +23,7 @@ use tac_pass::walk::{starts_of, walk};
 
 // Plans are chosen for so many places, and for an eighth of all that there are: to choose and to walk takes some 2,000
 // instructions of the host a place, where the rest of the compiler takes 4,500.
-const CHOSEN: usize = 192;
+const CHOSEN: usize = 384;
 
 fn places_of(routines: &[TacRoutine]) -> usize {
     let mut places = 0usize;

@@ -43,6 +43,8 @@ pub struct Item {
     won: u64,
     // the old temporaries that are not needed then
     soft: u64,
+    // those among them that are counted on in the next turn
+    turned: u64,
 }
 
 /// The words of a body.
@@ -91,6 +93,7 @@ impl Items {
             is_stored: false,
             won: 0,
             soft: 0,
+            turned: 0,
         })?;
         Ok(count)
     }
@@ -127,6 +130,7 @@ impl Items {
                 is_stored: false,
                 won: 0,
                 soft: 0,
+                turned: 0,
                 ..item
             };
         }
@@ -209,6 +213,8 @@ struct Look<'a> {
     is_seen: bool,
     // the temporaries that are needed whatever is held
     hard: u64,
+    // those of them in which something goes on to where jumps lead, or comes from a call
+    fixed: u64,
     // the loops around
     depth: u32,
     // what calls weigh
@@ -244,6 +250,7 @@ impl<'a> Look<'a> {
             is_lost: false,
             is_seen: false,
             hard: 0,
+            fixed: 0,
             depth: 0,
             calls: 0,
             least: if site.flow.has_loops { 7 } else { 0 },
@@ -419,10 +426,21 @@ impl<'a> Look<'a> {
         if stores > 1 || self.is_after_call {
             self.wild |= way.writes;
         }
-        if way.is_short || is_turn(self.ways, place, way) {
+        if way.is_short {
             items.list[at].soft |= way.writes;
+        } else if is_turn(self.ways, place, way) {
+            items.list[at].soft |= way.writes;
+            items.list[at].turned |= way.writes;
         } else {
-            self.hard |= way.writes;
+            self.need(way);
+        }
+    }
+
+    // what a place gives needs its temporary
+    fn need(&mut self, way: &Way) {
+        self.hard |= way.writes;
+        if !way.is_local {
+            self.fixed |= way.writes;
         }
     }
 
@@ -450,7 +468,7 @@ impl<'a> Look<'a> {
         if way.given < items.list.len() {
             items.list[way.given].soft |= way.writes;
         } else {
-            self.hard |= way.writes;
+            self.need(way);
         }
         Ok(())
     }
@@ -476,6 +494,11 @@ impl<'a> Look<'a> {
             self.depth = self.depth.saturating_sub(1);
         }
         Ok(())
+    }
+
+    // whether others, or an address, may come to words of the own frame
+    fn may_see(&self) -> bool {
+        self.is_after_call || self.is_seen || self.ranges.len() > 0
     }
 
     fn is_met(&self, word: u32) -> bool {
@@ -675,13 +698,131 @@ pub struct Site<'a> {
     pub flow: &'a Flow,
 }
 
+/// What a region holds.
+#[derive(Drop)]
+pub struct Pins {
+    /// The words.
+    pub list: Vec<Pin>,
+    /// The temporaries whose values may stand in others; none where no value has to.
+    pub moved: u64,
+    /// The temporaries that these may stand in.
+    pub open: u64,
+    /// Whether others, or an address, may come to words of the own frame.
+    pub is_seen: bool,
+}
+
+impl Pins {
+    fn none(alloc: Global) -> Pins {
+        Pins {
+            list: Vec::new(alloc),
+            moved: 0,
+            open: 0,
+            is_seen: true,
+        }
+    }
+}
+
+fn holders_of(pins: &[Pin]) -> u64 {
+    let mut set = 0;
+    for pin in pins {
+        set |= set_of(pin.holder);
+    }
+    set
+}
+
+// The temporaries in which something stands that can't be moved, if these words are held.
+fn unmoved(items: &Items, held: &[usize], look: &Look<'_>) -> u64 {
+    let mut set = look.fixed | lives_at(look.ways, look.region.behind());
+    for (at, item) in items.list.iter().enumerate() {
+        if !is_among(held, at) {
+            set |= item.turned;
+        }
+    }
+    set
+}
+
+// Whether what a place gives stands in the holder of a word that is held.
+fn is_shared(held: &[usize], ways: &[Way], place: usize, way: &Way) -> bool {
+    is_among(held, way.given)
+        || (is_among(held, way.item) && (way.is_short || is_turn(ways, place, way)))
+}
+
+// Whether the values that are moved have room wherever they are alive.
+fn has_room(held: &[usize], look: &Look<'_>, holders: u64, moved: u64, open: u64) -> bool {
+    let room = open.count_ones();
+    let mut shared = lives_at(look.ways, look.region.start) & holders;
+    for place in look.region.start..look.region.behind() {
+        if place < look.ways.len() {
+            let way = look.ways[place];
+            shared &= !way.writes;
+            if way.writes != 0 && is_shared(held, look.ways, place, &way) {
+                shared |= way.writes;
+            }
+            let alive = lives_at(look.ways, place.saturating_add(1)) | way.writes;
+            if (alive & moved & !shared).count_ones() > room {
+                return false;
+            }
+        }
+    }
+    true
+}
+
+// Holders for words, where values that are in the way stand in other temporaries. None where there aren't enough.
+fn moved_pins(
+    alloc: Global,
+    items: &Items,
+    held: &[usize],
+    look: &Look<'_>,
+    usable: u64,
+) -> Result<Option<Pins>, OutOfMemory> {
+    let open = usable & !unmoved(items, held, look);
+    let list = pins_of(alloc, items, held, look, open)?;
+    if list.len() != held.len() {
+        return Ok(None);
+    }
+    let holders = holders_of(list.as_slice());
+    let begun = open_for(items, held, look, open);
+    let moved = begun.free | begun.passed;
+    let rest = moved & !holders;
+    if !has_room(held, look, holders, moved, rest) {
+        return Ok(None);
+    }
+    Ok(Some(Pins {
+        list,
+        moved,
+        open: rest,
+        is_seen: look.may_see(),
+    }))
+}
+
+// Holders for the first words of a choice; none where there aren't enough.
+fn held_pins(
+    alloc: Global,
+    items: &Items,
+    held: &[usize],
+    look: &Look<'_>,
+    usable: u64,
+) -> Result<Option<Pins>, OutOfMemory> {
+    let open = usable & !needed(items, held, look.hard);
+    let list = pins_of(alloc, items, held, look, open)?;
+    if list.len() == held.len() {
+        return Ok(Some(Pins {
+            list,
+            moved: 0,
+            open: 0,
+            is_seen: look.may_see(),
+        }));
+    }
+    moved_pins(alloc, items, held, look, usable)
+}
+
 /// Chooses what a region holds, the word that is worth most first.
 pub fn pins_in(
     alloc: Global,
     site: &Site<'_>,
     items: &mut Items,
     region: Region,
-) -> Result<Vec<Pin>, OutOfMemory> {
+) -> Result<Pins, OutOfMemory> {
     items.clear();
     let body = site.routine.body.as_slice();
     let ways = site.flow.ways.as_slice();
@@ -693,20 +834,18 @@ pub fn pins_in(
         }
     }
     if look.is_lost {
-        return Ok(Vec::new(alloc));
+        return Ok(Pins::none(alloc));
     }
     let choice = chosen(alloc, items, &look)?;
     let mut many = choice.list.len();
     for _ in 0..choice.list.len() {
         if many <= choice.list.len() {
             let held = &choice.list.as_slice()[..many];
-            let open = usable & !needed(items, held, look.hard);
-            let pins = pins_of(alloc, items, held, &look, open)?;
-            if pins.len() == many {
+            if let Some(pins) = held_pins(alloc, items, held, &look, usable)? {
                 return Ok(pins);
             }
         }
         many = many.saturating_sub(1);
     }
-    Ok(Vec::new(alloc))
+    Ok(Pins::none(alloc))
 }
