@@ -2,7 +2,7 @@
 use Rattle.std.proofs.Common.{◌≡◌, ◌⊎◌, ◌∙◌, ◌==◌, ap, refl, sym, subst, ℕ, Bool, true, false, List, Some, None, String}
 use Rattle.std.proofs.Common.{Option, inl, inr, length, map, string_bytes}
 use Rattle.std.proofs.lemmas.Bool.{and_parts, true≢false}
-use Rattle.std.specs.Prelude.{IfOk, IfSome, Result, Ok, Err, option_map}
+use Rattle.std.specs.Prelude.{IfOk, Result, Ok, Err, option_map}
 use Rattle.std.specs.Str.{bytes_eq}
 use Rattle.ps_build.specs.Headline.{Compiles}
 use Rattle.ps_needs_image.specs.Needed.{IsNeeded}
@@ -15,7 +15,7 @@ use Rattle.pascal_certificate.specs.declared.made.Seal.{Seal}
 use Rattle.pascal_certificate.specs.declared.comparison.Comparison.{Comparison}
 use Rattle.pascal_certificate.specs.declared.comparison.Found.{Found}
 use Rattle.pascal_cli.specs.Certificates.{HasAnother, IsBeside, IsBuiltOf, IsComparison, is_same}
-use Rattle.pascal_cli.specs.Certificates.{HasCertificate, TellsLeast, TellsOfStack, TellsStack, least_text}
+use Rattle.pascal_cli.specs.Certificates.{HasCertificate, KnowsStack, TellsOfStack, TellsStack, least_text}
 use Rattle.pascal_cli.specs.Certificates.{stack_told}
 use Rattle.pascal_cli.specs.declared.certificates.Beside.{Beside}
 use Rattle.pascal_cli.specs.declared.certificates.Beside.TheVariants.{Other, Refused, Same}
@@ -40,20 +40,23 @@ built_of source image Other is = inr is
 built_of source image Refused is = inl is
 
 -- the least stack that is told is that of what is needed
+knows : (known : Option (List ℕ)) (source : List ℕ) (needed : Needed) → IsNeeded source needed
+    → known ≡ least_text needed.need → KnowsStack source known
+knows None source needed is e = inr (needed, is, sym e)
+knows (Some value) source needed is e = (needed, is, sym e)
+
 pub least_is : {Z E : Type 0} (r : Result (Option (String Z)) E) (source : List ℕ) (needed : Needed)
     → IsNeeded source needed
     → IfOk r (λ told. option_map (λ text. string_bytes text) told ≡ least_text needed.need)
-    → IfOk r (λ told. IfSome told (λ text. TellsLeast source (string_bytes text)))
-least_is (Ok None) source needed is e = tt
-least_is (Ok (Some text)) source needed is e = (needed, is, sym e)
+    → IfOk r (λ told. KnowsStack source (option_map (λ text. string_bytes text) told))
+least_is (Ok told) source needed is e = knows (option_map (λ text. string_bytes text) told) source needed is e
 least_is (Err error) source needed is e = tt
 
 -- what is known of the stack is told
-pub stack_is_told : {Z : Type 0} (source : List ℕ) (known : Option (String Z))
-    → IfSome known (λ text. TellsLeast source (string_bytes text))
-    → TellsStack source (stack_told (option_map (λ text. string_bytes text) known))
-stack_is_told source None is = inl refl
-stack_is_told source (Some text) is = inr is
+pub stack_is_told : (source : List ℕ) (known : Option (List ℕ)) → KnowsStack source known
+    → TellsStack source (stack_told known)
+stack_is_told source None is = inl (refl, is)
+stack_is_told source (Some value) is = inr is
 
 -- what is found of a source and an image is compared with the values of a certificate
 compared_with : (values : List (List ℕ)) (found : Found) (comparison : Comparison) (source image : List ℕ)

@@ -12,6 +12,9 @@ pub mod GivenRows
 pub mod Leaves
 pub mod LineWalk
 pub mod Made
+pub mod NeededLines
+pub mod Numbers
+pub mod OptionWords
 pub mod Ran
 pub mod RowReads
 mod Settled

@@ -51,9 +51,19 @@ least_text (Endless path) = None
 abbrev pub TellsLeast : (source value : List ℕ) → Type 0
 TellsLeast source value = (needed : Needed) × IsNeeded source needed × (least_text needed.need ≡ Some value)
 
--- or that none is known
+-- no stack is enough for each run of that image, or the source is refused
+abbrev pub HasNoLeast : (source : List ℕ) → Type 0
+HasNoLeast source =
+    HasRefusal source ⊎ ((needed : Needed) × IsNeeded source needed × (least_text needed.need ≡ None))
+
+-- what is known of the stack: the least, or that there is none
+abbrev pub KnowsStack : (source : List ℕ) → (known : Option (List ℕ)) → Type 0
+KnowsStack source (Some value) = TellsLeast source value
+KnowsStack source None = HasNoLeast source
+
+-- this tells the least stack, or that there is none
 abbrev pub TellsStack : (source value : List ℕ) → Type 0
-TellsStack source value = (value ≡ codes "not known") ⊎ TellsLeast source value
+TellsStack source value = ((value ≡ codes "not known") × HasNoLeast source) ⊎ TellsLeast source value
 
 abbrev pub stack_told : Option (List ℕ) → List ℕ
 stack_told told = unwrap_or told (codes "not known")

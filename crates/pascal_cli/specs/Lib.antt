@@ -7,9 +7,11 @@ pub mod Explain
 pub mod Failures
 pub mod Files
 pub mod Jobs
+pub mod NeedLines
 pub mod Options
 pub mod Report
 pub mod Runs
 pub mod Session
 pub mod Transfers
+pub mod Wanted
 pub mod Watched

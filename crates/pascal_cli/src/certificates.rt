@@ -13,13 +13,14 @@ ghost use Rattle.std.specs.Prelude.{
   ℕ,
 };
 ghost use Rattle.pascal_certificate.specs.Form.{CertifiesWith};
+ghost use Rattle.ps_build.specs.Accepts.{IsRefused};
 ghost use Rattle.ps_build.specs.Headline.{Compiles};
 ghost use Rattle.pascal_cli.specs.Command as work;
 ghost use Rattle.pascal_cli.specs.Command.{request_in, work_of};
 ghost use Rattle.pascal_cli.specs.Certificates.{AreCertified, AreOthers, CertifiesSome, HasCertificate, HoldsNot};
-ghost use Rattle.pascal_cli.specs.Certificates.{IsBeside, IsBuiltOf, IsComparison, IsFound, IsNotBuilt};
+ghost use Rattle.pascal_cli.specs.Certificates.{IsBeside, IsBuiltOf, IsComparison, IsFound, IsNotBuilt, KnowsStack};
 ghost use Rattle.pascal_cli.specs.Certificates.{NoCertificate, NoneHolding, SomeCertificate, SomeCertified, SomeHolding, SomeOthers};
-ghost use Rattle.pascal_cli.specs.Certificates.{TellsLeast, TellsOfStack, TellsStack, is_same, least_text, stack_told};
+ghost use Rattle.pascal_cli.specs.Certificates.{TellsOfStack, TellsStack, is_same, least_text, stack_told};
 ghost use Rattle.pascal_cli.specs.Failures.{Answers, Keeps, Notes, Tells, has_failed};
 ghost use Rattle.pascal_cli.specs.Jobs.{IsStatus};
 
@@ -112,20 +113,31 @@ fn least_of(alloc: Global, needed: &Needed) -> Result<Option<String>, AllocError
     }
 }
 
+// That no stack is enough for a source that is refused for what it says.
+fn no_stack(source: &[u8], refusal: Refusal) -> Result<Option<String>, AllocError>
+    requires { IsRefused source.now refusal }
+    ensures { IfOk result (λ told. KnowsStack source.now (option_map (λ text. string_bytes text) told)) }
+{
+    let _ = source;
+    match refusal {
+        Refusal::OutOfMemory => Err(AllocError),
+        _ => Ok(None),
+    }
+}
+
 // The bytes of stack that are enough for the image of a source, if it has one and there is such a number.
 fn stack_of(alloc: Global, source: &[u8]) -> Result<Option<String>, AllocError>
-    ensures { IfOk result (λ told. IfSome told (λ text. TellsLeast source.now (string_bytes text))) }
+    ensures { IfOk result (λ told. KnowsStack source.now (option_map (λ text. string_bytes text) told)) }
 {
     match needs_of(alloc, source) {
         Ok(needed) => least_of(alloc, &needed),
-        Err(Refusal::OutOfMemory) => Err(AllocError),
-        Err(_) => Ok(None),
+        Err(refusal) => no_stack(source, refusal),
     }
 }
 
 // What is known of the program, and of the image of a source.
 fn known_of<R: Files + Env + AllocGlobal>(rt: &R, source: &[u8]) -> Result<Known, AllocError>
-    ensures { IfOk result (λ known. IfSome known.stack (λ text. TellsLeast source.now (string_bytes text))) }
+    ensures { IfOk result (λ known. KnowsStack source.now (option_map (λ text. string_bytes text) known.stack)) }
 {
     let stack = stack_of(rt.alloc(), source)?;
     let file = program_seal(rt)?;

@@ -12,6 +12,7 @@ mod failures;
 mod image_file;
 mod job;
 mod jobs;
+mod need_lines;
 mod needs;
 mod options;
 mod report;

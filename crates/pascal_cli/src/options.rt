@@ -1,10 +1,30 @@
 //! The options that are taken out of the words before `clap` reads them: how much is told, how, and where it goes.
 //!
-//! Contracts tell which words stay. What is told by an option, no contract tells.
+//! Contracts tell which words stay, and what the options ask for. What is then told, no contract tells.
 
-ghost use Rattle.std.specs.Prelude.{◌≡◌, ◌++◌, IfOk, OnOk, [], ◌∷◌, if◌then◌else◌, map};
+ghost use Rattle.std.specs.Prelude.{
+  ◌≡◌,
+  ◌⊎◌,
+  ◌++◌,
+  IfOk,
+  IfErr,
+  OnOk,
+  [],
+  ◌∷◌,
+  if◌then◌else◌,
+  map,
+  Some,
+  None,
+  option_map,
+};
+ghost use Rattle.std.specs.Char.{is_ascii_digit};
+ghost use Rattle.std.specs.List.{list_all};
 ghost use Rattle.pascal_cli.specs.Options.{begins_with, has_value, is_check_flag, is_flag, is_joined, is_trace_joined};
 ghost use Rattle.pascal_cli.specs.Options.{is_trace_value, is_why_flag, next_part, plain_words, stays, without_options};
+ghost use Rattle.pascal_cli.specs.Wanted.{is_end, line_in, names_file, nothing_more, number_in, wanted_behind, wanted_in};
+ghost use Rattle.pascal_cli.specs.Wanted.{wanted_of, with_flag, with_input, with_joined, with_named, with_next, with_value};
+ghost use Rattle.pascal_cli.specs.Wanted.{with_word};
+ghost use Rattle.pascal_cli.specs.declared.options.OptionFault.TheVariants.{OutOfMemory};
 ghost use Rattle.pascal_cli.specs.declared.options.Part.TheVariants.{Open};
 
 use std::alloc::{AllocError, Global};
@@ -236,7 +256,9 @@ pub(crate) fn plain_words<'a>(alloc: Global, words: &[&'a str]) -> Result<Vec<&'
 
 // ---- what the options ask for
 
-fn no_options<'a>(alloc: Global) -> Options<'a> {
+fn no_options<'a>(alloc: Global) -> Options<'a>
+    ensures { wanted_in result ≡ nothing_more }
+{
     Options {
         telling: Telling {
             json: false,
@@ -259,7 +281,9 @@ fn no_options<'a>(alloc: Global) -> Options<'a> {
 }
 
 // Takes an option that stands alone.
-fn take_flag(options: &mut Options<'_>, word: &str) {
+fn take_flag(options: &mut Options<'_>, word: &str)
+    ensures { wanted_in options.new ≡ with_flag (wanted_in options.old) word.now }
+{
     match word {
         "--json" => options.telling.json = true,
         "--first" => options.telling.first = true,
@@ -272,10 +296,20 @@ fn take_flag(options: &mut Options<'_>, word: &str) {
     }
 }
 
+// Whether a text has digits alone.
+fn has_digits_alone(text: &str) -> bool
+    ensures { result ≡ list_all is_ascii_digit text.now }
+{
+    text.as_bytes().iter().all(|byte| byte.is_ascii_digit())
+}
+
 // The number that a text of digits is.
-fn number_of<'a>(option: &'a str, text: &'a str) -> Result<u64, OptionFault<'a>> {
+fn number_of<'a>(option: &'a str, text: &'a str) -> Result<u64, OptionFault<'a>>
+    ensures number { IfOk result (λ number. number_in text.now ≡ Some number) }
+    ensures none { IfErr result (λ fault. number_in text.now ≡ None) }
+{
     let fault = OptionFault::NoNumber { option, text };
-    if !text.as_bytes().iter().all(|byte| byte.is_ascii_digit()) {
+    if !has_digits_alone(text) {
         return Err(fault);
     }
     match text.parse::<u64>() {
@@ -285,14 +319,66 @@ fn number_of<'a>(option: &'a str, text: &'a str) -> Result<u64, OptionFault<'a>>
 }
 
 // The number of a line that a text of digits is.
-fn line_of<'a>(option: &'a str, text: &'a str) -> Result<u32, OptionFault<'a>> {
+fn line_of<'a>(option: &'a str, text: &'a str) -> Result<u32, OptionFault<'a>>
+    ensures line { IfOk result (λ line. line_in text.now ≡ Some line) }
+    ensures none { IfErr result (λ fault. line_in text.now ≡ None) }
+{
     let number = number_of(option, text)?;
     Ok(u32::try_from(number).unwrap_or(u32::MAX))
 }
 
 // Whether the value of an option is the name of a file.
-fn names_file(option: &str) -> bool {
+fn names_file(option: &str) -> bool
+    ensures { result ≡ names_file option.now }
+{
     option == "--map" || option == "--input"
+}
+
+// Takes one input more.
+fn put_input<'a>(options: &mut Options<'a>, path: &'a str) -> Result<(), OptionFault<'a>>
+    ensures taken { OnOk result (with_input (wanted_in options.old) path.now ≡ wanted_in options.new) }
+    ensures fault { IfErr result (λ fault. fault ≡ OutOfMemory) }
+{
+    match options.inputs.push(path) {
+        Ok(()) => Ok(()),
+        Err(_) => Err(OptionFault::OutOfMemory),
+    }
+}
+
+// Takes an option whose value is a file's name, a number or a routine's name.
+fn put_value<'a>(
+    options: &mut Options<'a>,
+    option: &'a str,
+    value: &'a str,
+) -> Result<(), OptionFault<'a>>
+    ensures taken { OnOk result (with_named (wanted_in options.old) option.now value.now ≡ Some (wanted_in options.new)) }
+    ensures fault { IfErr result (λ fault. (fault ≡ OutOfMemory)
+        ⊎ (with_named (wanted_in options.old) option.now value.now ≡ None)) }
+{
+    match option {
+        "--map" => {
+            options.map = Some(value);
+            Ok(())
+        }
+        "--input" => put_input(options, value),
+        "--from" => {
+            options.traces.from = line_of(option, value)?;
+            Ok(())
+        }
+        "--to" => {
+            options.traces.to = line_of(option, value)?;
+            Ok(())
+        }
+        "--routine" => {
+            options.traces.routine = Some(value);
+            Ok(())
+        }
+        "--first" => {
+            options.traces.first = number_of(option, value)?;
+            Ok(())
+        }
+        _ => Ok(()),
+    }
 }
 
 // Takes an option with its value.
@@ -300,60 +386,124 @@ fn take_value<'a>(
     options: &mut Options<'a>,
     option: &'a str,
     value: &'a str,
-) -> Result<(), OptionFault<'a>> {
+) -> Result<(), OptionFault<'a>>
+    ensures taken { OnOk result (with_value (wanted_in options.old) option.now value.now ≡ Some (wanted_in options.new)) }
+    ensures fault { IfErr result (λ fault. (fault ≡ OutOfMemory)
+        ⊎ (with_value (wanted_in options.old) option.now value.now ≡ None)) }
+{
     if value.is_empty() && names_file(option) {
         return Err(OptionFault::NoFile(option));
     }
-    match option {
-        "--map" => options.map = Some(value),
-        "--input" => {
-            if options.inputs.push(value).is_err() {
-                return Err(OptionFault::OutOfMemory);
-            }
-        }
-        "--from" => options.traces.from = line_of(option, value)?,
-        "--to" => options.traces.to = line_of(option, value)?,
-        "--routine" => options.traces.routine = Some(value),
-        "--first" => options.traces.first = number_of(option, value)?,
-        _ => {}
-    }
-    Ok(())
+    put_value(options, option, value)
 }
 
 // Takes an option that has its value in the same word.
-fn take_joined<'a>(options: &mut Options<'a>, word: &'a str) -> Result<(), OptionFault<'a>> {
+fn take_joined<'a>(options: &mut Options<'a>, word: &'a str) -> Result<(), OptionFault<'a>>
+    ensures taken { OnOk result (with_joined (wanted_in options.old) word.now ≡ Some (wanted_in options.new)) }
+    ensures fault { IfErr result (λ fault. (fault ≡ OutOfMemory)
+        ⊎ (with_joined (wanted_in options.old) word.now ≡ None)) }
+{
     match word.split_once('=') {
         Some((option, value)) => take_value(options, option, value),
         None => Ok(()),
     }
 }
 
-/// What the options behind a command ask for.
+// Takes a word that is no value, and gives it back where its value is the next word.
+fn take_word<'a>(
+    options: &mut Options<'a>,
+    command: &str,
+    word: &'a str,
+) -> Result<Option<&'a str>, OptionFault<'a>>
+    ensures taken { IfOk result (λ before. with_word command.now (wanted_in options.old) word.now
+        ≡ Some (wanted_in options.new, option_map (λ option. option.now) before)) }
+    ensures fault { IfErr result (λ fault. (fault ≡ OutOfMemory)
+        ⊎ (with_word command.now (wanted_in options.old) word.now ≡ None)) }
+{
+    if is_flag(command, word) {
+        take_flag(options, word);
+        Ok(None)
+    } else if is_joined(command, word) {
+        take_joined(options, word)?;
+        Ok(None)
+    } else if has_value(command, word) {
+        Ok(Some(word))
+    } else {
+        Ok(None)
+    }
+}
+
+// Takes a word behind an option whose value it is, or behind none.
+fn take_next<'a>(
+    options: &mut Options<'a>,
+    command: &str,
+    before: Option<&'a str>,
+    word: &'a str,
+) -> Result<Option<&'a str>, OptionFault<'a>>
+    ensures taken { IfOk result (λ next. with_next command.now (wanted_in options.old)
+        (option_map (λ option. option.now) before.entry) word.now
+        ≡ Some (wanted_in options.new, option_map (λ option. option.now) next)) }
+    ensures fault { IfErr result (λ fault. (fault ≡ OutOfMemory) ⊎ (with_next command.now (wanted_in options.old)
+        (option_map (λ option. option.now) before.entry) word.now ≡ None)) }
+{
+    match before {
+        Some(option) => {
+            take_value(options, option, word)?;
+            Ok(None)
+        }
+        None => take_word(options, command, word),
+    }
+}
+
+// Whether a word ends the options.
+fn is_end(before: Option<&str>, word: &str) -> bool
+    ensures { result ≡ is_end (option_map (λ option. option.now) before.entry) word.now }
+{
+    match before {
+        Some(_) => false,
+        None => word == "--",
+    }
+}
+
+// Takes the words behind a command.
+#[tactic(auto, using(crate::proofs::OptionWords::fails, crate::proofs::OptionWords::ends))]
+fn take_words<'a>(
+    options: &mut Options<'a>,
+    command: &str,
+    words: &[&'a str],
+) -> Result<(), OptionFault<'a>>
+    ensures taken { OnOk result (wanted_behind command.now (wanted_in options.old) None (map (λ word. word.now) words.now)
+        ≡ Some (wanted_in options.new)) }
+    ensures fault { IfErr result (λ fault. (fault ≡ OutOfMemory)
+        ⊎ (wanted_behind command.now (wanted_in options.old) None (map (λ word. word.now) words.now) ≡ None)) }
+{
+    let mut rest = words;
+    let mut before = None;
+    while let [word, behind @ ..] = rest {
+        if is_end(before, word) {
+            return Ok(());
+        }
+        before = take_next(options, command, before, *word)?;
+        rest = behind;
+    }
+    match before {
+        Some(option) => Err(OptionFault::NoValue(option)),
+        None => Ok(()),
+    }
+}
+
+/// What the options behind a command ask for. Which mistake is told, where there are several, no contract tells.
 pub(crate) fn options_of<'a>(
     alloc: Global,
     words: &[&'a str],
-) -> Result<Options<'a>, OptionFault<'a>> {
+) -> Result<Options<'a>, OptionFault<'a>>
+    ensures options { IfOk result (λ options. wanted_of (map (λ word. word.now) words.now) ≡ Some (wanted_in options)) }
+    ensures fault { IfErr result (λ fault. (fault ≡ OutOfMemory)
+        ⊎ (wanted_of (map (λ word. word.now) words.now) ≡ None)) }
+{
     let mut options = no_options(alloc);
-    let [command, rest @ ..] = words else {
-        return Ok(options);
-    };
-    let mut rest = rest;
-    while let [word, behind @ ..] = rest {
-        rest = behind;
-        if *word == "--" {
-            break;
-        }
-        if is_flag(command, word) {
-            take_flag(&mut options, word);
-        } else if is_joined(command, word) {
-            take_joined(&mut options, *word)?;
-        } else if has_value(command, word) {
-            let [value, further @ ..] = behind else {
-                return Err(OptionFault::NoValue(*word));
-            };
-            take_value(&mut options, *word, *value)?;
-            rest = further;
-        }
+    if let [command, rest @ ..] = words {
+        take_words(&mut options, command, rest)?;
     }
     Ok(options)
 }

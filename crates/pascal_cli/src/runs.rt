@@ -1,8 +1,10 @@
 //! Runs over a reader and a writer, with the end that is told of them.
 
-ghost use Rattle.std.specs.Prelude.{◌≡◌, IfOk, IfErr, IfNone, OnErr, true};
+ghost use Rattle.std.specs.Prelude.{◌≡◌, ◌⊎◌, IfOk, IfErr, IfNone, OnErr, true};
 ghost use Rattle.std.specs.Io.KnownBytes.{Keeps};
+ghost use Rattle.ps_build.specs.Accepts.{IsRefused};
 ghost use Rattle.ps_build.specs.Runs.{IsRunRefused};
+ghost use Rattle.ps_build.specs.declared.refusal.Refusal.TheVariants.{OutOfMemory};
 ghost use Rattle.ps_build.specs.Goes.{IsGoRefused};
 ghost use Rattle.pascal_cli.specs.Console.{input_of, held_of, has_failed, faults_of, output_of, console_world};
 ghost use Rattle.pascal_cli.specs.Runs.{IsSettled, GoesThrough, RunsThrough};
@@ -181,6 +183,9 @@ pub fn trace_through<R: BufRead, W: Write, T: Teller + Drop>(
     ensures runs { IfOk result (λ outcome. RunsThrough tracing.entry.prepared.now.text.mapped.built budget steps
         (console_world R.remaining W.contents console.old) (console_world R.remaining W.contents console.new)
         (held_of console.new) (has_failed console.new) outcome) }
+    ensures refused { IfErr result (λ refusal. IsRefused tracing.entry.text.now refusal
+        ⊎ IsRunRefused tracing.entry.prepared.now.text.mapped.built budget refusal
+        ⊎ (refusal ≡ OutOfMemory)) }
     ensures unchanged { OnErr result (console_world R.remaining W.contents console.new
         ≡ console_world R.remaining W.contents console.old) }
 {
@@ -193,6 +198,6 @@ pub fn trace_through<R: BufRead, W: Write, T: Teller + Drop>(
         alloc, text, prepared, choice, teller, budget, console, steps,
     ) {
         Ok(traced) => Ok(settled(console, traced.outcome)),
-        Err(refusal) => Err(refusal),
+        Err(refused) => Err(refused),
     }
 }

@@ -14,6 +14,7 @@ ghost use Rattle.pascal_cli.specs.Jobs.{IsStatus};
 ghost use Rattle.pascal_cli.specs.Options.{plain_words};
 ghost use Rattle.pascal_cli.specs.Report.{status_of};
 ghost use Rattle.pascal_cli.specs.Session.{IsFrontOf, IsHelp, asks_version, is_help};
+ghost use Rattle.pascal_cli.specs.Wanted.{wanted_in, wanted_of};
 
 use crate::job::{CommandFault, Job, MAX_BUDGET, MAX_STEPS, NumberFault, command};
 use crate::jobs::do_job;
@@ -133,6 +134,7 @@ fn run_with<R: Files + Print + Eprint + Input + Env + AllocGlobal>(
     texts: &[&str],
     options: &Options<'_>,
 ) -> u8
+    requires { wanted_of (map (λ text. text.now) texts.now) ≡ Some (wanted_in options.now) }
     ensures { (request : Request) → request_of (plain_words (map (λ text. text.now) texts.now)) ≡ Some request
         → IsStatus request result }
 {

@@ -1,11 +1,12 @@
 -- What is told of an image, by the program that it was made of.
-use Rattle.std.proofs.Common.{◌≡◌, ℕ, ◌+◌, ◌<◌, ◌≤◌, false, List, [], ◌∷◌, ◌++◌, length, map, take, get_or, sym, ap}
-use Rattle.std.proofs.Common.{◌∙◌, subst, arith}
+use Rattle.std.proofs.Common.{◌≡◌, ◌≢◌, ℕ, ◌+◌, ◌<◌, ◌≤◌, false, List, [], ◌∷◌, ◌++◌, length, map, take, get_or, sym, ap}
+use Rattle.std.proofs.Common.{◌∙◌, subst, arith, nat_eq, true, Option, Some, IfSome, slice_get, eqb-true}
 use Rattle.std.proofs.lemmas.List.{length-map, map_more, take_all}
 use Rattle.std.proofs.lemmas.Grind.{get_or_default_zero}
 use Rattle.behavior.specs.Transcripts.{AreBytes}
 use Rattle.risc_image.specs.Image.{Image}
 use Rattle.risc_image.specs.declared.rows.FrameRow.{FrameRow}
+use Rattle.risc_image.specs.declared.rows.TrapRow.{TrapRow}
 use Rattle.risc_load.specs.Shows.{frame_bytes}
 use Rattle.ps_tree.specs.Tree.{Program}
 use Rattle.ps_tree.specs.Checked.{Parts, program_in}
@@ -55,9 +56,9 @@ enough text bytes compiles (Endless path) narrow never answer = tt
 pub is_needed : (text bytes : List ℕ) (compiles : Compiles text bytes) → IsBuilt text bytes → (other : Program)
     (image : Image) (needed : Needed) → IsProgramOf text other → image ≡ compiles.image → needed.frames.items
     ≡ frame_bytes image → IsAnswer other (frame_bytes image) needed.need
-    → (needed.makes_objects ≡ false → MakesNoObject image) → AreBytes text → NeverOutOfStack → NeverOutOfHeap
-    → IsNeeded text needed
-is_needed text bytes compiles built other image needed is same frames answer none narrow never never_heap =
+    → (needed.makes_objects ≡ false → MakesNoObject image) → (needed.makes_objects ≡ true → MakesNoObject image → ⊥)
+    → AreBytes text → NeverOutOfStack → NeverOutOfHeap → IsNeeded text needed
+is_needed text bytes compiles built other image needed is same frames answer none some narrow never never_heap =
     let program = compiles.program.only other is.accepts in
     let told : IsAnswer compiles.checked (frame_bytes compiles.image) needed.need = subst
     (λ i. IsAnswer compiles.checked (frame_bytes i) needed.need) same
@@ -70,7 +71,15 @@ is_needed text bytes compiles built other image needed is same frames answer non
       answer = told;
       enough = enough text bytes compiles needed.need narrow never told;
       heap = λ e. never_heap compiles.image (subst MakesNoObject same (none e));
+      objects = λ e no_row. some e (subst MakesNoObject (sym same) no_row);
     }
+
+-- ---- a row that tells a stop for heap
+
+pub has_row : (image : Image) (k : ℕ) (found : Option TrapRow) (row : TrapRow) → found ≡ slice_get image.traps k
+    → found ≡ Some row → nat_eq row.error 13 ≡ true → MakesNoObject image → ⊥
+has_row image k found row e is heap none =
+    subst (λ o. IfSome o (λ row. row.error ≢ 13)) (sym e ∙ is) (none k) (eqb-true row.error 13 heap)
 
 -- ---- the frames of an image as a list
 

@@ -1,5 +1,5 @@
 -- What is told of the stack and the heap that the image of a text needs.
-use Rattle.std.specs.Prelude.{◌≡◌, ℕ, false, List}
+use Rattle.std.specs.Prelude.{◌≡◌, ℕ, false, true, List}
 use Rattle.risc_load.specs.Shows.{frame_bytes}
 use Rattle.risc_image.specs.Image.{Image}
 use Rattle.ps_needs_least.specs.Answers.{IsAnswer}
@@ -7,7 +7,7 @@ use Rattle.ps_needs_least.specs.declared.least.Need.{Need}
 use Rattle.ps_needs_least.specs.declared.least.Need.TheVariants.{Least, Endless}
 use Rattle.ps_build.specs.Headline.{Compiles}
 use Rattle.ps_build.specs.Made.{IsBuilt}
-use Rattle.ps_needs_image.specs.Laws.{IsNeverOutOfStack, IsNeverOutOfHeap}
+use Rattle.ps_needs_image.specs.Laws.{IsNeverOutOfStack, IsNeverOutOfHeap, MakesNoObject}
 use Rattle.ps_needs_image.specs.declared.needed.Needed.{Needed}
 
 -- with the least stack and more, no run of the image is stopped for stack
@@ -17,7 +17,7 @@ IsEnough image (Endless path) = Unit {0}
 
 -- The text has an image that was made of it as `build` makes one, and that does what its program means. The least stack
 -- is that which holds each path of calls of the program, with the frames of this image; with it, no run of the image is
--- stopped for stack.
+-- stopped for stack. Objects are told of where a row of its trap table tells a stop for heap.
 pub record IsNeeded (text : List ℕ) (needed : Needed) : Type 0 where
   pub bytes : List ℕ
   pub built : IsBuilt text bytes
@@ -26,3 +26,4 @@ pub record IsNeeded (text : List ℕ) (needed : Needed) : Type 0 where
   pub answer : IsAnswer compiles.checked (frame_bytes compiles.image) needed.need
   pub enough : IsEnough compiles.image needed.need
   pub heap : needed.makes_objects ≡ false → IsNeverOutOfHeap compiles.image
+  pub objects : needed.makes_objects ≡ true → MakesNoObject compiles.image → ⊥

@@ -1,7 +1,7 @@
 // What stack and heap the image of a text needs.
 
 ghost use Rattle.std.specs.Prelude.{◌≡◌, ◌≢◌, ℕ, ◌<◌, length, get_or, slice_get, slice_index, IfSome, IfOk, IfErr};
-ghost use Rattle.std.specs.Prelude.{false};
+ghost use Rattle.std.specs.Prelude.{false, true};
 ghost use Rattle.ps_tree.specs.Checked.{program_in};
 ghost use Rattle.ps_needs_least.specs.Answers.{IsAnswer};
 ghost use Rattle.ps_build.specs.Headline.{DoesAsMeant};
@@ -66,7 +66,8 @@ fn frames_of(alloc: Global, image: &ImageView<'_>) -> Result<Vec<u32>, AllocErro
 
 // Whether a row of the trap table tells a stop for heap.
 fn is_of_heap(image: &ImageView<'_>, k: usize) -> bool
-    ensures { result ≡ false → IfSome (slice_get image.now.traps k) (λ row. row.error ≢ 13) }
+    ensures none { result ≡ false → IfSome (slice_get image.now.traps k) (λ row. row.error ≢ 13) }
+    ensures some { result ≡ true → MakesNoObject image.now → ⊥ }
 {
     match image.trap(k) {
         Some(row) => row.error == OUT_OF_HEAP,
@@ -75,7 +76,8 @@ fn is_of_heap(image: &ImageView<'_>, k: usize) -> bool
 }
 
 fn makes_objects(image: &ImageView<'_>) -> bool
-    ensures { result ≡ false → MakesNoObject image.now }
+    ensures none { result ≡ false → MakesNoObject image.now }
+    ensures some { result ≡ true → MakesNoObject image.now → ⊥ }
 {
     for k in 0..image.traps() {
         if is_of_heap(image, k) {

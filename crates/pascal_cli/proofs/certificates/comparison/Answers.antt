@@ -1,7 +1,6 @@
-use Rattle.std.proofs.Common.{string_bytes, subst}
-use Rattle.std.specs.Prelude.{IfSome}
+use Rattle.std.proofs.Common.{option_map, string_bytes, subst}
 use Rattle.pascal_certificate.specs.Sealed.{IsSeal}
-use Rattle.pascal_cli.specs.Certificates.{TellsLeast}
+use Rattle.pascal_cli.specs.Certificates.{KnowsStack}
 use Rattle.pascal_cli.proofs.Certified.{stack_is_told}
 use Rattle.pascal_cli.proofs.certificates.comparison.Goals as goal
 
@@ -16,7 +15,7 @@ pub compared_found-requires-clause-stack : goal.compared_found-requires-clause-s
 compared_found-requires-clause-stack g c = (
   _,
   c.maker-told.ensures,
-  stack_is_told c.args.pair.now.source.items c.in_ok-known.known.stack
-      (subst (λ bytes. IfSome c.in_ok-known.known.stack (λ text. TellsLeast bytes (string_bytes text)))
+  stack_is_told c.args.pair.now.source.items (option_map (λ text. string_bytes text) c.in_ok-known.known.stack)
+      (subst (λ bytes. KnowsStack bytes (option_map (λ text. string_bytes text) c.in_ok-known.known.stack))
       c.deref.ensures.value c.in_ok-known.ensures),
 )

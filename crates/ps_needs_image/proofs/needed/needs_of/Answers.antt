@@ -20,5 +20,6 @@ returns-clause-needed c =
     (subst (λ b. IsImage b compiles.image) (sym c.bytes.ensures) compiles.is_image) in
     is_needed c.args.text.now c.in_ok-built.built compiles c.in_ok-built.ensures.built
     (program_in c.in-Some.again.checked) c.in-Ok.image _ c.in-Some.ensures same
-    c.in_ok-frames.ensures c.in_ok-need.ensures c.makes_objects-makes_objects.ensures
-    (all_bytes c.args.text.now c.is_of_bytes.ensures) c.never_out_of_stack.ensures c.never_out_of_heap.ensures
+    c.in_ok-frames.ensures c.in_ok-need.ensures c.makes_objects-makes_objects.ensures.none
+    c.makes_objects-makes_objects.ensures.some (all_bytes c.args.text.now c.is_of_bytes.ensures)
+    c.never_out_of_stack.ensures c.never_out_of_heap.ensures
