@@ -2,6 +2,7 @@
 #![tactic(auto)]
 
 mod assigning;
+mod comparing;
 mod context;
 mod controls;
 mod counts;
@@ -9,14 +10,17 @@ mod declared;
 mod facts;
 mod kinds;
 mod operators;
+mod passed;
 mod ranges;
 mod refusals;
 mod required;
 mod routines;
+mod selected;
 mod spot;
 mod tell;
 mod text;
 mod twice;
+mod undeclared;
 mod unknown;
 mod uses;
 mod walk;

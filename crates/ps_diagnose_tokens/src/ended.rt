@@ -1,12 +1,11 @@
 //! What is told of `else`, `end`, `until` and of what stands behind an `end`.
 
 use crate::context::Context;
-use crate::kinds::{BEGINS_STATEMENT, ENDS_VALUE};
+use crate::kinds::ENDS_VALUE;
 use crate::rule::Piece::{Is, Line, Routine, Token, Where};
 use crate::rule::Place::{
     Ahead, Back, Bare, BeforeOutside, BehindEnd, BehindThen, Closed, ClosedHead, ClosedName, Ended,
-    EndedIf, ExpressionEnd, Here, Innermost, List, NextEnd, NextUntil, Outside, PastIf, Start,
-    TextEnd, Top, WaitingIf,
+    EndedIf, Here, Innermost, List, Outside, PastIf, TextEnd, Top, WaitingIf,
 };
 use crate::rule::{Also, Fact, More, Reach, Rule, Test, Told};
 use crate::tests::first_of;
@@ -314,113 +313,6 @@ const WORDS_RULES: &[Rule] = &[
     },
 ];
 
-// What is told of a `repeat` whose `until` is missing.
-const UNTIL_MISSING: &[Told] = &[
-    Told::Why(&[Is("`;` or the `until` of a `repeat` is missing before it")]),
-    Told::Label(Reach::One(Top), &[Is("the `repeat`")]),
-    Told::Help(&[Is("a `repeat` ends with `until` and a condition")]),
-];
-
-// What may begin a statement that stands behind another one.
-const BEGINS: &[Kind] = &[
-    Kind::Name,
-    Kind::Begin,
-    Kind::If,
-    Kind::While,
-    Kind::For,
-    Kind::Repeat,
-    Kind::Case,
-    Kind::With,
-];
-
-// What is told of a statement in a `case` without a constant before it.
-const CASE_GOES_ON: &[Told] = &[
-    Told::Why(&[Is("in a `case` constants and `:` stand before a statement")]),
-    Told::Label(Reach::One(Top), &[Is("this `case` is not ended")]),
-    Told::Help(&[Is("several statements of one constant stand between `begin` and `end`")]),
-    Told::PutBefore(Start, "end;", "end; "),
-];
-
-// A `repeat` whose `until` is missing.
-const NO_UNTIL_RULES: &[Rule] = &[
-    Rule {
-        when: &[
-            Test::Is(Top, &[Kind::Repeat]),
-            Test::Is(Here, BEGINS),
-            Test::Is(Back(1), ENDS_VALUE),
-            Test::From(NextUntil, NextEnd),
-        ],
-        told: UNTIL_MISSING,
-        also: &[],
-    },
-    Rule {
-        when: &[
-            Test::Is(Top, &[Kind::Repeat]),
-            Test::Is(Here, BEGINS),
-            Test::Is(Back(1), &[Kind::End]),
-            Test::From(NextUntil, NextEnd),
-        ],
-        told: UNTIL_MISSING,
-        also: &[],
-    },
-];
-
-// A statement in a `case` without a constant before it.
-const NO_CONSTANT_RULES: &[Rule] = &[
-    Rule {
-        when: &[
-            Test::Body(&[Kind::Case]),
-            Test::Same(Start, Here),
-            Test::Is(Here, BEGINS_STATEMENT),
-        ],
-        told: CASE_GOES_ON,
-        also: &[],
-    },
-    Rule {
-        when: &[
-            Test::Body(&[Kind::Case]),
-            Test::Same(Start, Here),
-            Test::Is(Here, &[Kind::Begin]),
-        ],
-        told: CASE_GOES_ON,
-        also: &[],
-    },
-    Rule {
-        when: &[
-            Test::Body(&[Kind::Case]),
-            Test::Same(Start, Back(1)),
-            Test::Is(Back(1), &[Kind::Name]),
-            Test::Is(
-                Here,
-                &[
-                    Kind::Assign,
-                    Kind::LeftParen,
-                    Kind::LeftBracket,
-                    Kind::Semicolon,
-                    Kind::Caret,
-                ],
-            ),
-        ],
-        told: CASE_GOES_ON,
-        also: &[],
-    },
-];
-
-// Two operands beside each other in a condition.
-const NO_OPERATOR_RULES: &[Rule] = &[Rule {
-    when: &[
-        Test::Head(&[Kind::If, Kind::While]),
-        Test::Is(Back(1), ENDS_VALUE),
-        Test::Is(
-            Here,
-            &[Kind::Name, Kind::Number, Kind::Text, Kind::Nil, Kind::Not],
-        ),
-        Test::Is(ExpressionEnd, &[Kind::Then, Kind::Do]),
-    ],
-    told: &[Told::Why(&[Is("an operator is missing before it")])],
-    also: &[],
-}];
-
 // The rule of a statement behind the `end` of a routine that ended too early.
 fn behind_routine(cx: &Context<'_>) -> Option<&'static Rule> {
     first_of(cx, BEHIND_ROUTINE_RULES)
@@ -466,21 +358,6 @@ fn words(cx: &Context<'_>) -> Option<&'static Rule> {
     first_of(cx, WORDS_RULES)
 }
 
-// The rule of a `repeat` whose `until` is missing.
-fn no_until(cx: &Context<'_>) -> Option<&'static Rule> {
-    first_of(cx, NO_UNTIL_RULES)
-}
-
-// The rule of a statement in a `case` without a constant before it.
-fn no_constant(cx: &Context<'_>) -> Option<&'static Rule> {
-    first_of(cx, NO_CONSTANT_RULES)
-}
-
-// The rule of two operands beside each other in a condition.
-fn no_operator(cx: &Context<'_>) -> Option<&'static Rule> {
-    first_of(cx, NO_OPERATOR_RULES)
-}
-
 /// The rule of a statement behind the `end` of a routine, if it fits.
 pub(crate) fn of_routine_before(cx: &Context<'_>) -> Option<&'static Rule> {
     behind_routine(cx)
@@ -496,9 +373,4 @@ pub(crate) fn at_the_end(cx: &Context<'_>) -> Option<&'static Rule> {
         .or(inner(cx))
         .or(of_repeat(cx))
         .or(words(cx))
-}
-
-/// The first that fits of those of what is missing, and tells itself by what stands behind the place.
-pub(crate) fn missing(cx: &Context<'_>) -> Option<&'static Rule> {
-    no_until(cx).or(no_constant(cx)).or(no_operator(cx))
 }

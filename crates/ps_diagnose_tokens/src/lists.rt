@@ -3,7 +3,7 @@
 use crate::context::Context;
 use crate::kinds::OPERATORS;
 use crate::rule::Piece::{Is, Token, Tokens};
-use crate::rule::Place::{Ahead, Back, Closing, Head, Here, Innermost, Start, StatementEnd, Top};
+use crate::rule::Place::{Back, Closing, Head, Here, Innermost, Start, StatementEnd, Top};
 use crate::rule::{Also, Fact, Reach, Rule, Test, Told};
 use crate::tests::first_of;
 use ps_scan::Kind;
@@ -351,119 +351,6 @@ const CALLS_RULES: &[Rule] = &[
         also: PUT_BETWEEN,
     },
 ];
-
-// What is told of what begins a construction of which a sign is missing that closes it.
-const NOT_CLOSED: &[Told] = &[Told::Label(
-    Reach::One(Top),
-    &[Is("this `"), Token(Top), Is("` is not closed")],
-)];
-
-// What is told of the beginning of what a missing `end` ends.
-const NOT_ENDED: &[Rule] = &[Rule {
-    when: &[Test::Is(Top, &[Kind::Begin, Kind::Case, Kind::Record])],
-    told: &[Told::Label(
-        Reach::One(Top),
-        &[Is("this `"), Token(Top), Is("` is not ended")],
-    )],
-    also: &[],
-}];
-
-// What is told where a comment stands in the place of statements.
-const BRACES: &[Also] = &[Also {
-    when: &[Test::Holds(Fact::Brace)],
-    told: &[Told::Help(&[Is(
-        "what stands between `{` and `}` is a comment; statements stand between `begin` and `end`",
-    )])],
-}];
-
-// The heads of loops, and of `with`.
-const LOOPS: &[Test] = &[Test::Head(&[Kind::While, Kind::For, Kind::With])];
-
-// The rules of what is told of a construction, by what is missing of it.
-const MISSING: &[(&str, &[Rule])] = &[
-    (
-        ")",
-        &[Rule {
-            when: &[Test::Is(Top, &[Kind::LeftParen])],
-            told: NOT_CLOSED,
-            also: &[],
-        }],
-    ),
-    (
-        "]",
-        &[Rule {
-            when: &[Test::Is(Top, &[Kind::LeftBracket])],
-            told: NOT_CLOSED,
-            also: &[],
-        }],
-    ),
-    ("end", NOT_ENDED),
-    (
-        "then",
-        &[Rule {
-            when: &[Test::Head(&[Kind::If])],
-            told: &[Told::Label(
-                Reach::One(Top),
-                &[Is("the `then` of this `"), Token(Top), Is("`")],
-            )],
-            also: BRACES,
-        }],
-    ),
-    (
-        "of",
-        &[Rule {
-            when: &[Test::Head(&[Kind::Case])],
-            told: &[Told::Label(
-                Reach::One(Top),
-                &[Is("the `of` of this `"), Token(Top), Is("`")],
-            )],
-            also: &[],
-        }],
-    ),
-    (
-        "do",
-        &[Rule {
-            when: LOOPS,
-            told: &[Told::Label(
-                Reach::One(Top),
-                &[Is("the `do` of this `"), Token(Top), Is("`")],
-            )],
-            also: BRACES,
-        }],
-    ),
-    (
-        "to",
-        &[Rule {
-            when: LOOPS,
-            told: &[Told::Label(
-                Reach::One(Top),
-                &[Is("the `to` of this `"), Token(Top), Is("`")],
-            )],
-            also: &[],
-        }],
-    ),
-    (
-        ":=",
-        &[Rule {
-            when: LOOPS,
-            told: &[Told::Label(
-                Reach::One(Top),
-                &[Is("the `:=` of this `"), Token(Top), Is("`")],
-            )],
-            also: &[],
-        }],
-    ),
-];
-
-/// The rule of what begins the construction of which a word or a sign is missing at the place.
-pub(crate) fn rule_of_missing(cx: &Context<'_>, token: &str) -> Option<&'static Rule> {
-    for (word, rules) in MISSING.iter() {
-        if *word == token {
-            return first_of(cx, rules);
-        }
-    }
-    None
-}
 
 // The rule of a parenthesis or a bracket that closes nothing, or ends no list.
 fn closing(cx: &Context<'_>) -> Option<&'static Rule> {

@@ -4,7 +4,7 @@ ghost use Rattle.std.specs.Prelude.{◌↔◌, IsTrue, IsSome, IfOk};
 ghost use Rattle.ps_diagnose_tokens.specs.Numbers.{IsOfTokens};
 
 use crate::context::{Context, context_of};
-use crate::lists::rule_of_missing;
+use crate::missing::rule_of_missing;
 use crate::other::{other_here, part_here, tell_row};
 use crate::rows::Part;
 use crate::rule::Piece::{Is, Token};
@@ -13,7 +13,9 @@ use crate::rule::{More, Rule, Told};
 use crate::scanned::{comment_of_line, rule_of_scanner};
 use crate::tell::{Telling, nothing, refusal};
 use crate::telling::tell_rule;
-use crate::{assigned, bounds, compared, ended, habits, left_out, lists, parts};
+use crate::{
+    assigned, bounds, compared, declaring, ended, habits, left_out, lists, missing, parts, slips,
+};
 use ps_diagnose::{Draft, Fault};
 use std::alloc::{AllocError, Global};
 use std::mem::replace;
@@ -37,7 +39,9 @@ const PLAIN: &Rule = &Rule {
 
 // The first rule that fits of those of what is written otherwise elsewhere.
 fn rule_of_habits(cx: &Context<'_>) -> Option<&'static Rule> {
-    habits::in_statements(cx).or(habits::in_declarations(cx))
+    slips::in_statements(cx)
+        .or(habits::in_statements(cx))
+        .or(declaring::in_declarations(cx))
 }
 
 // The first rule that fits of those of assignments, declarations and parts.
@@ -56,7 +60,7 @@ fn rule_of_statements(cx: &Context<'_>) -> Option<&'static Rule> {
         .or(compared::compared(cx))
         .or(lists::of_values(cx))
         .or(lists::of_headings(cx))
-        .or(ended::missing(cx))
+        .or(missing::in_statements(cx))
 }
 
 // The rule of a token that cannot stand where it does, behind those of the ends of the text and the table of other Pascals.
@@ -64,7 +68,7 @@ fn rule_of_tables(cx: &Context<'_>) -> &'static Rule {
     rule_of_habits(cx)
         .or(rule_of_parts(cx))
         .or(rule_of_statements(cx))
-        .or(habits::of_spaces(cx))
+        .or(declaring::of_spaces(cx))
         .unwrap_or(PLAIN)
 }
 

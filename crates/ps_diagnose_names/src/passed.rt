@@ -1,0 +1,194 @@
+//! Parameters of another type, and what cannot be read or written (34).
+
+use crate::context::Context;
+use crate::required::Known;
+use crate::why::{Help, Why, told};
+use ps_diagnose_outline::{Form, Point, PointKind, Type};
+use ps_syntax::Expr;
+use ps_text::Span;
+
+impl<'a> Context<'a> {
+    /// A parameter of another type.
+    pub(crate) fn wrong_passed(&self, routine: Span, number: u32, value: &Expr) -> Option<Why> {
+        match self.outline.declared(routine) {
+            Some(point) => match self.formal(point, number) {
+                Some(formal) => self.wrong_variable(routine, formal, value),
+                None => None,
+            },
+            None => self.wrong_for_required(routine, value),
+        }
+    }
+
+    // A variable of another type for a variable parameter.
+    fn wrong_variable(&self, routine: Span, formal: Point, value: &Expr) -> Option<Why> {
+        let (PointKind::VariableParameter, Some(wanted), Some(ty)) = (
+            formal.kind,
+            formal.ty,
+            self.outline.type_of(value),
+        ) else {
+            return None;
+        };
+        if !self.is_told(wanted) || !self.is_told(ty) || self.is_one_type(wanted, ty) {
+            return None;
+        }
+        let text = self.expr_span(value);
+        Some(
+            told("`@y` of `@z` takes a variable of its own type, @u, and `@x` is @t")
+                .text(text)
+                .ty(ty)
+                .other(formal.name)
+                .third(routine)
+                .second(wanted)
+                .here(formal.name)
+                .variable(text),
+        )
+    }
+
+    // Whether two types are the same one.
+    fn is_one_type(&self, a: Type, b: Type) -> bool {
+        match (self.outline.named(a), self.outline.named(b)) {
+            (Some(Type::Integer), Some(Type::Integer))
+            | (Some(Type::Boolean), Some(Type::Boolean))
+            | (Some(Type::Char), Some(Type::Char)) => true,
+            (Some(Type::Told(first)), Some(Type::Told(second))) => first == second,
+            _ => false,
+        }
+    }
+
+    // Whether a required routine takes a value of a type.
+    fn is_taken(&self, known: Known, ty: Type) -> bool {
+        match known {
+            Known::Read | Known::Readln => self.is_integer(ty) || self.is_char(ty),
+            Known::Write | Known::Writeln => self.is_simple_text(ty),
+            Known::New => matches!(self.outline.form(ty), Some(Form::Pointer(_))),
+            Known::Order => self.is_simple(ty),
+            Known::Number => self.is_integer(ty),
+            _ => false,
+        }
+    }
+
+    // Whether a value of a type is written as it is.
+    fn is_simple_text(&self, ty: Type) -> bool {
+        self.is_integer(ty) || self.is_char(ty) || self.is_boolean(ty) || self.is_string(ty)
+    }
+
+    // A parameter of a required routine.
+    fn wrong_for_required(&self, routine: Span, value: &Expr) -> Option<Why> {
+        let known = self.known(routine);
+        match self.outline.type_of(value) {
+            Some(ty) if !self.is_taken(known, ty) => match known {
+                Known::Read | Known::Readln => self.cannot_be(value, ty, "read"),
+                Known::Write | Known::Writeln => self.cannot_be(value, ty, "written"),
+                _ => self.takes(takes_form(known), routine, self.expr_span(value), ty),
+            },
+            _ => None,
+        }
+    }
+
+    // What a required routine takes.
+    fn takes(&self, form: &'static str, routine: Span, text: Span, ty: Type) -> Option<Why> {
+        match self.told(Some(ty)) {
+            Some(ty) if !form.is_empty() => Some(
+                told(form)
+                    .word(self.required_name(routine))
+                    .text(text)
+                    .ty(ty)
+                    .variable(text),
+            ),
+            _ => None,
+        }
+    }
+
+    // What cannot be read or written.
+    fn cannot_be(&self, value: &Expr, ty: Type, word: &'static str) -> Option<Why> {
+        let text = self.expr_span(value);
+        match self.told(Some(ty)) {
+            Some(Type::Nil) => Some(told("`nil` cannot be @w").word(word)),
+            Some(known) => Some(self.no_transput(text, known, ty, word)),
+            None => None,
+        }
+    }
+
+    fn no_transput(&self, text: Span, known: Type, ty: Type, word: &'static str) -> Why {
+        let why = told("`@x`, @t, cannot be @w")
+            .text(text)
+            .ty(known)
+            .word(word)
+            .variable(text)
+            .helped(self.transput_help(text, ty));
+        match self.outline.form(ty) {
+            Some(
+                Form::Array {
+                    index: Some(index),
+                    component,
+                    ..
+                },
+            ) if self.is_integer(index) => {
+                self.with_loop(why, self.outline.bounds(index), component)
+            }
+            Some(Form::Array { component, .. }) => self.with_loop(why, None, component),
+            _ => why,
+        }
+    }
+
+    // How a value is read or written that cannot be as it is.
+    fn transput_help(&self, text: Span, ty: Type) -> Help {
+        match self.outline.form(ty) {
+            Some(Form::Record(region)) => {
+                self.field_help("its fields are @w one by one, as `@a.@b`", text, region)
+            }
+            Some(Form::Enumeration(_)) => Help::Is(
+                "a value of an enumeration is @w by its number, `ord(..)`, or by names of your own, by `case`",
+            ),
+            Some(Form::Boolean) => {
+                Help::Is("read a character, and compare it: read(c); b := c = 'y'")
+            }
+            Some(Form::Pointer(_)) => Help::Of("what it points to is `@a^`", text),
+            Some(Form::Set(_)) => Help::Is("its members are found by `in`, in a loop"),
+            _ => Help::None,
+        }
+    }
+
+    // A loop over the components of an array.
+    fn with_loop(&self, why: Why, bounds: Option<(i64, i64)>, component: Option<Type>) -> Why {
+        let is_text = matches!(self.outline.form_of(component), Some(Form::Char));
+        let is_read = why.word == "read";
+        match bounds {
+            Some((low, high)) => {
+                let why = why
+                    .number(low)
+                    .further(high)
+                    .help(loop_form(is_read, is_text));
+                if is_read && is_text {
+                    why.help("`readln` behind the loop passes over the rest of the line")
+                } else {
+                    why
+                }
+            }
+            None => why.help("its components are @w one by one, in a loop"),
+        }
+    }
+}
+
+// What a required routine takes, if only one kind of types.
+fn takes_form(known: Known) -> &'static str {
+    match known {
+        Known::New => "`@w` takes a pointer, and `@x` is @t",
+        Known::Number => "`@w` takes an integer, and `@x` is @t",
+        Known::Order => "`@w` takes a value of a simple type, and `@x` is @t",
+        Known::End => "`@w` takes a file, and `@x` is @t",
+        _ => "",
+    }
+}
+
+// What a loop over the components of an array does.
+fn loop_form(is_read: bool, is_text: bool) -> &'static str {
+    match (is_read, is_text) {
+        (true, true) => {
+            "read its characters one by one: for i := @n to @m do if not eoln then read(@x[i])"
+        }
+        (true, false) => "read its components one by one: for i := @n to @m do read(@x[i])",
+        (false, true) => "write its characters one by one: for i := @n to @m do write(@x[i])",
+        (false, false) => "write its components one by one: for i := @n to @m do write(@x[i])",
+    }
+}

@@ -1,0 +1,210 @@
+//! Selectors that do not fit what they select of, and indices of another type (34).
+
+use crate::context::{Context, long};
+use crate::why::{Change, Help, Why, told};
+use ps_diagnose_outline::{Form, Type};
+use ps_scan::Kind;
+use ps_syntax::{Expr, Selector, Variable};
+use ps_text::Span;
+
+impl<'a> Context<'a> {
+    /// Selectors that don't fit what they select of.
+    pub(crate) fn wrong_selector(&self, variable: &Variable) -> Option<Why> {
+        let Some(mut ty) = self.outline.type_of_name(variable.name) else {
+            return None;
+        };
+        let mut end = variable.name.to;
+        for selector in variable.selectors.as_slice() {
+            let text = Span {
+                from: variable.name.from,
+                to: end,
+            };
+            if let Some(why) = self.cannot_select(text, ty, selector) {
+                return Some(why);
+            }
+            match self.outline.selected(ty, selector) {
+                Some(next) => ty = next,
+                None => return None,
+            }
+            end = self.end_of_selector(end, selector);
+        }
+        None
+    }
+
+    // Where a selector ends that stands behind an offset.
+    fn end_of_selector(&self, end: u32, selector: &Selector) -> u32 {
+        match selector {
+            Selector::Index(_) => self.end_of_index(end),
+            Selector::Field(at) | Selector::Content(at) => at.to,
+        }
+    }
+
+    // Where the brackets end that stand behind an offset, of which one pair may close several indices.
+    fn end_of_index(&self, end: u32) -> u32 {
+        let mut open: u32 = 0;
+        for token in self.tokens_behind(end) {
+            open = match token.kind {
+                Kind::LeftBracket | Kind::LeftParen => open.saturating_add(1),
+                Kind::RightBracket | Kind::RightParen => open.saturating_sub(1),
+                _ => open,
+            };
+            if open == 0 {
+                return token.span.to;
+            }
+        }
+        end
+    }
+
+    // A selector that doesn't fit.
+    fn cannot_select(&self, text: Span, ty: Type, selector: &Selector) -> Option<Why> {
+        match (selector, self.outline.form(ty)) {
+            (Selector::Field(_), Some(Form::Record(_)))
+            | (Selector::Content(_), Some(Form::Pointer(_)))
+            | (_, None) => None,
+            (Selector::Index(indices), Some(Form::Array { .. })) => {
+                self.too_many_indices(text, ty, indices.len())
+            }
+            (Selector::Index(_), Some(_)) => self.no_structure(text, ty, "array"),
+            (Selector::Field(_), Some(Form::Pointer(_))) => Some(no_content(text)),
+            (Selector::Field(field), Some(Form::Array { .. })) => {
+                self.no_record_but_array(text, ty, *field)
+            }
+            (Selector::Field(_), Some(_)) => self.no_structure(text, ty, "record"),
+            (Selector::Content(_), Some(_)) => self.no_structure(text, ty, "pointer"),
+        }
+    }
+
+    // More indices than an array has.
+    fn too_many_indices(&self, text: Span, array: Type, given: usize) -> Option<Why> {
+        let mut ty = array;
+        let mut count: i64 = 0;
+        for _ in 0..given {
+            match self.outline.form(ty) {
+                Some(
+                    Form::Array {
+                        component: Some(component),
+                        ..
+                    },
+                ) => ty = component,
+                Some(_) => return Some(told_indices(text, count, given)),
+                None => return None,
+            }
+            count = count.saturating_add(1);
+        }
+        None
+    }
+
+    /// What is selected of as if it were an array, a record or a pointer.
+    pub(crate) fn no_structure(&self, text: Span, ty: Type, word: &'static str) -> Option<Why> {
+        match self.told(Some(ty)) {
+            Some(ty) => Some(
+                told("`@x` is @t, and no @w")
+                    .text(text)
+                    .ty(ty)
+                    .word(word)
+                    .declared(text),
+            ),
+            None => None,
+        }
+    }
+
+    // An array whose components are records.
+    fn no_record_but_array(&self, text: Span, ty: Type, field: Span) -> Option<Why> {
+        match self.no_structure(text, ty, "record") {
+            Some(why) => Some(why.helped(Help::Both(
+                "a field is one of a component: `@a[..].@b`",
+                text,
+                field,
+            ))),
+            None => None,
+        }
+    }
+
+    // The type of an index: behind so many selectors and indices of a variable.
+    fn index_type(&self, variable: &Variable, before: u32, number: u32) -> Option<Type> {
+        match variable.selectors.as_slice().get(..before as usize) {
+            Some(selectors) => {
+                self.index_behind(self.outline.type_behind(variable.name, selectors), number)
+            }
+            None => None,
+        }
+    }
+
+    // The type of an index behind so many others.
+    fn index_behind(&self, ty: Option<Type>, number: u32) -> Option<Type> {
+        let mut at = ty;
+        for _ in 0..number {
+            at = self.component_of(at);
+        }
+        match self.outline.form_of(at) {
+            Some(Form::Array { index, .. }) => index,
+            _ => None,
+        }
+    }
+
+    // The type of an array's components.
+    fn component_of(&self, ty: Option<Type>) -> Option<Type> {
+        match self.outline.form_of(ty) {
+            Some(Form::Array { component, .. }) => component,
+            _ => None,
+        }
+    }
+
+    /// An index of another type.
+    pub(crate) fn wrong_index(
+        &self,
+        variable: &Variable,
+        before: u32,
+        number: u32,
+        value: &Expr,
+    ) -> Option<Why> {
+        let index = self.told(self.index_type(variable, before, number));
+        match self.unlike(index, self.told_expr(value)) {
+            Some((index, ty)) => {
+                let text = self.expr_span(value);
+                Some(
+                    told("an index of `@y` is @u, and `@x` is @t")
+                        .text(text)
+                        .ty(ty)
+                        .second(index)
+                        .other(self.indexed_before(variable.name, number, value.first_token()))
+                        .declared(variable.name)
+                        .helped(self.conversion(index, ty, text)),
+                )
+            }
+            None => None,
+        }
+    }
+
+    // What stands before the bracket of an index.
+    fn indexed_before(&self, name: Span, number: u32, index: u32) -> Span {
+        match self.outline.token_before(index) {
+            Some(bracket) if number == 0 => Span {
+                from: name.from,
+                to: bracket.span.from,
+            },
+            _ => name,
+        }
+    }
+}
+
+// How many indices an array has, and is given.
+fn told_indices(text: Span, count: i64, given: usize) -> Why {
+    told(if count == 1 {
+        "`@x` has @N index, and is given @m"
+    } else {
+        "`@x` has @N indices, and is given @m"
+    })
+    .text(text)
+    .number(count)
+    .further(long(given))
+    .declared(text)
+}
+
+/// A pointer without `^`.
+pub(crate) fn no_content(text: Span) -> Why {
+    told("`@x` is a pointer, and no record: what it points to is `@x^`")
+        .text(text)
+        .declared(text)
+        .changed(Change::Behind(text, "", "^"))
+}

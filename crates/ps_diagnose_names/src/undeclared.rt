@@ -1,0 +1,251 @@
+//! Names of which nothing is known, and the declarations that they may lack (30).
+
+use crate::context::Context;
+use crate::operators::{adding_of, type_of_operand};
+use crate::required::Known;
+use crate::spot::Spot;
+use crate::why::{Change, Why, told};
+use ps_diagnose_outline::{Form, Part, PointKind, Type};
+use ps_scan::{Kind, Token};
+use ps_syntax::{Adding, Simple};
+use ps_text::Span;
+
+impl<'a> Context<'a> {
+    /// A name of which nothing is known, and what a declaration of it would be.
+    pub(crate) fn undeclared(&self) -> Why {
+        let why = told("`@p` is not declared");
+        match self.spots.last() {
+            Some(Spot::Statement(_, parameters)) => why.help(if parameters.is_empty() {
+                "a procedure is declared before it is used: procedure @p; begin .. end;"
+            } else {
+                "a procedure is declared before it is used: procedure @p(..); begin .. end;"
+            }),
+            Some(Spot::Call(..)) => why.help(
+                "a function is declared before it is used: function @p(..): integer; begin .. end;",
+            ),
+            Some(Spot::TypeName(_) | Spot::IndexType(_) | Spot::Result(..)) => why.help(
+                "the types integer, char and Boolean need no declaration; others are declared in the `type` part: type @p = ..;",
+            ),
+            Some(Spot::Definition(..) | Spot::Range(..) | Spot::CaseConstant(..)) => {
+                why.help("a constant is declared in the `const` part: const @p = ..;")
+            }
+            _ => {
+                let why = self.with_string(self.with_members(why));
+                self.with_variable(why, self.common_block())
+            }
+        }
+    }
+
+    // The string that may be meant where a name is written once, and used nowhere else.
+    fn with_string(&self, why: Why) -> Why {
+        for spot in self.spots.iter() {
+            if let Spot::Passed(name, ..) = spot {
+                return match self.known(*name) {
+                    Known::Write | Known::Writeln if self.uses.is_empty() => {
+                        why.help("a string stands between apostrophes: '@p'")
+                            .changed(Change::For(self.place(), "'@p'"))
+                    }
+                    _ => why,
+                };
+            }
+        }
+        why
+    }
+
+    // The constants of the enumeration that is wanted at the place.
+    fn with_members(&self, why: Why) -> Why {
+        let Some(ty) = self.wanted_type() else {
+            return why;
+        };
+        match self.outline.form(ty) {
+            Some(Form::Enumeration(denoter)) => {
+                match self.outline.denoter_at(Type::Told(denoter)) {
+                    Some(from) => why.ty(ty).help_of(
+                        "the values of @t are @a",
+                        self.outline.extent(from, Part::Denoter),
+                    ),
+                    None => why,
+                }
+            }
+            _ => why,
+        }
+    }
+
+    /// Tries a declaration of a variable in a block, if its type can be told.
+    pub(crate) fn with_variable(&self, why: Why, block: u32) -> Why {
+        match self.wanted_type() {
+            Some(Type::Text(length)) => self.declared_in(
+                why.number(i64::from(length)),
+                block,
+                "@p: packed array [1..@n] of char;",
+                "var @p: packed array [1..@n] of char;",
+            ),
+            Some(Type::Integer) => {
+                self.declared_in(why, block, "@p: integer;", "var @p: integer;")
+            }
+            Some(Type::Boolean) => {
+                self.declared_in(why, block, "@p: Boolean;", "var @p: Boolean;")
+            }
+            Some(Type::Char) => self.declared_in(why, block, "@p: char;", "var @p: char;"),
+            Some(Type::Told(_)) => match self.wanted_name() {
+                Some(name) => self.declared_in(why.third(name), block, "@p: @z;", "var @p: @z;"),
+                None => why.help(A_VARIABLE),
+            },
+            _ => why.help(A_VARIABLE),
+        }
+    }
+
+    // The type that the name is used with at the place.
+    fn wanted_type(&self) -> Option<Type> {
+        for spot in self.spots.iter().rev() {
+            if let Some(ty) = self.type_wanted_by(*spot) {
+                return self.told(Some(ty));
+            }
+        }
+        None
+    }
+
+    // The type name of the denoter by which the wanted type is told.
+    fn wanted_name(&self) -> Option<Span> {
+        match self.wanted_type() {
+            Some(ty) => match self.denoter_token(ty) {
+                Some(token) if token.kind == Kind::Name => Some(token.span),
+                _ => None,
+            },
+            None => None,
+        }
+    }
+
+    // The type that a construct wants of what stands at the place, where it is a name alone.
+    fn type_wanted_by(&self, spot: Spot<'_>) -> Option<Type> {
+        match spot {
+            Spot::Named(variable) if !variable.selectors.is_empty() => Some(Type::Nil),
+            Spot::Target(_, value) => Some(self.outline.type_of(value).unwrap_or(Type::Nil)),
+            Spot::Value(variable, _) => self.outline.type_of_variable(variable),
+            Spot::Condition(_) | Spot::Not(..) => Some(Type::Boolean),
+            Spot::Control(_) => Some(self.control_type().unwrap_or(Type::Integer)),
+            Spot::Bound(control, _) => self.outline.type_of_name(control),
+            Spot::Added(simple, number) => Some(type_beside(simple, number)),
+            Spot::Multiplied(term, number) => Some(type_of_operand(term, number)),
+            Spot::Passed(name, number, _) => self.type_passed(name, number),
+            Spot::Compare(left, _, right) => self.type_compared(left, right),
+            _ => None,
+        }
+    }
+
+    // The type of the first bound where the place is a control variable.
+    fn control_type(&self) -> Option<Type> {
+        match self.token_at(self.place().to) {
+            Some(assign) => self.type_of_bound(assign.span.to),
+            None => None,
+        }
+    }
+
+    fn type_of_bound(&self, from: u32) -> Option<Type> {
+        match self.token_at(from) {
+            Some(first) => match first.kind {
+                Kind::Text => self.outline.type_of_text(first.span),
+                Kind::Name => self.outline.type_of_name(first.span),
+                _ => Some(Type::Integer),
+            },
+            None => None,
+        }
+    }
+
+    // The type of an operand of a comparison.
+    fn type_compared(&self, left: &Simple, right: &Simple) -> Option<Type> {
+        match self.outline.type_of_simple(left) {
+            Some(ty) => Some(ty),
+            None => self.outline.type_of_simple(right),
+        }
+    }
+
+    // The type that a routine wants of a parameter.
+    fn type_passed(&self, name: Span, number: u32) -> Option<Type> {
+        match self.outline.declared(name) {
+            Some(routine) => match self.formal(routine, number) {
+                Some(formal) => formal.ty,
+                None => None,
+            },
+            None => match self.known(name) {
+                Known::Read | Known::Readln | Known::Write | Known::Writeln | Known::Number => {
+                    Some(Type::Integer)
+                }
+                _ => None,
+            },
+        }
+    }
+
+    // Tries a declaration in a block: before its first variable, or behind its declarations.
+    fn declared_in(&self, why: Why, block: u32, form: &'static str, part: &'static str) -> Why {
+        match self.first_variable(block) {
+            Some(name) => why.changed(Change::Before(name, " ", form)),
+            None => match self.end_of_declarations(block) {
+                Some(place) => why.changed(Change::Before(place, "\n", part)),
+                None => why,
+            },
+        }
+    }
+
+    /// The block of the place.
+    pub(crate) fn block_here(&self) -> u32 {
+        self.outline.block_at(self.place().from)
+    }
+
+    // The block that all uses are in: that of the place, or the program.
+    fn common_block(&self) -> u32 {
+        let block = self.block_here();
+        for span in self.uses.iter() {
+            if self.outline.block_at(span.from) != block {
+                return 0;
+            }
+        }
+        block
+    }
+
+    // The first variable that a block declares.
+    fn first_variable(&self, block: u32) -> Option<Span> {
+        for number in self.outline.points_of(block) {
+            match self.outline.point(*number) {
+                Some(point) if matches!(point.kind, PointKind::Variable) => {
+                    return Some(point.name);
+                }
+                _ => {}
+            }
+        }
+        None
+    }
+
+    // The first routine of a block, or its `begin`.
+    fn end_of_declarations(&self, block: u32) -> Option<Span> {
+        match self.outline.region(block) {
+            Some(region) => first_behind(self.tokens_behind(region.from)),
+            None => None,
+        }
+    }
+}
+
+// The first token of a routine or of the statements of a block.
+fn first_behind(tokens: &[Token]) -> Option<Span> {
+    let mut open: u32 = 0;
+    for token in tokens {
+        match token.kind {
+            Kind::Begin => return Some(token.span),
+            Kind::LeftParen => open = open.saturating_add(1),
+            Kind::RightParen => open = open.saturating_sub(1),
+            Kind::Procedure | Kind::Function if open == 0 => return Some(token.span),
+            _ => {}
+        }
+    }
+    None
+}
+
+const A_VARIABLE: &str = "a variable is declared before it is used: var @p: ..;";
+
+// The type that adding operators want of an operand.
+fn type_beside(simple: &Simple, number: u32) -> Type {
+    match adding_of(simple, number) {
+        Adding::Or => Type::Boolean,
+        Adding::Plus | Adding::Minus => Type::Integer,
+    }
+}
