@@ -71,7 +71,8 @@ module _ (checked : Tree.Program) (bytes : List ℕ) (image : Image) (is : IsIma
 -- ---- what an image is made of
 
 pub made_of : (checked : Tree.Program) (code : Code) (image : Image) (bytes : List ℕ) → ((passed : Code)
-    → IsPassed code passed → IsCodeOf checked passed) → IsEmittedFor code image → IsCharged checked image → IsImage bytes
+    → IsPassed code passed → IsCodeOf checked passed) → IsEmittedFor code image → IsCharged checked image
+    → IsImage bytes
     image → AreMadeOf checked bytes
 made_of checked code image bytes lowered emitted charged is =
     record {

@@ -191,7 +191,8 @@ module _ (f : Frame) where
   begun_fresh from m count t l (s ∷ ss) begun b none =
       let new = and_true (is_later f.names count s) (not (has begun s)) b.0 in
       let apart : has begun s ≡ false = not_has (has begun s) new.1 in (
-        has_neither (from ++ m) begun s (has_neither from m s (later_fresh f.names from count s t l new.0) none.0) apart,
+        has_neither (from ++ m) begun s (has_neither from m s (later_fresh f.names from count s t l new.0) none.0)
+            apart,
         subst (λ z. Fresh z ss) (sym (append_assoc (from ++ m) begun (s ∷ [])))
             (begun_fresh from m count t l ss (begun ++ s ∷ []) b.1 none.1),
       )

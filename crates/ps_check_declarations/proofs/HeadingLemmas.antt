@@ -12,7 +12,8 @@ use Rattle.ps_syntax.specs.declared.program.Heading.TheFolds.{fold-roll-Heading,
 use Rattle.ps_tree.specs.View.{type_of}
 use Rattle.ps_tree.specs.declared.types.Ty.{Ty}
 use Rattle.ps_check_judgement.specs.Judged.{Yes, ◌>>=◌}
-use Rattle.ps_check_names.specs.Regions.{Meaning, ValueSection, VariableSection, RoutineSection, Sections, section_before}
+use Rattle.ps_check_names.specs.Regions.{Meaning, ValueSection, VariableSection, RoutineSection, Sections}
+use Rattle.ps_check_names.specs.Regions.{section_before}
 use Rattle.ps_check_names.specs.SectionViews as regions
 use Rattle.ps_check_names.specs.declared.sections.Section as Rust
 use Rattle.ps_check_names.specs.declared.sections.Section.TheVariants as kind

@@ -1,6 +1,7 @@
 -- Lists of formal parameters that have one code are congruous.
 use Rattle.std.proofs.Common.{◌≡◌, ℕ, ◌+◌, ◌-◌, ◌*◌, ◌<◌, ◌≤◌, Bool, true, false, not, ◌&&◌, ◌||◌, ◌==◌}
-use Rattle.std.proofs.Common.{if◌then◌else◌, List, [], ◌∷◌, ◌++◌, nat_lt, nat_le, nat_eq, length, Option, Some, None, is_none}
+use Rattle.std.proofs.Common.{if◌then◌else◌, List, [], ◌∷◌, ◌++◌, nat_lt, nat_le, nat_eq, length, Option, Some, None}
+use Rattle.std.proofs.Common.{is_none}
 use Rattle.std.proofs.Common.{refl, sym, ap, ◌∙◌, append_assoc, arith}
 use Rattle.std.proofs.lemmas.Bool.{eq-eqb, eqb-true, ltb-true, leb-true}
 use Rattle.ps_tree.specs.declared.types.Host.{Host}
@@ -171,8 +172,10 @@ module _ (x n m : ℕ) (s t : DataType) (r q : List ℕ) where
       heads (first_word n x s) (first_word m x t) (hosts s ++ r) (hosts t ++ q) e in
       let below_s : form s + x < 16 = omega (arith, lx, form_below s) in
       let below_t : form t + x < 16 = omega (arith, lx, form_below t) in
-      let tag = same_tag (number s * 32 + (n - 1)) (number t * 32 + (m - 1)) (form s + x) (form t + x) first below_s below_t in
-      let above = same_above (number s * 32 + (n - 1)) (number t * 32 + (m - 1)) (form s + x) (form t + x) first below_s below_t
+      let tag = same_tag (number s * 32 + (n - 1)) (number t * 32 + (m - 1)) (form s + x)
+      (form t + x) first below_s below_t in
+      let above = same_above (number s * 32 + (n - 1)) (number t * 32 + (m - 1)) (form s + x)
+      (form t + x) first below_s below_t
       in
       let form_is : form s ≡ form t = omega (arith, tag) in
       let f = fits_parts n s fs in
@@ -189,10 +192,13 @@ results_alike : (s t : Option DataType) (r q : List ℕ) → fits_result s ≡ t
     ++ r ≡ result_words t ++ q → (are_one_type s t ≡ true) × (r ≡ q)
 results_alike None None r q f g e = (refl, tails 15 15 r q e)
 results_alike (Some s) (Some t) r q f g e =
-    let one = counted_alike 0 1 1 s t r q (omega arith) f g (tails 14 14 (type_words 1 0 s ++ r) (type_words 1 0 t ++ q) e)
+    let one = counted_alike 0 1 1 s t r q (omega arith) f g
+    (tails 14 14 (type_words 1 0 s ++ r) (type_words 1 0 t ++ q) e)
     in (both_right (1 == 1) (is_same_type s t) one.0, one.1)
-results_alike None (Some t) r q f g e = absurd (let w : 15 ≡ 14 = heads 15 14 r (type_words 1 0 t ++ q) e in omega (arith, w))
-results_alike (Some s) None r q f g e = absurd (let w : 14 ≡ 15 = heads 14 15 (type_words 1 0 s ++ r) q e in omega (arith, w))
+results_alike None (Some t) r q f g e = absurd
+    (let w : 15 ≡ 14 = heads 15 14 r (type_words 1 0 t ++ q) e in omega (arith, w))
+results_alike (Some s) None r q f g e = absurd
+    (let w : 14 ≡ 15 = heads 14 15 (type_words 1 0 s ++ r) q e in omega (arith, w))
 
 -- ---- sections
 

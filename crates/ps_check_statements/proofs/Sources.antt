@@ -25,7 +25,8 @@ use Rattle.ps_check_judgement.specs.Judged as j
 use Rattle.ps_check_judgement.specs.Judged.{Judged, Yes, No, some_or}
 use Rattle.ps_check_judgement.specs.Changing.{◌>>=◌, still, through}
 use Rattle.ps_check_names.specs.Constants.{misplacement}
-use Rattle.ps_check_names.specs.Regions.{Context, Region, BlockRegion, RecordRegion, OwnNames, fields_of, Meaning, Point}
+use Rattle.ps_check_names.specs.Regions.{Context, Region, BlockRegion, RecordRegion, OwnNames, fields_of, Meaning}
+use Rattle.ps_check_names.specs.Regions.{Point}
 use Rattle.ps_check_names.specs.Regions.{ConstantMeaning, TextMeaning, TypeMeaning, VariableMeaning, ParameterMeaning}
 use Rattle.ps_check_names.specs.Regions.{RoutineParameterMeaning, RoutineMeaning, FileMeaning, RequiredMeaning}
 use Rattle.ps_check_names.specs.Regions.{LeftOutMeaning, BlockPoint, FieldPoint, one_more, missing, of_block, in_block}
@@ -42,7 +43,8 @@ use Rattle.ps_check_expressions.proofs.Judgement.{variable_variable}
 use Rattle.ps_check_statements.specs.declared.known.Known.{Known}
 use Rattle.ps_check_statements.specs.declared.known.Source.{Source}
 use Rattle.ps_check_statements.specs.declared.known.Source.TheVariants.{Named, Pointed}
-use Rattle.ps_check_statements.specs.Known.{type_at, type_found, type_named, IsGiven, Gives, KnownBy, Knows, IsVariable, base_in}
+use Rattle.ps_check_statements.specs.Known.{type_at, type_found, type_named, IsGiven, Gives, KnownBy, Knows}
+use Rattle.ps_check_statements.specs.Known.{IsVariable, base_in}
 use Rattle.ps_check_statements.specs.Known.{Targets, IsSource}
 
 -- ---- lists
@@ -98,7 +100,8 @@ module _ (t : DataType) where
       by (Some m) e = e
 
   finds_more : (r : Rule) (at at' : ℕ) (o : Option ℕ) (f g : ℕ → Judged Point)
-      → ((n : ℕ) → Finds t (f n) → Finds t (g n)) → Finds t (j.◌>>=◌ (some_or r at o) f) → Finds t (j.◌>>=◌ (some_or r at' o) g)
+      → ((n : ℕ) → Finds t (f n) → Finds t (g n)) → Finds t (j.◌>>=◌ (some_or r at o) f) → Finds t
+      (j.◌>>=◌ (some_or r at' o) g)
   finds_more r at at' None f g rest e = absurd (none_some e)
   finds_more r at at' (Some n) f g rest e = rest n e
 
@@ -264,7 +267,8 @@ module _ (c : Context) (Γ : List Region) (x : syntax.Variable) (cs ds : List Ch
       → (p : Point) × (find Γ name x.name.from ≡ Yes p) × ((w : Variable) × (variable_at x.name.from p ≡ Yes w)
       × (selects ss w cs ≡ Yes (v, ds)))
   found_of ss is e = entire (selects ss) (find Γ name x.name.from)
-      (ap (λ ss. (named_variable c Γ x.name >>= selects ss) cs) (sym is) ∙ sym (ap (λ f. f cs) (variable_variable c Γ x))
+      (ap (λ ss. (named_variable c Γ x.name >>= selects ss) cs) (sym is) ∙ sym
+      (ap (λ f. f cs) (variable_variable c Γ x))
       ∙ e)
 
 abbrev base_in_place : ℕ → Tree.Place → ℕ
@@ -457,7 +461,8 @@ module _ (domains : List DataType) (Γ : List Region) (records : List Ty) (s : L
   )
 
   -- what it gives is one type
-  pub gives_one : (source : Source) (number : ℕ) (type : DataType) (other : Ty) → Gives domains Γ records s source number
+  pub gives_one : (source : Source) (number : ℕ) (type : DataType) (other : Ty)
+      → Gives domains Γ records s source number
       → IsGiven domains Γ records s source type → slice_get records number ≡ Some other → type ≡ type_of other
   gives_one source number type other h g is =
       some_inside type (type_of other) (sym g.1 ∙ h.2.1 ∙ ap (λ t. Some (type_of t))

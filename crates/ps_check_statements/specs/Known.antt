@@ -1,5 +1,5 @@
--- What gives a record that a `with` opens its type (6.8.3.10): a name, or a pointer's type. One name within one number of
--- records denotes one variable, so that the records that it opens need not be compared.
+-- What gives a record that a `with` opens its type (6.8.3.10): a name, or a pointer's type. One name within one number
+-- of records denotes one variable, so that the records that it opens need not be compared.
 use Rattle.std.specs.Prelude.{◌≡◌, ◌-◌, ◌≤◌, ℕ, List, [], ◌∷◌, length, take, slice_get, Option, Some, None}
 use Rattle.ps_text.specs.declared.Span.{Span}
 use Rattle.ps_syntax.specs.declared.expression.Variable as syntax
@@ -46,7 +46,8 @@ Within count (Pointed number) = Unit {0}
 
 -- a source in a list of records gives a name the type
 abbrev pub IsGiven : (domains : List DataType) → List Region → List Ty → List ℕ → Source → DataType → Type 0
-IsGiven domains Γ records s source type = Within (length records) source × (given domains Γ records s source ≡ Some type)
+IsGiven domains Γ records s source type = Within (length records) source
+    × (given domains Γ records s source ≡ Some type)
 
 -- the record with this number is of the type that a source gives a name
 abbrev pub Gives : (domains : List DataType) → List Region → List Ty → List ℕ → Source → ℕ → Type 0

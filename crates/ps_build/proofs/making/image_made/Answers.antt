@@ -1,5 +1,5 @@
--- The code does what the program means, so does what a pass made of it, the parts are those of either, and the bytes are
--- the parts'.
+-- The code does what the program means, so does what a pass made of it, the parts are those of either, and the bytes
+-- are the parts'.
 use Rattle.std.proofs.Common.{sym, subst}
 use Rattle.ps_tree.specs.Tree.{Program}
 use Rattle.ps_tree.specs.Checked.{program_in}

@@ -14,7 +14,8 @@ pub returns-clause-runs : goal.returns-clause-runs
 returns-clause-runs g c =
     let old = g.C.Console.world c.args.console.now in
     let new = g.C.Console.world c.run_view_to_end.new.console in
-    if_ended_in (λ ended. ended.outcome) c.run_view_to_end.result (Runs c.in-Ok.view c.args.budget c.args.max_steps old new)
+    if_ended_in (λ ended. ended.outcome) c.run_view_to_end.result
+    (Runs c.in-Ok.view c.args.budget c.args.max_steps old new)
     (RunsImage c.args.image.now c.args.budget c.args.max_steps old new) (λ outcome runs. record {
       image = c.in-Ok.view;
       is_image = c.in-Ok.ensures.ok;
@@ -26,7 +27,8 @@ pub returns-clause-left : goal.returns-clause-left
 returns-clause-left g c =
     let old = g.C.Console.world c.args.console.now in
     let new = g.C.Console.world c.run_view_to_end.new.console in
-    if_left_in (λ ended. ended.outcome) c.run_view_to_end.result (IsRunLeft c.in-Ok.view c.args.budget c.args.max_steps old new)
+    if_left_in (λ ended. ended.outcome) c.run_view_to_end.result
+    (IsRunLeft c.in-Ok.view c.args.budget c.args.max_steps old new)
     (IsImageLeft c.args.image.now c.args.budget c.args.max_steps old new) (λ h. record {
       steps = h.steps;
       fewer = h.fewer;

@@ -24,7 +24,8 @@ returns-in_err-from c =
       pack_yes (context_at c.args.site) (regions_at c.args.site) c.args.name c.args.parameters.now
           c.args.changes.now.items c.parameter_variable-from.new.changes.items c.parameter_index.new.changes.items
           c.parameter_variable.new.changes.items c.a-item.result c.i-item.result c.z-item.result
-          c.parameter_variable-from.result c.parameter_index.result c.parameter_variable.result c.in_ok-unpacked.unpacked
+          c.parameter_variable-from.result c.parameter_index.result c.parameter_variable.result
+          c.in_ok-unpacked.unpacked
           (c.in_ok-unpacked.index, c.in_ok-unpacked.ordinal) c.in_ok-unpacked.packed
           (three_items c.args.parameters.now c.a-item.result c.i-item.result c.z-item.result c.in-len3.len_at_least
           c.in-len3.len_below c.a-item.is c.i-item.is c.z-item.is) c.parameter_variable-from.ensures
@@ -43,7 +44,8 @@ returns c =
       pack_yes (context_at c.args.site) (regions_at c.args.site) c.args.name c.args.parameters.now
           c.args.changes.now.items c.parameter_variable-from.new.changes.items c.parameter_index.new.changes.items
           c.parameter_variable.new.changes.items c.a-item.result c.i-item.result c.z-item.result
-          c.parameter_variable-from.result c.parameter_index.result c.parameter_variable.result c.in_ok-unpacked.unpacked
+          c.parameter_variable-from.result c.parameter_index.result c.parameter_variable.result
+          c.in_ok-unpacked.unpacked
           (c.in_ok-unpacked.index, c.in_ok-unpacked.ordinal) c.in_ok-unpacked.packed
           (three_items c.args.parameters.now c.a-item.result c.i-item.result c.z-item.result c.in-len3.len_at_least
           c.in-len3.len_below c.a-item.is c.i-item.is c.z-item.is) c.parameter_variable-from.ensures
