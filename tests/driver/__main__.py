@@ -61,10 +61,6 @@ INTERRUPTED = 130
 PROCESSORS = int(os.environ.get("RT_JOBS") or 0) or len(os.sched_getaffinity(0))
 
 
-# what is told before the run
-notes: List[str] = []
-
-
 def fail(why: str) -> NoReturn:
     print(f"test: {why}", file=sys.stderr)
     sys.exit(1)
@@ -102,7 +98,6 @@ def shapes_jobs(program: str) -> List[Job]:
     shapes = module_from_spec(spec_from_loader(loader.name, loader))
     sys.modules[loader.name] = shapes
     loader.exec_module(shapes)
-    notes.extend(f"left out, not yet as it must be: tests/shapes: {case.shape}: {case.reason}" for case in shapes.LATER)
     return [shapes_job(shapes, case, program) for case in shapes.CASES]
 
 
@@ -237,8 +232,6 @@ def introduce(program: str, kind: str, choice: Choice, has_terminals: bool) -> N
         print(f"left out, since {kind} does not run them: {told}")
     if not has_terminals:
         print("left out, since there are no terminals here: conversations at one")
-    for note in notes:
-        print(note)
     sys.stdout.flush()
 
 
