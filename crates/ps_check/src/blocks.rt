@@ -41,7 +41,7 @@ use ps_tree::types::Ty;
 use std::alloc::{AllocError, Global};
 use std::mem;
 
-/// The same reading, with these domain types and these types with many fields known.
+/// The same reading, with these domain types and these wide types known.
 fn reading_with<'a>(reading: &Reading<'a>, domains: &'a [Ty], wides: &'a Wides) -> Reading<'a>
     ensures { context_of result ≡ of_statements (context_of reading.now) (map type_of domains.now) [] }
 {

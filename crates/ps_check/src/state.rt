@@ -10,7 +10,7 @@ use ps_tree::tree::Statement;
 use ps_tree::types::Ty;
 
 /// The whole program so far: the domain types of its pointer types by their numbers, and its routines by theirs, which
-/// follow the order of their first headings, and its record types with many fields. A routine whose block hasn't come,
+/// follow the order of their first headings, and its wide record types. A routine whose block hasn't come,
 /// or is being read, has none yet.
 #[derive(Drop)]
 pub struct Gathered {

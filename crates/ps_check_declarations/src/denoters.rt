@@ -686,7 +686,7 @@ fn one_record(
     small(Ty::Record { at, packed, fields }, at)
 }
 
-/// Notes a record type, if it has many fields.
+/// Notes a record type, if it is wide.
 fn note_type(alloc: Global, seed: Seed, declared: &mut Declared, ty: &Ty) -> Result<(), AllocError>
     ensures { OnOk result (declared_of declared.new ≡ declared_of declared.old) }
 {

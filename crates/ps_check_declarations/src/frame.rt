@@ -31,7 +31,7 @@ pub struct Frame<'a> {
 
 /// What the declarations so far give: the meanings of the block's names, the domain types of the pointer types, the
 /// names of the domain types still pending, each with the number of the block's names known before it, the types of the
-/// block's variables, and the record types with many fields.
+/// block's variables, and the wide record types.
 #[derive(Drop)]
 pub struct Declared {
     pub known: Vec<Meaning>,

@@ -6,3 +6,4 @@ pub mod NoteLemmas
 pub mod PlaceLemmas
 pub mod WideLemmas
 pub mod MarkLemmas
+pub mod LengthLemmas

@@ -86,7 +86,7 @@ pub marked_like : (records : List Ty) (another : Ty) (start : FoldHasher) (marks
 marked_like records another start marks like marked l same = λ s h. let o = got_or records like l in
     marked like o.0 o.1 s (h.0, ap (λ t. field_in (fields_of t) s) (sym (same o.0 o.1)) ∙ h.1)
 
--- one of a type with many fields, whose set is joined
+-- one of a wide type, whose set is joined
 pub marked_type : (ty : Ty) (types : List Ty) (start : FoldHasher) (sets : List (List ℕ)) (marks : List ℕ) (number : ℕ)
     → MarkedTypes types start sets → StandsIn ty types number
     → ((n : ℕ) → Holds (get_or sets number []) n → Holds marks n) → MarkedFor ty start marks

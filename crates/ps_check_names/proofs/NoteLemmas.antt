@@ -316,7 +316,7 @@ module _ (records : List Ty) (ty : Ty) (asked : ℕ) (names : List (List ℕ)) (
       (λ e. let l = covers s k t e h (omega (arith, apart, more)) passed in let b = keeps s in omega (arith, l, b))
       (λ e f. let l = noted s (rw (sym f) at h) (omega (arith, apart, e, last)) in omega (arith, l, e, last))
 
-  -- it is of a type with many fields
+  -- it is of a wide type
   pub covers_wide : (present' latest' : List ℕ) (number before : ℕ) → before ≡ length records
       → ((n : ℕ) → Holds present n → Holds present' n) → Holds present' number
       → ((n : ℕ) → get_or latest n 0 ≤ get_or latest' n 0) → before + 1 ≤ get_or latest' number 0

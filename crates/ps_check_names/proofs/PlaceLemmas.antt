@@ -103,7 +103,7 @@ module _ (records : List Ty) (ty : Ty) (places : List (Option ℕ)) (types : Lis
         (λ q e. absurd (none_some (sym none ∙ e)))),
   )
 
-  -- it is of a type with many fields
+  -- it is of a wide type
   pub placed_wide : (number : ℕ) (last : Option ℕ) → last ≡ Some number → StandsIn ty types number → Placed
       (records ++ ty ∷ []) (places ++ last ∷ []) types
   placed_wide number last one like = (

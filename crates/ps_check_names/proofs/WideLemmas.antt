@@ -1,4 +1,4 @@
--- Sets of numbers by their bits, and the record types with many fields that have a field of a name.
+-- Sets of numbers by their bits, and the wide record types that have a field of a name.
 use Rattle.std.proofs.Common.{◌≡◌, ◌≢◌, ◌+◌, ◌*◌, ◌/◌, ◌%◌, ◌<◌, ◌≤◌, ◌⊎◌, inl, inr, min, ℕ, zero, suc, Bool, not}
 use Rattle.std.proofs.Common.{List, [], ◌∷◌, ◌++◌, length, map, Option, Some, None, refl, sym, ap, subst, ◌∙◌, arith}
 use Rattle.std.proofs.Common.{slice_get, get_or, set}

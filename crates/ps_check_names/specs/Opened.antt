@@ -1,5 +1,5 @@
 -- What is noted of the fields of opened records, so that a name needs not be looked for in each of them.
-use Rattle.std.specs.Prelude.{◌≡◌, ◌+◌, ◌<◌, ◌≤◌, ℕ, Bool, nat_lt, List, length, Option, Some, None, is_some}
+use Rattle.std.specs.Prelude.{◌≡◌, ◌+◌, ◌<◌, ◌≤◌, ℕ, Bool, nat_lt, List, [], ◌∷◌, length, Option, Some, None, is_some}
 use Rattle.std.specs.Prelude.{option_and_then, slice_get, get_or}
 use Rattle.ps_tree.specs.declared.types.Ty.{Ty}
 use Rattle.ps_tree.specs.Types.{DataType, field_in, field_names}
@@ -20,16 +20,21 @@ at_place reaches (Some i) = get_or reaches i 0
 abbrev pub reach_of : (names : List (List ℕ)) (reaches : List ℕ) → List ℕ → ℕ
 reach_of names reaches s = at_place reaches (place names s)
 
--- record k is noted for the name of each of its fields, unless it is asked, or is not behind the last of a type with
--- many fields that has the name
+-- record k is noted for the name of each of its fields, unless it is asked, or is not behind the last of a wide type
+-- that has the name
 abbrev pub Covers : List Ty → (asked : ℕ) (names : List (List ℕ)) (reaches : List ℕ) (kinds : List ℕ → List ℕ)
     (present latest : List ℕ) → Type 0
 Covers records asked names reaches kinds present latest = (s : List ℕ) (k : ℕ) (ty : Ty) → slice_get records k ≡ Some ty
     → HasField ty s → asked ≤ k → Passed (kinds s) present latest k → k < reach_of names reaches s
 
--- a record of this type has more fields than are noted one by one
-abbrev pub has_many_fields : DataType → Bool
-has_many_fields type = nat_lt 128 (length (field_names (fields_of type)))
+-- how many characters names take, each with a comma
+abbrev pub written_length : List (List ℕ) → ℕ
+written_length [] = 0
+written_length (s ∷ names) = length s + 1 + written_length names
+
+-- the names of the fields are longer than what is noted with each record
+abbrev pub is_wide : DataType → Bool
+is_wide type = nat_lt 192 (written_length (field_names (fields_of type)))
 
 -- whether a record of this type has a field of this name
 abbrev pub has_field : Ty → List ℕ → Bool

@@ -1,4 +1,4 @@
--- Which record types with many fields have a field of a name, by their numbers.
+-- Which wide record types have a field of a name, by their numbers.
 use Rattle.std.specs.Prelude.{◌≡◌, ℕ, List, [], Option, Some, None, slice_get, get_or}
 use Rattle.ps_tree.specs.declared.types.Ty.{Ty}
 use Rattle.ps_tree.specs.Names.{place}

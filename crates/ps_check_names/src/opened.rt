@@ -23,15 +23,15 @@ use std::hash::FoldHasher;
 /// The types of the records that a `with` opens one after the other, each within those before it. A type that is no
 /// record has no fields.
 ///
-/// So that a name needs not be looked for in each of them, the names of their fields are noted. For a record with many
-/// fields that was done when its type was made, and it is only noted how far the last record of the type reaches. The
-/// first record of a `with` is asked, unless it has many fields: most have no other. So that a name needs not be looked
+/// So that a name needs not be looked for in each of them, the names of their fields are noted. For a record of a wide
+/// type that was done when its type was made, and it is only noted how far the last record of the type reaches. The
+/// first record of a `with` is asked, unless its type is wide: most have no other. So that a name needs not be looked
 /// for in each of many `with` statements round it, the marks of all these names are noted: most names without a field
 /// here have a mark that is not among them.
 #[derive(Drop)]
 pub struct Opened<'a> {
     pub records: Vec<Ty>,
-    // the types with many fields
+    // the wide types
     wides: &'a Wides,
     // how many of the records are asked
     asked: usize,
@@ -40,10 +40,10 @@ pub struct Opened<'a> {
     reaches: Vec<usize>,
     // the marks of the names of fields
     marks: Vec<usize>,
-    // the set of the types with many fields that are opened, and how many records there are up to the last of each
+    // the set of the wide types that are opened, and how many records there are up to the last of each
     present: Vec<usize>,
     latest: Vec<usize>,
-    // for each record the number of its type, if that has many fields
+    // for each record the number of its type, if that is wide
     places: Vec<Option<usize>>,
     ghost covers: { Covers records.items asked names reaches.items (kind_of wides.now.names
         (map (λ v. v.items) wides.now.kinds.items)) present.items latest.items },
@@ -195,7 +195,7 @@ fn smaller(a: usize, b: usize) -> usize
     if a < b { a } else { b }
 }
 
-/// The number of the type of the record with this number, if that has many fields.
+/// The number of the type of the record with this number, if that is wide.
 fn place_at(places: &[Option<usize>], number: usize) -> Option<usize>
     ensures { IfSome result (λ place. slice_get places.now number ≡ Some (Some place)) }
 {
@@ -206,7 +206,7 @@ fn place_at(places: &[Option<usize>], number: usize) -> Option<usize>
 }
 
 impl<'a> Opened<'a> {
-    /// No records, of a text with this seed and these types with many fields.
+    /// No records, of a text with this seed and these wide types.
     #[tactic(auto, using(crate::proofs::NoteLemmas::covers_none, crate::proofs::MarkLemmas::marked_none, crate::proofs::PlaceLemmas::placed_none))]
     pub fn new(alloc: Global, seed: Seed, wides: &'a Wides) -> Opened<'a>
         ensures { result.records.items ≡ [] }
@@ -303,8 +303,7 @@ impl<'a> Opened<'a> {
         })
     }
 
-    /// One record more, of the type of the record with this number, within these. It takes no longer where that has many
-    /// fields.
+    /// One record more, of the type of the record with this number, within these. It takes no longer where that is wide.
     pub fn with_like(
         self,
         alloc: Global,
@@ -337,7 +336,7 @@ impl<'a> Opened<'a> {
         }
     }
 
-    /// The same by what is noted of types with many fields.
+    /// The same by what is noted of wide types.
     #[tactic(auto, using(crate::proofs::WideLemmas::none_reached))]
     fn wide_reach(&self, name: &[u8]) -> usize
         ensures { (k : ℕ) → Reached (kind_of self.now.wides.now.names (map (λ v. v.items) self.now.wides.now.kinds.items)

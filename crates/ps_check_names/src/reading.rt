@@ -14,7 +14,7 @@ use smallvec::SmallVec;
 use std::alloc::{AllocError, Global};
 
 /// The text that is read, with its lines and the seed of its names' hashes, the domain types of the pointer types so
-/// far, by their numbers, its record types with many fields, and which of input and output the program heading lists.
+/// far, by their numbers, its wide record types, and which of input and output the program heading lists.
 #[derive(Clone, Copy)]
 pub struct Reading<'a> {
     pub source: &'a Source<'a>,

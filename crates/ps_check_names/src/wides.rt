@@ -1,12 +1,13 @@
-//! The record types of a program that have many fields, and which of them have a field of a name.
+//! The wide record types of a program, of which the names of the fields are long together, and which of them have a field
+//! of a name.
 
-ghost use Rattle.std.specs.Prelude.{◌≡◌, ◌+◌, ◌≤◌, ◌<◌, ℕ, List, [], length, map, get_or, Some, None, set, IfSome, IfNone, OnOk, IsTrue};
+ghost use Rattle.std.specs.Prelude.{◌≡◌, ◌+◌, ◌≤◌, ◌<◌, ℕ, List, [], length, map, get_or, Some, None, set, IfSome, IfNone, OnOk, IsTrue, nat_lt};
 ghost use Rattle.std.specs.Int.{bit_at};
 ghost use Rattle.ps_tree.specs.Names.{place};
 ghost use Rattle.ps_tree.specs.Types.{DataType, field_in};
 ghost use Rattle.ps_tree.specs.View.{type_of};
 ghost use Rattle.ps_check_names.specs.Regions.{fields_of};
-ghost use Rattle.ps_check_names.specs.Opened.{HasField, IsLike, StandsIn, has_many_fields};
+ghost use Rattle.ps_check_names.specs.Opened.{HasField, IsLike, StandsIn, is_wide, written_length};
 ghost use Rattle.ps_check_names.specs.Sets.{Holds, Reached};
 ghost use Rattle.ps_check_names.specs.Wides.{kind_of, Listed, KeepsKinds};
 ghost use Rattle.ps_check_names.specs.Marks.{MarkedFor, MarkedTypes};
@@ -18,17 +19,31 @@ use ps_tree::types::{Fields, Ty};
 use std::alloc::{AllocError, Global};
 use std::hash::{BuildHasher, FoldHasher};
 
-// A type with more fields is noted once, when it is made: to note all their names each time that such a record is opened
-// would take longer than to read the text that opens it.
-const MOST_NOTED: usize = 128;
+// A type whose fields' names take more characters, each with a comma, is noted once, when it is made: to note them each
+// time that such a record is opened would take longer than to read the text that opens it.
+const MOST_NOTED: usize = 192;
 
-/// Whether a record of the type has so many fields that they are noted once for the type.
+/// Whether names, each with a comma, take more characters than are noted with each record.
+fn are_long(names: &[Vec<u8>]) -> bool
+    ensures { result ≡ nat_lt 192 (written_length (map (λ v. v.items) names.now)) }
+{
+    let mut left = MOST_NOTED;
+    for name in names {
+        if left <= name.len() {
+            return true;
+        }
+        left -= name.len() + 1;
+    }
+    false
+}
+
+/// Whether the names of a record's fields are so long together that they are noted once for the type.
 #[tactic(auto, unfolding(crate::specs::Regions::fields_of, ps_tree::specs::View::type_of))]
-pub fn has_many_fields(ty: &Ty) -> bool
-    ensures { result ≡ has_many_fields (type_of ty.now) }
+pub fn is_wide(ty: &Ty) -> bool
+    ensures { result ≡ is_wide (type_of ty.now) }
 {
     match ty {
-        Ty::Record { fields, .. } => fields.names().len() > MOST_NOTED,
+        Ty::Record { fields, .. } => are_long(fields.names().as_slice()),
         _ => false,
     }
 }
@@ -240,7 +255,7 @@ fn key_of(at: u32) -> [u8; 4] {
     at.to_le_bytes()
 }
 
-/// The record types of a program so far that have many fields, by their numbers. Each has an offset of its own, by which
+/// The wide record types of a program so far, by their numbers. Each has an offset of its own, by which
 /// it is found. For the name of a field there is the set of the types that have it, so that none of them is asked for a
 /// name, and for each type there is the set of the marks of its fields' names.
 #[derive(Drop)]
@@ -270,10 +285,10 @@ impl Wides {
         }
     }
 
-    /// One type more, if it has many fields.
+    /// One type more, if it is wide.
     pub fn with(self, alloc: Global, ty: &Ty) -> Result<Wides, AllocError> {
         match ty {
-            Ty::Record { at, .. } if has_many_fields(ty) => self.with_wide(alloc, ty, *at),
+            Ty::Record { at, .. } if is_wide(ty) => self.with_wide(alloc, ty, *at),
             _ => Ok(self),
         }
     }
@@ -309,14 +324,14 @@ impl Wides {
         })
     }
 
-    /// The number of a type that has many fields.
+    /// The number of a wide type.
     pub(crate) fn number_of(&self, ty: &Ty) -> Option<usize>
         ensures { IfSome result (λ number. StandsIn ty.now self.now.types.items number) }
     {
         let Ty::Record { at, .. } = ty else {
             return None;
         };
-        if !has_many_fields(ty) {
+        if !is_wide(ty) {
             return None;
         }
         let number = self.keys.find(key_of(*at).as_slice())?;

@@ -1,4 +1,4 @@
-//! The records of a `with` list that have many fields, by the names that opened them.
+//! The records of a `with` list that are of wide types, by the names that opened them.
 
 ghost use Rattle.std.specs.Prelude.{◌≡◌, ◌<◌, length, set, IsTrue};
 
@@ -14,7 +14,7 @@ pub(crate) enum Source {
     Pointed(u32),
 }
 
-/// The records of many fields in a list, by their numbers. A record that the same source gives its type needs not be
+/// The records of wide types in a list, by their numbers. A record that the same source gives its type needs not be
 /// compared with those before it.
 #[derive(Drop)]
 pub(crate) struct Known {

@@ -22,7 +22,7 @@ use ps_check_judgement::change::Change;
 use ps_check_judgement::refusal::{Fault, Rule};
 use ps_check_names::opened::Opened;
 use ps_check_names::scope::Scope;
-use ps_check_names::wides::has_many_fields;
+use ps_check_names::wides::is_wide;
 use ps_syntax::{Selector as Syntax, Variable};
 use ps_tree::tree::{Place, PlaceBase, Selector};
 use ps_tree::types::Ty;
@@ -89,7 +89,7 @@ fn source_of(x: &Variable, place: &Place, count: usize) -> Option<Source>
     }
 }
 
-/// Opens a record of many fields within those before it, where a source gives it its type.
+/// Opens a record of a wide type within those before it, where a source gives it its type.
 fn open_again<'a>(
     x: &Variable,
     source: Source,
@@ -132,7 +132,7 @@ fn open_within<'a>(
     ensures known { IfOk result (λ all. Knows (context_at site.entry).domains (regions_at site.entry)
         all.0.records.items all.1) }
 {
-    if has_many_fields(&ty) {
+    if is_wide(&ty) {
         let count = opened.records.as_slice().len();
         if let Some(source) = source_of(x, place, count) {
             return open_again(x, source, site, ty, opened, known);
