@@ -6,8 +6,9 @@ use crate::outline::Outline;
 use crate::parts::{Form, Point, PointKind, RegionKind, Type, pair, small};
 use ps_scan::Kind;
 
-// The most variables that are open by `with`: each costs a step where a name is looked up.
-const MOST_OPENED: u32 = 500;
+// The most variables that are open by `with`: each costs a step where a name is looked up, and a list of them may be as
+// long as the text.
+const MOST_OPENED: u32 = 64;
 
 // What a heading tells.
 #[derive(Clone, Copy)]
@@ -283,14 +284,14 @@ impl<'a> Builder<'a> {
 
     // Opens the region of a record variable behind it, if its type is known and not too many are open, and gives the token behind it.
     fn open_record(&mut self, at: usize, opened: u32) -> usize {
+        if opened >= MOST_OPENED {
+            return self.outline.behind_written(at);
+        }
         let (ty, next) = self.outline.type_written(at);
-        match self.outline.form_of(ty) {
-            Some(Form::Record(record)) if opened < MOST_OPENED => {
-                let end = self.outline.span(next.saturating_sub(1)).to;
-                let from = self.outline.span(at).from;
-                self.open(RegionKind::Opened(record), end, Some(from));
-            }
-            _ => {}
+        if let Some(Form::Record(record)) = self.outline.form_of(ty) {
+            let end = self.outline.span(next.saturating_sub(1)).to;
+            let from = self.outline.span(at).from;
+            self.open(RegionKind::Opened(record), end, Some(from));
         }
         next
     }

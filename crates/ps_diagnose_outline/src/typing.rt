@@ -178,6 +178,12 @@ impl<'a> Outline<'a> {
         (ty, at)
     }
 
+    /// The token behind the variable that begins at a token.
+    pub(crate) fn behind_written(&self, first: usize) -> usize {
+        let written = self.extent(self.span(first).from, Part::Factor);
+        self.token_at(written.to)
+    }
+
     // The type of the value of a declared name.
     fn value_type(&self, point: Point) -> Option<Type> {
         match point.kind {
