@@ -706,12 +706,66 @@ def with_list_wide(length: int) -> str:
     return filled(head, "a,", "a do a7:=1 end.\n", length)
 
 
+LETTERS = "abcdefghijklmnopqrstuvwxyz"
+
+
 def fields(count: int) -> list[str]:
     """As many short names, none a word symbol."""
     digits = "0123456789abcdefghijklmnopqrstuvwxyz"
     sizes = ("".join(end) for size in range(4) for end in itertools.product(digits, repeat=size))
     ends = [digit + end for end in sizes for digit in digits[:10]][: count // 26 + 1]
     return [letter + end for end in ends for letter in digits[10:]][:count]
+
+
+# of so many, with names of two letters, a type's names are as long as they may be without being noted once for the type
+NARROW = 64
+
+
+def narrow_types(count: int) -> str:
+    """Variables of as many such types, which have letters for names."""
+    return ";".join(f"{letter}:record {','.join(fields(NARROW))}:char end" for letter in LETTERS[:count])
+
+
+@shape()
+def with_list_64(length: int) -> str:
+    """Records of 64 fields of one `with` list."""
+    return filled(f"program p; var {narrow_types(1)}; begin with ", "a,", "a do a0:='a' end.\n", length)
+
+
+@shape()
+def with_list_64_turns(length: int) -> str:
+    """Two types with the same 64 fields, opened in turn."""
+    return filled(f"program p; var {narrow_types(2)}; begin with ", "a,b,", "b do a0:='a' end.\n", length)
+
+
+@shape()
+def with_lists_64(length: int) -> str:
+    """`with` statements that open 26 types of 64 fields each."""
+    return filled(f"program p; var {narrow_types(26)}; begin ", f"with {','.join(LETTERS)} do;", " end.\n", length)
+
+
+def long_names(count: int, length: int) -> str:
+    """As many names that take so many characters together."""
+    return ",".join("x" * (length // count - 6) + f"{k:05d}" for k in range(count))
+
+
+@shape()
+def with_list_names(length: int) -> str:
+    """A record of 64 fields with names that are a third of the text, of one `with` list."""
+    return filled(f"program p; var b:record {long_names(64, length // 3)}:char end; begin with ", "b,", "b do end.\n", length)
+
+
+@shape()
+def with_name_again(length: int) -> str:
+    """`with` statements that open a record of one field with a name that is half of the text."""
+    return filled(f"program p; var b:record {long_names(1, length // 2)}:char end; begin ", "with b do;", " end.\n", length)
+
+
+@shape()
+def with_lists_names(length: int) -> str:
+    """`with` statements that open 26 variables of a type of 64 fields with names that are half of the text."""
+    head = f"program p; var {','.join(LETTERS)}:record {long_names(64, length // 2)}:char end; begin "
+    return filled(head, f"with {','.join(LETTERS)} do;", " end.\n", length)
 
 
 @shape()
@@ -783,9 +837,9 @@ def with_list_types_fields(length: int) -> str:
 SUM = "y:=y" + "+y" * 20 + ";"
 
 
-def wide_types(count: int, further: str = "", letter: str = "b") -> str:
+def wide_types(count: int, further: str = "", letter: str = "b", width: int = 128) -> str:
     """Variables of as many types of 129 fields, and of the further ones, that differ in one name."""
-    first = ",".join(fields(128))
+    first = ",".join(fields(width))
     return ";".join(f"{letter * 2}{k}:record {first},zz{letter}{k}:char{further} end" for k in range(count))
 
 
@@ -829,6 +883,22 @@ def with_types_everywhere(length: int) -> str:
 
 
 @shape()
+def with_types_64(length: int) -> str:
+    """Sums of a name that all types of 66 fields have, each of which is opened."""
+    count = min(length // 700, MOST_CELLS // 67)
+    declared = wide_types(count, ";y:integer", width=NARROW)
+    return filled(f"program p; var {declared}; begin with {opened_types(count)} do begin ", SUM, " end end.\n", length)
+
+
+@shape()
+def with_types_name(length: int) -> str:
+    """Sums of a name that all types with a field of a long name have, each of which is opened."""
+    count = length // 520
+    declared = ";".join(f"bb{k}:record {'x' * 192}:char;y:integer end" for k in range(count))
+    return filled(f"program p; var {declared}; begin with {opened_types(count)} do begin ", SUM, " end end.\n", length)
+
+
+@shape()
 def with_types_alike(length: int) -> str:
     """Two types with the same 129 fields, opened in turn."""
     names = ",".join(fields(129))
@@ -857,7 +927,7 @@ def with_long_again(length: int) -> str:
 def with_long_pointers_again(length: int) -> str:
     """`with` statements that open a record that is half of the text, each by 26 pointers."""
     names = ",".join(fields(min(length // 10, MOST_CELLS - 1)))
-    pointers = [f"{letter}z" for letter in "abcdefghijklmnopqrstuvwxyz"]
+    pointers = [f"{letter}z" for letter in LETTERS]
     head = f"program p; type r=record {names}:char end; var {','.join(pointers)}:^r; begin "
     return filled(head, f"with {'^,'.join(pointers)}^ do;", " end.\n", length)
 
@@ -888,6 +958,26 @@ def with_lists_deep(length: int) -> str:
 def within_lists_deep(length: int, declared: str, opened: str, statement: str) -> str:
     """Statements within as many `with` statements of a list as may be."""
     return filled(f"program p; var {declared}; begin " + f"with {opened} do " * (DEPTH - 1) + "begin ", statement, " end end.\n", length)
+
+
+@shape(is_deep=True)
+def with_lists_deep_64(length: int) -> str:
+    """Sums within as many `with` statements as may be, each of 26 types of 64 fields."""
+    return within_lists_deep(length, f"{narrow_types(26)};yy:integer", ",".join(LETTERS), SUM.replace("y", "yy"))
+
+
+@shape()
+def with_lists_within(length: int) -> str:
+    """`with` statements of 40 records, within one of 60."""
+    head = f"program p; var a:record x:char end; begin with {','.join('a' * 60)} do begin "
+    return filled(head, f"with {','.join('a' * 40)} do;", " end end.\n", length)
+
+
+@shape()
+def with_list_60(length: int) -> str:
+    """Sums in a `with` of 60 records, in which names are still looked up for warnings."""
+    head = f"program p; var a:record x:char end;y:integer; begin with {','.join('a' * 60)} do begin "
+    return filled(head, SUM, " end end.\n", length)
 
 
 @shape(is_deep=True)
