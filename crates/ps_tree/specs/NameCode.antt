@@ -1,14 +1,34 @@
--- The code of a list of names: one text by which two long lists are told apart fast (this project's format).
-use Rattle.std.specs.Prelude.{ℕ, List, [], ◌∷◌, ◌++◌, nat_lt, if◌then◌else◌}
+-- The code of a list of names: words of 16 bits by which two long lists are told apart fast (this project's format).
+-- Letters, digits and the ends of names are symbols from 1 to 39, and a word holds up to three of them in base 40.
+use Rattle.std.specs.Prelude.{ℕ, ◌+◌, ◌-◌, ◌*◌, Bool, List, [], ◌∷◌, ◌++◌, nat_le, nat_lt, ◌&&◌, if◌then◌else◌}
 
--- A byte of a name. A zero ends a name, and a one marks the byte behind it as the name's own.
-abbrev pub byte_code : ℕ → List ℕ
-byte_code b = if nat_lt b 2 then 1 ∷ b ∷ [] else b ∷ []
+-- A byte of a name. One that is neither a letter nor a digit is no symbol: it takes a word of its own, above those that
+-- hold symbols.
+abbrev pub symbol : ℕ → ℕ
+symbol b = if nat_le 97 b && nat_le b 122 then b - 96 else if nat_le 48 b && nat_le b 57 then b - 21 else 64000 + b
 
-abbrev pub name_code : List ℕ → List ℕ
-name_code [] = 0 ∷ []
-name_code (b ∷ s) = byte_code b ++ name_code s
+-- The symbols of a name, and behind them 37, its end.
+abbrev pub name_symbols : List ℕ → List ℕ
+name_symbols [] = 37 ∷ []
+name_symbols (b ∷ s) = symbol b ∷ name_symbols s
+
+abbrev pub names_symbols : List (List ℕ) → List ℕ
+names_symbols [] = []
+names_symbols (s ∷ names) = name_symbols s ++ names_symbols names
+
+-- Whether a word holds fewer than three symbols, and what comes next is one.
+abbrev pub fits : (word next : ℕ) → Bool
+fits word next = nat_lt word 1600 && nat_lt next 40
+
+-- Words, and what comes next: in the last of them if it fits there, and else in a word of its own.
+abbrev pub joined : List ℕ → ℕ → List ℕ
+joined [] s = s ∷ []
+joined (w ∷ []) s = if fits w s then (40 * w + s) ∷ [] else w ∷ s ∷ []
+joined (w ∷ v ∷ words) s = w ∷ joined (v ∷ words) s
+
+abbrev pub packed : (words symbols : List ℕ) → List ℕ
+packed words [] = words
+packed words (s ∷ symbols) = packed (joined words s) symbols
 
 abbrev pub names_code : List (List ℕ) → List ℕ
-names_code [] = []
-names_code (s ∷ names) = name_code s ++ names_code names
+names_code names = packed [] (names_symbols names)

@@ -3,7 +3,7 @@
 ghost use Rattle.std.specs.Prelude.{◌≡◌, ◌++◌, [], ◌∷◌, ℕ, List, map, IfOk, length, OnErr, not, if◌then◌else◌};
 ghost use Rattle.std.specs.Prelude.{OnOk};
 ghost use Rattle.ps_tree.specs.Names.{has, place};
-ghost use Rattle.ps_tree.specs.NameCode.{byte_code, name_code, names_code};
+ghost use Rattle.ps_tree.specs.NameCode.{symbol, name_symbols, joined, packed, names_code};
 
 use indexmap::IndexSet;
 use md5::{Digest, Md5};
@@ -57,37 +57,67 @@ impl Model for Names {
     ghost view = { λ n. map (λ name. name.items) n.set.keys };
 }
 
-// In the code of a list of names: what is behind each name, and what is before a byte that is one of these two.
-const END: u8 = 0;
+// In the code of a list of names: how many symbols there are, with none for 0; the least word that is full; the symbol
+// behind each name; and what a byte that is neither a letter nor a digit is added to.
+const BASE: u16 = 40;
 
-const MARK: u8 = 1;
+const FULL: u16 = 1600;
 
-/// Adds a byte of a name to a code.
-#[tactic(auto, using(crate::proofs::CodeLemmas::byte_marked, crate::proofs::CodeLemmas::byte_alone))]
-fn add_byte(code: &mut Vec<u8>, byte: u8) -> Result<(), AllocError>
-    ensures { OnOk result (code.new.items ≡ code.old.items ++ byte_code byte) }
+const END: u16 = 37;
+
+const OWN: u16 = 64000;
+
+/// The symbol of a byte of a name.
+#[tactic(auto, using(crate::proofs::CodeLemmas::symbol_letter, crate::proofs::CodeLemmas::symbol_digit, crate::proofs::CodeLemmas::symbol_own))]
+fn symbol(byte: u8) -> u16
+    ensures { result ≡ symbol byte }
 {
-    if byte <= MARK {
-        code.push(MARK)?;
+    if b'a' <= byte && byte <= b'z' {
+        u16::from(byte) - 96
+    } else if b'0' <= byte && byte <= b'9' {
+        u16::from(byte) - 21
+    } else {
+        OWN + u16::from(byte)
     }
-    code.push(byte)?;
+}
+
+/// Adds a symbol behind a last word that was taken from a code: to the word, where it isn't full.
+fn put_behind(code: &mut Vec<u16>, word: u16, symbol: u16) -> Result<(), AllocError>
+    ensures { OnOk result (code.new.items ≡ joined (code.old.items ++ word ∷ []) symbol) }
+{
+    if word < FULL && symbol < BASE {
+        code.push(BASE * word + symbol)?;
+        return Ok(());
+    }
+    code.push(word)?;
+    code.push(symbol)?;
     Ok(())
+}
+
+/// Adds a symbol to a code.
+fn add_symbol(code: &mut Vec<u16>, symbol: u16) -> Result<(), AllocError>
+    ensures { OnOk result (code.new.items ≡ joined code.old.items symbol) }
+{
+    let Some(word) = code.pop() else {
+        code.push(symbol)?;
+        return Ok(());
+    };
+    put_behind(code, word, symbol)
 }
 
 /// Adds a name to a code.
 #[tactic(auto, using(crate::proofs::CodeLemmas::name_start, crate::proofs::CodeLemmas::name_next, crate::proofs::CodeLemmas::name_end))]
-fn add_name(code: &mut Vec<u8>, name: &[u8]) -> Result<(), AllocError>
-    ensures { OnOk result (code.new.items ≡ code.old.items ++ name_code name.now) }
+fn add_name(code: &mut Vec<u16>, name: &[u8]) -> Result<(), AllocError>
+    ensures { OnOk result (code.new.items ≡ packed code.old.items (name_symbols name.now)) }
 {
     for byte in name {
-        add_byte(code, *byte)?;
+        add_symbol(code, symbol(*byte))?;
     }
-    code.push(END)?;
-    Ok(())
+    add_symbol(code, END)
 }
 
 /// The code of these names.
-fn code_of(alloc: Global, names: &[Vec<u8>]) -> Result<Vec<u8>, AllocError>
+fn code_of(alloc: Global, names: &[Vec<u8>]) -> Result<Vec<u16>, AllocError>
     ensures { IfOk result (λ code. code.items ≡ names_code (map (λ name. name.items) names.now)) }
 {
     let mut code = Vec::new(alloc);
@@ -138,8 +168,9 @@ impl Names {
         self.set.as_slice()
     }
 
-    /// A text by which two long lists of names are told apart fast.
-    pub(crate) fn code(&self, alloc: Global) -> Result<Vec<u8>, AllocError>
+    /// Words by which two long lists of names are told apart fast. What is compared is as long as the names, so it takes
+    /// the time that memory is read in: three letters or digits are packed in one word of two bytes.
+    pub(crate) fn code(&self, alloc: Global) -> Result<Vec<u16>, AllocError>
         ensures { IfOk result (λ code. code.items ≡ names_code self.now) }
     {
         code_of(alloc, self.as_slice())

@@ -94,7 +94,7 @@ pub struct Component {
 #[cycle(types)]
 pub struct Fields {
     names: Names,
-    code: Vec<u8>,
+    code: Vec<u16>,
     types: Vec<Ty>,
     offsets: Vec<u32>,
     cell_count: u64,
