@@ -3,7 +3,8 @@
 ghost use Rattle.std.specs.Prelude.{◌≡◌, ◌++◌, [], ◌∷◌, List, length, map, IfOk, IfErr, IfSome, Some, None};
 ghost use Rattle.ps_tree.specs.View.{type_of, place_of, base_of, selectors_of};
 ghost use Rattle.ps_tree.specs.Tree as Tree;
-ghost use Rattle.ps_check_names.specs.Regions.{RecordRegion, fields_of};
+ghost use Rattle.ps_tree.specs.Types.{DataType};
+ghost use Rattle.ps_check_names.specs.Regions.{Region, RecordRegion, fields_of};
 ghost use Rattle.ps_check_judgement.specs.declared.change.Change.{Change};
 ghost use Rattle.ps_check_judgement.specs.Judged.{Answers};
 ghost use Rattle.ps_check_judgement.specs.Changing.{through};
@@ -89,6 +90,18 @@ fn source_of(x: &Variable, place: &Place, count: usize) -> Option<Source>
     }
 }
 
+/// The bytes by which a source is known: the name that it gives a type, or the number of the pointer's type.
+fn key_of(x: &Variable, source: Source, site: Site<'_>) -> Result<Vec<u8>, AllocError>
+    ensures { IfOk result (λ key. (domains : List DataType) (Γ : List Region) (records : List Ty) (type : DataType)
+        → IsGiven domains Γ records (spelled (context_at site.entry).text x.now.name) source type
+        → IsGiven domains Γ records key.items source type) }
+{
+    match source {
+        Source::Named(_) => site.reading.name(site.alloc, x.name),
+        Source::Pointed(pointer) => Vec::from_slice(site.alloc, pointer.to_le_bytes().as_slice()),
+    }
+}
+
 /// Opens a record of a wide type within those before it, where a source gives it its type.
 fn open_again<'a>(
     x: &Variable,
@@ -105,12 +118,12 @@ fn open_again<'a>(
     ensures known { IfOk result (λ all. Knows (context_at site.entry).domains (regions_at site.entry)
         all.0.records.items all.1) }
 {
-    let name = site.reading.spelling(site.alloc, x.name)?;
-    match known.find(name.as_slice(), source) {
+    let key = key_of(x, source, site)?;
+    match known.find(key.as_slice(), source) {
         Some(like) => Ok((opened.with_like(site.alloc, ty, like)?, known)),
         None => {
             let number = opened.records.as_slice().len();
-            let known = known.with(site.alloc, name.as_slice(), source, number)?;
+            let known = known.with(site.alloc, key.as_slice(), source, number)?;
             Ok((opened.with(site.alloc, ty)?, known))
         }
     }
