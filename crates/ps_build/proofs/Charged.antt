@@ -12,7 +12,8 @@ use Rattle.ps_lower_code.specs.Programs.{tac_of, object_bytes, code_of}
 use Rattle.ps_lower_bounds.specs.Sizes.{RoutinesAreBounded, ObjectsAreBounded}
 use Rattle.risc_image.specs.Image.{Image}
 use Rattle.risc_load.specs.Shows.{frame_bytes, object_bytes as charged_bytes}
-use Rattle.risc_emit.specs.Emitted.{HasBounds}
+use Rattle.ps_build.specs.Made.{KeepsBounds}
+use Rattle.ps_build.proofs.Rooms.{room_bounded}
 
 -- a row for each routine and each pointer type, within the bounds
 pub record IsCharged (checked : Program) (image : Image) : Type 0 where
@@ -30,15 +31,17 @@ mapped_at f [] i d lt = absurd (omega (arith, lt))
 mapped_at f (x ∷ xs) zero d lt = refl
 mapped_at f (x ∷ xs) (suc i) d lt = mapped_at f xs i d (omega (arith, lt))
 
-module _ (routines_are_bounded : RoutinesAreBounded) (objects_are_bounded : ObjectsAreBounded) (checked : Program) (image : Image) (has : HasBounds (code_of run_time_routines checked) image) where
+module _ (routines_are_bounded : RoutinesAreBounded) (objects_are_bounded : ObjectsAreBounded) (checked : Program) (image : Image) (has : KeepsBounds (code_of run_time_routines checked) image) where
   frame_within : (r : ℕ) → r < length checked.routines → (4 ≤ get_or (frame_bytes image) r 0)
       × (get_or (frame_bytes image) r 0 ≤ 320 + 4 * routine_cells (routine_at checked r) + 64 * routine_nodes
       (routine_at checked r))
   frame_within r lt =
       let cost = has.frames r (tac_of checked (routine_at checked r))
       (mapped_at (tac_of checked) checked.routines r no_routine lt) in
-      let most = routines_are_bounded checked (routine_at checked r) in
-      (omega (arith, cost), omega (arith, cost, most))
+      let least = cost.0 in
+      let most = cost.1 in
+      let room = room_bounded routines_are_bounded checked (routine_at checked r) in
+      (omega (arith, least), omega (arith, most, room))
 
   object_within : (t : ℕ) → t < length checked.domains → (4 ≤ get_or (charged_bytes image) t 0)
       × (get_or (charged_bytes image) t 0 ≤ 4 * cells (domain_at checked t) + 4)

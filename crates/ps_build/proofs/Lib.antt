@@ -13,6 +13,7 @@ pub mod Faultless
 pub mod Charged
 pub mod Lowered
 pub mod Passed
+pub mod Rooms
 pub mod Made
 pub mod Named
 pub mod Words

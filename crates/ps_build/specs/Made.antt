@@ -1,22 +1,23 @@
 -- Images that were made through three-address code.
-use Rattle.std.specs.Prelude.{◌≡◌, ℕ, List, length, get_or}
+use Rattle.std.specs.Prelude.{◌≡◌, ℕ, ◌+◌, ◌≤◌, List, length, get_or, slice_get, Some, IsSome}
 use Rattle.behavior.specs.Endings.{Stuck}
 use Rattle.behavior.specs.Transcripts.{AreBytes}
 use Rattle.behavior.specs.Same.{Same}
 use Rattle.ps_tree.specs.Tree.{Program}
 use Rattle.ps_meaning.specs.Run.{run_within}
 use Rattle.ps_meaning.specs.Costs.{Bounded}
+use Rattle.tac_code.specs.declared.code.TacRoutine.{TacRoutine}
 use Rattle.tac_code.specs.Meaning.{Code}
 use Rattle.tac_code.specs.Sound.{IsSound}
 use Rattle.tac_code.specs.Run.{tac_run}
-use Rattle.tac_pass_laws.specs.Passed.{IsPassed}
+use Rattle.tac_pass_laws.specs.Passed.{room, IsPassed}
 use Rattle.risc_alloc.specs.declared.homes.Home.{Home}
 use Rattle.risc_alloc.specs.Valid.{Valid}
 use Rattle.risc_image.specs.Image.{Image}
 use Rattle.risc_image.specs.Format.{IsImage}
 use Rattle.risc_load.specs.Shows.{frame_bytes, object_bytes}
 use Rattle.risc_emit_laws.specs.Emits.{Emits}
-use Rattle.risc_emit.specs.Emitted.{HasBounds}
+use Rattle.risc_emit_laws.specs.Plan.{frame_cost, object_cost}
 use Rattle.ps_build.specs.Accepts.{IsCodeOfText}
 
 -- The code does what the program means, under any costs and budgets and on any input of bytes, and there is a next step
@@ -53,12 +54,23 @@ pub record IsEmittedFor (code : Code) (image : Image) : Type 0 where
   pub sound : IsSound passed
   pub emitted : IsEmitted passed image
 
+-- What the tables of an image charge for, by the code that it was made for: a routine for 276 bytes at least, and for
+-- those of its room more at most; an object for its bytes, but for at least 4. It has a table of calls.
+pub record KeepsBounds (code : Code) (image : Image) : Type 0 where
+  pub calls : IsSome image.calls
+  pub routines : length image.frames ≡ length code.program
+  pub types : length image.objects ≡ length code.objects
+  pub frames : (r : ℕ) (routine : TacRoutine) → slice_get code.program r ≡ Some routine → (276 ≤ frame_cost image r)
+      × (frame_cost image r ≤ 276 + room routine)
+  pub objects : (t bytes : ℕ) → slice_get code.objects t ≡ Some bytes → (4 ≤ object_cost image t)
+      × (object_cost image t ≤ bytes + 4)
+
 -- the bytes are such an image of the code, within the bounds on frames and objects
 pub record AreEmitted (code : Code) (bytes : List ℕ) : Type 0 where
   pub image : Image
   pub is_image : IsImage bytes image
   pub emitted : IsEmittedFor code image
-  pub bounds : HasBounds code image
+  pub bounds : KeepsBounds code image
 
 -- What `build` gives for a text: the bytes are an image of the three-address code of its program.
 pub record IsBuilt (text bytes : List ℕ) : Type 0 where

@@ -9,7 +9,7 @@ ghost use Rattle.risc_emit.specs.Emitted.{HasBounds};
 ghost use Rattle.tac_pass_laws.specs.Passed.{IsPassed};
 ghost use Rattle.tac_rt.specs.Bodies.{run_time_routines};
 ghost use Rattle.ps_build.specs.Accepts.{HasNoRoom};
-ghost use Rattle.ps_build.specs.Made.{IsEmitted, IsEmittedFor, AreEmitted, AreMadeOf};
+ghost use Rattle.ps_build.specs.Made.{IsEmitted, IsEmittedFor, KeepsBounds, AreEmitted, AreMadeOf};
 ghost use Rattle.ps_build.specs.Refusals.{OnlyTooLarge};
 
 use crate::laws::passed_code_does;
@@ -70,10 +70,10 @@ fn passed(alloc: Global, tac: &Tac, variables: Variables) -> Result<Option<Passe
 }
 
 // The parts of an image of the code itself.
-#[tactic(auto, using(crate::proofs::Passed::emitted_itself))]
+#[tactic(auto, using(crate::proofs::Passed::emitted_itself, crate::proofs::Passed::bounds_itself))]
 fn emitted_unchanged<P: Placer>(alloc: Global, tac: &Tac, placer: &P) -> Result<Emitted, Refusal>
     ensures ok { IfOk result (λ emitted. IsEmittedFor tac.now emitted.parts) }
-    ensures bounds { IfOk result (λ emitted. HasBounds tac.now emitted.parts) }
+    ensures bounds { IfOk result (λ emitted. KeepsBounds tac.now emitted.parts) }
     ensures err { IfErr result (λ e. OnlyTooLarge e (HasNoRoom tac.now)) }
 {
     tac.keeps_invariant();
@@ -91,7 +91,7 @@ fn emitted_passed<P: Placer>(
 ) -> Result<Emitted, Refusal>
     requires { IsPassed tac.now new_one.now }
     ensures ok { IfOk result (λ emitted. IsEmittedFor tac.now emitted.parts) }
-    ensures bounds { IfOk result (λ emitted. HasBounds tac.now emitted.parts) }
+    ensures bounds { IfOk result (λ emitted. KeepsBounds tac.now emitted.parts) }
 {
     let _old = tac;
     new_one.keeps_invariant();
@@ -110,7 +110,7 @@ struct Laid {
 // The parts of an image of the code itself, where no pass was made.
 fn laid_unchanged<P: Placer>(alloc: Global, tac: &Tac, placer: &P) -> Result<Laid, Refusal>
     ensures ok { IfOk result (λ laid. IsEmittedFor tac.now laid.emitted.parts) }
-    ensures bounds { IfOk result (λ laid. HasBounds tac.now laid.emitted.parts) }
+    ensures bounds { IfOk result (λ laid. KeepsBounds tac.now laid.emitted.parts) }
     ensures err { IfErr result (λ e. OnlyTooLarge e (HasNoRoom tac.now)) }
 {
     let emitted = emitted_unchanged(alloc, tac, placer)?;
@@ -129,7 +129,7 @@ fn emitted_made<P: Placer>(
     variables: Variables,
 ) -> Result<Laid, Refusal>
     ensures ok { IfOk result (λ laid. IsEmittedFor tac.now laid.emitted.parts) }
-    ensures bounds { IfOk result (λ laid. HasBounds tac.now laid.emitted.parts) }
+    ensures bounds { IfOk result (λ laid. KeepsBounds tac.now laid.emitted.parts) }
     ensures err { IfErr result (λ e. OnlyTooLarge e (HasNoRoom tac.now)) }
 {
     let Some(

@@ -21,7 +21,7 @@ use Rattle.tac_pass.specs.Claims.{Claim}
 use Rattle.tac_pass.specs.Rules.{Holds, Right, SameBase, AllHold, base_points, Forgets, Gave, None_of_them, Elsewhere}
 use Rattle.tac_pass.specs.Rules.{As, As_word, Behind, Component, Spares, Renames, Calls, Ends, PutsIn}
 use Rattle.tac_pass.specs.Rules as rule
-use Rattle.tac_pass.specs.Tables.{Table, points_to, nowhere, known_in, word_in, claim_in, free, is_minded, give}
+use Rattle.tac_pass.specs.Tables.{Table, points_to, nowhere, unknown, known_in, word_in, claim_in, free, is_minded, give}
 use Rattle.tac_pass.specs.Tables.{give_word, spare, store_both, store_old, base_reach, is_seen, write, are_fresh}
 use Rattle.tac_pass.specs.Acts.{and_then, only_if, holder, renamed_right, renamed_base, renamed_list, own_word}
 use Rattle.tac_pass.specs.Acts.{bounded, shifted, stretched, Made, makes, kept_load, kept_store, kept, ending}
@@ -373,12 +373,15 @@ module _ (r : ℕ) (minded : List ℕ) (table : Table) where
       (k, (own_is b n k own).1, store_old_is minded table a k x.0))
 
   pub spared_is : (i : Instruction) (table' : Table) → spared r minded table i ≡ Some table' → Left_out i table'
+  spared_is (Literal t z) table' f =
+      subst (Left_out (Literal t z)) (same_Some _ table' f)
+      (spare_is minded table t unknown None_of_them None_of_them (λ v g. absurd (none-some v g))
+      (λ o g. absurd (true≢false g)))
   spared_is (Copy t a) table' f =
       subst (Left_out (Copy t a)) (same_Some _ table' f)
       (spare_is minded table t (known_in table a) (Holds c a) (As c a) (λ v g. g) (λ o g. g))
   spared_is (Load t b n) table' f = load_spared t b n (own_word b n) refl table' f
   spared_is (Store b n a) table' f = store_spared b n a (own_word b n) refl table' f
-  spared_is (Literal _ _) table' f = absurd (none-some table' f)
   spared_is (Arithmetic _ _ _ _ _ _) table' f = absurd (none-some table' f)
   spared_is (Bits _ _ _ _) table' f = absurd (none-some table' f)
   spared_is (Compare _ _ _ _) table' f = absurd (none-some table' f)

@@ -107,6 +107,7 @@ module _ (c : Claim) {c' c'' : Claim} (f : Forgets c' c'') where
   -- ---- instructions
 
   pub spares_on : (i : Instruction) → Spares c c' i → Spares c c'' i
+  spares_on (Literal t z) g = spared_on t _ _ g
   spares_on (Copy t a) g = spared_on t _ _ g
   spares_on (Load t base.Frame n) (k, e, g) = (k, e, spared_on t _ _ g)
   spares_on (Store base.Frame n b) (k, e, g) = (k, e, postponed_on b k g)
@@ -116,7 +117,6 @@ module _ (c : Claim) {c' c'' : Claim} (f : Forgets c' c'') where
   spares_on (Store base.Scratch n b) h = absurd h
   spares_on (Store base.Program n b) h = absurd h
   spares_on (Store (base.Temporary _) n b) h = absurd h
-  spares_on (Literal _ _) h = absurd h
   spares_on (Arithmetic _ _ _ _ _ _) h = absurd h
   spares_on (Bits _ _ _ _) h = absurd h
   spares_on (Compare _ _ _ _) h = absurd h

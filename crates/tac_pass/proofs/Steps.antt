@@ -181,6 +181,17 @@ module _ (old new : Code) (p : Setting) (e : Certificate) (same_count : length n
 
   module _ (next : s'.current.place ≡ e.starts s.current.routine (suc s.current.place)) where
     pub spares_follow : (i : Instruction) → Spares c c' i → Follow (turns_aside (Some i)) (old_step i)
+    spares_follow (Literal t z) g = (
+      s',
+      (
+        alike_inside e a (suc s.current.place) s'.current.place
+            (put s.current.temporaries t (Number z)) s'.current.temporaries s.tape s'.tape a.outside.tape
+            (inside_spared e.stands s.current.number a.inside t None_of_them None_of_them (Number z)
+            (λ w h. absurd h) (λ o h. absurd h) g),
+        next,
+      ),
+      stays new p s',
+    )
     spares_follow (Copy t u) g =
         some_follows old new p e false s s' (s.current.temporaries u) _ (λ v is. (
           s',
@@ -224,7 +235,6 @@ module _ (old new : Code) (p : Setting) (e : Certificate) (same_count : length n
     spares_follow (Store base.Scratch n b) h = absurd h
     spares_follow (Store base.Program n b) h = absurd h
     spares_follow (Store (base.Temporary _) n b) h = absurd h
-    spares_follow (Literal _ _) h = absurd h
     spares_follow (Arithmetic _ _ _ _ _ _) h = absurd h
     spares_follow (Bits _ _ _ _) h = absurd h
     spares_follow (Compare _ _ _ _) h = absurd h

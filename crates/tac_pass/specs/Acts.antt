@@ -13,7 +13,7 @@ use Rattle.tac_code.specs.declared.code.Instruction.TheVariants.{Trap, Take, Put
 use Rattle.tac_code.specs.Numbers.{steps_above}
 use Rattle.tac_pass.specs.declared.table.Reach.{Reach}
 use Rattle.tac_pass.specs.declared.table.Reach.TheVariants.{Anywhere, Within}
-use Rattle.tac_pass.specs.Tables.{Table, nowhere, known_in, word_in, free, is_minded, give, give_word, spare}
+use Rattle.tac_pass.specs.Tables.{Table, nowhere, unknown, known_in, word_in, free, is_minded, give, give_word, spare}
 use Rattle.tac_pass.specs.Tables.{store_both, store_old, keep_word, find, clean, fetch_word, base_reach, is_seen}
 use Rattle.tac_pass.specs.Tables.{write, are_fresh, call}
 
@@ -154,6 +154,7 @@ module _ (r : ℕ) (minded : List ℕ) (table : Table) where
   spared_store a None = None
 
   abbrev pub spared : Instruction → Option Table
+  spared (Literal t z) = Some (spare t unknown table)
   spared (Copy t a) = Some (spare t (known_in table a) table)
   spared (Load t b n) = spared_load t (own_word b n)
   spared (Store b n a) = spared_store a (own_word b n)

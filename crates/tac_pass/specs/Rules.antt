@@ -166,6 +166,7 @@ Component r c b width most o =
 -- ---- instructions that are spared
 
 abbrev pub Spares : Claim → Claim → Instruction → Type 0
+Spares c c' (Literal t z) = Spared t None_of_them None_of_them c c'
 Spares c c' (Copy t a) = Spared t (Holds c a) (As c a) c c'
 Spares c c' (Load t base.Frame n) = (k : ℕ) × (n ≡ 4 * k) × Spared t (λ v. c.words k ≡ Some v) (As_word c k) c c'
 Spares c c' (Store base.Frame n b) = (k : ℕ) × (n ≡ 4 * k) × Postponed b k c c'

@@ -6,7 +6,7 @@ ghost use Rattle.tac_pass.specs.Acts as act;
 ghost use Rattle.tac_pass.specs.Walk.{IsMade};
 
 use crate::operands::{holder, own_word};
-use crate::table::Rows;
+use crate::table::{Rows, unknown};
 use tac_code::code::{Base, Instruction};
 
 /// An instruction is left out; false where it can't be.
@@ -14,6 +14,10 @@ pub fn spare(minded: &[u32], rows: &mut Rows, instruction: &Instruction) -> bool
     ensures { IsTrue result → (r : ℕ) → act.spared r minded.now rows.old instruction.now ≡ Some rows.new }
 {
     match instruction {
+        Instruction::Literal { to, .. } => {
+            rows.set_known(*to, unknown());
+            true
+        }
         Instruction::Copy { to, from } => {
             let known = rows.known(*from);
             rows.set_known(*to, known);

@@ -63,8 +63,8 @@ impl Model for Rows {
     ghost view = { λ t. record { temporaries = t.temporaries.items; words = t.words.items } };
 }
 
-// Nothing is known of a value.
-fn unknown() -> Known
+/// Nothing is known of a value.
+pub fn unknown() -> Known
     ensures { result ≡ table.unknown }
 {
     Known {

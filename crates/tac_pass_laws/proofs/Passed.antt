@@ -1,20 +1,20 @@
 -- Code that stands in the place of other code.
-use Rattle.std.proofs.Common.{◌≡◌, inl, inr, ℕ, zero, suc, ◌<◌, List, [], ◌∷◌, ◌++◌, length, slice_get, Some, refl, sym}
+use Rattle.std.proofs.Common.{◌≡◌, inl, inr, ℕ, zero, suc, ◌<◌, ◌≤◌, List, [], ◌∷◌, ◌++◌, length, slice_get, Some, refl, sym}
 use Rattle.std.proofs.Common.{ap, ◌∙◌, subst, arith}
 use Rattle.behavior.specs.Endings.{Ending, Stuck, IsMore}
 use Rattle.behavior.specs.Transcripts.{Shown, GoesOn}
 use Rattle.behavior.proofs.Sameness.{same_has_converse}
 use Rattle.tac_code.specs.declared.code.TacRoutine.{TacRoutine}
-use Rattle.tac_code.specs.Meaning.{Code, size, routines}
+use Rattle.tac_code.specs.Meaning.{Code}
 use Rattle.tac_code_laws.proofs.Growth.{run_goes_on}
-use Rattle.tac_code_steps.specs.InTurns.{Setting, shows, turns_in, ShowsInTurns}
+use Rattle.tac_code_steps.specs.InTurns.{Setting, shows, ShowsInTurns}
 use Rattle.tac_code_steps.proofs.Counting.{in_turns_is_same}
 use Rattle.tac_pass.specs.Keeps.{Keeps}
 use Rattle.tac_pass.specs.Follows.{SameHeading}
-use Rattle.tac_pass.specs.Walk.{PassedRoutine, ArePassed}
+use Rattle.tac_pass.specs.Walk.{ArePassed}
 use Rattle.tac_pass.proofs.Counting.{keeping_composes}
 use Rattle.tac_pass.proofs.Passing.{passed_keeps}
-use Rattle.tac_pass_laws.specs.Passed.{HasRoomOf, IsPassed}
+use Rattle.tac_pass_laws.specs.Passed.{room, IsPassed}
 use Rattle.tac_pass_laws.specs.Laws.{DoesAs}
 
 -- ---- routines of a program, among all of its code
@@ -37,20 +37,21 @@ within (z ∷ xs) (suc r) x e = let lt = within xs r x e in omega (arith, lt)
 
 -- ---- the room of code that was made by plans
 
-sized : (routine routine' : TacRoutine) → SameHeading routine routine' → routine'.temporaries ≡ routine.temporaries
-    → size routine' ≡ size routine
-sized routine routine' h t = let f = h.frame in let s = h.scratch in omega (arith, f, s, t)
+within_room : (routine routine' : TacRoutine) → SameHeading routine routine' → routine'.temporaries ≡ routine.temporaries
+    → room routine' ≤ room routine
+within_room routine routine' h t =
+    let p = h.parameters in let f = h.frame in let s = h.scratch in omega (arith, p, f, s, t)
 
 module _ (old new : Code) (passed : ArePassed old new) where
   sizes : (r : ℕ) (routine : TacRoutine) → slice_get old.program r ≡ Some routine → (routine' : TacRoutine)
-      × (slice_get new.program r ≡ Some routine') × (size routine' ≡ size routine)
+      × (slice_get new.program r ≡ Some routine') × (room routine' ≤ room routine)
   sizes r routine e =
       let one = passed.routines r routine (in_both old.program old.run_time r routine e) in
       let lt : r < length old.program = within old.program r routine e in
       let as_many = passed.program in (
         one.0,
         in_first new.program new.run_time r one.0 (omega (arith, lt, as_many)) one.1,
-        sized routine one.0 one.2.heading one.2.temporaries,
+        within_room routine one.0 one.2.heading one.2.temporaries,
       )
 
 pub planned_are_passed : (old new : Code) → ArePassed old new → IsPassed old new
@@ -69,7 +70,7 @@ planned_are_passed old new passed = record {
 pub unchanged_are_passed : (code : Code) → IsPassed code code
 unchanged_are_passed code = record {
   keeps = λ p n goes. (n, refl, refl);
-  room = record { program = refl; run_time = refl; objects = refl; sizes = λ r routine e. (routine, e, refl) };
+  room = record { program = refl; run_time = refl; objects = refl; sizes = λ r routine e. (routine, e, omega arith) };
 }
 
 pub passes_compose : (first second third : Code) → IsPassed first second → IsPassed second third → IsPassed first third
@@ -83,7 +84,9 @@ passes_compose first second third a b =
         sizes = λ r routine e.
             let x = a.room.sizes r routine e in
             let y = b.room.sizes r x.0 x.1 in
-            (y.0, y.1, y.2 ∙ x.2);
+            let one = x.2 in
+            let other = y.2 in
+            (y.0, y.1, omega (arith, one, other));
       };
     }
   where

@@ -5,8 +5,7 @@ use Rattle.ps_tree.specs.Tree.{Program}
 use Rattle.ps_tree.specs.Checked.{program_in}
 use Rattle.tac_code.specs.Meaning.{Code}
 use Rattle.tac_pass_laws.specs.Passed.{IsPassed}
-use Rattle.risc_emit.specs.Emitted.{HasBounds}
-use Rattle.ps_build.specs.Made.{IsCodeOf, IsEmittedFor}
+use Rattle.ps_build.specs.Made.{IsCodeOf, IsEmittedFor, KeepsBounds}
 use Rattle.ps_build.proofs.Charged.{charged}
 use Rattle.ps_build.proofs.Made.{made_of}
 use Rattle.ps_build.proofs.making.image_made.Goals as goal
@@ -22,7 +21,7 @@ returns-clause-ok g c =
     (subst (AllDo checked) (sym c.in_ok-code.ensures.ok) (c.passed_code_does.ensures checked c.requires.fits))
     c.in_ok-laid.ensures.ok
     (charged c.routines_are_bounded.ensures c.objects_are_bounded.ensures checked image
-    (subst (λ code. HasBounds code image) c.in_ok-code.ensures.ok c.in_ok-laid.ensures.bounds))
+    (subst (λ code. KeepsBounds code image) c.in_ok-code.ensures.ok c.in_ok-laid.ensures.bounds))
     c.in_ok-bytes.ensures
 
 pub returns-clause-emitted : goal.returns-clause-emitted
@@ -31,6 +30,6 @@ returns-clause-emitted g c = record {
   is_image = c.in_ok-bytes.ensures;
   emitted = subst (λ code. IsEmittedFor code c.in_ok-laid.laid.emitted.parts) c.in_ok-code.ensures.ok
       c.in_ok-laid.ensures.ok;
-  bounds = subst (λ code. HasBounds code c.in_ok-laid.laid.emitted.parts) c.in_ok-code.ensures.ok
+  bounds = subst (λ code. KeepsBounds code c.in_ok-laid.laid.emitted.parts) c.in_ok-code.ensures.ok
       c.in_ok-laid.ensures.bounds;
 }

@@ -1,0 +1,34 @@
+-- A routine's code has room for 8 temporaries besides those that its parameters come in.
+use Rattle.std.proofs.Common.{ℕ, suc, ◌+◌, ◌*◌, ◌≤◌, Bool, true, false, if◌then◌else◌, arith}
+use Rattle.ps_tree.specs.Counts.{routine_cells, routine_nodes, routine_extent}
+use Rattle.ps_tree.specs.Tree.{Routine, Program}
+use Rattle.tac_pass_laws.specs.Passed.{room}
+use Rattle.ps_lower_layout.specs.Frames.{kinds_of, is_program_block}
+use Rattle.ps_lower_code.specs.Routines.{count_parameters, routine_code}
+use Rattle.ps_lower_code.specs.Programs.{tac_of}
+use Rattle.ps_lower_bounds.specs.Sizes.{RoutinesAreBounded}
+use Rattle.ps_lower_bounds.proofs.Uses.{scratch_counted}
+use Rattle.ps_lower_bounds.proofs.Cells.{entries_words}
+use Rattle.ps_lower_bounds.proofs.Routines.{parameters_most, depth_of, scratch_of, routine_under}
+
+-- the words for input are the program block's alone, which has no parameters
+input_or_parameters : (b : Bool) (n : ℕ) → (if b then 2 else 0) + (if b then 0 else suc n) ≤ 2 + n
+input_or_parameters true n = omega arith
+input_or_parameters false n = omega arith
+
+-- the blocks and the parameters alone
+with_parameters : (program : Program) (r : Routine) → (tac_of program r).frame + (tac_of program r).scratch + 4
+    * (tac_of program r).parameters ≤ 12 + 4 * routine_cells r + 64 * routine_nodes r
+unfolding routine_extent
+with_parameters program r =
+    let u = routine_under program r in
+    let s = scratch_counted (depth_of r) (scratch_of r) (routine_code program r) u in
+    let w = entries_words r in
+    let p = parameters_most r.formals in
+    let b = input_or_parameters (is_program_block r.chain) (count_parameters (kinds_of r.formals)) in
+    omega (arith, s, w, p, b)
+
+pub room_bounded : RoutinesAreBounded → (program : Program) (r : Routine) → room (tac_of program r) ≤ 44 + 4
+    * routine_cells r + 64 * routine_nodes r
+room_bounded bounded program r =
+    let size = bounded program r in let blocks = with_parameters program r in omega (arith, size, blocks)
