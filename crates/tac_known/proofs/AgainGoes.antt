@@ -1,7 +1,7 @@
 -- What is held stays held from step to step.
 use Rattle.std.proofs.Common.{◌≡◌, inl, inr, ℕ, suc, ◌+◌, ◌-◌, ◌*◌, Bool, true, false, not, nat_eq, nat_lt}
 use Rattle.std.proofs.Common.{if◌then◌else◌, List, [], ◌∷◌, length, slice_get, Option, Some, None, ℤ, pos, negsuc}
-use Rattle.std.proofs.Common.{refl, sym, ◌∙◌, subst}
+use Rattle.std.proofs.Common.{refl, sym, subst}
 use Rattle.behavior.specs.Endings.{Stack, Heap, Stuck}
 use Rattle.tac_code.specs.declared.code.Block.{Block}
 use Rattle.tac_code.specs.declared.code.Block.TheVariants.{Object, Constant}
@@ -23,37 +23,41 @@ use Rattle.tac_code.specs.Meaning.{gives_computed, gives_component, checks, goes
 use Rattle.tac_code.specs.Meaning.{is_full, calls, leave, made, makes, act, onward, text_at}
 use Rattle.tac_pass.proofs.Below.{OnGoes}
 use Rattle.tac_known.specs.declared.again.Component.{Component}
-use Rattle.tac_known.specs.Again.{IsHeld, unless_written, component, after_index, IsNoMore, GoesOn}
+use Rattle.tac_known.specs.declared.again.Sum.{Sum}
+use Rattle.tac_known.specs.declared.again.Fact.TheVariants.{Pointed, Summed}
+use Rattle.tac_known.specs.declared.again.Facts.{Facts}
+use Rattle.tac_known.specs.Again.{AreHeld, no_facts, each_unless_written, component, total, after_given, IsNoMore}
+use Rattle.tac_known.specs.Again.{GoesOn}
 use Rattle.tac_known.proofs.Goes.{on_some, on_number, on_routine, on_if, on_byte}
-use Rattle.tac_known.proofs.AgainHeld.{unless_kept, index_kept}
+use Rattle.tac_known.proofs.AgainHeld.{are_like, each_kept, index_kept, sum_kept}
 
-no_more : (here next : Option Component) (current : Activation) → IsNoMore here next → IsHeld here current → IsHeld next
-    current
-no_more here next current (inl e) h = subst (λ o. IsHeld o current) (sym e) tt
-no_more here next current (inr e) h = subst (λ o. IsHeld o current) (sym e) h
+-- nothing is held in any activation
+none : (facts : Facts) (current : Activation) → facts ≡ no_facts → AreHeld facts current
+none facts current e =
+    subst (λ o. AreHeld o current) (sym e) (record {
+      first = tt;
+      second = tt;
+      third = tt;
+      fourth = tt;
+      fifth = tt;
+      sixth = tt;
+      seventh = tt;
+      eighth = tt;
+    })
 
-none : (o : Option Component) (current : Activation) → o ≡ None → IsHeld o current
-none o current e = subst (λ o. IsHeld o current) (sym e) tt
+no_more : (here next : Facts) (current : Activation) → IsNoMore here next → AreHeld here current → AreHeld next current
+no_more here next current (inl e) h = none next current e
+no_more here next current (inr e) h = subst (λ o. AreHeld o current) (sym e) h
 
 -- what follows from nothing is nothing
-no_more_of_none : (next : Option Component) → IsNoMore None next → next ≡ None
+no_more_of_none : (next : Facts) → IsNoMore no_facts next → next ≡ no_facts
 no_more_of_none next (inl e) = e
 no_more_of_none next (inr e) = e
 
 -- the place doesn't matter
-moved : (o : Option Component) (current : Activation) (q : ℕ) → IsHeld o current → IsHeld o
+moved : (facts : Facts) (current : Activation) (q : ℕ) → AreHeld facts current → AreHeld facts
     (record current { place = q })
-moved None current q is = tt
-moved (Some c) current q is = record {
-  block = is.block;
-  offset = is.offset;
-  index = is.index;
-  based = same c.base ∙ is.based;
-  indexed = is.indexed;
-  inside = is.inside;
-  near = is.near;
-  held = is.held;
-}
+moved facts current q is = are_like facts current (record current { place = q }) (λ u. refl) same is
   where
     same : (b : Base) → base_value (record current { place = q }) b ≡ base_value current b
     same base.Frame = refl
@@ -74,36 +78,36 @@ on_test : (P : State → Type 0) (b : Bool) (x y : Step) → (b ≡ true → OnG
 on_test P true x y f g = f refl
 on_test P false x y f g = g
 
-module _ (helds : ℕ → ℕ → Option Component) where
+module _ (helds : ℕ → ℕ → Facts) where
   -- of callers nothing is known where they go on
   abbrev pub CallersRest : List Activation → Type 0
   CallersRest [] = Unit {0}
-  CallersRest (c ∷ cs) = (helds c.routine c.place ≡ None) × CallersRest cs
+  CallersRest (c ∷ cs) = (helds c.routine c.place ≡ no_facts) × CallersRest cs
 
   pub record IsKept (s : State) : Type 0 where
-    pub here : IsHeld (helds s.current.routine s.current.place) s.current
+    pub here : AreHeld (helds s.current.routine s.current.place) s.current
     pub callers : CallersRest s.callers
 
-  module _ (begins : (r : ℕ) → helds r 0 ≡ None) (code : Code) (F G : ℕ → ℕ) (S H : ℕ) (s : State) (kept : IsKept s) where
-    abbrev now : Option Component
+  module _ (begins : (r : ℕ) → helds r 0 ≡ no_facts) (code : Code) (F G : ℕ → ℕ) (S H : ℕ) (s : State) (kept : IsKept s) where
+    abbrev now : Facts
     now = helds s.current.routine s.current.place
 
-    abbrev next : Option Component
+    abbrev next : Facts
     next = helds s.current.routine (suc s.current.place)
 
     abbrev Goes_on : Step → Type 0
     Goes_on x = OnGoes IsKept x
 
-    gives_kept : (t : ℕ) (v : Value) → IsNoMore (unless_written t now) next → Goes_on (gives t v s)
+    gives_kept : (t : ℕ) (v : Value) → IsNoMore (each_unless_written t now) next → Goes_on (gives t v s)
     gives_kept t v l = record {
-      here = no_more (unless_written t now) next (giving t v s.current) l (unless_kept now s.current t v kept.here);
+      here = no_more (each_unless_written t now) next (giving t v s.current) l (each_kept now s.current t v kept.here);
       callers = kept.callers;
     }
 
-    goes_kept : (q : ℕ) → helds s.current.routine q ≡ None → Goes_on (goes_to q s)
+    goes_kept : (q : ℕ) → helds s.current.routine q ≡ no_facts → Goes_on (goes_to q s)
     goes_kept q e = record { here = none (helds s.current.routine q) (record s.current { place = q }) e; callers = kept.callers }
 
-    stays_kept : IsNoMore now next → IsHeld next (onward s.current)
+    stays_kept : IsNoMore now next → AreHeld next (onward s.current)
     stays_kept l = no_more now next (onward s.current) l (moved now s.current (suc s.current.place) kept.here)
 
     on_kept : IsNoMore now next → Goes_on (goes_on s)
@@ -112,16 +116,21 @@ module _ (helds : ℕ → ℕ → Option Component) where
     stores_kept : (m : Memory) → IsNoMore now next → Goes_on (stores m s)
     stores_kept m l = record { here = stays_kept l; callers = kept.callers }
 
-    address_kept : (t : ℕ) (block : Block) (o : ℕ) → IsNoMore (unless_written t now) next → Goes_on
+    address_kept : (t : ℕ) (block : Block) (o : ℕ) → IsNoMore (each_unless_written t now) next → Goes_on
         (gives_address t block o s)
     address_kept t block o l =
         on_if IsKept (nat_lt o 2147483648) (gives t (Address block o) s) (Over Stuck)
         (gives_kept t (Address block o) l) tt
 
-    computed_kept : (t : ℕ) (x : Computed) (line : ℕ) → IsNoMore (unless_written t now) next → Goes_on
-        (gives_computed code t x line s)
-    computed_kept t (Gives z) line l = gives_kept t (Number z) l
-    computed_kept t (Fails number) line l = tt
+    computed_kept : (d : Sum) (x y : ℤ) (r : Computed) (line : ℕ) → s.current.temporaries d.left ≡ Some (Number x)
+        → operand_value s.current.temporaries d.right ≡ Some (Number y) → computed d.operator d.error x y ≡ r
+        → IsNoMore (after_given now d.holder (Summed d)) next → Goes_on (gives_computed code d.holder r line s)
+    computed_kept d x y (Gives z) line e f g l = record {
+      here = no_more (after_given now d.holder (Summed d)) next (giving d.holder (Number z) s.current) l
+          (sum_kept now d s.current z kept.here (record { left = x; right = y; first = e; second = f; fits = g }));
+      callers = kept.callers;
+    }
+    computed_kept d x y (Fails number) line e f g l = tt
 
     checks_kept : (b : Bool) (number line : ℕ) → IsNoMore now next → Goes_on (checks code b number line s)
     checks_kept true number line l = on_kept l
@@ -129,14 +138,14 @@ module _ (helds : ℕ → ℕ → Option Component) where
 
     component_kept : (d : Component) (block : Block) (offset : ℕ) (x : ℤ) (number line : ℕ)
         → base_value s.current d.base ≡ Some (Address block offset) → s.current.temporaries d.index ≡ Some (Number x)
-        → IsNoMore (after_index now d) next → (b : Bool) → is_in_range d.low d.high x ≡ b
+        → IsNoMore (after_given now d.holder (Pointed d)) next → (b : Bool) → is_in_range d.low d.high x ≡ b
         → Goes_on (gives_component code b d.holder block (offset + steps_above d.low x * d.width) number line s)
     component_kept d block offset x number line e f l false g = tt
     component_kept d block offset x number line e f l true g =
         on_test IsKept (nat_lt (offset + steps_above d.low x * d.width) 2147483648)
         (gives d.holder (Address block (offset + steps_above d.low x * d.width)) s) (Over Stuck)
         (λ near. record {
-          here = no_more (after_index now d) next
+          here = no_more (after_given now d.holder (Pointed d)) next
               (giving d.holder (Address block (offset + steps_above d.low x * d.width)) s.current) l
               (index_kept now d s.current (Address block (offset + steps_above d.low x * d.width)) kept.here (record {
                 block = block;
@@ -151,30 +160,30 @@ module _ (helds : ℕ → ℕ → Option Component) where
           callers = kept.callers;
         }) tt
 
-    takes_kept : (t : ℕ) (input : List ℕ) → IsNoMore (unless_written t now) next → Goes_on (takes t input s)
+    takes_kept : (t : ℕ) (input : List ℕ) → IsNoMore (each_unless_written t now) next → Goes_on (takes t input s)
     takes_kept t [] l = record {
-      here = no_more (unless_written t now) next (giving t (Number (negsuc 0)) s.current) l
-          (unless_kept now s.current t (Number (negsuc 0)) kept.here);
+      here = no_more (each_unless_written t now) next (giving t (Number (negsuc 0)) s.current) l
+          (each_kept now s.current t (Number (negsuc 0)) kept.here);
       callers = kept.callers;
     }
     takes_kept t (x ∷ rest) l = record {
-      here = no_more (unless_written t now) next (giving t (Number (pos x)) s.current) l
-          (unless_kept now s.current t (Number (pos x)) kept.here);
+      here = no_more (each_unless_written t now) next (giving t (Number (pos x)) s.current) l
+          (each_kept now s.current t (Number (pos x)) kept.here);
       callers = kept.callers;
     }
 
-    makes_kept : (t object_type bytes line : ℕ) → IsNoMore (unless_written t now) next → Goes_on
+    makes_kept : (t object_type bytes line : ℕ) → IsNoMore (each_unless_written t now) next → Goes_on
         (makes code F G S H t object_type bytes line s)
     makes_kept t object_type bytes line l =
         on_if IsKept (nat_lt H (s.heap + G object_type)) (Over (Heap line))
         (Goes (made code F G S H t object_type bytes s)) tt (record {
-          here = no_more (unless_written t now) next
+          here = no_more (each_unless_written t now) next
               (giving t (Address (Object (length s.memory.objects)) 0) s.current) l
-              (unless_kept now s.current t (Address (Object (length s.memory.objects)) 0) kept.here);
+              (each_kept now s.current t (Address (Object (length s.memory.objects)) 0) kept.here);
           callers = kept.callers;
         })
 
-    calls_kept : (t r : ℕ) (operands : List ℕ) (line : ℕ) → IsNoMore None next → Goes_on
+    calls_kept : (t r : ℕ) (operands : List ℕ) (line : ℕ) → IsNoMore no_facts next → Goes_on
         (calls code F G S H t r operands line s)
     calls_kept t r operands line l =
         on_some IsKept (values_of s.current.temporaries operands) _ (λ values _.
@@ -189,7 +198,7 @@ module _ (helds : ℕ → ℕ → Option Component) where
     leaves_kept v [] w = tt
     leaves_kept v (c ∷ cs) w = record { here = none (helds c.routine c.place) _ w.0; callers = w.1 }
 
-    branch_kept : (q : ℕ) → helds s.current.routine q ≡ None → IsNoMore now next → (holds : Bool)
+    branch_kept : (q : ℕ) → helds s.current.routine q ≡ no_facts → IsNoMore now next → (holds : Bool)
         → Goes_on (if holds then goes_to q s else goes_on s)
     branch_kept q e l true = goes_kept q e
     branch_kept q e l false = on_kept l
@@ -200,7 +209,7 @@ module _ (helds : ℕ → ℕ → Option Component) where
     held_follows (Copy t a) l = on_some IsKept (s.current.temporaries a) _ (λ v e. gives_kept t v l)
     held_follows (Arithmetic operator t a b error line) l =
         on_number IsKept (s.current.temporaries a) _ (λ x e. on_number IsKept (operand_value s.current.temporaries b) _
-        (λ y f. computed_kept t (computed operator error x y) line l))
+        (λ y f. computed_kept (total operator t a b error) x y (computed operator error x y) line e f refl l))
     held_follows (Bits operator t a b) l =
         on_number IsKept (s.current.temporaries a) _ (λ x e. on_number IsKept (operand_value s.current.temporaries b) _
         (λ y f. gives_kept t (Number (bits operator x y)) l))

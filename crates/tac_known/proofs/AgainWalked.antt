@@ -1,6 +1,6 @@
 -- The walk that copies addresses makes what the definitions say.
 use Rattle.std.proofs.Common.{◌≡◌, ◌≢◌, ◌⊎◌, inl, inr, ℕ, zero, suc, ◌+◌, ◌-◌, ◌<◌, ◌≤◌, Bool, true, false}
-use Rattle.std.proofs.Common.{List, [], ◌∷◌, length, slice_get, slice_set, Option, Some, None}
+use Rattle.std.proofs.Common.{List, [], ◌∷◌, length, slice_get, slice_set, Some}
 use Rattle.std.proofs.Common.{refl, sym, ap, ◌∙◌, subst, arith}
 use Rattle.std.proofs.lemmas.Bool.{cases_eq}
 use Rattle.std.proofs.lemmas.Option.{none-some, same_Some}
@@ -11,15 +11,15 @@ use Rattle.tac_code.specs.declared.code.Instruction.TheVariants.{Store, LoadByte
 use Rattle.tac_code.specs.declared.code.Instruction.TheVariants.{BranchBack, Call, CallValue, Return, Trap, Take, Put}
 use Rattle.tac_code.specs.declared.code.Instruction.TheVariants.{New, End}
 use Rattle.tac_pass.proofs.Words.{get_set_same, get_set_other, length_set}
-use Rattle.tac_known.specs.declared.again.Component.{Component}
-use Rattle.tac_known.specs.Again.{again, held_behind, IsNoMore, GoesOn, AgainBody, is_marked, unless_marked, behind_place}
-use Rattle.tac_known.specs.Again.{held_at, leads_to_marks}
+use Rattle.tac_known.specs.declared.again.Facts.{Facts}
+use Rattle.tac_known.specs.Again.{no_facts, again, held_behind, IsNoMore, GoesOn, AgainBody, is_marked, unless_marked}
+use Rattle.tac_known.specs.Again.{behind_place, held_at, leads_to_marks}
 
 module _ (marks : List Bool) (body : List Instruction) where
-  abbrev at : ℕ → Option Component
+  abbrev at : ℕ → Facts
   at place = held_at marks body place
 
-  marked_at : (place : ℕ) → is_marked marks place ≡ true → at place ≡ None
+  marked_at : (place : ℕ) → is_marked marks place ≡ true → at place ≡ no_facts
   marked_at zero e = refl
   marked_at (suc n) e = ap (λ b. unless_marked b (behind_place (at n) (slice_get body n))) e
 
@@ -67,14 +67,14 @@ module _ (marks : List Bool) (body : List Instruction) where
 
   -- ---- the loop over the body
 
-  pub record WalkedTo (n : ℕ) (body' : List Instruction) (held : Option Component) : Type 0 where
+  pub record WalkedTo (n : ℕ) (body' : List Instruction) (held : Facts) : Type 0 where
     pub as_many : length body' ≡ length body
     pub now : held ≡ at n
     pub places : (place : ℕ) (i : Instruction) → place < n → slice_get body place ≡ Some i → (slice_get body' place ≡ Some
         (again (at place) i)) × (leads_to_marks marks place i ≡ true)
     pub rest : (place : ℕ) → n ≤ place → slice_get body' place ≡ slice_get body place
 
-  pub walks_on : (n : ℕ) (body' : List Instruction) (held held' : Option Component) (i i' : Instruction)
+  pub walks_on : (n : ℕ) (body' : List Instruction) (held held' : Facts) (i i' : Instruction)
       → WalkedTo n body' held → slice_get body' n ≡ Some i → leads_to_marks marks n i ≡ true → i' ≡ again held i
       → held' ≡ unless_marked (is_marked marks (suc n)) (held_behind held i) → n < length body'
       → WalkedTo (n + 1) (slice_set body' n i') held'
@@ -116,7 +116,7 @@ module _ (marks : List Bool) (body : List Instruction) where
   within (y ∷ xs) zero x e = omega arith
   within (y ∷ xs) (suc k) x e = let l = within xs k x e in omega (arith, l)
 
-  pub walked_whole : (body' : List Instruction) (held : Option Component) → WalkedTo (length body) body' held → AgainBody
+  pub walked_whole : (body' : List Instruction) (held : Facts) → WalkedTo (length body) body' held → AgainBody
       body body'
   walked_whole body' held w = record {
     at = at;

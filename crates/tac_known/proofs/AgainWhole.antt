@@ -16,15 +16,25 @@ use Rattle.tac_pass.specs.Follows.{SameHeading}
 use Rattle.tac_pass.proofs.Below.{OnGoes}
 use Rattle.tac_pass.proofs.Simulating.{aside, step_in, Reaches, Ends, goes, ends, Follows, Simulates, Enters, entry}
 use Rattle.tac_pass.proofs.Simulating.{simulated_is_kept}
-use Rattle.tac_known.specs.declared.again.Component.{Component}
-use Rattle.tac_known.specs.Again.{IsHeld, again, GoesOn, IsAgain}
+use Rattle.tac_known.specs.declared.again.Facts.{Facts}
+use Rattle.tac_known.specs.Again.{AreHeld, no_facts, again, GoesOn, IsAgain}
 use Rattle.tac_known.proofs.Acts.{acts_alike, enter_alike}
 use Rattle.tac_known.proofs.Itself.{lean_not}
 use Rattle.tac_known.proofs.AgainHeld.{again_text, again_turns, again_alike}
 use Rattle.tac_known.proofs.AgainGoes.{IsKept, held_follows}
 
-nothing_held : (o : Option Component) (current : Activation) → o ≡ None → IsHeld o current
-nothing_held o current e = subst (λ o. IsHeld o current) (sym e) tt
+nothing_held : (facts : Facts) (current : Activation) → facts ≡ no_facts → AreHeld facts current
+nothing_held facts current e =
+    subst (λ o. AreHeld o current) (sym e) (record {
+      first = tt;
+      second = tt;
+      third = tt;
+      fourth = tt;
+      fifth = tt;
+      sixth = tt;
+      seventh = tt;
+      eighth = tt;
+    })
 
 -- ---- lists of one length
 
@@ -44,19 +54,19 @@ as_long (u ∷ us) vs (x ∷ xs) ys e f = ap suc (as_long us vs xs ys (omega (ar
 module _ (old new : Code) (made : IsAgain old new) where
   -- ---- what is known at a place of a routine
 
-  abbrev claims_of : (r : ℕ) (o : Option TacRoutine) → slice_get (routines old) r ≡ o → ℕ → Option Component
-  claims_of r None e place = None
+  abbrev claims_of : (r : ℕ) (o : Option TacRoutine) → slice_get (routines old) r ≡ o → ℕ → Facts
+  claims_of r None e place = no_facts
   claims_of r (Some routine) e place = (made.routines r routine e).2.body.at place
 
-  abbrev claims : ℕ → ℕ → Option Component
+  abbrev claims : ℕ → ℕ → Facts
   claims r place = claims_of r (slice_get (routines old) r) refl place
 
   begins_of : (r : ℕ) (o : Option TacRoutine) (e : slice_get (routines old) r ≡ o) → claims_of r o e 0
-      ≡ None
+      ≡ no_facts
   begins_of r None e = refl
   begins_of r (Some routine) e = (made.routines r routine e).2.body.begins
 
-  begins : (r : ℕ) → claims r 0 ≡ None
+  begins : (r : ℕ) → claims r 0 ≡ no_facts
   begins r = begins_of r (slice_get (routines old) r) refl
 
   there_of : (r place : ℕ) (i : Instruction) (o : Option TacRoutine) (e : slice_get (routines old) r ≡ o)

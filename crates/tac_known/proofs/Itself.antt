@@ -1,5 +1,5 @@
 -- A body is lean in its own place, with nothing known anywhere.
-use Rattle.std.proofs.Common.{◌≡◌, ℕ, false, List, [], Some, refl, sym, ap, ◌∙◌}
+use Rattle.std.proofs.Common.{◌≡◌, ℕ, false, List, [], Some, refl, sym, ap, ◌∙◌, arith}
 use Rattle.tac_code.specs.declared.code.Operator.{Operator}
 use Rattle.tac_code.specs.declared.code.Operator.TheVariants.{Add, Subtract, Multiply, Divide, Modulo}
 use Rattle.tac_code.specs.declared.code.Instruction.{Instruction}
@@ -98,7 +98,7 @@ unchanged_is_lean code = record {
     e,
     record {
       heading = record { parameters = refl; frame = refl; scratch = refl; line = refl };
-      temporaries = refl;
+      temporaries = omega arith;
       body = itself_is_lean routine.body;
     },
   );

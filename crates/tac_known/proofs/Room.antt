@@ -1,8 +1,8 @@
 -- Lean code has the room of the code that it was made from.
-use Rattle.std.proofs.Common.{◌≡◌, ℕ, zero, suc, ◌<◌, List, [], ◌∷◌, ◌++◌, length, slice_get, Some, arith}
+use Rattle.std.proofs.Common.{◌≡◌, ℕ, zero, suc, ◌<◌, ◌≤◌, List, [], ◌∷◌, ◌++◌, length, slice_get, Some, arith}
 use Rattle.tac_code.specs.declared.code.TacRoutine.{TacRoutine}
-use Rattle.tac_code.specs.Meaning.{Code, size}
-use Rattle.tac_pass_laws.specs.Passed.{IsPassed}
+use Rattle.tac_code.specs.Meaning.{Code}
+use Rattle.tac_pass_laws.specs.Passed.{room, IsPassed}
 use Rattle.tac_known.specs.Lean.{LeanRoutine, IsLean}
 use Rattle.tac_known.proofs.Whole.{lean_keeps}
 
@@ -22,9 +22,13 @@ within [] r x e = absurd (cc e)
 within (z ∷ xs) zero x e = omega arith
 within (z ∷ xs) (suc r) x e = let lt = within xs r x e in omega (arith, lt)
 
-sized : (routine routine' : TacRoutine) → LeanRoutine routine routine' → size routine' ≡ size routine
-sized routine routine' l =
-    let f = l.heading.frame in let s = l.heading.scratch in let t = l.temporaries in omega (arith, f, s, t)
+within_room : (routine routine' : TacRoutine) → LeanRoutine routine routine' → room routine' ≤ room routine
+within_room routine routine' l =
+    let p = l.heading.parameters in
+    let f = l.heading.frame in
+    let s = l.heading.scratch in
+    let t = l.temporaries in
+    omega (arith, p, f, s, t)
 
 pub lean_are_passed : (old new : Code) → IsLean old new → IsPassed old new
 lean_are_passed old new made = record {
@@ -39,7 +43,7 @@ lean_are_passed old new made = record {
         let as_many = made.program in (
           one.0,
           in_first new.program new.run_time r one.0 (omega (arith, lt, as_many)) one.1,
-          sized routine one.0 one.2,
+          within_room routine one.0 one.2,
         );
   };
 }

@@ -1,6 +1,6 @@
 -- Code in which tests that can't fail have the number 0 in place of an error's: what is known at each place, and what
 -- each instruction becomes.
-use Rattle.std.specs.Prelude.{◌≡◌, ℕ, suc, ◌+◌, ◌-◌, Bool, true, false, List, length, map}
+use Rattle.std.specs.Prelude.{◌≡◌, ℕ, suc, ◌+◌, ◌-◌, ◌≤◌, Bool, true, false, List, length, map}
 use Rattle.std.specs.Prelude.{slice_get, slice_set, Some, pos}
 use Rattle.tac_code.specs.declared.code.Instruction.{Instruction}
 use Rattle.tac_code.specs.declared.code.Instruction.TheVariants.{Literal, Copy, Arithmetic, Bits, Compare, CheckRange}
@@ -13,6 +13,7 @@ use Rattle.tac_code.specs.declared.code.Relation.{Relation}
 use Rattle.tac_code.specs.declared.code.TacRoutine.{TacRoutine}
 use Rattle.tac_code.specs.Meaning.{Code, routines}
 use Rattle.tac_pass.specs.Follows.{SameHeading}
+use Rattle.tac_pass_laws.specs.Passed.{most_temporaries}
 use Rattle.tac_known.specs.declared.kind.Kind.{Kind}
 use Rattle.tac_known.specs.declared.kind.Kind.TheVariants.{Unknown, Pointer, Between}
 use Rattle.tac_known.specs.Kinds.{kind_in, operand_kind, met, computed_kind, bits_kind, fits, lies_within, is_pointer}
@@ -109,9 +110,10 @@ pub record LeanBody (body body' : List Instruction) : Type 0 where
 
 -- ---- code
 
+-- whose temporaries there is room for
 pub record LeanRoutine (routine routine' : TacRoutine) : Type 0 where
   pub heading : SameHeading routine routine'
-  pub temporaries : routine'.temporaries ≡ routine.temporaries
+  pub temporaries : routine'.temporaries ≤ most_temporaries routine
   pub body : LeanBody routine.body routine'.body
 
 -- each routine of the old code has one of the new code in its place

@@ -1,9 +1,13 @@
--- Addresses that are computed again, by the definitions: where the holder stays, where it is written, and behind a jump.
-use Rattle.std.proofs.Common.{◌≡◌, ℕ, pos, refl, List, [], ◌∷◌, true, false, Bool, Option, Some, None}
+-- Addresses and sums that are computed again, by the definitions: where the holder stays, where it is written, and behind
+-- a jump.
+use Rattle.std.proofs.Common.{◌≡◌, ℕ, pos, refl, List, [], ◌∷◌, true, false, Bool}
 use Rattle.tac_code.specs.declared.code.Base.TheVariants as base
+use Rattle.tac_code.specs.declared.code.Operand.TheVariants as operand
+use Rattle.tac_code.specs.declared.code.Operator.TheVariants.{Add, Subtract}
 use Rattle.tac_code.specs.declared.code.Instruction.{Instruction}
-use Rattle.tac_code.specs.declared.code.Instruction.TheVariants.{Literal, Copy, Index, Load, Store, Take, End}
-use Rattle.tac_known.specs.Again.{component, again, held_at}
+use Rattle.tac_code.specs.declared.code.Instruction.TheVariants.{Copy, Arithmetic, Index, Load, Store, Take, End}
+use Rattle.tac_known.specs.declared.again.Fact.TheVariants.{Pointed, Summed}
+use Rattle.tac_known.specs.Again.{no_facts, component, total, again, held_at}
 
 -- the component with the index in temporary 0, of ten words at the begin of the frame
 abbrev indexed : ℕ → Instruction
@@ -23,14 +27,15 @@ kept = Take 0 ∷ indexed 1 ∷ Load 2 (base.Temporary 1) 0 ∷ indexed 3 ∷ St
 abbrev overwritten : List Instruction
 overwritten = Take 0 ∷ indexed 1 ∷ Load 1 (base.Temporary 1) 0 ∷ indexed 3 ∷ Store (base.Temporary 3) 4 1 ∷ End ∷ []
 
-held_there : held_at no_jumps kept 3 ≡ Some (component 1 base.Frame 0 (pos 1) (pos 10) 4)
+held_there : held_at no_jumps kept 3 ≡ record no_facts { first = Pointed (component 1 base.Frame 0 (pos 1) (pos 10) 4) }
 held_there = refl
 
 copied_there : again (held_at no_jumps kept 3) (indexed 3) ≡ Copy 3 1
 copied_there = refl
 
 -- the first one goes on holding it
-held_behind_it : held_at no_jumps kept 4 ≡ Some (component 1 base.Frame 0 (pos 1) (pos 10) 4)
+held_behind_it : held_at no_jumps kept 4
+    ≡ record no_facts { first = Pointed (component 1 base.Frame 0 (pos 1) (pos 10) 4) }
 held_behind_it = refl
 
 not_where_written : again (held_at no_jumps overwritten 3) (indexed 3) ≡ indexed 3
@@ -43,3 +48,36 @@ not_where_jumps_lead = refl
 not_of_another_width : again (held_at no_jumps kept 3) (Index 3 base.Frame 0 (pos 1) (pos 10) 8 5 1)
     ≡ Index 3 base.Frame 0 (pos 1) (pos 10) 8 5 1
 not_of_another_width = refl
+
+-- ---- sums, and what is counted from them
+
+-- the number in a temporary and one more
+abbrev next : ℕ → ℕ → Instruction
+next t a = Arithmetic Add t a (operand.Number (pos 1)) 1 1
+
+-- the component behind the index is loaded and stored
+abbrev twice : List Instruction
+twice =
+    Take 0 ∷ next 1 0 ∷ Index 2 base.Frame 1 (pos 1) (pos 10) 4 5 1 ∷ Load 3 (base.Temporary 2) 0 ∷ next 1 0
+    ∷ Index 2 base.Frame 1 (pos 1) (pos 10) 4 5 1 ∷ Store (base.Temporary 2) 0 3 ∷ End ∷ []
+
+both_held : held_at [] twice 4 ≡ record no_facts {
+  first = Pointed (component 2 base.Frame 1 (pos 1) (pos 10) 4);
+  second = Summed (total Add 1 0 (operand.Number (pos 1)) 1);
+}
+both_held = refl
+
+-- the sum stands where it stood, so that the address is known yet
+sum_there : again (held_at [] twice 4) (next 1 0) ≡ Copy 1 1
+sum_there = refl
+
+all_held : held_at [] twice 5 ≡ held_at [] twice 4
+all_held = refl
+
+address_there : again (held_at [] twice 5) (Index 2 base.Frame 1 (pos 1) (pos 10) 4 5 1) ≡ Copy 2 2
+address_there = refl
+
+-- the same operands, but not their sum
+not_the_difference : again (held_at [] twice 4) (Arithmetic Subtract 1 0 (operand.Number (pos 1)) 1 1)
+    ≡ Arithmetic Subtract 1 0 (operand.Number (pos 1)) 1 1
+not_the_difference = refl

@@ -9,7 +9,7 @@ use Rattle.tac_code.specs.declared.code.TacRoutine.{TacRoutine}
 use Rattle.tac_code.specs.Meaning.{Code}
 use Rattle.tac_pass.specs.Walk.{Passed, PassedRoutine}
 use Rattle.tac_pass.proofs.Passing.{routine_passed, so_far_many, so_far_more as passed_more, are_passed}
-use Rattle.tac_pass_laws.specs.Passed.{IsPassed}
+use Rattle.tac_pass_laws.specs.Passed.{most_temporaries, IsPassed}
 use Rattle.tac_pass_laws.proofs.Passed.{planned_are_passed, passes_compose}
 use Rattle.tac_known.specs.Again.{AgainBody, AgainRoutine}
 use Rattle.tac_known.specs.Lean.{LeanBody, LeanRoutine}
@@ -38,7 +38,7 @@ body_passes r body between copied fewer (Ok None) passed short again spared less
 body_passes r body between copied fewer (Err e) passed short again spared less lean = lean
 
 pub routine_passes : (r : ℕ) (routine routine' : TacRoutine) → routine'.parameters ≡ routine.parameters
-    → routine'.temporaries ≡ routine.temporaries → routine'.frame ≡ routine.frame → routine'.scratch ≡ routine.scratch
+    → routine'.temporaries ≤ most_temporaries routine → routine'.frame ≡ routine.frame → routine'.scratch ≡ routine.scratch
     → routine'.line ≡ routine.line → PassesBody r routine.body routine'.body → PassesRoutine r routine routine'
 routine_passes r routine routine' p t f s l b = record {
   between = between;

@@ -526,7 +526,7 @@ all_stay r puts l routine (Ok copy) none sound same p h =
       spared = routine_stays r puts l routine routine none sound same p refl;
       lean = record {
         heading = record { parameters = refl; frame = refl; scratch = refl; line = refl };
-        temporaries = refl;
+        temporaries = omega arith;
         body = itself_is_lean routine.body;
       };
     })

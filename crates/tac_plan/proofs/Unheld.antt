@@ -1,19 +1,19 @@
--- A body in its own place: no address is copied, with nothing known anywhere.
-use Rattle.std.proofs.Common.{◌≡◌, inl, ℕ, List, Option, Some, None, refl, sym, ap, ◌∙◌}
+-- A body in its own place: nothing that was computed is copied, with nothing known anywhere.
+use Rattle.std.proofs.Common.{◌≡◌, inl, ℕ, List, Some, refl, sym, ap, ◌∙◌}
 use Rattle.tac_code.specs.declared.code.Instruction.{Instruction}
 use Rattle.tac_code.specs.declared.code.Instruction.TheVariants.{Literal, Copy, Arithmetic, Bits, Compare, CheckRange}
 use Rattle.tac_code.specs.declared.code.Instruction.TheVariants.{CheckPointer, Text, Offset, Index, RoutineValue, Load}
 use Rattle.tac_code.specs.declared.code.Instruction.TheVariants.{Store, LoadByte, StoreByte, Jump, JumpBack, Branch}
 use Rattle.tac_code.specs.declared.code.Instruction.TheVariants.{BranchBack, Call, CallValue, Return, Trap, Take, Put}
 use Rattle.tac_code.specs.declared.code.Instruction.TheVariants.{New, End}
-use Rattle.tac_known.specs.declared.again.Component.{Component}
-use Rattle.tac_known.specs.Again.{again, GoesOn, AgainBody}
+use Rattle.tac_known.specs.declared.again.Facts.{Facts}
+use Rattle.tac_known.specs.Again.{again, no_facts, GoesOn, AgainBody}
 
 -- what is known at each place
-abbrev nowhere : ℕ → Option Component
-nowhere place = None
+abbrev nowhere : ℕ → Facts
+nowhere place = no_facts
 
-not_again : (i : Instruction) → again None i ≡ i
+not_again : (i : Instruction) → again no_facts i ≡ i
 not_again (Literal t z) = refl
 not_again (Copy t a) = refl
 not_again (Arithmetic o t a b e l) = refl

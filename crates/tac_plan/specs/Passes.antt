@@ -1,6 +1,6 @@
--- The whole pass: words of frames come to stand in temporaries, by plans; then addresses that temporaries hold are copied,
--- where they would be computed again; then copies are left out, by plans again; and then tests that can't fail have the
--- number 0 in place of an error's.
+-- The whole pass: words of frames come to stand in temporaries, by plans; then addresses and sums that temporaries hold
+-- are copied, where they would be computed again; then copies are left out, by plans again; and then tests that can't
+-- fail have the number 0 in place of an error's.
 use Rattle.std.specs.Prelude.{ℕ, suc, List, [], ◌∷◌, length, ◌≤◌}
 use Rattle.tac_code.specs.declared.code.Instruction.{Instruction}
 use Rattle.tac_code.specs.declared.code.TacRoutine.{TacRoutine}

@@ -1,181 +1,532 @@
-// Temporaries that keep the address of a component until it is indexed again: what they would be given meanwhile is given
-// to another one. Nothing is proved of it: what is chosen is tested.
+// Addresses and sums that are computed more than once in a straight stretch: the first one stands in a temporary of its
+// own until the last one, so that copies of it can be made. Nothing is proved of it: what is chosen is tested.
 
-use crate::flow::{NONE, Way, lives_at};
-use crate::sets::{least, set_of};
-use tac_code::code::{Base, Instruction};
+use crate::flow::{NONE, Way, is_turn, lives_at, way_at};
+use crate::regions::Region;
+use crate::sets::{CONSIDERED, set_of};
+use crate::words::Pins;
+use std::alloc::Global;
+use tac_code::code::{Base, Instruction, Operand, OutOfMemory};
+use tac_known::again::{Component, Fact, Sum, given_by, holder_by};
 
-// So many places further the component may be indexed again.
-const FAR: usize = 48;
+// So many that were computed last are remembered.
+const MOST_TERMS: usize = 8;
 
-/// A value that an address is counted from or by, and the old temporaries that hold it.
+// The numbers of words stand behind those of temporaries, and that of what is none.
+const FIRST_WORD: usize = CONSIDERED as usize + 1;
+
+// A chain ends so many places behind its begin.
+const FAR: usize = 64;
+
+// The most places of a chain behind the first one; a quarter of that, and a sixteenth, where there is no room.
+const MOST_LINKS: u32 = 16;
+
+const ATTEMPTS: u32 = 3;
+
+// So many chains that began last are looked at.
+const MOST_ACTIVE: usize = 16;
+
+/// Places that compute the same, the first to the last one, and what holds it meanwhile.
 #[derive(Clone, Copy)]
-pub struct Value {
-    /// The word that it was loaded from, whose holder it stands in: its place in the list of words, or none.
-    pub item: usize,
-    /// The temporaries.
-    pub set: u64,
-}
-
-impl Value {
-    // Goes on behind a place; false where the value changes.
-    fn goes_on(&mut self, way: &Way) -> bool {
-        self.set &= !way.writes;
-        if self.item == NONE {
-            return true;
-        }
-        if way.given == self.item || (way.item == self.item && way.writes == 0) {
-            return false;
-        }
-        if way.item == self.item && way.is_short {
-            self.set |= way.writes;
-        }
-        true
-    }
-}
-
-/// The address of a component, where it is computed.
-#[derive(Clone, Copy)]
-pub struct Address {
-    /// What it is counted from.
-    pub base: Base,
-    /// The value of a base that is a temporary.
-    pub from: Value,
-    /// The index.
-    pub by: Value,
-    pub low: i32,
-    pub high: i32,
-    pub width: u32,
-    /// The temporary that holds it.
+pub struct Chain {
+    pub start: usize,
+    /// The last place where what is computed is used.
+    pub end: usize,
+    /// The temporary that holds it, where one was found.
     pub holder: u32,
 }
 
-/// An address that is computed again.
+// What a place gives: numbers of values stand in the place of temporaries.
 #[derive(Clone, Copy)]
-pub struct Again {
-    /// The temporary that holds it.
-    pub holder: u32,
-    /// What is given to that temporary stands here instead; in itself where nothing is.
-    pub instead: u32,
-    /// The place where it is computed again.
-    pub until: usize,
+struct Term {
+    place: usize,
+    fact: Fact,
 }
 
-// What is found between both places.
-#[derive(Clone, Copy)]
-struct Between {
-    // what is alive, or written
-    busy: u64,
-    // whether the holder is written
-    is_written: bool,
+// The numbers of values. What begins in a straight stretch has a new one.
+#[derive(Drop)]
+struct Numbers {
+    // of temporaries, and of words behind them; 0 where none was given in this stretch
+    list: Vec<u32>,
+    next: u32,
+    terms: Vec<Term>,
+    // the one among them that was remembered first
+    oldest: usize,
 }
 
-impl Address {
-    fn goes_on(&mut self, way: &Way) -> bool {
-        self.from.goes_on(way) && self.by.goes_on(way)
+// The number of what is given.
+fn number_in(fact: Fact) -> Option<u32> {
+    match fact {
+        Fact::Empty => None,
+        Fact::Pointed(component) => Some(component.holder),
+        Fact::Summed(sum) => Some(sum.holder),
     }
+}
 
-    // whether a place computes it again
-    fn is_at(&self, instruction: &Instruction) -> bool {
-        match instruction {
-            Instruction::Index {
-                base,
-                index,
-                low,
-                high,
-                width,
-                ..
-            } => {
-                self.is_base(*base)
-                    && self.by.set & set_of(*index) != 0
-                    && self.low == *low
-                    && self.high == *high
-                    && self.width == *width
-            }
-            _ => false,
-        }
-    }
-
-    fn is_base(&self, base: Base) -> bool {
-        match (self.base, base) {
-            (Base::Frame, Base::Frame)
-            | (Base::Scratch, Base::Scratch)
-            | (Base::Program, Base::Program) => true,
-            (Base::Temporary(_), Base::Temporary(temporary)) => {
-                self.from.set & set_of(temporary) != 0
-            }
-            _ => false,
-        }
-    }
-
-    // Whether the holder may keep it over a place, from which a jump may lead away.
-    fn may_stay(&self, ways: &[Way], way: &Way) -> bool {
-        way.falls
-            && !way.calls()
-            && (way.target == NONE || lives_at(ways, way.target) & set_of(self.holder) == 0)
-    }
-
-    // Where it is computed again, at a place; none where the holder can't keep it until there.
-    fn again_at(&self, ways: &[Way], place: usize, between: Between, usable: u64) -> Option<Again> {
-        let holder = set_of(self.holder);
-        let behind = lives_at(ways, place.saturating_add(1));
-        let written = if place < ways.len() {
-            ways[place].writes
-        } else {
-            0
-        };
-        if !between.is_written {
-            return Some(Again {
-                holder: self.holder,
-                instead: self.holder,
-                until: place,
-            });
-        }
-        if behind & holder != 0 && written != holder {
-            return None;
-        }
-        let busy = between.busy | behind | written | holder;
-        Some(Again {
-            holder: self.holder,
-            instead: least(usable & !busy)?,
-            until: place,
+impl Numbers {
+    fn new(alloc: Global, words: usize) -> Result<Numbers, OutOfMemory> {
+        let many = words.saturating_add(FIRST_WORD);
+        Ok(Numbers {
+            list: vec![in alloc; 0u32; many]?,
+            next: 0,
+            terms: Vec::with_capacity(alloc, MOST_TERMS)?,
+            oldest: 0,
         })
     }
 
-    /// Where it is computed again, if the holder can keep it until there, behind the place where it is computed.
-    pub fn again(
-        &self,
-        body: &[Instruction],
-        ways: &[Way],
-        place: usize,
-        end: usize,
-        usable: u64,
-    ) -> Option<Again> {
-        let mut address = *self;
-        let mut between = Between {
-            busy: 0,
-            is_written: false,
-        };
-        let first = place.saturating_add(1);
-        for next in first..first.saturating_add(FAR).min(end) {
-            if next >= ways.len() || next >= body.len() || ways[next].is_join() {
-                return None;
-            }
-            let way = ways[next];
-            between.busy |= way.lives;
-            if matches!(body[next], Instruction::Index { .. }) {
-                return if address.is_at(&body[next]) {
-                    self.again_at(ways, next, between, usable)
-                } else {
-                    None
+    fn fresh(&mut self) -> u32 {
+        self.next = self.next.saturating_add(1);
+        self.next
+    }
+
+    // nothing is known
+    fn clear(&mut self) {
+        for at in 0..self.list.len() {
+            self.list[at] = 0;
+        }
+        self.terms.truncate(0);
+        self.oldest = 0;
+    }
+
+    fn number(&mut self, at: usize) -> u32 {
+        if at < self.list.len() && self.list[at] != 0 {
+            return self.list[at];
+        }
+        let number = self.fresh();
+        self.set(at, number);
+        number
+    }
+
+    fn number_of(&mut self, temporary: u32) -> u32 {
+        self.number(temporary.min(CONSIDERED) as usize)
+    }
+
+    // what is given, by numbers of values, and with a new number
+    fn numbered(&mut self, fact: Fact) -> Fact {
+        match fact {
+            Fact::Empty => Fact::Empty,
+            Fact::Pointed(component) => {
+                let base = match component.base {
+                    Base::Temporary(temporary) => Base::Temporary(self.number_of(temporary)),
+                    other => other,
                 };
+                Fact::Pointed(Component {
+                    base,
+                    index: self.number_of(component.index),
+                    holder: self.fresh(),
+                    ..component
+                })
             }
-            if !self.may_stay(ways, &way) || !address.goes_on(&way) {
+            Fact::Summed(sum) => {
+                let right = match sum.right {
+                    Operand::Temporary(temporary) => Operand::Temporary(self.number_of(temporary)),
+                    other => other,
+                };
+                Fact::Summed(Sum {
+                    left: self.number_of(sum.left),
+                    right,
+                    holder: self.fresh(),
+                    ..sum
+                })
+            }
+        }
+    }
+
+    fn set(&mut self, at: usize, number: u32) {
+        if at < self.list.len() {
+            self.list[at] = number;
+        }
+    }
+
+    // in the place of the one that was remembered first, if there are too many
+    fn remember(&mut self, term: Term) -> Result<(), OutOfMemory> {
+        if self.terms.len() < MOST_TERMS {
+            self.terms.push(term)?;
+            return Ok(());
+        }
+        let at = self.oldest;
+        if at < self.terms.len() {
+            self.terms[at] = term;
+        }
+        self.oldest = at.saturating_add(1) % MOST_TERMS;
+        Ok(())
+    }
+
+    // the number of what a place gives, a new one or that of the place that gave the same before, and that place
+    fn compute(
+        &mut self,
+        place: usize,
+        fact: Fact,
+        number: u32,
+    ) -> Result<(u32, usize), OutOfMemory> {
+        for at in 0..self.terms.len() {
+            let term = self.terms[at];
+            if let Some(found) = holder_by(fact, term.fact) {
+                self.terms[at].place = place;
+                return Ok((found, term.place));
+            }
+        }
+        self.remember(Term { place, fact })?;
+        Ok((number, NONE))
+    }
+
+    // a word that is held is loaded or stored
+    fn pass_on(&mut self, way: &Way, word: usize) {
+        let word = word.saturating_add(FIRST_WORD);
+        if way.writes != 0 {
+            let number = self.number(word);
+            self.set(way.writes.trailing_zeros() as usize, number);
+        } else {
+            let number = self.number_of(way.reads.trailing_zeros());
+            self.set(word, number);
+        }
+    }
+
+    // goes on behind a place; the place that computed the same before
+    fn go_on(
+        &mut self,
+        instruction: &Instruction,
+        place: usize,
+        way: &Way,
+        word: usize,
+    ) -> Result<usize, OutOfMemory> {
+        if word != NONE {
+            self.pass_on(way, word);
+            return Ok(NONE);
+        }
+        if way.writes == 0 {
+            return Ok(NONE);
+        }
+        let to = way.writes.trailing_zeros() as usize;
+        let fact = self.numbered(given_by(instruction));
+        let Some(new) = number_in(fact) else {
+            let number = self.fresh();
+            self.set(to, number);
+            return Ok(NONE);
+        };
+        let (number, before) = self.compute(place, fact, new)?;
+        self.set(to, number);
+        Ok(before)
+    }
+}
+
+/// The chains of a region.
+#[derive(Drop)]
+pub struct Chains {
+    pub list: Vec<Chain>,
+    // the region's first place, and by places from there on the chain that they belong to
+    start: usize,
+    at: Vec<usize>,
+}
+
+// How many temporaries of those that values may be moved to are needed.
+#[derive(Drop)]
+struct Needs {
+    // by places of the region
+    list: Vec<u32>,
+    start: usize,
+    room: u32,
+}
+
+impl Needs {
+    fn fits(&self, place: usize, more: u32) -> bool {
+        let at = place.wrapping_sub(self.start);
+        at < self.list.len() && self.list[at].saturating_add(more) <= self.room
+    }
+
+    fn add(&mut self, place: usize, more: u32) {
+        let at = place.wrapping_sub(self.start);
+        if at < self.list.len() {
+            self.list[at] = self.list[at].saturating_add(more);
+        }
+    }
+}
+
+impl Needs {
+    fn new(alloc: Global, ways: &[Way], region: Region, pins: &Pins) -> Result<Needs, OutOfMemory> {
+        let mut list = Vec::with_capacity(alloc, region.exit().saturating_sub(region.start))?;
+        let mut shared = 0;
+        for place in region.start..region.exit() {
+            let way = way_at(ways, place);
+            shared &= !way.writes;
+            if is_shared(pins, ways, place, &way) {
+                shared |= way.writes;
+            }
+            let alive = lives_at(ways, place.saturating_add(1)) | way.writes;
+            list.push((alive & pins.moved & !shared).count_ones())?;
+        }
+        Ok(Needs {
+            list,
+            start: region.start,
+            room: pins.open.count_ones(),
+        })
+    }
+}
+
+// The place of a word among those that are held.
+fn pin_of(pins: &Pins, item: usize) -> usize {
+    if item != NONE {
+        for (at, pin) in pins.list.iter().enumerate() {
+            if pin.item == item {
+                return at;
+            }
+        }
+    }
+    NONE
+}
+
+// Whether what a place gives stands in the holder of a word.
+fn is_shared(pins: &Pins, ways: &[Way], place: usize, way: &Way) -> bool {
+    way.writes != 0
+        && (pin_of(pins, way.given) != NONE
+            || ((way.is_short || is_turn(ways, place, way)) && pin_of(pins, way.item) != NONE))
+}
+
+// What chains are chosen by.
+#[derive(Clone, Copy)]
+struct View<'a> {
+    ways: &'a [Way],
+    pins: &'a Pins,
+    region: Region,
+    // by places of the region, the next place that computes the same
+    next: &'a [usize],
+}
+
+// Where a chain stands.
+#[derive(Clone, Copy)]
+struct Link {
+    // the next place that computes the same
+    wanted: usize,
+    // the old temporary in which what was computed last is alive
+    alive: u64,
+    // how many more places may belong to it
+    left: u32,
+}
+
+impl<'a> View<'a> {
+    fn next_of(&self, place: usize) -> usize {
+        let at = place.wrapping_sub(self.region.start);
+        if at < self.next.len() {
+            self.next[at]
+        } else {
+            NONE
+        }
+    }
+
+    // whether what a place gives may stand in any temporary
+    fn may_move(&self, place: usize) -> bool {
+        let way = way_at(self.ways, place);
+        way.is_local && pin_of(self.pins, way.given) == NONE
+    }
+
+    // Whether a place of a chain gives what it computes to the chain's holder: not where what was computed last is used
+    // behind it yet.
+    fn is_kept(&self, link: &Link, place: usize) -> bool {
+        let behind = lives_at(self.ways, place.saturating_add(1));
+        let old = link.alive & !way_at(self.ways, place).writes;
+        self.may_move(place) && old & behind == 0
+    }
+
+    // goes on over a place; whether the chain ends there
+    fn go_on(&self, link: &mut Link, place: usize) -> bool {
+        let way = way_at(self.ways, place);
+        let is_kept = self.is_kept(link, place);
+        link.alive &= !way.writes;
+        if place == link.wanted {
+            if is_kept {
+                link.alive = way.writes;
+            }
+            link.left = link.left.saturating_sub(1);
+            link.wanted = if link.left == 0 {
+                NONE
+            } else {
+                self.next_of(place)
+            };
+        }
+        link.alive &= lives_at(self.ways, place.saturating_add(1));
+        link.wanted == NONE && link.alive == 0
+    }
+
+    fn begin(&self, start: usize, left: u32) -> Link {
+        Link {
+            wanted: self.next_of(start),
+            alive: way_at(self.ways, start).writes,
+            left,
+        }
+    }
+
+    // how many more temporaries it needs behind a place
+    fn more(&self, link: &Link) -> u32 {
+        if link.alive & self.pins.moved == 0 {
+            1
+        } else {
+            0
+        }
+    }
+
+    // the end of a chain, if there is room for it
+    fn end_of(&self, needs: &Needs, start: usize, left: u32) -> Option<usize> {
+        let mut link = self.begin(start, left);
+        if !needs.fits(start, self.more(&link)) {
+            return None;
+        }
+        let first = start.saturating_add(1);
+        for place in first..first.saturating_add(FAR).min(self.region.exit()) {
+            if self.go_on(&mut link, place) {
+                return Some(place);
+            }
+            if !needs.fits(place, self.more(&link)) {
                 return None;
             }
-            between.busy |= way.writes;
-            between.is_written = between.is_written || way.writes == set_of(self.holder);
         }
         None
+    }
+}
+
+impl Chains {
+    /// None at all.
+    pub fn none(alloc: Global) -> Chains {
+        Chains {
+            list: Vec::new(alloc),
+            start: 0,
+            at: Vec::new(alloc),
+        }
+    }
+
+    // By places of a region, the next place that computes the same.
+    fn next_in(
+        alloc: Global,
+        body: &[Instruction],
+        ways: &[Way],
+        region: Region,
+        pins: &Pins,
+    ) -> Result<Vec<usize>, OutOfMemory> {
+        let mut next = vec![in alloc; NONE; region.exit().saturating_sub(region.start)]?;
+        let mut numbers = Numbers::new(alloc, pins.list.len())?;
+        for place in region.start..region.exit() {
+            let way = way_at(ways, place);
+            if way.is_join() {
+                numbers.clear();
+            }
+            if place < body.len() {
+                let word = pin_of(pins, way.item);
+                let before = numbers.go_on(&body[place], place, &way, word)?;
+                let at = before.wrapping_sub(region.start);
+                if before != NONE && at < next.len() {
+                    next[at] = place;
+                }
+            }
+            if way.calls() {
+                numbers.clear();
+            }
+        }
+        Ok(next)
+    }
+
+    fn add(
+        &mut self,
+        view: &View<'_>,
+        needs: &mut Needs,
+        start: usize,
+        end: usize,
+        left: u32,
+    ) -> Result<(), OutOfMemory> {
+        let number = self.list.len();
+        self.list.push(Chain {
+            start,
+            end,
+            holder: u32::MAX,
+        })?;
+        let mut link = view.begin(start, left);
+        self.set(start, number);
+        needs.add(start, view.more(&link));
+        for place in start.saturating_add(1)..end {
+            if place == link.wanted && view.is_kept(&link, place) {
+                self.set(place, number);
+            }
+            view.go_on(&mut link, place);
+            needs.add(place, view.more(&link));
+        }
+        Ok(())
+    }
+
+    // the longest chain that begins at a place and has room, or one of fewer places
+    fn choose(
+        &mut self,
+        view: &View<'_>,
+        needs: &mut Needs,
+        start: usize,
+    ) -> Result<(), OutOfMemory> {
+        let mut left = MOST_LINKS;
+        for _ in 0..ATTEMPTS {
+            if let Some(end) = view.end_of(needs, start, left) {
+                return self.add(view, needs, start, end, left);
+            }
+            left /= 4;
+        }
+        Ok(())
+    }
+
+    fn set(&mut self, place: usize, number: usize) {
+        let at = place.wrapping_sub(self.start);
+        if at < self.at.len() {
+            self.at[at] = number;
+        }
+    }
+
+    /// The chain that a place belongs to.
+    pub fn number_at(&self, place: usize) -> usize {
+        let at = place.wrapping_sub(self.start);
+        if at < self.at.len() {
+            self.at[at]
+        } else {
+            NONE
+        }
+    }
+
+    /// Those that began last.
+    pub fn reserved(&self, begun: usize, place: usize) -> u64 {
+        let mut set = 0;
+        for at in begun.saturating_sub(MOST_ACTIVE)..begun {
+            if at < self.list.len() {
+                let chain = self.list[at];
+                if chain.start < place && place < chain.end {
+                    set |= set_of(chain.holder);
+                }
+            }
+        }
+        set
+    }
+
+    /// The chains of a region.
+    pub fn of(
+        alloc: Global,
+        body: &[Instruction],
+        ways: &[Way],
+        region: Region,
+        pins: &Pins,
+    ) -> Result<Chains, OutOfMemory> {
+        let next = Chains::next_in(alloc, body, ways, region, pins)?;
+        let mut chains = Chains {
+            list: Vec::new(alloc),
+            start: region.start,
+            at: vec![in alloc; NONE; next.len()]?,
+        };
+        let mut needs = Needs::new(alloc, ways, region, pins)?;
+        let view = View {
+            ways,
+            pins,
+            region,
+            next: next.as_slice(),
+        };
+        for start in region.start..region.exit() {
+            if view.next_of(start) != NONE
+                && chains.number_at(start) == NONE
+                && view.may_move(start)
+            {
+                chains.choose(&view, &mut needs, start)?;
+            }
+        }
+        Ok(chains)
     }
 }

@@ -3,13 +3,30 @@
 use crate::draft::{Draft, Part};
 use crate::flow::{Flow, NONE, Way, way_at};
 use crate::regions::{Region, regions_of};
+use crate::room::most_temporaries;
 use crate::sets::CONSIDERED;
-use crate::words::{Items, Site, items_of, pins_in};
+use crate::words::{Items, Pins, Site, items_of, pins_in};
 use std::alloc::Global;
 use tac_code::code::{OutOfMemory, TacRoutine};
 use tac_pass::plan::Plan;
 
-// The regions that hold something.
+// Whether there are words that are never loaded.
+fn has_vain(items: &Items) -> bool {
+    for item in items.list.iter() {
+        if item.is_vain() {
+            return true;
+        }
+    }
+    false
+}
+
+// Whether words that are never loaded needn't be stored in a region: a body without loops, to whose words nobody else
+// comes.
+fn is_unseen(site: &Site<'_>, pins: &Pins) -> bool {
+    !site.flow.has_loops && !pins.is_seen
+}
+
+// The regions that hold something, or in which stores are left out.
 fn parts_of(
     alloc: Global,
     site: &Site<'_>,
@@ -19,7 +36,7 @@ fn parts_of(
     let mut parts = Vec::with_capacity(alloc, regions.len())?;
     for region in regions {
         let pins = pins_in(alloc, site, items, *region)?;
-        if pins.list.len() > 0 {
+        if pins.list.len() > 0 || (is_unseen(site, &pins) && has_vain(items)) {
             parts.push(Part {
                 region: *region,
                 pins,
@@ -53,7 +70,17 @@ fn mind_fixed(
     Ok(())
 }
 
-// The words that some region holds, and those that may be addresses there.
+// The words that are never loaded.
+fn mind_vain(minded: &mut Vec<usize>, items: &mut Items) -> Result<(), OutOfMemory> {
+    for at in 0..items.list.len() {
+        if at < items.list.len() && items.list[at].is_vain() {
+            mind(minded, items, at)?;
+        }
+    }
+    Ok(())
+}
+
+// The words that some region holds, those that may be addresses there, and those whose stores are left out.
 fn minded_of(
     alloc: Global,
     site: &Site<'_>,
@@ -64,6 +91,9 @@ fn minded_of(
     for part in parts {
         for pin in part.pins.list.iter() {
             mind(&mut minded, items, pin.item)?;
+        }
+        if is_unseen(site, &part.pins) {
+            mind_vain(&mut minded, items)?;
         }
         if site.flow.first_call >= part.region.behind() {
             mind_fixed(&mut minded, items, site.flow.ways.as_slice(), &part.region)?;
@@ -93,6 +123,7 @@ pub fn plan_of(
     let site = Site {
         number,
         routine,
+        temporaries: most_temporaries(routine),
         flow: &flow,
     };
     let parts = parts_of(alloc, &site, &mut items, regions.as_slice())?;

@@ -1,6 +1,6 @@
 // The plan of a routine, a place after the other. Nothing is proved of it: what comes out is tested.
 
-use crate::addresses::{Address, Again, Value};
+use crate::addresses::Chains;
 use crate::flow::{Flow, NONE, Way, is_counted, is_join, is_turn, lives_at, way_at};
 use crate::regions::Region;
 use crate::sets::{CONSIDERED, all_below, has, least, set_of, short};
@@ -69,8 +69,9 @@ pub struct Draft<'a> {
     // the temporaries whose values may stand in others, and those that they may stand in
     moved: u64,
     open: u64,
-    // the address that is computed again next
-    again: Option<Again>,
+    // what is computed again, and how many chains of that have begun
+    chains: Chains,
+    begun: usize,
     // what is claimed in the region where these are alive and words are held
     common: Option<Rows>,
     alive: u64,
@@ -147,15 +148,15 @@ impl<'a> Draft<'a> {
                 })?;
             }
         }
-        let mut holders = Vec::with_capacity(alloc, site.routine.temporaries as usize)?;
-        for temporary in 0..site.routine.temporaries {
+        let mut holders = Vec::with_capacity(alloc, site.temporaries as usize)?;
+        for temporary in 0..site.temporaries {
             holders.push(temporary)?;
         }
         Ok(Draft {
             alloc,
             body: site.routine.body.as_slice(),
             ways: site.flow.ways.as_slice(),
-            usable: all_below(site.routine.temporaries) & !site.flow.across,
+            usable: all_below(site.temporaries) & !site.flow.across,
             first_call: site.flow.first_call,
             has_loops: site.flow.has_loops,
             settles: settles(site.flow),
@@ -167,7 +168,8 @@ impl<'a> Draft<'a> {
             region: None,
             moved: 0,
             open: 0,
-            again: None,
+            chains: Chains::none(alloc),
+            begun: 0,
             common: None,
             alive: 0,
         })
@@ -202,7 +204,7 @@ impl<'a> Draft<'a> {
         }
     }
 
-    fn enter(&mut self, part: &Part) {
+    fn enter(&mut self, part: &Part) -> Result<(), OutOfMemory> {
         self.region = Some(part.region);
         self.moved = part.pins.moved;
         self.open = part.pins.open;
@@ -229,12 +231,14 @@ impl<'a> Draft<'a> {
                 }
             }
         }
+        self.chains = Chains::of(self.alloc, self.body, self.ways, part.region, &part.pins)?;
+        self.begun = 0;
+        Ok(())
     }
 
     // behind a region nothing is held
     fn leave(&mut self) {
         self.region = None;
-        self.again = None;
         for at in 0..self.words.len() {
             self.words[at].holder = NOBODY;
             self.words[at].is_held = false;
@@ -550,7 +554,7 @@ impl<'a> Draft<'a> {
         }
         let holder = self.words[at].holder;
         let waits = place < self.settles
-            && self.holder_of(from) == holder
+            && (self.is_unseen || self.holder_of(from) == holder)
             && !self.is_busy(place, from, holder);
         if self.words[at].is_fixed && !waits {
             self.words[at].is_held = self.holder_of(from) == holder;
@@ -599,15 +603,31 @@ impl<'a> Draft<'a> {
         Action::Keep(holder)
     }
 
-    // where an old temporary is given something: in itself, unless that keeps an address or a word, or another value
-    fn new_for(&self, place: usize, temporary: u32) -> u32 {
+    // where an old temporary is given something: in itself, unless another value or a chain has that
+    fn new_for(&mut self, place: usize, temporary: u32) -> u32 {
+        let number = self.chains.number_at(place);
+        if number < self.chains.list.len() {
+            if self.chains.list[number].start == place {
+                self.begun = number.saturating_add(1);
+                if let Some(holder) = least(self.free_at(place, temporary)) {
+                    self.chains.list[number].holder = holder;
+                }
+            }
+            let holder = self.chains.list[number].holder;
+            if holder != NOBODY {
+                return holder;
+            }
+        }
         if has(self.moved, temporary) {
-            return self.place_for(place, temporary);
+            self.place_for(place, temporary)
+        } else {
+            temporary
         }
-        match self.again {
-            Some(again) if again.holder == temporary && place < again.until => again.instead,
-            _ => temporary,
-        }
+    }
+
+    // what values may be moved to at a place
+    fn free_at(&self, place: usize, temporary: u32) -> u64 {
+        self.open & !self.taken(place, temporary) & !self.chains.reserved(self.begun, place)
     }
 
     // what the values stand in that are used behind a place, but for one
@@ -625,7 +645,7 @@ impl<'a> Draft<'a> {
     }
 
     fn place_for(&self, place: usize, temporary: u32) -> u32 {
-        let open = self.open & !self.taken(place, temporary);
+        let open = self.free_at(place, temporary);
         if has(open, temporary) {
             temporary
         } else {
@@ -633,93 +653,10 @@ impl<'a> Draft<'a> {
         }
     }
 
-    // the value of a temporary
-    fn value_of(&self, temporary: u32) -> Value {
-        let holder = self.holder_of(temporary);
-        let mut item = NONE;
-        for held in self.words.iter() {
-            if held.is_held && held.holder == holder {
-                item = held.item;
-            }
-        }
-        Value {
-            item,
-            set: set_of(temporary),
-        }
-    }
-
-    fn value_of_base(&self, base: Base) -> Value {
-        match base {
-            Base::Temporary(temporary) => self.value_of(temporary),
-            _ => Value { item: NONE, set: 0 },
-        }
-    }
-
-    // the address that a place computes
-    fn address_at(&self, place: usize) -> Option<Address> {
-        if place >= self.body.len() {
-            return None;
-        }
-        match &self.body[place] {
-            Instruction::Index {
-                to,
-                base,
-                index,
-                low,
-                high,
-                width,
-                ..
-            } => Some(Address {
-                base: *base,
-                from: self.value_of_base(*base),
-                by: self.value_of(*index),
-                low: *low,
-                high: *high,
-                width: *width,
-                holder: *to,
-            }),
-            _ => None,
-        }
-    }
-
-    // what holds the words that are held
-    fn holders_of_words(&self) -> u64 {
-        let mut set = 0;
-        for held in self.words.iter() {
-            set |= set_of(held.holder);
-        }
-        set
-    }
-
-    // Looks for the place where an address is computed again, which one or what holds it already keeps until there.
-    fn keep_address(&mut self, place: usize, address: Option<Address>) {
-        let was = self.again;
-        if let Some(again) = was
-            && place < again.until
-        {
-            return;
-        }
-        self.again = None;
-        let Some(found) = address else {
-            return;
-        };
-        if self.moved != 0 {
-            return;
-        }
-        let holder = match was {
-            Some(again) if place == again.until => again.holder,
-            _ => found.holder,
-        };
-        let given = !set_of(found.holder);
-        let mut address = Address { holder, ..found };
-        address.from.set &= given;
-        address.by.set &= given;
-        let end = match self.region {
-            Some(region) => region.exit(),
-            None => return,
-        };
-        let usable = self.usable & !self.holders_of_words();
-        self.again = address.again(self.body, self.ways, place, end, usable);
+    // whether a word is stored that nobody looks at
+    fn is_vain(&self, way: &Way) -> bool {
+        let at = way.item;
+        self.is_unseen && at < self.items.list.len() && self.items.list[at].is_vain()
     }
 
     fn action(&mut self, place: usize, way: &Way, own: Option<usize>) -> Action {
@@ -727,6 +664,7 @@ impl<'a> Draft<'a> {
             Some(at) if way.writes != 0 => self.load_action(place, way, at),
             Some(at) => self.store_action(place, way, at),
             None if way.writes != 0 => self.give_action(place, way),
+            None if self.is_vain(way) => Action::Spare,
             None => Action::Keep(0),
         }
     }
@@ -743,9 +681,7 @@ impl<'a> Draft<'a> {
         if let Some(at) = own {
             self.fetch_for_load(&mut puts, place, way, at)?;
         }
-        let address = self.address_at(place);
         let action = self.action(place, way, own);
-        self.keep_address(place, address);
         if way.calls() {
             for at in 0..self.words.len() {
                 self.words[at].is_held = false;
@@ -795,7 +731,7 @@ impl<'a> Draft<'a> {
         let mut coming = 0;
         for (place, way) in ways.iter().enumerate() {
             if coming < parts.len() && parts[coming].region.start == place {
-                self.enter(&parts[coming]);
+                self.enter(&parts[coming])?;
                 coming = coming.saturating_add(1);
             }
             let Some(region) = self.region else {

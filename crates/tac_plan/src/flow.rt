@@ -1,7 +1,7 @@
 // What instructions read and write, where they lead, and what is alive. Nothing is proved of it: what is chosen by it
 // is tested.
 
-use crate::sets::set_of;
+use crate::sets::{CONSIDERED, set_of};
 use std::alloc::Global;
 use tac_code::code::{Base, Instruction, Operand, OutOfMemory};
 use tac_pass::operands::own_word;
@@ -309,6 +309,17 @@ fn read(way: &mut Way, instruction: &Instruction, place: usize) {
         Instruction::Call { .. } | Instruction::CallValue { .. } => read_call(way, instruction),
         _ => read_turn(way, instruction, place),
     }
+}
+
+/// How many temporaries the instructions need: one more than the highest that they name.
+pub fn named_in(body: &[Instruction]) -> u32 {
+    let mut named = 0u64;
+    for instruction in body {
+        let mut way = NO_WAY;
+        read(&mut way, instruction, 0);
+        named |= way.reads | way.writes;
+    }
+    CONSIDERED.saturating_sub(named.leading_zeros())
 }
 
 // A place jumps to another.

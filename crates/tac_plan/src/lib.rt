@@ -8,6 +8,7 @@ mod draft;
 mod flow;
 pub mod pass;
 mod regions;
+mod room;
 mod sets;
 mod spares;
 mod stays;

@@ -10,6 +10,7 @@ ghost use Rattle.tac_plan.specs.Passes.{PassesBody, PassesRoutine, PassesSoFar, 
 
 use crate::choice::plan_of;
 use crate::flow::has_loop;
+use crate::room::temporaries_for;
 use crate::spares::spares_of;
 use crate::stays::stayed;
 use std::alloc::Global;
@@ -163,10 +164,11 @@ fn passed_body(
     let Some(list) = copied(alloc, list)? else {
         return Ok(None);
     };
-    let Some(list) = spared(alloc, number, routine.temporaries, list.as_slice(), later)? else {
+    let temporaries = temporaries_for(routine, list.as_slice());
+    let Some(list) = spared(alloc, number, temporaries, list.as_slice(), later)? else {
         return Ok(None);
     };
-    leaned(alloc, routine.temporaries as usize, list)
+    leaned(alloc, temporaries as usize, list)
 }
 
 // By the plan that was chosen, or as it is.
@@ -191,7 +193,7 @@ fn passed_routine(
     };
     Ok(TacRoutine {
         parameters: routine.parameters,
-        temporaries: routine.temporaries,
+        temporaries: temporaries_for(routine, list.as_slice()),
         frame: routine.frame,
         scratch: routine.scratch,
         line: routine.line,
@@ -312,8 +314,9 @@ pub struct Passed {
 }
 
 /// New code that keeps what the old one shows, with words of frames in temporaries, with copies of addresses that
-/// temporaries hold, and with the number 0 at tests that can't fail. Each routine has as many temporaries as it had, the same blocks, and no more instructions. None where none
-/// is found: then the old code stands.
+/// temporaries hold, and with the number 0 at tests that can't fail. Each routine has the same blocks, no more
+/// instructions, and the temporaries that they need, for which there is room. None where none is found: then the old
+/// code stands.
 #[tactic(auto, using(crate::proofs::Passing::is_passed))]
 pub fn pass(alloc: Global, tac: &Tac) -> Result<Option<Passed>, OutOfMemory>
     ensures made { IfOk result (λ made. IfSome made (λ passed. Passes tac.now passed.tac)) }

@@ -1,5 +1,5 @@
-// A plan by which copies are left out, whose source holds what they give as long as it is used. Nothing is proved of it:
-// what is chosen is tested.
+// A plan by which copies are left out, whose source holds what they give as long as it is used, and numbers that nothing
+// uses. Nothing is proved of it: what is chosen is tested.
 
 use crate::flow::{Flow, NONE, Way, lives_at, way_at};
 use crate::sets::{has, short};
@@ -59,7 +59,12 @@ fn in_itself(
 
 fn action_of(ways: &[Way], place: usize, instruction: &Instruction) -> Action {
     let writes = way_at(ways, place).writes;
-    if matches!(instruction, Instruction::Copy { .. }) && is_vain(ways, place) {
+    let is_spared = match instruction {
+        Instruction::Copy { .. } => is_vain(ways, place),
+        Instruction::Literal { .. } => lives_at(ways, place.saturating_add(1)) & writes == 0,
+        _ => false,
+    };
+    if is_spared {
         Action::Spare
     } else if writes == 0 {
         Action::Keep(0)

@@ -20,7 +20,7 @@ const MOST_LOOPS: u32 = 5;
 const MOST_RANGES: usize = 8;
 
 // So many words can be told apart by their last digits.
-const SLOTS: usize = 64;
+const SLOTS: usize = 256;
 
 /// A word of the own frame.
 #[derive(Clone, Copy)]
@@ -45,6 +45,13 @@ pub struct Item {
     soft: u64,
     // those among them that are counted on in the next turn
     turned: u64,
+}
+
+impl Item {
+    /// Whether the body never loads it.
+    pub fn is_vain(&self) -> bool {
+        self.last == 0
+    }
 }
 
 /// The words of a body.
@@ -219,8 +226,7 @@ struct Look<'a> {
     depth: u32,
     // what calls weigh
     calls: u64,
-    // what is won by a word has to be more
-    least: u64,
+    has_loops: bool,
 }
 
 // How many steps lie above the lowest index.
@@ -253,7 +259,7 @@ impl<'a> Look<'a> {
             fixed: 0,
             depth: 0,
             calls: 0,
-            least: if site.flow.has_loops { 7 } else { 0 },
+            has_loops: site.flow.has_loops,
         })
     }
 
@@ -501,6 +507,16 @@ impl<'a> Look<'a> {
         self.is_after_call || self.is_seen || self.ranges.len() > 0
     }
 
+    // whether words that are never loaded needn't be stored
+    fn is_unseen(&self) -> bool {
+        !self.has_loops && !self.may_see()
+    }
+
+    // what is won by a word has to be more
+    fn least(&self) -> u64 {
+        if self.has_loops { 7 } else { 0 }
+    }
+
     fn is_met(&self, word: u32) -> bool {
         for range in self.ranges.iter() {
             if range.meets(word) {
@@ -551,13 +567,15 @@ fn chosen(alloc: Global, items: &Items, look: &Look<'_>) -> Result<Choice, OutOf
         if choice.list.len() >= MOST_HELD {
             break;
         }
-        let Some(at) = next_item(items.list.as_slice(), choice.taken, look.calls, look.least) else {
+        let list = items.list.as_slice();
+        let Some(at) = next_item(list, choice.taken, look.calls, look.least()) else {
             break;
         };
         choice.taken |= set_of(short(at));
         if at < items.list.len()
             && !(items.list[at].is_stored && look.is_seen)
             && !look.is_met(items.list[at].word)
+            && !(items.list[at].is_vain() && look.is_unseen())
         {
             choice.list.push(at)?;
         }
@@ -695,6 +713,8 @@ fn pins_of(
 pub struct Site<'a> {
     pub number: usize,
     pub routine: &'a TacRoutine,
+    /// How many temporaries it may have.
+    pub temporaries: u32,
     pub flow: &'a Flow,
 }
 
@@ -703,7 +723,7 @@ pub struct Site<'a> {
 pub struct Pins {
     /// The words.
     pub list: Vec<Pin>,
-    /// The temporaries whose values may stand in others; none where no value has to.
+    /// The temporaries whose values may stand in others.
     pub moved: u64,
     /// The temporaries that these may stand in.
     pub open: u64,
@@ -712,12 +732,12 @@ pub struct Pins {
 }
 
 impl Pins {
-    fn none(alloc: Global) -> Pins {
+    fn none(alloc: Global, is_seen: bool) -> Pins {
         Pins {
             list: Vec::new(alloc),
             moved: 0,
             open: 0,
-            is_seen: true,
+            is_seen,
         }
     }
 }
@@ -795,6 +815,20 @@ fn moved_pins(
     }))
 }
 
+// Whether all parameters that are held stay where they arrived.
+fn are_in_place(items: &Items, pins: &[Pin], look: &Look<'_>) -> bool {
+    let parameters = parameters_of(look);
+    for pin in pins {
+        if pin.item < items.list.len() {
+            let own = parameter_of(&items.list[pin.item], parameters);
+            if own != 0 && own != set_of(pin.holder) {
+                return false;
+            }
+        }
+    }
+    true
+}
+
 // Holders for the first words of a choice; none where there aren't enough.
 fn held_pins(
     alloc: Global,
@@ -805,15 +839,26 @@ fn held_pins(
 ) -> Result<Option<Pins>, OutOfMemory> {
     let open = usable & !needed(items, held, look.hard);
     let list = pins_of(alloc, items, held, look, open)?;
-    if list.len() == held.len() {
-        return Ok(Some(Pins {
-            list,
-            moved: 0,
-            open: 0,
-            is_seen: look.may_see(),
-        }));
+    if list.len() != held.len() {
+        return moved_pins(alloc, items, held, look, usable);
     }
-    moved_pins(alloc, items, held, look, usable)
+    if !look.has_loops && !are_in_place(items, list.as_slice(), look) {
+        let other = moved_pins(alloc, items, held, look, usable)?;
+        if let Some(pins) = other
+            && are_in_place(items, pins.list.as_slice(), look)
+        {
+            return Ok(Some(pins));
+        }
+    }
+    let start = lives_at(look.ways, look.region.start);
+    let holders = holders_of(list.as_slice());
+    let open = usable & !unmoved(items, held, look) & !start & !holders;
+    Ok(Some(Pins {
+        list,
+        moved: open,
+        open,
+        is_seen: look.may_see(),
+    }))
 }
 
 /// Chooses what a region holds, the word that is worth most first.
@@ -826,7 +871,7 @@ pub fn pins_in(
     items.clear();
     let body = site.routine.body.as_slice();
     let ways = site.flow.ways.as_slice();
-    let usable = all_below(site.routine.temporaries) & !site.flow.across;
+    let usable = all_below(site.temporaries) & !site.flow.across;
     let mut look = Look::new(alloc, site, region)?;
     for place in region.start..region.behind() {
         if place < body.len() && place < ways.len() {
@@ -834,7 +879,7 @@ pub fn pins_in(
         }
     }
     if look.is_lost {
-        return Ok(Pins::none(alloc));
+        return Ok(Pins::none(alloc, true));
     }
     let choice = chosen(alloc, items, &look)?;
     let mut many = choice.list.len();
@@ -847,5 +892,5 @@ pub fn pins_in(
         }
         many = many.saturating_sub(1);
     }
-    Ok(Pins::none(alloc))
+    Ok(Pins::none(alloc, look.may_see()))
 }
