@@ -11,15 +11,13 @@ mod listing;
 mod made;
 mod map;
 mod places;
-mod reading;
 mod variables;
 mod writing;
 
 pub use characters::readable;
-pub use listing::{listed, listing_with_source, run_time_told};
+pub use listing::{listing_with_source, run_time_told};
 pub use made::{MappedText, map_of, map_of_text, mapped_text};
 pub use map::{Map, Owner, Routine, Row};
 pub use places::{Lines, Place};
-pub use reading::{MapRefusal, read};
 pub use variables::{Role, Variable};
 pub use writing::written;

@@ -1,13 +1,8 @@
 //! The listing of an image with its source.
 
-ghost use Rattle.std.specs.Prelude.{IfErr};
-ghost use Rattle.ps_build.specs.Accepts.{IsRefused};
-
 use crate::characters::readable;
-use crate::made::{MappedText, mapped_text};
 use crate::map::{Map, Owner, Row};
 use crate::variables::Variable;
-use ps_build::{Refusal, Variables, list};
 use risc_image::ImageView;
 use risc_word::{Instr, decode};
 use std::alloc::{AllocError, Global};
@@ -263,28 +258,4 @@ pub fn listing_with_source(
 ) -> Result<String, AllocError> {
     let text = readable(alloc, text)?;
     listing_with_text(alloc, text.as_str(), map, image, listing)
-}
-
-// The listing of a program that was built, with the lines of its text.
-fn listed_with(alloc: Global, text: &[u8], built: &MappedText) -> Result<String, AllocError> {
-    let listing = list(alloc, &built.mapped.built)?;
-    match ImageView::read(built.mapped.built.bytes()) {
-        Ok(image) => listing_with_source(alloc, text, &built.map, &image, listing.as_str()),
-        Err(_) => Ok(listing),
-    }
-}
-
-/// Builds the program of a text, and lists its image with the lines of the text, as `listing_with_source` does.
-///
-/// # Errors
-///
-/// Those of `build`.
-pub fn listed(alloc: Global, text: &[u8]) -> Result<String, Refusal>
-    ensures { IfErr result (IsRefused text.now) }
-{
-    let built = mapped_text(alloc, text, Variables::InTemporaries)?;
-    match listed_with(alloc, text, &built) {
-        Ok(listing) => Ok(listing),
-        Err(_) => Err(Refusal::OutOfMemory),
-    }
 }

@@ -6,7 +6,7 @@ use crate::variables::{Role, Variable};
 use std::alloc::{AllocError, Global};
 
 /// The first line of each map.
-pub(crate) const HEAD: &str = "pascal map 1";
+const HEAD: &str = "pascal map 1";
 
 // Adds a place, as `57:42`, or `-` where there is none.
 fn add_place(alloc: Global, out: &mut String, place: Option<Place>) -> Result<(), AllocError> {
