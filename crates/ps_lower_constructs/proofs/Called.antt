@@ -44,7 +44,8 @@ use Rattle.ps_lower_relation.specs.Ghosts.{tape_of, ObjectsFit, RoutineHere, Env
 use Rattle.ps_lower_relation.specs.Here.{Setting, costs_in, code_in, machine_of, Work, Activated, IsActive, Alive}
 use Rattle.ps_lower_relation.specs.Here.{activation, state, context, chain_of}
 use Rattle.ps_lower_relation.specs.Outcomes.{Outcome, Reached, Runs}
-use Rattle.ps_lower_relation.proofs.Memory.{pieces_placed, frame_read, slot_fits}
+use Rattle.ps_lower_relation.proofs.Pieces.{pieces_placed}
+use Rattle.ps_lower_relation.proofs.Memory.{frame_read, slot_fits}
 use Rattle.ps_lower_relation.proofs.Frames.{place_there, level}
 use Rattle.ps_lower_calls.specs.Entering.{entering, Places, CanCopy, Waits}
 use Rattle.ps_lower_calls.specs.Binding.{Extends}

@@ -17,9 +17,11 @@ use Rattle.ps_lower_constructs.proofs.Runs.{here}
 use Rattle.ps_lower_constructs.specs.Tasks.{Nothing, TaskStands, TaskFits, NextRuns}
 use Rattle.ps_lower_relation.specs.RunTime.{WritesDo}
 use Rattle.ps_tree.specs.Tree.{Elements, no_element, element_before}
-use Rattle.ps_lower_constructs.proofs.Statements.{StatementRuns, StatementsRun, assign_run, if_run, if_else_run}
-use Rattle.ps_lower_constructs.proofs.Statements.{while_test, while_run, repeat_run, turn_run, for_run, writes_run}
-use Rattle.ps_lower_constructs.proofs.Statements.{writeln_run, no_statements, statements_then}
+use Rattle.ps_lower_constructs.proofs.Statements.{StatementRuns, StatementsRun, writes_run, writeln_run, no_statements}
+use Rattle.ps_lower_constructs.proofs.Statements.{statements_then}
+use Rattle.ps_lower_constructs.proofs.Assignments.{assign_run}
+use Rattle.ps_lower_constructs.proofs.Repetitions.{if_run, if_else_run, while_test, while_run, repeat_run}
+use Rattle.ps_lower_constructs.proofs.Turns.{turn_run, for_run}
 use Rattle.ps_lower_constructs.proofs.SetStatements.{assign_set_run}
 use Rattle.ps_lower_constructs.proofs.Withs.{with_run}
 use Rattle.ps_lower_constructs.proofs.Assigned.{assign_structure_run}

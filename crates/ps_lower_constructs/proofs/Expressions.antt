@@ -13,10 +13,14 @@ use Rattle.ps_tree.specs.Tree.{CompareStrings, In, Apply, Eof, Eoln, Call, CallF
 use Rattle.ps_tree.specs.Tree.{ByCopy, ByVariable, ByRoutine, ByFormal, Arguments, no_argument, argument_before}
 use Rattle.ps_meaning.specs.Expressions.{Caller}
 use Rattle.ps_lower_relation.specs.Here.{Setting, Activated, IsActive}
-use Rattle.ps_lower_constructs.proofs.Values.{FrontRuns, ExprRuns, ByteRuns, StepsRun, OperandsRun, expr_runs_from}
-use Rattle.ps_lower_constructs.proofs.Values.{expr_bytes, number_front, nil_front, plus_front, minus_front, not_front}
-use Rattle.ps_lower_constructs.proofs.Values.{arithmetic_front, logic_front, compare_front, no_steps, step_run}
-use Rattle.ps_lower_constructs.proofs.Values.{no_operands, operands_run}
+use Rattle.ps_lower_constructs.proofs.Values.{FrontRuns, ExprRuns, ByteRuns, expr_runs_from}
+use Rattle.ps_lower_constructs.proofs.Chains.{StepsRun}
+use Rattle.ps_lower_constructs.proofs.Truths.{OperandsRun}
+use Rattle.ps_lower_constructs.proofs.Values.{expr_bytes, number_front, nil_front}
+use Rattle.ps_lower_constructs.proofs.Chains.{plus_front, minus_front, not_front}
+use Rattle.ps_lower_constructs.proofs.Chains.{arithmetic_front, compare_front, no_steps, step_run}
+use Rattle.ps_lower_constructs.proofs.Truths.{logic_front}
+use Rattle.ps_lower_constructs.proofs.Truths.{no_operands, operands_run}
 use Rattle.ps_tree.specs.Tree.{Place, Selectors, Element, Field, Target, Structure, Literal, Contents}
 use Rattle.ps_lower_constructs.proofs.Functions.{apply_front}
 use Rattle.ps_lower_constructs.proofs.Pointers.{compare_pointers_front}
@@ -27,8 +31,10 @@ use Rattle.ps_tree.specs.Tree.{SetExpr, LoadSet, Constructor, Combine, SetSteps,
 use Rattle.ps_tree.specs.Tree.{One, Several, Members, no_member, member_before}
 use Rattle.ps_lower_constructs.proofs.SetValues.{SetRuns, AskedRuns, AddingRuns, adding_load, adding_combined}
 use Rattle.ps_lower_constructs.proofs.SetValues.{adding_members, SetStepsRun, MemberRuns, MembersRun, load_set}
-use Rattle.ps_lower_constructs.proofs.SetValues.{no_set_steps, set_step_then, combine, one_member, several_members}
-use Rattle.ps_lower_constructs.proofs.SetValues.{no_members, member_then, construct, compare_sets_front}
+use Rattle.ps_lower_constructs.proofs.SetValues.{no_set_steps, set_step_then, combine}
+use Rattle.ps_lower_constructs.proofs.SetMembers.{one_member, several_members}
+use Rattle.ps_lower_constructs.proofs.SetMembers.{no_members, member_then, construct}
+use Rattle.ps_lower_constructs.proofs.SetComparisons.{compare_sets_front}
 use Rattle.ps_lower_constructs.proofs.Members.{asked_load, asked_constructor, asked_combined, in_front}
 use Rattle.ps_lower_constructs.proofs.SetArguments.{by_set}
 use Rattle.ps_lower_constructs.proofs.Selectors.{PlaceRuns, SelectorsRun, no_selectors, field_then, target_then}

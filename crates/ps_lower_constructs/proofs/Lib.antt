@@ -3,6 +3,8 @@ pub mod Places
 pub mod Kept
 pub mod Leaves
 pub mod Values
+pub mod Chains
+pub mod Truths
 pub mod Functions
 pub mod Pointers
 pub mod Selectors
@@ -23,6 +25,8 @@ pub mod Passages
 pub mod InLine
 pub mod ScratchSets
 pub mod SetValues
+pub mod SetMembers
+pub mod SetComparisons
 pub mod Members
 pub mod SetChecks
 pub mod SetArguments
@@ -30,6 +34,9 @@ pub mod Inputs
 pub mod Output
 pub mod Strings
 pub mod Statements
+pub mod Assignments
+pub mod Repetitions
+pub mod Turns
 pub mod Cases
 pub mod Assigned
 pub mod Withs
@@ -37,5 +44,7 @@ pub mod SetStatements
 pub mod NewObjects
 pub mod ReadNumbers
 pub mod Reading
+pub mod Indexed
+pub mod Transfers
 pub mod Packing
 pub mod Execute

@@ -67,7 +67,7 @@ use Rattle.ps_lower_constructs.proofs.Inputs.{input_place, place_small, input_is
 use Rattle.ps_lower_constructs.proofs.Selectors.{PlaceIn, is_byte_part, place_byte}
 use Rattle.ps_lower_constructs.proofs.Expressions.{place_run}
 use Rattle.ps_lower_constructs.proofs.Values.{false_true}
-use Rattle.ps_lower_constructs.proofs.Statements.{fitted_part, base_below}
+use Rattle.ps_lower_constructs.proofs.Assignments.{fitted_part, base_below}
 use Rattle.ps_lower_constructs.proofs.NewObjects.{place_held}
 
 -- ---- what an instruction means of the scratch block

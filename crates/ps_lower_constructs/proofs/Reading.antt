@@ -49,7 +49,8 @@ use Rattle.ps_lower_constructs.proofs.Checks.{not_less, byte_between}
 use Rattle.ps_lower_constructs.proofs.Inputs.{input_place, input_is, input_renewed, reader_run}
 use Rattle.ps_lower_constructs.proofs.Selectors.{PlaceIn, is_byte_part, place_byte}
 use Rattle.ps_lower_constructs.proofs.Expressions.{place_run}
-use Rattle.ps_lower_constructs.proofs.Statements.{StatementRuns, fitted_part, base_below}
+use Rattle.ps_lower_constructs.proofs.Statements.{StatementRuns}
+use Rattle.ps_lower_constructs.proofs.Assignments.{fitted_part, base_below}
 use Rattle.ps_lower_constructs.proofs.NewObjects.{place_held}
 use Rattle.ps_lower_constructs.proofs.ReadNumbers.{read_integer_run}
 

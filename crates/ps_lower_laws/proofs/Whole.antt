@@ -42,7 +42,7 @@ use Rattle.ps_lower_relation.specs.Here.{Setting, costs_in, code_in, machine_of,
 use Rattle.ps_lower_relation.specs.Here.{activation, state}
 use Rattle.ps_lower_relation.specs.Outcomes.{Runs}
 use Rattle.ps_lower_relation.specs.RunTime.{WritesDo}
-use Rattle.ps_lower_relation.proofs.Memory.{pieces_placed}
+use Rattle.ps_lower_relation.proofs.Pieces.{pieces_placed}
 use Rattle.ps_lower_calls.specs.Entering.{entering, Places, CanCopy}
 use Rattle.ps_lower_calls.specs.Binding.{Extends, variable_slots}
 use Rattle.ps_lower_calls.proofs.Binding.{variables_extend, variables_first, variables_from, variables_kinds}

@@ -16,7 +16,9 @@ use Rattle.ps_lower_layout.specs.Frames.{entries, is_program_block}
 use Rattle.ps_lower_code.specs.Fits.{outermost_of}
 use Rattle.ps_lower_relation.specs.Ghosts.{Ghost, slot_kinds, input_words, first_piece, entry_pieces, layout_at}
 use Rattle.ps_lower_relation.specs.Ghosts.{block_words, frames_of, found, Numbered, GhostsFit, OnlyFirst, EnvAt}
-use Rattle.ps_lower_relation.proofs.Memory.{size_length, pieces_placed, placed_piece, block_length, living_found}
+use Rattle.ps_lower_relation.proofs.Pieces.{size_length, pieces_placed, block_length}
+use Rattle.ps_lower_relation.proofs.Writes.{placed_piece}
+use Rattle.ps_lower_relation.proofs.Memory.{living_found}
 use Rattle.ps_lower_relation.proofs.Memory.{ghost_fits}
 
 -- the world with another input

@@ -1,7 +1,9 @@
 pub mod Numbers
 pub mod Spans
 pub mod SetWords
+pub mod Pieces
 pub mod Memory
+pub mod Writes
 pub mod Objects
 pub mod Even
 pub mod EvenRoutines

@@ -23,7 +23,9 @@ use Rattle.ps_lower_relation.specs.Ghosts.{PlaceAt, Holds}
 use Rattle.ps_lower_relation.specs.Here.{AreSmall}
 use Rattle.ps_lower_relation.proofs.Numbers.{at_most}
 use Rattle.ps_lower_relation.proofs.Spans.{field_within, whole_same, byte_whole}
-use Rattle.ps_lower_relation.proofs.Memory.{piece_at, placed_piece, pieces_placed, ghost_fits}
+use Rattle.ps_lower_relation.proofs.Pieces.{piece_at, pieces_placed}
+use Rattle.ps_lower_relation.proofs.Writes.{placed_piece}
+use Rattle.ps_lower_relation.proofs.Memory.{ghost_fits}
 
 -- ---- indices
 

@@ -11,7 +11,8 @@ use Rattle.ps_lower_layout.specs.Shapes.{Shape, word_count, Whole}
 use Rattle.ps_lower_layout.specs.Words.{value_words}
 use Rattle.ps_lower_layout.specs.Paths.{HasShape, GoesTo}
 use Rattle.ps_lower_relation.specs.Ghosts.{Ghost, frames_of, objects_of, RootAt, PlaceAt, Holds}
-use Rattle.ps_lower_relation.proofs.Memory.{part_read, part_written, part_word_written, part_fits, part_value}
+use Rattle.ps_lower_relation.proofs.Memory.{part_read}
+use Rattle.ps_lower_relation.proofs.Writes.{part_written, part_word_written, part_fits, part_value}
 use Rattle.ps_lower_relation.proofs.Objects.{object_value, object_read, object_written, object_word_written}
 use Rattle.ps_lower_relation.proofs.Objects.{object_kept}
 

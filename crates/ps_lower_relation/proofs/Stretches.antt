@@ -21,9 +21,12 @@ use Rattle.ps_lower_relation.specs.Ghosts.{frames_of, objects_of, SlotsFit, Decl
 use Rattle.ps_lower_relation.specs.Ghosts.{Holds}
 use Rattle.ps_lower_relation.specs.Spans.{SpanIn}
 use Rattle.ps_lower_relation.proofs.Spans.{span_in}
-use Rattle.ps_lower_relation.proofs.Memory.{piece_at, placed_piece, pieces_placed, block_length, living_found}
-use Rattle.ps_lower_relation.proofs.Memory.{ghost_fits, slot_fits, slot_read, named_in, changed_found, block_written}
-use Rattle.ps_lower_relation.proofs.Memory.{renewed}
+use Rattle.ps_lower_relation.proofs.Pieces.{piece_at, pieces_placed, block_length}
+use Rattle.ps_lower_relation.proofs.Writes.{placed_piece}
+use Rattle.ps_lower_relation.proofs.Memory.{living_found}
+use Rattle.ps_lower_relation.proofs.Memory.{ghost_fits, slot_fits, slot_read}
+use Rattle.ps_lower_relation.proofs.Writes.{named_in, changed_found, block_written}
+use Rattle.ps_lower_relation.proofs.Writes.{renewed}
 use Rattle.ps_lower_relation.proofs.Objects.{object_words, object_fits, object_changed}
 use Rattle.ps_lower_relation.proofs.Spots.{memory_of}
 use Rattle.ps_lower_relation.proofs.Copies.{AreWritten, written_both}

@@ -17,5 +17,8 @@ pub mod Soundness
 pub mod Looks
 pub mod Copies
 pub mod Characters
+pub mod Digits
+pub mod Signs
+pub mod Counting
 pub mod Integers
 mod Examples
