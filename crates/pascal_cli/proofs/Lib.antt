@@ -8,6 +8,7 @@ pub mod Entered
 pub mod Failed
 pub mod FileWalk
 pub mod Flags
+pub mod Fronts
 pub mod GivenRows
 pub mod Leaves
 pub mod LineWalk

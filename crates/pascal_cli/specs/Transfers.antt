@@ -1,6 +1,6 @@
 -- Readers and writers with the count of their failures.
-use Rattle.std.specs.Prelude.{◌≡◌, ℕ, ◌≤◌, List, length, Result, Ok, Err, Option}
-use Rattle.std.specs.Io.KnownBytes.{Consumes}
+use Rattle.std.specs.Prelude.{◌≡◌, ℕ, ◌≤◌, List, length, take, Result, Ok, Err, Option}
+use Rattle.std.specs.Io.KnownBytes.{Appends, Consumes}
 use Rattle.risc_machine.specs.Console.{one_more}
 use Rattle.pascal_cli.specs.declared.counted.Counted.{Counted}
 use Rattle.pascal_cli.specs.declared.transfer.ReadFault.{ReadFault}
@@ -27,3 +27,7 @@ CountsRead (Err OutOfMemory) old new = new ≡ old
 abbrev pub TakesUpTo : ReadFault → ℕ → Option (List ℕ) → Option (List ℕ) → Type 0
 TakesUpTo Device limit old new = (bytes : List ℕ) × (length bytes ≤ limit) × Consumes old new bytes
 TakesUpTo OutOfMemory limit old new = Unit {0}
+
+-- some of the first of the bytes were appended, or none
+abbrev pub AppendsFront : Option (List ℕ) → Option (List ℕ) → List ℕ → Type 0
+AppendsFront old new bytes = (count : ℕ) × Appends old new (take count bytes)

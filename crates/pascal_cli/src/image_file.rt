@@ -1,6 +1,7 @@
 //! Images as files: each is written whole, or what stood in its place stays as it was. Nothing is written but an image of a text.
 
 ghost use Rattle.std.specs.Prelude.{◌≡◌, Some};
+ghost use Rattle.pascal_cli.specs.declared.image_file.WriteFault.TheVariants.{OutOfMemory};
 ghost use Rattle.pascal_cli.specs.Files.{way_of};
 ghost use Rattle.pascal_cli.specs.Jobs.{IsBuilt, IsContent};
 
@@ -27,6 +28,8 @@ pub enum WriteFault {
 }
 
 impl From<AllocError> for WriteFault {
+    ghost from_gives = { λ _ r. r ≡ OutOfMemory };
+
     fn from(_error: AllocError) -> WriteFault {
         WriteFault::OutOfMemory
     }

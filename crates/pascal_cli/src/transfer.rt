@@ -1,9 +1,9 @@
 // Whole texts and images from readers and to writers, in a bounded number of turns.
 
-ghost use Rattle.std.specs.Prelude.{◌≡◌, ℕ, ◌+◌, ◌^◌, ◌<◌, ◌≤◌, length, take, OnOk, IfOk, IfErr, vec_len};
+ghost use Rattle.std.specs.Prelude.{◌≡◌, ℕ, ◌+◌, ◌^◌, ◌<◌, ◌≤◌, length, take, OnOk, OnErr, IfOk, IfErr, vec_len};
 ghost use Rattle.std.specs.Io.KnownBytes.{Appends, Consumes, IsAtEnd};
 ghost use Rattle.pascal_cli.specs.declared.transfer.ReadFault.TheVariants.{OutOfMemory};
-ghost use Rattle.pascal_cli.specs.Transfers.{device_of, faults_of, Counts, CountsRead, TakesUpTo};
+ghost use Rattle.pascal_cli.specs.Transfers.{device_of, faults_of, AppendsFront, Counts, CountsRead, TakesUpTo};
 
 pub use crate::counted::Counted;
 use risc_machine::DeviceFault;
@@ -93,6 +93,8 @@ pub fn put_all<W: Write>(writer: &mut Counted<W>, bytes: &[u8]) -> Result<(), us
 /// for more than a limit on the size of files lets it.
 pub fn put_at_once<W: Write>(writer: &mut Counted<W>, bytes: &[u8]) -> Result<(), DeviceFault>
     ensures ok { OnOk result (Appends (W.contents (device_of writer.old)) (W.contents (device_of writer.new)) bytes.now) }
+    ensures err { OnErr result (AppendsFront (W.contents (device_of writer.old))
+        (W.contents (device_of writer.new)) bytes.now) }
 {
     if bytes.is_empty() {
         return Ok(());
