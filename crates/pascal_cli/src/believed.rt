@@ -2,4 +2,4 @@
 
 /// The sum.
 pub(crate) const BELIEVED: &str =
-    "b3aa2220024a7de405c61b1a20f55f323d511be9458d9a061fde1daa1676b55b";
+    "c0475bf99ac2e5284731d19afc3e597f9ad6c8c31badb941ce7b2d97e35e71f7";
