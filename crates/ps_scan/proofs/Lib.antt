@@ -16,4 +16,5 @@ pub mod FrontSymbols
 pub mod FrontSteps
 pub mod Places
 pub mod Scans
+pub mod Parentheses
 pub mod OneAnswer

@@ -1,7 +1,7 @@
 //! The token or the separator at the front of bytes.
 
 ghost use Rattle.std.specs.Prelude.{◌≡◌, ◌+◌, ◌*◌, ◌-◌, ◌^◌, ◌<◌, ◌≤◌, ◌↔◌, IsTrue, true, false, length, drop};
-ghost use Rattle.std.specs.Prelude.{slice_index, IfOk, IfErr, IfSome};
+ghost use Rattle.std.specs.Prelude.{slice_index, Ok, IfOk, IfErr, IfSome};
 ghost use Rattle.ps_scan.specs.Scanner as spec;
 ghost use Rattle.ps_scan.specs.Separators.{is_blank as blank};
 
@@ -44,6 +44,12 @@ pub fn front(text: &[u8]) -> Result<Lexeme, FaultAhead>
     ensures within { IfOk result (λ found. (1 ≤ found.length) × (found.length ≤ length text.now)) }
     ensures placed { IfErr result (λ found. found.ahead + found.length ≤ length text.now) }
 {
+    if let Some(kind) = parenthesis(text) {
+        return Ok(Lexeme {
+            kind: Some(kind),
+            length: 1,
+        });
+    }
     let first = text[0];
     if is_blank(first) {
         Ok(Lexeme {
@@ -62,6 +68,22 @@ pub fn front(text: &[u8]) -> Result<Lexeme, FaultAhead>
         comment(2, text)
     } else {
         symbol(text)
+    }
+}
+
+/// The kind of a parenthesis at the front of the bytes, where it and the byte behind it tell that nothing else begins
+/// there. Parentheses come one behind the other, and looking for them first passes them faster.
+#[tactic(auto, using(crate::proofs::Parentheses::front_closing, crate::proofs::Parentheses::front_opening))]
+fn parenthesis(text: &[u8]) -> Option<Kind>
+    requires { 0 < length text.now }
+    ensures { IfSome result (λ kind. spec.front text.now ≡ Ok (spec.token_of 1 kind)) }
+{
+    if text[0] == b')' {
+        Some(Kind::RightParen)
+    } else if text[0] == b'(' && byte_at(text, 1) == b'(' {
+        Some(Kind::LeftParen)
+    } else {
+        None
     }
 }
 
