@@ -176,7 +176,7 @@ class Work:
         self.empty()
 
     def empty(self) -> None:
-        self.remove()
+        shutil.rmtree(self.at, ignore_errors=True)
         os.makedirs(self.at)
         self.is_held = False
 
@@ -187,11 +187,11 @@ class Work:
     def copy_at(self) -> str:
         return f"{self.crate.folder}/out/stubbed"
 
-    def checked(self, stubbed: stubs.Stubbed, texts: Texts, names: Iterable[str]) -> Ran:
-        """The check of functions of a copy with these texts. One that is killed, most likely for memory, is made once more, and from nothing, since it may have left
-        something half written."""
+    def checked(self, stubbed: stubs.Stubbed, texts: Texts, names: Iterable[str], keeps: bool = True) -> Ran:
+        """The check of functions of a copy with these texts, which leaves what it proved for later ones, unless it is the only one that is expected. One that is killed,
+        most likely for memory, is made once more, and from nothing, since it may have left something half written."""
         words = [*self.flags, *(word for name in names for word in ("--only", name))]
-        ran = kit.rt().checked(stubbed.crate, texts, words, self.at)
+        ran = kit.rt().checked(stubbed.crate, texts, words, self.at if keeps else None)
         if ran.returncode != -signal.SIGKILL:
             return ran
         self.empty()
@@ -200,46 +200,75 @@ class Work:
 
 class Beside:
     """Edits that are tried beside one another, in one copy of a crate. Each is made in a twin of its function, which nothing calls; of a function that can have no
-    twin, as a trait's method, one edit is made in its place, if it has no answers. A function with answers, which a twin gets a copy of, has one twin more, as it
-    is, and so has the first without: twins of such differ from their functions by the name alone."""
+    twin, as a trait's method, one edit is made in its place, if it has no answers. A member of a cycle of calls has one twin more, as it is, since its answers are
+    cut out of the cycle's, and so has a function whose answers name other proofs. Of all the rest, of which a twin is another by its name alone, one has: the
+    shortest of those with answers, or of all. An edit of few arms of a `match` of many is made in a twin in which the others never return, and that function has a
+    twin more, which has the same arms as they are."""
 
-    def __init__(self, crate: Any, edits: Iterable[Edit]) -> None:
-        self.crate, self.sources = crate, stubs.texts_of(crate)
-        # of each edit, and of each function of which a twin is as it is, the place and the name in the copy; of each edit the function whose twin holds it
-        self.at, self.held, self.twins, self.first = {}, {}, [], None
+    def __init__(self, crate: Any, edits: List[Edit], cuts: bool) -> None:
+        self.crate, self.sources, self.cuts = crate, stubs.texts_of(crate), cuts
+        # of each edit, and of each function of which a twin is as it is, the place and the name in the copy; of each edit the arms that its twin has, if it has not
+        # all, and the function whose twin holds it, with that one's arms
+        self.at, self.held, self.arms_of, self.twins = {}, {}, {}, []
         self.edited, self.in_place = {}, set()
-        for edit in edits:
-            if len(edit.places or ()) == 1 and not edit.at:
-                self.add(edit, *edit.places)
+        beside = [edit for edit in edits if len(edit.places or ()) == 1 and not edit.at]
+        alike = {place for edit in beside for place in edit.places if stubs.can_have_twin(self.sources, place) and stubs.differs_by_name(crate, self.sources, place)}
+        self.alike, self.first = alike, min(alike, key=self.order, default=None)
+        for edit in beside:
+            self.add(edit, *edit.places)
+        for edit in beside:
+            self.add_as_it_is(edit, *edit.places)
+        # (what this check proves is kept for those that are tried at functions, in their places or alone)
+        self.keeps = any(names_in(edit) and edit not in self.held for edit in edits)
+
+    def order(self, place: Place) -> Tuple[Any, ...]:
+        """Tells which of the functions that differ from their twins by name alone comes first."""
+        length = next(function.last - function.top for own, function in stubs.all_functions(self.sources) if own == place)
+        return not stubs.has_answers(self.crate, self.sources, place), length, place[0], place[1], place[2] or ""
 
     def add(self, edit: Edit, place: Place) -> None:
-        has_answers = stubs.has_answers(self.crate, self.sources, place)
         if stubs.can_have_twin(self.sources, place):
-            self.add_twin(edit, edit, place, edit.apply({}, self.crate), f"edited{len(self.at)}")
-            self.first = self.first or (None if has_answers else place)
-            self.held[edit] = place if has_answers else self.first
-            if self.held[edit] not in self.at:
-                self.add_twin(place, edit, place, self.sources, "as_it_is")
-        elif not has_answers and place not in self.in_place:
+            made = edit.apply({}, self.crate)
+            arms = self.arms_of[edit] = self.arms(place, made)
+            self.add_twin(edit, edit, place, made, f"edited{len(self.at)}", arms)
+            self.held[edit] = (self.first, None) if place in self.alike and not arms else (place, arms)
+        elif not stubs.has_answers(self.crate, self.sources, place) and place not in self.in_place:
             made = edit.apply(self.edited, self.crate)
             if made is not None:
-                self.edited, self.at[edit], self.held[edit] = made, (place, edit.names[0]), None
+                self.edited, self.at[edit], self.held[edit] = made, (place, edit.names[0]), (self.first, None)
                 self.in_place.add(place)
 
-    def add_twin(self, key: Any, edit: Edit, place: Place, sources: Texts, ending: str) -> None:
-        twin = stubs.Twin(sources, place, f"{place[1]}_{ending}")
+    def add_as_it_is(self, edit: Edit, place: Place) -> None:
+        """Adds the twins of an edit's function as it is that hold edits."""
+        for arms in dict.fromkeys([self.arms_of.get(edit), None]):
+            if (place, arms) in self.held.values() and (place, arms) not in self.at:
+                self.add_twin((place, arms), edit, place, self.sources, f"as_it_is{len(self.at) if arms else ''}", arms)
+
+    def arms(self, place: Place, made: Texts) -> Optional[Tuple[int, ...]]:
+        """The arms to which a twin is cut down, by their numbers, if it is: it can't be where answers in files speak of all of them."""
+        if not self.cuts or stubs.has_answers(self.crate, self.sources, place):
+            return None
+        return stubs.arms_of_edit(stubs.lines_at(self.sources, place), stubs.lines_at(made, place))
+
+    def add_twin(self, key: Any, edit: Edit, place: Place, sources: Texts, ending: str, arms: Optional[Tuple[int, ...]] = None) -> None:
+        twin = stubs.Twin(sources, place, f"{place[1]}_{ending}", arms)
         self.twins.append(twin)
         self.at[key] = twin.place, re.sub(r"\w+$", twin.name, edit.names[0])
 
-    def tried(self, work: Work) -> Dict[Edit, str]:
-        """Checks all of them, and returns those that are refused, each with what was said."""
+    def tried(self, work: Work) -> Optional[Dict[Edit, str]]:
+        """Checks all of them, and returns those that are refused, each with what was said; None where the check tells nothing."""
+        if not self.twins:
+            return {}
         stubbed = stubs.Stubbed(self.crate, work.copy_at(), self.in_place, self.twins)
         texts = stubbed.texts(self.edited)
-        said = work.checked(stubbed, texts, [name for _, name in self.at.values()])
-        found, done = refused_at(said.stdout, texts, self.crate) if told_something(said) else {}, {}
-        for edit, function in self.held.items():
+        names = [name for _, name in self.at.values()]
+        said = work.checked(stubbed, texts, names, self.keeps)
+        if not told_something(said):
+            return None
+        found, done = refused_at(said.stdout, texts, self.crate), {}
+        for edit, held in self.held.items():
             place, name = self.at[edit]
-            _, as_it_is = self.at.get(function or self.first, (None, None))
+            _, as_it_is = self.at.get(held, (None, None))
             why = found.get(place) or unproved(said, self.crate, name)
             if why and is_proved(said, self.crate, as_it_is):
                 done[edit] = why
@@ -247,10 +276,14 @@ class Beside:
         return done
 
 
-def beside(work: Work, edits: Iterable[Edit]) -> Dict[Edit, str]:
-    """Tries edits beside one another, all in one check, and returns those that are refused, each with what was said."""
-    trial = Beside(work.crate, edits)
-    return trial.tried(work) if trial.twins else {}
+def beside(work: Work, edits: List[Edit]) -> Dict[Edit, str]:
+    """Tries edits beside one another, all in one check, and returns those that are refused, each with what was said. Where that tells nothing and twins were cut down to
+    some arms, they are tried with all arms."""
+    trial = Beside(work.crate, edits, cuts=True)
+    done = trial.tried(work)
+    if done is None and any(trial.arms_of.values()):
+        done = Beside(work.crate, edits, cuts=False).tried(work)
+    return done or {}
 
 
 def told_something(said: Ran) -> bool:

@@ -6,6 +6,7 @@ their bodies where one of them is asked about. What is edited is refused for its
 """
 
 import copy
+import functools
 import os
 import re
 import shutil
@@ -18,6 +19,8 @@ Texts = Dict[str, str]
 Place = Tuple[str, str, Optional[str]]
 
 PARTS = ("src", "specs", "proofs")
+# the files in which the goals of a function are answered
+ANSWERS = ("Answers.antt", "Invariants.antt")
 # (what asks for lemmas, which a stub needs not)
 TACTIC = re.compile(r"^ *#\[tactic\(.*\)\]$")
 BODY = "crate::returns_never()"
@@ -83,10 +86,52 @@ def places_of(crate: Any, names: Iterable[str]) -> Set[Place]:
     return found
 
 
-class Twin:
-    """A function under a name of its own beside the one that it was made of, with an edit made in it, or as it is."""
+Match = Tuple[List[str], List[List[str]], List[str]]
 
-    def __init__(self, sources: Texts, place: Place, name: str) -> None:
+
+def lines_at(sources: Texts, place: Place) -> List[str]:
+    """The lines of the function at a place, with what stands above its header and belongs to it."""
+    own = next(function for function in functions_of(sources[place[0]]) if (function.name, function.owner) == place[1:])
+    return sources[place[0]].split("\n")[own.top : own.last + 1]
+
+
+def match_in(lines: List[str]) -> Optional[Match]:
+    """The lines of a function before the first arm of the `match` that is the only one at the outermost level of its body, those of each arm, and those behind the
+    last, in the layout of `rt fmt`; None where there is no such one."""
+    space = re.match(" *", lines[-1])[0] + "    "
+    begins = [number for number, line in enumerate(lines) if re.match(rf"{space}\S(?:.* )?match .*\{{$|{space}match .*\{{$", line)]
+    if len(begins) != 1:
+        return None
+    begin = begins[0] + 1
+    end = next(number for number in range(begin, len(lines)) if lines[number].startswith(f"{space}}}"))
+    # (what else stands at an arm's indentation closes what an arm opened, goes on with its pattern, or is a comment)
+    arms = [number for number in range(begin, end) if re.match(rf"{space}    [^\s}})\]|/#]", lines[number])]
+    return lines[:begin], [lines[at:to] for at, to in zip(arms, [*arms[1:], end])], lines[end:]
+
+
+def arms_of_edit(own: List[str], edited: List[str]) -> Optional[Tuple[int, ...]]:
+    """Of the many arms of a function's `match` the few that an edit changes, by their numbers, if it changes nothing else."""
+    was, made = match_in(own), match_in(edited)
+    if not was or not made or (was[0], was[2]) != (made[0], made[2]) or len(was[1]) != len(made[1]):
+        return None
+    changed = tuple(number for number, (one, other) in enumerate(zip(was[1], made[1])) if one != other)
+    is_read = all(" =>" in "\n".join(arm) for arm in was[1])
+    return changed if is_read and changed and len(was[1]) >= 6 * len(changed) else None
+
+
+def with_arms(lines: List[str], kept: Iterable[int]) -> List[str]:
+    """A function in which of the arms of its `match` those with these numbers have their own code, and all others never return."""
+    before, arms, behind = match_in(lines)
+    newline = "\n"
+    short = [arm if number in kept else f"{newline.join(arm).split(' =>', 1)[0]} => {BODY},".split(newline) for number, arm in enumerate(arms)]
+    return [*before, *(line for arm in short for line in arm), *behind]
+
+
+class Twin:
+    """A function under a name of its own beside the one that it was made of, with an edit made in it, or as it is; of its `match` with some arms alone, if they are
+    told."""
+
+    def __init__(self, sources: Texts, place: Place, name: str, kept: Optional[Tuple[int, ...]] = None) -> None:
         at, was, self.owner = place
         self.of, self.at, self.name = place, at, name
         self.place = at, name, self.owner
@@ -94,7 +139,8 @@ class Twin:
         lines = sources[at].split("\n")
         lines[own.header] = lines[own.header].replace(f"fn {was}", f"fn {name}", 1)
         self.cycle = own.cycle
-        self.lines = [line for line in lines[own.top : own.last + 1] if not CYCLE.match(line)]
+        own_lines = [line for line in lines[own.top : own.last + 1] if not CYCLE.match(line)]
+        self.lines = with_arms(own_lines, kept) if kept else own_lines
 
 
 def can_have_twin(sources: Texts, place: Place) -> bool:
@@ -118,6 +164,34 @@ def answers_of(proofs: str, place: Place) -> Iterator[str]:
 def has_answers(crate: Any, sources: Texts, place: Place) -> bool:
     """Whether the function at a place has answers in files: its own, or its part of a cycle's."""
     return bool(cycles_of(sources, [place])) or any(answers_of(f"{crate.folder}/proofs", place))
+
+
+def names_functions(crate: Any, path: str) -> bool:
+    """Whether a file of a crate's proofs/ seems to name a module of a function's proof or contract, but for the goals of the answers in its own folder."""
+    own = os.path.relpath(os.path.dirname(path), f"{crate.folder}/proofs").replace("/", ".")
+    with open(path, encoding="utf-8") as file:
+        found = re.findall(rf"\bRattle\.{crate.name}\.(proofs|specs\.contracts)\.([^\s{{}}()]+)", file.read())
+    # (the names of lemmas' modules begin with a capital, those of functions and of their cycles do not)
+    others = [name for part, name in found if part != "proofs" or not re.fullmatch(rf"{re.escape(own)}\.(?:Goals|Given)(?:\..*)?", name)]
+    return any(not re.match(r"[A-Z]", word) for name in others for word in name.rstrip(".").split(".")[:-1])
+
+
+@functools.lru_cache(None)
+def lemmas_name_functions(crate: Any) -> bool:
+    """Whether a file of lemmas seems to name a module of a function's proof, which may be missing in a copy."""
+    return any(names_functions(crate, path) for path in files_below(f"{crate.folder}/proofs") if os.path.basename(path) not in ANSWERS)
+
+
+def files_below(folder: str) -> List[str]:
+    return [f"{at}/{name}" for at, _, names in os.walk(folder) for name in names]
+
+
+def differs_by_name(crate: Any, sources: Texts, place: Place) -> bool:
+    """Whether a twin of the function at a place is another by its name alone, and so proved where the function is: it is in no cycle of calls, and if it has answers,
+    they rest on lemmas and on no function's proof."""
+    files = [path for folder in answers_of(f"{crate.folder}/proofs", place) for path in files_below(folder)]
+    own = all(os.path.basename(path) in ANSWERS and not names_functions(crate, path) for path in files)
+    return not cycles_of(sources, [place]) and own and not (files and lemmas_name_functions(crate))
 
 
 def answers_of_member(text: str, member: str) -> Optional[str]:
