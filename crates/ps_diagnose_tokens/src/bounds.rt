@@ -1,9 +1,13 @@
 //! What is told at the ends of a text: where it begins otherwise, where it ends too early, and behind its end.
 
 use crate::context::Context;
-use crate::rule::Piece::{Is, Token};
 use crate::rule::Place::{Ahead, Back, Begun, Ended, Here, List, Point, TextEnd};
-use crate::rule::{Also, Fact, More, Reach, Rule, Test, Told};
+use crate::rule::Reach::{One, To};
+use crate::rule::Step::{
+    Also, Exchange, Expects, Fails, Help, Holds, Is, Label, No, NotBefore, Put, PutBefore,
+    PutBehind, Rule, Same, Says, TakeAway, Tell, Token, Touches, Why,
+};
+use crate::rule::{Fact, More, Steps};
 use crate::tell::{Telling, Text, joined, put_behind};
 use crate::tests::first_of;
 use crate::walk::{Open, Stage};
@@ -19,110 +23,88 @@ const BEGINS: &[Kind] = &[
     Kind::Function,
 ];
 
-// The end of a text.
-const END_RULES: &[Rule] = &[
-    Rule {
-        when: &[Test::Same(Here, TextEnd), Test::No(Back(1))],
-        told: &[Told::Says(&[Is("the text is empty")])],
-        also: &[],
-    },
-    Rule {
-        when: &[Test::Same(Here, TextEnd), Test::Same(Back(1), Ended)],
-        told: &[
-            Told::Expects(&[Is("the text ends here: `.` is missing behind the last `end`")]),
-            Told::PutBehind(0, Ended, ".", "."),
-        ],
-        also: &[],
-    },
-    Rule {
-        when: &[Test::Same(Here, TextEnd)],
-        told: &[
-            Told::Expects(&[
-                Is("the text ends here, and this `"),
-                Token(List),
-                Is("` is not ended"),
-            ]),
-            Told::Label(Reach::One(List), &[Is("this `"), Token(List), Is("`")]),
-            Told::More(More::Ends),
-        ],
-        also: &[
-            Also {
-                when: &[Test::No(Begun), Test::Holds(Fact::InRoutine)],
-                told: &[Told::Help(&[Is("its statements stand between `begin` and `end;`")])],
-            },
-            Also {
-                when: &[Test::No(Begun), Test::Fails(Fact::InRoutine)],
-                told: &[Told::Help(&[Is("its statements stand between `begin` and `end.`")])],
-            },
-        ],
-    },
-];
+// The ends of a text: where it ends too early, begins otherwise than by a heading, or goes on behind its end.
+const AT_THE_ENDS: Steps = &[
+    // nothing
+    Rule,
+    Same(Here, TextEnd),
+    No(Back(1)),
+    Says("the text is empty"),
 
-// A text that begins otherwise than by a heading.
-const BEGINNING_RULES: &[Rule] = &[
-    Rule {
-        when: &[Test::No(Back(1)), Test::Is(Here, &[Kind::Number])],
-        told: &[Told::Why(&[Is("the lines of a program have no numbers")])],
-        also: &[],
-    },
-    Rule {
-        when: &[Test::No(Back(1))],
-        told: &[
-            Told::Why(&[Is("the heading of the program is missing")]),
-            Told::More(More::Beginning),
-        ],
-        also: &[
-            Also {
-                when: &[Test::Is(Here, BEGINS), Test::Holds(Fact::Reads)],
-                told: &[Told::PutBefore(
-                    Here,
-                    "program name(input, output);",
-                    "program name(input, output); ",
-                )],
-            },
-            Also {
-                when: &[Test::Is(Here, BEGINS), Test::Fails(Fact::Reads)],
-                told: &[Told::PutBefore(Here, "program name(output);", "program name(output); ")],
-            },
-            Also {
-                when: &[
-                    Test::Is(Here, &[Kind::Name]),
-                    Test::Is(Ahead(1), &[Kind::Name]),
-                    Test::Is(Ahead(2), &[Kind::LeftParen, Kind::Semicolon]),
-                ],
-                told: &[Told::Exchange(Reach::One(Here), &[Is("program")])],
-            },
-        ],
-    },
-];
+    // the end of the text behind the last `end`
+    Rule,
+    Same(Here, TextEnd),
+    Same(Back(1), Ended),
+    Expects("the text ends here: `.` is missing behind the last `end`"),
+    PutBehind(0, Ended, ".", "."),
 
-// What stands behind the end of the program, or of a string.
-const BEHIND_END_RULES: &[Rule] = &[
-    Rule {
-        when: &[Test::From(Back(1), Point), Test::Is(Point, &[Kind::Dot])],
-        told: &[
-            Told::Why(&[Is("the program ended before it")]),
-            Told::Label(Reach::To(Ended, Point), &[Is("it ends here")]),
-        ],
-        also: &[Also {
-            when: &[Test::Same(Ahead(1), TextEnd)],
-            told: &[Told::TakeAway(0, Reach::One(Here))],
-        }],
-    },
-    Rule {
-        when: &[
-            Test::Is(Back(1), &[Kind::Text]),
-            Test::Is(Here, &[Kind::Name]),
-            Test::Touches(Back(1)),
-        ],
-        told: &[
-            Told::Why(&[Is("the string before it ended at its apostrophe")]),
-            Told::Label(Reach::One(Back(1)), &[Is("this string")]),
-            Told::Help(&[Is("an apostrophe within a string is written twice")]),
-            Told::More(More::Apostrophe),
-        ],
-        also: &[],
-    },
+    // the end of the text within something
+    Rule,
+    Same(Here, TextEnd),
+    Expects("the text ends here, and this `"),
+    Token(List),
+    Put("` is not ended"),
+    Label(One(List), "this `"),
+    Token(List),
+    Put("`"),
+    Tell(More::Ends),
+    Also,
+    No(Begun),
+    Holds(Fact::InRoutine),
+    Help("its statements stand between `begin` and `end;`"),
+    Also,
+    No(Begun),
+    Fails(Fact::InRoutine),
+    Help("its statements stand between `begin` and `end.`"),
+
+    // `10 print`
+    Rule,
+    No(Back(1)),
+    Is(Here, &[Kind::Number]),
+    Why("the lines of a program have no numbers"),
+
+    // statements or declarations without a heading
+    Rule,
+    No(Back(1)),
+    Why("the heading of the program is missing"),
+    Tell(More::Beginning),
+    Also,
+    Is(Here, BEGINS),
+    Holds(Fact::Reads),
+    PutBefore(
+        Here,
+        "program name(input, output);",
+        "program name(input, output); ",
+    ),
+    Also,
+    Is(Here, BEGINS),
+    Fails(Fact::Reads),
+    PutBefore(Here, "program name(output);", "program name(output); "),
+    Also,
+    Is(Here, &[Kind::Name]),
+    Is(Ahead(1), &[Kind::Name]),
+    Is(Ahead(2), &[Kind::LeftParen, Kind::Semicolon]),
+    Exchange(One(Here), "program"),
+
+    // something behind the end of the program
+    Rule,
+    NotBefore(Back(1), Point),
+    Is(Point, &[Kind::Dot]),
+    Why("the program ended before it"),
+    Label(To(Ended, Point), "it ends here"),
+    Also,
+    Same(Ahead(1), TextEnd),
+    TakeAway(0, One(Here)),
+
+    // `'don't'`
+    Rule,
+    Is(Back(1), &[Kind::Text]),
+    Is(Here, &[Kind::Name]),
+    Touches(Back(1)),
+    Why("the string before it ended at its apostrophe"),
+    Label(One(Back(1)), "this string"),
+    Help("an apostrophe within a string is written twice"),
+    Tell(More::Apostrophe),
 ];
 
 // Puts what ends all that is open.
@@ -177,24 +159,7 @@ pub(crate) fn propose_ends(cx: &Context<'_>, to: &mut Telling) {
     to.has_failed = to.has_failed || put.has_failed;
 }
 
-// The rule of the end of a text.
-fn at_the_end(cx: &Context<'_>) -> Option<&'static Rule> {
-    first_of(cx, END_RULES)
-}
-
-// The rule of a text that begins otherwise than by a heading.
-fn at_the_beginning(cx: &Context<'_>) -> Option<&'static Rule> {
-    first_of(cx, BEGINNING_RULES)
-}
-
-// The rule of what stands behind the end of the program, or of a string.
-fn behind_the_end(cx: &Context<'_>) -> Option<&'static Rule> {
-    first_of(cx, BEHIND_END_RULES)
-}
-
 /// The first rule that fits of those of the ends of a text.
-pub(crate) fn at_the_ends(cx: &Context<'_>) -> Option<&'static Rule> {
-    at_the_end(cx)
-        .or(at_the_beginning(cx))
-        .or(behind_the_end(cx))
+pub(crate) fn at_the_ends(cx: &Context<'_>) -> Option<Steps> {
+    first_of(cx, AT_THE_ENDS)
 }

@@ -2,12 +2,16 @@
 
 use crate::context::{Context, slice};
 use crate::kinds::{COMPARES, ENDS_VALUE, JOINS};
-use crate::rule::Piece::{Is, Token, Tokens};
 use crate::rule::Place::{
-    Back, ExpressionEnd, ExpressionStart, First, Here, Joint, JointLeft, JointRight,
-    NextExpressionEnd,
+    Back, ExpressionEnd, ExpressionStart, First, FirstComparison, Here, Joint, JointLeft,
+    JointRight, NextExpressionEnd,
 };
-use crate::rule::{Also, Fact, More, Reach, Rule, Test, Told};
+use crate::rule::Reach::{Between, One, UpTo};
+use crate::rule::Step::{
+    Alike, Also, Exchange, Has, Help, Holds, Is, IsShown, Label, Put, Rule, Tell, Token, Tokens,
+    Why,
+};
+use crate::rule::{Fact, More, Steps};
 use crate::spread::{expression_end, expression_start, first_between};
 use crate::tell::{Telling, Text, empty, exchange_text, joined};
 use crate::tests::first_of;
@@ -16,131 +20,75 @@ use ps_scan::Kind;
 // The most bytes of a condition for which parentheses are proposed: the change tells it twice.
 const MOST: u32 = 200;
 
-// What `and` or `or` takes between two comparisons.
-const LABEL_JOINT: Told = Told::Label(
-    Reach::One(Joint),
-    &[
-        Is("this takes `"),
-        Tokens(Reach::Between(JointLeft, Joint)),
-        Is("` and `"),
-        Tokens(Reach::Between(Joint, JointRight)),
-        Is("`"),
-    ],
-);
+// Comparisons that are not what they seem.
+const COMPARED: Steps = &[
+    // `a = 1 or b = 2`
+    Rule,
+    Is(Here, COMPARES),
+    Holds(Fact::Statements),
+    Is(Back(1), ENDS_VALUE),
+    Has(Joint),
+    Alike(FirstComparison, Here),
+    Why("`"),
+    Token(Joint),
+    Put("` binds tighter than `"),
+    Token(Here),
+    Put("`"),
+    Label(One(Joint), "this takes `"),
+    Tokens(Between(JointLeft, Joint)),
+    Put("` and `"),
+    Tokens(Between(Joint, JointRight)),
+    Put("`"),
+    Tell(More::Parentheses),
 
-// The token `in` before the place.
-const IN: &[Kind] = &[Kind::In];
+    // `a < 1 and b = 2`: the second comparison has another sign
+    Rule,
+    Is(Here, COMPARES),
+    Holds(Fact::Statements),
+    Is(Back(1), ENDS_VALUE),
+    Has(Joint),
+    Why("`"),
+    Token(Joint),
+    Put("` binds tighter than `"),
+    Token(FirstComparison),
+    Put("` and `"),
+    Token(Here),
+    Put("`"),
+    Label(One(Joint), "this takes `"),
+    Tokens(Between(JointLeft, Joint)),
+    Put("` and `"),
+    Tokens(Between(Joint, JointRight)),
+    Put("`"),
+    Tell(More::Parentheses),
 
-// A second comparison, with `and` or `or` between, and the same sign.
-const ALIKE_RULES: &[Rule] = &[
-    // a second one, with `and` or `or` between, and the same sign
-    Rule {
-        when: &[
-            Test::Is(Here, COMPARES),
-            Test::Holds(Fact::Statements),
-            Test::Is(Back(1), ENDS_VALUE),
-            Test::Has(Joint),
-            Test::Alike(First(COMPARES), Here),
-        ],
-        told: &[
-            Told::Why(&[
-                Is("`"),
-                Token(Joint),
-                Is("` binds tighter than `"),
-                Token(Here),
-                Is("`"),
-            ]),
-            LABEL_JOINT,
-            Told::More(More::Parentheses),
-        ],
-        also: &[],
-    },
-];
+    // `a < b < c`
+    Rule,
+    Is(Here, COMPARES),
+    Holds(Fact::Statements),
+    Is(Back(1), ENDS_VALUE),
+    Has(FirstComparison),
+    Why("a comparison has two sides"),
+    Label(One(FirstComparison), "the first comparison"),
+    Help("two comparisons are joined so: `(a < b) and (b < c)`"),
+    Also,
+    IsShown(UpTo(ExpressionStart, Here)),
+    IsShown(Between(FirstComparison, ExpressionEnd)),
+    Exchange(UpTo(ExpressionStart, ExpressionEnd), "("),
+    Tokens(UpTo(ExpressionStart, Here)),
+    Put(") and ("),
+    Tokens(Between(FirstComparison, ExpressionEnd)),
+    Put(")"),
 
-// A second comparison, with `and` or `or` between.
-const JOINED_RULES: &[Rule] = &[
-    // and another sign
-    Rule {
-        when: &[
-            Test::Is(Here, COMPARES),
-            Test::Holds(Fact::Statements),
-            Test::Is(Back(1), ENDS_VALUE),
-            Test::Has(Joint),
-        ],
-        told: &[
-            Told::Why(&[
-                Is("`"),
-                Token(Joint),
-                Is("` binds tighter than `"),
-                Token(First(COMPARES)),
-                Is("` and `"),
-                Token(Here),
-                Is("`"),
-            ]),
-            LABEL_JOINT,
-            Told::More(More::Parentheses),
-        ],
-        also: &[],
-    },
-];
-
-// A chain of comparisons.
-const CHAIN_RULES: &[Rule] = &[
-    // a chain
-    Rule {
-        when: &[
-            Test::Is(Here, COMPARES),
-            Test::Holds(Fact::Statements),
-            Test::Is(Back(1), ENDS_VALUE),
-            Test::Has(First(COMPARES)),
-        ],
-        told: &[
-            Told::Why(&[Is("a comparison has two sides")]),
-            Told::Label(Reach::One(First(COMPARES)), &[Is("the first comparison")]),
-            Told::Help(&[Is("two comparisons are joined so: `(a < b) and (b < c)`")]),
-        ],
-        also: &[Also {
-            when: &[
-                Test::IsShown(Reach::UpTo(ExpressionStart, Here)),
-                Test::IsShown(Reach::Between(First(COMPARES), ExpressionEnd)),
-            ],
-            told: &[Told::Exchange(
-                Reach::UpTo(ExpressionStart, ExpressionEnd),
-                &[
-                    Is("("),
-                    Tokens(Reach::UpTo(ExpressionStart, Here)),
-                    Is(") and ("),
-                    Tokens(Reach::Between(First(COMPARES), ExpressionEnd)),
-                    Is(")"),
-                ],
-            )],
-        }],
-    },
-];
-
-// A range behind `in`, without brackets.
-const RANGE_RULES: &[Rule] = &[
-    // a range behind `in`, without brackets
-    Rule {
-        when: &[
-            Test::Is(Here, &[Kind::DotDot]),
-            Test::Holds(Fact::Statements),
-            Test::Has(First(IN)),
-        ],
-        told: &[
-            Told::Why(&[Is("behind `in` stands a set")]),
-            Told::Label(Reach::One(First(IN)), &[Is("the `in`")]),
-            Told::Exchange(
-                Reach::Between(First(IN), NextExpressionEnd),
-                &[
-                    Is("["),
-                    Tokens(Reach::Between(First(IN), NextExpressionEnd)),
-                    Is("]"),
-                ],
-            ),
-        ],
-        also: &[],
-    },
+    // `c in 'a'..'z'`
+    Rule,
+    Is(Here, &[Kind::DotDot]),
+    Holds(Fact::Statements),
+    Has(First(Kind::In)),
+    Why("behind `in` stands a set"),
+    Label(One(First(Kind::In)), "the `in`"),
+    Exchange(Between(First(Kind::In), NextExpressionEnd), "["),
+    Tokens(Between(First(Kind::In), NextExpressionEnd)),
+    Put("]"),
 ];
 
 // Puts a piece of a condition, in parentheses where it compares.
@@ -199,27 +147,7 @@ pub(crate) fn propose_parentheses(cx: &Context<'_>, to: &mut Telling) {
     exchange_text(cx, to, span, text);
 }
 
-// The rule of a second comparison, with `and` or `or` between, and the same sign.
-fn alike(cx: &Context<'_>) -> Option<&'static Rule> {
-    first_of(cx, ALIKE_RULES)
-}
-
-// The rule of a second comparison, with `and` or `or` between.
-fn of_joint(cx: &Context<'_>) -> Option<&'static Rule> {
-    first_of(cx, JOINED_RULES)
-}
-
-// The rule of a chain of comparisons.
-fn chain(cx: &Context<'_>) -> Option<&'static Rule> {
-    first_of(cx, CHAIN_RULES)
-}
-
-// The rule of a range behind `in`, without brackets.
-fn range(cx: &Context<'_>) -> Option<&'static Rule> {
-    first_of(cx, RANGE_RULES)
-}
-
 /// The first rule that fits of those of comparisons.
-pub(crate) fn compared(cx: &Context<'_>) -> Option<&'static Rule> {
-    alike(cx).or(of_joint(cx)).or(chain(cx)).or(range(cx))
+pub(crate) fn compared(cx: &Context<'_>) -> Option<Steps> {
+    first_of(cx, COMPARED)
 }

@@ -3,9 +3,13 @@
 use crate::context::Context;
 use crate::kinds::PARTS;
 use crate::lists::TYPES;
-use crate::rule::Piece::{Is, Token, Tokens};
 use crate::rule::Place::{Ahead, Back, BehindNames, Here, Routines, StatementEnd, Top};
-use crate::rule::{Also, Fact, More, Piece, Reach, Rule, Test, Told};
+use crate::rule::Reach::{One, To, UpTo};
+use crate::rule::Step::{
+    Also, Exchange, Fails, Has, Help, Holds, InPart, Is, Label, No, NotInPart, Or, Put, PutBefore,
+    PutBehind, Rule, Spelled, Tell, Token, Tokens, Why,
+};
+use crate::rule::{Fact, More, Steps};
 use crate::tests::first_of;
 use ps_scan::Kind;
 
@@ -18,369 +22,241 @@ pub(crate) const BEGINS_TYPE: &[Kind] = &[
     Kind::Caret,
 ];
 
-// What is told where the word `var` is missing before the name that stands before the place.
-const VAR_BEFORE: &[Told] = &[
-    Told::Why(&[Is("`var` is missing before `"), Token(Back(1)), Is("`")]),
-    Told::PutBefore(Back(1), "var", "var "),
-];
-
-// Declarations of variables without `var`.
-const VAR_RULES: &[Rule] = &[
-    // behind procedures and functions
-    Rule {
-        when: &[
-            Test::Is(Here, &[Kind::Name]),
-            Test::Is(Back(1), &[Kind::Semicolon]),
-            Test::Is(BehindNames, &[Kind::Colon]),
-            Test::Holds(Fact::Declarations),
-            Test::No(Top),
-            Test::NoPart(PARTS),
-            Test::Has(Routines),
-        ],
-        told: &[
-            Told::Why(&[Is("variables are declared before procedures and functions")]),
-            Told::Label(Reach::One(Routines), &[Is("the first of them")]),
-            Told::More(More::Variables),
-        ],
-        also: &[],
-    },
-    Rule {
-        when: &[
-            Test::Is(Here, &[Kind::Name]),
-            Test::Is(Back(1), &[Kind::Semicolon]),
-            Test::Is(BehindNames, &[Kind::Colon]),
-            Test::Holds(Fact::Declarations),
-            Test::No(Top),
-            Test::NoPart(PARTS),
-        ],
-        told: &[
-            Told::Why(&[Is("`var` is missing before it")]),
-            Told::PutBefore(Here, "var", "var "),
-        ],
-        also: &[],
-    },
-    // behind constants or types: `a, b: integer;`
-    Rule {
-        when: &[
-            Test::Is(Here, &[Kind::Comma]),
-            Test::Is(Back(1), &[Kind::Name]),
-            Test::Is(Back(2), &[Kind::Semicolon]),
-            Test::Is(BehindNames, &[Kind::Colon]),
-            Test::Part(&[Kind::Const, Kind::Type]),
-            Test::No(Top),
-        ],
-        told: VAR_BEFORE,
-        also: &[],
-    },
-    // `a: integer;`
-    Rule {
-        when: &[
-            Test::Is(Here, &[Kind::Colon]),
-            Test::Is(Back(1), &[Kind::Name]),
-            Test::Is(Back(2), &[Kind::Semicolon]),
-            Test::Is(Ahead(1), &[Kind::Name]),
-            Test::Is(Ahead(2), &[Kind::Semicolon]),
-            Test::Part(&[Kind::Const, Kind::Type]),
-            Test::No(Top),
-        ],
-        told: VAR_BEFORE,
-        also: &[],
-    },
-    // `a: array ..;`
-    Rule {
-        when: &[
-            Test::Is(Here, &[Kind::Colon]),
-            Test::Is(Back(1), &[Kind::Name]),
-            Test::Is(Back(2), &[Kind::Semicolon]),
-            Test::Is(Ahead(1), BEGINS_TYPE),
-            Test::Part(&[Kind::Const, Kind::Type]),
-            Test::No(Top),
-        ],
-        told: VAR_BEFORE,
-        also: &[],
-    },
-];
-
 // What a constant is.
-const CONSTANT: &[Piece] = &[Is(
-    "a constant is a number, a string or a name; a variable gets its value by a statement",
-)];
+const CONSTANT: &str =
+    "a constant is a number, a string or a name; a variable gets its value by a statement";
 
-// Constants that have several values.
-const CONSTANTS_RULES: &[Rule] = &[
+// Declarations as other languages have them.
+const IN_DECLARATIONS: Steps = &[
+    // `a: integer;` behind procedures and functions
+    Rule,
+    Is(Here, &[Kind::Name]),
+    Is(Back(1), &[Kind::Semicolon]),
+    Is(BehindNames, &[Kind::Colon]),
+    Holds(Fact::Declarations),
+    No(Top),
+    NotInPart(PARTS),
+    Has(Routines),
+    Why("variables are declared before procedures and functions"),
+    Label(One(Routines), "the first of them"),
+    Tell(More::Variables),
+
+    // `a: integer;` at the beginning
+    Rule,
+    Is(Here, &[Kind::Name]),
+    Is(Back(1), &[Kind::Semicolon]),
+    Is(BehindNames, &[Kind::Colon]),
+    Holds(Fact::Declarations),
+    No(Top),
+    NotInPart(PARTS),
+    Why("`var` is missing before it"),
+    PutBefore(Here, "var", "var "),
+
+    // behind constants or types: `a, b: integer;`
+
+    // `a, b: integer;` behind constants or types
+
+    // `a, b: integer;` behind constants or types
+    Rule,
+    Is(Here, &[Kind::Comma]),
+    Is(Back(1), &[Kind::Name]),
+    Is(Back(2), &[Kind::Semicolon]),
+    Is(BehindNames, &[Kind::Colon]),
+    InPart(&[Kind::Const, Kind::Type]),
+    No(Top),
+    // `a: integer;`
+    Or,
+    Is(Here, &[Kind::Colon]),
+    Is(Back(1), &[Kind::Name]),
+    Is(Back(2), &[Kind::Semicolon]),
+    Is(Ahead(1), &[Kind::Name]),
+    Is(Ahead(2), &[Kind::Semicolon]),
+    InPart(&[Kind::Const, Kind::Type]),
+    No(Top),
+    // `a: array ..;`
+    Or,
+    Is(Here, &[Kind::Colon]),
+    Is(Back(1), &[Kind::Name]),
+    Is(Back(2), &[Kind::Semicolon]),
+    Is(Ahead(1), BEGINS_TYPE),
+    InPart(&[Kind::Const, Kind::Type]),
+    No(Top),
+    Why("`var` is missing before `"),
+    Token(Back(1)),
+    Put("`"),
+    PutBefore(Back(1), "var", "var "),
+
+    // Constants that have several values.
     // `const a: array [1..3] of integer = (1, 2, 3);`
-    Rule {
-        when: &[
-            Test::Is(Here, &[Kind::Colon]),
-            Test::Is(Back(1), &[Kind::Name]),
-            Test::Is(Ahead(1), BEGINS_TYPE),
-            Test::Part(&[Kind::Const]),
-        ],
-        told: &[
-            Told::Why(&[Is("`=` defines a constant")]),
-            Told::Help(CONSTANT),
-        ],
-        also: &[],
-    },
+
+    // `const a: array [1..3] of integer = (1, 2, 3);`
+
+    // `const a: array [1..3] of integer = (1, 2, 3);`
+    Rule,
+    Is(Here, &[Kind::Colon]),
+    Is(Back(1), &[Kind::Name]),
+    Is(Ahead(1), BEGINS_TYPE),
+    InPart(&[Kind::Const]),
+    Why("`=` defines a constant"),
+    Help(CONSTANT),
+
     // `const a = (1, 2, 3);`
-    Rule {
-        when: &[
-            Test::Is(Here, &[Kind::LeftParen, Kind::LeftBracket]),
-            Test::Is(Back(1), &[Kind::Equal]),
-            Test::Part(&[Kind::Const]),
-        ],
-        told: &[
-            Told::Why(&[Is("a constant has one value")]),
-            Told::Help(CONSTANT),
-        ],
-        also: &[],
-    },
-];
 
-// What is told of the type of an array that isn't written as one.
-const ARRAY: Told = Told::Why(&[Is("an array is declared as `array [1..10] of integer`")]);
+    // `const a = (1, 2, 3);`
 
-// Arrays as other languages declare them.
-const ARRAYS_RULES: &[Rule] = &[
+    // `const a = (1, 2, 3);`
+    Rule,
+    Is(Here, &[Kind::LeftParen, Kind::LeftBracket]),
+    Is(Back(1), &[Kind::Equal]),
+    InPart(&[Kind::Const]),
+    Why("a constant has one value"),
+    Help(CONSTANT),
+
     // `array [1..3][1..3] of`
-    Rule {
-        when: &[
-            Test::Is(Here, &[Kind::LeftBracket]),
-            Test::Is(Back(1), &[Kind::RightBracket]),
-            Test::Fails(Fact::Statements),
-        ],
-        told: &[
-            Told::Why(&[Is("an array with two indices is written `array [1..3, 1..3]`")]),
-            Told::Exchange(Reach::To(Back(1), Here), &[Is(", ")]),
-        ],
-        also: &[],
-    },
-    // `a: integer[10]`
-    Rule {
-        when: &[
-            Test::Is(Here, &[Kind::LeftBracket]),
-            Test::Is(Back(1), &[Kind::Name]),
-            Test::Is(Back(2), &[Kind::Colon]),
-            Test::Fails(Fact::Statements),
-            Test::Is(Ahead(2), &[Kind::RightBracket]),
-        ],
-        told: &[
-            ARRAY,
-            Told::Exchange(
-                Reach::To(Back(1), Ahead(2)),
-                &[
-                    Is("array [1.."),
-                    Token(Ahead(1)),
-                    Is("] of "),
-                    Token(Back(1)),
-                ],
-            ),
-        ],
-        also: &[],
-    },
-    // `a[10]: integer`
-    Rule {
-        when: &[
-            Test::Is(Here, &[Kind::LeftBracket]),
-            Test::Is(Back(1), &[Kind::Name]),
-            Test::Part(&[Kind::Var]),
-            Test::Holds(Fact::Declarations),
-            Test::Is(Ahead(2), &[Kind::RightBracket]),
-            Test::Is(Ahead(3), &[Kind::Colon]),
-        ],
-        told: &[
-            ARRAY,
-            Told::Exchange(
-                Reach::To(Here, Ahead(3)),
-                &[Is(": array [1.."), Token(Ahead(1)), Is("] of")],
-            ),
-        ],
-        also: &[],
-    },
-    // `array [1 to 10]` or `[1 - 10]`
-    Rule {
-        when: &[
-            Test::Is(Here, &[Kind::To, Kind::Minus, Kind::Comma, Kind::Colon]),
-            Test::Is(Top, &[Kind::LeftBracket]),
-            Test::Is(Back(1), &[Kind::Number]),
-            Test::Is(Back(2), &[Kind::LeftBracket]),
-            Test::Is(Ahead(1), &[Kind::Name, Kind::Number]),
-            Test::Fails(Fact::Statements),
-        ],
-        told: &[
-            Told::Why(&[Is("between two bounds stands `..`")]),
-            Told::Exchange(Reach::One(Here), &[Is("..")]),
-        ],
-        also: &[],
-    },
-];
+    Rule,
+    Is(Here, &[Kind::LeftBracket]),
+    Is(Back(1), &[Kind::RightBracket]),
+    Fails(Fact::Statements),
+    Why("an array with two indices is written `array [1..3, 1..3]`"),
+    Exchange(To(Back(1), Here), ", "),
 
-// Names and types of variables.
-const NAMES_RULES: &[Rule] = &[
+    // `a: integer[10]`
+    Rule,
+    Is(Here, &[Kind::LeftBracket]),
+    Is(Back(1), &[Kind::Name]),
+    Is(Back(2), &[Kind::Colon]),
+    Fails(Fact::Statements),
+    Is(Ahead(2), &[Kind::RightBracket]),
+    Why("an array is declared as `array [1..10] of integer`"),
+    Exchange(To(Back(1), Ahead(2)), "array [1.."),
+    Token(Ahead(1)),
+    Put("] of "),
+    Token(Back(1)),
+
+    // `a[10]: integer`
+    Rule,
+    Is(Here, &[Kind::LeftBracket]),
+    Is(Back(1), &[Kind::Name]),
+    InPart(&[Kind::Var]),
+    Holds(Fact::Declarations),
+    Is(Ahead(2), &[Kind::RightBracket]),
+    Is(Ahead(3), &[Kind::Colon]),
+    Why("an array is declared as `array [1..10] of integer`"),
+    Exchange(To(Here, Ahead(3)), ": array [1.."),
+    Token(Ahead(1)),
+    Put("] of"),
+
+    // `array [1 to 10]`, `array [1 - 10]`
+    Rule,
+    Is(Here, &[Kind::To, Kind::Minus, Kind::Comma, Kind::Colon]),
+    Is(Top, &[Kind::LeftBracket]),
+    Is(Back(1), &[Kind::Number]),
+    Is(Back(2), &[Kind::LeftBracket]),
+    Is(Ahead(1), &[Kind::Name, Kind::Number]),
+    Fails(Fact::Statements),
+    Why("between two bounds stands `..`"),
+    Exchange(One(Here), ".."),
+
     // `*integer`
-    Rule {
-        when: &[
-            Test::Is(Here, &[Kind::Star]),
-            Test::Is(Back(1), &[Kind::Colon, Kind::Equal, Kind::Of]),
-            Test::Is(Ahead(1), &[Kind::Name]),
-            Test::Fails(Fact::Statements),
-        ],
-        told: &[
-            Told::Why(&[Is("a pointer type begins with `^`")]),
-            Told::Exchange(Reach::One(Here), &[Is("^")]),
-        ],
-        also: &[],
-    },
+    Rule,
+    Is(Here, &[Kind::Star]),
+    Is(Back(1), &[Kind::Colon, Kind::Equal, Kind::Of]),
+    Is(Ahead(1), &[Kind::Name]),
+    Fails(Fact::Statements),
+    Why("a pointer type begins with `^`"),
+    Exchange(One(Here), "^"),
+
     // `my-number`
-    Rule {
-        when: &[
-            Test::Is(Here, &[Kind::Minus]),
-            Test::Is(Back(1), &[Kind::Name]),
-            Test::Is(
-                Back(2),
-                &[
-                    Kind::Var,
-                    Kind::Semicolon,
-                    Kind::Comma,
-                    Kind::Program,
-                    Kind::Procedure,
-                    Kind::Function,
-                    Kind::Const,
-                    Kind::Type,
-                    Kind::LeftParen,
-                ],
-            ),
-            Test::Is(Ahead(1), &[Kind::Name, Kind::Number]),
-            Test::Fails(Fact::Statements),
+    Rule,
+    Is(Here, &[Kind::Minus]),
+    Is(Back(1), &[Kind::Name]),
+    Is(
+        Back(2),
+        &[
+            Kind::Var,
+            Kind::Semicolon,
+            Kind::Comma,
+            Kind::Program,
+            Kind::Procedure,
+            Kind::Function,
+            Kind::Const,
+            Kind::Type,
+            Kind::LeftParen,
         ],
-        told: &[
-            Told::Why(&[Is("a name has only letters and digits")]),
-            Told::Help(&[Is("take another name")]),
-        ],
-        also: &[],
-    },
+    ),
+    Is(Ahead(1), &[Kind::Name, Kind::Number]),
+    Fails(Fact::Statements),
+    Why("a name has only letters and digits"),
+    Help("take another name"),
+
     // `integer: a, b;`
-    Rule {
-        when: &[
-            Test::Is(Here, &[Kind::Comma, Kind::Semicolon]),
-            Test::Is(Back(1), &[Kind::Name]),
-            Test::Is(Back(2), &[Kind::Colon]),
-            Test::Spelled(Back(3), TYPES),
-            Test::Part(&[Kind::Var]),
-            Test::Holds(Fact::Declarations),
-        ],
-        told: &[
-            Told::Why(&[Is("a variable stands before `:`, and its type behind it")]),
-            Told::Exchange(
-                Reach::UpTo(Back(3), StatementEnd),
-                &[
-                    Tokens(Reach::UpTo(Back(1), StatementEnd)),
-                    Is(": "),
-                    Token(Back(3)),
-                ],
-            ),
-        ],
-        also: &[],
-    },
+    Rule,
+    Is(Here, &[Kind::Comma, Kind::Semicolon]),
+    Is(Back(1), &[Kind::Name]),
+    Is(Back(2), &[Kind::Colon]),
+    Spelled(Back(3), TYPES),
+    InPart(&[Kind::Var]),
+    Holds(Fact::Declarations),
+    Why("a variable stands before `:`, and its type behind it"),
+    Exchange(UpTo(Back(3), StatementEnd), ""),
+    Tokens(UpTo(Back(1), StatementEnd)),
+    Put(": "),
+    Token(Back(3)),
+
     // `type r = begin`
-    Rule {
-        when: &[
-            Test::Is(Here, &[Kind::Begin]),
-            Test::Is(Back(1), &[Kind::Equal, Kind::Colon, Kind::Of]),
-        ],
-        told: &[
-            Told::Why(&[Is("a record begins with `record`")]),
-            Told::Exchange(Reach::One(Here), &[Is("record")]),
-        ],
-        also: &[],
-    },
+    Rule,
+    Is(Here, &[Kind::Begin]),
+    Is(Back(1), &[Kind::Equal, Kind::Colon, Kind::Of]),
+    Why("a record begins with `record`"),
+    Exchange(One(Here), "record"),
+
     // `var a;`
-    Rule {
-        when: &[
-            Test::Is(Here, &[Kind::Semicolon]),
-            Test::Is(Back(1), &[Kind::Name]),
-            Test::Is(Back(2), &[Kind::Var, Kind::Comma, Kind::Semicolon]),
-            Test::Part(&[Kind::Var]),
-            Test::Holds(Fact::Declarations),
-        ],
-        told: &[
-            Told::Why(&[Is("the type of the variables is missing before it")]),
-            Told::Help(&[Is("a variable is declared as `n: integer`")]),
-        ],
-        also: &[
-            Also {
-                when: &[Test::Is(Ahead(1), &[Kind::Name])],
-                told: &[Told::Exchange(Reach::One(Here), &[Is(",")])],
-            },
-            Also {
-                when: &[],
-                told: &[Told::PutBehind(1, Back(1), ": integer", ": integer")],
-            },
-        ],
-    },
+    Rule,
+    Is(Here, &[Kind::Semicolon]),
+    Is(Back(1), &[Kind::Name]),
+    Is(Back(2), &[Kind::Var, Kind::Comma, Kind::Semicolon]),
+    InPart(&[Kind::Var]),
+    Holds(Fact::Declarations),
+    Why("the type of the variables is missing before it"),
+    Help("a variable is declared as `n: integer`"),
+    Also,
+    Is(Ahead(1), &[Kind::Name]),
+    Exchange(One(Here), ","),
+    Also,
+    PutBehind(1, Back(1), ": integer", ": integer"),
 ];
 
 // A name of two words.
-const SPACES_RULES: &[Rule] = &[
-    Rule {
-        when: &[
-            Test::Is(Here, &[Kind::Name]),
-            Test::Is(Back(1), &[Kind::Name]),
-            Test::Is(Back(2), &[Kind::Var, Kind::Comma, Kind::Semicolon]),
-            Test::Part(&[Kind::Var]),
-            Test::Holds(Fact::Declarations),
-            Test::Is(BehindNames, &[Kind::Colon]),
-        ],
-        told: &[
-            Told::Why(&[Is("`,` is missing before it")]),
-            Told::Help(&[Is("a name is one word, without spaces")]),
-            Told::PutBehind(0, Back(1), ",", ","),
-        ],
-        also: &[],
-    },
-    Rule {
-        when: &[
-            Test::Is(Here, &[Kind::Name]),
-            Test::Is(Back(1), &[Kind::Name]),
-            Test::Is(Back(2), &[Kind::Program, Kind::Procedure]),
-        ],
-        told: &[
-            Told::Why(&[Is("a name is one word, without spaces")]),
-            Told::Exchange(Reach::To(Back(1), Here), &[Token(Back(1)), Token(Here)]),
-        ],
-        also: &[],
-    },
+const OF_SPACES: Steps = &[
+    // `var a b: integer`
+    Rule,
+    Is(Here, &[Kind::Name]),
+    Is(Back(1), &[Kind::Name]),
+    Is(Back(2), &[Kind::Var, Kind::Comma, Kind::Semicolon]),
+    InPart(&[Kind::Var]),
+    Holds(Fact::Declarations),
+    Is(BehindNames, &[Kind::Colon]),
+    Why("`,` is missing before it"),
+    Help("a name is one word, without spaces"),
+    PutBehind(0, Back(1), ",", ","),
+
+    // `program my program`
+    Rule,
+    Is(Here, &[Kind::Name]),
+    Is(Back(1), &[Kind::Name]),
+    Is(Back(2), &[Kind::Program, Kind::Procedure]),
+    Why("a name is one word, without spaces"),
+    Exchange(To(Back(1), Here), ""),
+    Token(Back(1)),
+    Token(Here),
 ];
 
-// The rule of declarations without `var`.
-fn without_var(cx: &Context<'_>) -> Option<&'static Rule> {
-    first_of(cx, VAR_RULES)
-}
-
-// The rule of constants of several values.
-fn constants(cx: &Context<'_>) -> Option<&'static Rule> {
-    first_of(cx, CONSTANTS_RULES)
-}
-
-// The rule of types of arrays.
-fn arrays(cx: &Context<'_>) -> Option<&'static Rule> {
-    first_of(cx, ARRAYS_RULES)
-}
-
-// The rule of names and types of variables.
-fn names(cx: &Context<'_>) -> Option<&'static Rule> {
-    first_of(cx, NAMES_RULES)
-}
-
 /// The first that fits of those of declarations.
-pub(crate) fn in_declarations(cx: &Context<'_>) -> Option<&'static Rule> {
-    without_var(cx)
-        .or(constants(cx))
-        .or(arrays(cx))
-        .or(names(cx))
+pub(crate) fn in_declarations(cx: &Context<'_>) -> Option<Steps> {
+    first_of(cx, IN_DECLARATIONS)
 }
 
 /// The rule of a name of two words.
-pub(crate) fn of_spaces(cx: &Context<'_>) -> Option<&'static Rule> {
-    first_of(cx, SPACES_RULES)
+pub(crate) fn of_spaces(cx: &Context<'_>) -> Option<Steps> {
+    first_of(cx, OF_SPACES)
 }

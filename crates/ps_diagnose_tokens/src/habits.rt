@@ -5,161 +5,106 @@ use crate::declaring::BEGINS_TYPE;
 use crate::kinds::{COMPARES, OPERATORS};
 use crate::lists::TYPES;
 use crate::places::number_of;
-use crate::rule::Piece::{Is, Tokens};
 use crate::rule::Place::{
     Ahead, Back, BeforeTop, Begun, BehindNames, BehindThen, Here, Start, Top, TopEnd,
 };
-use crate::rule::{Fact, More, Piece, Reach, Rule, Test, Told};
+use crate::rule::Reach::{Between, One, To};
+use crate::rule::Step::{
+    Exchange, Help, Holds, InBody, Is, Label, Or, Put, Rule, Same, Spelled, TakeAway, Tell, Tokens,
+    Why,
+};
+use crate::rule::{Fact, More, Steps};
 use crate::spread::statement_end;
 use crate::tell::{Telling, empty, joined, shown};
 use crate::tests::first_of;
 use ps_scan::Kind;
 use ps_text::Span;
 
-// What is told of a list between parentheses, up to what closes it.
-const LIST: Reach = Reach::Between(Top, TopEnd);
+// What is told of a declaration among statements.
+const AMONG: &str = "declarations stand before `begin`";
 
-// Several values between parentheses that are no parameters.
-const LISTS_RULES: &[Rule] = &[
+// Lists, `case` statements and declarations among statements.
+const IN_STATEMENTS: Steps = &[
     // `in (1, 2)`
-    Rule {
-        when: &[
-            Test::Is(Here, &[Kind::Comma]),
-            Test::Is(Top, &[Kind::LeftParen]),
-            Test::Is(BeforeTop, &[Kind::In]),
-            Test::Is(TopEnd, &[Kind::RightParen]),
-        ],
-        told: &[
-            Told::Why(&[Is("a set stands between `[` and `]`")]),
-            Told::Exchange(Reach::To(Top, TopEnd), &[Is("["), Tokens(LIST), Is("]")]),
-        ],
-        also: &[],
-    },
+    Rule,
+    Is(Here, &[Kind::Comma]),
+    Is(Top, &[Kind::LeftParen]),
+    Is(BeforeTop, &[Kind::In]),
+    Is(TopEnd, &[Kind::RightParen]),
+    Why("a set stands between `[` and `]`"),
+    Exchange(To(Top, TopEnd), "["),
+    Tokens(Between(Top, TopEnd)),
+    Put("]"),
+
     // `:= (1, 2)`
-    Rule {
-        when: &[
-            Test::Is(Here, &[Kind::Comma]),
-            Test::Is(Top, &[Kind::LeftParen]),
-            Test::Is(BeforeTop, &[Kind::Assign]),
-        ],
-        told: &[
-            Told::Why(&[Is("one value is assigned, and no list")]),
-            Told::Help(&[Is("the components of an array are assigned one by one")]),
-        ],
-        also: &[],
-    },
+    Rule,
+    Is(Here, &[Kind::Comma]),
+    Is(Top, &[Kind::LeftParen]),
+    Is(BeforeTop, &[Kind::Assign]),
+    Why("one value is assigned, and no list"),
+    Help("the components of an array are assigned one by one"),
+
+    // `break;` in a `case`
+    Rule,
+    InBody(&[Kind::Case]),
+    Same(Start, Back(1)),
+    Spelled(Back(1), "break"),
+    Is(Back(2), &[Kind::Semicolon]),
+    Why("a `case` does one statement, and needs no `break`"),
+    TakeAway(0, To(Back(2), Back(1))),
+
+    // `case n of n > 1:`
+    Rule,
+    InBody(&[Kind::Case]),
+    Same(Start, Back(1)),
+    Is(Here, OPERATORS),
+    Is(Back(2), BEFORE_CONSTANT),
+    Or,
+    InBody(&[Kind::Case]),
+    Same(Start, Here),
+    Is(Here, COMPARES),
+    Is(Back(1), BEFORE_CONSTANT),
+    Why("in a `case` stand constants, and no conditions"),
+    Help("conditions are tested by `if .. then .. else if ..`"),
+
+    // `i: integer;`
+    Rule,
+    Is(Here, &[Kind::Colon]),
+    Is(Top, &[Kind::Begin, Kind::Repeat]),
+    Same(Start, Back(1)),
+    Is(Back(1), &[Kind::Name]),
+    Is(Ahead(1), &[Kind::Name]),
+    Is(Ahead(2), &[Kind::Semicolon]),
+    // `a: array ..;`
+    Or,
+    Is(Here, &[Kind::Colon]),
+    Is(Top, &[Kind::Begin, Kind::Repeat]),
+    Same(Start, Back(1)),
+    Is(Back(1), &[Kind::Name]),
+    Is(Ahead(1), BEGINS_TYPE),
+    // `a, b: integer;`
+    Or,
+    Is(Here, &[Kind::Comma]),
+    Is(Top, &[Kind::Begin, Kind::Repeat]),
+    Same(Start, Back(1)),
+    Is(BehindNames, &[Kind::Colon]),
+    Why(AMONG),
+    Label(One(Begun), "the `begin`"),
+    Tell(More::Variables),
+
+    // `integer i;`
+    Rule,
+    Is(Here, &[Kind::Name]),
+    Holds(Fact::Statements),
+    Same(Start, Back(1)),
+    Spelled(Back(1), TYPES),
+    Why(AMONG),
+    Label(One(Begun), "the `begin`"),
+    Help("in the `var` part a variable is declared as `n: integer`"),
 ];
-
-// What is told of a condition in a `case`.
-const CONDITION: &[Piece] = &[Is("in a `case` stand constants, and no conditions")];
-
-// What to do with conditions.
-const CONDITIONS: &[Piece] = &[Is("conditions are tested by `if .. then .. else if ..`")];
 
 // What the constants of a `case` stand behind.
 const BEFORE_CONSTANT: &[Kind] = &[Kind::Of, Kind::Semicolon];
-
-// What stands in a `case` by the habit of C, or of conditions.
-const CASES_RULES: &[Rule] = &[
-    Rule {
-        when: &[
-            Test::Body(&[Kind::Case]),
-            Test::Same(Start, Back(1)),
-            Test::Spelled(Back(1), &["break"]),
-            Test::Is(Back(2), &[Kind::Semicolon]),
-        ],
-        told: &[
-            Told::Why(&[Is("a `case` does one statement, and needs no `break`")]),
-            Told::TakeAway(0, Reach::To(Back(2), Back(1))),
-        ],
-        also: &[],
-    },
-    Rule {
-        when: &[
-            Test::Body(&[Kind::Case]),
-            Test::Same(Start, Back(1)),
-            Test::Is(Here, OPERATORS),
-            Test::Is(Back(2), BEFORE_CONSTANT),
-        ],
-        told: &[Told::Why(CONDITION), Told::Help(CONDITIONS)],
-        also: &[],
-    },
-    Rule {
-        when: &[
-            Test::Body(&[Kind::Case]),
-            Test::Same(Start, Here),
-            Test::Is(Here, COMPARES),
-            Test::Is(Back(1), BEFORE_CONSTANT),
-        ],
-        told: &[Told::Why(CONDITION), Told::Help(CONDITIONS)],
-        also: &[],
-    },
-];
-
-// What is told of a declaration among statements.
-const AMONG: &[Piece] = &[Is("declarations stand before `begin`")];
-
-// What is told of the declaration of a variable that begins a statement.
-const MOVED: &[Told] = &[
-    Told::Why(AMONG),
-    Told::Label(Reach::One(Begun), &[Is("the `begin`")]),
-    Told::More(More::Variables),
-];
-
-// Declarations of variables among statements, without `var`.
-const AMONG_RULES: &[Rule] = &[
-    // `i: integer;`
-    Rule {
-        when: &[
-            Test::Is(Here, &[Kind::Colon]),
-            Test::Is(Top, &[Kind::Begin, Kind::Repeat]),
-            Test::Same(Start, Back(1)),
-            Test::Is(Back(1), &[Kind::Name]),
-            Test::Is(Ahead(1), &[Kind::Name]),
-            Test::Is(Ahead(2), &[Kind::Semicolon]),
-        ],
-        told: MOVED,
-        also: &[],
-    },
-    // `a: array ..;`
-    Rule {
-        when: &[
-            Test::Is(Here, &[Kind::Colon]),
-            Test::Is(Top, &[Kind::Begin, Kind::Repeat]),
-            Test::Same(Start, Back(1)),
-            Test::Is(Back(1), &[Kind::Name]),
-            Test::Is(Ahead(1), BEGINS_TYPE),
-        ],
-        told: MOVED,
-        also: &[],
-    },
-    // `a, b: integer;`
-    Rule {
-        when: &[
-            Test::Is(Here, &[Kind::Comma]),
-            Test::Is(Top, &[Kind::Begin, Kind::Repeat]),
-            Test::Same(Start, Back(1)),
-            Test::Is(BehindNames, &[Kind::Colon]),
-        ],
-        told: MOVED,
-        also: &[],
-    },
-    // `integer i;`
-    Rule {
-        when: &[
-            Test::Is(Here, &[Kind::Name]),
-            Test::Holds(Fact::Statements),
-            Test::Same(Start, Back(1)),
-            Test::Spelled(Back(1), TYPES),
-        ],
-        told: &[
-            Told::Why(AMONG),
-            Told::Label(Reach::One(Begun), &[Is("the `begin`")]),
-            Told::Help(&[Is("in the `var` part a variable is declared as `n: integer`")]),
-        ],
-        also: &[],
-    },
-];
 
 /// Proposes to move the declaration of variables that begins the statement, or at the place, before the routines or the
 /// statements of the block, with the word of their part where the block has none.
@@ -221,22 +166,7 @@ fn span_at(from: u32) -> Span {
     Span { from, to: from }
 }
 
-// The rule of several values between parentheses.
-fn several(cx: &Context<'_>) -> Option<&'static Rule> {
-    first_of(cx, LISTS_RULES)
-}
-
-// The rule of what stands in a `case`.
-fn cases(cx: &Context<'_>) -> Option<&'static Rule> {
-    first_of(cx, CASES_RULES)
-}
-
-// The rule of declarations among statements.
-fn among(cx: &Context<'_>) -> Option<&'static Rule> {
-    first_of(cx, AMONG_RULES)
-}
-
 /// The first rule that fits of those of lists, `case` statements and declarations.
-pub(crate) fn in_statements(cx: &Context<'_>) -> Option<&'static Rule> {
-    several(cx).or(cases(cx)).or(among(cx))
+pub(crate) fn in_statements(cx: &Context<'_>) -> Option<Steps> {
+    first_of(cx, IN_STATEMENTS)
 }

@@ -2,192 +2,125 @@
 
 use crate::context::Context;
 use crate::rows::{Part, other_pascal};
-use crate::rule::Piece::{Is, Origin, Token};
 use crate::rule::Place::{Ahead, Back, Here, Start, Top};
-use crate::rule::{Also, Fact, More, Rule, Test, Told};
+use crate::rule::Step::{
+    Advice, Also, Fails, Help, Is, IsNot, Or, Origin, Put, Rule, Same, Says, Spelled, Tell, Token,
+    Touches,
+};
+use crate::rule::{Fact, More, Steps};
 use crate::tell::{Telling, exchange, joined};
 use crate::tests::first_of;
 use ps_scan::Kind;
 
 // The words of real numbers.
-const REALS: &[&str] = &[
-    "real", "sqrt", "sin", "cos", "arctan", "exp", "ln", "trunc", "round",
-];
+const REALS: &str = "real sqrt sin cos arctan exp ln trunc round";
 
-// What is told of a label before a statement.
-const LABEL: &[Told] = &[
-    Told::Says(&[
-        Is("`"),
-        Token(Start),
-        Is("` is a label, and this compiler has none"),
-    ]),
-    Told::Advice(Part::StatementsLeftOut, "1 :"),
-];
+// What is left out; the last rule fits each refusal.
+const LEFT_OUT: Steps = &[
+    // `// a comment`
+    Rule,
+    Is(Here, &[Kind::Slash]),
+    Is(Ahead(1), &[Kind::Slash]),
+    Touches(Here),
+    Says("`//` comes from "),
+    Origin(Part::Statements, "/ /"),
+    Advice(Part::Statements, "/ /"),
+    Tell(More::Braces),
 
-// What is told of files.
-const FILES: &[Also] = &[
-    Also {
-        when: &[Test::Is(Ahead(1), &[Kind::Caret])],
-        told: &[Told::Advice(Part::StatementsLeftOut, "input ^")],
-    },
-    Also {
-        when: &[Test::IsNot(Ahead(1), &[Kind::Caret])],
-        told: &[Told::Help(&[Is(
-            "the files are `input` and `output` alone, and no variable holds one",
-        )])],
-    },
-];
+    // `/* a comment */`
+    Rule,
+    Is(Here, &[Kind::Slash]),
+    Is(Ahead(1), &[Kind::Star]),
+    Touches(Here),
+    Says("`/*` comes from "),
+    Origin(Part::Statements, "/ *"),
+    Advice(Part::Statements, "/ *"),
 
-// A sign of other languages that begins with `/`.
-const SLASHES_RULES: &[Rule] = &[
-    // signs of other languages that begin with `/`
-    Rule {
-        when: &[
-            Test::Is(Here, &[Kind::Slash]),
-            Test::Is(Ahead(1), &[Kind::Slash]),
-            Test::Touches(Here),
-        ],
-        told: &[
-            Told::Says(&[Is("`//` comes from "), Origin(Part::Statements, "/ /")]),
-            Told::Advice(Part::Statements, "/ /"),
-            Told::More(More::Braces),
-        ],
-        also: &[],
-    },
-    Rule {
-        when: &[
-            Test::Is(Here, &[Kind::Slash]),
-            Test::Is(Ahead(1), &[Kind::Star]),
-            Test::Touches(Here),
-        ],
-        told: &[
-            Told::Says(&[Is("`/*` comes from "), Origin(Part::Statements, "/ *")]),
-            Told::Advice(Part::Statements, "/ *"),
-        ],
-        also: &[],
-    },
-    Rule {
-        when: &[
-            Test::Is(Here, &[Kind::Slash]),
-            Test::Is(Ahead(1), &[Kind::Equal]),
-            Test::Touches(Here),
-        ],
-        told: &[
-            Told::Says(&[Is("`/=` comes from "), Origin(Part::Statements, "/ =")]),
-            Told::Advice(Part::Statements, "/ ="),
-        ],
-        also: &[],
-    },
-];
+    // `a /= b`
+    Rule,
+    Is(Here, &[Kind::Slash]),
+    Is(Ahead(1), &[Kind::Equal]),
+    Touches(Here),
+    Says("`/=` comes from "),
+    Origin(Part::Statements, "/ ="),
+    Advice(Part::Statements, "/ ="),
 
-// A second width, a label or a variant part.
-const SMALL_RULES: &[Rule] = &[
-    // a second width
-    Rule {
-        when: &[
-            Test::Is(Here, &[Kind::Colon]),
-            Test::Is(Top, &[Kind::LeftParen]),
-        ],
-        told: &[
-            Told::Says(&[Is("a second width is for real numbers, and this compiler has none")]),
-            Told::More(More::Reals),
-            Told::Advice(Part::StatementsLeftOut, ": 2"),
-        ],
-        also: &[],
-    },
-    // labels before statements
-    Rule {
-        when: &[Test::Is(Here, &[Kind::Number]), Test::Same(Start, Here)],
-        told: LABEL,
-        also: &[],
-    },
-    Rule {
-        when: &[
-            Test::Is(Here, &[Kind::Colon]),
-            Test::Is(Back(1), &[Kind::Number]),
-            Test::Same(Start, Back(1)),
-        ],
-        told: LABEL,
-        also: &[],
-    },
+    // `writeln(a:1:2)`
+    Rule,
+    Is(Here, &[Kind::Colon]),
+    Is(Top, &[Kind::LeftParen]),
+    Says("a second width is for real numbers, and this compiler has none"),
+    Tell(More::Reals),
+    Advice(Part::StatementsLeftOut, ": 2"),
+
+    // `1: a := 2`
+    Rule,
+    Is(Here, &[Kind::Number]),
+    Same(Start, Here),
+    Or,
+    Is(Here, &[Kind::Colon]),
+    Is(Back(1), &[Kind::Number]),
+    Same(Start, Back(1)),
+    Says("`"),
+    Token(Start),
+    Put("` is a label, and this compiler has none"),
+    Advice(Part::StatementsLeftOut, "1 :"),
+
     // a variant part
-    Rule {
-        when: &[Test::Is(Here, &[Kind::Case]), Test::Fails(Fact::Statements)],
-        told: &[
-            Told::Says(&[Is("a record has no variant part in this compiler")]),
-            Told::Advice(Part::DeclarationsLeftOut, "case"),
-        ],
-        also: &[],
-    },
-];
+    Rule,
+    Is(Here, &[Kind::Case]),
+    Fails(Fact::Statements),
+    Says("a record has no variant part in this compiler"),
+    Advice(Part::DeclarationsLeftOut, "case"),
 
-// A program parameter that is neither `input` nor `output`.
-const PARAMETER_RULES: &[Rule] = &[
     // a program parameter that is neither `input` nor `output`
-    Rule {
-        when: &[
-            Test::Is(Here, &[Kind::Name]),
-            Test::Is(Top, &[Kind::LeftParen]),
-            Test::Fails(Fact::InRoutine),
-            Test::Fails(Fact::Headed),
-        ],
-        told: &[
-            Told::Says(&[
-                Is("`"),
-                Token(Here),
-                Is("` is no program parameter here: these are `input` and `output`"),
-            ]),
-            Told::Help(&[Is(
-                "other files are given on the command line: `pascal go p.pas < a.txt > b.txt`",
-            )]),
-        ],
-        also: &[],
-    },
-];
+    Rule,
+    Is(Here, &[Kind::Name]),
+    Is(Top, &[Kind::LeftParen]),
+    Fails(Fact::InRoutine),
+    Fails(Fact::Headed),
+    Says("`"),
+    Token(Here),
+    Put("` is no program parameter here: these are `input` and `output`"),
+    Help("other files are given on the command line: `pascal go p.pas < a.txt > b.txt`"),
 
-// One of these in another place than first in a list of parameters.
-const FILE_RULES: &[Rule] = &[
-    // one of these in another place than first in a list of parameters
-    Rule {
-        when: &[
-            Test::Is(Here, &[Kind::Name]),
-            Test::Spelled(Here, &["input"]),
-        ],
-        told: &[Told::Says(&[
-            Is("`"),
-            Token(Here),
-            Is("` stands only first in `read`, `readln`, `eof` and `eoln`"),
-        ])],
-        also: FILES,
-    },
-    Rule {
-        when: &[
-            Test::Is(Here, &[Kind::Name]),
-            Test::Spelled(Here, &["output"]),
-        ],
-        told: &[Told::Says(&[
-            Is("`"),
-            Token(Here),
-            Is("` stands only first in `write` and `writeln`"),
-        ])],
-        also: FILES,
-    },
-];
+    // `input` elsewhere than first in a list of parameters
+    Rule,
+    Is(Here, &[Kind::Name]),
+    Spelled(Here, "input"),
+    Says("`"),
+    Token(Here),
+    Put("` stands only first in `read`, `readln`, `eof` and `eoln`"),
+    Also,
+    Is(Ahead(1), &[Kind::Caret]),
+    Advice(Part::StatementsLeftOut, "input ^"),
+    Also,
+    IsNot(Ahead(1), &[Kind::Caret]),
+    Help("the files are `input` and `output` alone, and no variable holds one"),
 
-// What is left out; it fits each refusal.
-const LEFT_OUT_RULES: &[Rule] = &[
-    // a name, a word or a sign
-    Rule {
-        when: &[],
-        told: &[
-            Told::Says(&[Is("`"), Token(Here), Is("` is left out of this compiler")]),
-            Told::More(More::LeftOut),
-        ],
-        also: &[Also {
-            when: &[Test::Spelled(Here, REALS)],
-            told: &[Told::More(More::Reals)],
-        }],
-    },
+    // `output` elsewhere
+    Rule,
+    Is(Here, &[Kind::Name]),
+    Spelled(Here, "output"),
+    Says("`"),
+    Token(Here),
+    Put("` stands only first in `write` and `writeln`"),
+    Also,
+    Is(Ahead(1), &[Kind::Caret]),
+    Advice(Part::StatementsLeftOut, "input ^"),
+    Also,
+    IsNot(Ahead(1), &[Kind::Caret]),
+    Help("the files are `input` and `output` alone, and no variable holds one"),
+
+    // another name, word or sign: this fits each refusal
+    Rule,
+    Says("`"),
+    Token(Here),
+    Put("` is left out of this compiler"),
+    Tell(More::LeftOut),
+    Also,
+    Spelled(Here, REALS),
+    Tell(More::Reals),
 ];
 
 /// Tells the advice of the row of the token at the place, and what it exchanges.
@@ -203,36 +136,7 @@ pub(crate) fn advise_left_out(cx: &Context<'_>, to: &mut Telling) {
     }
 }
 
-// The rule of a sign of other languages that begins with `/`.
-fn slashes(cx: &Context<'_>) -> Option<&'static Rule> {
-    first_of(cx, SLASHES_RULES)
-}
-
-// The rule of a second width, a label or a variant part.
-fn small(cx: &Context<'_>) -> Option<&'static Rule> {
-    first_of(cx, SMALL_RULES)
-}
-
-// The rule of a program parameter that is neither `input` nor `output`.
-fn parameter(cx: &Context<'_>) -> Option<&'static Rule> {
-    first_of(cx, PARAMETER_RULES)
-}
-
-// The rule of one of these in another place than first in a list of parameters.
-fn of_file(cx: &Context<'_>) -> Option<&'static Rule> {
-    first_of(cx, FILE_RULES)
-}
-
-// The rule of what is left out; it fits each refusal.
-fn left_out(cx: &Context<'_>) -> Option<&'static Rule> {
-    first_of(cx, LEFT_OUT_RULES)
-}
-
 /// The first rule that fits of those of what is left out; one fits each refusal.
-pub(crate) fn rule_of_left_out(cx: &Context<'_>) -> Option<&'static Rule> {
-    slashes(cx)
-        .or(small(cx))
-        .or(parameter(cx))
-        .or(of_file(cx))
-        .or(left_out(cx))
+pub(crate) fn rule_of_left_out(cx: &Context<'_>) -> Option<Steps> {
+    first_of(cx, LEFT_OUT)
 }

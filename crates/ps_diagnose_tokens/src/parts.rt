@@ -3,370 +3,227 @@
 use crate::context::Context;
 use crate::kinds::{BEGINS_STATEMENT, ENDS_PART, OPERATORS, PARTS, ROUTINES, WORDS};
 use crate::rows::Part;
-use crate::rule::Piece::{Declared, Is, Token};
 use crate::rule::Place::{
     Ahead, Back, Begun, Here, LastDeclared, LastOfPart, Later, List, Routines, SamePart, Top,
 };
-use crate::rule::{Also, Fact, More, Piece, Reach, Rule, Test, Told};
+use crate::rule::Reach::One;
+use crate::rule::Step::{
+    Advice, Also, Declares, Fails, Has, Help, Holds, InPart, Is, IsNot, Label, Move, No, NotInPart,
+    Or, Put, PutBefore, PutBehind, Rule, SeemsDeclared, Spelled, TakeAway, Tell, Token, Why,
+};
+use crate::rule::{Fact, More, Steps};
 use crate::tests::first_of;
 use ps_scan::Kind;
 
-// A part of declarations behind another one, or for the second time.
-const LATER_RULES: &[Rule] = &[
-    Rule {
-        when: &[
-            Test::Is(Here, PARTS),
-            Test::Is(Back(1), &[Kind::Semicolon]),
-            Test::Holds(Fact::Declarations),
-            Test::No(Top),
-            Test::Has(Routines),
-        ],
-        told: &[
-            Told::Why(&[
-                Declared(Here),
-                Is(" are declared before procedures and functions"),
-            ]),
-            Told::Label(Reach::One(Routines), &[Is("the first of them")]),
-            Told::Move(LastOfPart, Later),
-        ],
-        also: &[],
-    },
-    Rule {
-        when: &[
-            Test::Is(Here, PARTS),
-            Test::Is(Back(1), &[Kind::Semicolon]),
-            Test::Holds(Fact::Declarations),
-            Test::No(Top),
-            Test::Has(Later),
-        ],
-        told: &[
-            Told::Why(&[Declared(Here), Is(" are declared before "), Declared(Later)]),
-            Told::Label(
-                Reach::One(Later),
-                &[Is("the `"), Token(Later), Is("` part")],
-            ),
-            Told::Move(LastOfPart, Later),
-        ],
-        also: &[],
-    },
-    Rule {
-        when: &[
-            Test::Is(Here, PARTS),
-            Test::Is(Back(1), &[Kind::Semicolon]),
-            Test::Holds(Fact::Declarations),
-            Test::No(Top),
-            Test::Has(SamePart),
-        ],
-        told: &[
-            Told::Why(&[Is("the `"), Token(Here), Is("` part stands above")]),
-            Told::Label(Reach::One(SamePart), &[Is("here it begins")]),
-            Told::TakeAway(0, Reach::One(Here)),
-        ],
-        also: &[],
-    },
-];
+// Declarations among statements.
+const AMONG: &str = "declarations stand before `begin`";
 
-// A formula, or a record that has no end, among declarations.
-const OPEN_RULES: &[Rule] = &[
+const BEGIN_MISSING: &str = "`begin` is missing before the statements";
+
+// Parts of declarations.
+const IN_DECLARATIONS: Steps = &[
+    // `var` behind procedures and functions
+    Rule,
+    Is(Here, PARTS),
+    Is(Back(1), &[Kind::Semicolon]),
+    Holds(Fact::Declarations),
+    No(Top),
+    Has(Routines),
+    Why(""),
+    Declares(Here),
+    Put(" are declared before procedures and functions"),
+    Label(One(Routines), "the first of them"),
+    Move(LastOfPart, Later),
+
+    // `const` behind `var`
+
+    // `const` behind `var`
+    Rule,
+    Is(Here, PARTS),
+    Is(Back(1), &[Kind::Semicolon]),
+    Holds(Fact::Declarations),
+    No(Top),
+    Has(Later),
+    Why(""),
+    Declares(Here),
+    Put(" are declared before "),
+    Declares(Later),
+    Label(One(Later), "the `"),
+    Token(Later),
+    Put("` part"),
+    Move(LastOfPart, Later),
+
+    // `var` for the second time
+    Rule,
+    Is(Here, PARTS),
+    Is(Back(1), &[Kind::Semicolon]),
+    Holds(Fact::Declarations),
+    No(Top),
+    Has(SamePart),
+    Why("the `"),
+    Token(Here),
+    Put("` part stands above"),
+    Label(One(SamePart), "here it begins"),
+    TakeAway(0, One(Here)),
+
+    // A formula, or a record that has no end, among declarations.
     // an operator in a constant
-    Rule {
-        when: &[
-            Test::Is(Here, OPERATORS),
-            Test::IsNot(Here, &[Kind::Equal]),
-            Test::Is(Back(1), &[Kind::Name, Kind::Number, Kind::Text]),
-            Test::Holds(Fact::Declarations),
-        ],
-        told: &[
-            Told::Why(&[Is("a constant is a number, a string or a name, and no formula")]),
-            Told::Help(&[Is("compute the value, or a variable of it")]),
-        ],
-        also: &[],
-    },
-    // a part or statements behind a record that has no end
-    Rule {
-        when: &[
-            Test::Is(Top, &[Kind::Record]),
-            Test::Is(Here, ENDS_PART),
-            Test::Is(Back(1), &[Kind::Semicolon]),
-        ],
-        told: &[
-            Told::Why(&[Is("`end` is missing before it")]),
-            Told::Label(Reach::One(Top), &[Is("this `record` is not ended")]),
-            Told::PutBefore(Here, "end;", "end; "),
-        ],
-        also: &[],
-    },
-];
 
-// What is told of a word of the language in the place of a name.
-const NO_NAME: &[Told] = &[
-    Told::Why(&[Is("it is a word of the language, and no name")]),
-    Told::Help(&[Is("take another name")]),
+    // `const a = b + 1`
+
+    // `const a = b + 1`
+    Rule,
+    Is(Here, OPERATORS),
+    IsNot(Here, &[Kind::Equal]),
+    Is(Back(1), &[Kind::Name, Kind::Number, Kind::Text]),
+    Holds(Fact::Declarations),
+    Why("a constant is a number, a string or a name, and no formula"),
+    Help("compute the value, or a variable of it"),
+
+    // `begin` behind a record that has no end
+    Rule,
+    Is(Top, &[Kind::Record]),
+    Is(Here, ENDS_PART),
+    Is(Back(1), &[Kind::Semicolon]),
+    Why("`end` is missing before it"),
+    Label(One(Top), "this `record` is not ended"),
+    PutBefore(Here, "end;", "end; "),
 ];
 
 // What stands behind a name that is declared.
 const BEHIND_DECLARED: &[Kind] = &[Kind::Comma, Kind::Colon, Kind::Equal];
 
-// Declarations among statements.
-const AMONG: &[Piece] = &[Is("declarations stand before `begin`")];
+// Words in the place of names, and declarations among statements.
+const IN_STATEMENTS: Steps = &[
+    // a word of the language in the place of a name
+    Rule,
+    Is(Here, WORDS),
+    Is(Back(1), PARTS),
+    Is(Ahead(1), BEHIND_DECLARED),
+    Or,
+    Is(Here, WORDS),
+    Is(Back(1), &[Kind::Program, Kind::Procedure, Kind::Function]),
+    Is(Ahead(1), &[Kind::LeftParen, Kind::Semicolon, Kind::Colon]),
+    Or,
+    Is(Here, WORDS),
+    Is(Ahead(1), &[Kind::Assign]),
+    // A word of the language where a name is listed.
+    Or,
+    Is(Here, WORDS),
+    Is(Back(1), &[Kind::Semicolon]),
+    Fails(Fact::Statements),
+    Is(Ahead(1), BEHIND_DECLARED),
+    Or,
+    Is(Here, WORDS),
+    Is(Back(1), &[Kind::Comma, Kind::LeftParen]),
+    Is(Ahead(1), &[Kind::Comma, Kind::RightParen, Kind::Colon]),
+    Why("it is a word of the language, and no name"),
+    Help("take another name"),
 
-// A word of the language where a name is declared or assigned.
-const NAMES_RULES: &[Rule] = &[
-    Rule {
-        when: &[
-            Test::Is(Here, WORDS),
-            Test::Is(Back(1), PARTS),
-            Test::Is(Ahead(1), BEHIND_DECLARED),
-        ],
-        told: NO_NAME,
-        also: &[],
-    },
-    Rule {
-        when: &[
-            Test::Is(Here, WORDS),
-            Test::Is(Back(1), &[Kind::Program, Kind::Procedure, Kind::Function]),
-            Test::Is(Ahead(1), &[Kind::LeftParen, Kind::Semicolon, Kind::Colon]),
-        ],
-        told: NO_NAME,
-        also: &[],
-    },
-    Rule {
-        when: &[Test::Is(Here, WORDS), Test::Is(Ahead(1), &[Kind::Assign])],
-        told: NO_NAME,
-        also: &[],
-    },
+    // `var begin`
+    Rule,
+    Is(Back(1), PARTS),
+    Is(Here, ENDS_PART),
+    No(Top),
+    Holds(Fact::Declarations),
+    Why("the `"),
+    Token(Back(1)),
+    Put("` part before it declares nothing"),
+    TakeAway(0, One(Back(1))),
+
+    // `var` among statements
+    Rule,
+    Is(Here, PARTS),
+    Holds(Fact::Statements),
+    Why(AMONG),
+    Label(One(Begun), "the `begin`"),
+    Move(LastDeclared, Later),
+    Also,
+    Is(Here, &[Kind::Var]),
+    Advice(Part::Statements, "var"),
+
+    // `procedure` among statements
+    Rule,
+    Is(Here, ROUTINES),
+    Holds(Fact::Statements),
+    Why(AMONG),
+    Label(One(List), "this `begin` is not ended"),
+    Also,
+    Is(Back(1), &[Kind::Semicolon]),
+    PutBefore(Here, "end;", "end; "),
+    Also,
+    IsNot(Back(1), &[Kind::Semicolon]),
+    PutBehind(0, Back(1), "end;", " end;"),
 ];
-
-// A word of the language where a name is listed.
-const LISTED_RULES: &[Rule] = &[
-    Rule {
-        when: &[
-            Test::Is(Here, WORDS),
-            Test::Is(Back(1), &[Kind::Semicolon]),
-            Test::Fails(Fact::Statements),
-            Test::Is(Ahead(1), BEHIND_DECLARED),
-        ],
-        told: NO_NAME,
-        also: &[],
-    },
-    Rule {
-        when: &[
-            Test::Is(Here, WORDS),
-            Test::Is(Back(1), &[Kind::Comma, Kind::LeftParen]),
-            Test::Is(Ahead(1), &[Kind::Comma, Kind::RightParen, Kind::Colon]),
-        ],
-        told: NO_NAME,
-        also: &[],
-    },
-];
-
-// A part without declarations.
-const NOTHING_RULES: &[Rule] = &[
-    // a part without declarations
-    Rule {
-        when: &[
-            Test::Is(Back(1), PARTS),
-            Test::Is(Here, ENDS_PART),
-            Test::No(Top),
-            Test::Holds(Fact::Declarations),
-        ],
-        told: &[
-            Told::Why(&[
-                Is("the `"),
-                Token(Back(1)),
-                Is("` part before it declares nothing"),
-            ]),
-            Told::TakeAway(0, Reach::One(Back(1))),
-        ],
-        also: &[],
-    },
-];
-
-// Declarations among statements.
-const AMONG_STATEMENTS_RULES: &[Rule] = &[
-    // declarations among statements
-    Rule {
-        when: &[Test::Is(Here, PARTS), Test::Holds(Fact::Statements)],
-        told: &[
-            Told::Why(AMONG),
-            Told::Label(Reach::One(Begun), &[Is("the `begin`")]),
-            Told::Move(LastDeclared, Later),
-        ],
-        also: &[Also {
-            when: &[Test::Is(Here, &[Kind::Var])],
-            told: &[Told::Advice(Part::Statements, "var")],
-        }],
-    },
-    Rule {
-        when: &[Test::Is(Here, ROUTINES), Test::Holds(Fact::Statements)],
-        told: &[
-            Told::Why(AMONG),
-            Told::Label(Reach::One(List), &[Is("this `begin` is not ended")]),
-        ],
-        also: &[
-            Also {
-                when: &[Test::Is(Back(1), &[Kind::Semicolon])],
-                told: &[Told::PutBefore(Here, "end;", "end; ")],
-            },
-            Also {
-                when: &[Test::IsNot(Back(1), &[Kind::Semicolon])],
-                told: &[Told::PutBehind(0, Back(1), "end;", " end;")],
-            },
-        ],
-    },
-];
-
-// What is told of statements among declarations: where they begin at the place.
-const BEGINS_HERE: &[Told] = &[
-    Told::Why(BEGIN_MISSING),
-    Told::PutBefore(Here, "begin", "begin "),
-    Told::More(More::Words),
-];
-
-// What is told of statements that begin before the place.
-const BEGINS_BEFORE: &[Told] = &[
-    Told::Why(BEGIN_MISSING),
-    Told::PutBefore(Back(1), "begin", "begin "),
-    Told::More(More::Words),
-];
-
-const BEGIN_MISSING: &[Piece] = &[Is("`begin` is missing before the statements")];
 
 // What stands before a statement in the place of a declaration.
 const BEFORE_START: &[Kind] = &[Kind::Semicolon, Kind::Var, Kind::Type, Kind::Const];
 
-// A statement among declarations.
-const BEGINS_RULES: &[Rule] = &[
-    Rule {
-        when: &[
-            Test::Holds(Fact::Declarations),
-            Test::No(Top),
-            Test::Is(Back(1), &[Kind::Semicolon]),
-            Test::Is(Here, BEGINS_STATEMENT),
-        ],
-        told: BEGINS_HERE,
-        also: &[],
-    },
-    Rule {
-        when: &[
-            Test::Holds(Fact::Declarations),
-            Test::No(Top),
-            Test::Is(Back(1), &[Kind::Semicolon]),
-            Test::Is(Here, &[Kind::Name]),
-            Test::NoPart(PARTS),
-            Test::IsNot(Ahead(1), &[Kind::Name]),
-        ],
-        told: BEGINS_HERE,
-        also: &[],
-    },
-    Rule {
-        when: &[
-            Test::Holds(Fact::Declarations),
-            Test::No(Top),
-            Test::Is(Back(1), &[Kind::Name]),
-            Test::Is(Back(2), BEFORE_START),
-            Test::Is(Here, &[Kind::Assign]),
-            Test::IsNot(Back(2), &[Kind::Var]),
-            Test::Declared(Back(1)),
-        ],
-        told: BEGINS_BEFORE,
-        also: &[],
-    },
+// Statements among declarations.
+const AMONG_DECLARATIONS: Steps = &[
+    // a statement that begins at the place
+    Rule,
+    Holds(Fact::Declarations),
+    No(Top),
+    Is(Back(1), &[Kind::Semicolon]),
+    Is(Here, BEGINS_STATEMENT),
+    Or,
+    Holds(Fact::Declarations),
+    No(Top),
+    Is(Back(1), &[Kind::Semicolon]),
+    Is(Here, &[Kind::Name]),
+    NotInPart(PARTS),
+    IsNot(Ahead(1), &[Kind::Name]),
+    Why(BEGIN_MISSING),
+    PutBefore(Here, "begin", "begin "),
+    Tell(More::Words),
+
+    // a statement that goes on at the place
+    Rule,
+    Holds(Fact::Declarations),
+    No(Top),
+    Is(Back(1), &[Kind::Name]),
+    Is(Back(2), BEFORE_START),
+    Is(Here, &[Kind::Assign]),
+    IsNot(Back(2), &[Kind::Var]),
+    SeemsDeclared(Back(1)),
+    // A statement among declarations that goes on at the place.
+    Or,
+    Holds(Fact::Declarations),
+    No(Top),
+    Is(Back(1), &[Kind::Name]),
+    Is(Back(2), BEFORE_START),
+    Is(Here, &[Kind::LeftParen, Kind::LeftBracket]),
+    Or,
+    Holds(Fact::Declarations),
+    No(Top),
+    Is(Back(1), &[Kind::Name]),
+    Is(Back(2), BEFORE_START),
+    Is(Here, &[Kind::Dot, Kind::Caret]),
+    InPart(&[Kind::Var]),
+    Or,
+    Holds(Fact::Declarations),
+    No(Top),
+    Is(Back(1), &[Kind::Name]),
+    Is(Back(2), BEFORE_START),
+    Is(Here, &[Kind::Semicolon]),
+    Spelled(Back(1), "writeln readln"),
+    Why(BEGIN_MISSING),
+    PutBefore(Back(1), "begin", "begin "),
+    Tell(More::Words),
 ];
-
-// A statement among declarations that goes on at the place.
-const GOES_ON_RULES: &[Rule] = &[
-    Rule {
-        when: &[
-            Test::Holds(Fact::Declarations),
-            Test::No(Top),
-            Test::Is(Back(1), &[Kind::Name]),
-            Test::Is(Back(2), BEFORE_START),
-            Test::Is(Here, &[Kind::LeftParen, Kind::LeftBracket]),
-        ],
-        told: BEGINS_BEFORE,
-        also: &[],
-    },
-    Rule {
-        when: &[
-            Test::Holds(Fact::Declarations),
-            Test::No(Top),
-            Test::Is(Back(1), &[Kind::Name]),
-            Test::Is(Back(2), BEFORE_START),
-            Test::Is(Here, &[Kind::Dot, Kind::Caret]),
-            Test::Part(&[Kind::Var]),
-        ],
-        told: BEGINS_BEFORE,
-        also: &[],
-    },
-    Rule {
-        when: &[
-            Test::Holds(Fact::Declarations),
-            Test::No(Top),
-            Test::Is(Back(1), &[Kind::Name]),
-            Test::Is(Back(2), BEFORE_START),
-            Test::Is(Here, &[Kind::Semicolon]),
-            Test::Spelled(Back(1), &["writeln", "readln"]),
-        ],
-        told: BEGINS_BEFORE,
-        also: &[],
-    },
-];
-
-// The rule of a part of declarations behind another one, or for the second time.
-fn later(cx: &Context<'_>) -> Option<&'static Rule> {
-    first_of(cx, LATER_RULES)
-}
-
-// The rule of a formula, or a record that has no end, among declarations.
-fn open(cx: &Context<'_>) -> Option<&'static Rule> {
-    first_of(cx, OPEN_RULES)
-}
-
-// The rule of a word of the language where a name is declared or assigned.
-fn names(cx: &Context<'_>) -> Option<&'static Rule> {
-    first_of(cx, NAMES_RULES)
-}
-
-// The rule of a word of the language where a name is listed.
-fn listed(cx: &Context<'_>) -> Option<&'static Rule> {
-    first_of(cx, LISTED_RULES)
-}
-
-// The rule of a part without declarations.
-fn nothing(cx: &Context<'_>) -> Option<&'static Rule> {
-    first_of(cx, NOTHING_RULES)
-}
-
-// The rule of declarations among statements.
-fn among_statements(cx: &Context<'_>) -> Option<&'static Rule> {
-    first_of(cx, AMONG_STATEMENTS_RULES)
-}
-
-// The rule of a statement among declarations.
-fn begins(cx: &Context<'_>) -> Option<&'static Rule> {
-    first_of(cx, BEGINS_RULES)
-}
-
-// The rule of a statement among declarations that goes on at the place.
-fn goes_on(cx: &Context<'_>) -> Option<&'static Rule> {
-    first_of(cx, GOES_ON_RULES)
-}
 
 /// The first rule that fits of those of parts of declarations.
-pub(crate) fn in_declarations(cx: &Context<'_>) -> Option<&'static Rule> {
-    later(cx).or(open(cx))
+pub(crate) fn in_declarations(cx: &Context<'_>) -> Option<Steps> {
+    first_of(cx, IN_DECLARATIONS)
 }
 
 /// The first that fits of those of declarations and statements in the place of each other.
-pub(crate) fn in_statements(cx: &Context<'_>) -> Option<&'static Rule> {
-    names(cx)
-        .or(listed(cx))
-        .or(nothing(cx))
-        .or(among_statements(cx))
+pub(crate) fn in_statements(cx: &Context<'_>) -> Option<Steps> {
+    first_of(cx, IN_STATEMENTS)
 }
 
 /// The first that fits of those of statements among declarations.
-pub(crate) fn begin_missing(cx: &Context<'_>) -> Option<&'static Rule> {
-    begins(cx).or(goes_on(cx))
+pub(crate) fn begin_missing(cx: &Context<'_>) -> Option<Steps> {
+    first_of(cx, AMONG_DECLARATIONS)
 }

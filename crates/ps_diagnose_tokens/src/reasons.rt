@@ -7,9 +7,9 @@ use crate::context::{Context, context_of};
 use crate::missing::rule_of_missing;
 use crate::other::{other_here, part_here, tell_row};
 use crate::rows::Part;
-use crate::rule::Piece::{Is, Token};
 use crate::rule::Place::Here;
-use crate::rule::{More, Rule, Told};
+use crate::rule::Step::{Expects, Put, Says, Tell, Token};
+use crate::rule::{More, Steps};
 use crate::scanned::{comment_of_line, rule_of_scanner};
 use crate::tell::{Telling, nothing, refusal};
 use crate::telling::tell_rule;
@@ -21,31 +21,25 @@ use std::alloc::{AllocError, Global};
 use std::mem::replace;
 
 // What is told of constructions that lie too deep.
-const TOO_DEEP: &Rule = &Rule {
-    when: &[],
-    told: &[Told::Says(&[Is("more than 500 constructions lie around this one")])],
-    also: &[],
-};
+const TOO_DEEP: Steps = &[Says("more than 500 constructions lie around this one")];
 
 // What is told where nothing is known.
-const PLAIN: &Rule = &Rule {
-    when: &[],
-    told: &[
-        Told::Expects(&[Is("`"), Token(Here), Is("` cannot stand here")]),
-        Told::More(More::Words),
-    ],
-    also: &[],
-};
+const PLAIN: Steps = &[
+    Expects("`"),
+    Token(Here),
+    Put("` cannot stand here"),
+    Tell(More::Words),
+];
 
 // The first rule that fits of those of what is written otherwise elsewhere.
-fn rule_of_habits(cx: &Context<'_>) -> Option<&'static Rule> {
+fn rule_of_habits(cx: &Context<'_>) -> Option<Steps> {
     slips::in_statements(cx)
         .or(habits::in_statements(cx))
         .or(declaring::in_declarations(cx))
 }
 
 // The first rule that fits of those of assignments, declarations and parts.
-fn rule_of_parts(cx: &Context<'_>) -> Option<&'static Rule> {
+fn rule_of_parts(cx: &Context<'_>) -> Option<Steps> {
     assigned::in_statements(cx)
         .or(assigned::in_declarations(cx))
         .or(parts::in_declarations(cx))
@@ -55,7 +49,7 @@ fn rule_of_parts(cx: &Context<'_>) -> Option<&'static Rule> {
 }
 
 // The first rule that fits of those of statements and lists.
-fn rule_of_statements(cx: &Context<'_>) -> Option<&'static Rule> {
+fn rule_of_statements(cx: &Context<'_>) -> Option<Steps> {
     ended::at_the_end(cx)
         .or(compared::compared(cx))
         .or(lists::of_values(cx))
@@ -64,7 +58,7 @@ fn rule_of_statements(cx: &Context<'_>) -> Option<&'static Rule> {
 }
 
 // The rule of a token that cannot stand where it does, behind those of the ends of the text and the table of other Pascals.
-fn rule_of_tables(cx: &Context<'_>) -> &'static Rule {
+fn rule_of_tables(cx: &Context<'_>) -> Steps {
     rule_of_habits(cx)
         .or(rule_of_parts(cx))
         .or(rule_of_statements(cx))
@@ -73,7 +67,7 @@ fn rule_of_tables(cx: &Context<'_>) -> &'static Rule {
 }
 
 // The rule of a refusal by the scanner or the parser; none where the table of other Pascals has a row for it.
-fn rule_of(cx: &Context<'_>, number: u8) -> Option<&'static Rule> {
+fn rule_of(cx: &Context<'_>, number: u8) -> Option<Steps> {
     match number {
         20 => bounds::at_the_ends(cx),
         21 => Some(TOO_DEEP),

@@ -1,5 +1,5 @@
-//! The rules by which reasons are found and told: where one fits, by the tokens round the place, and what is told of it. The tables of them stand beside,
-//! and the first rule that fits counts.
+//! The rules by which reasons are found and told: where one fits, by the tokens round the place, and what is told of it. The tables of them stand beside:
+//! flat lists of steps, since what proving a function costs grows fast with the depth of the constants that it names.
 
 use crate::letters::Class;
 use crate::rows::Part;
@@ -88,7 +88,9 @@ pub(crate) enum Place {
     /// The token behind the expression that begins behind the place.
     NextExpressionEnd,
     /// The first token of a kind in the expression before the place.
-    First(&'static [Kind]),
+    First(Kind),
+    /// The first comparison there.
+    FirstComparison,
     /// The `and` or `or` behind the first comparison of the expression.
     Joint,
     /// The operator before the left operand of that.
@@ -112,35 +114,6 @@ pub(crate) enum Reach {
     UpTo(Place, Place),
     /// What stands between two.
     Between(Place, Place),
-}
-
-/// A piece of what is told.
-pub(crate) enum Piece {
-    Is(&'static str),
-    /// A token as it is told.
-    Token(Place),
-    /// Several, as they are told.
-    Tokens(Reach),
-    /// The line and the column of a token.
-    Where(Place),
-    /// The line of a token.
-    Line(Place),
-    /// What the part declares that a token begins.
-    Declared(Place),
-    /// The word of the routine that the last `end` ended.
-    Routine,
-    /// Where a row of the table comes from.
-    Origin(Part, &'static str),
-    /// The character at the place.
-    Letter,
-    /// Its number, as U+2018.
-    Code,
-    /// The number of the byte there.
-    Byte,
-    /// What the place has.
-    Found,
-    /// The bytes from it on that are of a class.
-    Run(Class),
 }
 
 /// What is so round the place, or not.
@@ -175,78 +148,6 @@ pub(crate) enum Fact {
     Brace,
     /// A digit stands behind the sign there.
     Digit,
-}
-
-/// What a rule asks.
-pub(crate) enum Test {
-    Holds(Fact),
-    Fails(Fact),
-    /// A token is of one of some kinds.
-    Is(Place, &'static [Kind]),
-    /// A token is of none of them.
-    IsNot(Place, &'static [Kind]),
-    /// A token is spelled as one of some words.
-    Spelled(Place, &'static [&'static str]),
-    /// A token is a name that the text seems to declare.
-    Declared(Place),
-    /// There is a token.
-    Has(Place),
-    /// There is none.
-    No(Place),
-    /// Two are one.
-    Same(Place, Place),
-    /// Two have the same bytes.
-    Alike(Place, Place),
-    /// One stands behind another one, or is the same.
-    From(Place, Place),
-    /// Nothing stands between a token and the next.
-    Touches(Place),
-    /// Tokens are told as they are, and not as dots.
-    IsShown(Reach),
-    /// The place is in the head of a construction that begins with one of some kinds.
-    Head(&'static [Kind]),
-    /// It is behind the head of one.
-    Body(&'static [Kind]),
-    /// The open part of declarations is one of some.
-    Part(&'static [Kind]),
-    /// It is none of them.
-    NoPart(&'static [Kind]),
-    /// The character at the place is such a sign.
-    Sign(Sign),
-    /// A text stands there.
-    Stands(&'static str),
-}
-
-/// What is told.
-pub(crate) enum Told {
-    /// That the token cannot stand there, and why.
-    Why(&'static [Piece]),
-    /// A sentence.
-    Says(&'static [Piece]),
-    /// A sentence beside which is told what could stand there.
-    Expects(&'static [Piece]),
-    /// A second place.
-    Label(Reach, &'static [Piece]),
-    Note(&'static [Piece]),
-    Help(&'static [Piece]),
-    /// The advice of a row of the table.
-    Advice(Part, &'static str),
-    /// Proposes to exchange tokens.
-    Exchange(Reach, &'static [Piece]),
-    /// Proposes, at a cost, to take tokens away.
-    TakeAway(u32, Reach),
-    /// Proposes to put something before a token: how it is told, and how it is put.
-    PutBefore(Place, &'static str, &'static str),
-    /// Proposes, at a cost, to put something behind a token.
-    PutBehind(u32, Place, &'static str, &'static str),
-    /// Proposes to move the declarations from the place to a token before another one.
-    Move(Place, Place),
-    /// Proposes to exchange the sign at the place, with spaces where what is put would touch a name.
-    ExchangeSign(&'static str, &'static str),
-    /// Proposes to put something behind the line: how it is told, and how it is put.
-    CloseLine(&'static str, &'static str),
-    /// What only code can tell.
-    More(More),
 }
 
 /// What only code can tell.
@@ -299,15 +200,113 @@ pub(crate) enum More {
     Compound,
 }
 
-/// What is told beside where more holds.
-pub(crate) struct Also {
-    pub(crate) when: &'static [Test],
-    pub(crate) told: &'static [Told],
+/// A step of a table of rules. A rule goes from one `Rule` to the next: its tests, and behind them what is told where they hold. What begins a text is
+/// told with the pieces that stand behind it.
+pub(crate) enum Step {
+    /// A rule begins.
+    Rule,
+    /// The rule fits too where the tests behind this hold, in the place of those before it. It stands before all that is told.
+    Or,
+    /// What is told beside begins, behind tests of its own.
+    Also,
+
+    // Tests.
+    /// Something is so.
+    Holds(Fact),
+    /// It is not so.
+    Fails(Fact),
+    /// A token is of one of some kinds.
+    Is(Place, &'static [Kind]),
+    /// A token is of none of them.
+    IsNot(Place, &'static [Kind]),
+    /// A token is spelled as one of some words, with a space between two.
+    Spelled(Place, &'static str),
+    /// A token is a name that the text seems to declare.
+    SeemsDeclared(Place),
+    /// There is a token.
+    Has(Place),
+    /// There is none.
+    No(Place),
+    /// Two are one.
+    Same(Place, Place),
+    /// Two have the same bytes.
+    Alike(Place, Place),
+    /// One stands behind another one, or is the same.
+    NotBefore(Place, Place),
+    /// Nothing stands between a token and the next.
+    Touches(Place),
+    /// Tokens are told as they are, and not as dots.
+    IsShown(Reach),
+    /// The place is in the head of a construction that begins with one of some kinds.
+    InHead(&'static [Kind]),
+    /// It is behind the head of one.
+    InBody(&'static [Kind]),
+    /// The open part of declarations is one of some.
+    InPart(&'static [Kind]),
+    /// It is none of them.
+    NotInPart(&'static [Kind]),
+    /// The character at the place is such a sign.
+    IsSign(Sign),
+    /// A text stands there.
+    Stands(&'static str),
+
+    // What is told.
+    /// That the token cannot stand there, and why.
+    Why(&'static str),
+    /// A sentence.
+    Says(&'static str),
+    /// A sentence beside which is told what could stand there.
+    Expects(&'static str),
+    /// A second place.
+    Label(Reach, &'static str),
+    Note(&'static str),
+    Help(&'static str),
+    /// The advice of a row of the table of other Pascals.
+    Advice(Part, &'static str),
+    /// Proposes to exchange tokens.
+    Exchange(Reach, &'static str),
+    /// Proposes, at a cost, to take tokens away.
+    TakeAway(u32, Reach),
+    /// Proposes to put something before a token: how it is told, and how it is put.
+    PutBefore(Place, &'static str, &'static str),
+    /// Proposes, at a cost, to put something behind a token.
+    PutBehind(u32, Place, &'static str, &'static str),
+    /// Proposes to move the declarations from the place to a token before another one.
+    Move(Place, Place),
+    /// Proposes to exchange the sign at the place, with spaces where what is put would touch a name.
+    ExchangeSign(&'static str, &'static str),
+    /// Proposes to put something behind the line: how it is told, and how it is put.
+    CloseLine(&'static str, &'static str),
+    /// What only code can tell.
+    Tell(More),
+
+    // Pieces of the text that stands before them.
+    Put(&'static str),
+    /// A token as it is told.
+    Token(Place),
+    /// Several, as they are told.
+    Tokens(Reach),
+    /// The line and the column of a token.
+    Where(Place),
+    /// The line of a token.
+    Line(Place),
+    /// What the part declares that a token begins.
+    Declares(Place),
+    /// The word of the routine that the last `end` ended.
+    Routine,
+    /// Where a row of the table comes from.
+    Origin(Part, &'static str),
+    /// The character at the place.
+    Letter,
+    /// Its number, as U+2018.
+    Code,
+    /// The number of the byte there.
+    Byte,
+    /// What the place has.
+    Found,
+    /// The bytes from it on that are of a class.
+    Run(Class),
 }
 
-/// A rule: what is told where all of its tests hold.
-pub(crate) struct Rule {
-    pub(crate) when: &'static [Test],
-    pub(crate) told: &'static [Told],
-    pub(crate) also: &'static [Also],
-}
+/// Rules behind one another, of which the first that fits counts; or what is left of them from a step on.
+pub(crate) type Steps = &'static [Step];

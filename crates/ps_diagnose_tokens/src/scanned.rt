@@ -3,9 +3,11 @@
 use crate::context::Context;
 use crate::letters::{Class, byte_at, byte_before, end_of, is_in, span_at, start_of, trimmed_end};
 use crate::rows::Part;
-use crate::rule::Piece::{Found, Is, Run};
 use crate::rule::Place::Back;
-use crate::rule::{Also, More, Rule, Test, Told};
+use crate::rule::Step::{
+    Advice, Also, CloseLine, Found, Help, Is, IsNot, Put, Rule, Run, Says, Spelled, Stands, Tell,
+};
+use crate::rule::{More, Steps};
 use crate::signs::rule_of_byte;
 use crate::slashes::exchange_slashes;
 use crate::tell::{Telling, exchange, joined, put_at, shown, take_away};
@@ -15,48 +17,36 @@ use ps_scan::Kind;
 use ps_text::Span;
 
 // A comment that is never closed.
-const COMMENT: &[Rule] = &[
-    Rule {
-        when: &[Test::Stands("{")],
-        told: &[
-            Told::Says(&[Is("this comment is never closed")]),
-            Told::CloseLine("}", " }"),
-            Told::More(More::InnerComment),
-        ],
-        also: &[],
-    },
-    Rule {
-        when: &[],
-        told: &[
-            Told::Says(&[Is("this comment is never closed")]),
-            Told::CloseLine("*)", " *)"),
-            Told::More(More::InnerComment),
-        ],
-        also: &[],
-    },
+const COMMENT: Steps = &[
+    // `{ ..`
+    Rule,
+    Stands("{"),
+    Says("this comment is never closed"),
+    CloseLine("}", " }"),
+    Tell(More::InnerComment),
+
+    // `(* ..`
+    Rule,
+    Says("this comment is never closed"),
+    CloseLine("*)", " *)"),
+    Tell(More::InnerComment),
 ];
 
 // A string that is not closed on its line.
-const STRING: &[Rule] = &[Rule {
-    when: &[],
-    told: &[
-        Told::Says(&[Is("this string is not closed on its line")]),
-        Told::More(More::InnerApostrophe),
-        Told::More(More::StringBefore),
-        Told::More(More::StringEnd),
-    ],
-    also: &[],
-}];
+const STRING: Steps = &[
+    Rule,
+    Says("this string is not closed on its line"),
+    Tell(More::InnerApostrophe),
+    Tell(More::StringBefore),
+    Tell(More::StringEnd),
+];
 
 // A string without a character.
-const EMPTY: &[Rule] = &[Rule {
-    when: &[],
-    told: &[
-        Told::Says(&[Is("a string has at least one character")]),
-        Told::More(More::EmptyString),
-    ],
-    also: &[],
-}];
+const EMPTY: Steps = &[
+    Rule,
+    Says("a string has at least one character"),
+    Tell(More::EmptyString),
+];
 
 // What declares the name that stands behind it.
 const DECLARES: &[Kind] = &[
@@ -69,63 +59,49 @@ const DECLARES: &[Kind] = &[
 ];
 
 // A word that touches the number before it.
-const SEPARATOR: &[Rule] = &[
-    Rule {
-        when: &[Test::Stands("x"), Test::Spelled(Back(1), &["0"])],
-        told: &[
-            Told::Says(&[Is("`0"), Run(Class::Name), Is("` is no number of Pascal")]),
-            Told::Help(&[Is("numbers are decimal")]),
-        ],
-        also: &[],
-    },
-    Rule {
-        when: &[],
-        told: &[Told::Says(&[
-            Is("`"),
-            Run(Class::Name),
-            Is("` touches the number before it"),
-        ])],
-        also: &[
-            Also {
-                when: &[Test::Is(Back(2), DECLARES)],
-                told: &[Told::Help(&[Is("a name begins with a letter")])],
-            },
-            Also {
-                when: &[Test::IsNot(Back(2), DECLARES)],
-                told: &[Told::More(More::Separators)],
-            },
-        ],
-    },
+const SEPARATOR: Steps = &[
+    // `0x1F`
+    Rule,
+    Stands("x"),
+    Spelled(Back(1), "0"),
+    Says("`0"),
+    Run(Class::Name),
+    Put("` is no number of Pascal"),
+    Help("numbers are decimal"),
+
+    // `10a`
+    Rule,
+    Says("`"),
+    Run(Class::Name),
+    Put("` touches the number before it"),
+    Also,
+    Is(Back(2), DECLARES),
+    Help("a name begins with a letter"),
+    Also,
+    IsNot(Back(2), DECLARES),
+    Tell(More::Separators),
 ];
 
 // A number above the largest one.
-const NUMBER: &[Rule] = &[Rule {
-    when: &[],
-    told: &[Told::Says(&[
-        Is("`"),
-        Run(Class::Digit),
-        Is("` is above 2147483647, the largest integer"),
-    ])],
-    also: &[],
-}];
+const NUMBER: Steps = &[
+    Rule,
+    Says("`"),
+    Run(Class::Digit),
+    Put("` is above 2147483647, the largest integer"),
+];
 
 // A real number.
-const REAL: &[Rule] = &[Rule {
-    when: &[],
-    told: &[
-        Told::Says(&[
-            Is("`"),
-            Found,
-            Is("` is a real number, and this compiler has none"),
-        ]),
-        Told::More(More::Reals),
-        Told::Advice(Part::StatementsLeftOut, "1 . 5"),
-    ],
-    also: &[],
-}];
+const REAL: Steps = &[
+    Rule,
+    Says("`"),
+    Found,
+    Put("` is a real number, and this compiler has none"),
+    Tell(More::Reals),
+    Advice(Part::StatementsLeftOut, "1 . 5"),
+];
 
 /// The rule of a refusal by the scanner.
-pub(crate) fn rule_of_scanner(cx: &Context<'_>, number: u8) -> Option<&'static Rule> {
+pub(crate) fn rule_of_scanner(cx: &Context<'_>, number: u8) -> Option<Steps> {
     match number {
         10 => rule_of_byte(cx),
         11 => first_of(cx, COMMENT),

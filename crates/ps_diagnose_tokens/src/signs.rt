@@ -3,10 +3,13 @@
 use crate::context::Context;
 use crate::letters::{Class, byte_at, byte_before, end_of, is_in, letter_at, span_at};
 use crate::rows::Part;
-use crate::rule::Piece::{Byte, Code, Is, Letter, Origin};
 use crate::rule::Place::Back;
-use crate::rule::{Fact, More, Rule, Test, Told};
-use crate::table::{signs_of_programs, signs_of_statements};
+use crate::rule::Step::{
+    Advice, Byte, Code, ExchangeSign, Fails, Has, Help, IsSign, Letter, Or, Origin, Put, Rule,
+    Says, Stands, Tell,
+};
+use crate::rule::{Fact, More, Steps};
+use crate::table::{SIGNS_OF_PROGRAMS, SIGNS_OF_STATEMENTS};
 use crate::tell::{Telling, Text, empty, exchange, exchange_text, joined, shown};
 use crate::tests::first_of;
 
@@ -59,229 +62,141 @@ pub(crate) fn sign_here(cx: &Context<'_>) -> Sign {
     sign_of(letter_of(letter_here(cx)))
 }
 
-// What is told of a typographic quote in the place of an apostrophe.
-const SLANTED: &[Told] = &[
-    Told::Says(&[
-        Is("the slanted quote `"),
-        Letter,
-        Is("` ("),
-        Code,
-        Is(") is no apostrophe"),
-    ]),
-    Told::More(More::Quotes),
+// Quotes, underscores, spaces, dashes, letters, bytes that are no sign, and comments behind `#`.
+const KNOWN: Steps = &[
+    // quotes of typography
+    Rule,
+    IsSign(Sign::SlantedQuote),
+    Or,
+    IsSign(Sign::SlantedDouble),
+    Says("the slanted quote `"),
+    Letter,
+    Put("` ("),
+    Code,
+    Put(") is no apostrophe"),
+    Tell(More::Quotes),
+
+    // `"`
+    Rule,
+    IsSign(Sign::DoubleQuote),
+    Says("`\"` is not used in standard Pascal: it comes from "),
+    Origin(Part::Statements, "\""),
+    Advice(Part::Statements, "\""),
+    Tell(More::Quotes),
+
+    // `my_name`
+    Rule,
+    IsSign(Sign::Underscore),
+    Says("a name has only letters and digits, and no `_`"),
+    Advice(Part::Statements, "_"),
+    Tell(More::Underscores),
+
+    // spaces of another kind
+    Rule,
+    IsSign(Sign::Space),
+    Says("a space of another kind ("),
+    Code,
+    Put(") stands here"),
+    Tell(More::Spaces),
+
+    // dashes of typography
+    Rule,
+    IsSign(Sign::Dash),
+    Says("the dash `"),
+    Letter,
+    Put("` ("),
+    Code,
+    Put(") is no minus sign"),
+    Tell(More::Minus),
+
+    // letters that are none of a name
+    Rule,
+    IsSign(Sign::Letter),
+    Says("`"),
+    Letter,
+    Put("` ("),
+    Code,
+    Put(") is no letter of a name"),
+    Help("names are made of the letters a to z and of digits"),
+
+    // controls, and bytes that are no character
+    Rule,
+    IsSign(Sign::Control),
+    Says("the byte "),
+    Byte,
+    Put(" cannot stand here"),
+
+    // `# a comment`
+    Rule,
+    Stands("# "),
+    Or,
+    Stands("#"),
+    Has(Back(1)),
+    Fails(Fact::Digit),
+    Says("`#` is not used in standard Pascal: it comes from Python"),
+    Help("A comment stands between `{` and `}`."),
+    Tell(More::Hash),
 ];
 
-// Quotes, underscores and spaces.
-const QUOTES: &[Rule] = &[
-    Rule {
-        when: &[Test::Sign(Sign::SlantedQuote)],
-        told: SLANTED,
-        also: &[],
-    },
-    Rule {
-        when: &[Test::Sign(Sign::SlantedDouble)],
-        told: SLANTED,
-        also: &[],
-    },
-    Rule {
-        when: &[Test::Sign(Sign::DoubleQuote)],
-        told: &[
-            Told::Says(&[
-                Is("`\"` is not used in standard Pascal: it comes from "),
-                Origin(Part::Statements, "\""),
-            ]),
-            Told::Advice(Part::Statements, "\""),
-            Told::More(More::Quotes),
-        ],
-        also: &[],
-    },
-    Rule {
-        when: &[Test::Sign(Sign::Underscore)],
-        told: &[
-            Told::Says(&[Is("a name has only letters and digits, and no `_`")]),
-            Told::Advice(Part::Statements, "_"),
-            Told::More(More::Underscores),
-        ],
-        also: &[],
-    },
-    Rule {
-        when: &[Test::Sign(Sign::Space)],
-        told: &[
-            Told::Says(&[Is("a space of another kind ("), Code, Is(") stands here")]),
-            Told::More(More::Spaces),
-        ],
-        also: &[],
-    },
+// Signs of mathematics, the end of a comment, and all other signs.
+const OTHERS: Steps = &[
+    // `}` behind a comment that ended before
+    Rule,
+    Stands("}"),
+    Says("no comment is open that this `}` could end"),
+    Help("a comment ends at its first `}` or `*)`, also where another one begins in it"),
+
+    // the sign of less or equal
+    Rule,
+    Stands("\u{2264}"),
+    Says("`\u{2264}` is not used in standard Pascal"),
+    ExchangeSign("\u{2264}", "<="),
+
+    // the sign of greater or equal
+    Rule,
+    Stands("\u{2265}"),
+    Says("`\u{2265}` is not used in standard Pascal"),
+    ExchangeSign("\u{2265}", ">="),
+
+    // the sign of not equal
+    Rule,
+    Stands("\u{2260}"),
+    Says("`\u{2260}` is not used in standard Pascal"),
+    ExchangeSign("\u{2260}", "<>"),
+
+    // the sign of products
+    Rule,
+    Stands("\u{D7}"),
+    Says("`\u{D7}` is not used in standard Pascal"),
+    ExchangeSign("\u{D7}", "*"),
+
+    // the sign of quotients
+    Rule,
+    Stands("\u{F7}"),
+    Says("`\u{F7}` is not used in standard Pascal"),
+    ExchangeSign("\u{F7}", "div"),
+
+    // another sign
+    Rule,
+    Says("`"),
+    Letter,
+    Put("` is not used in standard Pascal"),
 ];
-
-// What is told of a comment behind `#`.
-const HASH_COMMENT: &[Told] = &[
-    Told::Says(&[Is("`#` is not used in standard Pascal: it comes from Python")]),
-    Told::Help(&[Is("A comment stands between `{` and `}`.")]),
-    Told::More(More::Hash),
-];
-
-// Comments behind `#`.
-const HASHES: &[Rule] = &[
-    Rule {
-        when: &[Test::Stands("# ")],
-        told: HASH_COMMENT,
-        also: &[],
-    },
-    Rule {
-        when: &[
-            Test::Stands("#"),
-            Test::Has(Back(1)),
-            Test::Fails(Fact::Digit),
-        ],
-        told: HASH_COMMENT,
-        also: &[],
-    },
-];
-
-// Dashes, letters and bytes that are no sign.
-const LETTERS: &[Rule] = &[
-    Rule {
-        when: &[Test::Sign(Sign::Dash)],
-        told: &[
-            Told::Says(&[
-                Is("the dash `"),
-                Letter,
-                Is("` ("),
-                Code,
-                Is(") is no minus sign"),
-            ]),
-            Told::More(More::Minus),
-        ],
-        also: &[],
-    },
-    Rule {
-        when: &[Test::Sign(Sign::Letter)],
-        told: &[
-            Told::Says(&[
-                Is("`"),
-                Letter,
-                Is("` ("),
-                Code,
-                Is(") is no letter of a name"),
-            ]),
-            Told::Help(&[Is("names are made of the letters a to z and of digits")]),
-        ],
-        also: &[],
-    },
-    Rule {
-        when: &[Test::Sign(Sign::Control)],
-        told: &[Told::Says(&[Is("the byte "), Byte, Is(" cannot stand here")])],
-        also: &[],
-    },
-];
-
-// What is told of a sign that nothing is known of.
-const UNKNOWN: &[Told] = &[Told::Says(&[Is("`"), Letter, Is("` is not used in standard Pascal")])];
-
-// Signs of mathematics, and the end of a comment.
-const MATHEMATICS: &[Rule] = &[
-    Rule {
-        when: &[Test::Stands("}")],
-        told: &[
-            Told::Says(&[Is("no comment is open that this `}` could end")]),
-            Told::Help(&[Is(
-                "a comment ends at its first `}` or `*)`, also where another one begins in it",
-            )]),
-        ],
-        also: &[],
-    },
-    Rule {
-        when: &[Test::Stands("\u{2264}")],
-        told: &[
-            Told::Says(&[Is("`\u{2264}` is not used in standard Pascal")]),
-            Told::ExchangeSign("\u{2264}", "<="),
-        ],
-        also: &[],
-    },
-    Rule {
-        when: &[Test::Stands("\u{2265}")],
-        told: &[
-            Told::Says(&[Is("`\u{2265}` is not used in standard Pascal")]),
-            Told::ExchangeSign("\u{2265}", ">="),
-        ],
-        also: &[],
-    },
-    Rule {
-        when: &[Test::Stands("\u{2260}")],
-        told: &[
-            Told::Says(&[Is("`\u{2260}` is not used in standard Pascal")]),
-            Told::ExchangeSign("\u{2260}", "<>"),
-        ],
-        also: &[],
-    },
-    Rule {
-        when: &[Test::Stands("\u{D7}")],
-        told: &[
-            Told::Says(&[Is("`\u{D7}` is not used in standard Pascal")]),
-            Told::ExchangeSign("\u{D7}", "*"),
-        ],
-        also: &[],
-    },
-    Rule {
-        when: &[Test::Stands("\u{F7}")],
-        told: &[
-            Told::Says(&[Is("`\u{F7}` is not used in standard Pascal")]),
-            Told::ExchangeSign("\u{F7}", "div"),
-        ],
-        also: &[],
-    },
-];
-
-// Signs that nothing is known of.
-const OTHERS: &[Rule] = &[Rule {
-    when: &[],
-    told: UNKNOWN,
-    also: &[],
-}];
 
 // The rule of a sign that the table of other Pascals has.
-fn rule_of_table(cx: &Context<'_>) -> Option<&'static Rule> {
+fn rule_of_table(cx: &Context<'_>) -> Option<Steps> {
     if cx.tokens.is_empty() {
-        signs_of_programs(cx)
+        first_of(cx, SIGNS_OF_PROGRAMS)
     } else {
-        signs_of_statements(cx)
+        first_of(cx, SIGNS_OF_STATEMENTS)
     }
 }
 
-// The rule of a quote, an underscore or a space.
-fn rule_of_quote(cx: &Context<'_>) -> Option<&'static Rule> {
-    first_of(cx, QUOTES)
-}
-
-// The rule of a comment behind `#`.
-fn rule_of_hash(cx: &Context<'_>) -> Option<&'static Rule> {
-    first_of(cx, HASHES)
-}
-
-// The rule of a dash, a letter or a byte.
-fn rule_of_letter(cx: &Context<'_>) -> Option<&'static Rule> {
-    first_of(cx, LETTERS)
-}
-
-// The rule of a sign of mathematics.
-fn rule_of_mathematics(cx: &Context<'_>) -> Option<&'static Rule> {
-    first_of(cx, MATHEMATICS)
-}
-
-// The rule of any other sign.
-fn rule_of_other(cx: &Context<'_>) -> Option<&'static Rule> {
-    first_of(cx, OTHERS)
-}
-
 /// The rule of a byte that begins no token.
-pub(crate) fn rule_of_byte(cx: &Context<'_>) -> Option<&'static Rule> {
-    rule_of_quote(cx)
-        .or(rule_of_letter(cx))
-        .or(rule_of_hash(cx))
+pub(crate) fn rule_of_byte(cx: &Context<'_>) -> Option<Steps> {
+    first_of(cx, KNOWN)
         .or(rule_of_table(cx))
-        .or(rule_of_mathematics(cx))
-        .or(rule_of_other(cx))
+        .or(first_of(cx, OTHERS))
 }
 
 /// Puts the number of the character at the place, as U+2018.

@@ -2,11 +2,9 @@
 //! behind them counts too (`..`), where it comes from, its number, what it is exchanged for behind `=`, and what to do; a tab stands between two.
 //! Written by tools/others, and laid out by rt fmt. Signs that begin no token are rules.
 
-use crate::context::Context;
 use crate::rows::Part;
-use crate::rule::Piece::Is;
-use crate::rule::{More, Rule, Test, Told};
-use crate::tests::first_of;
+use crate::rule::Step::{ExchangeSign, Help, Rule, Says, Stands, Tell};
+use crate::rule::{More, Steps};
 
 const PROGRAMS_1: &str =
     "unit\t\t\tTurbo\t20\t\tThere are no units: a program is one text.\nlibrary\t\t\tTurbo\t20\t\tThere are no libraries: a program is one text.\nmodule\t\t\tExtended\t20\t\tThere are no modules: a program is one text.\nbegin\t\t\tTurbo\t20\t\tA program begins with a heading: `program name(output);`.\nuses\t\t\tTurbo\t20\t\tThere are no units: leave the line out; required procedures need none.\nimport\t\t\tExtended\t20\t\tThere are no modules: leave the line out.\n#\t\t\tC\t10\t\tNothing is brought in from other files: leave the line out.\nint\t\t\tC\t20\t\tA program is `program name(output);`, declarations, `begin`, statements and `end.`";
@@ -77,155 +75,77 @@ pub(crate) fn text_at(number: usize) -> &'static str {
     }
 }
 
-const PROGRAMS_SIGNS_1: &[Rule] = &[Rule {
-    when: &[Test::Stands("#")],
-    told: &[
-        Told::Says(&[Is("`#` is not used in standard Pascal: it comes from C")]),
-        Told::Help(&[Is("Nothing is brought in from other files: leave the line out.")]),
-        Told::More(More::Character),
-    ],
-    also: &[],
-}];
-
-/// The rule of a sign that begins no token, of the part Programs.
-pub(crate) fn signs_of_programs(cx: &Context<'_>) -> Option<&'static Rule> {
-    first_of(cx, PROGRAMS_SIGNS_1)
-}
-
-const STATEMENTS_SIGNS_1: &[Rule] = &[
-    Rule {
-        when: &[Test::Stands("!=")],
-        told: &[
-            Told::Says(&[Is("`!=` is not used in standard Pascal: it comes from C")]),
-            Told::Help(&[Is("What is not equal is `<>`, and `not` turns a condition round.")]),
-            Told::ExchangeSign("!=", "<>"),
-        ],
-        also: &[],
-    },
-    Rule {
-        when: &[Test::Stands("!")],
-        told: &[
-            Told::Says(&[Is("`!` is not used in standard Pascal: it comes from C")]),
-            Told::Help(&[Is("What turns a condition round is `not`.")]),
-            Told::ExchangeSign("!", "not"),
-        ],
-        also: &[],
-    },
-    Rule {
-        when: &[Test::Stands("?")],
-        told: &[
-            Told::Says(&[Is("`?` is not used in standard Pascal: it comes from C")]),
-            Told::Help(&[Is("A choice is an `if`: `if i > j then n := 3 else n := 4`.")]),
-        ],
-        also: &[],
-    },
-    Rule {
-        when: &[Test::Stands("&&")],
-        told: &[
-            Told::Says(&[Is("`&&` is not used in standard Pascal: it comes from C")]),
-            Told::Help(&[Is("Write `and`; both sides are always computed.")]),
-            Told::ExchangeSign("&&", "and"),
-        ],
-        also: &[],
-    },
-    Rule {
-        when: &[Test::Stands("||")],
-        told: &[
-            Told::Says(&[Is("`||` is not used in standard Pascal: it comes from C")]),
-            Told::Help(&[Is("Write `or`; both sides are always computed.")]),
-            Told::ExchangeSign("||", "or"),
-        ],
-        also: &[],
-    },
+/// The rules of the signs that begin no token, of the part Programs.
+pub(crate) const SIGNS_OF_PROGRAMS: Steps = &[
+    Rule,
+    Stands("#"),
+    Says("`#` is not used in standard Pascal: it comes from C"),
+    Help("Nothing is brought in from other files: leave the line out."),
+    Tell(More::Character),
 ];
 
-/// The rule of a sign that begins no token, of the part Statements.
-pub(crate) fn signs_of_statements(cx: &Context<'_>) -> Option<&'static Rule> {
-    first_of(cx, STATEMENTS_SIGNS_1).or(more_of_statements_2(cx))
-}
-
-const STATEMENTS_SIGNS_2: &[Rule] = &[
-    Rule {
-        when: &[Test::Stands("&")],
-        told: &[
-            Told::Says(&[Is("`&` is not used in standard Pascal: it comes from C")]),
-            Told::Help(&[Is("Write `and`; both sides are always computed.")]),
-            Told::ExchangeSign("&", "and"),
-        ],
-        also: &[],
-    },
-    Rule {
-        when: &[Test::Stands("|")],
-        told: &[
-            Told::Says(&[Is("`|` is not used in standard Pascal: it comes from C")]),
-            Told::Help(&[Is("Write `or`; both sides are always computed.")]),
-            Told::ExchangeSign("|", "or"),
-        ],
-        also: &[],
-    },
-    Rule {
-        when: &[Test::Stands("%")],
-        told: &[
-            Told::Says(&[Is("`%` is not used in standard Pascal: it comes from C")]),
-            Told::Help(&[Is("The remainder is `mod`.")]),
-            Told::ExchangeSign("%", "mod"),
-        ],
-        also: &[],
-    },
-    Rule {
-        when: &[Test::Stands("\\")],
-        told: &[
-            Told::Says(&[Is("`\\` is not used in standard Pascal: it comes from BASIC")]),
-            Told::Help(&[Is("The quotient is `div`.")]),
-            Told::ExchangeSign("\\", "div"),
-        ],
-        also: &[],
-    },
-    Rule {
-        when: &[Test::Stands("\"")],
-        told: &[
-            Told::Says(&[Is("`\"` is not used in standard Pascal: it comes from C")]),
-            Told::Help(&[Is("A string stands between apostrophes.")]),
-        ],
-        also: &[],
-    },
+/// The rules of the signs that begin no token, of the part Statements.
+pub(crate) const SIGNS_OF_STATEMENTS: Steps = &[
+    Rule,
+    Stands("!="),
+    Says("`!=` is not used in standard Pascal: it comes from C"),
+    Help("What is not equal is `<>`, and `not` turns a condition round."),
+    ExchangeSign("!=", "<>"),
+    Rule,
+    Stands("!"),
+    Says("`!` is not used in standard Pascal: it comes from C"),
+    Help("What turns a condition round is `not`."),
+    ExchangeSign("!", "not"),
+    Rule,
+    Stands("?"),
+    Says("`?` is not used in standard Pascal: it comes from C"),
+    Help("A choice is an `if`: `if i > j then n := 3 else n := 4`."),
+    Rule,
+    Stands("&&"),
+    Says("`&&` is not used in standard Pascal: it comes from C"),
+    Help("Write `and`; both sides are always computed."),
+    ExchangeSign("&&", "and"),
+    Rule,
+    Stands("||"),
+    Says("`||` is not used in standard Pascal: it comes from C"),
+    Help("Write `or`; both sides are always computed."),
+    ExchangeSign("||", "or"),
+    Rule,
+    Stands("&"),
+    Says("`&` is not used in standard Pascal: it comes from C"),
+    Help("Write `and`; both sides are always computed."),
+    ExchangeSign("&", "and"),
+    Rule,
+    Stands("|"),
+    Says("`|` is not used in standard Pascal: it comes from C"),
+    Help("Write `or`; both sides are always computed."),
+    ExchangeSign("|", "or"),
+    Rule,
+    Stands("%"),
+    Says("`%` is not used in standard Pascal: it comes from C"),
+    Help("The remainder is `mod`."),
+    ExchangeSign("%", "mod"),
+    Rule,
+    Stands("\\"),
+    Says("`\\` is not used in standard Pascal: it comes from BASIC"),
+    Help("The quotient is `div`."),
+    ExchangeSign("\\", "div"),
+    Rule,
+    Stands("\""),
+    Says("`\"` is not used in standard Pascal: it comes from C"),
+    Help("A string stands between apostrophes."),
+    Rule,
+    Stands("_"),
+    Says("`_` is not used in standard Pascal: it comes from Turbo Pascal"),
+    Help("Names are letters and digits: `firstOne`."),
+    Rule,
+    Stands("#"),
+    Says("`#` is not used in standard Pascal: it comes from Turbo Pascal"),
+    Help("The character of a number is `chr(65)`."),
+    Tell(More::Character),
+    Rule,
+    Stands("$"),
+    Says("`$` is not used in standard Pascal: it comes from Turbo Pascal"),
+    Help("Numbers are decimal."),
+    Tell(More::Decimal),
 ];
-
-// The same of further signs of the part Statements.
-fn more_of_statements_2(cx: &Context<'_>) -> Option<&'static Rule> {
-    first_of(cx, STATEMENTS_SIGNS_2).or(more_of_statements_3(cx))
-}
-
-const STATEMENTS_SIGNS_3: &[Rule] = &[
-    Rule {
-        when: &[Test::Stands("_")],
-        told: &[
-            Told::Says(&[Is("`_` is not used in standard Pascal: it comes from Turbo Pascal")]),
-            Told::Help(&[Is("Names are letters and digits: `firstOne`.")]),
-        ],
-        also: &[],
-    },
-    Rule {
-        when: &[Test::Stands("#")],
-        told: &[
-            Told::Says(&[Is("`#` is not used in standard Pascal: it comes from Turbo Pascal")]),
-            Told::Help(&[Is("The character of a number is `chr(65)`.")]),
-            Told::More(More::Character),
-        ],
-        also: &[],
-    },
-    Rule {
-        when: &[Test::Stands("$")],
-        told: &[
-            Told::Says(&[Is("`$` is not used in standard Pascal: it comes from Turbo Pascal")]),
-            Told::Help(&[Is("Numbers are decimal.")]),
-            Told::More(More::Decimal),
-        ],
-        also: &[],
-    },
-];
-
-// The same of further signs of the part Statements.
-fn more_of_statements_3(cx: &Context<'_>) -> Option<&'static Rule> {
-    first_of(cx, STATEMENTS_SIGNS_3)
-}

@@ -10,7 +10,7 @@ use crate::letters::byte_at;
 use crate::places::{number_of, part_of, span_of};
 use crate::reals::note_others;
 use crate::rows::{Part, other_pascal};
-use crate::rule::{Also, More, Piece, Place, Reach, Rule, Told};
+use crate::rule::{More, Place, Step, Steps};
 use crate::scanned::{
     close_line, close_string, double_apostrophe, fill_string, label_comment, open_earlier,
     propose_closed, separate, shown_from,
@@ -22,68 +22,75 @@ use crate::signs::{
 use crate::slashes::{exchange_hash, exchange_slashes};
 use crate::spelled::propose_words;
 use crate::tell::{
-    Telling, Text, empty, exchange_text, joined, move_up, place_of, put_before, put_behind,
-    refusal, shown, take_away,
+    Telling, Text, exchange_text, joined, move_up, place_of, put_before, put_behind, refusal,
+    shown, take_away,
 };
-use crate::tests::all_hold;
+use crate::tests::holds;
 use crate::underscores::exchange_underscores;
 
-/// Tells what a rule tells.
-pub(crate) fn tell_rule(cx: &Context<'_>, to: &mut Telling, rule: &'static Rule) {
-    tell_all(cx, to, rule.told);
-    tell_also(cx, to, rule.also);
-}
-
-// Tells what a rule tells beside.
-fn tell_also(cx: &Context<'_>, to: &mut Telling, also: &'static [Also]) {
-    for more in also.iter() {
-        if all_hold(cx, more.when) {
-            tell_all(cx, to, more.told);
+/// Tells what a rule tells: the steps behind its tests, up to the next rule.
+pub(crate) fn tell_rule(cx: &Context<'_>, to: &mut Telling, steps: Steps) {
+    let mut is_told = true;
+    for (at, step) in steps.iter().enumerate() {
+        match step {
+            Step::Rule => return,
+            Step::Also => is_told = true,
+            _ if is_told => is_told = tell_step(cx, to, step, behind(steps, at)),
+            _ => {}
         }
     }
 }
 
-// Tells all of some things.
-fn tell_all(cx: &Context<'_>, to: &mut Telling, told: &'static [Told]) {
-    for one in told.iter() {
-        tell(cx, to, one);
+// The steps behind one.
+fn behind(steps: Steps, at: usize) -> Steps {
+    steps.get(at.saturating_add(1)..).unwrap_or(&[])
+}
+
+// Tells a step that is no test, and whether what stands behind it is told.
+fn tell_step(cx: &Context<'_>, to: &mut Telling, step: &'static Step, behind: Steps) -> bool {
+    match holds(cx, step) {
+        Some(holds) => holds,
+        None => {
+            tell(cx, to, step, behind);
+            true
+        }
     }
 }
 
-// Tells one thing.
-fn tell(cx: &Context<'_>, to: &mut Telling, told: &'static Told) {
-    match told {
-        Told::Why(pieces) => say_why(cx, to, pieces),
-        Told::Says(pieces) => to.say(text_of(cx, pieces)),
-        Told::Expects(pieces) => {
+// Tells one thing, with the pieces that stand behind it.
+fn tell(cx: &Context<'_>, to: &mut Telling, step: &'static Step, pieces: Steps) {
+    match step {
+        Step::Why(text) => say_why(cx, to, text, pieces),
+        Step::Says(text) => to.say(text_of(cx, text, pieces)),
+        Step::Expects(text) => {
             to.draft.expects = true;
-            to.say(text_of(cx, pieces));
+            to.say(text_of(cx, text, pieces));
         }
-        Told::Label(reach, pieces) => to.label(span_of(cx, reach), text_of(cx, pieces)),
-        Told::Note(pieces) => to.note(text_of(cx, pieces)),
-        Told::Help(pieces) => to.help(text_of(cx, pieces)),
-        Told::Advice(part, word) => advise(cx, to, *part, word),
-        Told::More(more) => tell_more(cx, to, more),
-        _ => propose(cx, to, told),
+        Step::Label(reach, text) => to.label(span_of(cx, reach), text_of(cx, text, pieces)),
+        Step::Note(text) => to.note(text_of(cx, text, pieces)),
+        Step::Help(text) => to.help(text_of(cx, text, pieces)),
+        Step::Advice(part, word) => advise(cx, to, *part, word),
+        Step::Tell(more) => tell_more(cx, to, more),
+        Step::Exchange(reach, text) => {
+            exchange_text(cx, to, span_of(cx, reach), text_of(cx, text, pieces));
+        }
+        _ => propose(cx, to, step),
     }
 }
 
 // Proposes a change.
-fn propose(cx: &Context<'_>, to: &mut Telling, told: &'static Told) {
-    match told {
-        Told::Exchange(reach, pieces) => {
-            exchange_text(cx, to, span_of(cx, reach), text_of(cx, pieces));
-        }
-        Told::TakeAway(cost, reach) => take_away(cx, to, *cost, span_of(cx, reach)),
-        Told::PutBefore(place, told, put) => {
+fn propose(cx: &Context<'_>, to: &mut Telling, step: &'static Step) {
+    match step {
+        Step::TakeAway(cost, reach) => take_away(cx, to, *cost, span_of(cx, reach)),
+        Step::PutBefore(place, told, put) => {
             put_before(cx, to, at_or_here(cx, *place), told, put)
         }
-        Told::PutBehind(cost, place, told, put) => {
+        Step::PutBehind(cost, place, told, put) => {
             put_behind(cx, to, *cost, at_or_here(cx, *place), told, put)
         }
-        Told::Move(last, before) => propose_move(cx, to, *last, *before),
-        Told::ExchangeSign(sign, put) => exchange_sign(cx, to, sign, put),
-        Told::CloseLine(told, put) => close_line(cx, to, told, put),
+        Step::Move(last, before) => propose_move(cx, to, *last, *before),
+        Step::ExchangeSign(sign, put) => exchange_sign(cx, to, sign, put),
+        Step::CloseLine(told, put) => close_line(cx, to, told, put),
         _ => {}
     }
 }
@@ -130,38 +137,42 @@ fn at_or_here(cx: &Context<'_>, place: Place) -> usize {
     number_of(cx, place).unwrap_or(cx.at)
 }
 
-// Puts pieces behind one another.
-fn put_pieces(cx: &Context<'_>, out: &mut Text, pieces: &'static [Piece]) {
-    for piece in pieces.iter() {
-        put_piece(cx, out, piece);
+// Puts pieces behind one another, up to a step that is none.
+fn put_pieces(cx: &Context<'_>, out: &mut Text, steps: Steps) {
+    for step in steps.iter() {
+        if !put_piece(cx, out, step) {
+            return;
+        }
     }
 }
 
-// Puts a piece.
-fn put_piece(cx: &Context<'_>, out: &mut Text, piece: &'static Piece) {
-    match piece {
-        Piece::Is(text) => out.put(text),
-        Piece::Token(place) => out.put(cx.told(at_or_here(cx, *place))),
-        Piece::Tokens(reach) => out.put(shown(cx.piece(span_of(cx, reach)))),
-        Piece::Where(place) => out.put_place(cx, cx.span(at_or_here(cx, *place)).from),
-        Piece::Line(place) => out.put_number(line_of(cx, at_or_here(cx, *place))),
-        Piece::Declared(place) => out.put(declared_by(cx.kind(at_or_here(cx, *place)))),
-        Piece::Routine => out.put(routine(cx)),
-        Piece::Origin(part, word) => out.put(origin(*part, word)),
-        _ => put_bytes(cx, out, piece),
+// Puts a step that is a piece, and tells whether it is.
+fn put_piece(cx: &Context<'_>, out: &mut Text, step: &'static Step) -> bool {
+    match step {
+        Step::Put(text) => out.put(text),
+        Step::Token(place) => out.put(cx.told(at_or_here(cx, *place))),
+        Step::Tokens(reach) => out.put(shown(cx.piece(span_of(cx, reach)))),
+        Step::Where(place) => out.put_place(cx, cx.span(at_or_here(cx, *place)).from),
+        Step::Line(place) => out.put_number(line_of(cx, at_or_here(cx, *place))),
+        Step::Declares(place) => out.put(declared_by(cx.kind(at_or_here(cx, *place)))),
+        Step::Routine => out.put(routine(cx)),
+        Step::Origin(part, word) => out.put(origin(*part, word)),
+        _ => return put_bytes(cx, out, step),
     }
+    true
 }
 
 // Puts a piece of the bytes at the place.
-fn put_bytes(cx: &Context<'_>, out: &mut Text, piece: &'static Piece) {
-    match piece {
-        Piece::Letter => out.put(letter_here(cx)),
-        Piece::Code => put_code(cx, out),
-        Piece::Byte => out.put_number(byte_at(cx.bytes, cx.place.from as usize) as u32),
-        Piece::Found => out.put(shown(cx.piece(cx.place))),
-        Piece::Run(class) => out.put(shown_from(cx, cx.place.from as usize, *class)),
-        _ => {}
+fn put_bytes(cx: &Context<'_>, out: &mut Text, step: &'static Step) -> bool {
+    match step {
+        Step::Letter => out.put(letter_here(cx)),
+        Step::Code => put_code(cx, out),
+        Step::Byte => out.put_number(byte_at(cx.bytes, cx.place.from as usize) as u32),
+        Step::Found => out.put(shown(cx.piece(cx.place))),
+        Step::Run(class) => out.put(shown_from(cx, cx.place.from as usize, *class)),
+        _ => return false,
     }
+    true
 }
 
 // The line of a token.
@@ -186,19 +197,20 @@ fn origin(part: Part, word: &str) -> &'static str {
     }
 }
 
-// The pieces as one text.
-fn text_of(cx: &Context<'_>, pieces: &'static [Piece]) -> Text {
-    let mut out = empty(cx.alloc);
+// A text with the pieces that stand behind it.
+fn text_of(cx: &Context<'_>, text: &str, pieces: Steps) -> Text {
+    let mut out = joined(cx, &[text]);
     put_pieces(cx, &mut out, pieces);
     out
 }
 
 // Tells that the token cannot stand there, and why.
-fn say_why(cx: &Context<'_>, to: &mut Telling, pieces: &'static [Piece]) {
-    let mut text = refusal(cx);
-    put_pieces(cx, &mut text, pieces);
+fn say_why(cx: &Context<'_>, to: &mut Telling, text: &str, pieces: Steps) {
+    let mut out = refusal(cx);
+    out.put(text);
+    put_pieces(cx, &mut out, pieces);
     to.draft.expects = true;
-    to.say(text);
+    to.say(out);
 }
 
 /// Tells the advice of a row of the table.

@@ -1,66 +1,87 @@
-//! Whether the tests of a rule hold.
+//! Which rule fits: whether its tests hold.
 
 use crate::context::Context;
 use crate::kinds::OPERATORS;
 use crate::letters::byte_at;
 use crate::places::{number_of, span_of};
-use crate::rule::{Fact, Place, Rule, Test};
+use crate::rule::{Fact, Place, Step, Steps};
 use crate::signs::sign_here;
 use crate::spread::next_of;
 use crate::tell::shown;
 use crate::walk::Stage;
 use ps_scan::Kind;
 
-/// Whether all of some tests hold.
-pub(crate) fn all_hold(cx: &Context<'_>, tests: &[Test]) -> bool {
-    for test in tests.iter() {
-        if !holds(cx, test) {
-            return false;
-        }
-    }
-    true
+// How far a rule fits.
+#[derive(Clone, Copy)]
+enum Fit {
+    /// One of its tests does not hold.
+    No,
+    /// All hold so far.
+    SoFar,
+    /// All before an `Or` hold.
+    Yes,
 }
 
-/// The first rule that fits, if one does.
-pub(crate) fn first_of(cx: &Context<'_>, rules: &'static [Rule]) -> Option<&'static Rule> {
-    for rule in rules.iter() {
-        if all_hold(cx, rule.when) {
-            return Some(rule);
+/// What the first rule that fits tells, if one does: the steps behind its tests.
+pub(crate) fn first_of(cx: &Context<'_>, rules: Steps) -> Option<Steps> {
+    let mut fit = Fit::No;
+    for (at, step) in rules.iter().enumerate() {
+        match fit_behind(cx, fit, step) {
+            Some(next) => fit = next,
+            None => return rules.get(at..),
         }
     }
     None
 }
 
-// Whether a test holds.
-fn holds(cx: &Context<'_>, test: &Test) -> bool {
-    match test {
-        Test::Holds(fact) => is_so(cx, fact),
-        Test::Fails(fact) => !is_so(cx, fact),
-        Test::Is(place, kinds) => is_of(cx, *place, kinds),
-        Test::IsNot(place, kinds) => !is_of(cx, *place, kinds),
-        Test::Spelled(place, words) => is_spelled(cx, *place, words),
-        Test::Has(place) => number_of(cx, *place).is_some(),
-        Test::No(place) => number_of(cx, *place).is_none(),
-        Test::Same(a, b) => are_same(cx, *a, *b),
-        _ => holds_further(cx, test),
+// How far a rule fits behind a step; none where it fits, and the step is told.
+fn fit_behind(cx: &Context<'_>, fit: Fit, step: &Step) -> Option<Fit> {
+    match (step, fit) {
+        (Step::Rule, _) | (Step::Or, Fit::No) => Some(Fit::SoFar),
+        (Step::Or, _) => Some(Fit::Yes),
+        (_, Fit::No) => Some(Fit::No),
+        _ => fit_of_test(fit, holds(cx, step)?),
+    }
+}
+
+// How far a rule fits behind a test.
+fn fit_of_test(fit: Fit, holds: bool) -> Option<Fit> {
+    match fit {
+        Fit::SoFar if !holds => Some(Fit::No),
+        _ => Some(fit),
+    }
+}
+
+/// Whether a test holds; none of a step that is no test.
+pub(crate) fn holds(cx: &Context<'_>, step: &Step) -> Option<bool> {
+    match step {
+        Step::Holds(fact) => Some(is_so(cx, fact)),
+        Step::Fails(fact) => Some(!is_so(cx, fact)),
+        Step::Is(place, kinds) => Some(is_of(cx, *place, kinds)),
+        Step::IsNot(place, kinds) => Some(!is_of(cx, *place, kinds)),
+        Step::Spelled(place, words) => Some(is_spelled(cx, *place, words)),
+        Step::Has(place) => Some(number_of(cx, *place).is_some()),
+        Step::No(place) => Some(number_of(cx, *place).is_none()),
+        Step::Same(a, b) => Some(are_same(cx, *a, *b)),
+        Step::Alike(a, b) => Some(text_at(cx, *a) == text_at(cx, *b)),
+        Step::NotBefore(later, earlier) => Some(is_from(cx, *later, *earlier)),
+        _ => holds_further(cx, step),
     }
 }
 
 // Whether a test of another kind holds.
-fn holds_further(cx: &Context<'_>, test: &Test) -> bool {
-    match test {
-        Test::Alike(a, b) => text_at(cx, *a) == text_at(cx, *b),
-        Test::From(later, earlier) => is_from(cx, *later, *earlier),
-        Test::Declared(place) => is_declared(cx, *place),
-        Test::Touches(place) => touches_next(cx, *place),
-        Test::IsShown(reach) => shown(cx.piece(span_of(cx, reach))) != "..",
-        Test::Head(kinds) => is_in(cx, kinds, true),
-        Test::Body(kinds) => is_in(cx, kinds, false),
-        Test::Part(kinds) => is_in_part(cx, kinds),
-        Test::NoPart(kinds) => !is_in_part(cx, kinds),
-        Test::Sign(sign) => sign_here(cx) == *sign,
-        Test::Stands(text) => stands(cx, text),
-        _ => false,
+fn holds_further(cx: &Context<'_>, step: &Step) -> Option<bool> {
+    match step {
+        Step::SeemsDeclared(place) => Some(is_declared(cx, *place)),
+        Step::Touches(place) => Some(touches_next(cx, *place)),
+        Step::IsShown(reach) => Some(shown(cx.piece(span_of(cx, reach))) != ".."),
+        Step::InHead(kinds) => Some(is_in(cx, kinds, true)),
+        Step::InBody(kinds) => Some(is_in(cx, kinds, false)),
+        Step::InPart(kinds) => Some(is_in_part(cx, kinds)),
+        Step::NotInPart(kinds) => Some(!is_in_part(cx, kinds)),
+        Step::IsSign(sign) => Some(sign_here(cx) == *sign),
+        Step::Stands(text) => Some(stands(cx, text)),
+        _ => None,
     }
 }
 
@@ -86,10 +107,10 @@ fn text_at<'a>(cx: &Context<'a>, place: Place) -> &'a [u8] {
     }
 }
 
-// Whether a token is spelled as one of some words.
-fn is_spelled(cx: &Context<'_>, place: Place, words: &[&str]) -> bool {
+// Whether a token is spelled as one of some words, with a space between two.
+fn is_spelled(cx: &Context<'_>, place: Place, words: &str) -> bool {
     let text = text_at(cx, place);
-    for word in words.iter() {
+    for word in words.split(' ') {
         if text.eq_ignore_ascii_case(word.as_bytes()) {
             return true;
         }
