@@ -3,7 +3,7 @@
 use crate::context::Context;
 use crate::facts::{is_text, variable_in};
 use crate::spot::Spot;
-use crate::why::{Change, Help, Mark, Why, told};
+use crate::why::{Change, Help, Mark, Why};
 use ps_diagnose_outline::{Form, Point, Type};
 use ps_scan::Token;
 use ps_syntax::{Expr, Variable};
@@ -14,22 +14,22 @@ const LONGEST: u32 = 100;
 
 impl<'a> Context<'a> {
     /// A value that cannot be assigned.
-    pub(crate) fn not_assignable(&self) -> Option<Why> {
+    pub(crate) fn not_assignable(&self, why: &mut Why) -> bool {
         for spot in self.spots.iter().rev() {
             match spot {
                 Spot::Assignment(variable, value) => {
-                    return self.wrong_assignment(variable, value);
+                    return self.wrong_assignment(variable, value, why);
                 }
                 Spot::Passed(name, number, value) => {
-                    return self.wrong_value(*name, *number, value);
+                    return self.wrong_value(*name, *number, value, why);
                 }
                 _ => {}
             }
         }
-        None
+        false
     }
 
-    fn wrong_assignment(&self, variable: &Variable, value: &Expr) -> Option<Why> {
+    fn wrong_assignment(&self, variable: &Variable, value: &Expr, why: &mut Why) -> bool {
         let wanted = self.told(self.outline.type_of_variable(variable));
         match (wanted, self.told_expr(value)) {
             (Some(wanted), Some(given)) => {
@@ -39,59 +39,59 @@ impl<'a> Context<'a> {
                     wanted,
                     given,
                 };
-                Some(self.unassignable(target, value))
+                self.unassignable(target, value, why);
+                true
             }
-            _ => None,
+            _ => false,
         }
     }
 
-    fn unassignable(&self, target: Target, value: &Expr) -> Why {
-        if let Some(why) = self.wrong_string(target, value) {
-            return why;
-        }
-        if let Some(why) = self.own_types(target, value) {
-            return why;
+    fn unassignable(&self, target: Target, value: &Expr, why: &mut Why) {
+        if self.wrong_string(target, value, why) || self.own_types(target, value, why) {
+            return;
         }
         let text = self.expr_span(value);
-        let why = told("@t is not assignable to `@y`, @u")
-            .ty(target.given)
-            .other(target.text)
-            .second(target.wanted)
-            .declared(target.name)
-            .changed(self.value_change(target.wanted, target.given, text))
-            .helped(self.value_help(target.wanted, target.given, text));
-        self.with_structure(why, target, value)
+        why.form = "@t is not assignable to `@y`, @u";
+        why.ty = target.given;
+        why.other = target.text;
+        why.second = target.wanted;
+        why.mark = Mark::Declared(target.name);
+        why.change = self.value_change(target.wanted, target.given, text);
+        why.help = self.value_help(target.wanted, target.given, text);
+        self.with_structure(target, value, why);
     }
 
     // Strings of two lengths, or one for a character.
-    fn wrong_string(&self, target: Target, value: &Expr) -> Option<Why> {
+    fn wrong_string(&self, target: Target, value: &Expr, why: &mut Why) -> bool {
         let lengths = (
             self.outline.string_length(target.given),
             self.outline.string_length(target.wanted),
         );
         match lengths {
             (Some(length), Some(other)) if length != other => {
-                Some(self.wrong_length(target, self.expr_span(value), length, other))
+                self.wrong_length(target, self.expr_span(value), length, other, why);
+                true
             }
             (Some(length), _) if self.is_char(target.wanted) => {
-                Some(string_for_char(target, length))
+                string_for_char(target, length, why);
+                true
             }
-            _ => None,
+            _ => false,
         }
     }
 
-    fn wrong_length(&self, target: Target, text: Span, length: u32, other: u32) -> Why {
-        told("a string of @N characters is not assignable to `@y`, which has @M")
-            .other(target.text)
-            .number(i64::from(length))
-            .further(i64::from(other))
-            .declared(target.name)
-            .changed(self.filled(text, length, other))
-            .helped(if length > other {
-                Help::Is("`@y` takes it as a packed array [1..@N] of char")
-            } else {
-                Help::None
-            })
+    fn wrong_length(&self, target: Target, text: Span, length: u32, other: u32, why: &mut Why) {
+        why.form = "a string of @N characters is not assignable to `@y`, which has @M";
+        why.other = target.text;
+        why.number = i64::from(length);
+        why.further = i64::from(other);
+        why.mark = Mark::Declared(target.name);
+        why.change = self.filled(text, length, other);
+        why.help = if length > other {
+            Help::Is("`@y` takes it as a packed array [1..@N] of char")
+        } else {
+            Help::None
+        };
     }
 
     /// A string that is filled with spaces up to a length.
@@ -105,30 +105,33 @@ impl<'a> Context<'a> {
     }
 
     // Two variables whose types are of one form, each by itself.
-    fn own_types(&self, target: Target, value: &Expr) -> Option<Why> {
+    fn own_types(&self, target: Target, value: &Expr, why: &mut Why) -> bool {
         match variable_in(value) {
             Some(other) if self.is_one_form(target.wanted, target.given) => {
-                self.types_apart(target, self.variable_span(other))
+                self.types_apart(target, self.variable_span(other), why)
             }
-            _ => None,
+            _ => false,
         }
     }
 
-    fn types_apart(&self, target: Target, text: Span) -> Option<Why> {
+    fn types_apart(&self, target: Target, text: Span, why: &mut Why) -> bool {
         match (
             self.denoter_token(target.given),
             self.denoter_token(target.wanted),
         ) {
-            (Some(place), Some(own)) => Some(
-                told(
-                    "`@x` is not assignable to `@y`: each has a type of its own, though of one form",
-                ).text(text)
-                    .other(target.text)
-                    .marked(Mark::TypeOf(place.span, text))
-                    .marked(Mark::TypeOf(own.span, target.text))
-                    .help("declare both in one list, `a, b: ..`, or by the name of one type"),
-            ),
-            _ => None,
+            (Some(place), Some(own)) => {
+                why.form =
+                    "`@x` is not assignable to `@y`: each has a type of its own, though of one form";
+                why.text = text;
+                why.other = target.text;
+                why.mark = Mark::TypeOf(place.span, text);
+                why.next_mark = Mark::TypeOf(own.span, target.text);
+                why.help = Help::Is(
+                    "declare both in one list, `a, b: ..`, or by the name of one type",
+                );
+                true
+            }
+            _ => false,
         }
     }
 
@@ -257,33 +260,36 @@ impl<'a> Context<'a> {
     }
 
     // What is done with arrays, records and pointers in place of an assignment.
-    fn with_structure(&self, why: Why, target: Target, value: &Expr) -> Why {
+    fn with_structure(&self, target: Target, value: &Expr, why: &mut Why) {
         match self.outline.form(target.wanted) {
             Some(Form::Array { index, .. }) => {
                 if is_text(value) {
-                    return self.with_packed(why, target.wanted);
+                    self.with_packed(target.wanted, why);
+                } else if self.is_set(target.given) {
+                    why.add_help(Help::Is("its components are assigned one by one"));
+                } else {
+                    self.with_components(index, self.expr_span(value), why);
                 }
-                if self.is_set(target.given) {
-                    return why.help("its components are assigned one by one");
-                }
-                self.with_components(why, index, self.expr_span(value))
             }
-            Some(Form::Record(region)) => why.helped(self.field_help(
-                "a value is assigned to a field, as `@a.@b := ..`",
-                target.text,
-                region,
-            )),
-            Some(Form::Pointer(_)) => why
-                .help("what it points to is `@y^`, made by `new(@y)`")
-                .changed(Change::Behind(target.text, "", "^")),
-            _ => why,
+            Some(Form::Record(region)) => {
+                why.add_help(self.field_help(
+                    "a value is assigned to a field, as `@a.@b := ..`",
+                    target.text,
+                    region,
+                ));
+            }
+            Some(Form::Pointer(_)) => {
+                why.add_help(Help::Is("what it points to is `@y^`, made by `new(@y)`"));
+                why.add_change(Change::Behind(target.text, "", "^"));
+            }
+            _ => {}
         }
     }
 
     // A string for an array that is no string type.
-    fn with_packed(&self, why: Why, wanted: Type) -> Why {
-        why.help("a string type is a packed array [1..n] of char")
-            .changed(self.packed_change(wanted))
+    fn with_packed(&self, wanted: Type, why: &mut Why) {
+        why.add_help(Help::Is("a string type is a packed array [1..n] of char"));
+        why.add_change(self.packed_change(wanted));
     }
 
     fn packed_change(&self, wanted: Type) -> Change {
@@ -298,82 +304,81 @@ impl<'a> Context<'a> {
     }
 
     // A loop that assigns to each component.
-    fn with_components(&self, why: Why, index: Option<Type>, value: Span) -> Why {
+    fn with_components(&self, index: Option<Type>, value: Span, why: &mut Why) {
         let bounds = match index {
             Some(index) => self.outline.bounds(index),
             None => None,
         };
         match bounds {
-            Some((low, high)) => why
-                .help_of(
+            Some((low, high)) => {
+                why.add_help(Help::Of(
                     "its components are assigned one by one: for i := @n to @m do @y[i] := @a",
                     value,
-                )
-                .number(low)
-                .further(high),
-            None => why.help("its components are assigned one by one, in a loop"),
+                ));
+                why.number = low;
+                why.further = high;
+            }
+            None => {
+                why.add_help(Help::Is("its components are assigned one by one, in a loop"));
+            }
         }
     }
 
     // A value that cannot be passed.
-    fn wrong_value(&self, routine: Span, number: u32, value: &Expr) -> Option<Why> {
-        match self.outline.declared(routine) {
-            Some(point) => match self.formal(point, number) {
-                Some(formal) => self.wrong_passing(routine, formal, value),
-                None => None,
-            },
-            None => None,
+    fn wrong_value(&self, routine: Span, number: u32, value: &Expr, why: &mut Why) -> bool {
+        match self.formal_of(routine, number) {
+            Some(formal) => self.wrong_passing(routine, formal, value, why),
+            None => false,
         }
     }
 
-    fn wrong_passing(&self, routine: Span, formal: Point, value: &Expr) -> Option<Why> {
+    fn wrong_passing(&self, routine: Span, formal: Point, value: &Expr, why: &mut Why) -> bool {
         match (self.told(formal.ty), self.told_expr(value)) {
-            (Some(wanted), Some(given)) => match self.own_types_passed(routine, formal, value) {
-                Some(why) => Some(why),
-                None => {
-                    let text = self.expr_span(value);
-                    Some(
-                        told("@t cannot be passed for `@y` of `@z`, @u")
-                            .ty(given)
-                            .other(formal.name)
-                            .third(routine)
-                            .second(wanted)
-                            .here(formal.name)
-                            .changed(self.value_change(wanted, given, text))
-                            .helped(self.value_help(wanted, given, text)),
-                    )
+            (Some(wanted), Some(given)) => {
+                if self.own_types_passed(routine, formal, value, why) {
+                    return true;
                 }
-            },
-            _ => None,
+
+                let text = self.expr_span(value);
+                why.form = "@t cannot be passed for `@y` of `@z`, @u";
+                why.ty = given;
+                why.other = formal.name;
+                why.third = routine;
+                why.second = wanted;
+                why.mark = Mark::Here(formal.name);
+                why.change = self.value_change(wanted, given, text);
+                why.help = self.value_help(wanted, given, text);
+                true
+            }
+            _ => false,
         }
     }
 
     // A variable whose type is of the parameter's form, each by itself.
-    fn own_types_passed(&self, routine: Span, formal: Point, value: &Expr) -> Option<Why> {
+    fn own_types_passed(&self, routine: Span, formal: Point, value: &Expr, why: &mut Why) -> bool {
         let (Some(wanted), Some(given), Some(variable)) = (
             formal.ty,
             self.outline.type_of(value),
             variable_in(value),
         ) else {
-            return None;
+            return false;
         };
         if !self.is_one_form(wanted, given) || !self.is_told(given) {
-            return None;
+            return false;
         }
         let text = self.variable_span(variable);
-        Some(
-            told(
-                "`@x` cannot be passed for `@y` of `@z`: each has a type of its own, though of one form",
-            ).text(text)
-                .other(formal.name)
-                .third(routine)
-                .marked(match self.denoter_token(given) {
-                    Some(place) => Mark::TypeOf(place.span, text),
-                    None => Mark::None,
-                })
-                .here(formal.name)
-                .help("declare both by the name of one type"),
-        )
+        why.form =
+            "`@x` cannot be passed for `@y` of `@z`: each has a type of its own, though of one form";
+        why.text = text;
+        why.other = formal.name;
+        why.third = routine;
+        why.mark = match self.denoter_token(given) {
+            Some(place) => Mark::TypeOf(place.span, text),
+            None => Mark::None,
+        };
+        why.next_mark = Mark::Here(formal.name);
+        why.help = Help::Is("declare both by the name of one type");
+        true
     }
 }
 
@@ -386,10 +391,10 @@ struct Target {
     given: Type,
 }
 
-fn string_for_char(target: Target, length: u32) -> Why {
-    told("a string of @N characters is not assignable to `@y`, a char")
-        .other(target.text)
-        .number(i64::from(length))
-        .declared(target.name)
-        .help("a char is one character; a string is a packed array [1..@N] of char")
+fn string_for_char(target: Target, length: u32, why: &mut Why) {
+    why.form = "a string of @N characters is not assignable to `@y`, a char";
+    why.other = target.text;
+    why.number = i64::from(length);
+    why.mark = Mark::Declared(target.name);
+    why.help = Help::Is("a char is one character; a string is a packed array [1..@N] of char");
 }

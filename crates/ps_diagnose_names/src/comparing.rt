@@ -2,7 +2,7 @@
 
 use crate::context::Context;
 use crate::facts::{factor_in_simple, relation_word};
-use crate::why::{Change, Why, told};
+use crate::why::{Change, Help, Mark, Why};
 use ps_diagnose_outline::{Form, Type};
 use ps_syntax::{Factor, Relation, Simple};
 use ps_text::Span;
@@ -14,7 +14,8 @@ impl<'a> Context<'a> {
         left: &Simple,
         relation: Relation,
         right: &Simple,
-    ) -> Option<Why> {
+        why: &mut Why,
+    ) -> bool {
         let first = self.told(self.outline.type_of_simple(left));
         let second = self.told(self.outline.type_of_simple(right));
         match (first, second) {
@@ -27,56 +28,51 @@ impl<'a> Context<'a> {
                     right: self.simple_span(right),
                 };
                 match relation {
-                    Relation::In => self.wrong_in(pair, right),
-                    _ => self.wrong_pair(pair),
+                    Relation::In => self.wrong_in(pair, right, why),
+                    _ => self.wrong_pair(pair, why),
                 }
             }
-            _ => None,
+            _ => false,
         }
     }
 
-    fn wrong_pair(&self, pair: Pair) -> Option<Why> {
-        if let Some(why) = self.strings_compared(pair) {
-            return Some(why);
-        }
-        if let Some(why) = self.structure_compared(pair.relation, pair.left, pair.first) {
-            return Some(why);
-        }
-        if let Some(why) = self.structure_compared(pair.relation, pair.right, pair.second) {
-            return Some(why);
-        }
-        match self.order_compared(pair) {
-            Some(why) => Some(why),
-            None => self.two_types_compared(pair),
-        }
+    fn wrong_pair(&self, pair: Pair, why: &mut Why) -> bool {
+        self.strings_compared(pair, why)
+            || self.structure_compared(pair.relation, pair.left, pair.first, why)
+            || self.structure_compared(pair.relation, pair.right, pair.second, why)
+            || self.order_compared(pair, why)
+            || self.two_types_compared(pair, why)
     }
 
     // `in` behind which no set stands, or no member before it.
-    fn wrong_in(&self, pair: Pair, right: &Simple) -> Option<Why> {
+    fn wrong_in(&self, pair: Pair, right: &Simple, why: &mut Why) -> bool {
         if !self.is_set(pair.second) {
-            return Some(self.no_set(pair.right, pair.second));
+            self.no_set(pair.right, pair.second, why);
+            return true;
         }
         match self.unlike(
             self.told(self.member_of(right, pair.second)),
             Some(pair.first),
         ) {
-            Some((member, given)) => Some(
-                self.no_member(member, pair.left, given).declared(pair.left),
-            ),
-            None => None,
+            Some((member, given)) => {
+                self.no_member(member, pair.left, given, why);
+                why.mark = Mark::Declared(pair.left);
+                true
+            }
+            None => false,
         }
     }
 
-    fn no_set(&self, text: Span, ty: Type) -> Why {
-        told("behind `in` stands a set, and `@x` is @t")
-            .text(text)
-            .ty(ty)
-            .declared(text)
-            .changed(if self.is_simple(ty) {
-                Change::For(text, "[@a]")
-            } else {
-                Change::None
-            })
+    fn no_set(&self, text: Span, ty: Type, why: &mut Why) {
+        why.form = "behind `in` stands a set, and `@x` is @t";
+        why.text = text;
+        why.ty = ty;
+        why.mark = Mark::Declared(text);
+        why.change = if self.is_simple(ty) {
+            Change::For(text, "[@a]")
+        } else {
+            Change::None
+        };
     }
 
     // The type of a member of a set.
@@ -91,86 +87,83 @@ impl<'a> Context<'a> {
     }
 
     // Strings of two lengths.
-    fn strings_compared(&self, pair: Pair) -> Option<Why> {
+    fn strings_compared(&self, pair: Pair, why: &mut Why) -> bool {
         let lengths = (
             self.outline.string_length(pair.first),
             self.outline.string_length(pair.second),
         );
         match lengths {
-            (Some(one), Some(other)) if one != other => Some(
-                told("`@w` compares strings of one length, and these have @N and @M characters")
-                    .word(relation_word(pair.relation))
-                    .number(i64::from(one))
-                    .further(i64::from(other))
-                    .declared(pair.left)
-                    .declared(pair.right)
-                    .changed(self.filled(pair.right, other, one))
-                    .changed(self.filled(pair.left, one, other)),
-            ),
-            _ => None,
+            (Some(one), Some(other)) if one != other => {
+                why.form =
+                    "`@w` compares strings of one length, and these have @N and @M characters";
+                why.word = relation_word(pair.relation);
+                why.number = i64::from(one);
+                why.further = i64::from(other);
+                why.mark = Mark::Declared(pair.left);
+                why.next_mark = Mark::Declared(pair.right);
+                why.change = self.filled(pair.right, other, one);
+                why.next_change = self.filled(pair.left, one, other);
+                true
+            }
+            _ => false,
         }
     }
 
     // An array or a record.
-    fn structure_compared(&self, relation: Relation, text: Span, ty: Type) -> Option<Why> {
+    fn structure_compared(&self, relation: Relation, text: Span, ty: Type, why: &mut Why) -> bool {
         let help = match self.outline.form(ty) {
             Some(Form::Array { .. }) if !self.is_string(ty) => {
                 "compare its components one by one, in a loop"
             }
             Some(Form::Record(_)) => "compare its fields one by one",
-            _ => return None,
+            _ => return false,
         };
-        Some(
-            told("`@w` cannot compare `@x`, @t")
-                .word(relation_word(relation))
-                .text(text)
-                .ty(ty)
-                .declared(text)
-                .help(help),
-        )
+        why.form = "`@w` cannot compare `@x`, @t";
+        why.word = relation_word(relation);
+        why.text = text;
+        why.ty = ty;
+        why.mark = Mark::Declared(text);
+        why.help = Help::Is(help);
+        true
     }
 
     // Pointers and sets by an order that they don't have.
-    fn order_compared(&self, pair: Pair) -> Option<Why> {
+    fn order_compared(&self, pair: Pair, why: &mut Why) -> bool {
         let form = match (self.outline.form(pair.first), pair.relation) {
             (Some(Form::Pointer(_) | Form::Nil), relation) if !is_equality(relation) => {
                 "`@w` cannot compare pointers: `=` and `<>` can"
             }
             (Some(Form::Set(_)), Relation::Less | Relation::Greater) if self.is_set(pair.second) =>
                 { "`@w` cannot compare sets: `=`, `<>`, `<=` and `>=` can" }
-            _ => return None,
+            _ => return false,
         };
-        Some(
-            told(form)
-                .word(relation_word(pair.relation))
-                .declared(pair.left),
-        )
+        why.form = form;
+        why.word = relation_word(pair.relation);
+        why.mark = Mark::Declared(pair.left);
+        true
     }
 
     // Values of two types.
-    fn two_types_compared(&self, pair: Pair) -> Option<Why> {
+    fn two_types_compared(&self, pair: Pair, why: &mut Why) -> bool {
         if self.is_one_simple(pair.first, pair.second) {
-            return None;
+            return false;
         }
         let change = self.pair_change(pair);
         let is_helped = matches!(change, Change::None) && !self.is_truth(pair);
-        let why = told("`@w` compares values of one type, and `@x` is @t, `@y` @u")
-            .word(relation_word(pair.relation))
-            .text(pair.left)
-            .other(pair.right)
-            .ty(pair.first)
-            .second(pair.second)
-            .declared(pair.left)
-            .declared(pair.right)
-            .changed(change);
+        why.form = "`@w` compares values of one type, and `@x` is @t, `@y` @u";
+        why.word = relation_word(pair.relation);
+        why.text = pair.left;
+        why.other = pair.right;
+        why.ty = pair.first;
+        why.second = pair.second;
+        why.mark = Mark::Declared(pair.left);
+        why.next_mark = Mark::Declared(pair.right);
+        why.change = change;
         if is_helped {
-            Some(
-                why.helped(self.conversion(pair.first, pair.second, pair.right))
-                    .helped(self.conversion(pair.second, pair.first, pair.left)),
-            )
-        } else {
-            Some(why)
+            why.help = self.conversion(pair.first, pair.second, pair.right);
+            why.next_help = self.conversion(pair.second, pair.first, pair.left);
         }
+        true
     }
 
     // Whether a Boolean is compared by `=` or `<>`.

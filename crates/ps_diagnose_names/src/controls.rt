@@ -3,22 +3,23 @@
 use crate::context::Context;
 use crate::required::Known;
 use crate::spot::Spot;
-use crate::why::{Help, Mark, Why, told};
+use crate::why::{Help, Mark, Why};
 use ps_diagnose_outline::{Point, PointKind};
 use ps_scan::Kind;
 use ps_text::Span;
 
 impl<'a> Context<'a> {
     /// A variable that controls a `for`.
-    pub(crate) fn control_variable(&self) -> Option<Why> {
+    pub(crate) fn control_variable(&self, why: &mut Why) -> bool {
         let Some(point) = self.point_here() else {
-            return None;
+            return false;
         };
         match self.open_control(point) {
-            Some(control) => Some(self.changed_within(control)),
-            None if self.is_control() => Some(self.foreign_control(point)),
-            None => Some(self.changed_elsewhere(point)),
+            Some(control) => self.changed_within(control, why),
+            None if self.is_control() => self.foreign_control(point, why),
+            None => self.changed_elsewhere(point, why),
         }
+        true
     }
 
     // Whether the place is the control variable of a `for`.
@@ -50,29 +51,29 @@ impl<'a> Context<'a> {
     }
 
     // A variable that is none of the block.
-    fn foreign_control(&self, point: Point) -> Why {
-        let why = told("")
-            .here(point.name)
-            .helped(self.own_variable(point.kind));
+    fn foreign_control(&self, point: Point, why: &mut Why) {
+        why.mark = Mark::Here(point.name);
+        why.help = self.own_variable(point.kind);
         match (point.kind, self.region_name(point.region)) {
-            (PointKind::ValueParameter | PointKind::VariableParameter, _) => why.form(
-                "a `for` takes a variable of its own block, and `@p` is a parameter",
-            ),
-            (PointKind::Field, _) => why.form(
-                "a `for` takes a variable of its own block, and `@p` is a field",
-            ),
-            (_, Some(routine)) => why
-                .form("a `for` takes a variable of its own block, and `@p` is of `@x`")
-                .text(routine),
-            (_, None) => why.form(
-                "a `for` takes a variable of its own block, and `@p` is the program's",
-            ),
+            (PointKind::ValueParameter | PointKind::VariableParameter, _) => {
+                why.form = "a `for` takes a variable of its own block, and `@p` is a parameter";
+            }
+            (PointKind::Field, _) => {
+                why.form = "a `for` takes a variable of its own block, and `@p` is a field";
+            }
+            (_, Some(routine)) => {
+                why.form = "a `for` takes a variable of its own block, and `@p` is of `@x`";
+                why.text = routine;
+            }
+            (_, None) => {
+                why.form = "a `for` takes a variable of its own block, and `@p` is the program's";
+            }
         }
     }
 
     // How to have a variable of the block.
     fn own_variable(&self, kind: PointKind) -> Help {
-        let block = self.outline.block_at(self.place().from);
+        let block = self.outline.block_at(self.fault.place.from);
         match (kind, self.region_name(block)) {
             (PointKind::ValueParameter | PointKind::VariableParameter, _) | (_, None) => {
                 Help::Is("declare a variable of the block for it, by another name")
@@ -84,7 +85,7 @@ impl<'a> Context<'a> {
     }
 
     // A change within the `for`.
-    fn changed_within(&self, control: Span) -> Why {
+    fn changed_within(&self, control: Span, why: &mut Why) {
         let (form, help) = match self.spots.last() {
             Some(Spot::Control(_)) => (
                 "`@p` controls a `for`, and another one within it",
@@ -95,7 +96,9 @@ impl<'a> Context<'a> {
                 "a loop that may end early is a `while` or a `repeat`",
             ),
         };
-        told(form).marked(self.for_mark(control)).help(help)
+        why.form = form;
+        why.mark = self.for_mark(control);
+        why.help = Help::Is(help);
     }
 
     // What is done to the variable at the place.
@@ -120,13 +123,13 @@ impl<'a> Context<'a> {
     }
 
     // A change in a routine of the block whose `for` the variable controls.
-    fn changed_elsewhere(&self, point: Point) -> Why {
-        told("`@p` controls a `for` of the block around, and is changed here")
-            .marked(match self.for_of(point) {
-                Some(control) => self.for_mark(control),
-                None => Mark::None,
-            })
-            .help("use a variable that no routine within this block changes")
+    fn changed_elsewhere(&self, point: Point, why: &mut Why) {
+        why.form = "`@p` controls a `for` of the block around, and is changed here";
+        why.mark = match self.for_of(point) {
+            Some(control) => self.for_mark(control),
+            None => Mark::None,
+        };
+        why.help = Help::Is("use a variable that no routine within this block changes");
     }
 
     // The control variable of the first `for` that a variable controls.
@@ -144,15 +147,16 @@ impl<'a> Context<'a> {
     }
 
     /// A part of a packed variable that is passed.
-    pub(crate) fn packed_variable(&self) -> Option<Why> {
+    pub(crate) fn packed_variable(&self, why: &mut Why) -> bool {
         for spot in self.spots.iter() {
             if let Spot::Passed(name, number, value) = spot {
                 if let Some(formal) = self.formal_of(*name, *number) {
-                    return Some(self.packed_passed(*name, formal.name, self.expr_span(value)));
+                    self.packed_passed(*name, formal.name, self.expr_span(value), why);
+                    return true;
                 }
             }
         }
-        None
+        false
     }
 
     /// The formal parameter of a routine's name by its number, counted from 0.
@@ -163,16 +167,16 @@ impl<'a> Context<'a> {
         }
     }
 
-    fn packed_passed(&self, routine: Span, formal: Span, text: Span) -> Why {
-        told(
-            "`@x` is a part of a packed variable, and cannot be passed for `@y` of `@z`, a `var` parameter",
-        ).text(text)
-            .other(formal)
-            .third(routine)
-            .declared(self.place())
-            .here(formal)
-            .help(
-                "pass a variable of its own, and assign it to the part then; or leave `packed` out",
-            )
+    fn packed_passed(&self, routine: Span, formal: Span, text: Span, why: &mut Why) {
+        why.form =
+            "`@x` is a part of a packed variable, and cannot be passed for `@y` of `@z`, a `var` parameter";
+        why.text = text;
+        why.other = formal;
+        why.third = routine;
+        why.mark = Mark::Declared(self.fault.place);
+        why.next_mark = Mark::Here(formal);
+        why.help = Help::Is(
+            "pass a variable of its own, and assign it to the part then; or leave `packed` out",
+        );
     }
 }

@@ -8,19 +8,14 @@ use ps_syntax::{Expr, Factor, Relation, Simple, Term, Variable};
 use ps_text::Span;
 
 impl<'a> Context<'a> {
-    /// The token that is told.
-    pub(crate) fn place(&self) -> Span {
-        self.fault.place
-    }
-
     /// What the name at the place denotes, if it is declared.
     pub(crate) fn point_here(&self) -> Option<Point> {
-        self.outline.declared(self.place())
+        self.outline.declared(self.fault.place)
     }
 
     /// The required name at the place.
     pub(crate) fn required_here(&self) -> Option<Required> {
-        self.outline.required(self.place())
+        self.outline.required(self.fault.place)
     }
 
     /// The kind of what a name denotes.
@@ -175,7 +170,7 @@ impl<'a> Context<'a> {
     }
 
     fn last_like(&self, wanted: Type) -> Option<Point> {
-        let region = self.outline.region_at(self.place().from);
+        let region = self.outline.region_at(self.fault.place.from);
         let mut best = None;
         for point in self.outline.points() {
             if self.is_variable_like(*point, wanted, region) {

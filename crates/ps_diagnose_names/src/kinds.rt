@@ -4,7 +4,7 @@ use crate::context::Context;
 use crate::facts::{is_text, is_variable, variable_in};
 use crate::required::Known;
 use crate::spot::Spot;
-use crate::why::{Change, Help, Why, told};
+use crate::why::{Change, Help, Mark, Why};
 use ps_diagnose_outline::{Form, Point, PointKind};
 use ps_scan::Kind;
 use ps_syntax::{Constant, Expr, Parameter, Variable};
@@ -12,64 +12,76 @@ use ps_text::Span;
 
 impl<'a> Context<'a> {
     /// A name of a kind that cannot stand there.
-    pub(crate) fn wrong_kind(&self) -> Option<Why> {
-        if let Some(why) = self.wrong_kind_first() {
-            return Some(why);
+    pub(crate) fn wrong_kind(&self, why: &mut Why) -> bool {
+        if self.wrong_kind_first(why) {
+            return true;
         }
         for spot in self.spots.iter().rev() {
-            if let Some(why) = self.wrong_kind_at(*spot) {
-                return Some(why);
+            if self.wrong_kind_at(*spot, why) {
+                return true;
             }
         }
-        self.kind_of_name(self.place(), "`@x` is @k")
+        self.kind_of_name(self.fault.place, "`@x` is @k", why)
     }
 
     // Parameters and targets, from the outside in.
-    fn wrong_kind_first(&self) -> Option<Why> {
+    fn wrong_kind_first(&self, why: &mut Why) -> bool {
         for spot in self.spots.iter() {
             let found = match spot {
-                Spot::Passed(name, number, value) => self.wrong_parameter(*name, *number, value),
-                Spot::Target(variable, _) => self.wrong_target(variable.name),
-                _ => None,
+                Spot::Passed(name, number, value) => self.wrong_parameter(
+                    *name, *number, value, why,
+                ),
+                Spot::Target(variable, _) => self.wrong_target(variable.name, why),
+                _ => false,
             };
-            if found.is_some() {
-                return found;
+            if found {
+                return true;
             }
         }
-        None
+        false
     }
 
     // One construct.
-    fn wrong_kind_at(&self, spot: Spot<'_>) -> Option<Why> {
+    fn wrong_kind_at(&self, spot: Spot<'_>, why: &mut Why) -> bool {
         match spot {
-            Spot::Named(variable) => self.no_value(variable.name, variable.selectors.is_empty()),
-            Spot::Statement(name, parameters) => self.no_procedure(name, parameters),
-            Spot::Call(name, parameters) => self.no_function(name, parameters),
+            Spot::Named(variable) => self.no_value(
+                variable.name,
+                variable.selectors.is_empty(),
+                why,
+            ),
+            Spot::Statement(name, parameters) => self.no_procedure(name, parameters, why),
+            Spot::Call(name, parameters) => self.no_function(name, parameters, why),
             Spot::Control(name) => {
-                self.kind_of_name(name, "`@x` is @k, and a `for` takes a variable")
+                self.kind_of_name(name, "`@x` is @k, and a `for` takes a variable", why)
             }
-            Spot::Opened(variable) => Some(self.no_record_variable(variable)),
-            Spot::Range(low, _) => self.no_bound(low),
-            Spot::Definition(..) | Spot::CaseConstant(..) => self.no_constant(),
+            Spot::Opened(variable) => {
+                self.no_record_variable(variable, why);
+                true
+            }
+            Spot::Range(low, _) => self.no_bound(low, why),
+            Spot::Definition(..) | Spot::CaseConstant(..) => self.no_constant(why),
             Spot::TypeName(name) | Spot::Result(_, name) => {
-                self.kind_of_name(name, "`@x` is @k, and no type")
+                self.kind_of_name(name, "`@x` is @k, and no type", why)
             }
-            _ => None,
+            _ => false,
         }
     }
 
     // What kind of name it is, in a sentence.
-    fn kind_of_name(&self, name: Span, form: &'static str) -> Option<Why> {
+    fn kind_of_name(&self, name: Span, form: &'static str, why: &mut Why) -> bool {
         match self.kind_of(name) {
-            Some(kind) => Some(name_of_kind(name, kind, form, Help::None)),
-            None => None,
+            Some(kind) => {
+                name_of_kind(name, kind, form, Help::None, why);
+                true
+            }
+            None => false,
         }
     }
 
     // What stands before `:=`.
-    fn wrong_target(&self, name: Span) -> Option<Why> {
+    fn wrong_target(&self, name: Span, why: &mut Why) -> bool {
         let Some(kind) = self.kind_of(name) else {
-            return None;
+            return false;
         };
         let (form, help) = match kind {
             PointKind::Type => ("`@x` is @k, and no variable", VARIABLE_OF),
@@ -84,62 +96,68 @@ impl<'a> Context<'a> {
             PointKind::Procedure | PointKind::ProcedureParameter | PointKind::FunctionParameter => {
                 (NOT_ASSIGNED, Help::None)
             }
-            _ => return None,
+            _ => return false,
         };
-        Some(name_of_kind(name, kind, form, help))
+        name_of_kind(name, kind, form, help, why);
+        true
     }
 
     // A name in an expression that stands for no value.
-    fn no_value(&self, name: Span, is_alone: bool) -> Option<Why> {
+    fn no_value(&self, name: Span, is_alone: bool, why: &mut Why) -> bool {
         let Some(kind) = self.kind_of(name) else {
-            return None;
+            return false;
         };
         match kind {
             PointKind::Constant
             | PointKind::Member
             | PointKind::Function
             | PointKind::FunctionParameter
-                if !is_alone => Some(name_of_kind(
-                name,
-                kind,
-                "`@x` is @k, and no variable",
-                Help::None,
-            )),
-            PointKind::Procedure | PointKind::ProcedureParameter => {
-                Some(self.valueless(name, kind))
+                if !is_alone => {
+                name_of_kind(name, kind, "`@x` is @k, and no variable", Help::None, why);
+                true
             }
-            PointKind::Type => Some(name_of_kind(
-                name,
-                kind,
-                "`@x` is @k, and no value",
-                VARIABLE_OF,
-            )),
-            _ => None,
+            PointKind::Procedure | PointKind::ProcedureParameter => {
+                self.valueless(name, kind, why);
+                true
+            }
+            PointKind::Type => {
+                name_of_kind(name, kind, "`@x` is @k, and no value", VARIABLE_OF, why);
+                true
+            }
+            _ => false,
         }
     }
 
     // What begins a statement and is no procedure.
-    fn no_procedure(&self, name: Span, parameters: &[Parameter]) -> Option<Why> {
+    fn no_procedure(&self, name: Span, parameters: &[Parameter], why: &mut Why) -> bool {
         let Some(kind) = self.kind_of(name) else {
-            return None;
+            return false;
         };
         match kind {
-            PointKind::Function | PointKind::FunctionParameter => Some(name_of_kind(
-                name,
-                kind,
-                "`@x` is @k, and a statement begins with a procedure or a variable",
-                self.value_used(name, parameters.is_empty()),
-            )),
-            _ => Some(name_of_kind(
-                name,
-                kind,
-                "`@x` is @k, and no procedure",
-                if parameters.is_empty() && is_variable(kind) {
-                    Help::Is("a value is assigned to it by `@x := ..`")
-                } else {
-                    Help::None
-                },
-            )),
+            PointKind::Function | PointKind::FunctionParameter => {
+                name_of_kind(
+                    name,
+                    kind,
+                    "`@x` is @k, and a statement begins with a procedure or a variable",
+                    self.value_used(name, parameters.is_empty()),
+                    why,
+                );
+                true
+            }
+            _ => {
+                name_of_kind(
+                    name,
+                    kind,
+                    "`@x` is @k, and no procedure",
+                    if parameters.is_empty() && is_variable(kind) {
+                        Help::Is("a value is assigned to it by `@x := ..`")
+                    } else {
+                        Help::None
+                    },
+                    why,
+                );
+                true
+            }
         }
     }
 
@@ -161,44 +179,49 @@ impl<'a> Context<'a> {
     }
 
     // A procedure where a value is needed.
-    fn valueless(&self, name: Span, kind: PointKind) -> Why {
+    fn valueless(&self, name: Span, kind: PointKind, why: &mut Why) {
         let help = match self.known(name) {
             Known::Read | Known::Readln | Known::New => {
                 Help::Is("it gives a variable its value, as a statement: `@x(..)`")
             }
             _ => Help::Is("a `function` has a value"),
         };
-        name_of_kind(name, kind, WITHOUT_VALUE, help)
+        name_of_kind(name, kind, WITHOUT_VALUE, help, why);
     }
 
     // What stands before parameters in an expression and is no function.
-    fn no_function(&self, name: Span, parameters: &[Expr]) -> Option<Why> {
+    fn no_function(&self, name: Span, parameters: &[Expr], why: &mut Why) -> bool {
         let Some(kind) = self.kind_of(name) else {
-            return None;
+            return false;
         };
         match kind {
             PointKind::Procedure | PointKind::ProcedureParameter => {
-                Some(self.valueless(name, kind))
+                self.valueless(name, kind, why);
+                true
             }
-            PointKind::Function | PointKind::FunctionParameter => None,
-            PointKind::Type => Some(name_of_kind(
-                name,
-                kind,
-                NO_FUNCTION,
-                Help::Is(
-                    "a type converts nothing: `ord` gives the number of a value, `chr` the character of a number",
-                ),
-            )),
-            _ => Some(self.with_index(
-                name_of_kind(name, kind, NO_FUNCTION, Help::None),
-                name,
-                parameters,
-            )),
+            PointKind::Function | PointKind::FunctionParameter => false,
+            PointKind::Type => {
+                name_of_kind(
+                    name,
+                    kind,
+                    NO_FUNCTION,
+                    Help::Is(
+                        "a type converts nothing: `ord` gives the number of a value, `chr` the character of a number",
+                    ),
+                    why,
+                );
+                true
+            }
+            _ => {
+                name_of_kind(name, kind, NO_FUNCTION, Help::None, why);
+                self.with_index(name, parameters, why);
+                true
+            }
         }
     }
 
     // Tries brackets where an array stands before parentheses.
-    fn with_index(&self, why: Why, name: Span, parameters: &[Expr]) -> Why {
+    fn with_index(&self, name: Span, parameters: &[Expr], why: &mut Why) {
         let whole = self.factor_extent(name.from);
         let form = self.outline.form_of(self.outline.type_of_name(name));
         match (
@@ -206,45 +229,49 @@ impl<'a> Context<'a> {
             parameters.first(),
             self.outline.token_before(whole.to),
         ) {
-            (Some(Form::Array { .. }), Some(first), Some(close)) => why
-                .changed(Change::With(
+            (Some(Form::Array { .. }), Some(first), Some(close)) => {
+                why.change = Change::With(
                     whole,
                     Span {
                         from: first.first_token(),
                         to: close.span.from,
                     },
                     "@x[@b]",
-                ))
-                .help("an index stands between brackets"),
-            _ => why,
+                );
+                why.help = Help::Is("an index stands between brackets");
+            }
+            _ => {}
         }
     }
 
     // A constant's place in a range.
-    fn no_bound(&self, low: Constant) -> Option<Why> {
+    fn no_bound(&self, low: Constant, why: &mut Why) -> bool {
         let help = match self.outline.token_before(low.first_token()) {
             Some(token) if matches!(token.kind, Kind::LeftBracket | Kind::Comma) => Help::Is(
                 "declare a constant for the largest bound that is needed, and count in a variable how many are used",
             ),
             _ => Help::None,
         };
-        self.no_constant_here("a bound is a constant, and `@x` is @k", help)
+        self.no_constant_here("a bound is a constant, and `@x` is @k", help, why)
     }
 
     // A constant's place elsewhere.
-    fn no_constant(&self) -> Option<Why> {
+    fn no_constant(&self, why: &mut Why) -> bool {
         let help = if self.is_in_case() {
             Help::Is("compare with variables by `if .. then .. else`")
         } else {
             Help::None
         };
-        self.no_constant_here("a constant is needed here, and `@x` is @k", help)
+        self.no_constant_here("a constant is needed here, and `@x` is @k", help, why)
     }
 
-    fn no_constant_here(&self, form: &'static str, help: Help) -> Option<Why> {
-        match self.kind_of(self.place()) {
-            Some(kind) => Some(name_of_kind(self.place(), kind, form, help)),
-            None => None,
+    fn no_constant_here(&self, form: &'static str, help: Help, why: &mut Why) -> bool {
+        match self.kind_of(self.fault.place) {
+            Some(kind) => {
+                name_of_kind(self.fault.place, kind, form, help, why);
+                true
+            }
+            None => false,
         }
     }
 
@@ -259,34 +286,36 @@ impl<'a> Context<'a> {
     }
 
     // What `with` opens and is no variable.
-    fn no_record_variable(&self, variable: &Variable) -> Why {
-        told("`@x` is no variable, and `with` takes one")
-            .text(self.variable_span(variable))
-            .declared(variable.name)
+    fn no_record_variable(&self, variable: &Variable, why: &mut Why) {
+        why.form = "`@x` is no variable, and `with` takes one";
+        why.text = self.variable_span(variable);
+        why.mark = Mark::Declared(variable.name);
     }
 
     // A parameter that is no variable, or no routine, where one is needed.
-    fn wrong_parameter(&self, routine: Span, number: u32, value: &Expr) -> Option<Why> {
+    fn wrong_parameter(&self, routine: Span, number: u32, value: &Expr, why: &mut Why) -> bool {
         match self.outline.declared(routine) {
             Some(point) => match self.formal(point, number) {
-                Some(formal) => self.wrong_formal(routine, formal, value),
-                None => None,
+                Some(formal) => self.wrong_formal(routine, formal, value, why),
+                None => false,
             },
-            None => self.wrong_required(routine, value),
+            None => self.wrong_required(routine, value, why),
         }
     }
 
     // A parameter of a routine that is declared.
-    fn wrong_formal(&self, routine: Span, formal: Point, value: &Expr) -> Option<Why> {
+    fn wrong_formal(&self, routine: Span, formal: Point, value: &Expr, why: &mut Why) -> bool {
         match formal.kind {
-            PointKind::VariableParameter => self.no_variable_passed(routine, formal, value),
+            PointKind::VariableParameter => self.no_variable_passed(routine, formal, value, why),
             PointKind::ProcedureParameter => {
-                Some(self.no_routine(routine, formal, value, "a procedure"))
+                self.no_routine(routine, formal, value, "a procedure", why);
+                true
             }
             PointKind::FunctionParameter => {
-                Some(self.no_routine(routine, formal, value, "a function"))
+                self.no_routine(routine, formal, value, "a function", why);
+                true
             }
-            _ => None,
+            _ => false,
         }
     }
 
@@ -301,54 +330,69 @@ impl<'a> Context<'a> {
         }
     }
 
-    fn no_variable_passed(&self, routine: Span, formal: Point, value: &Expr) -> Option<Why> {
+    fn no_variable_passed(
+        &self,
+        routine: Span,
+        formal: Point,
+        value: &Expr,
+        why: &mut Why,
+    ) -> bool {
         if self.is_a_variable(value) {
-            return None;
+            return false;
         }
-        Some(
-            told("`@x` is no variable, and `@y` of `@z` is a `var` parameter")
-                .text(self.expr_span(value))
-                .other(formal.name)
-                .third(routine)
-                .here(formal.name)
-                .help("assign it to a variable, and pass that"),
-        )
+        why.form = "`@x` is no variable, and `@y` of `@z` is a `var` parameter";
+        why.text = self.expr_span(value);
+        why.other = formal.name;
+        why.third = routine;
+        why.mark = Mark::Here(formal.name);
+        why.help = Help::Is("assign it to a variable, and pass that");
+        true
     }
 
-    fn no_routine(&self, routine: Span, formal: Point, value: &Expr, word: &'static str) -> Why {
+    fn no_routine(
+        &self,
+        routine: Span,
+        formal: Point,
+        value: &Expr,
+        word: &'static str,
+        why: &mut Why,
+    ) {
         match self.required_here() {
-            Some(required) => told("`@w` is required by the language, and cannot be passed")
-                .word(required.name)
-                .help("declare a routine of your own that calls it, and pass that"),
-            None => told("`@y` of `@z` is @w, and `@x` is none")
-                .word(word)
-                .text(self.expr_span(value))
-                .other(formal.name)
-                .third(routine)
-                .here(formal.name),
+            Some(required) => {
+                why.form = "`@w` is required by the language, and cannot be passed";
+                why.word = required.name;
+                why.help = Help::Is("declare a routine of your own that calls it, and pass that");
+            }
+            None => {
+                why.form = "`@y` of `@z` is @w, and `@x` is none";
+                why.word = word;
+                why.text = self.expr_span(value);
+                why.other = formal.name;
+                why.third = routine;
+                why.mark = Mark::Here(formal.name);
+            }
         }
     }
 
     // A parameter of a required procedure that takes a variable.
-    fn wrong_required(&self, routine: Span, value: &Expr) -> Option<Why> {
+    fn wrong_required(&self, routine: Span, value: &Expr, why: &mut Why) -> bool {
         let (form, is_read) = match self.known(routine) {
             Known::Read | Known::Readln => ("`@x` is no variable, and cannot be read", true),
             Known::New | Known::Pack => ("`@x` is no variable, and `@w` takes one", false),
-            _ => return None,
+            _ => return false,
         };
         if self.is_a_variable(value) {
-            return None;
+            return false;
         }
         let text = self.expr_span(value);
-        let why = told(form)
-            .text(text)
-            .word(self.required_name(routine))
-            .variable(text);
+        why.form = form;
+        why.text = text;
+        why.word = self.required_name(routine);
+        why.mark = Mark::Variable(text);
         if is_read && is_text(value) {
-            Some(why.help("what is asked for is written before, by `write`"))
-        } else {
-            Some(why)
+            why.help = Help::Is("what is asked for is written before, by `write`");
         }
+        true
     }
 }
 
@@ -361,6 +405,10 @@ const NOT_ASSIGNED: &str = "`@x` is @k, and cannot be assigned";
 const VARIABLE_OF: Help = Help::Is("declare a variable of it: var name: @x;");
 
 // A name of a kind that cannot stand there.
-fn name_of_kind(name: Span, kind: PointKind, form: &'static str, help: Help) -> Why {
-    told(form).text(name).kind(kind).declared(name).helped(help)
+fn name_of_kind(name: Span, kind: PointKind, form: &'static str, help: Help, why: &mut Why) {
+    why.form = form;
+    why.text = name;
+    why.kind = kind;
+    why.mark = Mark::Declared(name);
+    why.help = help;
 }

@@ -3,7 +3,7 @@
 use crate::context::Context;
 use crate::required::Known;
 use crate::spot::Spot;
-use crate::why::{Change, Mark, Why, told};
+use crate::why::{Change, Help, Mark, Why};
 use ps_diagnose_outline::{Form, Part, Type};
 use ps_scan::Kind;
 use ps_syntax::{Adding, Factor, Multiplying, Sign, Simple, Term};
@@ -39,8 +39,11 @@ pub(crate) fn adding_of(simple: &Simple, number: u32) -> Adding {
 }
 
 // An operand that an operator cannot take.
-fn takes(operator: &'static str, form: &'static str, text: Span, ty: Type) -> Why {
-    told(form).word(operator).text(text).ty(ty)
+fn takes(operator: &'static str, form: &'static str, text: Span, ty: Type, why: &mut Why) {
+    why.form = form;
+    why.word = operator;
+    why.text = text;
+    why.ty = ty;
 }
 
 const BOOLEAN: &str = "`@w` takes a Boolean, and `@x` is @t";
@@ -51,15 +54,16 @@ const INTEGERS: &str = "`@w` takes integers, and `@x` is @t";
 
 impl<'a> Context<'a> {
     /// The operand of `not`.
-    pub(crate) fn wrong_not(&self, at: Span, factor: &Factor) -> Option<Why> {
+    pub(crate) fn wrong_not(&self, at: Span, factor: &Factor, why: &mut Why) -> bool {
         let text = self.factor_span(factor);
         match self.told(self.outline.type_of_factor(factor)) {
-            Some(ty) if !self.is_boolean(ty) => Some(
-                takes("not", BOOLEAN, text, ty)
-                    .variable(text)
-                    .changed(self.not_change(at, text)),
-            ),
-            _ => None,
+            Some(ty) if !self.is_boolean(ty) => {
+                takes("not", BOOLEAN, text, ty, why);
+                why.mark = Mark::Variable(text);
+                why.change = self.not_change(at, text);
+                true
+            }
+            _ => false,
         }
     }
 
@@ -89,13 +93,13 @@ impl<'a> Context<'a> {
     }
 
     /// An operand of `*`, `div`, `mod` or `and`.
-    pub(crate) fn wrong_multiplied(&self, term: &Term, number: u32) -> Option<Why> {
+    pub(crate) fn wrong_multiplied(&self, term: &Term, number: u32, why: &mut Why) -> bool {
         match factor_of(term, number) {
             Some(factor) => {
                 let ty = self.told(self.outline.type_of_factor(factor));
-                self.wrong_factor(term, number, self.factor_span(factor), ty)
+                self.wrong_factor(term, number, self.factor_span(factor), ty, why)
             }
-            None => None,
+            None => false,
         }
     }
 
@@ -105,43 +109,63 @@ impl<'a> Context<'a> {
         number: u32,
         text: Span,
         given: Option<Type>,
-    ) -> Option<Why> {
+        why: &mut Why,
+    ) -> bool {
         let Some(ty) = given else {
-            return None;
+            return false;
         };
         match multiplying_of(term, number) {
             Multiplying::And if !self.is_boolean(ty) => {
-                let why = takes("and", BOOLEAN, text, ty).variable(text);
-                Some(self.with_comparison(why, term.first.first_token(), text))
+                takes("and", BOOLEAN, text, ty, why);
+                why.mark = Mark::Variable(text);
+                self.with_comparison(term.first.first_token(), text, why);
+                true
             }
             Multiplying::Div if !self.is_integer(ty) => {
-                Some(self.no_number("div", INTEGER, text, ty).variable(text))
+                self.no_number("div", INTEGER, text, ty, why);
+                why.mark = Mark::Variable(text);
+                true
             }
             Multiplying::Mod if !self.is_integer(ty) => {
-                Some(self.no_number("mod", INTEGER, text, ty).variable(text))
+                self.no_number("mod", INTEGER, text, ty, why);
+                why.mark = Mark::Variable(text);
+                true
             }
             Multiplying::Times if !self.is_integer(ty) && !self.is_set(ty) => {
-                Some(self.no_number("*", INTEGERS, text, ty).variable(text))
+                self.no_number("*", INTEGERS, text, ty, why);
+                why.mark = Mark::Variable(text);
+                true
             }
-            _ => None,
+            _ => false,
         }
     }
 
     // An operand that is no integer.
-    fn no_number(&self, operator: &'static str, form: &'static str, text: Span, ty: Type) -> Why {
-        takes(operator, form, text, ty).helped(self.conversion(Type::Integer, ty, text))
+    fn no_number(
+        &self,
+        operator: &'static str,
+        form: &'static str,
+        text: Span,
+        ty: Type,
+        why: &mut Why,
+    ) {
+        takes(operator, form, text, ty, why);
+        why.help = self.conversion(Type::Integer, ty, text);
     }
 
     // How tight `and` or `or` binds, where a comparison stands before its operands, or behind one of them.
-    fn with_comparison(&self, why: Why, first: u32, operand: Span) -> Why {
+    fn with_comparison(&self, first: u32, operand: Span, why: &mut Why) {
         match self.outline.token_before(first) {
-            Some(before) if is_comparing(before.kind) => why
-                .changed(self.left_comparison(operand))
-                .help_of(
+            Some(before) if is_comparing(before.kind) => {
+                why.add_change(self.left_comparison(operand));
+                why.help = Help::Of(
                     "`@w` binds tighter than `@a`: each comparison stands between parentheses",
                     before.span,
-                ),
-            _ => self.with_right(why, first, operand),
+                );
+            }
+            _ => {
+                self.with_right(first, operand, why);
+            }
         }
     }
 
@@ -160,30 +184,34 @@ impl<'a> Context<'a> {
     }
 
     // Tries parentheses round the comparison that begins with an operand.
-    fn with_right(&self, why: Why, first: u32, operand: Span) -> Why {
+    fn with_right(&self, first: u32, operand: Span, why: &mut Why) {
         match (
             self.outline.token_before(operand.from),
             self.token_at(operand.to),
         ) {
             (Some(joint), Some(relation)) if is_comparing(relation.kind) && first < operand.from =>
-                why.third(Span {
-                    from: first,
-                    to: joint.span.to,
-                })
-                .changed(self.parenthesized(first, operand, relation.span.to, "@z (@b)"))
-                .help_of("`@w` binds tighter than `@a`", relation.span),
-            _ => why.help("a comparison is Boolean, as `(.. = ..)`"),
+                {
+                    why.third = Span {
+                        from: first,
+                        to: joint.span.to,
+                    };
+                    why.add_change(self.parenthesized(first, operand, relation.span.to, "@z (@b)"));
+                    why.help = Help::Of("`@w` binds tighter than `@a`", relation.span);
+                }
+            _ => {
+                why.help = Help::Is("a comparison is Boolean, as `(.. = ..)`");
+            }
         }
     }
 
     /// An operand of `+`, `-` or `or`, or of a sign.
-    pub(crate) fn wrong_added(&self, simple: &Simple, number: u32) -> Option<Why> {
+    pub(crate) fn wrong_added(&self, simple: &Simple, number: u32, why: &mut Why) -> bool {
         match term_of(simple, number) {
             Some(term) => {
                 let ty = self.told(self.outline.type_of_term(term));
-                self.wrong_term(simple, number, self.term_span(term), ty)
+                self.wrong_term(simple, number, self.term_span(term), ty, why)
             }
-            None => None,
+            None => false,
         }
     }
 
@@ -193,43 +221,59 @@ impl<'a> Context<'a> {
         number: u32,
         text: Span,
         given: Option<Type>,
-    ) -> Option<Why> {
+        why: &mut Why,
+    ) -> bool {
         match (given, adding_of(simple, number)) {
-            (Some(ty), Adding::Or) => self.wrong_or(simple, text, ty),
-            (Some(ty), Adding::Plus) => self.wrong_plus(simple, number, text, ty),
-            (Some(ty), Adding::Minus) => self.wrong_sum("-", text, ty),
-            (None, _) => None,
+            (Some(ty), Adding::Or) => self.wrong_or(simple, text, ty, why),
+            (Some(ty), Adding::Plus) => self.wrong_plus(simple, number, text, ty, why),
+            (Some(ty), Adding::Minus) => self.wrong_sum("-", text, ty, why),
+            (None, _) => false,
         }
     }
 
-    fn wrong_or(&self, simple: &Simple, text: Span, ty: Type) -> Option<Why> {
+    fn wrong_or(&self, simple: &Simple, text: Span, ty: Type, why: &mut Why) -> bool {
         if self.is_boolean(ty) {
-            return None;
+            return false;
         }
         let first = simple.first_token();
-        let why = takes("or", BOOLEAN, text, ty).declared(text);
-        let why = if first == self.place().from {
-            why.changed(Change::EachCompared)
-        } else {
-            why
-        };
-        Some(self.with_comparison(why, first, text))
+        takes("or", BOOLEAN, text, ty, why);
+        why.mark = Mark::Declared(text);
+        if first == self.fault.place.from {
+            why.change = Change::EachCompared;
+        }
+
+        self.with_comparison(first, text, why);
+        true
     }
 
-    fn wrong_plus(&self, simple: &Simple, number: u32, text: Span, ty: Type) -> Option<Why> {
-        match self.wrong_sum("+", text, ty) {
-            Some(_) if self.is_string(ty) || self.is_beside_text(simple) => {
-                Some(self.joined_strings(simple, number))
-            }
-            found => found,
+    fn wrong_plus(
+        &self,
+        simple: &Simple,
+        number: u32,
+        text: Span,
+        ty: Type,
+        why: &mut Why,
+    ) -> bool {
+        let is_text = self.is_string(ty) || self.is_beside_text(simple);
+        if !is_text || self.is_added(ty) {
+            return self.wrong_sum("+", text, ty, why);
         }
+        self.joined_strings(simple, number, why);
+        true
     }
 
-    fn wrong_sum(&self, operator: &'static str, text: Span, ty: Type) -> Option<Why> {
-        if self.is_integer(ty) || self.is_set(ty) {
-            return None;
+    // Whether values of a type are added.
+    fn is_added(&self, ty: Type) -> bool {
+        self.is_integer(ty) || self.is_set(ty)
+    }
+
+    fn wrong_sum(&self, operator: &'static str, text: Span, ty: Type, why: &mut Why) -> bool {
+        if self.is_added(ty) {
+            return false;
         }
-        Some(self.no_number(operator, INTEGERS, text, ty).declared(text))
+        self.no_number(operator, INTEGERS, text, ty, why);
+        why.mark = Mark::Declared(text);
+        true
     }
 
     // Whether a string is among the operands.
@@ -246,29 +290,32 @@ impl<'a> Context<'a> {
     }
 
     // Strings that are joined by `+`.
-    fn joined_strings(&self, simple: &Simple, number: u32) -> Why {
-        let why = told("`+` cannot take a string");
-        match simple.more.get(number.saturating_sub(1) as usize) {
-            Some(added) => why
-                .marked(Mark::At("this `+`", added.at))
-                .changed(if self.is_written() {
-                    Change::Commas
-                } else {
-                    Change::None
-                })
-                .help("strings are not joined: `write(a, b)` writes one behind another"),
-            None => why,
+    fn joined_strings(&self, simple: &Simple, number: u32, why: &mut Why) {
+        why.form = "`+` cannot take a string";
+        if let Some(added) = simple.more.get(number.saturating_sub(1) as usize) {
+            why.mark = Mark::At("this `+`", added.at);
+            why.change = if self.is_written() {
+                Change::Commas
+            } else {
+                Change::None
+            };
+            why.help = Help::Is("strings are not joined: `write(a, b)` writes one behind another");
         }
+    }
+
+    /// Whether a name denotes `write` or `writeln`.
+    pub(crate) fn is_writing(&self, name: Span) -> bool {
+        matches!(self.known(name), Known::Write | Known::Writeln)
     }
 
     // Whether the place is in a parameter of `write`, or behind a sign as it stands in one.
     fn is_written(&self) -> bool {
         for spot in self.spots.iter() {
             if let Spot::Passed(name, ..) = spot {
-                return matches!(self.known(*name), Known::Write | Known::Writeln);
+                return self.is_writing(*name);
             }
         }
-        match self.outline.token_before(self.place().from) {
+        match self.outline.token_before(self.fault.place.from) {
             Some(first) => matches!(first.kind, Kind::Plus | Kind::Comma | Kind::LeftParen),
             None => false,
         }

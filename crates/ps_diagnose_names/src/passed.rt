@@ -2,46 +2,51 @@
 
 use crate::context::Context;
 use crate::required::Known;
-use crate::why::{Help, Why, told};
+use crate::why::{Help, Mark, Why};
 use ps_diagnose_outline::{Form, Point, PointKind, Type};
 use ps_syntax::Expr;
 use ps_text::Span;
 
 impl<'a> Context<'a> {
     /// A parameter of another type.
-    pub(crate) fn wrong_passed(&self, routine: Span, number: u32, value: &Expr) -> Option<Why> {
+    pub(crate) fn wrong_passed(
+        &self,
+        routine: Span,
+        number: u32,
+        value: &Expr,
+        why: &mut Why,
+    ) -> bool {
         match self.outline.declared(routine) {
             Some(point) => match self.formal(point, number) {
-                Some(formal) => self.wrong_variable(routine, formal, value),
-                None => None,
+                Some(formal) => self.wrong_variable(routine, formal, value, why),
+                None => false,
             },
-            None => self.wrong_for_required(routine, value),
+            None => self.wrong_for_required(routine, value, why),
         }
     }
 
     // A variable of another type for a variable parameter.
-    fn wrong_variable(&self, routine: Span, formal: Point, value: &Expr) -> Option<Why> {
+    fn wrong_variable(&self, routine: Span, formal: Point, value: &Expr, why: &mut Why) -> bool {
         let (PointKind::VariableParameter, Some(wanted), Some(ty)) = (
             formal.kind,
             formal.ty,
             self.outline.type_of(value),
         ) else {
-            return None;
+            return false;
         };
         if !self.is_told(wanted) || !self.is_told(ty) || self.is_one_type(wanted, ty) {
-            return None;
+            return false;
         }
         let text = self.expr_span(value);
-        Some(
-            told("`@y` of `@z` takes a variable of its own type, @u, and `@x` is @t")
-                .text(text)
-                .ty(ty)
-                .other(formal.name)
-                .third(routine)
-                .second(wanted)
-                .here(formal.name)
-                .variable(text),
-        )
+        why.form = "`@y` of `@z` takes a variable of its own type, @u, and `@x` is @t";
+        why.text = text;
+        why.ty = ty;
+        why.other = formal.name;
+        why.third = routine;
+        why.second = wanted;
+        why.mark = Mark::Here(formal.name);
+        why.next_mark = Mark::Variable(text);
+        true
     }
 
     // Whether two types are the same one.
@@ -73,49 +78,64 @@ impl<'a> Context<'a> {
     }
 
     // A parameter of a required routine.
-    fn wrong_for_required(&self, routine: Span, value: &Expr) -> Option<Why> {
+    fn wrong_for_required(&self, routine: Span, value: &Expr, why: &mut Why) -> bool {
         let known = self.known(routine);
         match self.outline.type_of(value) {
             Some(ty) if !self.is_taken(known, ty) => match known {
-                Known::Read | Known::Readln => self.cannot_be(value, ty, "read"),
-                Known::Write | Known::Writeln => self.cannot_be(value, ty, "written"),
-                _ => self.takes(takes_form(known), routine, self.expr_span(value), ty),
+                Known::Read | Known::Readln => self.cannot_be(value, ty, "read", why),
+                Known::Write | Known::Writeln => self.cannot_be(value, ty, "written", why),
+                _ => self.takes(takes_form(known), routine, self.expr_span(value), ty, why),
             },
-            _ => None,
+            _ => false,
         }
     }
 
     // What a required routine takes.
-    fn takes(&self, form: &'static str, routine: Span, text: Span, ty: Type) -> Option<Why> {
+    fn takes(
+        &self,
+        form: &'static str,
+        routine: Span,
+        text: Span,
+        ty: Type,
+        why: &mut Why,
+    ) -> bool {
         match self.told(Some(ty)) {
-            Some(ty) if !form.is_empty() => Some(
-                told(form)
-                    .word(self.required_name(routine))
-                    .text(text)
-                    .ty(ty)
-                    .variable(text),
-            ),
-            _ => None,
+            Some(ty) if !form.is_empty() => {
+                why.form = form;
+                why.word = self.required_name(routine);
+                why.text = text;
+                why.ty = ty;
+                why.mark = Mark::Variable(text);
+                true
+            }
+            _ => false,
         }
     }
 
     // What cannot be read or written.
-    fn cannot_be(&self, value: &Expr, ty: Type, word: &'static str) -> Option<Why> {
+    fn cannot_be(&self, value: &Expr, ty: Type, word: &'static str, why: &mut Why) -> bool {
         let text = self.expr_span(value);
         match self.told(Some(ty)) {
-            Some(Type::Nil) => Some(told("`nil` cannot be @w").word(word)),
-            Some(known) => Some(self.no_transput(text, known, ty, word)),
-            None => None,
+            Some(Type::Nil) => {
+                why.form = "`nil` cannot be @w";
+                why.word = word;
+                true
+            }
+            Some(known) => {
+                self.no_transput(text, known, ty, word, why);
+                true
+            }
+            None => false,
         }
     }
 
-    fn no_transput(&self, text: Span, known: Type, ty: Type, word: &'static str) -> Why {
-        let why = told("`@x`, @t, cannot be @w")
-            .text(text)
-            .ty(known)
-            .word(word)
-            .variable(text)
-            .helped(self.transput_help(text, ty));
+    fn no_transput(&self, text: Span, known: Type, ty: Type, word: &'static str, why: &mut Why) {
+        why.form = "`@x`, @t, cannot be @w";
+        why.text = text;
+        why.ty = known;
+        why.word = word;
+        why.mark = Mark::Variable(text);
+        why.help = self.transput_help(text, ty);
         match self.outline.form(ty) {
             Some(
                 Form::Array {
@@ -124,10 +144,12 @@ impl<'a> Context<'a> {
                     ..
                 },
             ) if self.is_integer(index) => {
-                self.with_loop(why, self.outline.bounds(index), component)
+                self.with_loop(self.outline.bounds(index), component, why);
             }
-            Some(Form::Array { component, .. }) => self.with_loop(why, None, component),
-            _ => why,
+            Some(Form::Array { component, .. }) => {
+                self.with_loop(None, component, why);
+            }
+            _ => {}
         }
     }
 
@@ -150,22 +172,23 @@ impl<'a> Context<'a> {
     }
 
     // A loop over the components of an array.
-    fn with_loop(&self, why: Why, bounds: Option<(i64, i64)>, component: Option<Type>) -> Why {
+    fn with_loop(&self, bounds: Option<(i64, i64)>, component: Option<Type>, why: &mut Why) {
         let is_text = matches!(self.outline.form_of(component), Some(Form::Char));
         let is_read = why.word == "read";
         match bounds {
             Some((low, high)) => {
-                let why = why
-                    .number(low)
-                    .further(high)
-                    .help(loop_form(is_read, is_text));
+                why.number = low;
+                why.further = high;
+                why.add_help(Help::Is(loop_form(is_read, is_text)));
                 if is_read && is_text {
-                    why.help("`readln` behind the loop passes over the rest of the line")
-                } else {
-                    why
+                    why.add_help(Help::Is(
+                        "`readln` behind the loop passes over the rest of the line",
+                    ));
                 }
             }
-            None => why.help("its components are @w one by one, in a loop"),
+            None => {
+                why.add_help(Help::Is("its components are @w one by one, in a loop"));
+            }
         }
     }
 }

@@ -72,25 +72,25 @@ fn context_of<'a>(
 }
 
 impl<'a> Context<'a> {
-    // The reason of a refusal, if one is known.
-    fn reason(&self) -> Option<Why> {
+    // Looks for the reason of a refusal.
+    fn reason(&self, why: &mut Why) -> bool {
         match self.fault.number {
-            31 => self.twice(),
-            32 => self.used_before(),
-            33 => self.wrong_kind(),
-            34 => self.wrong_type(),
-            35 => self.not_assignable(),
-            36 => self.bad_subrange(),
-            37 => self.set_base(),
-            38 => self.case_twice(),
-            39 => self.control_variable(),
-            40 => self.packed_variable(),
-            41 => self.not_congruous(),
-            42 => self.forward_open(),
-            43 => no_result(),
-            44 => self.no_file(),
-            45 => self.limit(),
-            _ => None,
+            31 => self.twice(why),
+            32 => self.used_before(why),
+            33 => self.wrong_kind(why),
+            34 => self.wrong_type(why),
+            35 => self.not_assignable(why),
+            36 => self.bad_subrange(why),
+            37 => self.set_base(why),
+            38 => self.case_twice(why),
+            39 => self.control_variable(why),
+            40 => self.packed_variable(why),
+            41 => self.not_congruous(why),
+            42 => self.forward_open(why),
+            43 => no_result(why),
+            44 => self.no_file(why),
+            45 => self.limit(why),
+            _ => false,
         }
     }
 
@@ -100,13 +100,12 @@ impl<'a> Context<'a> {
             self.unknown(out)?;
             return Ok(true);
         }
-        match self.reason() {
-            Some(why) => {
-                self.tell(&why, out);
-                Ok(true)
-            }
-            None => Ok(false),
+        let mut why = Why::new();
+        let is_known = self.reason(&mut why);
+        if is_known {
+            self.tell(&why, out);
         }
+        Ok(is_known)
     }
 }
 

@@ -2,37 +2,36 @@
 
 use crate::context::Context;
 use crate::required::Known;
-use crate::why::{Change, Why, told};
+use crate::why::{Change, Help, Why};
 use ps_scan::Kind;
 
 impl<'a> Context<'a> {
     /// A heading whose block never follows.
-    pub(crate) fn forward_open(&self) -> Option<Why> {
-        let word = match self.outline.token_before(self.place().from) {
+    pub(crate) fn forward_open(&self, why: &mut Why) -> bool {
+        let word = match self.outline.token_before(self.fault.place.from) {
             Some(token) => token.span,
-            None => self.place(),
+            None => self.fault.place,
         };
-        Some(
-            told("`@p` was declared with `forward`, and its block never follows")
-                .text(word)
-                .help("behind it stands its block: @x @p; begin .. end;"),
-        )
+        why.form = "`@p` was declared with `forward`, and its block never follows";
+        why.text = word;
+        why.help = Help::Is("behind it stands its block: @x @p; begin .. end;");
+        true
     }
 
     /// A file that the heading of the program lacks.
-    pub(crate) fn no_file(&self) -> Option<Why> {
-        let known = self.known(self.place());
-        let form = match known {
-            Known::Input | Known::Output => "`@w` is not in the heading of the program",
-            _ => "`@p` needs `@w` in the heading of the program",
-        };
+    pub(crate) fn no_file(&self, why: &mut Why) -> bool {
+        let known = self.known(self.fault.place);
         match file_of(known) {
-            Some(file) => Some(
-                told(form)
-                    .word(file_name(file))
-                    .changed(self.file_change(file)),
-            ),
-            None => None,
+            Some(file) => {
+                why.form = match known {
+                    Known::Input | Known::Output => "`@w` is not in the heading of the program",
+                    _ => "`@p` needs `@w` in the heading of the program",
+                };
+                why.word = file_name(file);
+                why.change = self.file_change(file);
+                true
+            }
+            None => false,
         }
     }
 
@@ -62,26 +61,28 @@ impl<'a> Context<'a> {
     }
 
     /// A limit.
-    pub(crate) fn limit(&self) -> Option<Why> {
+    pub(crate) fn limit(&self, why: &mut Why) -> bool {
         if self.is_array() {
-            return Some(told("this type has more than 100,000 cells, the most that there may be"));
+            why.form = "this type has more than 100,000 cells, the most that there may be";
+            return true;
         }
-        let why = told(match self.routine_here() {
+        why.form = match self.routine_here() {
             Some(count) if count > 32 => "`@p` has @N parameters, and 32 are the most",
             Some(_) if self.depth_here() > 15 => "`@p` lies more than 15 routines deep",
-            None if self.outline.program().name.from != self.place().from => {
+            None if self.outline.program().name.from != self.fault.place.from => {
                 "`@p` passes a limit of this compiler"
             }
             _ => {
                 "the variables of `@p` have more than 100,000 cells together, the most that there may be"
             }
-        });
-        Some(why.number(i64::from(self.routine_here().unwrap_or(0))))
+        };
+        why.number = i64::from(self.routine_here().unwrap_or(0));
+        true
     }
 
     // Whether the place begins a structured type.
     fn is_array(&self) -> bool {
-        match self.token_at(self.place().from) {
+        match self.token_at(self.fault.place.from) {
             Some(token) => matches!(
                 token.kind,
                 Kind::Array | Kind::Record | Kind::Packed | Kind::Set | Kind::Number | Kind::Minus
@@ -101,7 +102,7 @@ impl<'a> Context<'a> {
     // How many routines lie round the place.
     fn depth_here(&self) -> u32 {
         let mut depth: u32 = 0;
-        let mut at = self.outline.block_at(self.place().from);
+        let mut at = self.outline.block_at(self.fault.place.from);
         for _ in 0..1000 {
             match self.outline.region(at) {
                 Some(region) if at != 0 => {
@@ -129,8 +130,8 @@ fn file_name(is_output: bool) -> &'static str {
 }
 
 /// A function without a result.
-pub(crate) fn no_result() -> Option<Why> {
-    Some(told("nothing in the block of `@p` assigns its result").help(
-        "assign it to the name of the function: `@p := ..`",
-    ))
+pub(crate) fn no_result(why: &mut Why) -> bool {
+    why.form = "nothing in the block of `@p` assigns its result";
+    why.help = Help::Is("assign it to the name of the function: `@p := ..`");
+    true
 }

@@ -1,7 +1,7 @@
 //! Selectors that do not fit what they select of, and indices of another type (34).
 
 use crate::context::{Context, long};
-use crate::why::{Change, Help, Why, told};
+use crate::why::{Change, Help, Mark, Why};
 use ps_diagnose_outline::{Form, Type};
 use ps_scan::Kind;
 use ps_syntax::{Expr, Selector, Variable};
@@ -9,9 +9,9 @@ use ps_text::Span;
 
 impl<'a> Context<'a> {
     /// Selectors that don't fit what they select of.
-    pub(crate) fn wrong_selector(&self, variable: &Variable) -> Option<Why> {
+    pub(crate) fn wrong_selector(&self, variable: &Variable, why: &mut Why) -> bool {
         let Some(mut ty) = self.outline.type_of_name(variable.name) else {
-            return None;
+            return false;
         };
         let mut end = variable.name.to;
         for selector in variable.selectors.as_slice() {
@@ -19,16 +19,16 @@ impl<'a> Context<'a> {
                 from: variable.name.from,
                 to: end,
             };
-            if let Some(why) = self.cannot_select(text, ty, selector) {
-                return Some(why);
+            if self.cannot_select(text, ty, selector, why) {
+                return true;
             }
             match self.outline.selected(ty, selector) {
                 Some(next) => ty = next,
-                None => return None,
+                None => return false,
             }
             end = self.end_of_selector(end, selector);
         }
-        None
+        false
     }
 
     // Where a selector ends that stands behind an offset.
@@ -56,26 +56,29 @@ impl<'a> Context<'a> {
     }
 
     // A selector that doesn't fit.
-    fn cannot_select(&self, text: Span, ty: Type, selector: &Selector) -> Option<Why> {
+    fn cannot_select(&self, text: Span, ty: Type, selector: &Selector, why: &mut Why) -> bool {
         match (selector, self.outline.form(ty)) {
             (Selector::Field(_), Some(Form::Record(_)))
             | (Selector::Content(_), Some(Form::Pointer(_)))
-            | (_, None) => None,
+            | (_, None) => false,
             (Selector::Index(indices), Some(Form::Array { .. })) => {
-                self.too_many_indices(text, ty, indices.len())
+                self.too_many_indices(text, ty, indices.len(), why)
             }
-            (Selector::Index(_), Some(_)) => self.no_structure(text, ty, "array"),
-            (Selector::Field(_), Some(Form::Pointer(_))) => Some(no_content(text)),
+            (Selector::Index(_), Some(_)) => self.no_structure(text, ty, "array", why),
+            (Selector::Field(_), Some(Form::Pointer(_))) => {
+                no_content(text, why);
+                true
+            }
             (Selector::Field(field), Some(Form::Array { .. })) => {
-                self.no_record_but_array(text, ty, *field)
+                self.no_record_but_array(text, ty, *field, why)
             }
-            (Selector::Field(_), Some(_)) => self.no_structure(text, ty, "record"),
-            (Selector::Content(_), Some(_)) => self.no_structure(text, ty, "pointer"),
+            (Selector::Field(_), Some(_)) => self.no_structure(text, ty, "record", why),
+            (Selector::Content(_), Some(_)) => self.no_structure(text, ty, "pointer", why),
         }
     }
 
     // More indices than an array has.
-    fn too_many_indices(&self, text: Span, array: Type, given: usize) -> Option<Why> {
+    fn too_many_indices(&self, text: Span, array: Type, given: usize, why: &mut Why) -> bool {
         let mut ty = array;
         let mut count: i64 = 0;
         for _ in 0..given {
@@ -86,38 +89,45 @@ impl<'a> Context<'a> {
                         ..
                     },
                 ) => ty = component,
-                Some(_) => return Some(told_indices(text, count, given)),
-                None => return None,
+                Some(_) => {
+                    told_indices(text, count, given, why);
+                    return true;
+                }
+                None => return false,
             }
             count = count.saturating_add(1);
         }
-        None
+        false
     }
 
     /// What is selected of as if it were an array, a record or a pointer.
-    pub(crate) fn no_structure(&self, text: Span, ty: Type, word: &'static str) -> Option<Why> {
+    pub(crate) fn no_structure(
+        &self,
+        text: Span,
+        ty: Type,
+        word: &'static str,
+        why: &mut Why,
+    ) -> bool {
         match self.told(Some(ty)) {
-            Some(ty) => Some(
-                told("`@x` is @t, and no @w")
-                    .text(text)
-                    .ty(ty)
-                    .word(word)
-                    .declared(text),
-            ),
-            None => None,
+            Some(ty) => {
+                why.form = "`@x` is @t, and no @w";
+                why.text = text;
+                why.ty = ty;
+                why.word = word;
+                why.mark = Mark::Declared(text);
+                true
+            }
+            None => false,
         }
     }
 
     // An array whose components are records.
-    fn no_record_but_array(&self, text: Span, ty: Type, field: Span) -> Option<Why> {
-        match self.no_structure(text, ty, "record") {
-            Some(why) => Some(why.helped(Help::Both(
-                "a field is one of a component: `@a[..].@b`",
-                text,
-                field,
-            ))),
-            None => None,
+    fn no_record_but_array(&self, text: Span, ty: Type, field: Span, why: &mut Why) -> bool {
+        if !self.no_structure(text, ty, "record", why) {
+            return false;
         }
+        why.help = Help::Both("a field is one of a component: `@a[..].@b`", text, field);
+        true
     }
 
     // The type of an index: behind so many selectors and indices of a variable.
@@ -157,22 +167,22 @@ impl<'a> Context<'a> {
         before: u32,
         number: u32,
         value: &Expr,
-    ) -> Option<Why> {
+        why: &mut Why,
+    ) -> bool {
         let index = self.told(self.index_type(variable, before, number));
         match self.unlike(index, self.told_expr(value)) {
             Some((index, ty)) => {
                 let text = self.expr_span(value);
-                Some(
-                    told("an index of `@y` is @u, and `@x` is @t")
-                        .text(text)
-                        .ty(ty)
-                        .second(index)
-                        .other(self.indexed_before(variable.name, number, value.first_token()))
-                        .declared(variable.name)
-                        .helped(self.conversion(index, ty, text)),
-                )
+                why.form = "an index of `@y` is @u, and `@x` is @t";
+                why.text = text;
+                why.ty = ty;
+                why.second = index;
+                why.other = self.indexed_before(variable.name, number, value.first_token());
+                why.mark = Mark::Declared(variable.name);
+                why.help = self.conversion(index, ty, text);
+                true
             }
-            None => None,
+            None => false,
         }
     }
 
@@ -189,22 +199,22 @@ impl<'a> Context<'a> {
 }
 
 // How many indices an array has, and is given.
-fn told_indices(text: Span, count: i64, given: usize) -> Why {
-    told(if count == 1 {
+fn told_indices(text: Span, count: i64, given: usize, why: &mut Why) {
+    why.form = if count == 1 {
         "`@x` has @N index, and is given @m"
     } else {
         "`@x` has @N indices, and is given @m"
-    })
-    .text(text)
-    .number(count)
-    .further(long(given))
-    .declared(text)
+    };
+    why.text = text;
+    why.number = count;
+    why.further = long(given);
+    why.mark = Mark::Declared(text);
 }
 
 /// A pointer without `^`.
-pub(crate) fn no_content(text: Span) -> Why {
-    told("`@x` is a pointer, and no record: what it points to is `@x^`")
-        .text(text)
-        .declared(text)
-        .changed(Change::Behind(text, "", "^"))
+pub(crate) fn no_content(text: Span, why: &mut Why) {
+    why.form = "`@x` is a pointer, and no record: what it points to is `@x^`";
+    why.text = text;
+    why.mark = Mark::Declared(text);
+    why.change = Change::Behind(text, "", "^");
 }

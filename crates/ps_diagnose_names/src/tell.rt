@@ -4,7 +4,7 @@ use crate::context::{Context, Own};
 use crate::facts::relation_word;
 use crate::spot::Spot;
 use crate::text::Text;
-use crate::why::{Change, Help, Mark, NOWHERE, Why, told};
+use crate::why::{Change, Help, Mark, NOWHERE, Why};
 use ps_diagnose::{Draft, Trial};
 use ps_diagnostic::{Edit, Label};
 use ps_scan::Kind;
@@ -323,7 +323,7 @@ impl<'a> Context<'a> {
     fn try_each_compared(&self, out: &mut Told) {
         for spot in self.spots.iter() {
             if let Spot::Compare(left, relation, right) = spot {
-                if right.first_token() == self.place().from {
+                if right.first_token() == self.fault.place.from {
                     return self.try_compared(out, self.simple_span(left), *relation, right);
                 }
             }
@@ -346,10 +346,10 @@ impl<'a> Context<'a> {
 
     // Puts a comparison between parentheses.
     fn put_compared(&self, put: &mut Text, left: Span, relation: Relation, right: Span) {
-        let why = told("")
-            .text(left)
-            .other(right)
-            .word(relation_word(relation));
+        let mut why = Why::new();
+        why.text = left;
+        why.other = right;
+        why.word = relation_word(relation);
         self.put_form(put, "(@x @w @y)", &why, edit_of(NOWHERE, NOWHERE, 0));
     }
 

@@ -1,40 +1,42 @@
 //! Names that are declared twice (31), or used before they are declared (32).
 
 use crate::context::Context;
-use crate::why::{Change, Mark, Why, told};
+use crate::why::{Change, Help, Mark, Why};
 use ps_diagnose_outline::{Point, PointKind};
 use ps_scan::{Kind, Token};
 use ps_text::Span;
 
 impl<'a> Context<'a> {
     /// A name that is declared twice.
-    pub(crate) fn twice(&self) -> Option<Why> {
-        match self.twice_in_heading() {
-            Some(why) => Some(why),
-            None => match self.declared_here() {
-                Some(point) => self.declared_twice(point),
-                None => None,
-            },
+    pub(crate) fn twice(&self, why: &mut Why) -> bool {
+        if self.twice_in_heading(why) {
+            return true;
+        }
+        match self.declared_here() {
+            Some(point) => self.declared_twice(point, why),
+            None => false,
         }
     }
 
-    fn declared_twice(&self, point: Point) -> Option<Why> {
+    fn declared_twice(&self, point: Point, why: &mut Why) -> bool {
         match self.outline.point_in(point.region, point.spelling) {
             Some(first) if first.is_forward && !self.is_before(Kind::Semicolon) => {
-                Some(self.twice_forward(first))
+                self.twice_forward(first, why);
+                true
             }
-            Some(first) => Some(
-                told(form_of_twice(point.kind, first.kind))
-                    .marked(Mark::At("here the first time", first.name))
-                    .changed(self.without_declaration(point)),
-            ),
-            None => None,
+            Some(first) => {
+                why.form = form_of_twice(point.kind, first.kind);
+                why.mark = Mark::At("here the first time", first.name);
+                why.change = self.without_declaration(point);
+                true
+            }
+            None => false,
         }
     }
 
     // Whether the token behind the place is one of a kind.
     fn is_before(&self, kind: Kind) -> bool {
-        match self.token_at(self.place().to) {
+        match self.token_at(self.fault.place.to) {
             Some(token) => token.kind == kind,
             None => false,
         }
@@ -43,7 +45,7 @@ impl<'a> Context<'a> {
     /// The defining point at the place.
     pub(crate) fn declared_here(&self) -> Option<Point> {
         for point in self.outline.points() {
-            if point.name.from == self.place().from {
+            if point.name.from == self.fault.place.from {
                 return Some(*point);
             }
         }
@@ -51,26 +53,25 @@ impl<'a> Context<'a> {
     }
 
     // A program parameter.
-    fn twice_in_heading(&self) -> Option<Why> {
+    fn twice_in_heading(&self, why: &mut Why) -> bool {
         match (
             self.first_like(),
             self.outline.program().parameters.as_slice().last(),
         ) {
             (Some(first), Some(last))
-                if self.place().from <= last.from && first.from < self.place().from => {
-                Some(
-                    told("`@p` stands twice in the heading")
-                        .marked(Mark::At("here the first time", first))
-                        .changed(self.without_comma()),
-                )
+                if self.fault.place.from <= last.from && first.from < self.fault.place.from => {
+                why.form = "`@p` stands twice in the heading";
+                why.mark = Mark::At("here the first time", first);
+                why.change = self.without_comma();
+                true
             }
-            _ => None,
+            _ => false,
         }
     }
 
     // The first program parameter of the spelling at the place.
     fn first_like(&self) -> Option<Span> {
-        let spelling = self.outline.spelling_at(self.place().from);
+        let spelling = self.outline.spelling_at(self.fault.place.from);
         for parameter in self.outline.program().parameters.as_slice() {
             if self.outline.spelling_at(parameter.from) == spelling {
                 return Some(*parameter);
@@ -81,14 +82,14 @@ impl<'a> Context<'a> {
 
     // Tries the text without the name at the place and a comma beside it.
     fn without_comma(&self) -> Change {
-        let before = self.outline.token_before(self.place().from);
-        match (before, self.token_at(self.place().to)) {
+        let before = self.outline.token_before(self.fault.place.from);
+        match (before, self.token_at(self.fault.place.to)) {
             (Some(comma), _) if comma.kind == Kind::Comma => Change::Without(Span {
                 from: comma.span.from,
-                to: self.place().to,
+                to: self.fault.place.to,
             }),
             (_, Some(comma)) if comma.kind == Kind::Comma => Change::Without(Span {
-                from: self.place().from,
+                from: self.fault.place.from,
                 to: comma.span.to,
             }),
             _ => Change::None,
@@ -96,16 +97,14 @@ impl<'a> Context<'a> {
     }
 
     // A heading by `forward` whose parameters are told again.
-    fn twice_forward(&self, first: Point) -> Why {
-        let why = told("`@p` was declared with `forward`: its parameters are not repeated").marked(
-            Mark::At("here the first time", first.name),
-        );
-        match end_of_heading(self.tokens_behind(self.place().to)) {
-            Some(to) => why.changed(Change::Without(Span {
-                from: self.place().to,
+    fn twice_forward(&self, first: Point, why: &mut Why) {
+        why.form = "`@p` was declared with `forward`: its parameters are not repeated";
+        why.mark = Mark::At("here the first time", first.name);
+        if let Some(to) = end_of_heading(self.tokens_behind(self.fault.place.to)) {
+            why.change = Change::Without(Span {
+                from: self.fault.place.to,
                 to,
-            })),
-            None => why,
+            });
         }
     }
 
@@ -124,8 +123,8 @@ impl<'a> Context<'a> {
     }
 
     fn without_one(&self) -> Change {
-        let before = self.outline.token_before(self.place().from);
-        match (before, self.token_at(self.place().to)) {
+        let before = self.outline.token_before(self.fault.place.from);
+        match (before, self.token_at(self.fault.place.to)) {
             (Some(before), Some(behind)) => {
                 if before.kind == Kind::Comma || behind.kind == Kind::Comma {
                     self.without_comma()
@@ -139,7 +138,7 @@ impl<'a> Context<'a> {
 
     // Tries the text without what begins at the place, up to its `;`.
     fn without_whole(&self) -> Change {
-        match end_of_declaration(self.tokens_behind(self.place().from)) {
+        match end_of_declaration(self.tokens_behind(self.fault.place.from)) {
             Some(to) => Change::Without(Span {
                 from: self.from_word(to),
                 to,
@@ -154,33 +153,45 @@ impl<'a> Context<'a> {
             Some(next) => next.kind != Kind::Name,
             None => true,
         };
-        match self.outline.token_before(self.place().from) {
+        match self.outline.token_before(self.fault.place.from) {
             Some(word) if is_last && matches!(word.kind, Kind::Var | Kind::Const | Kind::Type) => {
                 word.span.from
             }
-            _ => self.place().from,
+            _ => self.fault.place.from,
         }
     }
 
     /// A name that is used before it is declared.
-    pub(crate) fn used_before(&self) -> Option<Why> {
+    pub(crate) fn used_before(&self, why: &mut Why) -> bool {
         match self.point_here() {
-            Some(point) if point.name.from < self.place().from => Some(used_in_itself(point)),
-            Some(point) => Some(self.used_above(point)),
-            None => None,
+            Some(point) if point.name.from < self.fault.place.from => {
+                used_in_itself(point, why);
+                true
+            }
+            Some(point) => {
+                self.used_above(point, why);
+                true
+            }
+            None => false,
         }
     }
 
-    fn used_above(&self, point: Point) -> Why {
+    fn used_above(&self, point: Point, why: &mut Why) {
         match (self.around(point), point.kind) {
-            (Some(other), _) => told("`@p` is used before it is declared in this block")
-                .other(other.name)
-                .here(point.name)
-                .note("the `@y` of the block around, at @l, is hidden in this one"),
-            (None, PointKind::Procedure | PointKind::Function) => {
-                self.with_forward(used_early(point), point)
+            (Some(other), _) => {
+                why.form = "`@p` is used before it is declared in this block";
+                why.other = other.name;
+                why.mark = Mark::Here(point.name);
+                why.note = "the `@y` of the block around, at @l, is hidden in this one";
             }
-            (None, _) => used_early(point).help_of("declare `@a` before what uses it", point.name),
+            (None, PointKind::Procedure | PointKind::Function) => {
+                used_early(point, why);
+                self.with_forward(point, why);
+            }
+            (None, _) => {
+                used_early(point, why);
+                why.help = Help::Of("declare `@a` before what uses it", point.name);
+            }
         }
     }
 
@@ -193,13 +204,12 @@ impl<'a> Context<'a> {
     }
 
     // The heading by `forward` that would help.
-    fn with_forward(&self, why: Why, point: Point) -> Why {
-        match self.heading_of(point) {
-            Some(heading) => why.help_of(
+    fn with_forward(&self, point: Point, why: &mut Why) {
+        if let Some(heading) = self.heading_of(point) {
+            why.help = Help::Of(
                 "declare it first, or put its heading before this one, with `forward`: @a; forward;",
                 heading,
-            ),
-            None => why,
+            );
         }
     }
 
@@ -232,19 +242,23 @@ fn form_of_twice(kind: PointKind, first: PointKind) -> &'static str {
     }
 }
 
-fn used_in_itself(point: Point) -> Why {
-    let why = told("`@p` is used in its own declaration").here(point.name);
+fn used_in_itself(point: Point, why: &mut Why) {
+    why.form = "`@p` is used in its own declaration";
+    why.mark = Mark::Here(point.name);
     match point.kind {
-        PointKind::Type => why.help_of(
-            "a type reaches itself only through a pointer: `^@a`",
-            point.name,
-        ),
-        _ => why,
+        PointKind::Type => {
+            why.help = Help::Of(
+                "a type reaches itself only through a pointer: `^@a`",
+                point.name,
+            );
+        }
+        _ => {}
     }
 }
 
-fn used_early(point: Point) -> Why {
-    told("`@p` is used before it is declared").here(point.name)
+fn used_early(point: Point, why: &mut Why) {
+    why.form = "`@p` is used before it is declared";
+    why.mark = Mark::Here(point.name);
 }
 
 // Where the `;` begins that ends a heading.

@@ -4,7 +4,7 @@ use crate::context::Context;
 use crate::operators::{adding_of, type_of_operand};
 use crate::required::Known;
 use crate::spot::Spot;
-use crate::why::{Change, Why, told};
+use crate::why::{Change, Help, Why};
 use ps_diagnose_outline::{Form, Part, PointKind, Type};
 use ps_scan::{Kind, Token};
 use ps_syntax::{Adding, Simple};
@@ -12,86 +12,99 @@ use ps_text::Span;
 
 impl<'a> Context<'a> {
     /// A name of which nothing is known, and what a declaration of it would be.
-    pub(crate) fn undeclared(&self) -> Why {
-        let why = told("`@p` is not declared");
+    pub(crate) fn undeclared(&self, why: &mut Why) {
+        why.form = "`@p` is not declared";
         match self.spots.last() {
-            Some(Spot::Statement(_, parameters)) => why.help(if parameters.is_empty() {
-                "a procedure is declared before it is used: procedure @p; begin .. end;"
-            } else {
-                "a procedure is declared before it is used: procedure @p(..); begin .. end;"
-            }),
-            Some(Spot::Call(..)) => why.help(
-                "a function is declared before it is used: function @p(..): integer; begin .. end;",
-            ),
-            Some(Spot::TypeName(_) | Spot::IndexType(_) | Spot::Result(..)) => why.help(
-                "the types integer, char and Boolean need no declaration; others are declared in the `type` part: type @p = ..;",
-            ),
+            Some(Spot::Statement(_, parameters)) => {
+                why.help = Help::Is(if parameters.is_empty() {
+                    "a procedure is declared before it is used: procedure @p; begin .. end;"
+                } else {
+                    "a procedure is declared before it is used: procedure @p(..); begin .. end;"
+                });
+            }
+            Some(Spot::Call(..)) => {
+                why.help = Help::Is(
+                    "a function is declared before it is used: function @p(..): integer; begin .. end;",
+                );
+            }
+            Some(Spot::TypeName(_) | Spot::IndexType(_) | Spot::Result(..)) => {
+                why.help = Help::Is(
+                    "the types integer, char and Boolean need no declaration; others are declared in the `type` part: type @p = ..;",
+                );
+            }
             Some(Spot::Definition(..) | Spot::Range(..) | Spot::CaseConstant(..)) => {
-                why.help("a constant is declared in the `const` part: const @p = ..;")
+                why.help = Help::Is("a constant is declared in the `const` part: const @p = ..;");
             }
             _ => {
-                let why = self.with_string(self.with_members(why));
-                self.with_variable(why, self.common_block())
+                self.with_members(why);
+                self.with_string(why);
+                self.with_variable(self.common_block(), why);
             }
         }
     }
 
     // The string that may be meant where a name is written once, and used nowhere else.
-    fn with_string(&self, why: Why) -> Why {
+    fn with_string(&self, why: &mut Why) {
         for spot in self.spots.iter() {
             if let Spot::Passed(name, ..) = spot {
-                return match self.known(*name) {
-                    Known::Write | Known::Writeln if self.uses.is_empty() => {
-                        why.help("a string stands between apostrophes: '@p'")
-                            .changed(Change::For(self.place(), "'@p'"))
-                    }
-                    _ => why,
-                };
+                if self.uses.is_empty() && self.is_writing(*name) {
+                    why.add_help(Help::Is("a string stands between apostrophes: '@p'"));
+                    why.change = Change::For(self.fault.place, "'@p'");
+                }
+                return;
             }
         }
-        why
     }
 
     // The constants of the enumeration that is wanted at the place.
-    fn with_members(&self, why: Why) -> Why {
+    fn with_members(&self, why: &mut Why) {
         let Some(ty) = self.wanted_type() else {
-            return why;
+            return;
         };
-        match self.outline.form(ty) {
-            Some(Form::Enumeration(denoter)) => {
-                match self.outline.denoter_at(Type::Told(denoter)) {
-                    Some(from) => why.ty(ty).help_of(
-                        "the values of @t are @a",
-                        self.outline.extent(from, Part::Denoter),
-                    ),
-                    None => why,
-                }
+        if let Some(Form::Enumeration(denoter)) = self.outline.form(ty) {
+            if let Some(from) = self.outline.denoter_at(Type::Told(denoter)) {
+                why.ty = ty;
+                why.add_help(Help::Of(
+                    "the values of @t are @a",
+                    self.outline.extent(from, Part::Denoter),
+                ));
             }
-            _ => why,
         }
     }
 
     /// Tries a declaration of a variable in a block, if its type can be told.
-    pub(crate) fn with_variable(&self, why: Why, block: u32) -> Why {
+    pub(crate) fn with_variable(&self, block: u32, why: &mut Why) {
         match self.wanted_type() {
-            Some(Type::Text(length)) => self.declared_in(
-                why.number(i64::from(length)),
-                block,
-                "@p: packed array [1..@n] of char;",
-                "var @p: packed array [1..@n] of char;",
-            ),
+            Some(Type::Text(length)) => {
+                why.number = i64::from(length);
+                self.declared_in(
+                    block,
+                    "@p: packed array [1..@n] of char;",
+                    "var @p: packed array [1..@n] of char;",
+                    why,
+                );
+            }
             Some(Type::Integer) => {
-                self.declared_in(why, block, "@p: integer;", "var @p: integer;")
+                self.declared_in(block, "@p: integer;", "var @p: integer;", why);
             }
             Some(Type::Boolean) => {
-                self.declared_in(why, block, "@p: Boolean;", "var @p: Boolean;")
+                self.declared_in(block, "@p: Boolean;", "var @p: Boolean;", why);
             }
-            Some(Type::Char) => self.declared_in(why, block, "@p: char;", "var @p: char;"),
+            Some(Type::Char) => {
+                self.declared_in(block, "@p: char;", "var @p: char;", why);
+            }
             Some(Type::Told(_)) => match self.wanted_name() {
-                Some(name) => self.declared_in(why.third(name), block, "@p: @z;", "var @p: @z;"),
-                None => why.help(A_VARIABLE),
+                Some(name) => {
+                    why.third = name;
+                    self.declared_in(block, "@p: @z;", "var @p: @z;", why);
+                }
+                None => {
+                    why.add_help(Help::Is(A_VARIABLE));
+                }
             },
-            _ => why.help(A_VARIABLE),
+            _ => {
+                why.add_help(Help::Is(A_VARIABLE));
+            }
         }
     }
 
@@ -135,7 +148,7 @@ impl<'a> Context<'a> {
 
     // The type of the first bound where the place is a control variable.
     fn control_type(&self) -> Option<Type> {
-        match self.token_at(self.place().to) {
+        match self.token_at(self.fault.place.to) {
             Some(assign) => self.type_of_bound(assign.span.to),
             None => None,
         }
@@ -177,19 +190,22 @@ impl<'a> Context<'a> {
     }
 
     // Tries a declaration in a block: before its first variable, or behind its declarations.
-    fn declared_in(&self, why: Why, block: u32, form: &'static str, part: &'static str) -> Why {
+    fn declared_in(&self, block: u32, form: &'static str, part: &'static str, why: &mut Why) {
         match self.first_variable(block) {
-            Some(name) => why.changed(Change::Before(name, " ", form)),
-            None => match self.end_of_declarations(block) {
-                Some(place) => why.changed(Change::Before(place, "\n", part)),
-                None => why,
-            },
+            Some(name) => {
+                why.add_change(Change::Before(name, " ", form));
+            }
+            None => {
+                if let Some(place) = self.end_of_declarations(block) {
+                    why.add_change(Change::Before(place, "\n", part));
+                }
+            }
         }
     }
 
     /// The block of the place.
     pub(crate) fn block_here(&self) -> u32 {
-        self.outline.block_at(self.place().from)
+        self.outline.block_at(self.fault.place.from)
     }
 
     // The block that all uses are in: that of the place, or the program.

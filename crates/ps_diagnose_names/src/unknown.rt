@@ -5,7 +5,7 @@ use crate::facts::{is_variable, required_kind};
 use crate::spot::Spot;
 use crate::tell::Told;
 use crate::text::Text;
-use crate::why::{Change, Mark, Why, told};
+use crate::why::{Change, Help, Mark, Why};
 use ps_diagnose::nearest;
 use ps_diagnose_outline::{Form, Point, PointKind, RegionKind, required_names};
 use ps_scan::Kind;
@@ -33,10 +33,10 @@ impl<'a> Context<'a> {
                 return self.unknown_field(out, variable, *before);
             }
         }
-        let why = match self.known_elsewhere() {
-            Some(why) => why,
-            None => self.unknown_name()?,
-        };
+        let mut why = Why::new();
+        if !self.known_elsewhere(&mut why) && !self.near_name(&mut why)? {
+            self.undeclared(&mut why);
+        }
         self.tell(&why, out);
         if !self.uses.is_empty() {
             out.note(self.told_uses());
@@ -44,27 +44,14 @@ impl<'a> Context<'a> {
         Ok(())
     }
 
-    fn unknown_name(&self) -> Result<Why, AllocError> {
-        match self.near_name()? {
-            Some(why) => Ok(why),
-            None => Ok(self.undeclared()),
-        }
-    }
-
     // A name that is declared, and cannot be used so.
-    fn known_elsewhere(&self) -> Option<Why> {
-        if let Some(why) = self.unheaded() {
-            return Some(why);
-        }
-        match self.field_alone() {
-            Some(why) => Some(why),
-            None => self.out_of_reach(),
-        }
+    fn known_elsewhere(&self, why: &mut Why) -> bool {
+        self.unheaded(why) || self.field_alone(why) || self.out_of_reach(why)
     }
 
     // The number of the spelling at the place.
     fn spelling_here(&self) -> Option<u32> {
-        self.outline.spelling_at(self.place().from)
+        self.outline.spelling_at(self.fault.place.from)
     }
 
     // Where else the name stands.
@@ -99,9 +86,11 @@ impl<'a> Context<'a> {
         variable: &Variable,
         before: u32,
     ) -> Result<(), AllocError> {
-        let why = told("`@p` is no field of `@x`").text(self.record_text(variable.name));
+        let mut why = Why::new();
+        why.form = "`@p` is no field of `@x`";
+        why.text = self.record_text(variable.name);
         match self.record_before(variable, before) {
-            Some(region) => self.tell_fields(out, self.with_record(why, region), region),
+            Some(region) => self.tell_fields(out, &mut why, region),
             None => {
                 self.tell(&why, out);
                 Ok(())
@@ -111,7 +100,7 @@ impl<'a> Context<'a> {
 
     // What stands before the point before the place.
     fn record_text(&self, name: Span) -> Span {
-        match self.outline.token_before(self.place().from) {
+        match self.outline.token_before(self.fault.place.from) {
             Some(point) => Span {
                 from: name.from,
                 to: point.span.from,
@@ -135,32 +124,30 @@ impl<'a> Context<'a> {
     }
 
     // Marks the record.
-    fn with_record(&self, why: Why, region: u32) -> Why {
-        match self.outline.region(region) {
-            Some(record) => match self.token_at(record.from) {
-                Some(token) => why.marked(Mark::At("its record", token.span)),
-                None => why,
-            },
-            None => why,
+    fn with_record(&self, region: u32, why: &mut Why) {
+        if let Some(record) = self.outline.region(region) {
+            if let Some(token) = self.token_at(record.from) {
+                why.mark = Mark::At("its record", token.span);
+            }
         }
     }
 
     // Tells the fields of a record, and tries the nearest.
-    fn tell_fields(&self, out: &mut Told, why: Why, region: u32) -> Result<(), AllocError> {
+    fn tell_fields(&self, out: &mut Told, why: &mut Why, region: u32) -> Result<(), AllocError> {
         let fields = self.fields_of(region)?;
         let near = self.nearest_of(fields.as_slice())?;
-        self.tell(&self.with_near(why, near), out);
+        self.with_record(region, why);
+        self.with_near(near, why);
+        self.tell(why, out);
         out.help(self.told_fields(fields.as_slice()));
         Ok(())
     }
 
     // Tries the nearest field.
-    fn with_near(&self, why: Why, near: Option<Point>) -> Why {
-        match near {
-            Some(near) => why
-                .other(near.name)
-                .changed(Change::For(self.place(), "@y")),
-            None => why,
+    fn with_near(&self, near: Option<Point>, why: &mut Why) {
+        if let Some(near) = near {
+            why.other = near.name;
+            why.change = Change::For(self.fault.place, "@y");
         }
     }
 
@@ -222,32 +209,37 @@ impl<'a> Context<'a> {
     }
 
     // A heading that completes nothing.
-    fn unheaded(&self) -> Option<Why> {
+    fn unheaded(&self, why: &mut Why) -> bool {
         let form = "`@p` has no heading above: `: TYPE` is missing here, or `forward` there";
-        match self.outline.token_before(self.place().from) {
+        match self.outline.token_before(self.fault.place.from) {
             Some(word) if word.kind == Kind::Function => {
-                Some(told(form).changed(Change::Behind(self.place(), "", ": integer")))
+                why.form = form;
+                why.change = Change::Behind(self.fault.place, "", ": integer");
+                true
             }
-            Some(word) if word.kind == Kind::Procedure => Some(told(form)),
-            _ => None,
+            Some(word) if word.kind == Kind::Procedure => {
+                why.form = form;
+                true
+            }
+            _ => false,
         }
     }
 
     // A field without its record before it.
-    fn field_alone(&self) -> Option<Why> {
+    fn field_alone(&self, why: &mut Why) -> bool {
         if !self.could_stand(PointKind::Variable) {
-            return None;
+            return false;
         }
         let mut tried: u32 = 0;
         for point in self.outline.points() {
             if self.is_field_here(*point) && tried < MOST_RECORDS {
                 tried = tried.saturating_add(1);
-                if let Some(why) = self.field_of(*point) {
-                    return Some(why);
+                if self.field_of(*point, why) {
+                    return true;
                 }
             }
         }
-        None
+        false
     }
 
     // Whether a point is a field of the spelling at the place.
@@ -256,23 +248,24 @@ impl<'a> Context<'a> {
     }
 
     // A field, if a variable of its record is visible.
-    fn field_of(&self, field: Point) -> Option<Why> {
+    fn field_of(&self, field: Point, why: &mut Why) -> bool {
         match self.record_variable(field.region) {
-            Some((variable, is_pointer)) => Some(
-                told("`@p` is not declared: it is a field of `@x@w`")
-                    .text(variable.name)
-                    .other(field.name)
-                    .word(if is_pointer { "^" } else { "" })
-                    .marked(Mark::At("the field is declared here", field.name))
-                    .changed(Change::For(self.place(), "@x@w.@y")),
-            ),
-            None => None,
+            Some((variable, is_pointer)) => {
+                why.form = "`@p` is not declared: it is a field of `@x@w`";
+                why.text = variable.name;
+                why.other = field.name;
+                why.word = if is_pointer { "^" } else { "" };
+                why.mark = Mark::At("the field is declared here", field.name);
+                why.change = Change::For(self.fault.place, "@x@w.@y");
+                true
+            }
+            None => false,
         }
     }
 
     // A visible variable whose type is a record, or a pointer to it.
     fn record_variable(&self, record: u32) -> Option<(Point, bool)> {
-        let region = self.outline.region_at(self.place().from);
+        let region = self.outline.region_at(self.fault.place.from);
         let mut best = None;
         for point in self.outline.points() {
             if let Some(is_pointer) = self.leads_to(*point, record) {
@@ -300,45 +293,51 @@ impl<'a> Context<'a> {
     }
 
     // A name that is declared in a routine which doesn't reach so far.
-    fn out_of_reach(&self) -> Option<Why> {
+    fn out_of_reach(&self, why: &mut Why) -> bool {
         for point in self.outline.points() {
             if Some(point.spelling) == self.spelling_here() && self.could_stand(point.kind) {
-                if let Some(why) = self.local_of(*point) {
-                    return Some(why);
+                if self.local_of(*point, why) {
+                    return true;
                 }
             }
         }
-        None
+        false
     }
 
     // A name of a routine.
-    fn local_of(&self, point: Point) -> Option<Why> {
+    fn local_of(&self, point: Point, why: &mut Why) -> bool {
         match (
             self.outline.region(point.region),
             self.region_name(point.region),
         ) {
             (Some(region), Some(routine))
                 if matches!(region.kind, RegionKind::Routine | RegionKind::Heading) => {
-                let why = told("`@p` is not declared here: it is @k of `@x`")
-                    .kind(point.kind)
-                    .text(routine)
-                    .here(point.name);
-                Some(self.with_block(why, point.kind))
+                why.form = "`@p` is not declared here: it is @k of `@x`";
+                why.kind = point.kind;
+                why.text = routine;
+                why.mark = Mark::Here(point.name);
+                self.with_block(point.kind, why);
+                true
             }
-            _ => None,
+            _ => false,
         }
     }
 
     // Where a name is declared that is meant in two blocks.
-    fn with_block(&self, why: Why, kind: PointKind) -> Why {
+    fn with_block(&self, kind: PointKind, why: &mut Why) {
         match self.spots.last() {
             Some(Spot::Control(_)) => {
-                self.with_variable(why.help("declare it in this block too"), self.block_here())
+                why.help = Help::Is("declare it in this block too");
+                self.with_variable(self.block_here(), why);
             }
             _ if is_variable(kind) => {
-                why.help("declare it in the block around both, or pass it as a parameter")
+                why.help = Help::Is(
+                    "declare it in the block around both, or pass it as a parameter",
+                );
             }
-            _ => why.help("declare it in the block around both"),
+            _ => {
+                why.help = Help::Is("declare it in the block around both");
+            }
         }
     }
 
@@ -368,18 +367,21 @@ impl<'a> Context<'a> {
     }
 
     // A name that is near by its spelling.
-    fn near_name(&self) -> Result<Option<Why>, AllocError> {
+    fn near_name(&self, why: &mut Why) -> Result<bool, AllocError> {
         let fitting = self.points_that_fit()?;
         match self.nearest_of(fitting.as_slice())? {
-            Some(point) => Ok(Some(near_point(point))),
-            None => self.near_required(),
+            Some(point) => {
+                near_point(point, why);
+                Ok(true)
+            }
+            None => self.near_required(why),
         }
     }
 
     // The visible names of a kind that could stand at the place.
     fn points_that_fit(&self) -> Result<Vec<Point>, AllocError> {
         let mut fitting = Vec::new(self.alloc);
-        let region = self.outline.region_at(self.place().from);
+        let region = self.outline.region_at(self.fault.place.from);
         for point in self.outline.points() {
             if self.could_stand(point.kind) && self.is_visible(region, *point) {
                 fitting.push(*point)?;
@@ -389,19 +391,16 @@ impl<'a> Context<'a> {
     }
 
     // A required name that is near by its spelling.
-    fn near_required(&self) -> Result<Option<Why>, AllocError> {
+    fn near_required(&self, why: &mut Why) -> Result<bool, AllocError> {
         let name = self.compared_here();
         if name.is_empty() {
-            return Ok(None);
+            return Ok(false);
         }
         let names = self.required_that_fit()?;
         let found = nearest(self.alloc, name, names.as_slice())?;
         match found {
-            Some(number) => match names.get(number) {
-                Some(near) => Ok(Some(near_word(*near))),
-                None => Ok(None),
-            },
-            None => Ok(None),
+            Some(number) => Ok(near_word(names.get(number), why)),
+            None => Ok(false),
         }
     }
 
@@ -431,16 +430,20 @@ fn joint(number: usize, told: usize, all: usize) -> &'static str {
 }
 
 // The name that is near.
-fn near_point(point: Point) -> Why {
-    told("`@p` is not declared, `@x` is")
-        .text(point.name)
-        .here(point.name)
-        .changed(Change::Everywhere("@x"))
+fn near_point(point: Point, why: &mut Why) {
+    why.form = "`@p` is not declared, `@x` is";
+    why.text = point.name;
+    why.mark = Mark::Here(point.name);
+    why.change = Change::Everywhere("@x");
 }
 
 // The required name that is near.
-fn near_word(name: &'static str) -> Why {
-    told("`@p` is not declared, `@w` is")
-        .word(name)
-        .changed(Change::Everywhere("@w"))
+fn near_word(name: Option<&&'static str>, why: &mut Why) -> bool {
+    let Some(name) = name else {
+        return false;
+    };
+    why.form = "`@p` is not declared, `@w` is";
+    why.word = *name;
+    why.change = Change::Everywhere("@w");
+    true
 }

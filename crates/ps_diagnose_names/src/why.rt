@@ -57,7 +57,7 @@ pub(crate) enum Change {
     Commas,
 }
 
-/// What is told of a refusal.
+/// What is told of a refusal. The functions that look for a reason fill it in where they find one, and answer whether they did.
 #[derive(Clone, Copy)]
 pub(crate) struct Why {
     /// The sentence.
@@ -83,145 +83,43 @@ pub(crate) struct Why {
 /// A span that is none.
 pub(crate) const NOWHERE: Span = Span { from: 0, to: 0 };
 
-/// A reason that tells a sentence.
-pub(crate) fn told(form: &'static str) -> Why {
-    Why {
-        form,
-        text: NOWHERE,
-        other: NOWHERE,
-        third: NOWHERE,
-        ty: Type::Nil,
-        second: Type::Nil,
-        number: 0,
-        further: 0,
-        word: "",
-        kind: PointKind::Variable,
-        mark: Mark::None,
-        next_mark: Mark::None,
-        change: Change::None,
-        next_change: Change::None,
-        help: Help::None,
-        next_help: Help::None,
-        note: "",
-    }
-}
-
 impl Why {
-    /// With another sentence.
-    pub(crate) fn form(mut self, form: &'static str) -> Why {
-        self.form = form;
-        self
-    }
-
-    /// With its first span.
-    pub(crate) fn text(mut self, text: Span) -> Why {
-        self.text = text;
-        self
-    }
-
-    /// With its second span.
-    pub(crate) fn other(mut self, other: Span) -> Why {
-        self.other = other;
-        self
-    }
-
-    /// With its third span.
-    pub(crate) fn third(mut self, third: Span) -> Why {
-        self.third = third;
-        self
-    }
-
-    /// With its first type.
-    pub(crate) fn ty(mut self, ty: Type) -> Why {
-        self.ty = ty;
-        self
-    }
-
-    /// With its second type.
-    pub(crate) fn second(mut self, second: Type) -> Why {
-        self.second = second;
-        self
-    }
-
-    /// With its first number.
-    pub(crate) fn number(mut self, number: i64) -> Why {
-        self.number = number;
-        self
-    }
-
-    /// With its second number.
-    pub(crate) fn further(mut self, further: i64) -> Why {
-        self.further = further;
-        self
-    }
-
-    /// With its word.
-    pub(crate) fn word(mut self, word: &'static str) -> Why {
-        self.word = word;
-        self
-    }
-
-    /// With its kind of name.
-    pub(crate) fn kind(mut self, kind: PointKind) -> Why {
-        self.kind = kind;
-        self
-    }
-
-    /// With a note.
-    pub(crate) fn note(mut self, note: &'static str) -> Why {
-        self.note = note;
-        self
-    }
-
-    /// With one more second place.
-    pub(crate) fn marked(mut self, mark: Mark) -> Why {
-        match self.mark {
-            Mark::None => self.mark = mark,
-            _ => self.next_mark = mark,
+    /// What tells nothing yet.
+    pub(crate) fn new() -> Why {
+        Why {
+            form: "",
+            text: NOWHERE,
+            other: NOWHERE,
+            third: NOWHERE,
+            ty: Type::Nil,
+            second: Type::Nil,
+            number: 0,
+            further: 0,
+            word: "",
+            kind: PointKind::Variable,
+            mark: Mark::None,
+            next_mark: Mark::None,
+            change: Change::None,
+            next_change: Change::None,
+            help: Help::None,
+            next_help: Help::None,
+            note: "",
         }
-        self
     }
 
-    /// Marks where the name is declared that a span begins with.
-    pub(crate) fn declared(self, span: Span) -> Why {
-        self.marked(Mark::Declared(span))
-    }
-
-    /// The same, where the span is a variable as a whole.
-    pub(crate) fn variable(self, span: Span) -> Why {
-        self.marked(Mark::Variable(span))
-    }
-
-    /// Marks a declared name where it is declared.
-    pub(crate) fn here(self, name: Span) -> Why {
-        self.marked(Mark::Here(name))
-    }
-
-    /// With one more change.
-    pub(crate) fn changed(mut self, change: Change) -> Why {
+    /// Adds a change.
+    pub(crate) fn add_change(&mut self, change: Change) {
         match self.change {
             Change::None => self.change = change,
             _ => self.next_change = change,
         }
-        self
     }
 
-    /// With one more help.
-    pub(crate) fn helped(mut self, help: Help) -> Why {
+    /// Adds a help.
+    pub(crate) fn add_help(&mut self, help: Help) {
         match self.help {
             Help::None => self.help = help,
             _ => self.next_help = help,
         }
-        self
-    }
-
-    /// With one more help that is a form.
-    pub(crate) fn help(self, form: &'static str) -> Why {
-        self.helped(Help::Is(form))
-    }
-
-    /// With one more help that has a span of its own.
-    pub(crate) fn help_of(self, form: &'static str, span: Span) -> Why {
-        self.helped(Help::Of(form, span))
     }
 }

@@ -4,88 +4,93 @@ use crate::context::Context;
 use crate::required::Known;
 use crate::selected::no_content;
 use crate::spot::Spot;
-use crate::why::{Change, Help, Why, told};
+use crate::why::{Change, Help, Mark, Why};
 use ps_diagnose_outline::{Form, Type};
 use ps_syntax::{Constant, Expr, Member, Ordinal, Variable};
 use ps_text::Span;
 
 impl<'a> Context<'a> {
     /// A value of a type that cannot stand there.
-    pub(crate) fn wrong_type(&self) -> Option<Why> {
+    pub(crate) fn wrong_type(&self, why: &mut Why) -> bool {
         for spot in self.spots.iter().rev() {
-            if let Some(why) = self.wrong_type_at(*spot) {
-                return Some(why);
+            if self.wrong_type_at(*spot, why) {
+                return true;
             }
         }
-        None
+        false
     }
 
     // One construct.
-    fn wrong_type_at(&self, spot: Spot<'_>) -> Option<Why> {
+    fn wrong_type_at(&self, spot: Spot<'_>, why: &mut Why) -> bool {
         match spot {
-            Spot::Named(variable) => self.wrong_selector(variable),
+            Spot::Named(variable) => self.wrong_selector(variable, why),
             Spot::Index(variable, before, number, value) => {
-                self.wrong_index(variable, before, number, value)
+                self.wrong_index(variable, before, number, value, why)
             }
-            Spot::Not(at, factor) => self.wrong_not(at, factor),
-            Spot::Added(simple, number) => self.wrong_added(simple, number),
-            Spot::Multiplied(term, number) => self.wrong_multiplied(term, number),
-            Spot::Compare(left, relation, right) => self.wrong_compare(left, relation, right),
-            Spot::Member(all, value) => self.wrong_member(all, value),
-            Spot::Passed(name, number, value) => self.wrong_passed(name, number, value),
-            Spot::Condition(value) => self.wrong_condition(value),
-            _ => self.wrong_type_elsewhere(spot),
+            Spot::Not(at, factor) => self.wrong_not(at, factor, why),
+            Spot::Added(simple, number) => self.wrong_added(simple, number, why),
+            Spot::Multiplied(term, number) => self.wrong_multiplied(term, number, why),
+            Spot::Compare(left, relation, right) => self.wrong_compare(left, relation, right, why),
+            Spot::Member(all, value) => self.wrong_member(all, value, why),
+            Spot::Passed(name, number, value) => self.wrong_passed(name, number, value, why),
+            Spot::Condition(value) => self.wrong_condition(value, why),
+            _ => self.wrong_type_elsewhere(spot, why),
         }
     }
 
     // One further construct.
-    fn wrong_type_elsewhere(&self, spot: Spot<'_>) -> Option<Why> {
+    fn wrong_type_elsewhere(&self, spot: Spot<'_>, why: &mut Why) -> bool {
         match spot {
-            Spot::Width(name, value) => self.wrong_width(name, value),
+            Spot::Width(name, value) => self.wrong_width(name, value, why),
             Spot::CaseIndex(value) => self.not_wanted(
                 value,
                 Wanted::Simple,
                 "a `case` takes a value of a simple type, and `@x` is @t",
                 Help::Is("compare by `if .. then .. else if .. then ..`"),
+                why,
             ),
-            Spot::CaseConstant(constant, index, _) => self.wrong_case_constant(constant, index),
-            Spot::Bound(control, value) => self.wrong_bound(control, value),
-            Spot::Control(name) => self.wrong_control(name),
-            Spot::Opened(variable) => self.wrong_opened(variable),
-            Spot::Result(function, name) => self.wrong_result(function, name),
-            Spot::IndexType(Ordinal::Name(_)) => Some(self.wrong_index_type()),
-            Spot::Range(low, high) => self.wrong_range(low, high),
-            Spot::Definition(_, value) => self.wrong_sign(value),
-            _ => None,
+            Spot::CaseConstant(constant, index, _) => self.wrong_case_constant(
+                constant, index, why,
+            ),
+            Spot::Bound(control, value) => self.wrong_bound(control, value, why),
+            Spot::Control(name) => self.wrong_control(name, why),
+            Spot::Opened(variable) => self.wrong_opened(variable, why),
+            Spot::Result(function, name) => self.wrong_result(function, name, why),
+            Spot::IndexType(Ordinal::Name(_)) => {
+                self.wrong_index_type(why);
+                true
+            }
+            Spot::Range(low, high) => self.wrong_range(low, high, why),
+            Spot::Definition(_, value) => self.wrong_sign(value, why),
+            _ => false,
         }
     }
 
     // A condition.
-    fn wrong_condition(&self, value: &Expr) -> Option<Why> {
+    fn wrong_condition(&self, value: &Expr, why: &mut Why) -> bool {
         let Some(ty) = self.told_expr(value) else {
-            return None;
+            return false;
         };
         if self.is_boolean(ty) {
-            return None;
+            return false;
         }
         let text = self.expr_span(value);
         let is_number = self.is_integer(ty);
-        Some(
-            told("a condition is Boolean, and `@x` is @t")
-                .text(text)
-                .ty(ty)
-                .variable(text)
-                .changed(if is_number {
-                    Change::Behind(text, " ", "<> 0")
-                } else {
-                    Change::None
-                })
-                .helped(if is_number {
-                    Help::None
-                } else {
-                    Help::Is("a comparison is Boolean, as `.. = ..`")
-                }),
-        )
+        why.form = "a condition is Boolean, and `@x` is @t";
+        why.text = text;
+        why.ty = ty;
+        why.mark = Mark::Variable(text);
+        why.change = if is_number {
+            Change::Behind(text, " ", "<> 0")
+        } else {
+            Change::None
+        };
+        why.help = if is_number {
+            Help::None
+        } else {
+            Help::Is("a comparison is Boolean, as `.. = ..`")
+        };
+        true
     }
 
     /// Two types that are told and not of one simple form.
@@ -128,19 +133,21 @@ impl<'a> Context<'a> {
     }
 
     // A member of a set of another type than the first.
-    fn wrong_member(&self, all: &[Member], value: &Expr) -> Option<Why> {
+    fn wrong_member(&self, all: &[Member], value: &Expr, why: &mut Why) -> bool {
         let text = self.expr_span(value);
         match (self.type_of_first(all), self.told_expr(value)) {
-            (Some(_), Some(ty)) if !self.is_simple(ty) => Some(
-                told("a member of a set is of a simple type, and `@x` is @t")
-                    .text(text)
-                    .ty(ty)
-                    .variable(text),
-            ),
-            (Some(first), Some(ty)) if !self.is_one_simple(first, ty) => {
-                Some(self.no_member(first, text, ty))
+            (Some(_), Some(ty)) if !self.is_simple(ty) => {
+                why.form = "a member of a set is of a simple type, and `@x` is @t";
+                why.text = text;
+                why.ty = ty;
+                why.mark = Mark::Variable(text);
+                true
             }
-            _ => None,
+            (Some(first), Some(ty)) if !self.is_one_simple(first, ty) => {
+                self.no_member(first, text, ty, why);
+                true
+            }
+            _ => false,
         }
     }
 
@@ -153,24 +160,28 @@ impl<'a> Context<'a> {
     }
 
     /// A value that is no member of a set of others.
-    pub(crate) fn no_member(&self, member: Type, text: Span, ty: Type) -> Why {
-        told("a member of this set is @u, and `@x` is @t")
-            .text(text)
-            .ty(ty)
-            .second(member)
-            .helped(self.conversion(member, ty, text))
+    pub(crate) fn no_member(&self, member: Type, text: Span, ty: Type, why: &mut Why) {
+        why.form = "a member of this set is @u, and `@x` is @t";
+        why.text = text;
+        why.ty = ty;
+        why.second = member;
+        why.help = self.conversion(member, ty, text);
     }
 
     // A width.
-    fn wrong_width(&self, name: Span, value: &Expr) -> Option<Why> {
+    fn wrong_width(&self, name: Span, value: &Expr, why: &mut Why) -> bool {
         match self.known(name) {
             Known::Write | Known::Writeln => self.not_wanted(
                 value,
                 Wanted::Integer,
                 "a width is an integer, and `@x` is @t",
                 Help::None,
+                why,
             ),
-            _ => Some(told("a width stands only in `write` and `writeln`")),
+            _ => {
+                why.form = "a width stands only in `write` and `writeln`";
+                true
+            }
         }
     }
 
@@ -181,13 +192,19 @@ impl<'a> Context<'a> {
         wanted: Wanted,
         form: &'static str,
         help: Help,
-    ) -> Option<Why> {
+        why: &mut Why,
+    ) -> bool {
         match self.told_expr(value) {
             Some(ty) if !self.is_wanted(ty, wanted) => {
                 let text = self.expr_span(value);
-                Some(told(form).text(text).ty(ty).variable(text).helped(help))
+                why.form = form;
+                why.text = text;
+                why.ty = ty;
+                why.mark = Mark::Variable(text);
+                why.help = help;
+                true
             }
-            _ => None,
+            _ => false,
         }
     }
 
@@ -200,20 +217,19 @@ impl<'a> Context<'a> {
     }
 
     // A constant of a `case`.
-    fn wrong_case_constant(&self, constant: Constant, index: &Expr) -> Option<Why> {
+    fn wrong_case_constant(&self, constant: Constant, index: &Expr, why: &mut Why) -> bool {
         let given = self.told(self.outline.constant(constant).0);
         match self.unlike(self.told_expr(index), given) {
             Some((index, ty)) => {
                 let text = constant_span(constant);
-                Some(
-                    told("a constant of this `case` is @u, and `@x` is @t")
-                        .text(text)
-                        .ty(ty)
-                        .second(index)
-                        .changed(self.literal_change(index, ty, text)),
-                )
+                why.form = "a constant of this `case` is @u, and `@x` is @t";
+                why.text = text;
+                why.ty = ty;
+                why.second = index;
+                why.change = self.literal_change(index, ty, text);
+                true
             }
-            None => None,
+            None => false,
         }
     }
 
@@ -231,103 +247,108 @@ impl<'a> Context<'a> {
     }
 
     // A bound of a `for`.
-    fn wrong_bound(&self, control: Span, value: &Expr) -> Option<Why> {
+    fn wrong_bound(&self, control: Span, value: &Expr, why: &mut Why) -> bool {
         let wanted = self.told(self.outline.type_of_name(control));
         match self.unlike(wanted, self.told_expr(value)) {
             Some((wanted, ty)) => {
                 let text = self.expr_span(value);
-                Some(
-                    told("`@y` is @u, and `@x` is @t")
-                        .text(text)
-                        .ty(ty)
-                        .other(control)
-                        .second(wanted)
-                        .declared(control)
-                        .changed(self.literal_change(wanted, ty, text)),
-                )
+                why.form = "`@y` is @u, and `@x` is @t";
+                why.text = text;
+                why.ty = ty;
+                why.other = control;
+                why.second = wanted;
+                why.mark = Mark::Declared(control);
+                why.change = self.literal_change(wanted, ty, text);
+                true
             }
-            None => None,
+            None => false,
         }
     }
 
     // A control variable.
-    fn wrong_control(&self, name: Span) -> Option<Why> {
+    fn wrong_control(&self, name: Span, why: &mut Why) -> bool {
         match self.told(self.outline.type_of_name(name)) {
-            Some(ty) if !self.is_simple(ty) => Some(
-                told("a `for` counts by a variable of a simple type, and `@x` is @t")
-                    .text(name)
-                    .ty(ty)
-                    .declared(name),
-            ),
-            _ => None,
+            Some(ty) if !self.is_simple(ty) => {
+                why.form = "a `for` counts by a variable of a simple type, and `@x` is @t";
+                why.text = name;
+                why.ty = ty;
+                why.mark = Mark::Declared(name);
+                true
+            }
+            _ => false,
         }
     }
 
     // What `with` opens.
-    fn wrong_opened(&self, variable: &Variable) -> Option<Why> {
+    fn wrong_opened(&self, variable: &Variable, why: &mut Why) -> bool {
         let text = self.variable_span(variable);
         match self.outline.type_of_variable(variable) {
             Some(ty) => match self.outline.form(ty) {
-                Some(Form::Record(_)) | None => None,
-                Some(Form::Pointer(_)) => Some(no_content(text)),
-                Some(_) => self.no_structure(text, ty, "record"),
+                Some(Form::Record(_)) | None => false,
+                Some(Form::Pointer(_)) => {
+                    no_content(text, why);
+                    true
+                }
+                Some(_) => self.no_structure(text, ty, "record", why),
             },
-            None => None,
+            None => false,
         }
     }
 
     // The type of a function's result.
-    fn wrong_result(&self, function: Span, name: Span) -> Option<Why> {
+    fn wrong_result(&self, function: Span, name: Span, why: &mut Why) -> bool {
         let word = match self.outline.form_of(self.outline.type_named(name)) {
             Some(Form::Array { .. }) => "an array",
             Some(Form::Record(_)) => "a record",
             Some(Form::Set(_)) => "a set",
-            _ => return None,
+            _ => return false,
         };
-        Some(
-            told("the result of a function has a simple or a pointer type, and `@x` is @w")
-                .text(name)
-                .word(word)
-                .declared(name)
-                .help_of(
-                    "make `@a` a procedure, and give the result by a `var` parameter",
-                    function,
-                ),
-        )
+        why.form = "the result of a function has a simple or a pointer type, and `@x` is @w";
+        why.text = name;
+        why.word = word;
+        why.mark = Mark::Declared(name);
+        why.help = Help::Of(
+            "make `@a` a procedure, and give the result by a `var` parameter",
+            function,
+        );
+        true
     }
 
     // An index type.
-    fn wrong_index_type(&self) -> Why {
-        told("the index of an array has a type like 1..10, and `@p` is none").declared(self.place())
+    fn wrong_index_type(&self, why: &mut Why) {
+        why.form = "the index of an array has a type like 1..10, and `@p` is none";
+        why.mark = Mark::Declared(self.fault.place);
     }
 
     // Two bounds of two types.
-    fn wrong_range(&self, low: Constant, high: Constant) -> Option<Why> {
+    fn wrong_range(&self, low: Constant, high: Constant, why: &mut Why) -> bool {
         let first = self.told(self.outline.constant(low).0);
         let second = self.told(self.outline.constant(high).0);
         match self.unlike(first, second) {
-            Some((ty, second)) => Some(
-                told("both bounds of a range have one type, and these are @t and @u")
-                    .ty(ty)
-                    .second(second),
-            ),
-            None => None,
+            Some((ty, second)) => {
+                why.form = "both bounds of a range have one type, and these are @t and @u";
+                why.ty = ty;
+                why.second = second;
+                true
+            }
+            None => false,
         }
     }
 
     // A sign before a constant.
-    fn wrong_sign(&self, value: Constant) -> Option<Why> {
+    fn wrong_sign(&self, value: Constant, why: &mut Why) -> bool {
         let Constant::Name(Some(_), name) = value else {
-            return None;
+            return false;
         };
         match self.told(self.outline.constant(value).0) {
-            Some(ty) => Some(
-                told("a sign stands before integers, and `@x` is @t")
-                    .text(name)
-                    .ty(ty)
-                    .declared(name),
-            ),
-            None => None,
+            Some(ty) => {
+                why.form = "a sign stands before integers, and `@x` is @t";
+                why.text = name;
+                why.ty = ty;
+                why.mark = Mark::Declared(name);
+                true
+            }
+            None => false,
         }
     }
 }
