@@ -4,14 +4,12 @@ use Rattle.std.proofs.Common.{◌≡◌, ℕ, ◌≤◌, true, List, [], ◌∷�
 use Rattle.std.proofs.Common.{◌∙◌, subst, append-nil, arith}
 use Rattle.ps_syntax.specs.declared.program.Block as syntax_block
 use Rattle.ps_syntax.specs.declared.program.Block.{out-Block}
-use Rattle.ps_syntax.specs.declared.program.Routine.{Routine}
 use Rattle.ps_syntax.specs.declared.program.Program as syntax
 use Rattle.ps_tree.specs.Tree as Tree
 use Rattle.ps_tree.specs.Counts.{is_within_limits}
 use Rattle.ps_check_judgement.specs.declared.refusal.Rule.TheVariants.{Limit}
 use Rattle.ps_check_judgement.specs.Judged.{Yes, some_or, steps, traverse}
 use Rattle.ps_check_judgement.proofs.Binds.{then_yes, provided_yes}
-use Rattle.ps_check_names.specs.Spelling.{has}
 use Rattle.ps_check_names.specs.Regions.{Region, Context}
 use Rattle.ps_check_declarations.specs.Denoters.{Frame}
 use Rattle.ps_check.specs.Readings.{Gathered, Start, Done}
@@ -28,7 +26,6 @@ use Rattle.ps_check_laws.specs.Forward.{AreCompleted, ForwardHeadingsHaveBlocks}
 use Rattle.ps_check_laws.proofs.Apart.{none_apart, files_apart}
 use Rattle.ps_check_laws.proofs.Lists.{set_length, none_some, there_is, set_same, set_other}
 use Rattle.ps_check_laws.proofs.Formals.{Listed, files_listed}
-use Rattle.ps_check_laws.proofs.Routines.{own}
 use Rattle.ps_check_laws.proofs.GatheredSoFar.{Ready}
 use Rattle.ps_check_laws.specs.Counts.{first_domain_at}
 use Rattle.ps_check_laws.specs.Rule.{of_program as begins_program, CheckedProgramsAreRead}

@@ -2,10 +2,6 @@
 use Rattle.std.proofs.Common.{◌≡◌, ℕ, Bool, true, false, not, List, [], ◌∷◌, ◌++◌, refl, sym, ap, ◌∙◌, subst}
 use Rattle.std.proofs.Common.{append-nil, append_assoc}
 use Rattle.std.proofs.lemmas.List.{map-append}
-use Rattle.ps_syntax.specs.declared.expression.Expr.TheVariants as e
-use Rattle.ps_syntax.specs.declared.expression.Factor.TheVariants as f
-use Rattle.ps_syntax.specs.declared.expression.Member.TheVariants as m
-use Rattle.ps_syntax.specs.declared.expression.Selector.TheVariants as s
 use Rattle.ps_tree.specs.Tree as Tree
 use Rattle.ps_check_judgement.specs.declared.change.Change.{Change}
 use Rattle.ps_check_judgement.specs.declared.refusal.Rule.TheVariants.{ControlVariable}
@@ -13,7 +9,6 @@ use Rattle.ps_check_judgement.specs.Judged.{Judged, Yes, steps}
 use Rattle.ps_check_judgement.specs.Changing.{Changing, still, one_more, through}
 use Rattle.ps_check_judgement.proofs.Binds.{inside_yes, then_yes, provided_yes}
 use Rattle.ps_check_names.specs.Regions.{Context}
-use Rattle.ps_check_expressions.specs.Values.{Variable}
 use Rattle.ps_check_expressions.specs.Changed.{is_control, changed, changed_entry}
 use Rattle.ps_check_laws.specs.Threats.{Threatened, whole, entries_of}
 use Rattle.ps_check_laws.proofs.Lists.{last_still, never, Each, each_append}

@@ -12,7 +12,7 @@ use Rattle.ps_check_laws.specs.Definitions.{OfRoutine, names_of, routine_heading
 use Rattle.ps_check_laws.specs.Denoting.{headings_before}
 use Rattle.ps_check_laws.specs.Meanings.{Defines, IsRegion, AreAround}
 use Rattle.ps_check_laws.specs.InDeclarations.{Uses, behind, IsDenotedBefore, heading_part}
-use Rattle.ps_check_laws.proofs.Enclosed.{own_names, AllKnown, known_later, known_unhidden}
+use Rattle.ps_check_laws.proofs.EnclosedNames.{own_names, AllKnown, known_later, known_unhidden}
 use Rattle.ps_check_laws.proofs.Parameters.{headings_found}
 use Rattle.ps_check_laws.proofs.Found.{uses_find_what_they_denote}
 use Rattle.ps_check_laws.proofs.Lists.{inside, get_below, get_stays, there_is, take_left, take_length, take_drop, Each}

@@ -12,7 +12,7 @@ use Rattle.ps_check_names.specs.Regions.{Meaning, RoutineMeaning, Heading}
 use Rattle.ps_check_names.specs.Constants.{ConstantValue, OrdinalConstant, TextConstant}
 use Rattle.ps_check_declarations.specs.Denoters.{Frame}
 use Rattle.ps_check_declarations.specs.Declarations.{meaning_of_constant}
-use Rattle.ps_check_declarations.specs.Headings.{heading, formal_meanings}
+use Rattle.ps_check_declarations.specs.Headings.{formal_meanings}
 use Rattle.ps_check.specs.Readings.{RoutineReading}
 use Rattle.ps_check.specs.Forwards.{add_routine, add_routines}
 use Rattle.ps_check.specs.Entries.{first_entry}

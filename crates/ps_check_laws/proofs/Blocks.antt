@@ -44,8 +44,10 @@ use Rattle.ps_check_laws.specs.InDeclarations.{declarations_part}
 use Rattle.ps_check.specs.RegionNames.{AreApart, AreNames}
 use Rattle.ps_check.proofs.NameLemmas.{names_are_points}
 use Rattle.ps_check_laws.proofs.Apart.{apart_first, points_added}
-use Rattle.ps_check_laws.proofs.Enclosed.{AllKnown, known_later, declarations_read}
-use Rattle.ps_check_laws.proofs.Domains.{declarations_length, domains_stay, declarations_told, declarations_extend}
+use Rattle.ps_check_laws.proofs.EnclosedNames.{AllKnown, known_later}
+use Rattle.ps_check_laws.proofs.Enclosed.{declarations_read}
+use Rattle.ps_check_laws.proofs.Pending.{declarations_length, domains_stay}
+use Rattle.ps_check_laws.proofs.Domains.{declarations_told, declarations_extend}
 use Rattle.ps_check_laws.proofs.Forwards.{none_open, all_open, are_completed}
 use Rattle.ps_check_laws.specs.Counts.{block_domains, own_domains}
 use Rattle.ps_check_laws.proofs.Drawn.{block_domains_are}

@@ -11,7 +11,6 @@ use Rattle.ps_syntax.specs.declared.program.Program as syntax
 use Rattle.ps_tree.specs.Tree as Tree
 use Rattle.ps_check_names.specs.Spelling.{has}
 use Rattle.ps_check.specs.Readings.{Gathered}
-use Rattle.ps_check.specs.Blocks.{block}
 use Rattle.ps_check.specs.Programs.{Files, program_context}
 use Rattle.ps_check.specs.Paths.{layer_block, routine_block, block_at}
 use Rattle.ps_check_laws.specs.Option.{◌>>=◌}

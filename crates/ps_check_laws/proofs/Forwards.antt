@@ -23,10 +23,11 @@ use Rattle.ps_check_laws.specs.Definitions.{routine_heading, introduced_from, na
 use Rattle.ps_check_laws.specs.Forward.{is_function, layer_completes, Completes, HasBlock, AreCompleted}
 use Rattle.ps_check_laws.proofs.Lists.{none_some, inside, never, get_below, there_is, get_left, get_stays, get_at}
 use Rattle.ps_check_laws.proofs.Lists.{get_last, compare, Each}
-use Rattle.ps_check_laws.proofs.Formals.{heading_told}
+use Rattle.ps_check_laws.proofs.HeadingPoints.{heading_told}
 use Rattle.ps_check_laws.proofs.Routines.{read, sp}
 pub use Rattle.ps_check_laws.proofs.Routines.{placed}
-use Rattle.ps_check_laws.proofs.Steps.{one_taken, step_at}
+use Rattle.ps_check_laws.proofs.Steps.{one_taken}
+use Rattle.ps_check_laws.proofs.NestedSteps.{step_at}
 use Rattle.ps_check_laws.proofs.Headed.{At, How, completing, introducing, HasHeading, before, f}
 use Rattle.ps_check_laws.proofs.BlockPoints.{declares_plain, plain_not, heading_or, all_more}
 use Rattle.ps_check_laws.proofs.GatheredSoFar.{not_both, Keeps, RoutineGrows}

@@ -10,7 +10,7 @@ use Rattle.ps_check_judgement.specs.Judged.{Yes}
 use Rattle.ps_check_names.specs.Regions.{Region, Context}
 use Rattle.ps_check.specs.Readings.{Gathered, Start, Done}
 use Rattle.ps_check.specs.Forwards.{is_vacant}
-use Rattle.ps_check.specs.Blocks.{block, routine}
+use Rattle.ps_check.specs.Blocks.{block}
 use Rattle.ps_check.specs.Paths.{routine_block}
 use Rattle.ps_check_laws.specs.Controls.{changes_by, changes_from}
 use Rattle.ps_check_laws.specs.Definitions.{Declarations, OfDeclaration, names_of}
@@ -19,7 +19,6 @@ use Rattle.ps_check_laws.proofs.Lists.{none_some, inside, never}
 use Rattle.ps_check_laws.specs.Counts.{block_domains}
 use Rattle.ps_check_laws.proofs.Declared.{Stand}
 use Rattle.ps_check.specs.RegionNames.{AreApart}
-use Rattle.ps_check_laws.proofs.Formals.{begun}
 
 -- the routines that have their blocks keep them
 abbrev pub Keeps : Gathered → Gathered → Type 0

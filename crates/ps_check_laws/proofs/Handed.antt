@@ -1,10 +1,5 @@
 -- What the judgement of an expression passes on as changed is what the checked expression threatens.
-use Rattle.std.proofs.Common.{◌≡◌, ℕ, Bool, true, false, not, ◌==◌, List, [], ◌∷◌, ◌++◌, length, map, Option, Some}
-use Rattle.std.proofs.Common.{None, refl, sym, ap, ◌∙◌, subst, append-nil}
-use Rattle.std.specs.Prelude.{if◌then◌else◌}
-use Rattle.ps_text.specs.declared.Span.{Span}
-use Rattle.ps_syntax.specs.First.{sign_or}
-use Rattle.ps_syntax.specs.declared.expression.Sign.{Sign}
+use Rattle.std.proofs.Common.{◌≡◌, List, [], ◌++◌, map, None, sym, ap, ◌∙◌, subst, append-nil}
 use Rattle.ps_syntax.specs.declared.expression.Expr.{Expr, roll-Expr, map-Expr}
 use Rattle.ps_syntax.specs.declared.expression.Factor.{Factor, roll-Factor, map-Factor}
 use Rattle.ps_syntax.specs.declared.expression.Member.{Member, roll-Member, map-Member}
@@ -26,333 +21,45 @@ use Rattle.ps_syntax.specs.declared.expression.Selector.TheVariants as s
 use Rattle.ps_tree.specs.Types.{NilType}
 use Rattle.ps_tree.specs.Tree as Tree
 use Rattle.ps_check_judgement.specs.declared.change.Change.{Change}
-use Rattle.ps_check_judgement.specs.declared.refusal.Rule.TheVariants.{NotInProfile, WrongKind, NotCongruous}
-use Rattle.ps_check_judgement.specs.Judged as j
-use Rattle.ps_check_judgement.specs.Judged.{Yes, No, holds, some_or}
-use Rattle.ps_check_judgement.specs.Changing.{Changing, ◌>>=◌, still, pairs, through}
-use Rattle.ps_check_judgement.proofs.Binds.{no_yes, then_yes, provided_yes, some_or_yes}
-use Rattle.ps_check_names.specs.declared.meaning.Required.{Required}
+use Rattle.ps_check_judgement.specs.Judged.{Yes}
+use Rattle.ps_check_judgement.specs.Changing.{Changing, ◌>>=◌, still, through}
+use Rattle.ps_check_judgement.proofs.Binds.{then_yes}
 use Rattle.ps_check_names.specs.Spelling.{line_in}
-use Rattle.ps_check_names.specs.Constants.{OrdinalConstant, TextConstant}
-use Rattle.ps_check_names.specs.Regions.{Context, Region, Point, BlockPoint, FieldPoint, Section, ValueSection}
-use Rattle.ps_check_names.specs.Regions.{VariableSection, RoutineSection, Sections, ConstantMeaning, TextMeaning}
-use Rattle.ps_check_names.specs.Regions.{VariableMeaning, ParameterMeaning, RoutineMeaning, RoutineParameterMeaning}
-use Rattle.ps_check_names.specs.Regions.{RequiredMeaning}
-use Rattle.ps_check_expressions.specs.Values.{Value, SimpleValue, Variable, Operand, plain, loaded, argument_list}
+use Rattle.ps_check_names.specs.Regions.{Context, Region}
+use Rattle.ps_check_expressions.specs.Values.{Value, SimpleValue, Variable, Operand}
 use Rattle.ps_check_expressions.specs.Names.{denoted}
-use Rattle.ps_check_expressions.specs.Changed.{changed}
 use Rattle.ps_check_expressions.specs.Operators.{added}
-use Rattle.ps_check_expressions.specs.Places.{variable_at}
-use Rattle.ps_check_expressions.specs.Calls.{by_routine, named_routine, actual, actuals, parameters, is_procedure}
-use Rattle.ps_check_expressions.specs.Calls.{required_value, look, standing_alone, names_input, function_call}
-use Rattle.ps_check_expressions.specs.Calls.{required_call, called}
-use Rattle.ps_check_expressions.specs.Expressions.{Step, TypedMember, SeenMember, Gathered, constructed, gather, alone}
-use Rattle.ps_check_expressions.specs.Expressions.{operands, standing, named_variable, selected_variable, indexed}
-use Rattle.ps_check_expressions.specs.Expressions.{first_term, variable_seen, term_seen, simple_seen, operand}
-use Rattle.ps_check_expressions.specs.Expressions.{factor_operand, member_at, select, add_term, multiply_factor}
-use Rattle.ps_check_expressions.specs.Expressions.{simple_operand, term_operand, variable_operand}
+use Rattle.ps_check_expressions.specs.Expressions.{Step, SeenMember, Gathered, constructed, gather, operands, indexed}
+use Rattle.ps_check_expressions.specs.Expressions.{term_seen, simple_seen, operand, factor_operand, member_at, select}
+use Rattle.ps_check_expressions.specs.Expressions.{add_term, multiply_factor, simple_operand, term_operand}
+use Rattle.ps_check_expressions.specs.Expressions.{variable_operand}
 use Rattle.ps_check_expressions.proofs.Equations.{operand_simple, operand_compare, factor_variable, factor_call}
 use Rattle.ps_check_expressions.proofs.Equations.{factor_number, factor_text, factor_nil, factor_set, factor_group}
 use Rattle.ps_check_expressions.proofs.Equations.{factor_not, member_single, member_several, select_index, select_field}
 use Rattle.ps_check_expressions.proofs.Equations.{select_content, simple_is, term_is, add_term_is, multiply_factor_is}
 use Rattle.ps_check_expressions.proofs.Equations.{variable_is}
-use Rattle.ps_check_laws.specs.Threats.{Threatened, whole, place_threatens, expr_threatens, members_threaten}
-use Rattle.ps_check_laws.specs.Threats.{argument_threatens, arguments_threaten}
-use Rattle.ps_check_laws.proofs.Lists.{then_still, Each}
-use Rattle.ps_check_laws.proofs.Values.{value_threatens, contents_threaten, constant_threatens, negated_threatens}
-use Rattle.ps_check_laws.proofs.Values.{first_term_threatens, added_both, multiplied_both, compared_both, variable_none}
-use Rattle.ps_check_laws.proofs.Values.{element_both, component_same, target_same}
-use Rattle.ps_check_laws.proofs.Additions.{Adds, adds_none, adds_both, adds_as, More, adds_more, adds_all, made_adds}
-use Rattle.ps_check_laws.proofs.Additions.{still_adds, still_more, through_more, each_more, changed_adds}
-use Rattle.ps_check_laws.proofs.Parts.{arguments_last, value_passed, variable_passed, routine_passed, looked}
-use Rattle.ps_check_laws.proofs.Parts.{required_threatens, gathered_threatens, gathered_both, constructed_threatens}
-use Rattle.ps_check_laws.proofs.Parts.{member_of, single_threatens, several_threaten}
-
-abbrev pub place_of : Variable → Threatened
-place_of v = place_threatens v.place
-
--- the parts of a construct, each with what holds of it
-abbrev pub parts : {X : Type 0} {T : X → Type 0} → List ((x : X) × T x) → List X
-parts ys = map (λ y. y.0) ys
-
--- what holds of each holds of what each is read as
-pub read_each : {X B : Type 0} {T : X → Type 0} (read : X → B) (P : B → Type 0) → ((y : (x : X) × T x) → P (read y.0))
-    → (ys : List ((x : X) × T x)) → Each P (map read (parts ys))
-read_each read P h [] = tt
-read_each read P h (y ∷ ys) = (h y, read_each read P h ys)
+use Rattle.ps_check_laws.specs.Threats.{expr_threatens, members_threaten}
+use Rattle.ps_check_laws.proofs.Lists.{then_still}
+use Rattle.ps_check_laws.proofs.Values.{value_threatens, constant_threatens, negated_threatens, added_both}
+use Rattle.ps_check_laws.proofs.Values.{multiplied_both, compared_both, element_both, component_same, target_same}
+use Rattle.ps_check_laws.proofs.Additions.{Adds, adds_none, adds_both, adds_as, More, adds_all, made_adds, still_adds}
+use Rattle.ps_check_laws.proofs.Additions.{still_more, through_more}
+use Rattle.ps_check_laws.proofs.Parts.{gathered_threatens, gathered_both, constructed_threatens, member_of}
+use Rattle.ps_check_laws.proofs.Parts.{single_threatens, several_threaten}
+use Rattle.ps_check_laws.proofs.HandedParts.{AddedTermHands, AtAddedTerm, AtExpr, AtFactor, AtMember}
+use Rattle.ps_check_laws.proofs.HandedParts.{AtMultipliedFactor, AtSelector, AtSimple, AtTerm, AtVariable, ExprHands}
+use Rattle.ps_check_laws.proofs.HandedParts.{FactorHands, MemberHands, MultipliedFactorHands, SelectorHands}
+use Rattle.ps_check_laws.proofs.HandedParts.{SimpleHands, TermHands, VariableHands, called_adds, hands_by, of_plain}
+use Rattle.ps_check_laws.proofs.HandedParts.{parts, place_of, read_each, seen_simple, seen_term, seen_variable}
 
 module _ (c : Context) (Γ : List Region) where
-  pub record Hands (o : Operand) : Type 0 where
-    pub value : (cs : List Change) (p : Value × List Change) → o.value cs ≡ Yes p → Adds c cs p.1 (value_threatens p.0)
-    pub variable : (cs : List Change) (p : Variable × List Change) → o.variable cs ≡ Yes p → Adds c cs p.1
-        (place_of p.0)
-
-  hands_by : (o q : Operand) → o ≡ q → Hands q → Hands o
-  hands_by o q e t = subst Hands (sym e) t
-
-  of_plain : (first : ℕ) (m : Changing Value)
-      → ((cs : List Change) (p : Value × List Change) → m cs ≡ Yes p → Adds c cs p.1 (value_threatens p.0)) → Hands
-      (plain first m)
-  of_plain first m h = record { value = h; variable = λ cs p e. absurd (no_yes e) }
-
-  abbrev ValueStep : Step Value → Type 0
-  ValueStep s = (first : ℕ) (v : Value) (cs : List Change) (p : Value × List Change) → s first v cs ≡ Yes p
-      → More c cs p.1 (value_threatens v) (value_threatens p.0)
-
-  abbrev VariableStep : Step Variable → Type 0
-  VariableStep s = (first : ℕ) (v : Variable) (cs : List Change) (p : Variable × List Change) → s first v cs ≡ Yes p
-      → More c cs p.1 (place_of v) (place_of p.0)
-
-  abbrev MemberStep : SeenMember → Type 0
-  MemberStep m = (cs : List Change) (p : TypedMember × List Change) → m.member cs ≡ Yes p → Adds c cs p.1
-      (member_of p.0)
-
-  abbrev ExprHands : Expr → Type 0
-  ExprHands x = Hands (operand c Γ x)
-
-  abbrev FactorHands : Factor → Type 0
-  FactorHands x = Hands (factor_operand c Γ x)
-
-  abbrev MemberHands : Member → Type 0
-  MemberHands x = MemberStep (member_at c Γ x)
-
-  abbrev SelectorHands : Selector → Type 0
-  SelectorHands x = VariableStep (select c Γ x)
-
-  abbrev AddedTermHands : AddedTerm → Type 0
-  AddedTermHands x = ValueStep (add_term c Γ x)
-
-  abbrev MultipliedFactorHands : MultipliedFactor → Type 0
-  MultipliedFactorHands x = ValueStep (multiply_factor c Γ x)
-
-  abbrev SimpleHands : Simple → Type 0
-  SimpleHands x = Hands (simple_operand c Γ x)
-
-  abbrev TermHands : Term → Type 0
-  TermHands x = Hands (term_operand c Γ x)
-
-  abbrev VariableHands : syntax.Variable → Type 0
-  VariableHands x = Hands (variable_operand c Γ x)
-
-  abbrev AtExpr : Type 0
-  AtExpr = (x : Expr) × ExprHands x
-
-  abbrev AtFactor : Type 0
-  AtFactor = (x : Factor) × FactorHands x
-
-  abbrev AtMember : Type 0
-  AtMember = (x : Member) × MemberHands x
-
-  abbrev AtSelector : Type 0
-  AtSelector = (x : Selector) × SelectorHands x
-
-  abbrev AtAddedTerm : Type 0
-  AtAddedTerm = (x : AddedTerm) × AddedTermHands x
-
-  abbrev AtMultipliedFactor : Type 0
-  AtMultipliedFactor = (x : MultipliedFactor) × MultipliedFactorHands x
-
-  abbrev AtSimple : Type 0
-  AtSimple = (x : Simple) × SimpleHands x
-
-  abbrev AtTerm : Type 0
-  AtTerm = (x : Term) × TermHands x
-
-  abbrev AtVariable : Type 0
-  AtVariable = (x : syntax.Variable) × VariableHands x
-
-  -- ---- actual parameters and calls
-
-  pub actual_adds : (section : Section) (o : Operand) → Hands o → (cs : List Change) (p : Tree.Argument × List Change)
-      → actual c Γ section o cs ≡ Yes p → Adds c cs p.1 (argument_threatens p.0)
-  unfolding actual
-  actual_adds (ValueSection n type) o t cs p e =
-      let v = then_yes (o.value cs) _ p e in
-      still_adds argument_threatens _ cs v.0.1 (value_threatens v.0.0) p v.2 (t.value cs v.0 v.1)
-      (λ a h. value_passed o.first type v.0.0 _ a h)
-  actual_adds (VariableSection n type) o t cs p e =
-      let v = then_yes (o.variable cs) _ p e in
-      let d = then_yes (changed c v.0.0.place o.first v.0.1) _ p v.2 in
-      let x = adds_both cs v.0.1 d.0.1 (place_of v.0.0) (whole v.0.0.place) (t.variable cs v.0 v.1)
-      (changed_adds c v.0.0.place o.first v.0.1 d.0 d.1) in
-      still_adds argument_threatens _ cs d.0.1 (place_of v.0.0 ++ whole v.0.0.place) p d.2 x
-      (λ a h. variable_passed o.first type v.0.0 a h)
-  actual_adds (RoutineSection sections result) o t cs p e = still_adds argument_threatens
-      (named_routine c Γ sections result o.first o.name) cs cs [] p e (adds_none cs) (λ a h. by o.name a h)
-    where
-      by : (name : Option Span) (a : Tree.Argument) → named_routine c Γ sections result o.first name ≡ Yes a
-          → argument_threatens a ≡ []
-      by None a h = absurd (no_yes h)
-      by (Some n) a h = (let q = then_yes (denoted c Γ n) (by_routine n.from sections result) a h
-          in routine_passed n.from sections result q.0 a q.2)
-
-  abbrev pub ActualAdds : Section × Operand → Type 0
-  ActualAdds x = (cs : List Change) (p : Tree.Argument × List Change) → actual c Γ x.0 x.1 cs ≡ Yes p → Adds c cs p.1
-      (argument_threatens p.0)
-
-  pair_each : (sections : List Section) (ys : List AtExpr) → Each ActualAdds
-      (pairs sections (map (operand c Γ) (parts ys)))
-  pair_each [] ys = tt
-  pair_each (section ∷ sections) [] = tt
-  pair_each (section ∷ sections) (y ∷ ys) = (actual_adds section (operand c Γ y.0) y.1, pair_each sections ys)
-
-  actuals_add : (at : ℕ) (sections : Sections) (ys : List AtExpr) (cs : List Change)
-      (p : List Tree.Argument × List Change) → actuals c Γ at sections (map (operand c Γ) (parts ys)) cs ≡ Yes p
-      → Adds c cs p.1 (arguments_threaten (argument_list p.0))
-  unfolding arguments_threaten
-  actuals_add at sections ys cs p e =
-      let xs = map (operand c Γ) (parts ys) in
-      let h = then_still (holds (length (parameters sections) == length xs) NotCongruous at) cs _ p e in
-      adds_all cs p.1 (arguments_threaten (argument_list p.0))
-      (each_more (λ (x : Section × Operand). actual c Γ x.0 x.1) argument_threatens
-      (λ l. arguments_threaten (argument_list l)) arguments_last (pairs (parameters sections) xs)
-      (pair_each (parameters sections) ys) ([], cs) p h.2)
-
-  function_adds : (at : ℕ) (r : Required) (ys : List AtExpr) (cs : List Change) (p : Value × List Change)
-      → function_call c Γ at r (map (operand c Γ) (parts ys)) cs ≡ Yes p → Adds c cs p.1 (value_threatens p.0)
-  unfolding function_call
-  function_adds at r [] cs p e = still_adds value_threatens _ cs cs [] p e (adds_none cs)
-      (λ v h. by (look r (line_in c.text at)) refl v h)
-    where
-      by : (o : Option Value) → look r (line_in c.text at) ≡ o → (v : Value) → standing_alone at c.has_input o ≡ Yes v
-          → value_threatens v ≡ []
-      by None g v h = absurd (no_yes h)
-      by (Some w) g v h = ap value_threatens (sym (provided_yes c.has_input _ at w v h).1) ∙ looked r
-          (line_in c.text at) w g
-  function_adds at r (y ∷ []) cs p e = by (names_input c Γ (operand c Γ y.0)) e
-    where
-      by : (b : Bool) → (if b then still (some_or NotInProfile (operand c Γ y.0).first (look r (line_in c.text at)))
-          else ((operand c Γ y.0).value >>= (λ v. still
-          (required_value (operand c Γ y.0).first r (line_in c.text at) v)))) cs ≡ Yes p → Adds c cs p.1
-          (value_threatens p.0)
-      by true h = still_adds value_threatens _ cs cs [] p h (adds_none cs)
-          (λ v g. looked r (line_in c.text at) v (some_or_yes NotInProfile (operand c Γ y.0).first
-          (look r (line_in c.text at)) v g))
-      by false h =
-          let w = then_yes ((operand c Γ y.0).value cs) _ p h in
-          still_adds value_threatens _ cs w.0.1 (value_threatens w.0.0) p w.2 (y.1.value cs w.0 w.1)
-          (λ v g. required_threatens (operand c Γ y.0).first r (line_in c.text at) w.0.0 v g)
-  function_adds at r (y ∷ z ∷ ys) cs p e = absurd (no_yes e)
-
-  called_adds : (at : ℕ) (q : Point) (ys : List AtExpr) (cs : List Change) (p : Value × List Change) → called c Γ at q
-      (map (operand c Γ) (parts ys)) cs ≡ Yes p → Adds c cs p.1 (value_threatens p.0)
-  unfolding called required_call expr_threatens
-  called_adds at (BlockPoint up (RoutineMeaning h)) ys cs p e =
-      let type = then_still (some_or WrongKind at h.result) cs _ p e in
-      let found = then_yes (actuals c Γ at h.sections (map (operand c Γ) (parts ys)) cs) _ p type.2 in
-      made_adds value_threatens _ cs found.0.1 p found.2 (actuals_add at h.sections ys cs found.0 found.1)
-  called_adds at (BlockPoint up (RoutineParameterMeaning entry sections result)) ys cs p e =
-      let type = then_still (some_or WrongKind at result) cs _ p e in
-      let found = then_yes (actuals c Γ at sections (map (operand c Γ) (parts ys)) cs) _ p type.2 in
-      made_adds value_threatens _ cs found.0.1 p found.2 (actuals_add at sections ys cs found.0 found.1)
-  called_adds at (BlockPoint up (RequiredMeaning r)) ys cs p e =
-      let h = then_still (holds (not (is_procedure r)) WrongKind at) cs _ p e in
-      function_adds at r ys cs p h.2
-  called_adds at q ys cs p e = absurd (no_yes e)
-
-  -- a name alone
-  loaded_adds : (at : ℕ) (q : Point) (cs : List Change) (p : Value × List Change) → still
-      (j.◌>>=◌ (variable_at at q) (loaded at)) cs ≡ Yes p → Adds c cs p.1 (value_threatens p.0)
-  loaded_adds at q cs p e = still_adds value_threatens (j.◌>>=◌ (variable_at at q) (loaded at)) cs cs [] p e
-      (adds_none cs)
-      (λ v h. (let x = then_yes (variable_at at q) (loaded at) v h in contents_threaten at x.0.place x.0.type v x.2
-      ∙ variable_none at q x.0 x.1))
-
-  standing_adds : (at : ℕ) (q : Point) (cs : List Change) (p : Value × List Change) → standing c Γ at q cs ≡ Yes p
-      → Adds c cs p.1 (value_threatens p.0)
-  unfolding standing
-  standing_adds at (BlockPoint up (ConstantMeaning o n)) cs p e = still_adds value_threatens _ cs cs [] p e
-      (adds_none cs) (λ v h. constant_threatens at (OrdinalConstant o n) v h)
-  standing_adds at (BlockPoint up (TextMeaning w)) cs p e = still_adds value_threatens _ cs cs [] p e (adds_none cs)
-      (λ v h. constant_threatens at (TextConstant w) v h)
-  standing_adds at (BlockPoint up (VariableMeaning entry type)) cs p e = loaded_adds at
-      (BlockPoint up (VariableMeaning entry type)) cs p e
-  standing_adds at (BlockPoint up (ParameterMeaning entry type)) cs p e = loaded_adds at
-      (BlockPoint up (ParameterMeaning entry type)) cs p e
-  standing_adds at (FieldPoint which record_type number type) cs p e = loaded_adds at
-      (FieldPoint which record_type number type) cs p e
-  standing_adds at q cs p e = called_adds at q [] cs p e
-
-  -- ---- variables
-
-  named_adds : (name : Span) (cs : List Change) (p : Variable × List Change) → named_variable c Γ name cs ≡ Yes p
-      → Adds c cs p.1 (place_of p.0)
-  named_adds name cs p e = still_adds place_of (j.◌>>=◌ (denoted c Γ name) (variable_at name.from)) cs cs [] p e
-      (adds_none cs) (λ v h. (let q = then_yes (denoted c Γ name) (variable_at name.from) v h
-      in variable_none name.from q.0 v q.2))
-
-  seen_variable : (name : Span) (ys : List AtSelector) → Hands (variable_seen c Γ name (map (select c Γ) (parts ys)))
-  unfolding variable_seen
-  seen_variable name [] = record {
-    value = λ cs p e. (let q = then_still (denoted c Γ name) cs _ p e in standing_adds name.from q.0 cs p q.2);
-    variable = named_adds name;
-  }
-  seen_variable name (y ∷ ys) =
-      let fs = map (select c Γ) (parts (y ∷ ys)) in
-      let there : (cs : List Change) (w : Variable × List Change) → selected_variable c Γ name fs cs ≡ Yes w
-      → Adds c cs w.1 (place_of w.0) =
-      λ cs w e. (let v = then_yes (named_variable c Γ name cs) _ w e in
-      adds_more cs v.0.1 w.1 (place_of v.0.0) (place_of w.0) (named_adds name cs v.0 v.1)
-      (through_more place_of (λ (v : Variable) (f : Step Variable). f name.from v) fs
-      (read_each (select c Γ) (λ (f : Step Variable). (s : Variable) (cs : List Change) (p : Variable × List Change)
-      → f name.from s cs ≡ Yes p → More c cs p.1 (place_of s) (place_of p.0)) (λ y s cs p h. y.1 name.from s cs p h)
-      (y ∷ ys)) v.0.0 v.0.1 w v.2)) in
-      record {
-        value = λ cs p e. (let w = then_yes (selected_variable c Γ name fs cs) _ p e
-            in still_adds value_threatens _ cs w.0.1 (place_of w.0.0) p w.2 (there cs w.0 w.1)
-            (λ v h. contents_threaten name.from w.0.0.place w.0.0.type v h));
-        variable = there;
-      }
-
-  -- ---- chains
-
-  lone_variable : {X B : Type 0} {T : X → Type 0} (sign : Option (Sign × Span)) (read : X → B)
-      (ys : List ((x : X) × T x)) (first : ℕ) (m : Changing Variable) (cs : List Change) (p : Variable × List Change)
-      → alone (still (No WrongKind first)) sign (map read (parts ys)) m cs ≡ Yes p → m cs ≡ Yes p
-  lone_variable None read [] first m cs p e = e
-  lone_variable None read (z ∷ ys) first m cs p e = absurd (no_yes e)
-  lone_variable (Some s) read ys first m cs p e = absurd (no_yes e)
-
-  seen_term : (o : Operand) → Hands o → (ys : List AtMultipliedFactor) → Hands
-      (term_seen c Γ o (map (multiply_factor c Γ) (parts ys)))
-  unfolding term_seen
-  seen_term o t ys = record {
-    value = λ cs p e. (let w = then_yes (o.value cs) _ p e in
-        adds_more cs w.0.1 p.1 (value_threatens w.0.0) (value_threatens p.0) (t.value cs w.0 w.1)
-        (through_more value_threatens (λ (v : Value) (f : Step Value). f o.first v)
-        (map (multiply_factor c Γ) (parts ys))
-        (read_each (multiply_factor c Γ) (λ (f : Step Value). (s : Value) (cs : List Change) (p : Value × List Change)
-        → f o.first s cs ≡ Yes p → More c cs p.1 (value_threatens s) (value_threatens p.0))
-        (λ y s cs p h. y.1 o.first s cs p h) ys) w.0.0 w.0.1 p w.2));
-    variable = λ cs p e. t.variable cs p (lone_variable None (multiply_factor c Γ) ys o.first o.variable cs p e);
-  }
-
-  seen_simple : (sign : Option (Sign × Span)) (o : Operand) → Hands o → (ys : List AtAddedTerm) → Hands
-      (simple_seen c Γ sign o (map (add_term c Γ) (parts ys)))
-  unfolding simple_seen
-  seen_simple sign o t ys = record {
-    value = λ cs p e. (let u = then_yes ((o.value >>= (λ v. still (first_term c Γ o.first sign v))) cs) _ p e in
-        let w = then_yes (o.value cs) _ u.0 u.1 in
-        let first = still_adds value_threatens (first_term c Γ o.first sign w.0.0) cs w.0.1
-        (value_threatens w.0.0) u.0 w.2 (t.value cs w.0 w.1)
-        (λ v h. first_term_threatens c Γ o.first sign w.0.0 v h) in
-        adds_more cs u.0.1 p.1 (value_threatens u.0.0) (value_threatens p.0) first
-        (through_more value_threatens (λ (v : Value) (f : Step Value). f (sign_or sign o.first) v)
-        (map (add_term c Γ) (parts ys))
-        (read_each (add_term c Γ) (λ (f : Step Value). (s : Value) (cs : List Change) (p : Value × List Change) → f
-        (sign_or sign o.first) s cs ≡ Yes p → More c cs p.1 (value_threatens s) (value_threatens p.0))
-        (λ y s cs p h. y.1 (sign_or sign o.first) s cs p h) ys) u.0.0 u.0.1 p u.2));
-    variable = λ cs p e. t.variable cs p (lone_variable sign (add_term c Γ) ys
-        (sign_or sign o.first) o.variable cs p e);
-  }
-
   -- ---- each construct
 
   nil_adds : (cs : List Change) → Adds c cs cs (value_threatens (SimpleValue Tree.Nil NilType))
   unfolding expr_threatens
   nil_adds cs = adds_none cs
 
-  members_more : (ys : List AtMember) (cs : List Change) (p : Gathered × List Change) → through gather ([], None)
+  members_more : (ys : List (AtMember c Γ)) (cs : List Change) (p : Gathered × List Change) → through gather ([], None)
       (map (member_at c Γ) (parts ys)) cs ≡ Yes p → More c cs p.1 [] (gathered_threatens p.0)
   unfolding members_threaten
   members_more ys cs p e = through_more gathered_threatens gather (map (member_at c Γ) (parts ys))
@@ -362,71 +69,82 @@ module _ (c : Context) (Γ : List Region) where
       still_more gathered_threatens _ cs m.0.1 (gathered_threatens s) (member_of m.0.0) p m.2 (y.1 cs m.0 m.1)
       (λ g k. gathered_both (member_at c Γ y.0).first s m.0.0 g k))) ys) ([], None) cs p e
 
-  expr_layer : (y : Expr-F AtExpr AtFactor AtMember AtSelector AtAddedTerm AtMultipliedFactor AtSimple AtTerm
-      AtVariable) → ExprHands (roll-Expr (map-Expr AtExpr AtFactor AtMember AtSelector AtAddedTerm AtMultipliedFactor
-      AtSimple AtTerm AtVariable Expr Factor Member Selector AddedTerm MultipliedFactor Simple Term syntax.Variable
+  expr_layer : (y : Expr-F (AtExpr c Γ) (AtFactor c Γ) (AtMember c Γ) (AtSelector c Γ) (AtAddedTerm c Γ)
+      (AtMultipliedFactor c Γ) (AtSimple c Γ) (AtTerm c Γ)
+      (AtVariable c Γ)) → ExprHands c Γ (roll-Expr (map-Expr (AtExpr c Γ) (AtFactor c Γ) (AtMember c Γ)
+      (AtSelector c Γ) (AtAddedTerm c Γ) (AtMultipliedFactor c Γ)
+      (AtSimple c Γ) (AtTerm c Γ)
+      (AtVariable c Γ) Expr Factor Member Selector AddedTerm MultipliedFactor Simple Term syntax.Variable
       (λ x. x.0) (λ x. x.0) (λ x. x.0) (λ x. x.0) (λ x. x.0) (λ x. x.0) (λ x. x.0) (λ x. x.0) (λ x. x.0) y))
-  expr_layer (Expr-F.Simple x) = hands_by (operand c Γ (roll-Expr (Expr-F.Simple x.0))) (simple_operand c Γ x.0)
+  expr_layer (Expr-F.Simple x) = hands_by c Γ (operand c Γ (roll-Expr (Expr-F.Simple x.0))) (simple_operand c Γ x.0)
       (ap (operand c Γ) (e.rolls-Simple x.0) ∙ operand_simple c Γ x.0) x.1
   expr_layer (Expr-F.Compare x r at y) =
-      hands_by (operand c Γ (roll-Expr (Expr-F.Compare x.0 r at y.0))) _
+      hands_by c Γ (operand c Γ (roll-Expr (Expr-F.Compare x.0 r at y.0))) _
       (ap (operand c Γ) (e.rolls-Compare x.0 r at y.0) ∙ operand_compare c Γ x.0 r at y.0)
-      (of_plain _ _ (λ cs p h. (let a = then_yes ((simple_operand c Γ x.0).value cs) _ p h in
+      (of_plain c Γ _ _ (λ cs p h. (let a = then_yes ((simple_operand c Γ x.0).value cs) _ p h in
       let b = then_yes ((simple_operand c Γ y.0).value a.0.1) _ p a.2 in
       still_adds value_threatens _ cs b.0.1 (value_threatens a.0.0 ++ value_threatens b.0.0) p b.2
       (adds_both cs a.0.1 b.0.1 (value_threatens a.0.0) (value_threatens b.0.0) (x.1.value cs a.0 a.1)
       (y.1.value a.0.1 b.0 b.1)) (λ v g. compared_both _ r a.0.0 b.0.0 v g))))
 
-  factor_layer : (y : Factor-F AtExpr AtFactor AtMember AtSelector AtAddedTerm AtMultipliedFactor AtSimple AtTerm
-      AtVariable) → FactorHands (roll-Factor (map-Factor AtExpr AtFactor AtMember AtSelector AtAddedTerm
-      AtMultipliedFactor AtSimple AtTerm AtVariable Expr Factor Member Selector AddedTerm MultipliedFactor Simple Term
+  factor_layer : (y : Factor-F (AtExpr c Γ) (AtFactor c Γ) (AtMember c Γ) (AtSelector c Γ) (AtAddedTerm c Γ)
+      (AtMultipliedFactor c Γ) (AtSimple c Γ) (AtTerm c Γ)
+      (AtVariable c Γ)) → FactorHands c Γ (roll-Factor (map-Factor (AtExpr c Γ) (AtFactor c Γ) (AtMember c Γ)
+      (AtSelector c Γ) (AtAddedTerm c Γ)
+      (AtMultipliedFactor c Γ) (AtSimple c Γ) (AtTerm c Γ)
+      (AtVariable c Γ) Expr Factor Member Selector AddedTerm MultipliedFactor Simple Term
       syntax.Variable (λ x. x.0) (λ x. x.0) (λ x. x.0) (λ x. x.0) (λ x. x.0) (λ x. x.0) (λ x. x.0) (λ x. x.0)
       (λ x. x.0) y))
   factor_layer (Factor-F.Variable x) =
-      hands_by (factor_operand c Γ (roll-Factor (Factor-F.Variable x.0))) _
+      hands_by c Γ (factor_operand c Γ (roll-Factor (Factor-F.Variable x.0))) _
       (ap (factor_operand c Γ) (f.rolls-Variable x.0) ∙ factor_variable c Γ x.0)
       x.1
   factor_layer (Factor-F.Call at ys) =
-      hands_by (factor_operand c Γ (roll-Factor (Factor-F.Call at (parts ys)))) _
+      hands_by c Γ (factor_operand c Γ (roll-Factor (Factor-F.Call at (parts ys)))) _
       (ap (factor_operand c Γ) (f.rolls-Call at (parts ys)) ∙ factor_call c Γ at (parts ys))
-      (of_plain _ _ (λ cs p h. (let q = then_still (denoted c Γ at) cs _ p h in called_adds at.from q.0 ys cs p q.2)))
+      (of_plain c Γ _ _ (λ cs p h. (let q = then_still (denoted c Γ at) cs _ p h
+      in called_adds c Γ at.from q.0 ys cs p q.2)))
   factor_layer (Factor-F.Number at) =
-      hands_by (factor_operand c Γ (roll-Factor (Factor-F.Number at))) _
+      hands_by c Γ (factor_operand c Γ (roll-Factor (Factor-F.Number at))) _
       (ap (factor_operand c Γ) (f.rolls-Number at) ∙ factor_number c Γ at)
-      (of_plain _ _ (λ cs p h. still_adds value_threatens _ cs cs [] p h (adds_none cs)
+      (of_plain c Γ _ _ (λ cs p h. still_adds value_threatens _ cs cs [] p h (adds_none cs)
       (λ v g. constant_threatens at.from _ v g)))
   factor_layer (Factor-F.Text at) =
-      hands_by (factor_operand c Γ (roll-Factor (Factor-F.Text at))) _
+      hands_by c Γ (factor_operand c Γ (roll-Factor (Factor-F.Text at))) _
       (ap (factor_operand c Γ) (f.rolls-Text at) ∙ factor_text c Γ at)
-      (of_plain _ _ (λ cs p h. still_adds value_threatens _ cs cs [] p h (adds_none cs)
+      (of_plain c Γ _ _ (λ cs p h. still_adds value_threatens _ cs cs [] p h (adds_none cs)
       (λ v g. constant_threatens at.from _ v g)))
   factor_layer (Factor-F.Nil at) =
-      hands_by (factor_operand c Γ (roll-Factor (Factor-F.Nil at))) _
+      hands_by c Γ (factor_operand c Γ (roll-Factor (Factor-F.Nil at))) _
       (ap (factor_operand c Γ) (f.rolls-Nil at) ∙ factor_nil c Γ at)
-      (of_plain _ _ (λ cs p h. made_adds value_threatens _ cs cs p h (nil_adds cs)))
+      (of_plain c Γ _ _ (λ cs p h. made_adds value_threatens _ cs cs p h (nil_adds cs)))
   factor_layer (Factor-F.Set at ys) =
-      hands_by (factor_operand c Γ (roll-Factor (Factor-F.Set at (parts ys)))) _
+      hands_by c Γ (factor_operand c Γ (roll-Factor (Factor-F.Set at (parts ys)))) _
       (ap (factor_operand c Γ) (f.rolls-Set at (parts ys)) ∙ factor_set c Γ at (parts ys))
-      (of_plain _ _ (λ cs p h. (let g = then_yes (through gather ([], None) (map (member_at c Γ) (parts ys)) cs) _ p h
+      (of_plain c Γ _ _ (λ cs p h. (let g = then_yes (through gather ([], None)
+      (map (member_at c Γ) (parts ys)) cs) _ p h
       in
       let all = adds_all cs g.0.1 (gathered_threatens g.0.0) (members_more ys cs g.0 g.1) in
       made_adds value_threatens (constructed g.0.0) cs g.0.1 p g.2
       (adds_as cs g.0.1 (gathered_threatens g.0.0) (value_threatens (constructed g.0.0))
       (sym (constructed_threatens g.0.0)) all))))
   factor_layer (Factor-F.Group at n x) =
-      hands_by (factor_operand c Γ (roll-Factor (Factor-F.Group at n x.0))) _
+      hands_by c Γ (factor_operand c Γ (roll-Factor (Factor-F.Group at n x.0))) _
       (ap (factor_operand c Γ) (f.rolls-Group at n x.0) ∙ factor_group c Γ at n x.0)
-      (of_plain _ _ (λ cs p h. x.1.value cs p h))
+      (of_plain c Γ _ _ (λ cs p h. x.1.value cs p h))
   factor_layer (Factor-F.Not at x) =
-      hands_by (factor_operand c Γ (roll-Factor (Factor-F.Not at x.0))) _
+      hands_by c Γ (factor_operand c Γ (roll-Factor (Factor-F.Not at x.0))) _
       (ap (factor_operand c Γ) (f.rolls-Not at x.0) ∙ factor_not c Γ at x.0)
-      (of_plain _ _ (λ cs p h. (let a = then_yes ((factor_operand c Γ x.0).value cs) _ p h
+      (of_plain c Γ _ _ (λ cs p h. (let a = then_yes ((factor_operand c Γ x.0).value cs) _ p h
       in still_adds value_threatens _ cs a.0.1 (value_threatens a.0.0) p a.2 (x.1.value cs a.0 a.1)
       (λ v g. negated_threatens _ a.0.0 v g))))
 
-  member_layer : (y : Member-F AtExpr AtFactor AtMember AtSelector AtAddedTerm AtMultipliedFactor AtSimple AtTerm
-      AtVariable) → MemberHands (roll-Member (map-Member AtExpr AtFactor AtMember AtSelector AtAddedTerm
-      AtMultipliedFactor AtSimple AtTerm AtVariable Expr Factor Member Selector AddedTerm MultipliedFactor Simple Term
+  member_layer : (y : Member-F (AtExpr c Γ) (AtFactor c Γ) (AtMember c Γ) (AtSelector c Γ) (AtAddedTerm c Γ)
+      (AtMultipliedFactor c Γ) (AtSimple c Γ) (AtTerm c Γ)
+      (AtVariable c Γ)) → MemberHands c Γ (roll-Member (map-Member (AtExpr c Γ) (AtFactor c Γ) (AtMember c Γ)
+      (AtSelector c Γ) (AtAddedTerm c Γ)
+      (AtMultipliedFactor c Γ) (AtSimple c Γ) (AtTerm c Γ)
+      (AtVariable c Γ) Expr Factor Member Selector AddedTerm MultipliedFactor Simple Term
       syntax.Variable (λ x. x.0) (λ x. x.0) (λ x. x.0) (λ x. x.0) (λ x. x.0) (λ x. x.0) (λ x. x.0) (λ x. x.0)
       (λ x. x.0) y))
   member_layer (Member-F.One x) cs p h =
@@ -445,9 +163,11 @@ module _ (c : Context) (Γ : List Region) where
       (y.1.value a.0.1 b.0 b.1))
       (λ v g. several_threaten _ _ a.0.0 b.0.0 _ v g)
 
-  selector_layer : (y : Selector-F AtExpr AtFactor AtMember AtSelector AtAddedTerm AtMultipliedFactor AtSimple AtTerm
-      AtVariable) → SelectorHands (roll-Selector
-      (map-Selector AtExpr AtFactor AtMember AtSelector AtAddedTerm AtMultipliedFactor AtSimple AtTerm AtVariable Expr
+  selector_layer : (y : Selector-F (AtExpr c Γ) (AtFactor c Γ) (AtMember c Γ) (AtSelector c Γ) (AtAddedTerm c Γ)
+      (AtMultipliedFactor c Γ) (AtSimple c Γ) (AtTerm c Γ)
+      (AtVariable c Γ)) → SelectorHands c Γ (roll-Selector
+      (map-Selector (AtExpr c Γ) (AtFactor c Γ) (AtMember c Γ) (AtSelector c Γ) (AtAddedTerm c Γ)
+      (AtMultipliedFactor c Γ) (AtSimple c Γ) (AtTerm c Γ) (AtVariable c Γ) Expr
       Factor Member Selector AddedTerm MultipliedFactor Simple Term syntax.Variable (λ x. x.0) (λ x. x.0) (λ x. x.0)
       (λ x. x.0) (λ x. x.0) (λ x. x.0) (λ x. x.0) (λ x. x.0) (λ x. x.0) y))
   selector_layer (Selector-F.Index ys) first v cs p h =
@@ -469,9 +189,11 @@ module _ (c : Context) (Γ : List Region) where
       still_more place_of _ cs cs (place_of v) [] p (sym is ∙ h) (adds_none cs)
       (λ w g. target_same first c.domains v.place v.type _ w g ∙ sym (append-nil (place_of v)))
 
-  added_layer : (y : AddedTerm-F AtExpr AtFactor AtMember AtSelector AtAddedTerm AtMultipliedFactor AtSimple AtTerm
-      AtVariable) → AddedTermHands (roll-AddedTerm
-      (map-AddedTerm AtExpr AtFactor AtMember AtSelector AtAddedTerm AtMultipliedFactor AtSimple AtTerm AtVariable Expr
+  added_layer : (y : AddedTerm-F (AtExpr c Γ) (AtFactor c Γ) (AtMember c Γ) (AtSelector c Γ) (AtAddedTerm c Γ)
+      (AtMultipliedFactor c Γ) (AtSimple c Γ) (AtTerm c Γ)
+      (AtVariable c Γ)) → AddedTermHands c Γ (roll-AddedTerm
+      (map-AddedTerm (AtExpr c Γ) (AtFactor c Γ) (AtMember c Γ) (AtSelector c Γ) (AtAddedTerm c Γ)
+      (AtMultipliedFactor c Γ) (AtSimple c Γ) (AtTerm c Γ) (AtVariable c Γ) Expr
       Factor Member Selector AddedTerm MultipliedFactor Simple Term syntax.Variable (λ x. x.0) (λ x. x.0) (λ x. x.0)
       (λ x. x.0) (λ x. x.0) (λ x. x.0) (λ x. x.0) (λ x. x.0) (λ x. x.0) y))
   added_layer y first v cs p h =
@@ -489,10 +211,13 @@ module _ (c : Context) (Γ : List Region) where
       still_more value_threatens _ cs a.0.1 (value_threatens v) (value_threatens a.0.0) p a.2
       (y.term.1.value cs a.0 a.1) (λ w g. added_both _ y.operator _ v a.0.0 w g)
 
-  multiplied_layer : (y : MultipliedFactor-F AtExpr AtFactor AtMember AtSelector AtAddedTerm AtMultipliedFactor AtSimple
-      AtTerm AtVariable) → MultipliedFactorHands
-      (roll-MultipliedFactor (map-MultipliedFactor AtExpr AtFactor AtMember AtSelector AtAddedTerm AtMultipliedFactor
-      AtSimple AtTerm AtVariable Expr Factor Member Selector AddedTerm MultipliedFactor Simple Term syntax.Variable
+  multiplied_layer : (y : MultipliedFactor-F (AtExpr c Γ) (AtFactor c Γ) (AtMember c Γ) (AtSelector c Γ)
+      (AtAddedTerm c Γ) (AtMultipliedFactor c Γ) (AtSimple c Γ)
+      (AtTerm c Γ) (AtVariable c Γ)) → MultipliedFactorHands c Γ
+      (roll-MultipliedFactor (map-MultipliedFactor (AtExpr c Γ) (AtFactor c Γ) (AtMember c Γ) (AtSelector c Γ)
+      (AtAddedTerm c Γ) (AtMultipliedFactor c Γ)
+      (AtSimple c Γ) (AtTerm c Γ)
+      (AtVariable c Γ) Expr Factor Member Selector AddedTerm MultipliedFactor Simple Term syntax.Variable
       (λ x. x.0) (λ x. x.0) (λ x. x.0) (λ x. x.0) (λ x. x.0) (λ x. x.0) (λ x. x.0) (λ x. x.0) (λ x. x.0) y))
   multiplied_layer y first v cs p h =
       let z : MultipliedFactor-F Expr Factor Member Selector AddedTerm MultipliedFactor Simple Term syntax.Variable =
@@ -506,9 +231,12 @@ module _ (c : Context) (Γ : List Region) where
       still_more value_threatens _ cs a.0.1 (value_threatens v) (value_threatens a.0.0) p a.2
       (y.factor.1.value cs a.0 a.1) (λ w g. multiplied_both _ y.operator _ v a.0.0 w g)
 
-  simple_layer : (y : Simple-F AtExpr AtFactor AtMember AtSelector AtAddedTerm AtMultipliedFactor AtSimple AtTerm
-      AtVariable) → SimpleHands (roll-Simple (map-Simple AtExpr AtFactor AtMember AtSelector AtAddedTerm
-      AtMultipliedFactor AtSimple AtTerm AtVariable Expr Factor Member Selector AddedTerm MultipliedFactor Simple Term
+  simple_layer : (y : Simple-F (AtExpr c Γ) (AtFactor c Γ) (AtMember c Γ) (AtSelector c Γ) (AtAddedTerm c Γ)
+      (AtMultipliedFactor c Γ) (AtSimple c Γ) (AtTerm c Γ)
+      (AtVariable c Γ)) → SimpleHands c Γ (roll-Simple (map-Simple (AtExpr c Γ) (AtFactor c Γ) (AtMember c Γ)
+      (AtSelector c Γ) (AtAddedTerm c Γ)
+      (AtMultipliedFactor c Γ) (AtSimple c Γ) (AtTerm c Γ)
+      (AtVariable c Γ) Expr Factor Member Selector AddedTerm MultipliedFactor Simple Term
       syntax.Variable (λ x. x.0) (λ x. x.0) (λ x. x.0) (λ x. x.0) (λ x. x.0) (λ x. x.0) (λ x. x.0) (λ x. x.0)
       (λ x. x.0) y))
   simple_layer y =
@@ -520,12 +248,15 @@ module _ (c : Context) (Γ : List Region) where
       let is = simple_is c Γ (roll-Simple z) ∙ ap (λ
       (q : Simple-F Expr Factor Member Selector AddedTerm MultipliedFactor Simple Term syntax.Variable). simple_seen
       c Γ q.sign (term_operand c Γ q.first) (map (add_term c Γ) q.more)) (out-roll-Simple z) in
-      hands_by (simple_operand c Γ (roll-Simple z)) _ is
-      (seen_simple y.sign (term_operand c Γ y.first.0) y.first.1 y.more)
+      hands_by c Γ (simple_operand c Γ (roll-Simple z)) _ is
+      (seen_simple c Γ y.sign (term_operand c Γ y.first.0) y.first.1 y.more)
 
-  term_layer : (y : Term-F AtExpr AtFactor AtMember AtSelector AtAddedTerm AtMultipliedFactor AtSimple AtTerm
-      AtVariable) → TermHands (roll-Term (map-Term AtExpr AtFactor AtMember AtSelector AtAddedTerm AtMultipliedFactor
-      AtSimple AtTerm AtVariable Expr Factor Member Selector AddedTerm MultipliedFactor Simple Term syntax.Variable
+  term_layer : (y : Term-F (AtExpr c Γ) (AtFactor c Γ) (AtMember c Γ) (AtSelector c Γ) (AtAddedTerm c Γ)
+      (AtMultipliedFactor c Γ) (AtSimple c Γ) (AtTerm c Γ)
+      (AtVariable c Γ)) → TermHands c Γ (roll-Term (map-Term (AtExpr c Γ) (AtFactor c Γ) (AtMember c Γ)
+      (AtSelector c Γ) (AtAddedTerm c Γ) (AtMultipliedFactor c Γ)
+      (AtSimple c Γ) (AtTerm c Γ)
+      (AtVariable c Γ) Expr Factor Member Selector AddedTerm MultipliedFactor Simple Term syntax.Variable
       (λ x. x.0) (λ x. x.0) (λ x. x.0) (λ x. x.0) (λ x. x.0) (λ x. x.0) (λ x. x.0) (λ x. x.0) (λ x. x.0) y))
   term_layer y =
       let z : Term-F Expr Factor Member Selector AddedTerm MultipliedFactor Simple Term syntax.Variable = record {
@@ -535,11 +266,13 @@ module _ (c : Context) (Γ : List Region) where
       let is = term_is c Γ (roll-Term z) ∙ ap (λ
       (q : Term-F Expr Factor Member Selector AddedTerm MultipliedFactor Simple Term syntax.Variable). term_seen c Γ
       (factor_operand c Γ q.first) (map (multiply_factor c Γ) q.more)) (out-roll-Term z) in
-      hands_by (term_operand c Γ (roll-Term z)) _ is (seen_term (factor_operand c Γ y.first.0) y.first.1 y.more)
+      hands_by c Γ (term_operand c Γ (roll-Term z)) _ is (seen_term c Γ (factor_operand c Γ y.first.0) y.first.1 y.more)
 
-  variable_layer : (y : Variable-F AtExpr AtFactor AtMember AtSelector AtAddedTerm AtMultipliedFactor AtSimple AtTerm
-      AtVariable) → VariableHands (roll-Variable
-      (map-Variable AtExpr AtFactor AtMember AtSelector AtAddedTerm AtMultipliedFactor AtSimple AtTerm AtVariable Expr
+  variable_layer : (y : Variable-F (AtExpr c Γ) (AtFactor c Γ) (AtMember c Γ) (AtSelector c Γ) (AtAddedTerm c Γ)
+      (AtMultipliedFactor c Γ) (AtSimple c Γ) (AtTerm c Γ)
+      (AtVariable c Γ)) → VariableHands c Γ (roll-Variable
+      (map-Variable (AtExpr c Γ) (AtFactor c Γ) (AtMember c Γ) (AtSelector c Γ) (AtAddedTerm c Γ)
+      (AtMultipliedFactor c Γ) (AtSimple c Γ) (AtTerm c Γ) (AtVariable c Γ) Expr
       Factor Member Selector AddedTerm MultipliedFactor Simple Term syntax.Variable (λ x. x.0) (λ x. x.0) (λ x. x.0)
       (λ x. x.0) (λ x. x.0) (λ x. x.0) (λ x. x.0) (λ x. x.0) (λ x. x.0) y))
   variable_layer y =
@@ -547,31 +280,33 @@ module _ (c : Context) (Γ : List Region) where
         name = y.name;
         selectors = parts y.selectors;
       } in
-      hands_by (variable_operand c Γ (roll-Variable z)) _ (variable_is c Γ (roll-Variable z))
-      (seen_variable y.name y.selectors)
+      hands_by c Γ (variable_operand c Γ (roll-Variable z)) _ (variable_is c Γ (roll-Variable z))
+      (seen_variable c Γ y.name y.selectors)
 
-  pub exprs_hand : (x : Expr) → ExprHands x
-  exprs_hand = ind-Expr ExprHands FactorHands MemberHands SelectorHands AddedTermHands MultipliedFactorHands SimpleHands
-      TermHands VariableHands
-      (λ x y is. subst (λ z. ExprHands (roll-Expr z)) is (expr_layer y))
-      (λ x y is. subst (λ z. FactorHands (roll-Factor z)) is (factor_layer y))
-      (λ x y is. subst (λ z. MemberHands (roll-Member z)) is (member_layer y))
-      (λ x y is. subst (λ z. SelectorHands (roll-Selector z)) is (selector_layer y))
-      (λ x y is. subst (λ z. AddedTermHands (roll-AddedTerm z)) is (added_layer y))
-      (λ x y is. subst (λ z. MultipliedFactorHands (roll-MultipliedFactor z)) is (multiplied_layer y))
-      (λ x y is. subst (λ z. SimpleHands (roll-Simple z)) is (simple_layer y))
-      (λ x y is. subst (λ z. TermHands (roll-Term z)) is (term_layer y))
-      (λ x y is. subst (λ z. VariableHands (roll-Variable z)) is (variable_layer y))
+  pub exprs_hand : (x : Expr) → ExprHands c Γ x
+  exprs_hand = ind-Expr (ExprHands c Γ) (FactorHands c Γ) (MemberHands c Γ) (SelectorHands c Γ) (AddedTermHands c Γ)
+      (MultipliedFactorHands c Γ) (SimpleHands c Γ)
+      (TermHands c Γ) (VariableHands c Γ)
+      (λ x y is. subst (λ z. ExprHands c Γ (roll-Expr z)) is (expr_layer y))
+      (λ x y is. subst (λ z. FactorHands c Γ (roll-Factor z)) is (factor_layer y))
+      (λ x y is. subst (λ z. MemberHands c Γ (roll-Member z)) is (member_layer y))
+      (λ x y is. subst (λ z. SelectorHands c Γ (roll-Selector z)) is (selector_layer y))
+      (λ x y is. subst (λ z. AddedTermHands c Γ (roll-AddedTerm z)) is (added_layer y))
+      (λ x y is. subst (λ z. MultipliedFactorHands c Γ (roll-MultipliedFactor z)) is (multiplied_layer y))
+      (λ x y is. subst (λ z. SimpleHands c Γ (roll-Simple z)) is (simple_layer y))
+      (λ x y is. subst (λ z. TermHands c Γ (roll-Term z)) is (term_layer y))
+      (λ x y is. subst (λ z. VariableHands c Γ (roll-Variable z)) is (variable_layer y))
 
-  pub variables_hand : (x : syntax.Variable) → VariableHands x
-  variables_hand = ind-Variable ExprHands FactorHands MemberHands SelectorHands AddedTermHands MultipliedFactorHands
-      SimpleHands TermHands VariableHands
-      (λ x y is. subst (λ z. ExprHands (roll-Expr z)) is (expr_layer y))
-      (λ x y is. subst (λ z. FactorHands (roll-Factor z)) is (factor_layer y))
-      (λ x y is. subst (λ z. MemberHands (roll-Member z)) is (member_layer y))
-      (λ x y is. subst (λ z. SelectorHands (roll-Selector z)) is (selector_layer y))
-      (λ x y is. subst (λ z. AddedTermHands (roll-AddedTerm z)) is (added_layer y))
-      (λ x y is. subst (λ z. MultipliedFactorHands (roll-MultipliedFactor z)) is (multiplied_layer y))
-      (λ x y is. subst (λ z. SimpleHands (roll-Simple z)) is (simple_layer y))
-      (λ x y is. subst (λ z. TermHands (roll-Term z)) is (term_layer y))
-      (λ x y is. subst (λ z. VariableHands (roll-Variable z)) is (variable_layer y))
+  pub variables_hand : (x : syntax.Variable) → VariableHands c Γ x
+  variables_hand = ind-Variable (ExprHands c Γ) (FactorHands c Γ) (MemberHands c Γ) (SelectorHands c Γ)
+      (AddedTermHands c Γ) (MultipliedFactorHands c Γ)
+      (SimpleHands c Γ) (TermHands c Γ) (VariableHands c Γ)
+      (λ x y is. subst (λ z. ExprHands c Γ (roll-Expr z)) is (expr_layer y))
+      (λ x y is. subst (λ z. FactorHands c Γ (roll-Factor z)) is (factor_layer y))
+      (λ x y is. subst (λ z. MemberHands c Γ (roll-Member z)) is (member_layer y))
+      (λ x y is. subst (λ z. SelectorHands c Γ (roll-Selector z)) is (selector_layer y))
+      (λ x y is. subst (λ z. AddedTermHands c Γ (roll-AddedTerm z)) is (added_layer y))
+      (λ x y is. subst (λ z. MultipliedFactorHands c Γ (roll-MultipliedFactor z)) is (multiplied_layer y))
+      (λ x y is. subst (λ z. SimpleHands c Γ (roll-Simple z)) is (simple_layer y))
+      (λ x y is. subst (λ z. TermHands c Γ (roll-Term z)) is (term_layer y))
+      (λ x y is. subst (λ z. VariableHands c Γ (roll-Variable z)) is (variable_layer y))

@@ -25,7 +25,7 @@ use Rattle.ps_check_laws.proofs.Lists.{inside, never, there_is, get_left, get_st
 use Rattle.ps_check_laws.proofs.Lists.{there_place}
 use Rattle.ps_check_laws.specs.Counts.{sum, routine_domains}
 use Rattle.ps_check_laws.proofs.Declared.{Standing, one_more_stands}
-use Rattle.ps_check_laws.proofs.Formals.{points_told, begun}
+use Rattle.ps_check_laws.proofs.HeadingPoints.{points_told}
 use Rattle.ps_check_laws.proofs.Routines.{same_equal, read, sp, introduced_last, own, counts}
 use Rattle.ps_check_laws.proofs.GatheredSoFar.{Keeps, Same, vacant_is}
 use Rattle.ps_check_laws.proofs.BlockPoints.{none_stays, plain_not, declares_plain, heading_or, among, points}

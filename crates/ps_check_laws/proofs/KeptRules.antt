@@ -13,7 +13,7 @@ use Rattle.ps_check_judgement.specs.Judged.{Yes}
 use Rattle.ps_check_names.specs.Regions.{BlockRegion, Meaning}
 use Rattle.ps_check_declarations.specs.Denoters.{Frame}
 use Rattle.ps_check.specs.Readings.{Gathered}
-use Rattle.ps_check.specs.Blocks.{own_number, block, of_statements}
+use Rattle.ps_check.specs.Blocks.{own_number, of_statements}
 use Rattle.ps_check.specs.Programs.{Files, program_context}
 use Rattle.ps_check.specs.Changes.{assigns}
 use Rattle.ps_check.specs.Paths.{layer_block, routine_block, block_at}
@@ -23,22 +23,20 @@ use Rattle.ps_check_laws.specs.Denoting.{headings_within}
 use Rattle.ps_check_laws.specs.Meanings.{IsRegion}
 use Rattle.ps_check_laws.specs.Read.{IsReadThere}
 use Rattle.ps_check_laws.specs.Domains.{type_domains, variable_domains, AreDomains}
-use Rattle.ps_check_laws.proofs.Domains.{domains_stay, declarations_length}
+use Rattle.ps_check_laws.proofs.Pending.{domains_stay, declarations_length}
 use Rattle.ps_check_laws.specs.Within.{IsWithin, IsTaken, AreThoseWithin}
 use Rattle.ps_check_laws.specs.Occurrences.{statements_uses}
 use Rattle.ps_check_laws.specs.InDeclarations.{declarations_part}
 use Rattle.ps_check_laws.proofs.Statements.{statements_read, denoted_there}
 use Rattle.ps_check_laws.proofs.Controls.{controls_unchanged}
 use Rattle.ps_check.specs.RegionNames.{AreApart}
-use Rattle.ps_check_laws.proofs.Enclosed.{AllKnown}
+use Rattle.ps_check_laws.proofs.EnclosedNames.{AllKnown}
 use Rattle.ps_check_laws.proofs.Before.{denoted_before, headings_denoted}
 use Rattle.ps_tree.specs.Types.{DataType}
 use Rattle.ps_check_declarations.specs.Declarations.{declarations}
 use Rattle.ps_check_statements.specs.Statements.{statements}
 use Rattle.ps_check_laws.proofs.Lists.{take_whole, get_drop, drop_length, difference, Each, each_at, none_some, inside}
 use Rattle.ps_check_laws.proofs.Lists.{then_some}
-use Rattle.ps_check_laws.proofs.Routines.{own}
-use Rattle.ps_check_laws.proofs.BlockPoints.{points}
 use Rattle.ps_check_laws.proofs.GatheredSoFar.{changes_told}
 use Rattle.ps_check_laws.specs.Counts.{block_domains, own_domains}
 use Rattle.ps_check_laws.specs.Rule.{KeepsRules, BlockIsRead, is_read}

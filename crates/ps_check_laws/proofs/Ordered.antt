@@ -24,7 +24,7 @@ use Rattle.ps_check_laws.specs.Forward.{is_function, layer_completes, Completes,
 use Rattle.ps_check_laws.proofs.Lists.{none_some, inside, never, get_below, there_is, get_stays, get_at, get_last}
 use Rattle.ps_check_laws.proofs.Lists.{take_length, there_place, new_place}
 use Rattle.ps_check_laws.proofs.Shown.{split_at}
-use Rattle.ps_check_laws.proofs.Domains.{declarations_length}
+use Rattle.ps_check_laws.proofs.Pending.{declarations_length}
 use Rattle.ps_check_laws.proofs.Routines.{same_equal, same_itself, or_true, read, introduced_append, introduced_more}
 use Rattle.ps_check_laws.proofs.Routines.{introduced_last, sp}
 use Rattle.ps_check_laws.proofs.BlockPoints.{points, points_last, points_names_last}

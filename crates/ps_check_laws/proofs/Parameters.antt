@@ -21,8 +21,8 @@ use Rattle.ps_check_declarations.specs.Headings.{add_section, list_names, sectio
 use Rattle.ps_check_laws.specs.Definitions.{joined}
 use Rattle.ps_check_laws.specs.InDeclarations.{Uses, used, SectionPart, HeadingPart, section_step, list_uses}
 use Rattle.ps_check_laws.specs.InDeclarations.{heading_step, heading_part}
-use Rattle.ps_check_laws.proofs.Enclosed.{own_names, Known, AllKnown, one_known, known_inside}
-use Rattle.ps_check_laws.proofs.Formals.{list_names_are}
+use Rattle.ps_check_laws.proofs.EnclosedNames.{own_names, Known, AllKnown, one_known, known_inside}
+use Rattle.ps_check_laws.proofs.HeadingPoints.{list_names_are}
 use Rattle.ps_check_laws.proofs.Lists.{each_append}
 
 abbrev section_part : syntax.Section → SectionPart

@@ -2,12 +2,6 @@
 use Rattle.std.proofs.Common.{◌≡◌, ℕ, Bool, true, false, not, ◌&&◌, List, [], ◌∷◌, ◌++◌, Option, Some, None, refl, sym}
 use Rattle.std.proofs.Common.{ap, ◌∙◌, append-nil, append_assoc}
 use Rattle.std.specs.Prelude.{if◌then◌else◌}
-use Rattle.ps_syntax.specs.declared.expression.Expr.{Expr}
-use Rattle.ps_syntax.specs.declared.expression.Member.{Member}
-use Rattle.ps_syntax.specs.declared.expression.Expr.TheVariants as e
-use Rattle.ps_syntax.specs.declared.expression.Factor.TheVariants as f
-use Rattle.ps_syntax.specs.declared.expression.Member.TheVariants as m
-use Rattle.ps_syntax.specs.declared.expression.Selector.TheVariants as s
 use Rattle.ps_tree.specs.declared.types.Ordinal.{Ordinal}
 use Rattle.ps_tree.specs.declared.tree.RequiredFunction.{RequiredFunction}
 use Rattle.ps_tree.specs.declared.types.Host.TheVariants.{Integer}

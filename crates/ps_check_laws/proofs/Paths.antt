@@ -29,8 +29,8 @@ use Rattle.ps_check_laws.specs.Meanings.{AreMeanings, IsRegion, AreAround, routi
 use Rattle.ps_check_laws.specs.Read.{IsOfHeading, of_heading}
 use Rattle.ps_check_laws.proofs.Lists.{take_drop, inside, then_some, get_stays}
 use Rattle.ps_check_laws.proofs.Declared.{Standing}
-use Rattle.ps_check_laws.proofs.Routines.{introduced_append, introduced_more, own}
-use Rattle.ps_check_laws.proofs.Steps.{Nested, NestedPart}
+use Rattle.ps_check_laws.proofs.Routines.{introduced_append, introduced_more}
+use Rattle.ps_check_laws.proofs.NestedSteps.{Nested, NestedPart}
 use Rattle.ps_check_laws.proofs.BlockPoints.{points}
 use Rattle.ps_check_laws.proofs.GatheredSoFar.{Longer, longer_both, Ready}
 use Rattle.ps_check_laws.specs.Counts.{sum, routine_domains, own_domains, domains_before, first_domain_at}

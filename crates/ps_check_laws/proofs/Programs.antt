@@ -29,7 +29,7 @@ use Rattle.ps_check_laws.proofs.Shown.{differ, closed, shown, shown_from, shown_
 use Rattle.ps_check_laws.proofs.Rebuilt.{equal_true}
 use Rattle.ps_check_laws.proofs.Recovered.{recovered}
 use Rattle.ps_check_laws.proofs.ByParts.{tree_parts}
-use Rattle.ps_check_laws.proofs.RecoveredRoutines.{BlockRecovers, RoutineRecovers}
+use Rattle.ps_check_laws.proofs.RecoveredNames.{BlockRecovers, RoutineRecovers}
 
 -- ---- the limits of a program
 

@@ -18,7 +18,6 @@ use Rattle.ps_check_declarations.specs.Denoters.{Frame, Declared}
 use Rattle.ps_check_statements.specs.Statements.{statements}
 use Rattle.ps_check.specs.Readings.{Gathered, Done, Routines, BlockReading}
 use Rattle.ps_check.specs.Forwards.{is_vacant, one_complete, all_complete, block_names}
-use Rattle.ps_check.specs.Entries.{start}
 use Rattle.ps_check.specs.Blocks.{one_routine, own_number, of_statements, declared, block_body, block_step, block}
 use Rattle.ps_check.specs.Blocks.{routine, layer}
 use Rattle.ps_check.specs.Programs.{Files, program_context}
@@ -35,13 +34,14 @@ use Rattle.ps_check_laws.specs.Rule.{KeepsRules}
 use Rattle.ps_check_laws.proofs.Lists.{get_below, there_is, take_next, take_all, take_drop, Each}
 use Rattle.ps_check_laws.proofs.Shown.{shown, shown_at, shown_alike}
 use Rattle.ps_check_laws.proofs.Routines.{sp, counts, counted_none}
-use Rattle.ps_check_laws.proofs.Domains.{declarations_length}
+use Rattle.ps_check_laws.proofs.Pending.{declarations_length}
 use Rattle.ps_check_laws.proofs.Blocks.{within_is}
 use Rattle.ps_check_laws.proofs.Ordered.{introduced_of, introduced_first}
 use Rattle.ps_check_laws.proofs.Drawn.{block_domains_are}
 use Rattle.ps_check_laws.proofs.Rebuilt.{counted_end, counted_more, own_one, none_are, all_alike}
 use Rattle.ps_check_laws.proofs.BlockPoints.{declares_plain, plain_not, points, in_part}
 use Rattle.ps_check_laws.proofs.ByParts.{all_are, gathered_parts, routines_parts, routine_inside}
+use Rattle.ps_check_laws.proofs.RecoveredNames as kept_names
 use Rattle.ps_check_laws.proofs.RecoveredRoutines as each_routine
 
 module _ (text : List ℕ) (p : syntax_program.Program) (files : Files) (made : Tree.Program) (limits : are_routines_within_limits made.routines ≡ true) (few : length made.routines ≤ 1048576) where
@@ -50,10 +50,10 @@ module _ (text : List ℕ) (p : syntax_program.Program) (files : Files) (made : 
 
   abbrev Nested : (v : List ℕ) (b : syntax_block.Block) (Γ : List Region) → KeepsRules text p files made v b Γ
       → (changes : ℕ → List Change) → Type 0
-  Nested v b Γ mine changes = each_routine.Nested text p files made limits few v b Γ mine changes
+  Nested v b Γ mine changes = kept_names.Nested text p files made limits few v b Γ mine changes
 
   abbrev RoutineRecovers : Routine → Type 0
-  RoutineRecovers x = each_routine.RoutineRecovers text p files made limits few x
+  RoutineRecovers x = kept_names.RoutineRecovers text p files made limits few x
 
   module _ (v : List ℕ) (b : syntax_block.Block) (Γ : List Region) (mine : KeepsRules text p files made v b Γ) (changes : ℕ → List Change) (inner_is : mine.inner ≡ changes_from changes 0 (out-Block b).routines) (nested : Nested v b Γ mine changes) (there : block_at p.block v ≡ Some b) (room : mine.next + headings_within text b ≤ length made.routines) (vacant : ℕ → Bool) (low : (m : ℕ) → mine.next ≤ m → vacant m ≡ false) where
     abbrev rs : List Routine
@@ -78,27 +78,27 @@ module _ (text : List ℕ) (p : syntax_program.Program) (files : Files) (made : 
     number k = mine.next + counted text [] (counts text (take k rs))
 
     abbrev State : List Routine → Routines → (ℕ → Bool) → Type 0
-    State done r q = each_routine.State text p files made limits few
+    State done r q = kept_names.State text p files made limits few
         v b Γ mine changes inner_is nested there room vacant low done r q
 
     abbrev apart : AreApart (names_of text (points text D (introduced text rs)))
-    apart = each_routine.apart text p files made limits few
+    apart = kept_names.apart text p files made limits few
         v b Γ mine changes inner_is nested there room vacant low
 
     many : length mine.known ≡ length all
-    many = each_routine.many text p files made limits few
+    many = kept_names.many text p files made limits few
         v b Γ mine changes inner_is nested there room vacant low
 
     means : AreMeanings f mine.start.first number all mine.known
-    means = each_routine.means text p files made limits few
+    means = kept_names.means text p files made limits few
         v b Γ mine changes inner_is nested there room vacant low
 
     first_points : points text D (introduced text []) ≡ map OfDeclaration D
-    first_points = each_routine.first_points text p files made limits few
+    first_points = kept_names.first_points text p files made limits few
         v b Γ mine changes inner_is nested there room vacant low
 
     names_are : block_names text (layer c b) mine.start.names ≡ N
-    names_are = each_routine.names_are text p files made limits few
+    names_are = kept_names.names_are text p files made limits few
         v b Γ mine changes inner_is nested there room vacant low
 
     abbrev begin : Routines

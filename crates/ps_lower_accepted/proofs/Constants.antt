@@ -19,7 +19,8 @@ use Rattle.ps_check_judgement.proofs.Binds.{then_yes, provided_yes, if_yes, insi
 use Rattle.ps_check_names.specs.Regions.{Region, Point, BlockPoint, FieldPoint, ConstantMeaning, TextMeaning}
 use Rattle.ps_check_names.specs.Spelling.{bytes_at, spelled}
 use Rattle.ps_lower_accepted.proofs.Calls.{char_known}
-use Rattle.ps_lower_accepted.proofs.Expressions.{integer_there, within_text}
+use Rattle.ps_lower_accepted.proofs.Expressions.{integer_there}
+use Rattle.ps_lower_accepted.proofs.TextBytes.{within_text}
 use Rattle.ps_lower_accepted.proofs.Lists.{Each}
 use Rattle.ps_lower_accepted.proofs.Names.{PointKnown, find_known}
 use Rattle.ps_lower_accepted.proofs.Operators.{integer_known}

@@ -1,7 +1,6 @@
 -- What type denoters define: each part of a type is what the table has where its denoter begins.
-use Rattle.std.proofs.Common.{◌≡◌, ℕ, zero, suc, ◌+◌, ◌<◌, ◌≤◌, Bool, ◌&&◌, nat_lt, List, [], ◌∷◌, ◌++◌, length, map}
-use Rattle.std.proofs.Common.{Option, Some, None, pos, int_le, refl, sym, ap, ◌∙◌, subst, arith, append-nil}
-use Rattle.std.proofs.Common.{append_assoc, length-append}
+use Rattle.std.proofs.Common.{◌≡◌, ℕ, zero, suc, ◌+◌, ◌<◌, ◌≤◌, Bool, nat_lt, List, [], ◌∷◌, ◌++◌, length, map, Option}
+use Rattle.std.proofs.Common.{Some, None, refl, sym, ap, ◌∙◌, subst, arith, append-nil, length-append}
 use Rattle.ps_text.specs.declared.Span.{Span}
 use Rattle.ps_scan.specs.Spans.{AreOrdered}
 use Rattle.ps_scan.specs.declared.token.Token.{Token}
@@ -17,212 +16,34 @@ use Rattle.ps_parse_grammar.specs.Symbols.{Tokens, Symbol, Separated, one, sever
 use Rattle.ps_parse_grammar.specs.Programs as p
 use Rattle.ps_parse_grammar.specs.Programs.{IsOrdinal, IsFields, IsStructure, IsType, index_within, type_within}
 use Rattle.ps_tree.specs.declared.types.Ordinal.{Ordinal}
-use Rattle.ps_tree.specs.Types.{DataType, OrdinalType, PointerType, SetType, RecordType, field_list, listed}
+use Rattle.ps_tree.specs.Types.{DataType, OrdinalType, PointerType, RecordType, field_list, listed}
 use Rattle.ps_tree.specs.Counts.{is_small}
 use Rattle.ps_check_judgement.specs.Judged.{Judged, Yes, ◌>>=◌, steps}
 use Rattle.ps_check_judgement.proofs.Binds.{then_yes, provided_yes, inside_yes}
 use Rattle.ps_check_names.specs.Spelling.{spelled}
-use Rattle.ps_check_names.specs.Regions.{Meaning}
 use Rattle.ps_check_declarations.specs.Points.{Points, new_points}
 use Rattle.ps_check_declarations.specs.Denoters.{Frame, Declared, Hidden, Reading, StructureReading, FieldsReading}
-use Rattle.ps_check_declarations.specs.Denoters.{FieldTypes, Indices, regions, type_named, ordinal, simple_type}
-use Rattle.ps_check_declarations.specs.Denoters.{passes, waiting, pointer, small, begins, is_packed, index_begins}
-use Rattle.ps_check_declarations.specs.Denoters.{index_type, array_of, array_type, add_fields, fields_of_type}
-use Rattle.ps_check_declarations.specs.Denoters.{record_names, record_type, set_of, packing_of, set_type}
-use Rattle.ps_check_declarations.specs.Denoters.{structure_step, type_step, fields_step, denoter, structure, fields}
-use Rattle.ps_check_declarations.proofs.FoldLemmas.{denoter_Ordinal, denoter_Pointer, denoter_Structure}
-use Rattle.ps_check_declarations.proofs.FoldLemmas.{denoter_Packed, structure_Array, structure_Record, structure_Set}
+use Rattle.ps_check_declarations.specs.Denoters.{FieldTypes, Indices, regions, type_named, ordinal, simple_type, passes}
+use Rattle.ps_check_declarations.specs.Denoters.{waiting, pointer, small, begins, is_packed, index_begins, index_type}
+use Rattle.ps_check_declarations.specs.Denoters.{array_of, array_type, add_fields, fields_of_type, record_names}
+use Rattle.ps_check_declarations.specs.Denoters.{record_type, set_of, set_type, structure_step, type_step, fields_step}
+use Rattle.ps_check_declarations.specs.Denoters.{denoter, structure, fields}
+use Rattle.ps_check_declarations.proofs.FoldLemmas.{denoter_Ordinal, denoter_Pointer, denoter_Structure, denoter_Packed}
+use Rattle.ps_check_declarations.proofs.FoldLemmas.{structure_Array, structure_Record, structure_Set}
 use Rattle.ps_lower_accepted.proofs.Lists.{Each, each_append, each_map}
 use Rattle.ps_lower_accepted.proofs.Tables.{Table, extends_self, EndsBefore, OrdinalKnown, TypeKnown, TypesKnown}
 use Rattle.ps_lower_accepted.proofs.Tables.{ordinal_more}
 use Rattle.ps_lower_accepted.proofs.Aims.{pointers}
 use Rattle.ps_lower_accepted.proofs.Places.{then_later, behind, same_place, names_go}
 use Rattle.ps_lower_accepted.proofs.Headings.{meanings_more, types_all_more, regions_more, named_known}
-use Rattle.ps_lower_accepted.proofs.Blocks.{ends_later}
-use Rattle.ps_lower_accepted.proofs.Placed.{Agrees, agrees_self, agrees_both, agrees_extend, put_there, put_other}
-use Rattle.ps_lower_accepted.proofs.Placed.{with_structure, structure_extends, Built, Rises, rises_more, IndexKnown}
-use Rattle.ps_lower_accepted.proofs.Placed.{array_built}
-use Rattle.ps_lower_accepted.proofs.Ordinals.{IsConstantMeaning, Known, known_more, names_known, OrdinalRead}
-use Rattle.ps_lower_accepted.proofs.Ordinals.{ordinal_read}
+use Rattle.ps_lower_accepted.proofs.BlockMeanings.{ends_later}
+use Rattle.ps_lower_accepted.proofs.Placed.{agrees_self, agrees_extend, put_there, put_other, with_structure}
+use Rattle.ps_lower_accepted.proofs.Placed.{structure_extends, Rises, rises_more, IndexKnown, array_built}
+use Rattle.ps_lower_accepted.proofs.Ordinals.{Known, names_known, OrdinalRead, ordinal_read}
+use Rattle.ps_lower_accepted.proofs.DenoterParts.{Behind, TypeBehind, built_behind, from_ordinal, lower, nothing_read}
+use Rattle.ps_lower_accepted.proofs.DenoterParts.{past_token, retold, set_known, two_parts}
 
 module _ (f : Frame) where
-  -- what is known after a part of the declarations
-  pub record Behind (low high : ℕ) (r : Tokens) (D : Table) (d e : Declared) (Q : Table → ℕ → Type 0) : Type 0 where
-    pub table : Table
-    pub next : ℕ
-    pub later : low ≤ next
-    pub ordered : AreOrdered next high r
-    pub agrees : Agrees low D table
-    pub ends : EndsBefore next table
-    pub known : Known f table e
-    pub told : Q table (pointers e)
-    pub more : pointers d ≤ pointers e
-    pub domains : e.domains ≡ d.domains
-    pub variables : e.variables ≡ d.variables
-    pub new : List Meaning
-    pub all_known : e.known ≡ d.known ++ new
-    pub constants : Each IsConstantMeaning new
-
-  abbrev pub TypeBehind : (low high : ℕ) → Tokens → Table → (d e : Declared) → DataType → Type 0
-  TypeBehind low high r D d e type = Behind low high r D d e (λ E b. TypeKnown E b type)
-
-  -- after one more token
-  pub past_token : (low high : ℕ) (t : Token) (r : Tokens) (D : Table) (d e : Declared) (Q : Table → ℕ → Type 0)
-      → Behind low high (t ∷ r) D d e Q → Behind low high r D d e Q
-  past_token low high t r D d e Q b = let o = b.ordered in record {
-    table = b.table;
-    next = t.span.to;
-    later = let x = b.later in let y = o.0 in let z = o.1 in omega (arith, x, y, z);
-    ordered = o.2;
-    agrees = b.agrees;
-    ends = ends_later b.table b.next t.span.to (let y = o.0 in let z = o.1 in omega (arith, y, z)) b.ends;
-    known = b.known;
-    told = b.told;
-    more = b.more;
-    domains = b.domains;
-    variables = b.variables;
-    new = b.new;
-    all_known = b.all_known;
-    constants = b.constants;
-  }
-
-  -- what is known for the second part
-  pub two_parts : (low middle high : ℕ) (m r : Tokens) (D : Table) (d e g : Declared) (Q R : Table → ℕ → Type 0)
-      → (a : Behind low high m D d e Q) → low ≤ middle → Behind middle high r a.table e g R → Behind low high r D d g R
-  two_parts low middle high m r D d e g Q R a le b = record {
-    table = b.table;
-    next = b.next;
-    later = let x = b.later in omega (arith, le, x);
-    ordered = b.ordered;
-    agrees = agrees_both low middle D a.table b.table le a.agrees b.agrees;
-    ends = b.ends;
-    known = b.known;
-    told = b.told;
-    more = let x = a.more in let y = b.more in omega (arith, x, y);
-    domains = b.domains ∙ a.domains;
-    variables = b.variables ∙ a.variables;
-    new = a.new ++ b.new;
-    all_known = b.all_known ∙ ap (λ l. l ++ b.new) a.all_known ∙ append_assoc d.known a.new b.new;
-    constants = each_append IsConstantMeaning a.new b.new a.constants b.constants;
-  }
-
-  -- nothing is read
-  pub nothing_read : (low next high : ℕ) (r : Tokens) (D : Table) (d : Declared) (Q : Table → ℕ → Type 0) → low ≤ next
-      → AreOrdered next high r → EndsBefore low D → Known f D d → Q D (pointers d) → Behind low high r D d d Q
-  nothing_read low next high r D d Q le ordered ends known told = record {
-    table = D;
-    next = next;
-    later = le;
-    ordered = ordered;
-    agrees = agrees_self low D;
-    ends = ends_later D low next le ends;
-    known = known;
-    told = told;
-    more = omega arith;
-    domains = refl;
-    variables = refl;
-    new = [];
-    all_known = sym (append-nil d.known);
-    constants = tt;
-  }
-
-  -- other facts
-  retold : (low high : ℕ) (r : Tokens) (D : Table) (d e : Declared) (Q R : Table → ℕ → Type 0)
-      → (a : Behind low high r D d e Q) → R a.table (pointers e) → Behind low high r D d e R
-  retold low high r D d e Q R a told = record {
-    table = a.table;
-    next = a.next;
-    later = a.later;
-    ordered = a.ordered;
-    agrees = a.agrees;
-    ends = a.ends;
-    known = a.known;
-    told = told;
-    more = a.more;
-    domains = a.domains;
-    variables = a.variables;
-    new = a.new;
-    all_known = a.all_known;
-    constants = a.constants;
-  }
-
-  -- from an earlier place
-  abbrev lower : (low middle high : ℕ) (r : Tokens) (D : Table) (d e : Declared) (Q : Table → ℕ → Type 0) → low ≤ middle
-      → Behind middle high r D d e Q → Behind low high r D d e Q
-  lower low middle high r D d e Q le a = record {
-    table = a.table;
-    next = a.next;
-    later = let x = a.later in omega (arith, x, le);
-    ordered = a.ordered;
-    agrees = agrees_both low middle D D a.table le (agrees_self low D) a.agrees;
-    ends = a.ends;
-    known = a.known;
-    told = a.told;
-    more = a.more;
-    domains = a.domains;
-    variables = a.variables;
-    new = a.new;
-    all_known = a.all_known;
-    constants = a.constants;
-  }
-
-  set_known : (word at : ℕ) (packed : Bool) (o : Ordinal) (type : DataType) → set_of word at packed o ≡ Yes type
-      → (E : Table) (b : ℕ) → OrdinalKnown E o → TypeKnown E b type
-  set_known word at packed o type q E b known = let is = provided_yes
-      (int_le (pos 0) o.low && int_le o.high (pos 255)) _ _ (SetType (Some at) (packing_of packed) o) type q in subst
-      (TypeKnown E b) is.1 (known.low, known.high)
-
-  -- structures are built of what was read
-  built_behind : (low high top : ℕ) (r : Tokens) (D : Table) (d e : Declared) (Q : Table → ℕ → Type 0) (type : DataType)
-      → (a : Behind low high r D d e Q) → top ≤ a.next → Built low top a.table (pointers e) type
-      → TypeBehind low high r D d e type
-  built_behind low high top r D d e Q type a le b = record {
-    table = b.table;
-    next = a.next;
-    later = a.later;
-    ordered = a.ordered;
-    agrees = record {
-      structures = λ at l. b.below at l ∙ a.agrees.structures at l;
-      subranges = λ at l. b.subranges at ∙ a.agrees.subranges at l;
-      enumerations = λ at l. b.enumerations at ∙ a.agrees.enumerations at l;
-    };
-    ends = record {
-      structures = λ at l. b.above at (omega (arith, l, le)) ∙ a.ends.structures at l;
-      subranges = λ at l. b.subranges at ∙ a.ends.subranges at l;
-      enumerations = λ at l. b.enumerations at ∙ a.ends.enumerations at l;
-    };
-    known = known_more f a.table b.table e b.extends a.known;
-    told = b.known;
-    more = a.more;
-    domains = a.domains;
-    variables = a.variables;
-    new = a.new;
-    all_known = a.all_known;
-    constants = a.constants;
-  }
-
-  pointers_same : (d e : Declared) → e.domains ≡ d.domains → e.pending ≡ d.pending → pointers d ≤ pointers e
-  pointers_same d e x y = let a = ap length x in let b = ap length y in omega (arith, a, b)
-
-  from_ordinal : (low high : ℕ) (x : syntax.Ordinal) (r : Tokens) (D : Table) (d e : Declared) (o : Ordinal)
-      → OrdinalRead f low high x r D d e o → Behind low high r D d e (λ E b. OrdinalKnown E o)
-  from_ordinal low high x r D d e o a = record {
-    table = a.table;
-    next = a.next;
-    later = let i = a.starts in let j = a.before in omega (arith, i, j);
-    ordered = a.ordered;
-    agrees = a.agrees;
-    ends = a.ends;
-    known = a.known;
-    told = a.ordinal;
-    more = pointers_same d e a.domains a.pending;
-    domains = a.domains;
-    variables = a.variables;
-    new = a.new;
-    all_known = a.all_known;
-    constants = a.constants;
-  }
-
   module _ (bytes : Each (λ x. x < 256) f.text) (short : length f.text ≤ 1048576) where
     -- ---- ordinal types and pointer types
     abbrev as_type : Ordinal × Declared → Judged (DataType × Declared)
@@ -230,24 +51,24 @@ module _ (f : Frame) where
 
     made_ordinal : (x : syntax.Ordinal) (ts r : Tokens) → IsOrdinal x ts r → (hidden : Hidden) (D : Table)
         (d e : Declared) (type : DataType) (low high : ℕ) → AreOrdered low high ts → EndsBefore low D → Known f D d
-        → (ordinal f hidden d x >>= as_type) ≡ Yes (type, e) → TypeBehind low high r D d e type
+        → (ordinal f hidden d x >>= as_type) ≡ Yes (type, e) → TypeBehind f low high r D d e type
     made_ordinal x ts r der hidden D d e type low high ordered ends k q =
         let o = then_yes (ordinal f hidden d x) as_type (type, e) q in
-        subst (λ (z : DataType × Declared). TypeBehind low high r D d z.1 z.0)
+        subst (λ (z : DataType × Declared). TypeBehind f low high r D d z.1 z.0)
         (inside_yes (OrdinalType o.0.0, o.0.1) (type, e) o.2)
-        (from_ordinal low high x r D d o.0.1 o.0.0
+        (from_ordinal f low high x r D d o.0.1 o.0.0
         (ordinal_read f bytes short x ts r der hidden D d o.0.1 o.0.0 low high ordered ends k o.1))
 
     simple_read : (x : syntax.Ordinal) (ts r : Tokens) → IsOrdinal x ts r → (hidden : Hidden) (D : Table)
         (d e : Declared) (type : DataType) (low high : ℕ) → AreOrdered low high ts → EndsBefore low D → Known f D d
-        → simple_type f hidden d x ≡ Yes (type, e) → TypeBehind low high r D d e type
+        → simple_type f hidden d x ≡ Yes (type, e) → TypeBehind f low high r D d e type
     unfolding simple_type
     simple_read x ts r (p.named {at = at}) hidden D d e type low high ordered ends k q =
         let t = then_yes (type_named f.text (regions f hidden d.known) at) _ (type, e) q in
         let known = named_known D (pointers d) f.text (regions f hidden d.known) at t.0 (names_known f D d hidden k) t.1
         in
-        subst (λ (z : DataType × Declared). TypeBehind low high r D d z.1 z.0) (inside_yes (t.0, d) (type, e) t.2)
-        (nothing_read low at.to high r D d (λ E b. TypeKnown E b t.0)
+        subst (λ (z : DataType × Declared). TypeBehind f low high r D d z.1 z.0) (inside_yes (t.0, d) (type, e) t.2)
+        (nothing_read f low at.to high r D d (λ E b. TypeKnown E b t.0)
         (let a = ordered.0 in let b = ordered.1 in omega (arith, a, b)) ordered.2 ends k known)
     simple_read x ts r (p.enumeration {left = at} {xs = xs} {ts = us} names) hidden D d e type low high ordered ends k q
         = made_ordinal (v.Enumeration at xs) ts r
@@ -258,7 +79,7 @@ module _ (f : Frame) where
 
     pointer_read : (at domain : Span) (r : Tokens) (hidden : Hidden) (D : Table) (d e : Declared) (type : DataType)
         (low next high : ℕ) → low ≤ next → AreOrdered next high r → EndsBefore low D → Known f D d
-        → pointer f hidden d domain ≡ Yes (type, e) → TypeBehind low high r D d e type
+        → pointer f hidden d domain ≡ Yes (type, e) → TypeBehind f low high r D d e type
     pointer_read at domain r hidden D d e type low next high le ordered ends k q =
         let made = (waiting d domain).1 in
         let free = then_yes (passes hidden (spelled f.text domain) domain.from) _ (type, e) q in
@@ -270,7 +91,7 @@ module _ (f : Frame) where
         let b = pointers made in
         let more : n ≤ b = omega (arith, grown) in
         let x = extends_self D in
-        let read : TypeBehind low high r D d made (PointerType (length d.domains + length d.pending)) = record {
+        let read : TypeBehind f low high r D d made (PointerType (length d.domains + length d.pending)) = record {
           table = D;
           next = next;
           later = le;
@@ -293,7 +114,7 @@ module _ (f : Frame) where
           all_known = sym (append-nil d.known);
           constants = tt;
         } in
-        subst (λ (z : DataType × Declared). TypeBehind low high r D d z.1 z.0) is.1 read
+        subst (λ (z : DataType × Declared). TypeBehind f low high r D d z.1 z.0) is.1 read
 
     -- ---- structured types
 
@@ -314,7 +135,7 @@ module _ (f : Frame) where
     abbrev TypeTells : Symbol TypeDenoter → Type 0
     TypeTells symbol = (x : TypeDenoter) (ts r : Tokens) → symbol x ts r → (hidden : Hidden) (D : Table)
         (d e : Declared) (type : DataType) (low high : ℕ) → AreOrdered low high ts → EndsBefore low D → Known f D d
-        → denoter f x hidden d ≡ Yes (type, e) → TypeBehind low high r D d e type
+        → denoter f x hidden d ≡ Yes (type, e) → TypeBehind f low high r D d e type
 
     -- where the next array begins
     abbrev Waits : Indices → (top at next : ℕ) → Type 0
@@ -337,7 +158,7 @@ module _ (f : Frame) where
 
     -- the indices so far
     record Indexed (low at high : ℕ) (r : Tokens) (D : Table) (d e : Declared) (is : Indices) : Type 0 where
-      read : Behind low high r D d e (λ E b. Each (IndexKnown E) is)
+      read : Behind f low high r D d e (λ E b. Each (IndexKnown E) is)
       top : ℕ
       rises : Rises low top is
       waits : Waits is top at read.next
@@ -349,7 +170,8 @@ module _ (f : Frame) where
         → AreOrdered next high r → EndsBefore low D → Known f D d → Indexed low at high r D d d []
     unfolding nothing_read
     none_indexed low at next high r D d le lt ordered ends k = record {
-      read = nothing_read low next high r D d (λ E b. Each (IndexKnown E) []) (omega (arith, le, lt)) ordered ends k tt;
+      read = nothing_read f low next high r D d (λ E b. Each (IndexKnown E) [])
+          (omega (arith, le, lt)) ordered ends k tt;
       top = low;
       rises = omega arith;
       waits = le;
@@ -365,7 +187,7 @@ module _ (f : Frame) where
         let o = a.read.ordered in
         let le : a.read.next ≤ t.span.to = let x = o.0 in let y = o.1 in omega (arith, x, y) in
         record {
-          read = past_token low high t r D d e (λ E b. Each (IndexKnown E) is) a.read;
+          read = past_token f low high t r D d e (λ E b. Each (IndexKnown E) is) a.read;
           top = a.top;
           rises = a.rises;
           waits = waits_more is a.top at a.read.next t.span.to le a.waits;
@@ -381,12 +203,12 @@ module _ (f : Frame) where
     unfolding two_parts from_ordinal retold
     one_indexed low at high m r D d e g is o x a q =
         let place = index_place is a.top at a.read.next low q.next x a.waits a.inside_at q.starts q.before in
-        let both = two_parts low a.read.next high m r D d e g (λ E b. Each (IndexKnown E) is)
-        (λ E b. OrdinalKnown E o) a.read a.read.later (from_ordinal a.read.next high x r a.read.table e g o q) in
+        let both = two_parts f low a.read.next high m r D d e g (λ E b. Each (IndexKnown E) is)
+        (λ E b. OrdinalKnown E o) a.read a.read.later (from_ordinal f a.read.next high x r a.read.table e g o q) in
         let more = agrees_extend a.read.next a.read.table q.table a.read.ends q.agrees in
         let le : a.read.next ≤ q.next = let i = q.starts in let j = q.before in omega (arith, i, j) in
         record {
-          read = retold low high r D d g (λ E b. OrdinalKnown E o)
+          read = retold f low high r D d g (λ E b. OrdinalKnown E o)
               (λ E b. Each (IndexKnown E) (is ++ (index_begins at is x, o) ∷ [])) both
               (each_append (IndexKnown q.table) is ((index_begins at is x, o) ∷ [])
               (each_map (IndexKnown a.read.table) (IndexKnown q.table)
@@ -429,16 +251,16 @@ module _ (f : Frame) where
     -- ---- arrays
     array_behind : (low at middle high top : ℕ) (m r : Tokens) (D : Table) (d e g : Declared) (is : Indices)
         (component type : DataType) (packed : Bool) → EndsBefore low D → (a : Indexed low at high m D d e is)
-        → (le : a.read.next ≤ middle) → TypeBehind middle high r a.read.table e g component
-        → array_of packed is component ≡ Yes type → TypeBehind low high r D d g type
+        → (le : a.read.next ≤ middle) → TypeBehind f middle high r a.read.table e g component
+        → array_of packed is component ≡ Yes type → TypeBehind f low high r D d g type
     unfolding two_parts
     array_behind low at middle high top m r D d e g is component type packed ends a le b q =
-        let both = two_parts low middle high m r D d e g (λ E b. Each (IndexKnown E) is)
+        let both = two_parts f low middle high m r D d e g (λ E b. Each (IndexKnown E) is)
         (λ E b. TypeKnown E b component) a.read (let x = a.read.later in omega (arith, x, le)) b in
         let more = agrees_extend middle a.read.table b.table
         (ends_later a.read.table a.read.next middle le a.read.ends) b.agrees in
         let near : a.top ≤ middle = let x = a.below in omega (arith, x, le) in
-        built_behind low high a.top r D d g (λ E b. TypeKnown E b component) type both
+        built_behind f low high a.top r D d g (λ E b. TypeKnown E b component) type both
         (let x = b.later in omega (arith, x, near))
         (array_built low a.top b.table (pointers g) packed component b.told is a.rises
         (each_map (IndexKnown a.read.table) (IndexKnown b.table)
@@ -460,23 +282,23 @@ module _ (f : Frame) where
     types_repeated E b type k (x ∷ names) = (k, types_repeated E b type k names)
 
     fields_behind : (low middle high : ℕ) (m r : Tokens) (D : Table) (d e g : Declared) (types : List DataType)
-        (type : DataType) (names : Points) → (a : Behind low high m D d e (TypesThere types)) → (le : a.next ≤ middle)
-        → TypeBehind middle high r a.table e g type → Behind low high r D d g
+        (type : DataType) (names : Points) → (a : Behind f low high m D d e (TypesThere types)) → (le : a.next ≤ middle)
+        → TypeBehind f middle high r a.table e g type → Behind f low high r D d g
         (TypesThere (types ++ fields_of_type type names))
     unfolding two_parts
     fields_behind low middle high m r D d e g types type names a le b =
-        let both = two_parts low middle high m r D d e g (TypesThere types) (λ E b. TypeKnown E b type) a
+        let both = two_parts f low middle high m r D d e g (TypesThere types) (λ E b. TypeKnown E b type) a
         (let x = a.later in omega (arith, x, le)) b in
         let more = agrees_extend middle a.table b.table (ends_later a.table a.next middle le a.ends) b.agrees in
-        retold low high r D d g (λ E b. TypeKnown E b type) (TypesThere (types ++ fields_of_type type names)) both
+        retold f low high r D d g (λ E b. TypeKnown E b type) (TypesThere (types ++ fields_of_type type names)) both
         (each_append (TypeKnown b.table (pointers g)) types (fields_of_type type names)
         (types_all_more a.table b.table more (pointers e) (pointers g) b.more types a.told)
         (types_repeated b.table (pointers g) type b.told names))
 
     record_behind : (low at high : ℕ) (packed : Bool) (r : Tokens) (D : Table) (d e : Declared) (types : List DataType)
         (names : List (List ℕ)) (type : DataType) (middle : ℕ) → low ≤ at → at < middle → EndsBefore low D
-        → (a : Behind middle high r D d e (TypesThere types)) → small at
-        (RecordType at packed (field_list names (listed types))) ≡ Yes type → TypeBehind low high r D d e type
+        → (a : Behind f middle high r D d e (TypesThere types)) → small at
+        (RecordType at packed (field_list names (listed types))) ≡ Yes type → TypeBehind f low high r D d e type
     record_behind low at high packed r D d e types names type middle le lt ends a q =
         let whole = RecordType at packed (field_list names (listed types)) in
         let is = provided_yes (is_small whole) _ _ whole type q in
@@ -489,9 +311,9 @@ module _ (f : Frame) where
           listed_known (with_structure a.table at whole) b types
               (types_all_more a.table (with_structure a.table at whole) more b b (omega arith) types a.told),
         ) in
-        subst (λ t. TypeBehind low high r D d e t) is.1
-        (built_behind low high middle r D d e (TypesThere types) whole
-        (lower low middle high r D d e (TypesThere types) (omega (arith, le, lt)) a) near (record {
+        subst (λ t. TypeBehind f low high r D d e t) is.1
+        (built_behind f low high middle r D d e (TypesThere types) whole
+        (lower f low middle high r D d e (TypesThere types) (omega (arith, le, lt)) a) near (record {
           table = with_structure a.table at whole;
           extends = more;
           below = λ i l. put_other at whole a.table.structures i (λ s. omega (arith, l, le, s));
@@ -506,12 +328,13 @@ module _ (f : Frame) where
     StructureTells symbol = (x : Structure) (ts r : Tokens) → symbol x ts r → (packed : Option ℕ) (hidden : Hidden)
         (D : Table) (d e : Declared) (type : DataType) (low middle high : ℕ) → PackedPlace low middle packed
         → AreOrdered middle high ts → EndsBefore low D → Known f D d → structure f x packed hidden d ≡ Yes (type, e)
-        → TypeBehind low high r D d e type
+        → TypeBehind f low high r D d e type
 
     module _ (index : Symbol syntax.Ordinal) (index_is : (x : syntax.Ordinal) (ts r : Tokens) → index x ts r → IsOrdinal x ts r) (symbol : Symbol TypeDenoter) (tells : TypeTells symbol) where
       field_read : (x : Fields) (ts r : Tokens) → IsFields symbol x ts r → (own : List (List ℕ)) (hidden : Hidden)
-          (low high : ℕ) (D : Table) (d : Declared) (s t : FieldTypes × Declared) → Behind low high ts D d s.1
-          (TypesThere s.0) → add_fields f own hidden s (fields f x) ≡ Yes t → Behind low high r D d t.1 (TypesThere t.0)
+          (low high : ℕ) (D : Table) (d : Declared) (s t : FieldTypes × Declared) → Behind f low high ts D d s.1
+          (TypesThere s.0) → add_fields f own hidden s (fields f x) ≡ Yes t → Behind f low high r D d t.1
+          (TypesThere t.0)
       field_read x ts r (p.fields xs y {m = m} names inner) own hidden low high D d s t a q =
           let is = fold-roll-Fields StructureReading Reading FieldsReading (structure_step f) (type_step f)
           (fields_step f) (record {
@@ -525,32 +348,32 @@ module _ (f : Frame) where
           in
           let b = tells y m r inner ((own, new.0) ∷ hidden) a.table s.1 u.0.1 u.0.0 at.0 high at.2
           (ends_later a.table a.next at.0 at.1 a.ends) a.known u.1 in
-          subst (λ (z : FieldTypes × Declared). Behind low high r D d z.1 (TypesThere z.0))
+          subst (λ (z : FieldTypes × Declared). Behind f low high r D d z.1 (TypesThere z.0))
           (inside_yes (s.0 ++ fields_of_type u.0.0 xs, u.0.1) t u.2)
           (fields_behind low at.0 high ts r D d s.1 u.0.1 s.0 u.0.0 xs a at.1 b)
 
       fields_read : (k : Kind) (xs : List Fields) (ts r : Tokens) → Separated k (IsFields symbol) xs ts r
           → (own : List (List ℕ)) (hidden : Hidden) (low high : ℕ) (D : Table) (d : Declared)
-          (s t : FieldTypes × Declared) → Behind low high ts D d s.1 (TypesThere s.0) → steps
-          (add_fields f own hidden) s (map (fields f) xs) ≡ Yes t → Behind low high r D d t.1 (TypesThere t.0)
+          (s t : FieldTypes × Declared) → Behind f low high ts D d s.1 (TypesThere s.0) → steps
+          (add_fields f own hidden) s (map (fields f) xs) ≡ Yes t → Behind f low high r D d t.1 (TypesThere t.0)
       fields_read k xs ts r (one {x = x} der) own hidden low high D d s t a q =
           let u = then_yes (add_fields f own hidden s (fields f x)) (λ z. steps (add_fields f own hidden) z []) t q in
-          subst (λ (z : FieldTypes × Declared). Behind low high r D d z.1 (TypesThere z.0)) (inside_yes u.0 t u.2)
+          subst (λ (z : FieldTypes × Declared). Behind f low high r D d z.1 (TypesThere z.0)) (inside_yes u.0 t u.2)
           (field_read x ts r der own hidden low high D d s u.0 a u.1)
       fields_read k xs ts r (several {x = x} {xs = ys} {m = m} der rest) own hidden low high D d s t a q =
           let u = then_yes (add_fields f own hidden s (fields f x))
           (λ z. steps (add_fields f own hidden) z (map (fields f) ys)) t q in
           fields_read k ys m r rest own hidden low high D d u.0 t
-          (past_token low high _ m D d u.0.1 (TypesThere u.0.0)
+          (past_token f low high _ m D d u.0.1 (TypesThere u.0.0)
           (field_read x ts _ der own hidden low high D d s u.0 a u.1)) u.2
 
       all_fields : (k : Kind) (xs : List Fields) (ts r : Tokens) → Terminated k (IsFields symbol) xs ts r
           → (own : List (List ℕ)) (hidden : Hidden) (low high : ℕ) (D : Table) (d : Declared)
-          (s t : FieldTypes × Declared) → Behind low high ts D d s.1 (TypesThere s.0) → steps
-          (add_fields f own hidden) s (map (fields f) xs) ≡ Yes t → Behind low high r D d t.1 (TypesThere t.0)
+          (s t : FieldTypes × Declared) → Behind f low high ts D d s.1 (TypesThere s.0) → steps
+          (add_fields f own hidden) s (map (fields f) xs) ≡ Yes t → Behind f low high r D d t.1 (TypesThere t.0)
       all_fields k xs ts r (exactly der) own hidden low high D d s t a q = fields_read k xs ts r der own hidden low high
           D d s t a q
-      all_fields k xs ts r (trailing der) own hidden low high D d s t a q = past_token low high _ r D d t.1
+      all_fields k xs ts r (trailing der) own hidden low high D d s t a q = past_token f low high _ r D d t.1
           (TypesThere t.0) (fields_read k xs ts _ der own hidden low high D d s t a q)
 
       structure_read : StructureTells (IsStructure index symbol)
@@ -571,7 +394,8 @@ module _ (f : Frame) where
           (indexed_past low start high _ _ D d i.0.1 i.0.0 all) in
           let component = tells y m r inner hidden after.read.table i.0.1 c.0.1 c.0.0 after.read.next high
           after.read.ordered after.read.ends after.read.known c.1 in
-          subst (λ (z : DataType × Declared). TypeBehind low high r D d z.1 z.0) (inside_yes (t.0, c.0.1) (type, e) t.2)
+          subst (λ (z : DataType × Declared). TypeBehind f low high r D d z.1 z.0)
+          (inside_yes (t.0, c.0.1) (type, e) t.2)
           (array_behind low start after.read.next high low m r D d i.0.1 c.0.1 i.0.0 c.0.0 t.0
           (is_packed packed) ends after (omega arith) component t.1)
       structure_read x ts r (p.empty_record {at = at} {end = end}) packed hidden D d e type low middle high packed_place
@@ -583,10 +407,10 @@ module _ (f : Frame) where
           (RecordType (begins packed at.from) (is_packed packed) (field_list names (listed [])))) _ (type, e) made
           in
           let le : low ≤ at.to = let a = place.0 in let b = place.1 in omega (arith, a, b) in
-          subst (λ (z : DataType × Declared). TypeBehind low high r D d z.1 z.0) (inside_yes (t.0, d) (type, e) t.2)
+          subst (λ (z : DataType × Declared). TypeBehind f low high r D d z.1 z.0) (inside_yes (t.0, d) (type, e) t.2)
           (record_behind low (begins packed at.from) high
           (is_packed packed) r D d d [] names t.0 at.to place.0 place.1 ends
-          (nothing_read at.to end.to high r D d (TypesThere [])
+          (nothing_read f at.to end.to high r D d (TypesThere [])
           (let a = ordered.2.0 in let b = ordered.2.1 in omega (arith, a, b)) ordered.2.2
           (ends_later D low at.to le ends) k tt) t.1)
       structure_read x ts r (p.filled_record {at = at} {xs = xs} {ts = us} inner) packed hidden D d e type low middle
@@ -599,11 +423,11 @@ module _ (f : Frame) where
           (RecordType (begins packed at.from) (is_packed packed) (field_list names (listed types.0.0)))) _
           (type, e) types.2 in
           let le : low ≤ at.to = let a = place.0 in let b = place.1 in omega (arith, a, b) in
-          let all = past_token at.to high _ r D d types.0.1 (TypesThere types.0.0)
+          let all = past_token f at.to high _ r D d types.0.1 (TypesThere types.0.0)
           (all_fields _ xs us _ inner names hidden at.to high D d ([], d) types.0
-          (nothing_read at.to at.to high us D d (TypesThere []) (omega arith) ordered.2
+          (nothing_read f at.to at.to high us D d (TypesThere []) (omega arith) ordered.2
           (ends_later D low at.to le ends) k tt) types.1) in
-          subst (λ (z : DataType × Declared). TypeBehind low high r D d z.1 z.0)
+          subst (λ (z : DataType × Declared). TypeBehind f low high r D d z.1 z.0)
           (inside_yes (t.0, types.0.1) (type, e) t.2)
           (record_behind low (begins packed at.from) high
           (is_packed packed) r D d types.0.1 types.0.0 names t.0 at.to place.0 place.1 ends all t.1)
@@ -615,14 +439,15 @@ module _ (f : Frame) where
           let place = place_low low middle packed packed_place in
           let le : low ≤ of.to = let a = ordered.0 in let b = ordered.1 in let u = ordered.2.0 in let w = ordered.2.1
           in omega (arith, place, a, b, u, w) in
-          let read = from_ordinal of.to high y r D d o.0.1 o.0.0
+          let read = from_ordinal f of.to high y r D d o.0.1 o.0.0
           (ordinal_read f bytes short y us r (index_is y us r inner) hidden D d o.0.1 o.0.0 of.to high ordered.2.2
           (ends_later D low of.to le ends) k o.1) in
-          subst (λ (z : DataType × Declared). TypeBehind low high r D d z.1 z.0) (inside_yes (t.0, o.0.1) (type, e) t.2)
-          (retold low high r D d o.0.1 (λ E b. OrdinalKnown E o.0.0) (λ E b. TypeKnown E b t.0)
-          (lower low of.to high r D d o.0.1 (λ E b. OrdinalKnown E o.0.0) le read)
-          (set_known at.from (begins packed at.from) (is_packed packed) o.0.0 t.0 t.1
-          (lower low of.to high r D d o.0.1 (λ E b. OrdinalKnown E o.0.0) le read).table (pointers o.0.1)
+          subst (λ (z : DataType × Declared). TypeBehind f low high r D d z.1 z.0)
+          (inside_yes (t.0, o.0.1) (type, e) t.2)
+          (retold f low high r D d o.0.1 (λ E b. OrdinalKnown E o.0.0) (λ E b. TypeKnown E b t.0)
+          (lower f low of.to high r D d o.0.1 (λ E b. OrdinalKnown E o.0.0) le read)
+          (set_known f at.from (begins packed at.from) (is_packed packed) o.0.0 t.0 t.1
+          (lower f low of.to high r D d o.0.1 (λ E b. OrdinalKnown E o.0.0) le read).table (pointers o.0.1)
           (let known = read.told in known)))
 
       type_read : TypeTells (IsType index symbol)

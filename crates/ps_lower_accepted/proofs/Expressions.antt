@@ -1,9 +1,8 @@
 -- What is known of the value of each expression and of each variable, by their derivations (6.5, 6.7).
-use Rattle.std.proofs.Common.{◌≡◌, ℕ, zero, suc, ◌-◌, ◌<◌, ◌≤◌, ◌==◌, Bool, true, false, ◌&&◌, nat_le, if◌then◌else◌}
-use Rattle.std.proofs.Common.{List, [], ◌∷◌, ◌++◌, length, map, take, drop, slice_range, ℤ, pos, Option, Some, None}
-use Rattle.std.proofs.Common.{IsTrue, refl, sym, ap, ◌∙◌, subst, arith, lt-ltb}
+use Rattle.std.proofs.Common.{◌≡◌, ℕ, zero, suc, List, [], ◌∷◌, ◌++◌, map, ℤ, pos, Option, Some, None, IsTrue}
+use Rattle.std.proofs.Common.{refl, sym, ap, ◌∙◌, subst, arith, lt-ltb}
 use Rattle.ps_text.specs.declared.Span.{Span}
-use Rattle.ps_scan.specs.Values.{number_of_digits, characters, characters_after}
+use Rattle.ps_scan.specs.Values.{number_of_digits, characters}
 use Rattle.ps_syntax.specs.First.{sign_or}
 use Rattle.ps_syntax.specs.declared.expression.Sign.{Sign}
 use Rattle.ps_syntax.specs.declared.expression.Expr.{Expr}
@@ -42,9 +41,9 @@ use Rattle.ps_check_expressions.specs.Expressions.{constant_value, alone, Step, 
 use Rattle.ps_check_expressions.specs.Expressions.{SeenMember, single, several as several_members, Gathered, gathered}
 use Rattle.ps_check_expressions.specs.Expressions.{constructed, gather, set_value, standing, named_value}
 use Rattle.ps_check_expressions.specs.Expressions.{named_variable, first_term, selected_variable, variable_seen}
-use Rattle.ps_check_expressions.specs.Expressions.{term_seen, simple_seen, call_value, indexed, operand}
-use Rattle.ps_check_expressions.specs.Expressions.{factor_operand, member_at, select, add_term, multiply_factor}
-use Rattle.ps_check_expressions.specs.Expressions.{simple_operand, term_operand, variable_operand}
+use Rattle.ps_check_expressions.specs.Expressions.{term_seen, simple_seen, call_value, indexed, operand, factor_operand}
+use Rattle.ps_check_expressions.specs.Expressions.{member_at, select, add_term, multiply_factor, simple_operand}
+use Rattle.ps_check_expressions.specs.Expressions.{term_operand, variable_operand}
 use Rattle.ps_check_expressions.proofs.Equations.{operand_simple, operand_compare, factor_variable, factor_call}
 use Rattle.ps_check_expressions.proofs.Equations.{factor_number, factor_text, factor_nil, factor_set, factor_not}
 use Rattle.ps_check_expressions.proofs.Equations.{member_single, member_several, select_index, select_field}
@@ -62,69 +61,7 @@ use Rattle.ps_lower_accepted.proofs.Selected.{element_told, component_told, targ
 use Rattle.ps_lower_accepted.proofs.Standing.{IsText, Here, PointStands}
 use Rattle.ps_lower_accepted.proofs.Tables.{Table}
 use Rattle.ps_lower_accepted.proofs.Told.{VariableTold, ValueTold, OperandTold}
-
--- ---- bytes of the text
-
-each_drop : {A : Type 0} (P : A → Type 0) (n : ℕ) (xs : List A) → Each P xs → Each P (drop n xs)
-each_drop P zero xs h = h
-each_drop P (suc n) [] h = tt
-each_drop P (suc n) (x ∷ xs) h = each_drop P n xs h.1
-
-each_take : {A : Type 0} (P : A → Type 0) (n : ℕ) (xs : List A) → Each P xs → Each P (take n xs)
-each_take P zero xs h = tt
-each_take P (suc n) [] h = tt
-each_take P (suc n) (x ∷ xs) h = (h.0, each_take P n xs h.1)
-
-drop_short : {A : Type 0} (n : ℕ) (xs : List A) → length (drop n xs) ≤ length xs
-drop_short zero xs = omega arith
-drop_short (suc n) [] = omega arith
-drop_short (suc n) (x ∷ xs) = let h = drop_short n xs in omega (arith, h)
-
-take_short : {A : Type 0} (n : ℕ) (xs : List A) → length (take n xs) ≤ length xs
-take_short zero xs = omega arith
-take_short (suc n) [] = omega arith
-take_short (suc n) (x ∷ xs) = let h = take_short n xs in omega (arith, h)
-
-characters_bytes : (twin : Bool) (w : List ℕ) → Each (λ b. b < 256) w → Each (λ b. b < 256) (characters_after twin w)
-characters_bytes twin [] h = tt
-characters_bytes true (b ∷ bs) h = characters_bytes false bs h.1
-characters_bytes false (b ∷ bs) h = (h.0, characters_bytes (b == 39) bs h.1)
-
-characters_short : (twin : Bool) (w : List ℕ) → length (characters_after twin w) ≤ length w
-characters_short twin [] = omega arith
-characters_short true (b ∷ bs) = let h = characters_short false bs in omega (arith, h)
-characters_short false (b ∷ bs) = let h = characters_short (b == 39) bs in omega (arith, h)
-
--- a part of a list of bytes
-record PartOf (text w : List ℕ) : Type 0 where
-  bytes : Each (λ b. b < 256) w
-  short : length w ≤ length text
-
-slice_there : (text : List ℕ) (from to : ℕ) → Each (λ b. b < 256) text → PartOf text (slice_range text from to)
-slice_there text from to h = record {
-  bytes = each_take (λ b. b < 256) (to - from) (drop from text) (each_drop (λ b. b < 256) from text h);
-  short = let a = take_short (to - from) (drop from text) in let b = drop_short from text in omega (arith, a, b);
-}
-
-bytes_there : (text : List ℕ) (at : Span) → Each (λ b. b < 256) text → PartOf text (bytes_at text at)
-bytes_there text at h = go (nat_le at.from at.to && nat_le at.to (length text))
-  where
-    go : (b : Bool) → PartOf text (if b then slice_range text at.from at.to else [])
-    go true = slice_there text at.from at.to h
-    go false = record { bytes = tt; short = omega arith }
-
-pub within_text : (text : List ℕ) (at : Span) → Each (λ b. b < 256) text → length text ≤ 1048576 → IsText
-    (characters (bytes_at text at))
-unfolding characters
-within_text text at h l =
-    let w = bytes_at text at in
-    let a = bytes_there text at h in
-    let b = slice_there w 1 (length w - 1) a.bytes in
-    record {
-      bytes = characters_bytes false (slice_range w 1 (length w - 1)) b.bytes;
-      short = let c = characters_short false (slice_range w 1 (length w - 1)) in let d = a.short in let e = b.short
-          in omega (arith, c, d, e, l);
-    }
+use Rattle.ps_lower_accepted.proofs.TextBytes.{within_text}
 
 pub integer_there : (w : List ℕ) → IsTrue (is_integer (pos (number_of_digits w)))
 integer_there w = lt-ltb (number_of_digits w) 2147483648 (omega arith)

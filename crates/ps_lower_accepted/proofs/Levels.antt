@@ -44,8 +44,11 @@ use Rattle.ps_lower_accepted.proofs.Places.{Later, same_place, behind, past, seq
 use Rattle.ps_lower_accepted.proofs.Headings.{meanings_more, types_all_more, regions_more}
 use Rattle.ps_lower_accepted.proofs.Gathering.{get_below, there_is, IsMade, more_domains, Final, all_domains, AllFit}
 use Rattle.ps_lower_accepted.proofs.Gathering.{is_declared}
-use Rattle.ps_lower_accepted.proofs.Blocks.{IsPlain, IsNumbered, IsDeclaredIf, plain_numbered, OwnStand, Targets}
-use Rattle.ps_lower_accepted.proofs.Blocks.{Ready, BlockTold, BlockTells, start_of, Reading, Step, routines_told}
+use Rattle.ps_lower_accepted.proofs.BlockMeanings.{IsPlain, IsNumbered, IsDeclaredIf, plain_numbered, OwnStand, Targets}
+use Rattle.ps_lower_accepted.proofs.BlockMeanings.{Ready, BlockTold, start_of}
+use Rattle.ps_lower_accepted.proofs.Blocks.{BlockTells, routines_told}
+use Rattle.ps_lower_accepted.proofs.Introduced.{Reading}
+use Rattle.ps_lower_accepted.proofs.Closed.{Step}
 
 -- ---- routines that have their blocks
 

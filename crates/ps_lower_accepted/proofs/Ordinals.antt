@@ -29,7 +29,7 @@ use Rattle.ps_lower_accepted.proofs.Aims.{pointers, DeclaredKnown}
 use Rattle.ps_lower_accepted.proofs.Places.{Later, past, same_place, names_go}
 use Rattle.ps_lower_accepted.proofs.Headings.{meanings_more, types_all_more, regions_more, named_known, regions_known}
 use Rattle.ps_lower_accepted.proofs.Constants.{ConstantKnown, constant_known}
-use Rattle.ps_lower_accepted.proofs.Blocks.{ends_later}
+use Rattle.ps_lower_accepted.proofs.BlockMeanings.{ends_later}
 use Rattle.ps_lower_accepted.proofs.Placed.{Agrees, agrees_self, agrees_extend, put_there, with_subrange}
 use Rattle.ps_lower_accepted.proofs.Placed.{with_enumeration, subrange_agrees, subrange_ends, enumeration_agrees}
 use Rattle.ps_lower_accepted.proofs.Placed.{enumeration_ends}

@@ -10,7 +10,7 @@ use Rattle.ps_check_declarations.specs.Denoters.{Indices, small, array_of}
 use Rattle.ps_lower_accepted.proofs.Lists.{Each, none_some}
 use Rattle.ps_lower_accepted.proofs.Tables.{Table, Extends, extends_self, extends_both, EndsBefore, OrdinalKnown}
 use Rattle.ps_lower_accepted.proofs.Tables.{TypeKnown, ordinal_more, type_more}
-use Rattle.ps_lower_accepted.proofs.Blocks.{below_or}
+use Rattle.ps_lower_accepted.proofs.BlockMeanings.{below_or}
 
 -- the same below a place
 pub record Agrees (low : ℕ) (D E : Table) : Type 0 where

@@ -43,7 +43,7 @@ use Rattle.ps_lower_accepted.proofs.Places.{behind, past, same_place, Later, nam
 use Rattle.ps_lower_accepted.proofs.Entries.{all_own}
 use Rattle.ps_lower_accepted.proofs.Gathering.{set_same, set_other, get_below, or_there, there_is, IsMade, IsVacant}
 use Rattle.ps_lower_accepted.proofs.Gathering.{not_both, Final, AllFit, variables_fit}
-use Rattle.ps_lower_accepted.proofs.Blocks.{IsPlain, OwnStand, Ready, BlockTold, either}
+use Rattle.ps_lower_accepted.proofs.BlockMeanings.{IsPlain, OwnStand, Ready, BlockTold, either}
 use Rattle.ps_lower_accepted.proofs.Levels.{blocks_tell}
 
 -- ---- the required names

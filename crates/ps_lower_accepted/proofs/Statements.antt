@@ -1,6 +1,6 @@
 -- What statements have that the lowering needs, by their derivations (6.8).
-use Rattle.std.proofs.Common.{◌≡◌, ℕ, zero, suc, ◌==◌, Bool, true, false, List, [], ◌∷◌, ◌++◌, length, map, ℤ, Option}
-use Rattle.std.proofs.Common.{Some, is_none, refl, sym, ap, subst, eqb-true}
+use Rattle.std.proofs.Common.{◌≡◌, ℕ, zero, suc, Bool, true, false, List, [], ◌∷◌, ◌++◌, length, map, ℤ, refl, sym, ap}
+use Rattle.std.proofs.Common.{subst}
 use Rattle.ps_text.specs.declared.Span.{Span}
 use Rattle.ps_syntax.specs.declared.expression.Expr.{Expr}
 use Rattle.ps_syntax.specs.declared.expression.Variable as syntax
@@ -16,39 +16,27 @@ use Rattle.ps_parse_grammar.specs.Statements as g
 use Rattle.ps_parse_grammar.specs.Statements.{IsParameter, IsElement, InSequence, IsSequence, IsStatement}
 use Rattle.ps_parse_grammar.specs.Statements.{statement_within}
 use Rattle.ps_tree.specs.declared.types.Ordinal.{Ordinal}
-use Rattle.ps_tree.specs.Types.{DataType, OrdinalType, PointerType, NilType, SetType, EmptySetType, TextType}
-use Rattle.ps_tree.specs.Types.{ArrayType, RecordType, is_compatible, is_same_type, string_length}
-use Rattle.ps_tree.specs.Sizes.{fits_byte}
 use Rattle.ps_tree.specs.Tree as Tree
-use Rattle.ps_tree.specs.Tree.{Program, Statement, Statements, Place, routine_at}
-use Rattle.ps_meaning.specs.Values.{first_ordinal}
+use Rattle.ps_tree.specs.Tree.{Program, Statement, Statements}
 use Rattle.tac_code.specs.Sound.{IsLine, IsInteger}
-use Rattle.ps_lower_layout.specs.Shapes.{Shape, NumberShape, shape_of, Whole}
+use Rattle.ps_lower_layout.specs.Shapes.{Shape}
 use Rattle.ps_lower_layout.specs.Paths.{NumberSort}
-use Rattle.ps_lower_layout.specs.Frames.{Own, Closure, kinds_of, result_shape}
-use Rattle.ps_lower_code.specs.Scopes.{Scope, kind_at}
-use Rattle.ps_lower_bounds.specs.Forms.{AreIntegers, AllIntegers}
+use Rattle.ps_lower_code.specs.Scopes.{Scope}
+use Rattle.ps_lower_bounds.specs.Forms.{AllIntegers}
 use Rattle.ps_check_names.specs.Constants.{ConstantValue, OrdinalConstant, TextConstant, constant}
 use Rattle.ps_lower_accepted.proofs.Constants.{ConstantKnown, constant_known}
-use Rattle.ps_lower_accepted.proofs.Tidy.{line_there, PlaceSound, ExprSound, OpenedSound, StatementSound}
-use Rattle.ps_lower_accepted.proofs.Tidy.{StatementsSound, ElementsSound, ArgumentsSound}
-use Rattle.ps_check_judgement.specs.declared.refusal.Rule.TheVariants.{WrongKind}
-use Rattle.ps_check_judgement.specs.Judged.{Yes, holds, steps}
+use Rattle.ps_lower_accepted.proofs.Tidy.{line_there, ExprSound, StatementSound, StatementsSound, ElementsSound}
+use Rattle.ps_check_judgement.specs.Judged.{Yes, steps}
 use Rattle.ps_check_judgement.specs.Changing.{each, through}
 use Rattle.ps_check_judgement.proofs.Binds.{then_yes, provided_yes, inside_yes, no_yes}
-use Rattle.ps_check_names.specs.Regions.{Context, Region, BlockRegion, RecordRegion, OwnNames, Point, BlockPoint}
-use Rattle.ps_check_names.specs.Regions.{FieldPoint, Sections, formals_of, ConstantMeaning, TextMeaning, TypeMeaning}
-use Rattle.ps_check_names.specs.Regions.{VariableMeaning, ParameterMeaning, RoutineMeaning, RoutineParameterMeaning}
-use Rattle.ps_check_names.specs.Regions.{RequiredMeaning, FileMeaning, LeftOutMeaning}
+use Rattle.ps_check_names.specs.Regions.{Context, Region, BlockRegion, RecordRegion, OwnNames}
 use Rattle.ps_check_names.specs.Spelling.{line_in}
 use Rattle.ps_check_expressions.specs.Names.{denoted}
 use Rattle.ps_check_expressions.specs.Changed.{changed}
-use Rattle.ps_check_expressions.specs.Values.{Value, SimpleValue, SetValue, StructureValue, Variable, ordinal_of}
-use Rattle.ps_check_expressions.specs.Values.{argument_list}
+use Rattle.ps_check_expressions.specs.Values.{ordinal_of}
 use Rattle.ps_check_expressions.specs.Expressions.{operand, variable_operand}
 use Rattle.ps_check_statements.specs.Assignments.{target}
-use Rattle.ps_check_statements.specs.Procedures.{procedure_called, procedure_statement, procedure_parameters}
-use Rattle.ps_check_statements.specs.Procedures.{actual_parameters}
+use Rattle.ps_check_statements.specs.Procedures.{procedure_statement}
 use Rattle.ps_check_statements.specs.Structured.{TypedElement, case_constant, case_label, fresh, next_label, labels}
 use Rattle.ps_check_statements.specs.Structured.{condition, control_at, unthreatened, bound, bound_at, Head, Opening}
 use Rattle.ps_check_statements.specs.Structured.{repeated, with_control, record_region, opened, open_next}
@@ -65,12 +53,12 @@ use Rattle.ps_lower_accepted.proofs.Expressions.{expressions_tell, variables_wit
 use Rattle.ps_lower_accepted.proofs.Lists.{Each, never, Gives, then_gives, same_gives, still_then, then_still}
 use Rattle.ps_lower_accepted.proofs.Lists.{then_same, as_given, through_end, through_next, Images, each_gives}
 use Rattle.ps_lower_accepted.proofs.Names.{denoted_stands}
-use Rattle.ps_lower_accepted.proofs.Reach.{entry_there, declared_there}
-use Rattle.ps_lower_accepted.proofs.Selected.{no_byte, whole_fits}
-use Rattle.ps_lower_accepted.proofs.Standing.{Here, PointStands, BlocksStand, RegionsStand, RegionsKnown}
-use Rattle.ps_lower_accepted.proofs.Tables.{Table, TypeKnown}
-use Rattle.ps_lower_accepted.proofs.Told.{bound_of, part_of, VariableTold, ValueTold, OperandTold}
-use Rattle.ps_lower_accepted.proofs.Written.{ParameterTold, required_fits, parameters_fit}
+use Rattle.ps_lower_accepted.proofs.Standing.{Here, BlocksStand, RegionsStand, RegionsKnown}
+use Rattle.ps_lower_accepted.proofs.Tables.{Table}
+use Rattle.ps_lower_accepted.proofs.Told.{bound_of, OperandTold}
+use Rattle.ps_lower_accepted.proofs.Written.{ParameterTold}
+use Rattle.ps_lower_accepted.proofs.StatementParts.{ControlKnown, OpenedSo, bound_fits, called_fits, condition_fits}
+use Rattle.ps_lower_accepted.proofs.StatementParts.{control_there, one_opened}
 
 number_there : (D : Table) (at : ℕ) (o : Ordinal) (v : ConstantValue) (n : ℤ) → ConstantKnown D v → case_constant at o v
     ≡ Yes n → IsInteger n
@@ -100,157 +88,6 @@ all_known P D (BlockRegion routine names known ∷ Γ) chain (o ∷ os) st = abs
 all_known P D (OwnNames names defined ∷ Γ) chain (o ∷ os) st = absurd st
 
 module _ (D : Table) (k : Scope) where
-  module _ (os : List Shape) where
-    -- ---- conditions and bounds
-
-    condition_fits : (at : ℕ) (v : Value) (e : Tree.Expr) → ValueTold D k os v → condition at v ≡ Yes e
-        → ExprSound k os e NumberSort
-    unfolding condition
-    condition_fits at (SimpleValue x (OrdinalType o)) e h q = subst (λ y. ExprSound k os y NumberSort)
-        (provided_yes _ _ _ _ e q).1 h.1
-    condition_fits at (SimpleValue x (PointerType n)) e h q = absurd (no_yes q)
-    condition_fits at (SimpleValue x NilType) e h q = absurd (no_yes q)
-    condition_fits at (SimpleValue x type) e h q = absurd h
-    condition_fits at (SetValue x type) e h q = absurd (no_yes q)
-    condition_fits at (StructureValue x type) e h q = absurd (no_yes q)
-
-    bound_fits : (at : ℕ) (o : Ordinal) (v : Value) (e : Tree.Expr) → ValueTold D k os v → bound at o v ≡ Yes e
-        → ExprSound k os e NumberSort
-    unfolding bound is_compatible is_same_type string_length
-    bound_fits at o (SimpleValue x (OrdinalType p)) e h q = subst (λ y. ExprSound k os y NumberSort)
-        (provided_yes _ _ _ _ e q).1 h.1
-    bound_fits at o (SimpleValue x (PointerType n)) e h q = absurd (no_yes q)
-    bound_fits at o (SimpleValue x NilType) e h q = absurd (no_yes q)
-    bound_fits at o (SimpleValue x type) e h q = absurd h
-    bound_fits at o (SetValue x type) e h q = absurd (no_yes q)
-    bound_fits at o (StructureValue x type) e h q = absurd (no_yes q)
-
-    -- the control variable is in the block's own frame
-    abbrev ControlThere : ℕ → Type 0
-    ControlThere variable = (first : ℤ) × ((narrow : Bool)
-        × (kind_at k 0 variable ≡ Some (Own (NumberShape first narrow))))
-
-    -- and its type's bounds are integers
-    abbrev ControlKnown : ℕ × Ordinal → Type 0
-    ControlKnown x = ControlThere x.0 × AreIntegers x.1.low x.1.high
-
-    control_there : (at : ℕ) (p : Point) (x : ℕ × Ordinal) → PointStands D k os p → control_at at p ≡ Yes x
-        → ControlKnown x
-    unfolding control_at
-    control_there at (BlockPoint up (VariableMeaning entry (OrdinalType o))) x st q =
-        let b = provided_yes (up == 0) _ _ (entry, o) x q in
-        let there = entry_there k up entry (Own (shape_of (OrdinalType o))) st.1 in
-        subst ControlKnown b.1 (
-          (
-            first_ordinal o,
-            (
-              fits_byte (OrdinalType o),
-              subst (λ n. kind_at k n entry ≡ Some (Own (shape_of (OrdinalType o))))
-                  (eqb-true up 0 b.0) there.1,
-            ),
-          ),
-          (st.0.low, st.0.high),
-        )
-    control_there at (BlockPoint up (VariableMeaning entry (PointerType n))) x st q = absurd (no_yes q)
-    control_there at (BlockPoint up (VariableMeaning entry NilType)) x st q = absurd (no_yes q)
-    control_there at (BlockPoint up (VariableMeaning entry (SetType d l o))) x st q = absurd (no_yes q)
-    control_there at (BlockPoint up (VariableMeaning entry EmptySetType)) x st q = absurd (no_yes q)
-    control_there at (BlockPoint up (VariableMeaning entry (TextType n))) x st q = absurd (no_yes q)
-    control_there at (BlockPoint up (VariableMeaning entry (ArrayType a l i t))) x st q = absurd (no_yes q)
-    control_there at (BlockPoint up (VariableMeaning entry (RecordType a l fs))) x st q = absurd (no_yes q)
-    control_there at (BlockPoint up (ConstantMeaning o n)) x st q = absurd (no_yes q)
-    control_there at (BlockPoint up (TextMeaning w)) x st q = absurd (no_yes q)
-    control_there at (BlockPoint up (TypeMeaning type)) x st q = absurd (no_yes q)
-    control_there at (BlockPoint up (ParameterMeaning entry type)) x st q = absurd (no_yes q)
-    control_there at (BlockPoint up (RoutineMeaning h)) x st q = absurd (no_yes q)
-    control_there at (BlockPoint up (RoutineParameterMeaning entry sections result)) x st q = absurd (no_yes q)
-    control_there at (BlockPoint up (FileMeaning file)) x st q = absurd (no_yes q)
-    control_there at (BlockPoint up (RequiredMeaning r)) x st q = absurd (no_yes q)
-    control_there at (BlockPoint up LeftOutMeaning) x st q = absurd (no_yes q)
-    control_there at (FieldPoint which record_type number type) x st q = absurd (no_yes q)
-
-    -- ---- procedure statements (6.8.2.3)
-
-    module _ (c : Context) (Γ : List Region) (here : Here c Γ D k os) where
-      -- a procedure has no result
-      passed : (at : ℕ) (result : Option DataType) (sections : Sections) (xs : List Parameter)
-          (args : List Tree.Argument) → Gives (procedure_parameters c Γ at result sections xs) args → Gives
-          (actual_parameters c Γ at sections xs) args
-      passed at result sections xs args q = (still_then (holds (is_none result) WrongKind at) _ args q).2
-
-      called_fits : (at : ℕ) (xs : List Parameter) (p : Point) (t : Statement) → Each (ParameterTold D k os c Γ here) xs
-          → PointStands D k os p → Gives (procedure_called c Γ at xs p) t → StatementSound k os t
-      unfolding procedure_called
-      called_fits at xs (BlockPoint up (RoutineMeaning h)) t told st q =
-          let args = then_same (procedure_parameters c Γ at h.result h.sections xs) _ t q in
-          let there = declared_there k up h st.1 in
-          let all = subst (λ fs. ArgumentsSound k os (argument_list args.0) (kinds_of fs)) (sym there.is.formals)
-          (parameters_fit D k os c Γ here at h.sections xs args.0 st.0.0 told
-          (passed at h.result h.sections xs args.0 args.1)) in
-          subst (StatementSound k os) args.2 ((there.at, all.0), (all.1, line_there c.text at here.lines))
-      called_fits at xs (BlockPoint up (RoutineParameterMeaning entry sections result)) t told st q =
-          let args = then_same (procedure_parameters c Γ at result sections xs) _ t q in
-          let there = entry_there k up entry (Closure (kinds_of (formals_of sections)) (result_shape result)) st.1 in
-          let all = parameters_fit D k os c Γ here at sections xs args.0 st.0.0 told
-          (passed at result sections xs args.0 args.1) in
-          subst (StatementSound k os) args.2 (
-            (
-              there.0,
-              (kinds_of (formals_of sections), (result_shape result, there.1, all.0)),
-            ),
-            (all.1, line_there c.text at here.lines),
-          )
-      called_fits at xs (BlockPoint up (RequiredMeaning r)) t told st q = required_fits D k os c Γ here at r xs t told q
-      called_fits at xs (BlockPoint up m) t told st q = absurd (no_yes q.given)
-      called_fits at xs (FieldPoint which record_type number type) t told st q = absurd (no_yes q.given)
-
-  -- ---- records that are opened one after another (6.8.3.10)
-
-  opened_after : (os inner : List Shape) (ps : List Place) (p : Place) (shape : Shape) → OpenedSound k os ps inner
-      → PlaceSound k inner p (Whole shape) → OpenedSound k os (ps ++ p ∷ []) (shape ∷ inner)
-  opened_after os inner [] p shape h f = (
-    (
-      shape,
-      (subst (λ l. PlaceSound k l p (Whole shape)) h.0 f).0,
-      ap (λ l. shape ∷ l) h.0,
-    ),
-    (f.1, tt),
-  )
-  opened_after os inner (q ∷ ps) p shape h f = let r = opened_after (h.0.0 ∷ os) inner ps p shape (h.0.2, h.1.1) f
-      in ((h.0.0, h.0.1, r.0), (h.1.0, r.1))
-
-  -- what is known after some of the records
-  record OpenedSo (c : Context) (os : List Shape) (o : Opening) : Type 0 where
-    inner : List Shape
-    here : Here c o.1 D k inner
-    fits : OpenedSound k os o.0 inner
-
-  one_opened : (at : ℕ) (c : Context) (os inner : List Shape) (places : List Place) (Γ : List Region) (v : Variable)
-      (r : Region) → Here c Γ D k inner → OpenedSound k os places inner → VariableTold D k inner v
-      → record_region at v.type ≡ Yes r → OpenedSo c os (places ++ v.place ∷ [], r ∷ Γ)
-  unfolding record_region
-  one_opened at c os inner places Γ v r here fits told q = go v.type told.known (λ b. told.small b) told.fits q
-    where
-      go : (type : DataType) → TypeKnown D (bound_of k) type → (told.byte ≡ true → fits_byte type ≡ true)
-          → PlaceSound k inner v.place (part_of told.byte type) → record_region at type ≡ Yes r → OpenedSo c os
-          (places ++ v.place ∷ [], r ∷ Γ)
-      go (RecordType a l fs) known small place f = subst (λ x. OpenedSo c os (places ++ v.place ∷ [], x ∷ Γ))
-          (inside_yes _ r f) (record {
-            inner = shape_of (RecordType a l fs) ∷ inner;
-            here = record {
-              stands = (refl, refl, known, here.stands);
-              domains = here.domains;
-              targets = here.targets;
-              outermost = here.outermost;
-              bytes = here.bytes;
-              short = here.short;
-              lines = here.lines;
-            };
-            fits = opened_after os inner places v.place (shape_of (RecordType a l fs)) fits
-                (whole_fits D k inner v.place (RecordType a l fs) told.byte place (no_byte told.byte small));
-          })
-      go type known small place f = absurd (no_yes f)
-
   -- a statement is read in a context of its own: its `for` statements have their control variables there
   abbrev StatementTells : (Bool → Symbol syntax_statement.Statement) → Type 0
   StatementTells symbol = (c : Context) (Γ : List Region) (os : List Shape) → Here c Γ D k os → (ends : Bool)
@@ -279,24 +116,25 @@ module _ (D : Table) (k : Scope) where
         → symbol x ts r → OperandTold D k os (operand c Γ x)
 
     next_opened : (expr : Symbol Expr) → VariableTells (IsVariable expr) → (x : syntax.Variable) (ts r : Tokens)
-        → IsVariable expr x ts r → (os : List Shape) (o o' : Opening) → OpenedSo c os o → Gives (open_next c o x) o'
-        → OpenedSo c os o'
+        → IsVariable expr x ts r → (os : List Shape) (o o' : Opening) → OpenedSo D k c os o → Gives (open_next c o x) o'
+        → OpenedSo D k c os o'
     unfolding open_next
     next_opened expr tells x ts r d os o o' so q =
         let at = (variable_operand c o.1 x).first in
         let v = then_still (variable_operand c o.1 x).variable (opened at o) o' q in
         let region = then_yes (record_region at v.0.type) _ o' v.2 in
         let told = tells o.1 so.inner so.here x ts r d in
-        subst (OpenedSo c os) (inside_yes _ o' region.2)
-        (one_opened at c os so.inner o.0 o.1 v.0 region.0 so.here so.fits (told.variable v.0 v.1) region.1)
+        subst (OpenedSo D k c os) (inside_yes _ o' region.2)
+        (one_opened D k at c os so.inner o.0 o.1 v.0 region.0 so.here so.fits (told.variable v.0 v.1) region.1)
 
     all_opened : (expr : Symbol Expr) → VariableTells (IsVariable expr) → {separator : _} (xs : List syntax.Variable)
         (ts r : Tokens) → Separated separator (IsVariable expr) xs ts r → (os : List Shape) (o o' : Opening)
-        → OpenedSo c os o → Gives (through (open_next c) o xs) o' → OpenedSo c os o'
+        → OpenedSo D k c os o → Gives (through (open_next c) o xs) o' → OpenedSo D k c os o'
     all_opened expr tells [] ts r d os o o' so q = elim d [ ]
     all_opened expr tells (x ∷ []) ts r (one d) os o o' so q =
         let y = through_next (open_next c) o x [] o' q in
-        subst (OpenedSo c os) (through_end (open_next c) y.0 o' y.2) (next_opened expr tells x _ _ d os o y.0 so y.1)
+        subst (OpenedSo D k c os) (through_end (open_next c) y.0 o' y.2)
+        (next_opened expr tells x _ _ d os o y.0 so y.1)
     all_opened expr tells (x ∷ xs) ts r (several d rest) os o o' so q =
         let y = through_next (open_next c) o x xs o' q in
         all_opened expr tells xs _ _ rest os y.0 o' (next_opened expr tells x _ _ d os o y.0 so y.1) y.2
@@ -480,21 +318,22 @@ module _ (D : Table) (k : Scope) where
           → StatementSound k os t
       call_fits Γ os here at xs t told q =
           let point = still_then (denoted c Γ at) _ t q in
-          called_fits os c Γ here at.from xs point.0 t told (denoted_stands c Γ D k os here at point.0 point.1) point.2
+          called_fits D k os c Γ here at.from xs point.0 t told
+          (denoted_stands c Γ D k os here at point.0 point.1) point.2
 
       condition_there : (Γ : List Region) (os : List Shape) → Here c Γ D k os → (x : Expr) (ts r : Tokens) → expr x ts r
           → (e : Tree.Expr) → Gives (condition_at c Γ x) e → ExprSound k os e NumberSort
       condition_there Γ os here x ts r d e q =
           let v = then_still (operand c Γ x).value (condition (first_of_expr x)) e q in
           let told = exprs_tell Γ os here x ts r d in
-          condition_fits os (first_of_expr x) v.0 e (told.value v.0 v.1) v.2
+          condition_fits D k os (first_of_expr x) v.0 e (told.value v.0 v.1) v.2
 
       bound_there : (Γ : List Region) (os : List Shape) → Here c Γ D k os → (o : Ordinal) (x : Expr) (ts r : Tokens)
           → expr x ts r → (e : Tree.Expr) → Gives (bound_at c Γ o x) e → ExprSound k os e NumberSort
       bound_there Γ os here o x ts r d e q =
           let v = then_still (operand c Γ x).value (bound (first_of_expr x) o) e q in
           let told = exprs_tell Γ os here x ts r d in
-          bound_fits os (first_of_expr x) o v.0 e (told.value v.0 v.1) v.2
+          bound_fits D k os (first_of_expr x) o v.0 e (told.value v.0 v.1) v.2
 
       -- a condition, and the statement that it governs
       governed_fits : (Γ : List Region) (os : List Shape) → Here c Γ D k os → (x : Expr) (ts r : Tokens) → expr x ts r
@@ -510,19 +349,19 @@ module _ (D : Table) (k : Scope) where
       -- ---- for (6.8.3.9)
 
       control_known : (Γ : List Region) (os : List Shape) → Here c Γ D k os → (name : Span) (x : ℕ × Ordinal) → Gives
-          (control_of c Γ name) x → ControlKnown os x
+          (control_of c Γ name) x → ControlKnown D k os x
       control_known Γ os here name x q =
           let point = still_then (denoted c Γ name) _ x q in
           let control = still_then (control_at name.from point.0) _ x point.2 in
           let change = then_gives (changed c (Tree.Variable (Tree.Entry 0 control.0.0) Tree.no_selector) name.from) _ x
           control.2 in
           let free = still_then (unthreatened c control.0.0) _ x change.2 in
-          subst (ControlKnown os) (same_gives control.0 x free.2)
-          (control_there os name.from point.0 control.0
+          subst (ControlKnown D k os) (same_gives control.0 x free.2)
+          (control_there D k os name.from point.0 control.0
           (denoted_stands c Γ D k os here name point.0 point.1) control.1)
 
       record HeadSound (os : List Shape) (h : Head) : Type 0 where
-        control : ControlKnown os (h.variable, h.type)
+        control : ControlKnown D k os (h.variable, h.type)
         from : IsLine h.first_line
         to : IsLine h.last_line
         first : ExprSound k os h.first NumberSort

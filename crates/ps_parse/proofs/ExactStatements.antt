@@ -1,122 +1,36 @@
 -- Statements are read exactly.
-use Rattle.std.proofs.Common.{◌≡◌, ℕ, zero, suc, ◌<◌, ◌≤◌, Bool, true, false, List, [], ◌∷◌, length, Option, Some}
-use Rattle.std.proofs.Common.{None, Ok, inl, inr, refl, sym, ap, ◌∙◌, subst, arith}
+use Rattle.std.proofs.Common.{◌≡◌, ℕ, zero, suc, ◌<◌, ◌≤◌, Bool, true, false, List, [], ◌∷◌, length, Option, Some, None}
+use Rattle.std.proofs.Common.{Ok, inl, inr, refl, sym, ap, ◌∙◌, subst, arith}
 use Rattle.ps_text.specs.declared.Span.{Span}
 use Rattle.ps_scan.specs.declared.token.Kind.{Kind}
 use Rattle.ps_scan.specs.declared.token.Kind.TheVariants as k
 use Rattle.ps_scan.specs.Kinds.{same}
-use Rattle.ps_syntax.specs.declared.expression.Sign.{Sign}
-use Rattle.ps_syntax.specs.declared.expression.Sign.TheVariants as sign
 use Rattle.ps_syntax.specs.declared.expression.Expr.{Expr}
 use Rattle.ps_syntax.specs.declared.expression.Selector.{Selector}
-use Rattle.ps_syntax.specs.declared.expression.Variable.{Variable}
-use Rattle.ps_syntax.specs.declared.statement.Constant.{Constant}
 use Rattle.ps_syntax.specs.declared.statement.Direction.{Direction}
 use Rattle.ps_syntax.specs.declared.statement.Direction.TheVariants as direction
 use Rattle.ps_syntax.specs.declared.statement.Parameter.{Parameter}
 use Rattle.ps_syntax.specs.declared.statement.Statement.{Statement}
 use Rattle.ps_syntax.specs.declared.statement.Statement.TheVariants as s
 use Rattle.ps_syntax.specs.declared.statement.Element.{Element}
-use Rattle.ps_parse_grammar.specs.Symbols.{Tokens, Symbol, token, Many, Separated, Terminated, none, one, several}
-use Rattle.ps_parse_grammar.specs.Expressions.{sign_kind, IsSelector, IsVariable, selected, expr_within}
-use Rattle.ps_parse_grammar.specs.Statements.{IsConstant, number, signed_number, name, signed_name, text, IsParameter}
-use Rattle.ps_parse_grammar.specs.Statements.{unformatted, formatted, IsElement, element, InSequence, in_sequence}
-use Rattle.ps_parse_grammar.specs.Statements.{IsSequence, IsStatement, empty, assign, procedure, call, compound}
-use Rattle.ps_parse_grammar.specs.Statements.{if_then, if_else, case, while, repeat, for, with, direction_kind}
-use Rattle.ps_parse_grammar.specs.Statements.{statement_within}
-use Rattle.ps_parse.specs.Steps.{Parser, sees, accept, expect, separated, terminated, many}
-use Rattle.ps_parse.specs.ReadExpressions.{eat_operator, sign_of, selector, variable, read_expr}
+use Rattle.ps_parse_grammar.specs.Symbols.{Tokens, Symbol, token, Many, Separated, Terminated, none}
+use Rattle.ps_parse_grammar.specs.Expressions.{IsSelector, IsVariable, selected, expr_within}
+use Rattle.ps_parse_grammar.specs.Statements.{IsConstant, IsParameter, IsElement, element, InSequence}
+use Rattle.ps_parse_grammar.specs.Statements.{in_sequence, IsSequence, IsStatement, empty, assign, procedure, call}
+use Rattle.ps_parse_grammar.specs.Statements.{compound, if_then, if_else, case, while, repeat, for, with}
+use Rattle.ps_parse_grammar.specs.Statements.{direction_kind, statement_within}
+use Rattle.ps_parse.specs.Steps.{Parser, sees, expect, separated, terminated, many}
+use Rattle.ps_parse.specs.ReadExpressions.{selector, read_expr}
 use Rattle.ps_parse.specs.ReadStatements as read
 use Rattle.ps_parse.proofs.Exact.{Exact, both_steps, in_steps, at_last, expect_sound, expect_complete, eat_found}
 use Rattle.ps_parse.proofs.Exact.{eat_missed, eat_sound, eat_either, accept_found, accept_missed, accept_sound}
 use Rattle.ps_parse.proofs.Exact.{operator_found, operator_sound}
 use Rattle.ps_parse.proofs.Lists.{separated_exact, terminated_exact, many_nil}
 use Rattle.ps_parse.proofs.Ends.{Ends, binds, loose, Follows, follow, follows_ends, follows_unseen}
-use Rattle.ps_parse.proofs.ExactExpressions.{sign_back, sign_forth, selectors_exact, no_call, expr_exact_within}
-
--- ---- constants
-operand_none : (kind : Kind) (at : Span) (ts : Tokens) (y : Constant) (r : Tokens) → read.operand_by None kind at
-    (token kind at ∷ ts) ≡ Ok (y, r) → IsConstant y (token kind at ∷ ts) r
-operand_none k.Number at ts y r e = at_last IsConstant _ _ y ts r e number
-operand_none k.Name at ts y r e = at_last IsConstant _ _ y ts r e name
-operand_none kind at ts y r e = cc
-
-operand_some : (s : Sign) (first : Span) (kind : Kind) (at : Span) (ts : Tokens) (y : Constant) (r : Tokens)
-    → read.operand_by (Some (s, first)) kind at (token kind at ∷ ts) ≡ Ok (y, r) → IsConstant y
-    (token (sign_kind s) first ∷ token kind at ∷ ts) r
-operand_some s first k.Number at ts y r e = at_last IsConstant _ _ y ts r e (signed_number s)
-operand_some s first k.Name at ts y r e = at_last IsConstant _ _ y ts r e (signed_name s)
-operand_some s first kind at ts y r e = cc
-
-unsigned_sound : (ts : Tokens) (y : Constant) (r : Tokens) → read.operand None ts ≡ Ok (y, r) → IsConstant y ts r
-unfolding read.operand
-unsigned_sound [] y r e = cc
-unsigned_sound (t ∷ ts) y r e = operand_none t.kind t.span ts y r e
-
-signed_sound : (s : Sign) (at : Span) (ts : Tokens) (y : Constant) (r : Tokens) → read.operand (Some (s, at)) ts ≡ Ok
-    (y, r) → IsConstant y (token (sign_kind s) at ∷ ts) r
-unfolding read.operand
-signed_sound s at [] y r e = cc
-signed_sound s at (t ∷ ts) y r e = operand_some s at t.kind t.span ts y r e
-
-constant_sound : (ts : Tokens) (y : Constant) (r : Tokens) → read.constant ts ≡ Ok (y, r) → IsConstant y ts r
-unfolding read.constant
-constant_sound ts y r e =
-    elim (accept_sound k.Text ts _ y r e) [
-      | inl w ↦ subst (λ z. IsConstant y z r) (sym w.2) (at_last IsConstant _ _ y w.1 r w.3 text)
-      | inr w ↦ (elim (operator_sound sign_of sign_kind sign_back sign_forth ts _ y r w.1) [
-        | inl v ↦ subst (λ z. IsConstant y z r) (sym v.3) (signed_sound v.0 v.1 v.2 y r v.4)
-        | inr v ↦ unsigned_sound ts y r v
-      ])
-    ]
-
-abbrev pub Anything : Tokens → Type 0
-Anything ts = Unit {0}
-
-constant_complete : (y : Constant) (ts r : Tokens) → IsConstant y ts r → Anything r → read.constant ts ≡ Ok (y, r)
-unfolding read.constant read.operand accept eat_operator same
-constant_complete y ts r number o = refl
-constant_complete y ts r (signed_number sign.Plus) o = refl
-constant_complete y ts r (signed_number sign.Minus) o = refl
-constant_complete y ts r name o = refl
-constant_complete y ts r (signed_name sign.Plus) o = refl
-constant_complete y ts r (signed_name sign.Minus) o = refl
-constant_complete y ts r text o = refl
-
-pub constant_begins : (y : Constant) (ts r : Tokens) → IsConstant y ts r → sees k.End ts ≡ false
-unfolding same
-constant_begins y ts r number = refl
-constant_begins y ts r (signed_number sign.Plus) = refl
-constant_begins y ts r (signed_number sign.Minus) = refl
-constant_begins y ts r name = refl
-constant_begins y ts r (signed_name sign.Plus) = refl
-constant_begins y ts r (signed_name sign.Minus) = refl
-constant_begins y ts r text = refl
-
-constant_shrinks : (y : Constant) (ts r : Tokens) → IsConstant y ts r → length r < length ts
-constant_shrinks y ts r number = omega arith
-constant_shrinks y ts r (signed_number s) = omega arith
-constant_shrinks y ts r name = omega arith
-constant_shrinks y ts r (signed_name s) = omega arith
-constant_shrinks y ts r text = omega arith
-
-pub constant_exact : Exact Anything IsConstant read.constant
-constant_exact = record {
-  sound = constant_sound;
-  complete = constant_complete;
-  shrinks = λ y ts r d. omega (arith, constant_shrinks y ts r d);
-}
-
-abbrev pub NoComma : Tokens → Type 0
-NoComma r = sees k.Comma r ≡ false
-
-constants_exact : Exact NoComma (Separated k.Comma IsConstant) (separated k.Comma read.constant)
-constants_exact = separated_exact Anything NoComma k.Comma IsConstant read.constant constant_exact (λ at m. tt)
-    (λ r o. tt) (λ r o. o)
-
-constants_begin : (xs : List Constant) (ts r : Tokens) → Separated k.Comma IsConstant xs ts r → sees k.End ts ≡ false
-constants_begin xs ts r (one {x = x} d) = constant_begins x ts r d
-constants_begin xs ts r (several {x = x} d ds) = constant_begins x ts _ d
+use Rattle.ps_parse.proofs.ExactFactors.{selectors_exact, no_call}
+use Rattle.ps_parse.proofs.ExactExpressions.{expr_exact_within}
+use Rattle.ps_parse.proofs.ExactConstants.{NoComma, constants_begin, constants_exact}
+use Rattle.ps_parse.proofs.ExactParameters.{at_do, at_paren, parameters_exact, variable_shrinks, variables_exact}
 
 pub direction_back : (kind : Kind) (d : Direction) → read.direction_of kind ≡ Some d → kind ≡ direction_kind d
 direction_back k.To d e = ap direction_kind (let g : direction.Up ≡ d = cc in g)
@@ -135,27 +49,6 @@ direction_binds direction.Down = refl
 colon_no_comma : (at : Span) (m : Tokens) → NoComma (token k.Colon at ∷ m)
 unfolding same
 colon_no_comma at m = refl
-
-abbrev EndsParameter : Tokens → Type 0
-EndsParameter r = Ends 1 r × (sees k.Colon r ≡ false)
-
-abbrev EndsParameters : Tokens → Type 0
-EndsParameters r = EndsParameter r × NoComma r
-
-comma_between : (at : Span) (m : Tokens) → EndsParameter (token k.Comma at ∷ m)
-unfolding same
-comma_between at m = (loose, refl)
-
-at_paren : (at : Span) (m : Tokens) → EndsParameters (token k.RightParen at ∷ m)
-unfolding same
-at_paren at m = ((loose, refl), refl)
-
-abbrev EndsVariables : Tokens → Type 0
-EndsVariables r = Ends 4 r × NoComma r
-
-at_do : (at : Span) (m : Tokens) → EndsVariables (token k.Do at ∷ m)
-unfolding same
-at_do at m = (omega arith, refl)
 
 -- ---- statements
 
@@ -190,65 +83,6 @@ never : {P : Type 0} → false ≡ true → P
 never e = cc
 
 module _ (E : Symbol Expr) (p : Parser Expr) (h : Exact (Ends 1) E p) where
-  parameter_sound : (ts : Tokens) (y : Parameter) (r : Tokens) → read.parameter p ts ≡ Ok (y, r) → IsParameter E y ts r
-  unfolding read.parameter
-  parameter_sound ts y r e =
-      let b = both_steps (p ts) _ y r e in
-      elim (eat_sound k.Colon b.1 _ y r b.3) [
-        | inl w ↦ (let c = both_steps (p w.1) _ y r w.3 in
-            at_last (IsParameter E) ts _ y c.1 r c.3
-            (formatted (subst (λ q. E b.0 ts q) w.2 (h.sound ts b.0 b.1 b.2)) (h.sound w.1 c.0 c.1 c.2)))
-        | inr w ↦ at_last (IsParameter E) ts _ y b.1 r w (unformatted (h.sound ts b.0 b.1 b.2))
-      ]
-
-  parameter_complete : (y : Parameter) (ts r : Tokens) → IsParameter E y ts r → EndsParameter r → read.parameter p ts
-      ≡ Ok (y, r)
-  unfolding read.parameter
-  parameter_complete y ts r (unformatted {x = x} d) o = rw (h.complete x ts r d o.0) (eat_missed k.Colon r _ o.1)
-  parameter_complete y ts r (formatted {x = x} {y = z} {m = m} {at = at} d d') o = rw
-      (h.complete x ts (token k.Colon at ∷ m) d loose) (eat_found k.Colon at m _ ∙ rw (h.complete z m r d' o.0) refl)
-
-  parameter_shrinks : (y : Parameter) (ts r : Tokens) → IsParameter E y ts r → length r ≤ length ts
-  parameter_shrinks y ts r (unformatted {x = x} d) = h.shrinks x ts r d
-  parameter_shrinks y ts r (formatted {x = x} {y = z} {m = m} {at = at} d d') = omega
-      (arith, h.shrinks x ts (token k.Colon at ∷ m) d, h.shrinks z m r d')
-
-  parameters_exact : Exact EndsParameters (Separated k.Comma (IsParameter E)) (separated k.Comma (read.parameter p))
-  parameters_exact = separated_exact EndsParameter EndsParameters k.Comma (IsParameter E) (read.parameter p) (record {
-    sound = parameter_sound;
-    complete = parameter_complete;
-    shrinks = parameter_shrinks;
-  }) comma_between (λ r o. o.0) (λ r o. o.1)
-
-  -- ---- variables
-  variable_sound : (ts : Tokens) (y : Variable) (r : Tokens) → read.named_variable p ts ≡ Ok (y, r)
-      → IsVariable E y ts r
-  unfolding read.named_variable variable
-  variable_sound ts y r e =
-      in_steps (expect k.Name ts) _ y r e (λ b0 b1 b2 b3.
-      in_steps (many (selector p) b1) _ y r b3 (λ c0 c1 c2 c3.
-      subst (λ z. IsVariable E y z r) (sym (expect_sound k.Name ts b0 b1 b2))
-      (at_last (IsVariable E) _ _ y c1 r c3 (selected ((selectors_exact E p h).sound b1 c0 c1 c2)))))
-
-  variable_complete : (y : Variable) (ts r : Tokens) → IsVariable E y ts r → Ends 4 r → read.named_variable p ts ≡ Ok
-      (y, r)
-  unfolding read.named_variable variable
-  variable_complete y ts r (selected {at = at} {xs = xs} {ts = m} d) o = rw
-      (expect_complete k.Name at m, (selectors_exact E p h).complete xs m r d o) refl
-
-  variable_shrinks : (y : Variable) (ts r : Tokens) → IsVariable E y ts r → length r ≤ length ts
-  variable_shrinks y ts r (selected {xs = xs} {ts = m} d) = omega (arith, (selectors_exact E p h).shrinks xs m r d)
-
-  comma_after_variable : (at : Span) (m : Tokens) → Ends 4 (token k.Comma at ∷ m)
-  comma_after_variable at m = omega arith
-
-  variables_exact : Exact EndsVariables (Separated k.Comma (IsVariable E)) (separated k.Comma (read.named_variable p))
-  variables_exact = separated_exact (Ends 4) EndsVariables k.Comma (IsVariable E) (read.named_variable p) (record {
-    sound = variable_sound;
-    complete = variable_complete;
-    shrinks = variable_shrinks;
-  }) comma_after_variable (λ r o. o.0) (λ r o. o.1)
-
   module _ (S : Bool → Symbol Statement) (q : Parser Statement) (i : Exact Follows (Greedy S) q) (sh : (ends : Bool) (x : Statement) (ts r : Tokens) → S ends x ts r → length r ≤ length ts) where
     -- a statement of a sequence
     any_exact : Exact EndsInSequence (InSequence S) q
@@ -339,7 +173,7 @@ module _ (E : Symbol Expr) (p : Parser Expr) (h : Exact (Ends 1) E p) where
               subst (λ z. Greedy (IsStatement E S) y (token k.Name at ∷ z) r) (sym w.2)
               (at_last (Greedy (IsStatement E S)) _ _ y c.1 r c.3
               (unelsed (call (subst (λ z. Separated k.Comma (IsParameter E) b.0 w.1 z)
-              (expect_sound k.RightParen b.1 c.0 c.1 c.2) (parameters_exact.sound w.1 b.0 b.1 b.2))))))
+              (expect_sound k.RightParen b.1 c.0 c.1 c.2) ((parameters_exact E p h).sound w.1 b.0 b.1 b.2))))))
           | inr w ↦ (let b = both_steps (many (selector p) ts) _ y r w in
               let d = (selectors_exact E p h).sound ts b.0 b.1 b.2 in
               elim (accept_sound k.Assign b.1 _ y r b.3) [
@@ -451,7 +285,7 @@ module _ (E : Symbol Expr) (p : Parser Expr) (h : Exact (Ends 1) E p) where
         at_last (Greedy (IsStatement E S)) _ _ y d1 r d3 (
           g.0,
           with (subst (λ z. Separated k.Comma (IsVariable E) b0 ts z) (expect_sound k.Do b1 c0 c1 c2)
-              (variables_exact.sound ts b0 b1 b2)) g.1,
+              ((variables_exact E p h).sound ts b0 b1 b2)) g.1,
           g.2,
         ))))
 
@@ -515,7 +349,7 @@ module _ (E : Symbol Expr) (p : Parser Expr) (h : Exact (Ends 1) E p) where
     unfolding read.after_name
     call_complete at left right xs l r d =
         eat_found k.LeftParen left l _ ∙ rw (
-          parameters_exact.complete xs l (token k.RightParen right ∷ r) d
+          (parameters_exact E p h).complete xs l (token k.RightParen right ∷ r) d
               (at_paren right r),
           expect_complete k.RightParen right r,
         ) refl
@@ -576,16 +410,21 @@ module _ (E : Symbol Expr) (p : Parser Expr) (h : Exact (Ends 1) E p) where
         )
         (operator_found read.direction_of direction_kind direction_back direction_forth w to l _ ∙ rw (h.complete v l (token k.Do do' ∷ m) d' loose, expect_complete k.Do do' m, i.complete z m r (ends, d'', g) o) refl)
     statement_complete ends y ts r (with {do' = do'} {vs = vs} {x = x} {ts = l} {m = m} d d') g o =
-        rw (variables_exact.complete vs l (token k.Do do' ∷ m) d (at_do do' m), expect_complete k.Do do' m, i.complete x m r (ends, d', g) o) refl
+        rw (
+          (variables_exact E p h).complete vs l (token k.Do do' ∷ m) d
+              (at_do do' m),
+          expect_complete k.Do do' m,
+          i.complete x m r (ends, d', g) o,
+        ) refl
 
     pub statement_shrinks : (ends : Bool) (y : Statement) (ts r : Tokens) → IsStatement E S ends y ts r
         → length r ≤ length ts
     statement_shrinks ends y ts r empty = omega arith
     statement_shrinks ends y ts r (assign {v = v} {at = at} {x = x} {m = m} d d') = omega
-        (arith, variable_shrinks v ts (token k.Assign at ∷ m) d, h.shrinks x m r d')
+        (arith, variable_shrinks E p h v ts (token k.Assign at ∷ m) d, h.shrinks x m r d')
     statement_shrinks ends y ts r procedure = omega arith
     statement_shrinks ends y ts r (call {right = right} {xs = xs} {ts = l} d) = omega
-        (arith, parameters_exact.shrinks xs l (token k.RightParen right ∷ r) d)
+        (arith, (parameters_exact E p h).shrinks xs l (token k.RightParen right ∷ r) d)
     statement_shrinks ends y ts r (compound {end = end} {xs = xs} {ts = l} d) = omega
         (arith, sequence_exact.shrinks xs l (token k.End end ∷ r) d)
     statement_shrinks ends y ts r (if_then {next = next} {c = c} {x = x} {ends = inner} {ts = l} {m = m} d d') = omega
@@ -603,7 +442,8 @@ module _ (E : Symbol Expr) (p : Parser Expr) (h : Exact (Ends 1) E p) where
     statement_shrinks ends y ts r (repeat {until = until} {xs = xs} {c = c} {ts = l} {m = m} d d') = omega
         (arith, sequence_exact.shrinks xs l (token k.Until until ∷ m) d, h.shrinks c m r d')
     statement_shrinks ends y ts r (for w {to = to} {do' = do'} {x = x} {y = v} {z = z} {ts = a} {l = l} {m = m} d d' d'') = omega (arith, h.shrinks x a (token (direction_kind w) to ∷ l) d, h.shrinks v l (token k.Do do' ∷ m) d', sh ends z m r d'')
-    statement_shrinks ends y ts r (with {do' = do'} {vs = vs} {x = x} {ts = l} {m = m} d d') = omega (arith, variables_exact.shrinks vs l (token k.Do do' ∷ m) d, sh ends x m r d')
+    statement_shrinks ends y ts r (with {do' = do'} {vs = vs} {x = x} {ts = l} {m = m} d d') = omega
+        (arith, (variables_exact E p h).shrinks vs l (token k.Do do' ∷ m) d, sh ends x m r d')
 
     pub statement_exact : Exact Follows (Greedy (IsStatement E S)) (read.any_statement p q)
     statement_exact = record {

@@ -27,7 +27,7 @@ use Rattle.ps_parse.specs.ReadPrograms as read
 use Rattle.ps_parse.proofs.Exact.{Exact, both_steps, in_steps, at_last, expect_sound, expect_complete, eat_found}
 use Rattle.ps_parse.proofs.Exact.{eat_missed, eat_sound, accept_found, accept_missed, accept_sound, refused}
 use Rattle.ps_parse.proofs.Lists.{separated_exact, terminated_exact}
-use Rattle.ps_parse.proofs.ExactStatements.{Anything, NoComma, constant_exact}
+use Rattle.ps_parse.proofs.ExactConstants.{Anything, NoComma, constant_exact}
 
 -- ---- names
 name_sound : (ts : Tokens) (x : Span) (r : Tokens) → expect k.Name ts ≡ Ok (x, r) → IsName x ts r

@@ -24,13 +24,16 @@ use Rattle.ps_parse.specs.Low.{formals_low, block_low}
 use Rattle.ps_parse.proofs.Exact.{Exact, refused}
 use Rattle.ps_parse.proofs.Ends.{Ends}
 use Rattle.ps_parse.proofs.ExactExpressions as expressions
-use Rattle.ps_parse.proofs.ExactExpressions.{Level, factor_exact, factor_begins, factor_unsigned, expr_exact_within}
+use Rattle.ps_parse.proofs.ExactExpressions.{Level, expr_exact_within}
+use Rattle.ps_parse.proofs.ExactFactors.{factor_exact, factor_begins, factor_unsigned}
 use Rattle.ps_parse.proofs.ExactExpressions.{next_expr, expr_begins}
 use Rattle.ps_parse.proofs.ExactStatements as statements
-use Rattle.ps_parse.proofs.ExactStatements.{Anything, EndsSequence, Greedy, statement_exact, statement_shrinks}
+use Rattle.ps_parse.proofs.ExactConstants.{Anything}
+use Rattle.ps_parse.proofs.ExactStatements.{EndsSequence, Greedy, statement_exact, statement_shrinks}
 use Rattle.ps_parse.proofs.ExactStatements.{sequence_exact}
 use Rattle.ps_parse.proofs.ExactTypes.{NoRange, ordinal_exact, index_exact, type_exact, type_exact_within}
-use Rattle.ps_parse.proofs.ExactPrograms.{FormalsLevel, formals_level, list_exact, list_begins, BlockLevel}
+use Rattle.ps_parse.proofs.ExactHeadings.{FormalsLevel, formals_level, list_exact, list_begins}
+use Rattle.ps_parse.proofs.ExactPrograms.{BlockLevel}
 use Rattle.ps_parse.proofs.ExactPrograms.{block_level, next_block, program_sound, program_complete}
 
 -- reads only where at most the given number of tokens is left

@@ -20,6 +20,7 @@ use Rattle.ps_parse.proofs.LocalStatements.{local_statement}
 use Rattle.ps_parse.proofs.LocalPrograms.{local_ordinal, local_index, local_type, local_formals, local_block}
 use Rattle.ps_parse.proofs.ExactPrograms.{derived_is_read}
 use Rattle.ps_parse.proofs.Related as rel
+use Rattle.ps_parse.proofs.RelatedBlocks as rel_blocks
 use Rattle.ps_parse.proofs.Related.{stops, Kept, Rel}
 use Rattle.ps_parse.proofs.RisingLevels.{above}
 use Rattle.ps_parse.proofs.Gated.{gate, gated_expr, gated_negated, gated_statement, gated_index, gated_type}
@@ -124,13 +125,14 @@ module _ (left : ℕ) where
       (gated_block left d forward n) (g.read_block forward (above n d))
   unfolding g.read_block gated_block
   block_opens forward d zero = gate_opens (local_block forward d)
-  block_opens forward d (suc n) = rel.rel_any_block (Opening left) kept forward (type_opens d n) (formals_opens d n)
+  block_opens forward d (suc n) = rel_blocks.rel_any_block (Opening left) kept forward (type_opens d n)
+      (formals_opens d n)
       (statement_opens d n) (block_opens forward d n)
 
   program_opens : (forward : Span → Bool) (d n : ℕ) → Rel (Opening left) (g.program forward (g.read_block forward n))
       (gated_program left d forward n) (g.program forward (g.read_block forward (above n d)))
   unfolding gated_program
-  program_opens forward d n = rel.rel_program (Opening left) kept forward (block_opens forward d n)
+  program_opens forward d n = rel_blocks.rel_program (Opening left) kept forward (block_opens forward d n)
 
 -- ---- the tokens that a level reads to their end are those that are low
 module _ (text : List ℕ) where

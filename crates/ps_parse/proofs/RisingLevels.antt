@@ -23,6 +23,7 @@ use Rattle.ps_parse.proofs.LocalStatements.{local_statement}
 use Rattle.ps_parse.proofs.LocalPrograms.{local_ordinal, looks_at_constant, local_index, local_type, local_formals}
 use Rattle.ps_parse.proofs.LocalPrograms.{local_block}
 use Rattle.ps_parse.proofs.Related as rel
+use Rattle.ps_parse.proofs.RelatedBlocks as rel_blocks
 use Rattle.ps_parse.proofs.Related.{Rel}
 use Rattle.ps_parse.proofs.Rising.{Further, further_kept, nothing_further, First, first_kept, first_eat, first_expect}
 use Rattle.ps_parse.proofs.Rising.{first_past, first_same, Rise, rise_kept, lowest}
@@ -179,8 +180,10 @@ module _ (is_forward : Span → Bool) where
         (g.routine_by is_forward p p' kind (token kind at ∷ ts))
         (g.routine_by is_forward p p' kind (token kind at ∷ ts))
         (g.routine_by is_forward q q' kind (token kind at ∷ ts))
-    routine_by k.Procedure at ts = first_past ((rel.rel_procedure_routine Further further_kept is_forward v w).at ts)
-    routine_by k.Function at ts = first_past ((rel.rel_function_routine Further further_kept is_forward v w).at ts)
+    routine_by k.Procedure at ts = first_past
+        ((rel_blocks.rel_procedure_routine Further further_kept is_forward v w).at ts)
+    routine_by k.Function at ts = first_past
+        ((rel_blocks.rel_function_routine Further further_kept is_forward v w).at ts)
     routine_by kind at ts = first_same _ (omega arith)
 
     head_at : (ts : Tokens) → First Routine (length ts) (g.routine_head is_forward p p' ts)
@@ -202,9 +205,11 @@ module _ (is_forward : Span → Bool) where
   block_first vt vf va vb =
       rel.rel_bind First first_kept (rel.rel_part First first_kept k.Const g.begins_name
       (rel.rel_same First first_kept looks_at_constant.0)) (λ constants.
-      rel.rel_bind First first_kept (part_first k.Type g.begins_name (rel.rel_type_definition Further further_kept vt))
+      rel.rel_bind First first_kept (part_first k.Type g.begins_name
+      (rel_blocks.rel_type_definition Further further_kept vt))
       (λ types.
-      rel.rel_bind First first_kept (part_first k.Var g.begins_name (rel.rel_variables Further further_kept vt)) (λ vs.
+      rel.rel_bind First first_kept (part_first k.Var g.begins_name
+      (rel_blocks.rel_variables Further further_kept vt)) (λ vs.
       rel.rel_bind First first_kept (rel.rel_many First first_kept
       (rel.rel_if_begins First first_kept (routine_first vf vb) g.begins_routine)) (λ routines.
       first_expect k.Begin (λ begin.
@@ -216,10 +221,10 @@ module _ (is_forward : Span → Bool) where
   unfolding g.read_block g.read_type g.read_formals s.read_statement
   block_rises d zero = lowest (block_first (nothing_further (local_type d)) (nothing_further (local_formals d))
       (nothing_further (local_statement d)) (nothing_further (local_block is_forward d)))
-  block_rises d (suc n) = rel.rel_any_block Rise rise_kept is_forward (type_rises d n) (formals_rises d n)
+  block_rises d (suc n) = rel_blocks.rel_any_block Rise rise_kept is_forward (type_rises d n) (formals_rises d n)
       (statement_rises d n) (block_rises d n)
 
   pub program_rises : (d n : ℕ) → Rel Rise (g.program is_forward (g.read_block is_forward n))
       (g.program is_forward (g.read_block is_forward (suc n)))
       (g.program is_forward (g.read_block is_forward (suc (above n d))))
-  program_rises d n = rel.rel_program Rise rise_kept is_forward (block_rises d n)
+  program_rises d n = rel_blocks.rel_program Rise rise_kept is_forward (block_rises d n)

@@ -6,7 +6,7 @@ use Rattle.risc_word.specs.declared.instr.Condition.TheVariants as on
 use Rattle.tac_code.specs.Numbers.{steps_above}
 use Rattle.risc_emit_relation.specs.Context.{Context}
 use Rattle.risc_emit_forms.specs.Pieces.{Piece, Fails}
-use Rattle.risc_emit_forms.proofs.Checks.{steps_are, not_below}
+use Rattle.risc_emit_forms.proofs.Ranges.{steps_are, not_below}
 use Rattle.risc_emit_forms.specs.Forms.{above, above_register, at_most, range_code}
 
 module _ (c : Context) (n q : ℕ) (low low' high high' : ℤ) (error line : ℕ) (lowest : low' ≡ low) (highest : high' ≡ high) where

@@ -9,7 +9,7 @@ use Rattle.tac_code.specs.declared.code.Instruction.TheVariants.{Store, LoadByte
 use Rattle.tac_code.specs.declared.code.Instruction.TheVariants.{BranchBack, Call, CallValue, Return, Trap, Take, Put}
 use Rattle.tac_code.specs.declared.code.Instruction.TheVariants.{New, End}
 use Rattle.tac_code.specs.Meaning.{routines, fetch}
-use Rattle.risc_emit_forms.proofs.Flags.{IsLoad, BentLoad, BentRow, bent_is}
+use Rattle.risc_emit_forms.proofs.Shortfalls.{IsLoad, BentLoad, BentRow, bent_is}
 use Rattle.risc_emit.specs.Passes.{LoadsNear}
 use Rattle.risc_emit_relation.specs.Context.{Context}
 use Rattle.risc_emit_forms.specs.Told.{jumped, told, told_in, told_at, row, row_bent, bend, load_bent, bent, bent_in}

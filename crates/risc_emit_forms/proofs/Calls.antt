@@ -35,11 +35,14 @@ use Rattle.risc_emit_forms.specs.Forms as form
 use Rattle.risc_emit_forms.specs.Forms.{carried, is_taken, is_stored, accept, pass, carry}
 use Rattle.risc_emit_forms.specs.Follows.{machine_of, Built, Belongs, Follows}
 use Rattle.risc_emit_forms.proofs.Basics.{left_after, is_read, writes_it, among_first, among_rest}
-use Rattle.risc_emit_forms.proofs.Runs.{Framed, bring_run}
-use Rattle.risc_emit_forms.proofs.Comes.{get_append, fetched_is, framed, place_low, come_way, come_step, stop_way}
-use Rattle.risc_emit_forms.proofs.Comes.{stop_to}
+use Rattle.risc_emit_forms.proofs.Runs.{Framed}
+use Rattle.risc_emit_forms.proofs.Fetches.{bring_run}
+use Rattle.risc_emit_forms.proofs.Joins.{get_append, fetched_is, come_way, come_step, stop_way}
+use Rattle.risc_emit_forms.proofs.Comes.{framed, place_low}
+use Rattle.risc_emit_forms.proofs.Joins.{stop_to}
 use Rattle.risc_emit_forms.proofs.Operands.{code, stands_in}
-use Rattle.risc_emit_forms.proofs.Passing.{and_more_some, home_on, Passed, pass_run, carried_run, value_of_operand}
+use Rattle.risc_emit_forms.proofs.Passing.{and_more_some, home_on, Passed, pass_run, value_of_operand}
+use Rattle.risc_emit_forms.proofs.Carried.{carried_run}
 use Rattle.risc_emit_forms.proofs.Enters.{Calling, enters_program, enters_leaf}
 
 among_at : (us : List ℕ) (j u : ℕ) → slice_get us j ≡ Some u → is_among u us ≡ true

@@ -1,7 +1,7 @@
--- How an instruction's words are followed: parts joined, and the ends in which they reach the next state or a stop.
-use Rattle.std.proofs.Common.{◌≡◌, ◌≢◌, ℕ, zero, suc, ◌+◌, ◌*◌, ◌%◌, ◌<◌, ◌≤◌, ◌⊎◌, inl, inr, Bool, true, false, cond}
-use Rattle.std.proofs.Common.{nat_eq, nat_le, List, [], ◌∷◌, ◌++◌, length, take, Option, Some, None, slice_get, pos}
-use Rattle.std.proofs.Common.{negsuc, ℤ, refl, sym, ap, ◌∙◌, subst, arith}
+-- How an instruction's words are followed: frames, branches, stops, and the ends in which they reach the next state.
+use Rattle.std.proofs.Common.{◌≡◌, ◌≢◌, ℕ, zero, suc, ◌+◌, ◌*◌, ◌%◌, ◌<◌, ◌≤◌, inl, inr, Bool, true, false, cond}
+use Rattle.std.proofs.Common.{nat_eq, nat_le, List, [], ◌∷◌, length, take, Some, pos, negsuc, ℤ, refl, sym, ap, ◌∙◌}
+use Rattle.std.proofs.Common.{subst, arith}
 use Rattle.std.proofs.lemmas.Int.{ints}
 use Rattle.behavior.specs.Endings.{Ending, Stack, Heap, Error, Stuck, ending_by}
 use Rattle.behavior.specs.Transcripts.{AreBytes}
@@ -11,18 +11,15 @@ use Rattle.risc_word.specs.declared.instr.Target.TheVariants.{Relative}
 use Rattle.risc_word.specs.declared.instr.Instr.TheVariants as word
 use Rattle.risc_machine.specs.Step as machine
 use Rattle.risc_machine.specs.Step.{word_of_int}
-use Rattle.risc_machine.specs.Exec as run
 use Rattle.risc_machine_laws.specs.View.{View, Fits, IsAt, HasAt, Shows, after, at_view, link_view, target_view}
 use Rattle.risc_machine_laws.specs.View.{holds_view, reached}
-use Rattle.risc_machine_laws.specs.Runs.{To, Way, same_tape}
+use Rattle.risc_machine_laws.specs.Runs.{To, same_tape}
 use Rattle.risc_machine_laws.specs.Numbers.{distance}
 use Rattle.risc_machine_laws.proofs.Runs.{plain_to, branch_taken, branch_passed, stop_at}
 use Rattle.risc_machine_laws.proofs.Numbers.{target_reached}
 use Rattle.tac_code.specs.declared.code.Value.{Value}
 use Rattle.tac_code.specs.declared.code.Instruction.{Instruction}
-use Rattle.tac_code.specs.declared.code.TacRoutine.{TacRoutine}
-use Rattle.tac_code.specs.Meaning.{routines, body_at, fetch, State, Over, giving, open_calls, test_ending}
-use Rattle.tac_code.specs.Sound.{IsSoundAt, IsSoundRoutine, limits_of}
+use Rattle.tac_code.specs.Meaning.{fetch, State, Over, giving, open_calls, test_ending}
 use Rattle.risc_alloc.specs.declared.homes.Home.TheVariants.{Reg}
 use Rattle.risc_emit_relation.specs.Context.{Context, home, Places, word, IsValue, Passes, Writes}
 use Rattle.risc_emit_relation.specs.Related.{Machine, Related, value_of, owner_of}
@@ -35,10 +32,12 @@ use Rattle.risc_emit_relation.proofs.Walk.{walk_is, walk_same}
 use Rattle.risc_emit_forms.specs.Pieces.{Label, label_place, Piece, Goes, Fails, Left}
 use Rattle.risc_emit_forms.specs.Forms.{target, save, receive, skip}
 use Rattle.risc_emit_forms.specs.Told.{flagged_by, bent_at}
-use Rattle.risc_emit_forms.specs.Follows.{machine_of, stub, Built, tape_of, Flags, Straight, unbent, Meets, Belongs}
-use Rattle.risc_emit_forms.specs.Follows.{Comes, Stops, Follows, trapped, told}
+use Rattle.risc_emit_forms.specs.Follows.{machine_of, stub, Built, tape_of, Flags, Straight, unbent, Meets, Stops}
+use Rattle.risc_emit_forms.specs.Follows.{Follows, trapped, told}
 use Rattle.risc_emit_forms.proofs.Flags.{told_behind, flagged_straight, passed_silent}
-use Rattle.risc_emit_forms.proofs.Runs.{Aside, Framed, in_register, save_run, receive_run}
+use Rattle.risc_emit_forms.proofs.Runs.{Aside, Framed}
+use Rattle.risc_emit_forms.proofs.Results.{in_register, save_run, receive_run}
+use Rattle.risc_emit_forms.proofs.Joins.{Arrives, arrive_here, arrive_to, arrive_way, left_whole}
 
 -- ---- endings
 
@@ -67,165 +66,9 @@ failing c s number line = ending_by number line (open_calls (length c.code.progr
 abbrev pub test_failing : Context → State → ℕ → ℕ → Ending
 test_failing c s number line = test_ending number line (open_calls (length c.code.program) s.current s.callers)
 
-pub append_nil : (ps : List Piece) → ps ++ [] ≡ ps
-append_nil [] = refl
-append_nil (p ∷ ps) = ap (λ l. p ∷ l) (append_nil ps)
-
-pub left_whole : (c : Context) (words : List ℕ) (at next : ℕ) (ps : List Piece) → Left c words at ps next
-    → Left c words at (ps ++ []) next
-left_whole c words at next ps l = subst (λ q. Left c words at q next) (sym (append_nil ps)) l
-
--- ---- what is sound
-
-pub get_append : (xs ys : List TacRoutine) (n : ℕ) (x : TacRoutine) → slice_get (xs ++ ys) n ≡ Some x
-    → (slice_get xs n ≡ Some x) ⊎ ((m : ℕ) × (slice_get ys m ≡ Some x))
-get_append [] ys n x e = inr (n, e)
-get_append (y ∷ xs) ys zero x e = inl e
-get_append (y ∷ xs) ys (suc n) x e = get_append xs ys n x e
-
--- from m, in any number of steps, the machine reaches a state that meets s
-pub record Arrives (c : Context) (words : List ℕ) (s : State) (m : machine.State) : Type 0 where
-  pub to : machine.State
-  pub places : Places
-  pub view : View
-  pub frame : ℕ
-  pub shows : Shows words c.size to view
-  pub meets : Meets c words places s view frame
-  pub runs : (k : ℕ) → (j : ℕ) × (k ≤ j) × (run.exec j m (tape_of s.tape) ≡ run.exec k to (tape_of s.tape))
-
 module _ (c : Context) (words : List ℕ) (b : Built c words) where
   fits : Fits words c.size
   fits = b.stood.fits
-
-  pub sound_routine : (r : ℕ) (routine : TacRoutine) → slice_get (routines c.code) r ≡ Some routine → IsSoundRoutine
-      (limits_of c.code routine) routine
-  sound_routine r routine e = go (get_append c.code.program c.code.run_time r routine e)
-    where
-      go : (slice_get c.code.program r ≡ Some routine) ⊎ ((m : ℕ) × (slice_get c.code.run_time m ≡ Some routine))
-          → IsSoundRoutine (limits_of c.code routine) routine
-      go (inl e) = b.sound.program r routine e
-      go (inr e) = b.sound.run_time e.0 routine e.1
-
-  pub record Fetched (r k : ℕ) (i : Instruction) : Type 0 where
-    pub routine : TacRoutine
-    pub is : slice_get (routines c.code) r ≡ Some routine
-    pub body : slice_get routine.body k ≡ Some i
-    pub sound : IsSoundAt (limits_of c.code routine) k i
-
-  pub fetched_is : (r k : ℕ) (i : Instruction) → fetch c.code r k ≡ Some i → Fetched r k i
-  fetched_is r k i e = go (slice_get (routines c.code) r) refl e
-    where
-      go : (o : Option TacRoutine) → slice_get (routines c.code) r ≡ o → body_at o k ≡ Some i → Fetched r k i
-      go None is e = absurd (cc e)
-      go (Some routine) is e =
-          record { routine = routine; is = is; body = e; sound = (sound_routine r routine is).body k i e }
-
-  -- ---- parts joined
-
-  pub come_to : (s t : State) (m : machine.State) (g : run.Tape → run.Tape) (v : View) (a : To words c.size m g v) → g
-      (tape_of s.tape) ≡ tape_of t.tape → Arrives c words t a.to → Comes c words s t m
-  come_to s t m g v a e r =
-      record {
-        to = r.to;
-        places = r.places;
-        view = r.view;
-        frame = r.frame;
-        shows = r.shows;
-        meets = r.meets;
-        runs = λ k. let x = r.runs k in let y = a.runs x.0 (tape_of s.tape)
-            in (y.0, omega (arith, x.1, y.1), y.2 ∙ ap (run.exec x.0 a.to) e ∙ x.2);
-      }
-
-  pub come_way : (s t : State) (m : machine.State) (v : View) (a : Way words c.size m same_tape v)
-      → Comes c words s t a.to → Comes c words s t m
-  come_way s t m v a r =
-      record {
-        to = r.to;
-        places = r.places;
-        view = r.view;
-        frame = r.frame;
-        shows = r.shows;
-        meets = r.meets;
-        runs = λ k. let x = r.runs k in let y = a.runs x.0 (tape_of s.tape)
-            in (y.0, omega (arith, x.1, y.1), y.2 ∙ x.2);
-      }
-
-  pub come_step : (s t : State) (m : machine.State) (v : View) (a : To words c.size m same_tape v)
-      → Comes c words s t a.to → Comes c words s t m
-  come_step s t m v a r =
-      record {
-        to = r.to;
-        places = r.places;
-        view = r.view;
-        frame = r.frame;
-        shows = r.shows;
-        meets = r.meets;
-        runs = λ k. let x = r.runs k in let y = a.runs x.0 (tape_of s.tape)
-            in (y.0, omega (arith, x.1, y.1), y.2 ∙ x.2);
-      }
-
-  pub arrive_way : (t : State) (m : machine.State) (v : View) (a : Way words c.size m same_tape v)
-      → Arrives c words t a.to → Arrives c words t m
-  arrive_way t m v a r =
-      record {
-        to = r.to;
-        places = r.places;
-        view = r.view;
-        frame = r.frame;
-        shows = r.shows;
-        meets = r.meets;
-        runs = λ k. let x = r.runs k in let y = a.runs x.0 (tape_of t.tape)
-            in (y.0, omega (arith, x.1, y.1), y.2 ∙ x.2);
-      }
-
-  pub arrive_to : (t : State) (m : machine.State) (v : View) (a : To words c.size m same_tape v)
-      → Arrives c words t a.to → Arrives c words t m
-  arrive_to t m v a r =
-      record {
-        to = r.to;
-        places = r.places;
-        view = r.view;
-        frame = r.frame;
-        shows = r.shows;
-        meets = r.meets;
-        runs = λ k. let x = r.runs k in let y = a.runs x.0 (tape_of t.tape)
-            in (y.0, omega (arith, x.1, y.1), y.2 ∙ x.2);
-      }
-
-  pub arrive_here : (p : Places) (t : State) (m : machine.State) (v : View) (f : ℕ) → Shows words c.size m v
-      → Belongs c words p t v f → Arrives c words t m
-  arrive_here p t m v f sh be =
-      let meets : Meets c words p t v f = record {
-        related = subst (λ o. Related c p t (unbent o (machine_of v)) f) (sym be.flags.1) be.related;
-        place = be.place;
-        input = be.input;
-        flags = be.flags.0;
-      } in
-      record { to = m; places = p; view = v; frame = f; shows = sh; meets = meets; runs = λ k. (k, omega arith, refl) }
-
-  pub stop_way : (s : State) (m : machine.State) (e : Ending) (v : View) (a : Way words c.size m same_tape v)
-      → Stops c words s a.to e → Stops c words s m e
-  stop_way s m e v a r =
-      record {
-        word = r.word;
-        at = r.at;
-        view = r.view;
-        shows = r.shows;
-        is = r.is;
-        by = λ k. let x = r.by k in let y = a.runs x.0 (tape_of s.tape) in (y.0, omega (arith, x.1, y.1), y.2 ∙ x.2);
-      }
-
-  pub stop_to : (s : State) (m : machine.State) (e : Ending) (v : View) (a : To words c.size m same_tape v)
-      → Stops c words s a.to e → Stops c words s m e
-  stop_to s m e v a r =
-      record {
-        word = r.word;
-        at = r.at;
-        view = r.view;
-        shows = r.shows;
-        is = r.is;
-        by = λ k. let x = r.by k in let y = a.runs x.0 (tape_of s.tape) in (y.0, omega (arith, x.1, y.1), y.2 ∙ x.2);
-      }
 
   -- ---- frames
 
@@ -376,7 +219,7 @@ module _ (c : Context) (words : List ℕ) (b : Built c words) where
       (machine_of v) → v.place ≡ c.site s.current.routine k → Arrives c words
       (record s { current = record s.current { place = k } }) m
   goes_end p s m0 f k m v h bytes g sh n e =
-      arrive_here p (record s { current = record s.current { place = k } }) m v f sh (record {
+      arrive_here c words b p (record s { current = record s.current { place = k } }) m v f sh (record {
         related = related_goes c b.laid b.placed p s m0 (machine_of v) f k h g n;
         place = e;
         input = bytes;
@@ -397,8 +240,8 @@ module _ (c : Context) (words : List ℕ) (b : Built c words) where
       (left_whole c words v.place _ (save c r (home c r t)) l) in
       let flagged = flags z.view (λ q is. let still = z.still q is
       in (still.0, still.1, ap (value_of c r f (machine_of z.view)) (sym is) ∙ z.settled.here)) in
-      arrive_way (record s { current = giving t x s.current }) m z.view z.way
-      (arrive_here p (record s { current = giving t x s.current }) z.way.to z.view f z.way.shows (record {
+      arrive_way c words b (record s { current = giving t x s.current }) m z.view z.way
+      (arrive_here c words b p (record s { current = giving t x s.current }) z.way.to z.view f z.way.shows (record {
         related = related_gives c b.laid b.placed p s m0 (machine_of z.view) f t x h g good z.settled;
         place = z.place ∙ sym l.ends;
         input = bytes;
@@ -449,8 +292,8 @@ module _ (c : Context) (words : List ℕ) (b : Built c words) where
       let r = s.current.routine in
       let z = receive_run c words b.stood b.laid b.placed r f (framed p s m0 f h) t
       (word c p x) [] _ m0 m v sh h.stack a (left_whole c words v.place _ (receive c r (home c r t)) l) in
-      arrive_to (record s { current = giving t x s.current }) m z.view z.to
-      (arrive_here p (record s { current = giving t x s.current }) z.to.to z.view f z.to.shows (record {
+      arrive_to c words b (record s { current = giving t x s.current }) m z.view z.to
+      (arrive_here c words b p (record s { current = giving t x s.current }) z.to.to z.view f z.to.shows (record {
         related = related_gives c b.laid b.placed p s m0 (machine_of z.view) f t x h g good z.settled;
         place = z.place ∙ sym l.ends;
         input = bytes;
@@ -464,7 +307,7 @@ module _ (c : Context) (words : List ℕ) (b : Built c words) where
       → Settled c s.current.routine f (home c s.current.routine t) (word c p x) m0 (machine_of v) → v.place
       ≡ c.site s.current.routine (suc s.current.place) → Arrives c words (record s { current = giving t x s.current }) m
   settles_end p s m0 f t x m v h bytes g silent good sh d e =
-      arrive_here p (record s { current = giving t x s.current }) m v f sh (record {
+      arrive_here c words b p (record s { current = giving t x s.current }) m v f sh (record {
         related = related_gives c b.laid b.placed p s m0 (machine_of v) f t x h g good d;
         place = e;
         input = bytes;

@@ -28,8 +28,10 @@ use Rattle.risc_emit_forms.specs.Forms.{fetched, target, save, device}
 use Rattle.risc_emit_forms.specs.Follows.{machine_of, Built, Belongs, Comes, Stops, Follows, tape_of}
 use Rattle.risc_emit_forms.proofs.Basics.{left_after, left_next, is_read, passes, writes_it, among_first}
 use Rattle.risc_emit_forms.proofs.Flags.{silent}
-use Rattle.risc_emit_forms.proofs.Runs.{step_to, fetched_not, target_not}
-use Rattle.risc_emit_forms.proofs.Comes.{framed, test_failing, come_to, come_way, stop_to, Arrives, goes_end, gives_end}
+use Rattle.risc_emit_forms.proofs.Runs.{step_to}
+use Rattle.risc_emit_forms.proofs.Fetches.{fetched_not, target_not}
+use Rattle.risc_emit_forms.proofs.Comes.{framed, test_failing, goes_end, gives_end}
+use Rattle.risc_emit_forms.proofs.Joins.{come_to, come_way, stop_to, Arrives}
 use Rattle.risc_emit_forms.proofs.Comes.{test_walked}
 use Rattle.risc_emit_forms.proofs.Operands.{code, one_run}
 

@@ -41,8 +41,10 @@ use Rattle.risc_emit_forms.specs.Forms.{quotient_by_negative}
 use Rattle.risc_emit_forms.specs.Follows.{machine_of, Built, Belongs, Comes, Follows}
 use Rattle.risc_emit_forms.proofs.Basics.{left_after, left_next, is_read, writes_it, among_first, among_rest}
 use Rattle.risc_emit_forms.proofs.Basics.{integer_is}
-use Rattle.risc_emit_forms.proofs.Runs.{Moved, step_to, number_run, fetch_run, fetched_not}
-use Rattle.risc_emit_forms.proofs.Comes.{framed, fetched_is, come_to, come_step, fails_not, fails_walked, walk_near}
+use Rattle.risc_emit_forms.proofs.Runs.{Moved, step_to, number_run}
+use Rattle.risc_emit_forms.proofs.Fetches.{fetch_run, fetched_not}
+use Rattle.risc_emit_forms.proofs.Comes.{framed, fails_not, fails_walked, walk_near}
+use Rattle.risc_emit_forms.proofs.Joins.{fetched_is, come_to, come_step}
 use Rattle.risc_emit_forms.proofs.Comes.{tells_end}
 use Rattle.risc_emit_forms.proofs.Operands.{code, stands_in, one_run, brought_run}
 use Rattle.risc_emit_forms.proofs.Compares.{differs}

@@ -1,28 +1,24 @@
--- The entry of a routine: the test of the stack, the frame, the parameters.
-use Rattle.std.proofs.Common.{◌≡◌, ◌≢◌, ℕ, suc, ◌+◌, ◌-◌, ◌*◌, ◌%◌, ◌^◌, ◌<◌, ◌≤◌, ◌⊎◌, inl, inr, ⊎_elim, Bool, true}
-use Rattle.std.proofs.Common.{false, cond, ◌&&◌, nat_lt, List, [], ◌∷◌, ◌++◌, length, Some, slice_get, ℤ, pos, ◌-ℤ◌}
-use Rattle.std.proofs.Common.{refl, sym, ap, ◌∙◌, subst, arith}
-use Rattle.std.specs.Prelude.{int_lt, ◌≤ℤ◌, ◌<ℤ◌}
+-- The entry of a routine, up to its first instruction.
+use Rattle.std.proofs.Common.{◌≡◌, ◌≢◌, ℕ, suc, ◌+◌, ◌-◌, ◌*◌, ◌%◌, ◌<◌, ◌≤◌, ◌⊎◌, inl, inr, ⊎_elim, Bool, true, false}
+use Rattle.std.proofs.Common.{cond, ◌&&◌, nat_lt, List, [], ◌∷◌, length, Some, slice_get, pos, ◌-ℤ◌, refl, sym, ap}
+use Rattle.std.proofs.Common.{◌∙◌, subst, arith}
 use Rattle.std.proofs.lemmas.Int.{ints}
 use Rattle.std.proofs.lemmas.Bool.{ltb-true}
 use Rattle.behavior.specs.Endings.{Stack}
-use Rattle.risc_word.specs.declared.instr.Operation.TheVariants as op
-use Rattle.risc_word.specs.declared.instr.Operand.TheVariants.{Content, Constant}
+use Rattle.risc_word.specs.declared.instr.Operand.TheVariants.{Content}
 use Rattle.risc_word.specs.declared.instr.Width.TheVariants.{Word}
 use Rattle.risc_word.specs.declared.instr.Condition.{Condition}
 use Rattle.risc_word.specs.declared.instr.Condition.TheVariants as on
 use Rattle.risc_word.specs.declared.instr.Instr.TheVariants as word
 use Rattle.risc_machine.specs.Step as machine
-use Rattle.risc_machine.specs.Step.{word_of_int, differ}
-use Rattle.risc_machine_laws.specs.View.{View, Shows, IsReadable, IsWritable, after, at_view, holds_view}
-use Rattle.risc_machine_laws.specs.Runs.{To, same_tape}
-use Rattle.risc_machine_laws.specs.Numbers.{IsNumber}
+use Rattle.risc_machine.specs.Step.{word_of_int}
+use Rattle.risc_machine_laws.specs.View.{View, Shows, IsWritable, after, at_view, holds_view}
+use Rattle.risc_machine_laws.specs.Runs.{same_tape}
 use Rattle.risc_machine_laws.proofs.Runs.{to_join}
 use Rattle.tac_code.specs.declared.code.Value.{Value}
 use Rattle.tac_code.specs.declared.code.TacRoutine.{TacRoutine}
 use Rattle.tac_code.specs.Meaning.{State, Goes, Over, onward, entered, is_full, routines}
-use Rattle.risc_emit_relation.specs.Context.{Context, home, leads, writes, called, IsAlive, is_program, cost, Places}
-use Rattle.risc_emit_relation.specs.Context.{IsValue}
+use Rattle.risc_emit_relation.specs.Context.{Context, leads, writes, called, is_program, Places, IsValue}
 use Rattle.risc_emit_relation.specs.Context as ctx
 use Rattle.risc_emit_relation.specs.Related.{Machine, Related, owner_of}
 use Rattle.risc_emit_relation.specs.Changes.{entered_places, Entering}
@@ -32,152 +28,19 @@ use Rattle.risc_emit_relation.proofs.Calls.{related_enters}
 use Rattle.risc_emit_relation.proofs.Walk.{stack_exact}
 use Rattle.risc_emit_forms.specs.Pieces.{Piece, Plain, Fails, Left}
 use Rattle.risc_emit_forms.specs.Forms as form
-use Rattle.risc_emit_forms.specs.Forms.{constant, frame_below, enter_form, join_form, is_entered, entry_form}
-use Rattle.risc_emit_forms.specs.Follows.{machine_of, Stood, Built, Belongs, Comes, Stops, Follows}
-use Rattle.risc_emit_forms.proofs.Basics.{left_after, left_next, left_at}
+use Rattle.risc_emit_forms.specs.Forms.{enter_form, join_form, is_entered, entry_form}
+use Rattle.risc_emit_forms.specs.Follows.{machine_of, Built, Belongs, Comes, Stops, Follows}
+use Rattle.risc_emit_forms.proofs.Basics.{left_next, left_at}
 use Rattle.risc_emit_forms.proofs.Flags.{entered_silent}
-use Rattle.risc_emit_forms.proofs.Runs.{Moved, step_to, constant_run}
-use Rattle.risc_emit_forms.proofs.Comes.{Arrives, come_to, arrive_to, arrive_way, arrive_here, stop_to, walk_near}
+use Rattle.risc_emit_forms.proofs.Runs.{step_to}
+use Rattle.risc_emit_forms.proofs.Joins.{Arrives, come_to, arrive_to, arrive_way, arrive_here, stop_to}
+use Rattle.risc_emit_forms.proofs.Comes.{walk_near}
 use Rattle.risc_emit_forms.proofs.Comes.{fails_walked, fails_not}
-use Rattle.risc_emit_forms.proofs.Compares.{differs}
-use Rattle.risc_emit_forms.proofs.Passing.{related_passed, Offered, arrive_run}
+use Rattle.risc_emit_forms.proofs.Passing.{related_passed}
+use Rattle.risc_emit_forms.proofs.Spills.{Offered}
+use Rattle.risc_emit_forms.proofs.Parameters.{arrive_run}
 use Rattle.risc_emit_forms.proofs.Returns.{framed_at}
-
-less_true : (x y : ℤ) → x <ℤ y → int_lt x y ≡ true
-less_true x y h = grind (arith, ints)
-
-less_false : (x y : ℤ) → y ≤ℤ x → int_lt x y ≡ false
-less_false x y h = grind (arith, ints)
-
-is_lt : (x y : ℕ) → x < y → nat_lt x y ≡ true
-is_lt x y h = grind arith
-
-not_lt : (x y : ℕ) → y ≤ x → nat_lt x y ≡ false
-not_lt x y h = grind arith
-
-lt_or_ge : (x y : ℕ) → (x < y) ⊎ (y ≤ x)
-lt_or_ge x y = grind arith
-
--- a frame that begins below the base of the stack
-pub below_is : (f n base : ℕ) → int_lt (pos f -ℤ pos n) (pos base) ≡ nat_lt f (base + n)
-below_is f n base = go (lt_or_ge f (base + n))
-  where
-    go : (f < base + n) ⊎ (base + n ≤ f) → int_lt (pos f -ℤ pos n) (pos base) ≡ nat_lt f (base + n)
-    go (inl lt) = less_true (pos f -ℤ pos n) (pos base) (omega (arith, ints, lt)) ∙ sym (is_lt f (base + n) lt)
-    go (inr le) = less_false (pos f -ℤ pos n) (pos base) (omega (arith, ints, le)) ∙ sym (not_lt f (base + n) le)
-
-module _ (c : Context) (words : List ℕ) (stood : Stood c words) where
-  -- R12 takes the address n bytes below R14
-  pub frame_run : (n f : ℕ) (ps : List Piece) (next : ℕ) (m : machine.State) (v : View) → Shows words c.size m v
-      → v.registers 14 ≡ f → f < 16777216 → n < 16777216 → Left c words v.place (frame_below c 0 n ++ ps) next
-      → (w : View) × (t : To words c.size m same_tape w) × (w.registers 12 ≡ word_of_int (pos f -ℤ pos n))
-      × Moved 12 v w × (w.place ≡ v.place + length (frame_below c 0 n))
-  frame_run n f ps next m v sh e14 hf hn l = go (nat_lt n 65536) l
-    where
-      go : (small : Bool) → Left c words v.place
-          (cond small (Plain (word.Operate op.Sub 12 14 (Constant (pos n))) ∷ [])
-          (constant 12 n ++ Plain (word.Operate op.Sub 12 14 (Content 12)) ∷ []) ++ ps) next → (w : View)
-          × (t : To words c.size m same_tape w) × (w.registers 12 ≡ word_of_int (pos f -ℤ pos n)) × Moved 12 v w
-          × (w.place ≡ v.place + length (cond small (Plain (word.Operate op.Sub 12 14 (Constant (pos n))) ∷ [])
-          (constant 12 n ++ Plain (word.Operate op.Sub 12 14 (Content 12)) ∷ [])))
-      go true l =
-          let i = word.Operate op.Sub 12 14 (Constant (pos n)) in (
-            after i v,
-            step_to c words stood i m v sh l.stands.0 tt,
-            difference (v.registers 14) e14,
-            record {
-              registers = λ q ne. update_other v.registers 12 _ q ne;
-              words = λ a. refl;
-              high = refl;
-            },
-            refl,
-          )
-        where
-          difference : (x : ℕ) → x ≡ f → (x + 2 ^ 33 - word_of_int (pos n) - 0) % 2 ^ 32 ≡ word_of_int (pos f -ℤ pos n)
-          difference x e = omega (arith, ints, e, hf, hn)
-      go false l =
-          let i = word.Operate op.Sub 12 14 (Content 12) in
-          let g = constant_run c words stood 12 n (Plain i ∷ ps) next m v sh (omega (arith, hn)) l in
-          let v1 = g.view in
-          let l1 = left_after c words v.place v1.place next (constant 12 n) (Plain i ∷ ps) l g.place in
-          let t2 = step_to c words stood i g.to.to v1 g.to.shows l1.stands.0 tt in
-          let v2 = after i v1 in (
-            v2,
-            to_join words c.size m same_tape same_tape v1 v2 g.to t2,
-            difference (v1.registers 14) (v1.registers 12) (g.moved.registers 14 (omega arith) ∙ e14) g.value,
-            record {
-              registers = λ q ne. update_other v1.registers 12 _ q ne ∙ g.moved.registers q ne;
-              words = g.moved.words;
-              high = g.moved.high;
-            },
-            omega (arith, g.place),
-          )
-        where
-          difference : (x y : ℕ) → x ≡ f → y ≡ n → (x + 2 ^ 33 - y - 0) % 2 ^ 32 ≡ word_of_int (pos f -ℤ pos n)
-          difference x y e e' = omega (arith, ints, e, e', hf, hn)
-
-module _ (c : Context) (words : List ℕ) (b : Built c words) where
-  -- the test of the stack, up to the branch
-  pub record Tested (n f : ℕ) (ps : List Piece) (next : ℕ) (m : machine.State) (v : View) : Type 0 where
-    pub view : View
-    pub to : To words c.size m same_tape view
-    pub frame : view.registers 12 ≡ word_of_int (pos f -ℤ pos n)
-    pub less : differ view.negative view.overflow ≡ nat_lt f (c.base + n)
-    pub registers : (q : ℕ) → q ≢ 11 → q ≢ 12 → view.registers q ≡ v.registers q
-    pub memory : (a : ℕ) → view.words a ≡ v.words a
-    pub left : Left c words view.place ps next
-
-  pub test_run : (n f : ℕ) (ps : List Piece) (next : ℕ) (m : machine.State) (v : View) → Shows words c.size m v
-      → v.registers 14 ≡ f → v.registers 13 ≡ c.bottom → v.words (c.bottom + 268) ≡ c.base → f < 16777216 → n < 16777216
-      → Left c words v.place (frame_below c 0 n
-      ++ (Plain (word.Load Word 11 13 (pos 268)) ∷ Plain (word.Operate op.Sub 11 12 (Content 11)) ∷ ps)) next
-      → Tested n f ps next m v
-  test_run n f ps next m v sh e14 e13 lim hf hn l =
-      let i2 = word.Load Word 11 13 (pos 268) in
-      let i3 = word.Operate op.Sub 11 12 (Content 11) in
-      let g = frame_run c words b.stood n f (Plain i2 ∷ Plain i3 ∷ ps) next m v sh e14 hf hn l in
-      let v1 = g.0 in
-      let t1 = g.1 in
-      let l1 = left_after c words v.place v1.place next (frame_below c 0 n) (Plain i2 ∷ Plain i3 ∷ ps) l g.4 in
-      let pr = b.laid.program 0 b.laid.first in
-      let e13' : v1.registers 13 ≡ c.bottom = g.3.registers 13 (omega arith) ∙ e13 in
-      let r0 = b.laid.slots_before 0 in
-      let r1 = b.laid.frame_before 0 in
-      let r2 = b.laid.scratch_before 0 in
-      let wh = b.laid.whole 0 in
-      let ok : IsReadable c.size (v1.registers 13 + 268) = record {
-        aligned = omega (arith, e13', b.laid.bottom, wh, b.laid.even.2);
-        high = omega (arith, e13', b.laid.bottom, pr.1, pr.2, r0, r1, r2);
-      } in
-      let t2 = step_to c words b.stood i2 t1.to v1 t1.shows l1.stands.0 (tt, ok) in
-      let v2 = after i2 v1 in
-      let e11 : v2.registers 11 ≡ c.base = g.3.words _ ∙ ap (λ z. v.words (z + 268)) e13' ∙ lim in
-      let t3 = step_to c words b.stood i3 t2.to v2 t2.shows l1.stands.2.0 tt in
-      let v3 = after i3 v2 in
-      let low : c.base < 16777216 = omega (arith, b.laid.order.2, b.laid.order.3) in
-      let d = differs 11 12 (Content 11) (pos f -ℤ pos n) (pos c.base) v2 (number_is hf hn) (small c.base low) g.2
-      (e11 ∙ small_word c.base low) in
-      record {
-        view = v3;
-        to = to_join words c.size m same_tape same_tape v1 v3 t1
-            (to_join words c.size t1.to same_tape same_tape v2 v3 t2 t3);
-        frame = g.2;
-        less = d.less ∙ below_is f n c.base;
-        registers = λ q n11 n12. update_other v2.registers 11 _ q n11 ∙ update_other v1.registers 11 _ q n11
-            ∙ g.3.registers q n12;
-        memory = g.3.words;
-        left = left_next c words v2.place next (Plain i3) ps
-            (left_next c words v1.place next (Plain i2) (Plain i3 ∷ ps) l1);
-      }
-    where
-      number_is : f < 16777216 → n < 16777216 → IsNumber (pos f -ℤ pos n)
-      number_is hf hn = (omega (arith, ints, hf, hn), omega (arith, ints, hf, hn))
-
-      small : (x : ℕ) → x < 16777216 → IsNumber (pos x)
-      small x h = (omega (arith, ints, h), omega (arith, ints, h))
-
-      small_word : (x : ℕ) → x < 16777216 → x ≡ word_of_int (pos x)
-      small_word x h = omega (arith, ints, h)
+use Rattle.risc_emit_forms.proofs.StackTests.{Tested, is_lt, test_run}
 
 -- ---- entries
 

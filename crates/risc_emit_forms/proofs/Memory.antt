@@ -1,55 +1,52 @@
--- Words and bytes loaded and stored by address, and addresses.
-use Rattle.std.proofs.Common.{◌≡◌, ◌≢◌, ℕ, zero, suc, ◌+◌, ◌-◌, ◌*◌, ◌/◌, ◌%◌, ◌^◌, ◌<◌, Bool, true, false, cond}
-use Rattle.std.proofs.Common.{nat_eq, nat_lt, nat_le, List, [], ◌∷◌, ◌++◌, length, Option, Some, None, slice_get, ℤ}
-use Rattle.std.proofs.Common.{pos, negsuc, ◌+ℤ◌, refl, sym, ap, ◌∙◌, subst, arith, length-append, append_assoc}
+-- Words and bytes loaded and stored by address.
+use Rattle.std.proofs.Common.{◌≡◌, ℕ, zero, suc, ◌+◌, ◌-◌, ◌*◌, ◌/◌, ◌%◌, ◌^◌, ◌<◌, true, cond, nat_eq, nat_le, List}
+use Rattle.std.proofs.Common.{[], ◌∷◌, ◌++◌, length, Option, Some, None, slice_get, ℤ, pos, negsuc, ◌+ℤ◌, refl, sym, ap}
+use Rattle.std.proofs.Common.{◌∙◌, subst, arith, length-append, append_assoc}
 use Rattle.std.specs.Prelude.{◌≤ℤ◌}
 use Rattle.std.proofs.lemmas.Int.{ints, of_z-to_z}
 use Rattle.std.specs.Int.{w32}
-use Rattle.risc_word.specs.declared.instr.Operation.TheVariants as op
-use Rattle.risc_word.specs.declared.instr.Operand.TheVariants as instr
 use Rattle.risc_word.specs.declared.instr.Width.TheVariants.{Word, Byte}
 use Rattle.risc_word.specs.declared.instr.Instr.TheVariants as word
 use Rattle.risc_machine.specs.Step as machine
-use Rattle.risc_machine.specs.Step.{word_of_int}
-use Rattle.risc_machine_laws.specs.View.{View, Shows, IsReadable, IsWritable, after, word_place}
-use Rattle.risc_machine_laws.specs.View.{IsWordOffset, reached}
+use Rattle.risc_machine_laws.specs.View.{View, Shows, IsReadable, IsWritable, after, word_place, IsWordOffset, reached}
 use Rattle.risc_machine_laws.specs.View as view
 use Rattle.risc_machine_laws.specs.Runs.{Way, same_tape}
-use Rattle.risc_machine_laws.proofs.Runs.{to_join, way_of, way_then, way_here}
+use Rattle.risc_machine_laws.proofs.Runs.{way_then}
 use Rattle.risc_machine_laws.proofs.View.{word_in_code}
 use Rattle.risc_machine_laws.proofs.Numbers.{word_narrow}
 use Rattle.tac_code.specs.declared.code.Block.{Block}
-use Rattle.tac_code.specs.declared.code.Block.TheVariants as blocks
 use Rattle.tac_code.specs.declared.code.Value.{Value}
 use Rattle.tac_code.specs.declared.code.Value.TheVariants.{Number, Address}
 use Rattle.tac_code.specs.declared.code.Base.{Base}
 use Rattle.tac_code.specs.declared.code.Base.TheVariants as base
-use Rattle.tac_code.specs.declared.code.Instruction.TheVariants.{Offset, Load, Store, LoadByte, StoreByte}
+use Rattle.tac_code.specs.declared.code.Instruction.TheVariants.{Load, Store, LoadByte, StoreByte}
 use Rattle.tac_code.specs.Numbers.{word_of, number_of}
-use Rattle.tac_code.specs.Memory.{Living, Memory, constant_words, constant_at, load, load_byte, store, store_byte}
-use Rattle.tac_code.specs.Meaning.{fetch, text_at, Activation, State, onward, giving, base_value}
-use Rattle.risc_alloc.specs.Flow.{in_base, is_among}
-use Rattle.risc_emit_relation.specs.Context.{Context, home, reads, Places, place, IsNumber, IsNamed, IsValue}
+use Rattle.tac_code.specs.Memory.{Memory, constant_words, constant_at, load, load_byte, store, store_byte}
+use Rattle.tac_code.specs.Meaning.{fetch, text_at, State, onward, giving, base_value}
+use Rattle.risc_alloc.specs.Flow.{in_base}
+use Rattle.risc_emit_relation.specs.Context.{Context, home, reads, Places, place, IsNumber, IsValue}
 use Rattle.risc_emit_relation.specs.Context as related
-use Rattle.risc_emit_relation.specs.Related.{Owner, owner_of, Open, value_of, Related}
+use Rattle.risc_emit_relation.specs.Related.{value_of, Related}
 use Rattle.risc_emit_relation.specs.Changes.{update, Near, ConstantsStand, IsStored, IsByteStored}
 use Rattle.risc_emit_relation.proofs.Basics.{update_same, update_other}
 use Rattle.risc_emit_relation.proofs.Kept.{load_found, load_byte_found, store_kept, store_byte_kept}
 use Rattle.risc_emit_relation.proofs.Steps.{home_read, value_near, related_stores}
 use Rattle.risc_emit_forms.specs.Pieces.{Piece, Plain, Left}
 use Rattle.risc_emit_forms.specs.Forms as form
-use Rattle.risc_emit_forms.specs.Forms.{is_near, constant, fetched, target, save, word_form, base_code, base_register}
-use Rattle.risc_emit_forms.specs.Forms.{base_offset, reach, reach_register, reach_offset, load_form, store_form}
-use Rattle.risc_emit_forms.specs.Forms.{address}
+use Rattle.risc_emit_forms.specs.Forms.{constant, fetched, target, save, word_form, reach, reach_register, reach_offset}
 use Rattle.risc_alloc.specs.declared.homes.Home.TheVariants.{Reg}
 use Rattle.risc_emit_forms.specs.Told.{bent_at}
 use Rattle.risc_emit_forms.specs.Follows.{machine_of, unbent, Stood, Built, Meets, Belongs, Comes}
 use Rattle.risc_emit_forms.proofs.Basics.{left_after, left_at, left_next, is_read, passes, writes_it, among_first}
 use Rattle.risc_emit_forms.proofs.Basics.{among_rest}
-use Rattle.risc_emit_forms.proofs.Flags.{silent, IsLoad}
-use Rattle.risc_emit_forms.proofs.Runs.{Aside, step_to, constant_run, fetch_run, fetched_not}
-use Rattle.risc_emit_forms.proofs.Comes.{framed, come_to, come_way, arrive_to, arrive_here, gives_end, tells_end}
-use Rattle.risc_emit_forms.proofs.Operands.{code, one_run, stands_in}
+use Rattle.risc_emit_forms.proofs.Flags.{silent}
+use Rattle.risc_emit_forms.proofs.Shortfalls.{IsLoad}
+use Rattle.risc_emit_forms.proofs.Runs.{Aside, step_to}
+use Rattle.risc_emit_forms.proofs.Fetches.{fetch_run}
+use Rattle.risc_emit_forms.proofs.Comes.{framed, tells_end}
+use Rattle.risc_emit_forms.proofs.Joins.{come_to, come_way, arrive_here}
+use Rattle.risc_emit_forms.proofs.Operands.{code, stands_in}
+use Rattle.risc_emit_forms.proofs.Bases.{ReadsBase, reach_run}
 
 -- ---- constants
 
@@ -99,193 +96,7 @@ constants_stand c words stood p m v sh r k ws e =
 read_back : (n : ℕ) → n < 4294967296 → word_of (number_of n) ≡ n
 read_back n lt = of_z-to_z w32 n lt
 
--- the innermost activation's blocks
-pub record Innermost (c : Context) (p : Places) (w : ℕ → ℕ) (f : ℕ) (y : Owner) : Type 0 where
-  pub frame : p.frame y.number ≡ f + c.frame_at y.routine
-  pub scratch : p.scratch y.number ≡ f + c.scratch_at y.routine
-  pub named : y.number < p.activations
-
-pub innermost : (c : Context) (p : Places) (w : ℕ → ℕ) (f : ℕ) (y : Owner) (xs : List Activation) (bs ds : List Living)
-    → Open c p w f y xs bs ds → Innermost c p w f y
-innermost c p w f y xs [] ds h = absurd h
-innermost c p w f y xs (b ∷ bs) [] h = absurd h
-innermost c p w f y [] (b ∷ bs) (d ∷ ds) h =
-    record { frame = h.0.frame_place; scratch = h.0.scratch_place; named = h.0.named }
-innermost c p w f y (x ∷ xs) (b ∷ bs) (d ∷ ds) h =
-    record { frame = h.0.frame_place; scratch = h.0.scratch_place; named = h.0.named }
-
 module _ (c : Context) (words : List ℕ) (b : Built c words) (p : Places) (s : State) (f : ℕ) (m : machine.State) (v : View) (sh : Shows words c.size m v) (be : Belongs c words p s v f) where
-  -- ---- bases
-
-  abbrev pub ReadsBase : Base → Type 0
-  ReadsBase a = (u : ℕ) → is_among u (in_base a) ≡ true → reads c s.current.routine s.current.place u ≡ true
-
-  pub record Based (a : Base) (n len : ℕ) (block : Block) (offset : ℕ) : Type 0 where
-    pub view : View
-    pub way : Way words c.size m same_tape view
-    pub good : IsValue c p (Address block offset)
-    pub at : view.registers (base_register c s.current.routine a) + base_offset c s.current.routine a n
-        ≡ place c p block + offset + n
-    pub apart : base_register c s.current.routine a ≢ 15
-    pub near : Near (machine_of v) (machine_of view)
-    pub place : view.place ≡ v.place + len
-
-  still : Near (machine_of v) (machine_of v)
-  still = record { registers = λ q n12 n15. refl; words = λ a. refl }
-
-  pub base_run : (a : Base) (n : ℕ) (block : Block) (offset : ℕ) (ps : List Piece) (next : ℕ) → ReadsBase a
-      → base_value s.current a ≡ Some (Address block offset) → Left c words v.place
-      (base_code c s.current.routine a ++ ps) next → Based a n (length (base_code c s.current.routine a)) block offset
-  base_run base.Frame n block offset ps next r e l =
-      let own = innermost c p v.words f (owner_of s.current) s.callers s.memory.frames s.memory.scratch
-      be.related.held.frames in
-      let same : Address (blocks.Frame s.current.number) 0 ≡ Address block offset = cc e in
-      let st = be.related.stack in
-      let at : v.registers 14 + (c.frame_at s.current.routine + n) ≡ p.frame s.current.number + 0 + n = omega
-      (arith, st, own.frame) in
-      record {
-        view = v;
-        way = way_here words c.size m v sh;
-        good = subst (IsValue c p) same (own.named, omega arith);
-        at = at ∙ ap (λ x. x + n) (ap (related.word c p) same);
-        apart = omega arith;
-        near = still;
-        place = omega arith;
-      }
-  base_run base.Scratch n block offset ps next r e l =
-      let own = innermost c p v.words f (owner_of s.current) s.callers s.memory.frames s.memory.scratch
-      be.related.held.frames in
-      let same : Address (blocks.Scratch s.current.number) 0 ≡ Address block offset = cc e in
-      let st = be.related.stack in
-      let at : v.registers 14 + (c.scratch_at s.current.routine + n) ≡ p.scratch s.current.number + 0 + n = omega
-      (arith, st, own.scratch) in
-      record {
-        view = v;
-        way = way_here words c.size m v sh;
-        good = subst (IsValue c p) same (own.named, omega arith);
-        at = at ∙ ap (λ x. x + n) (ap (related.word c p) same);
-        apart = omega arith;
-        near = still;
-        place = omega arith;
-      }
-  base_run base.Program n block offset ps next r e l =
-      let same : Address (blocks.Frame 0) 0 ≡ Address block offset = cc e in
-      let gl = be.related.globals in
-      let at : v.registers 13 + (c.frame_at 0 + n) ≡ p.frame 0 + 0 + n = omega (arith, gl, be.related.held.program) in
-      record {
-        view = v;
-        way = way_here words c.size m v sh;
-        good = subst (IsValue c p) same (be.related.held.some, omega arith);
-        at = at ∙ ap (λ x. x + n) (ap (related.word c p) same);
-        apart = omega arith;
-        near = still;
-        place = omega arith;
-      }
-  base_run (base.Temporary t) n block offset ps next r e l =
-      let g = one_run c words b p s f m v sh be 12 t (Address block offset) ps next (omega arith)
-      (r t (among_first t [])) e l in
-      record {
-        view = g.view;
-        way = g.way;
-        good = g.good;
-        at = ap (λ x. x + n) g.value;
-        apart = fetched_not c words b.stood b.laid b.placed s.current.routine f
-            (framed c words b p s (machine_of v) f be.related) 12 t 15 (omega arith) (omega arith);
-        near = record { registers = λ q n12 n15. g.moved.registers q n12; words = g.moved.words };
-        place = g.place;
-      }
-
-  -- an address within the reach of a load or a store
-  pub record Reaches (a : Base) (n len : ℕ) (block : Block) (offset : ℕ) : Type 0 where
-    pub view : View
-    pub way : Way words c.size m same_tape view
-    pub good : IsValue c p (Address block offset)
-    pub at : view.registers (reach_register c s.current.routine a n) + reach_offset c s.current.routine a n
-        ≡ place c p block + (offset + n)
-    pub apart : reach_register c s.current.routine a n ≢ 15
-    pub near : Near (machine_of v) (machine_of view)
-    pub place : view.place ≡ v.place + len
-
-  pub reach_run : (a : Base) (n : ℕ) (block : Block) (offset : ℕ) (ps : List Piece) (next : ℕ) → ReadsBase a
-      → base_value s.current a ≡ Some (Address block offset) → place c p block + (offset + n) < 4294967296
-      → Left c words v.place (reach c s.current.routine a n ++ ps) next → Reaches a n
-      (length (reach c s.current.routine a n)) block offset
-  reach_run a n block offset ps next r e low l = go (is_near (base_offset c s.current.routine a n)) refl l
-    where
-      off : ℕ
-      off = base_offset c s.current.routine a n
-
-      go : (close : Bool) → is_near (base_offset c s.current.routine a n) ≡ close → Left c words v.place
-          (cond close (base_code c s.current.routine a)
-          (base_code c s.current.routine a ++ (constant 15 (base_offset c s.current.routine a n) ++ Plain
-          (word.Operate op.Add 12 (base_register c s.current.routine a) (instr.Content 15)) ∷ [])) ++ ps) next
-          → Reaches a n (length (reach c s.current.routine a n)) block offset
-      go true is l =
-          let g = base_run a n block offset ps next r e l in
-          record {
-            view = g.view;
-            way = g.way;
-            good = g.good;
-            at = ap (λ t. g.view.registers (cond t (base_register c s.current.routine a) 12) + cond t
-                (base_offset c s.current.routine a n) 0) is ∙ g.at ∙ sums (place c p block);
-            apart = λ z. g.apart (sym (ap (λ t. cond t (base_register c s.current.routine a) 12) is) ∙ z);
-            near = g.near;
-            place = g.place ∙ ap (λ t. v.place + length
-                (cond t (base_code c s.current.routine a)
-                (base_code c s.current.routine a ++ (constant 15 (base_offset c s.current.routine a n) ++ Plain
-                (word.Operate op.Add 12 (base_register c s.current.routine a) (instr.Content 15)) ∷ [])))) (sym is);
-          }
-        where
-          sums : (x : ℕ) → x + offset + n ≡ x + (offset + n)
-          sums x = omega arith
-      go false is l =
-          let rr = s.current.routine in
-          let o = base_offset c rr a n in
-          let q = base_register c rr a in
-          let i = word.Operate op.Add 12 q (instr.Content 15) in
-          let l0 = subst (λ x. Left c words v.place x next)
-          (append_assoc (base_code c rr a) (constant 15 o ++ Plain i ∷ []) ps) l in
-          let g = base_run a n block offset (constant 15 o ++ (Plain i ∷ ps)) next r e l0 in
-          let v1 = g.view in
-          let l1 = left_after c words v.place v1.place next (base_code c rr a)
-          (constant 15 o ++ (Plain i ∷ ps)) l0 g.place in
-          let k = constant_run c words b.stood 15 o (Plain i ∷ ps) next g.way.to v1 g.way.shows
-          (omega (arith, g.at, low)) l1 in
-          let v2 = k.view in
-          let l2 = left_after c words v1.place v2.place next (constant 15 o) (Plain i ∷ ps) l1 k.place in
-          let t3 = step_to c words b.stood i k.to.to v2 k.to.shows l2.stands.0 tt in
-          let v3 = after i v2 in
-          let eq : v2.registers q ≡ v1.registers q = k.moved.registers q g.apart in
-          let is12 : v3.registers 12 ≡ place c p block + (offset + n) = sum (v2.registers q) (v2.registers 15)
-          (v1.registers q) o eq k.value g.at in
-          record {
-            view = v3;
-            way = way_then words c.size m same_tape same_tape v1 v3 g.way
-                (way_of words c.size g.way.to same_tape v3
-                (to_join words c.size g.way.to same_tape same_tape v2 v3 k.to t3));
-            good = g.good;
-            at = ap (λ t. v3.registers (cond t q 12) + cond t o 0) is ∙ plus_zero (v3.registers 12) ∙ is12;
-            apart = twelve _ (ap (λ t. cond t q 12) is);
-            near = record {
-              registers = λ x n12 n15. update_other v2.registers 12 _ x n12 ∙ k.moved.registers x n15
-                  ∙ g.near.registers x n12 n15;
-              words = λ x. k.moved.words x ∙ g.near.words x;
-            };
-            place = let z = ap (λ t. length (cond t (base_code c rr a)
-                (base_code c rr a ++ (constant 15 o ++ Plain i ∷ [])))) is in let len = length-append (base_code c rr a)
-                (constant 15 o ++ Plain i ∷ []) in omega (arith, g.place, k.place, z, len);
-          }
-        where
-          plus_zero : (x : ℕ) → x + 0 ≡ x
-          plus_zero x = omega arith
-
-          twelve : (x : ℕ) → x ≡ 12 → x ≢ 15
-          twelve x e z = omega (arith, e, z)
-
-          sum : (x y x' y' : ℕ) → x ≡ x' → y ≡ y' → x' + y' ≡ place c p block + offset + n → (x + y + 0) % 2 ^ 32
-              ≡ place c p block + (offset + n)
-          sum x y x' y' e e' e'' = omega (arith, e, e', e'', low)
-
   -- ---- words
 
   pub load_follows : (t : ℕ) (a : Base) (n : ℕ) (block : Block) (offset : ℕ) (x : Value)
@@ -303,7 +114,8 @@ module _ (c : Context) (words : List ℕ) (b : Built c words) (p : Places) (s : 
       let i = word.Load Word (target c r h) q (pos o) in
       let found = load_found c b.laid p s v.words f block (offset + n) x be.related.held
       (constants_stand c words b.stood p m v sh) el in
-      let g = reach_run a n block offset (Plain i ∷ save c r h) _ (λ u e. is_read c r k (Load t a n) here u e) ea
+      let g = reach_run c words b p s f m v sh be a n block offset (Plain i ∷ save c r h) _
+      (λ u e. is_read c r k (Load t a n) here u e) ea
       (omega (arith, found.high, b.laid.order.3)) l in
       let v1 = g.view in
       let l1 = left_after c words v.place v1.place _ (reach c r a n) (Plain i ∷ save c r h) l g.place in
@@ -336,7 +148,8 @@ module _ (c : Context) (words : List ℕ) (b : Built c words) (p : Places) (s : 
     pub place : view.place ≡ v.place + len
 
   pub ready_run : (a : Base) (n u : ℕ) (block : Block) (offset : ℕ) (x : Value) (ps : List Piece) (next : ℕ)
-      → ReadsBase a → reads c s.current.routine s.current.place u ≡ true → base_value s.current a ≡ Some
+      → ReadsBase c words b p s f m v sh be a → reads c s.current.routine s.current.place u ≡ true
+      → base_value s.current a ≡ Some
       (Address block offset) → s.current.temporaries u ≡ Some x → place c p block + (offset + n) < 4294967296
       → Left c words v.place (reach c s.current.routine a n
       ++ (form.fetch c s.current.routine 15 (home c s.current.routine u) ++ ps)) next → Ready a n u
@@ -346,7 +159,7 @@ module _ (c : Context) (words : List ℕ) (b : Built c words) (p : Places) (s : 
       let r = s.current.routine in
       let fr = framed c words b p s (machine_of v) f be.related in
       let fs = form.fetch c r 15 (home c r u) in
-      let g = reach_run a n block offset (fs ++ ps) next ra ea low l in
+      let g = reach_run c words b p s f m v sh be a n block offset (fs ++ ps) next ra ea low l in
       let v1 = g.view in
       let l1 = left_after c words v.place v1.place next (reach c r a n) (fs ++ ps) l g.place in
       let e14 : v1.registers 14 ≡ f = g.near.registers 14 (omega arith) (omega arith) ∙ be.related.stack in
@@ -440,7 +253,8 @@ module _ (c : Context) (words : List ℕ) (b : Built c words) (p : Places) (s : 
       let i = word.Load Byte (target c r h) q (pos o) in
       let found = load_byte_found c b.laid p s v.words f block (offset + n) byte be.related.held
       (constants_stand c words b.stood p m v sh) el in
-      let g = reach_run a n block offset (Plain i ∷ save c r h) _ (λ u e. is_read c r k (LoadByte t a n) here u e) ea
+      let g = reach_run c words b p s f m v sh be a n block offset (Plain i ∷ save c r h) _
+      (λ u e. is_read c r k (LoadByte t a n) here u e) ea
       (omega (arith, found.word.high, b.laid.order.3)) l in
       let v1 = g.view in
       let l1 = left_after c words v.place v1.place _ (reach c r a n) (Plain i ∷ save c r h) l g.place in
@@ -551,104 +365,6 @@ module _ (c : Context) (words : List ℕ) (b : Built c words) (p : Places) (s : 
     where
       low_byte : (x : ℕ) → x < 256 → word_of (pos x) % 256 ≡ x
       low_byte x lt = omega (arith, ints)
-
-  -- ---- addresses
-
-  pub named_low : (block : Block) → place c p block < 16777216
-  named_low (blocks.Frame a) = be.related.held.places.frame a
-  named_low (blocks.Scratch a) = be.related.held.places.scratch a
-  named_low (blocks.Object n) = be.related.held.places.object n
-  named_low (blocks.Constant r k) = let e = b.laid.constants r k in omega
-      (arith, e, b.laid.order.1, b.laid.order.2, b.laid.order.3)
-
-  pub offset_follows : (t : ℕ) (a : Base) (n extent : ℕ) (block : Block) (offset : ℕ)
-      → fetch c.code s.current.routine s.current.place ≡ Some (Offset t a n extent) → base_value s.current a ≡ Some
-      (Address block offset) → offset + n < 2147483648 → Comes c words s
-      (record s { current = giving t (Address block (offset + n)) s.current }) m
-  offset_follows t a n extent block offset here ea lt = go (nat_lt (base_offset c s.current.routine a n) 65536)
-      (code c words b p s f m v sh be (Offset t a n extent) here)
-    where
-      go : (small : Bool) → Left c words v.place
-          ((base_code c s.current.routine a ++ cond small
-          (Plain (word.Operate op.Add (target c s.current.routine (home c s.current.routine t))
-          (base_register c s.current.routine a) (instr.Constant (pos (base_offset c s.current.routine a n)))) ∷ [])
-          (constant 15 (base_offset c s.current.routine a n) ++ Plain
-          (word.Operate op.Add (target c s.current.routine (home c s.current.routine t))
-          (base_register c s.current.routine a) (instr.Content 15)) ∷ [])) ++ save c s.current.routine
-          (home c s.current.routine t)) (c.site s.current.routine (suc s.current.place)) → Comes c words s
-          (record s { current = giving t (Address block (offset + n)) s.current }) m
-      go true l =
-          let r = s.current.routine in
-          let k = s.current.place in
-          let h = home c r t in
-          let q = base_register c r a in
-          let o = base_offset c r a n in
-          let i = word.Operate op.Add (target c r h) q (instr.Constant (pos o)) in
-          let l0 = subst (λ x. Left c words v.place x (c.site r (suc k)))
-          (append_assoc (base_code c r a) (Plain i ∷ []) (save c r h)) l in
-          let g = base_run a n block offset (Plain i ∷ save c r h) _
-          (λ u e. is_read c r k (Offset t a n extent) here u e) ea l0 in
-          let v1 = g.view in
-          let l1 = left_after c words v.place v1.place _ (base_code c r a) (Plain i ∷ save c r h) l0 g.place in
-          let t2 = step_to c words b.stood i g.way.to v1 g.way.shows l1.stands.0 tt in
-          let v2 = after i v1 in
-          let low = named_low block in
-          let is : v2.registers (target c r h) ≡ place c p block + (offset + n) = update_same v1.registers
-          (target c r h) _ ∙ sum (v1.registers q) o g.at low in
-          let s' = record s { current = giving t (Address block (offset + n)) s.current } in
-          come_way c words b s s' m v1 g.way (come_to c words b s s' g.way.to same_tape v2 t2 refl
-          (gives_end c words b p s (machine_of v) f t (Address block (offset + n)) t2.to v2 be.related be.input
-          (writes_it c r k (Offset t a n extent) here t refl refl) (silent c r k (Offset t a n extent) here refl)
-          (g.good.0, lt) t2.shows (record {
-            here = is;
-            registers = λ x n12 n15 nd. update_other v1.registers (target c r h) _ x nd ∙ g.near.registers x n12 n15;
-            words = g.near.words;
-          }) (left_next c words v1.place _ _ (save c r h) l1)))
-        where
-          sum : (x o : ℕ) → x + o ≡ place c p block + offset + n → place c p block < 16777216
-              → (x + word_of_int (pos o) + 0) % 2 ^ 32 ≡ place c p block + (offset + n)
-          sum x o e low = omega (arith, ints, lt)
-      go false l =
-          let r = s.current.routine in
-          let k = s.current.place in
-          let h = home c r t in
-          let q = base_register c r a in
-          let o = base_offset c r a n in
-          let i = word.Operate op.Add (target c r h) q (instr.Content 15) in
-          let l00 = subst (λ x. Left c words v.place x (c.site r (suc k)))
-          (append_assoc (base_code c r a) (constant 15 o ++ Plain i ∷ []) (save c r h)) l in
-          let l0 = subst (λ x. Left c words v.place (base_code c r a ++ x) (c.site r (suc k)))
-          (append_assoc (constant 15 o) (Plain i ∷ []) (save c r h)) l00 in
-          let g = base_run a n block offset (constant 15 o ++ (Plain i ∷ save c r h)) _
-          (λ u e. is_read c r k (Offset t a n extent) here u e) ea l0 in
-          let v1 = g.view in
-          let low = named_low block in
-          let l1 = left_after c words v.place v1.place _ (base_code c r a)
-          (constant 15 o ++ (Plain i ∷ save c r h)) l0 g.place in
-          let z = constant_run c words b.stood 15 o (Plain i ∷ save c r h) _ g.way.to v1 g.way.shows
-          (omega (arith, g.at, low, lt)) l1 in
-          let v2 = z.view in
-          let l2 = left_after c words v1.place v2.place _ (constant 15 o) (Plain i ∷ save c r h) l1 z.place in
-          let t3 = step_to c words b.stood i z.to.to v2 z.to.shows l2.stands.0 tt in
-          let v3 = after i v2 in
-          let eq : v2.registers q ≡ v1.registers q = z.moved.registers q g.apart in
-          let is : v3.registers (target c r h) ≡ place c p block + (offset + n) = update_same v2.registers
-          (target c r h) _ ∙ sum (v2.registers q) (v2.registers 15) (v1.registers q) o eq z.value g.at low in
-          let s' = record s { current = giving t (Address block (offset + n)) s.current } in
-          come_way c words b s s' m v1 g.way (come_to c words b s s' g.way.to same_tape v2 z.to refl
-          (arrive_to c words b s' z.to.to v3 t3 (gives_end c words b p s (machine_of v) f t
-          (Address block (offset + n)) t3.to v3 be.related be.input
-          (writes_it c r k (Offset t a n extent) here t refl refl) (silent c r k (Offset t a n extent) here refl)
-          (g.good.0, lt) t3.shows (record {
-            here = is;
-            registers = λ x n12 n15 nd. update_other v2.registers (target c r h) _ x nd ∙ z.moved.registers x n15
-                ∙ g.near.registers x n12 n15;
-            words = λ x. z.moved.words x ∙ g.near.words x;
-          }) (left_next c words v2.place _ _ (save c r h) l2))))
-        where
-          sum : (x y x' y' : ℕ) → x ≡ x' → y ≡ y' → x' + y' ≡ place c p block + offset + n → place c p block < 16777216
-              → (x + y + 0) % 2 ^ 32 ≡ place c p block + (offset + n)
-          sum x y x' y' e e' e'' low = omega (arith, lt, e, e', e'')
 
 -- ---- a load by a register that is short of an offset
 

@@ -29,8 +29,11 @@ use Rattle.risc_emit_forms.specs.Forms as form
 use Rattle.risc_emit_forms.specs.Follows.{machine_of, Built, Straight, Belongs, Comes}
 use Rattle.risc_emit_forms.proofs.Basics.{left_after, left_next, is_read, passes, writes_it, among_first, integer_is}
 use Rattle.risc_emit_forms.proofs.Flags.{silent}
-use Rattle.risc_emit_forms.proofs.Runs.{Moved, Aside, step_to, number_run, store_run, in_slot, fetched_not}
-use Rattle.risc_emit_forms.proofs.Comes.{left_whole, fetched_is, framed, come_to, come_way, goes_run, goes_end}
+use Rattle.risc_emit_forms.proofs.Runs.{Moved, Aside, step_to, number_run, store_run}
+use Rattle.risc_emit_forms.proofs.Results.{in_slot}
+use Rattle.risc_emit_forms.proofs.Fetches.{fetched_not}
+use Rattle.risc_emit_forms.proofs.Joins.{left_whole, fetched_is, come_to, come_way}
+use Rattle.risc_emit_forms.proofs.Comes.{framed, goes_run, goes_end}
 use Rattle.risc_emit_forms.proofs.Comes.{gives_end, settles_end}
 use Rattle.risc_emit_forms.proofs.Operands.{code, one_run, brought_run}
 

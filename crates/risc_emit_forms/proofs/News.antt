@@ -28,8 +28,10 @@ use Rattle.risc_emit_forms.specs.Forms.{number, constant, receive}
 use Rattle.risc_emit_forms.specs.Follows.{machine_of, Built, Belongs, Follows}
 use Rattle.risc_emit_forms.proofs.Basics.{left_after, left_next, writes_it}
 use Rattle.risc_emit_forms.proofs.Flags.{silent}
-use Rattle.risc_emit_forms.proofs.Runs.{Aside, Gets, step_to, constant_run, receive_run}
-use Rattle.risc_emit_forms.proofs.Comes.{left_whole, framed, come_to, arrive_to, arrive_here, fails_not, fails_walked}
+use Rattle.risc_emit_forms.proofs.Runs.{Aside, Gets, step_to, constant_run}
+use Rattle.risc_emit_forms.proofs.Results.{receive_run}
+use Rattle.risc_emit_forms.proofs.Joins.{left_whole, come_to, arrive_to, arrive_here}
+use Rattle.risc_emit_forms.proofs.Comes.{framed, fails_not, fails_walked}
 use Rattle.risc_emit_forms.proofs.Comes.{walk_near}
 use Rattle.risc_emit_forms.proofs.Operands.{code}
 use Rattle.risc_emit_forms.proofs.Calls.{follows_to}

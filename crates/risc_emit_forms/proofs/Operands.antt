@@ -22,8 +22,9 @@ use Rattle.risc_emit_forms.specs.Forms as form
 use Rattle.risc_emit_forms.specs.Forms.{fetched, right, right_operand, both}
 use Rattle.risc_emit_forms.specs.Follows.{machine_of, Built, Belongs}
 use Rattle.risc_emit_forms.proofs.Basics.{left_after, left_at, among_first}
-use Rattle.risc_emit_forms.proofs.Runs.{Moved, right_word, fetch_run, fetched_not, value_moved, bring_run, IsRight}
-use Rattle.risc_emit_forms.proofs.Runs.{right_run}
+use Rattle.risc_emit_forms.proofs.Runs.{Moved}
+use Rattle.risc_emit_forms.proofs.Fetches.{right_word, fetch_run, fetched_not, value_moved, bring_run, IsRight}
+use Rattle.risc_emit_forms.proofs.Fetches.{right_run}
 use Rattle.risc_emit_forms.proofs.Comes.{framed}
 
 module _ (c : Context) (words : List ℕ) (b : Built c words) (p : Places) (s : State) (f : ℕ) (m : machine.State) (v : View) (sh : Shows words c.size m v) (be : Belongs c words p s v f) where

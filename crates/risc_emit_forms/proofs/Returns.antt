@@ -28,8 +28,10 @@ use Rattle.risc_emit_forms.specs.Forms.{into, accept, offer, offer_by}
 use Rattle.risc_emit_forms.specs.Follows.{machine_of, Built, Belongs, Comes, tape_of}
 use Rattle.risc_emit_forms.proofs.Basics.{left_after, left_next, left_at, is_read, among_first}
 use Rattle.risc_emit_forms.proofs.Flags.{called_silent}
-use Rattle.risc_emit_forms.proofs.Runs.{Framed, step_to, into_run, accept_run}
-use Rattle.risc_emit_forms.proofs.Comes.{left_whole, framed, place_low, come_to, come_way, arrive_way, arrive_here}
+use Rattle.risc_emit_forms.proofs.Runs.{Framed, step_to}
+use Rattle.risc_emit_forms.proofs.Results.{into_run, accept_run}
+use Rattle.risc_emit_forms.proofs.Joins.{left_whole, come_to, come_way, arrive_way, arrive_here}
+use Rattle.risc_emit_forms.proofs.Comes.{framed, place_low}
 use Rattle.risc_emit_forms.proofs.Operands.{code, stands_in}
 
 module _ (c : Context) (words : List ℕ) (b : Built c words) where

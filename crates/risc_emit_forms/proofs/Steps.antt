@@ -30,20 +30,24 @@ use Rattle.risc_emit_relation.specs.Related.{Related}
 use Rattle.tac_code.specs.declared.code.Base.TheVariants as base
 use Rattle.risc_emit_forms.specs.Told.{bent_at}
 use Rattle.risc_emit_forms.specs.Follows.{machine_of, unbent, Built, Meets, Belongs, Comes, Follows}
-use Rattle.risc_emit_forms.proofs.Flags.{BentLoad, BentRow, bent_is}
+use Rattle.risc_emit_forms.proofs.Shortfalls.{BentLoad, BentRow, bent_is}
 use Rattle.risc_emit_forms.proofs.Moves.{literal_follows, copy_follows, text_follows, routine_follows, forward_follows}
 use Rattle.risc_emit_forms.proofs.Moves.{back_follows}
 use Rattle.risc_emit_forms.proofs.Devices.{trap_follows, end_follows, put_follows, take_follows}
 use Rattle.risc_emit_forms.proofs.Memory.{bent_load_follows, load_follows, store_follows, load_byte_follows}
-use Rattle.risc_emit_forms.proofs.Memory.{store_byte_follows, offset_follows}
-use Rattle.risc_emit_forms.proofs.Branches.{forward_branch_follows, back_branch_follows, compare_follows}
+use Rattle.risc_emit_forms.proofs.Memory.{store_byte_follows}
+use Rattle.risc_emit_forms.proofs.Offsets.{offset_follows}
+use Rattle.risc_emit_forms.proofs.Branches.{forward_branch_follows, back_branch_follows}
+use Rattle.risc_emit_forms.proofs.Truths.{compare_follows}
 use Rattle.risc_emit_forms.proofs.Returns.{return_follows}
 use Rattle.risc_emit_forms.proofs.Calls.{call_follows, call_value_follows}
-use Rattle.risc_emit_forms.proofs.Numbers.{add_follows, subtract_follows, multiply_follows, bits_follows}
+use Rattle.risc_emit_forms.proofs.Numbers.{add_follows, subtract_follows, bits_follows}
+use Rattle.risc_emit_forms.proofs.Products.{multiply_follows}
 use Rattle.risc_emit_forms.proofs.Divisions.{modulo_follows}
 use Rattle.risc_emit_forms.proofs.Divides.{divide_follows}
 use Rattle.risc_emit_forms.proofs.Checks.{check_range_follows, check_pointer_follows}
-use Rattle.risc_emit_forms.proofs.Indexes.{index_follows, row_follows}
+use Rattle.risc_emit_forms.proofs.Indexes.{index_follows}
+use Rattle.risc_emit_forms.proofs.Rows.{row_follows}
 use Rattle.risc_emit_forms.proofs.News.{new_follows}
 
 module _ (c : Context) (words : List ℕ) (b : Built c words) (p : Places) (S H : ℕ) (stack : S + c.base ≡ c.size) (heap : H + c.heap_at ≡ c.base) (s : State) (f : ℕ) (m : machine.State) (v : View) (sh : Shows words c.size m v) (be : Belongs c words p s v f) where

@@ -21,7 +21,7 @@ use Rattle.risc_emit_forms.specs.Pieces.{Piece, Left}
 use Rattle.risc_emit_forms.specs.Forms.{accept, offer, offer_by}
 use Rattle.risc_emit_forms.specs.Follows.{stub, Stood, Built}
 use Rattle.risc_emit_forms.proofs.Basics.{left_after, left_next, left_at}
-use Rattle.risc_emit_forms.proofs.Comes.{get_append}
+use Rattle.risc_emit_forms.proofs.Joins.{get_append}
 use Rattle.risc_emit_laws.specs.Plan.{frame_cost, Plan, before_resumes, context}
 use Rattle.risc_emit_laws.specs.Emits.{IsLaidOut, Stand}
 

@@ -45,8 +45,9 @@ use Rattle.risc_emit_forms.proofs.Basics.{left_after, left_next, left_at}
 use Rattle.risc_emit_forms.proofs.Flags.{entered_silent}
 use Rattle.risc_emit_forms.proofs.Runs.{step_to}
 use Rattle.risc_emit_forms.proofs.Compares.{differs}
-use Rattle.risc_emit_forms.proofs.Comes.{Arrives, come_to, come_step, arrive_to, arrive_here, goes_run, fails_not}
-use Rattle.risc_emit_forms.proofs.Enters.{below_is, frame_run, test_run}
+use Rattle.risc_emit_forms.proofs.Joins.{Arrives, come_to, come_step, arrive_to, arrive_here}
+use Rattle.risc_emit_forms.proofs.Comes.{goes_run, fails_not}
+use Rattle.risc_emit_forms.proofs.StackTests.{below_is, frame_run, test_run}
 use Rattle.risc_emit_laws.specs.Plan.{frame_cost, Plan, context}
 use Rattle.risc_emit_laws.specs.Emits.{IsLaidOut, Stand}
 use Rattle.risc_emit_laws.proofs.Built.{stood_is, built_is}
