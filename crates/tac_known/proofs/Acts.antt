@@ -1,10 +1,14 @@
 -- Each instruction does what it did, where its tests that lost their numbers can't fail.
 use Rattle.std.proofs.Common.{◌≡◌, ℕ, suc, ◌+◌, ◌*◌, Bool, true, false, not, ◌&&◌, nat_eq, nat_lt, if◌then◌else◌, List}
 use Rattle.std.proofs.Common.{[], ◌∷◌, length, slice_get, Option, Some, None, ℤ, pos, refl, sym, ap, ◌∙◌, subst}
+use Rattle.std.proofs.lemmas.Bool.{true≢false}
 use Rattle.std.proofs.lemmas.Option.{same_Some}
 use Rattle.behavior.specs.Endings.{Stack, Stuck}
 use Rattle.tac_code.specs.declared.code.Block.{Block}
 use Rattle.tac_code.specs.declared.code.Operand.{Operand}
+use Rattle.tac_code.specs.declared.code.Operand.TheVariants as operand
+use Rattle.tac_code.specs.declared.code.Relation.{Relation}
+use Rattle.tac_code.specs.declared.code.Relation.TheVariants.{Equal, NotEqual, Less, LessEqual, Greater, GreaterEqual}
 use Rattle.tac_code.specs.declared.code.Operator.{Operator}
 use Rattle.tac_code.specs.declared.code.Base.{Base}
 use Rattle.tac_code.specs.declared.code.Value.{Value}
@@ -16,11 +20,11 @@ use Rattle.tac_code.specs.declared.code.Instruction.TheVariants.{Store, LoadByte
 use Rattle.tac_code.specs.declared.code.Instruction.TheVariants.{BranchBack, Call, CallValue, Return, Trap, Take, Put}
 use Rattle.tac_code.specs.declared.code.Instruction.TheVariants.{New, End}
 use Rattle.tac_code.specs.declared.code.TacRoutine.{TacRoutine}
-use Rattle.tac_code.specs.Numbers.{Computed, Gives, Fails, computed, is_in_range, steps_above}
+use Rattle.tac_code.specs.Numbers.{Computed, Gives, Fails, truth, computed, is_in_range, steps_above}
 use Rattle.tac_code.specs.Memory.{load, load_byte}
 use Rattle.tac_code.specs.Meaning.{Code, Activation, State, Step, Goes, Over, text_of, text_at, routines, act, with_some}
 use Rattle.tac_code.specs.Meaning.{with_number, with_address, with_routine, operand_value, base_value, pointer_of, is_nil}
-use Rattle.tac_code.specs.Meaning.{gives, gives_computed, gives_component, checks, fails, test_ending}
+use Rattle.tac_code.specs.Meaning.{related, gives, gives_computed, gives_component, checks, fails, test_ending}
 use Rattle.tac_code.specs.Meaning.{open_calls, frame_cost, open_bytes, is_full, enter, calls, values_of, makes, onward}
 use Rattle.tac_code.specs.Meaning.{unwritten}
 use Rattle.tac_code_steps.specs.Turns.{turns_aside}
@@ -28,16 +32,25 @@ use Rattle.tac_pass.specs.Follows.{SameHeading}
 use Rattle.tac_known.specs.declared.kind.Kind.{Kind}
 use Rattle.tac_known.specs.declared.kind.Kind.TheVariants.{Unknown, Pointer, Between}
 use Rattle.tac_known.specs.Kinds.{IsOf, kind_in, Hold, operand_kind, fits, lies_within, is_pointer}
-use Rattle.tac_known.specs.Lean.{number_unless, lean}
-use Rattle.tac_known.proofs.Results.{fits_gives, lies_in}
+use Rattle.tac_known.specs.Lean.{number_unless, is_nought, is_unequal, is_truth, copied_if, lean}
+use Rattle.tac_known.proofs.Integers.{both_true, eq_int}
+use Rattle.tac_known.proofs.Results.{fits_gives, lies_in, is_bit, truth_of_bit}
 use Rattle.tac_known.proofs.Holding.{operand_is}
+
+copied_text : (v : Bool) (r : Relation) (t a : ℕ) (b : Operand) → text_of (Some (copied_if v r t a b)) ≡ None
+copied_text true r t a b = refl
+copied_text false r t a b = refl
+
+copied_turns : (v : Bool) (r : Relation) (t a : ℕ) (b : Operand) → turns_aside (Some (copied_if v r t a b)) ≡ false
+copied_turns true r t a b = refl
+copied_turns false r t a b = refl
 
 pub lean_text : (ks : List Kind) (i : Instruction) → text_of (Some (lean ks i)) ≡ text_of (Some i)
 lean_text ks (Literal _ _) = refl
 lean_text ks (Copy _ _) = refl
 lean_text ks (Arithmetic _ _ _ _ _ _) = refl
 lean_text ks (Bits _ _ _ _) = refl
-lean_text ks (Compare _ _ _ _) = refl
+lean_text ks (Compare r t a b) = copied_text (is_truth ks r a b) r t a b
 lean_text ks (CheckRange _ _ _ _ _) = refl
 lean_text ks (CheckPointer _ _ _) = refl
 lean_text ks (Text _ _) = refl
@@ -66,7 +79,7 @@ lean_turns ks (Literal _ _) = refl
 lean_turns ks (Copy _ _) = refl
 lean_turns ks (Arithmetic _ _ _ _ _ _) = refl
 lean_turns ks (Bits _ _ _ _) = refl
-lean_turns ks (Compare _ _ _ _) = refl
+lean_turns ks (Compare r t a b) = copied_turns (is_truth ks r a b) r t a b
 lean_turns ks (CheckRange _ _ _ _ _) = refl
 lean_turns ks (CheckPointer _ _ _) = refl
 lean_turns ks (Text _ _) = refl
@@ -309,12 +322,46 @@ module _ (old new : Code) (program : length new.program ≡ length old.program) 
         which block offset x p false e =
             component_alike (is_in_range low high x) t block (offset + steps_above low x * width) error line
 
+    -- a number that is 0 or 1 is not 0 where it is 1
+    nought_alike : (t a : ℕ) (z : ℤ) → z ≡ pos 0 → lies_within (kind_in ks a) (pos 0) (pos 1) ≡ true
+        → act new F G S H (Some (Copy t a)) s ≡ before (Compare NotEqual t a (operand.Number z))
+    nought_alike t a z e f =
+        let is = is_bit (kind_in ks a) (s.current.temporaries a) f (h a) in
+        ap (λ o. with_some o (λ v. gives t v s)) is.1
+        ∙ ap (λ x. gives t (Number x) s) (sym (truth_of_bit is.0 is.2 is.3))
+        ∙ ap (λ y. with_some (related NotEqual (Some (Number is.0)) (Some (Number y)))
+        (λ holds. gives t (Number (truth holds)) s)) (sym e)
+        ∙ ap (λ o. with_some (related NotEqual o (Some (Number z))) (λ holds. gives t (Number (truth holds)) s)) (sym is.1)
+
+    truth_alike : (relation : Relation) (t a : ℕ) (b : Operand) → is_unequal relation ≡ true → is_nought b ≡ true
+        → lies_within (kind_in ks a) (pos 0) (pos 1) ≡ true → act new F G S H (Some (Copy t a)) s
+        ≡ before (Compare relation t a b)
+    truth_alike Equal t a b d e f = absurd (true≢false (sym d))
+    truth_alike Less t a b d e f = absurd (true≢false (sym d))
+    truth_alike LessEqual t a b d e f = absurd (true≢false (sym d))
+    truth_alike Greater t a b d e f = absurd (true≢false (sym d))
+    truth_alike GreaterEqual t a b d e f = absurd (true≢false (sym d))
+    truth_alike NotEqual t a (operand.Temporary u) d e f = absurd (true≢false (sym e))
+    truth_alike NotEqual t a (operand.Number z) d e f = nought_alike t a z (eq_int z (pos 0) e) f
+
+    compare_alike : (relation : Relation) (t a : ℕ) (b : Operand) → now (Compare relation t a b)
+        ≡ before (Compare relation t a b)
+    compare_alike relation t a b = which (is_truth ks relation a b) refl
+      where
+        which : (v : Bool) → is_truth ks relation a b ≡ v → act new F G S H (Some (copied_if v relation t a b)) s
+            ≡ before (Compare relation t a b)
+        which false e = refl
+        which true e =
+            let x = both_true (is_unequal relation) _ e in
+            let y = both_true (is_nought b) _ x.1 in
+            truth_alike relation t a b x.0 y.0 y.1
+
     pub acts_alike : (i : Instruction) → act new F G S H (Some (lean ks i)) s ≡ act old F G S H (Some i) s
     acts_alike (Literal t z) = refl
     acts_alike (Copy t a) = refl
     acts_alike (Arithmetic operator t a b error line) = sum_alike operator t a b error line
     acts_alike (Bits operator t a b) = refl
-    acts_alike (Compare relation t a b) = refl
+    acts_alike (Compare relation t a b) = compare_alike relation t a b
     acts_alike (CheckRange a low high error line) = range_alike a low high error line
     acts_alike (CheckPointer a error line) = pointer_alike a error line
     acts_alike (Text t bytes) = refl

@@ -1,5 +1,5 @@
 -- A body is lean in its own place, with nothing known anywhere.
-use Rattle.std.proofs.Common.{◌≡◌, ℕ, false, List, [], Some, refl, sym, ap, ◌∙◌, arith}
+use Rattle.std.proofs.Common.{◌≡◌, ℕ, ◌&&◌, Bool, true, false, List, [], Some, refl, sym, ap, ◌∙◌, arith}
 use Rattle.tac_code.specs.declared.code.Operator.{Operator}
 use Rattle.tac_code.specs.declared.code.Operator.TheVariants.{Add, Subtract, Multiply, Divide, Modulo}
 use Rattle.tac_code.specs.declared.code.Instruction.{Instruction}
@@ -12,7 +12,7 @@ use Rattle.tac_known.specs.declared.kind.Kind.{Kind}
 use Rattle.tac_known.specs.declared.kind.Kind.TheVariants.{Unknown}
 use Rattle.tac_known.specs.Kinds.{fits, operand_kind}
 use Rattle.tac_code.specs.Meaning.{Code}
-use Rattle.tac_known.specs.Lean.{number_unless, lean, Leads, LeanBody, IsLean}
+use Rattle.tac_known.specs.Lean.{number_unless, is_nought, is_unequal, copied_if, lean, Leads, LeanBody, IsLean}
 
 fits_not : (operator : Operator) (k : Kind) → fits operator Unknown k ≡ false
 fits_not Add k = refl
@@ -21,12 +21,17 @@ fits_not Multiply k = refl
 fits_not Divide k = refl
 fits_not Modulo k = refl
 
+truth_not : (x y : Bool) → (x && (y && false)) ≡ false
+truth_not true true = refl
+truth_not true false = refl
+truth_not false y = refl
+
 pub lean_not : (i : Instruction) → lean [] i ≡ i
 lean_not (Literal t z) = refl
 lean_not (Copy t a) = refl
 lean_not (Arithmetic o t a b e l) = ap (λ n. Arithmetic o t a b (number_unless n e) l) (fits_not o (operand_kind [] b))
 lean_not (Bits o t a b) = refl
-lean_not (Compare r t a b) = refl
+lean_not (Compare r t a b) = ap (λ v. copied_if v r t a b) (truth_not (is_unequal r) (is_nought b))
 lean_not (CheckRange a m n0 e l) = refl
 lean_not (CheckPointer a e l) = refl
 lean_not (Text t bs) = refl

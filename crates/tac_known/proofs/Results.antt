@@ -1,6 +1,6 @@
 -- The kinds of results are what is said of them.
-use Rattle.std.proofs.Common.{◌≡◌, ◌≢◌, ℕ, Bool, true, false, not, ◌&&◌, if◌then◌else◌}
-use Rattle.std.proofs.Common.{Option, Some, ℤ, pos, ◌+ℤ◌, ◌-ℤ◌, ◌*ℤ◌, refl, sym, ap, ◌∙◌, subst, arith}
+use Rattle.std.proofs.Common.{◌≡◌, ◌≢◌, ℕ, zero, suc, Bool, true, false, not, ◌&&◌, if◌then◌else◌}
+use Rattle.std.proofs.Common.{Option, Some, ℤ, pos, negsuc, ◌+ℤ◌, ◌-ℤ◌, ◌*ℤ◌, refl, sym, ap, ◌∙◌, subst, arith}
 use Rattle.std.specs.Prelude.{int_lt, int_div, ◌≤ℤ◌, ◌<ℤ◌}
 use Rattle.std.specs.Ordering.{int_eq}
 use Rattle.std.specs.Int.{int_max, int_min, int_rem_euclid}
@@ -16,7 +16,7 @@ use Rattle.tac_code.specs.declared.code.BitOperator.TheVariants.{And, Or, AndNot
 use Rattle.tac_code.specs.declared.code.Relation.{Relation}
 use Rattle.tac_code.specs.declared.code.Relation.TheVariants.{Equal, NotEqual, Less, LessEqual, Greater, GreaterEqual}
 use Rattle.tac_code.specs.Numbers.{is_integer, is_zero, is_in_range, Computed, Gives, Fails, within, computed, bits}
-use Rattle.tac_code.specs.Numbers.{compared, same_number}
+use Rattle.tac_code.specs.Numbers.{truth, compared, same_number}
 use Rattle.tac_known.specs.declared.kind.Kind.{Kind}
 use Rattle.tac_known.specs.declared.kind.Kind.TheVariants.{Unknown, Pointer, Between}
 use Rattle.tac_known.specs.Kinds.{IsOf, least, greatest, met, low_of, high_of, sum, difference, remainder, computed_kind}
@@ -221,6 +221,23 @@ lies_in (Between l h) low high x e is =
     let p = not_below low l (not_false (int_lt l low) b.0) in
     let q = not_below h high (not_false (int_lt high h) b.1) in
     in_range low high x (omega (arith, ints, n0, p)) (omega (arith, ints, n1, q))
+
+-- a number that is 0 or 1
+pub is_bit : (k : Kind) (o : Option Value) → lies_within k (pos 0) (pos 1) ≡ true → IsOf k o → (x : ℤ)
+    × (o ≡ Some (Number x)) × (pos 0 ≤ℤ x) × (x ≤ℤ pos 1)
+is_bit Unknown o e is = absurd (true≢false (sym e))
+is_bit Pointer o e is = absurd (true≢false (sym e))
+is_bit (Between l h) o e (x, f, n0, n1) =
+    let b = both_true (not (int_lt l (pos 0))) (not (int_lt (pos 1) h)) e in
+    let p = not_below (pos 0) l (not_false (int_lt l (pos 0)) b.0) in
+    let q = not_below h (pos 1) (not_false (int_lt (pos 1) h) b.1) in
+    (x, f, omega (arith, ints, n0, p), omega (arith, ints, n1, q))
+
+pub truth_of_bit : (x : ℤ) → pos 0 ≤ℤ x → x ≤ℤ pos 1 → truth (not (same_number x (pos 0))) ≡ x
+truth_of_bit (pos zero) p q = refl
+truth_of_bit (pos (suc zero)) p q = refl
+truth_of_bit (pos (suc (suc n))) p q = absurd (omega (arith, ints, q))
+truth_of_bit (negsuc n) p q = absurd (omega (arith, ints, p))
 
 -- ---- relations
 

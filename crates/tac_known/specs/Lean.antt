@@ -1,6 +1,6 @@
 -- Code in which tests that can't fail have the number 0 in place of an error's: what is known at each place, and what
 -- each instruction becomes.
-use Rattle.std.specs.Prelude.{◌≡◌, ℕ, suc, ◌+◌, ◌-◌, ◌≤◌, Bool, true, false, List, length, map}
+use Rattle.std.specs.Prelude.{◌≡◌, ℕ, suc, ◌+◌, ◌-◌, ◌≤◌, ◌&&◌, Bool, true, false, List, length, map}
 use Rattle.std.specs.Prelude.{slice_get, slice_set, Some, pos}
 use Rattle.tac_code.specs.declared.code.Instruction.{Instruction}
 use Rattle.tac_code.specs.declared.code.Instruction.TheVariants.{Literal, Copy, Arithmetic, Bits, Compare, CheckRange}
@@ -8,8 +8,11 @@ use Rattle.tac_code.specs.declared.code.Instruction.TheVariants.{CheckPointer, T
 use Rattle.tac_code.specs.declared.code.Instruction.TheVariants.{Store, LoadByte, StoreByte, Jump, JumpBack, Branch}
 use Rattle.tac_code.specs.declared.code.Instruction.TheVariants.{BranchBack, Return, Trap, Take, Put}
 use Rattle.tac_code.specs.declared.code.Instruction.TheVariants.{New, End}
+use Rattle.std.specs.Ordering.{int_eq}
 use Rattle.tac_code.specs.declared.code.Operand.{Operand}
+use Rattle.tac_code.specs.declared.code.Operand.TheVariants as operand
 use Rattle.tac_code.specs.declared.code.Relation.{Relation}
+use Rattle.tac_code.specs.declared.code.Relation.TheVariants.{NotEqual}
 use Rattle.tac_code.specs.declared.code.TacRoutine.{TacRoutine}
 use Rattle.tac_code.specs.Meaning.{Code, routines}
 use Rattle.tac_pass.specs.Follows.{SameHeading}
@@ -25,9 +28,26 @@ abbrev pub number_unless : Bool → ℕ → ℕ
 number_unless true error = 0
 number_unless false error = error
 
+-- Whether a comparison gives what it compares: that a number is not 0, where that is 0 or 1.
+abbrev pub is_nought : Operand → Bool
+is_nought (operand.Number z) = int_eq z (pos 0)
+is_nought (operand.Temporary u) = false
+
+abbrev pub is_unequal : Relation → Bool
+is_unequal NotEqual = true
+is_unequal _ = false
+
+abbrev pub is_truth : List Kind → Relation → ℕ → Operand → Bool
+is_truth kinds relation a b = is_unequal relation && (is_nought b && lies_within (kind_in kinds a) (pos 0) (pos 1))
+
+abbrev pub copied_if : Bool → Relation → (t a : ℕ) → Operand → Instruction
+copied_if true relation t a b = Copy t a
+copied_if false relation t a b = Compare relation t a b
+
 abbrev pub lean : List Kind → Instruction → Instruction
 lean kinds (Arithmetic operator t a b error line) =
     Arithmetic operator t a b (number_unless (fits operator (kind_in kinds a) (operand_kind kinds b)) error) line
+lean kinds (Compare relation t a b) = copied_if (is_truth kinds relation a b) relation t a b
 lean kinds (CheckRange a low high error line) =
     CheckRange a low high (number_unless (lies_within (kind_in kinds a) low high) error) line
 lean kinds (CheckPointer a error line) = CheckPointer a (number_unless (is_pointer (kind_in kinds a)) error) line
@@ -38,6 +58,7 @@ lean kinds i = i
 -- the same by a test and a change
 abbrev pub is_vain : List Kind → Instruction → Bool
 is_vain kinds (Arithmetic operator t a b error line) = fits operator (kind_in kinds a) (operand_kind kinds b)
+is_vain kinds (Compare relation t a b) = is_truth kinds relation a b
 is_vain kinds (CheckRange a low high error line) = lies_within (kind_in kinds a) low high
 is_vain kinds (CheckPointer a error line) = is_pointer (kind_in kinds a)
 is_vain kinds (Index t b x low high width error line) = lies_within (kind_in kinds x) low high
@@ -45,10 +66,15 @@ is_vain kinds _ = false
 
 abbrev pub cleared : Instruction → Instruction
 cleared (Arithmetic operator t a b error line) = Arithmetic operator t a b 0 line
+cleared (Compare relation t a b) = Copy t a
 cleared (CheckRange a low high error line) = CheckRange a low high 0 line
 cleared (CheckPointer a error line) = CheckPointer a 0 line
 cleared (Index t b x low high width error line) = Index t b x low high width 0 line
 cleared i = i
+
+abbrev pub cleared_if : Bool → Instruction → Instruction
+cleared_if true i = cleared i
+cleared_if false i = i
 
 -- ---- what is known behind it, where the next place follows
 

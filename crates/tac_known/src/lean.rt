@@ -1,14 +1,40 @@
 // What an instruction becomes, and what is known behind it.
 
 ghost use Rattle.std.specs.Prelude.{◌≡◌};
-ghost use Rattle.tac_known.specs.Lean.{lean, is_vain, cleared, behind};
+ghost use Rattle.tac_known.specs.Lean as specs;
+ghost use Rattle.tac_known.specs.Lean.{is_vain, cleared, behind};
 ghost use Rattle.tac_known.specs.Walk.{falls};
 
 use crate::kind::{Kind, Kinds, opposite};
-use tac_code::code::Instruction;
+use tac_code::code::{Instruction, Operand, Relation};
 
-// Whether an instruction's test can't fail.
-fn is_vain(kinds: &Kinds, instruction: &Instruction) -> bool
+fn is_unequal(relation: Relation) -> bool
+    ensures { result ≡ specs.is_unequal relation }
+{
+    match relation {
+        Relation::NotEqual => true,
+        _ => false,
+    }
+}
+
+fn is_nought(operand: Operand) -> bool
+    ensures { result ≡ specs.is_nought operand }
+{
+    match operand {
+        Operand::Number(number) => number == 0,
+        Operand::Temporary(_) => false,
+    }
+}
+
+// Whether a comparison gives what it compares.
+fn is_truth(kinds: &Kinds, relation: Relation, left: u32, right: Operand) -> bool
+    ensures { result ≡ specs.is_truth kinds.now relation left right }
+{
+    is_unequal(relation) && (is_nought(right) && kinds.lies_within(left, 0, 1))
+}
+
+/// Whether an instruction's test can't fail, or its comparison gives what it compares.
+pub fn is_vain(kinds: &Kinds, instruction: &Instruction) -> bool
     ensures { result ≡ is_vain kinds.now instruction.now }
 {
     match instruction {
@@ -18,6 +44,12 @@ fn is_vain(kinds: &Kinds, instruction: &Instruction) -> bool
             right,
             ..
         } => kinds.fit(*operator, *left, *right),
+        Instruction::Compare {
+            relation,
+            left,
+            right,
+            ..
+        } => is_truth(kinds, *relation, *left, *right),
         Instruction::CheckRange {
             value,
             low,
@@ -35,11 +67,18 @@ fn is_vain(kinds: &Kinds, instruction: &Instruction) -> bool
     }
 }
 
-// The test loses the number of its error.
+// The test loses the number of its error; the comparison becomes a copy.
 fn clear(instruction: &mut Instruction)
     ensures { instruction.new ≡ cleared instruction.old }
 {
     match instruction {
+        Instruction::Compare { to, left, .. } => {
+            let copy = Instruction::Copy {
+                to: *to,
+                from: *left,
+            };
+            *instruction = copy;
+        }
         Instruction::Arithmetic { error, .. } => *error = 0,
         Instruction::CheckRange { error, .. } => *error = 0,
         Instruction::CheckPointer { error, .. } => *error = 0,
@@ -48,12 +87,11 @@ fn clear(instruction: &mut Instruction)
     }
 }
 
-/// A test that can't fail loses the number of its error.
-#[tactic(auto, using(crate::proofs::Leaned::lean_vain, crate::proofs::Leaned::lean_not))]
-pub fn lean(kinds: &Kinds, instruction: &mut Instruction)
-    ensures { instruction.new ≡ lean kinds.now instruction.old }
+/// A test that can't fail loses the number of its error, and a comparison that gives what it compares becomes a copy of it.
+pub fn lean(is_vain: bool, instruction: &mut Instruction)
+    ensures { instruction.new ≡ specs.cleared_if is_vain instruction.old }
 {
-    if is_vain(kinds, instruction) {
+    if is_vain {
         clear(instruction);
     }
 }

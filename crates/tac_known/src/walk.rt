@@ -8,7 +8,7 @@ ghost use Rattle.tac_known.specs.Walk.{claim_at, claimed_or, falls, nothing, kin
 ghost use Rattle.tac_known.specs.Walk.{goes_on_to_next, falls_well, is_well};
 
 use crate::kind::Kinds;
-use crate::lean::{fall, lean};
+use crate::lean::{fall, is_vain, lean};
 use std::alloc::Global;
 use tac_code::code::{Instruction, Operand, OutOfMemory, Relation};
 
@@ -169,6 +169,7 @@ fn go_on(
 }
 
 // One place; false where more is claimed than is known.
+#[tactic(auto, using(crate::proofs::Leaned::lean_is))]
 fn lean_place(
     claims: &[Option<Kinds>],
     kinds: &mut Kinds,
@@ -183,8 +184,12 @@ fn lean_place(
     if !turn(claims, kinds, place, instruction) {
         return false;
     }
-    lean(kinds, instruction);
-    go_on(claims, kinds, place, instruction)
+    let vain = is_vain(kinds, instruction);
+    if !go_on(claims, kinds, place, instruction) {
+        return false;
+    }
+    lean(vain, instruction);
+    true
 }
 
 /// Makes a body lean, where what is claimed by places is no more than what is known there. After false the body is of no use.

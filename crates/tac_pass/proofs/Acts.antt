@@ -385,8 +385,12 @@ module _ (r : ℕ) (minded : List ℕ) (table : Table) where
   spared_is (Arithmetic _ _ _ _ _ _) table' f = absurd (none-some table' f)
   spared_is (Bits _ _ _ _) table' f = absurd (none-some table' f)
   spared_is (Compare _ _ _ _) table' f = absurd (none-some table' f)
-  spared_is (CheckRange _ _ _ _ _) table' f = absurd (none-some table' f)
-  spared_is (CheckPointer _ _ _) table' f = absurd (none-some table' f)
+  spared_is (CheckRange a low high error line) table' f =
+      let x = only_some (nat_eq error 0) (Some table) table' f in
+      subst (Left_out (CheckRange a low high error line)) (same_Some _ table' x.1) (eqb-true error 0 x.0, all_forgets c)
+  spared_is (CheckPointer a error line) table' f =
+      let x = only_some (nat_eq error 0) (Some table) table' f in
+      subst (Left_out (CheckPointer a error line)) (same_Some _ table' x.1) (eqb-true error 0 x.0, all_forgets c)
   spared_is (Text _ _) table' f = absurd (none-some table' f)
   spared_is (Offset _ _ _ _) table' f = absurd (none-some table' f)
   spared_is (Index _ _ _ _ _ _ _ _) table' f = absurd (none-some table' f)

@@ -120,8 +120,8 @@ module _ (c : Claim) {c' c'' : Claim} (f : Forgets c' c'') where
   spares_on (Arithmetic _ _ _ _ _ _) h = absurd h
   spares_on (Bits _ _ _ _) h = absurd h
   spares_on (Compare _ _ _ _) h = absurd h
-  spares_on (CheckRange _ _ _ _ _) h = absurd h
-  spares_on (CheckPointer _ _ _) h = absurd h
+  spares_on (CheckRange a low high error line) (z, g) = (z, forgets_on g)
+  spares_on (CheckPointer a error line) (z, g) = (z, forgets_on g)
   spares_on (Text _ _) h = absurd h
   spares_on (Offset _ _ _ _) h = absurd h
   spares_on (Index _ _ _ _ _ _ _ _) h = absurd h

@@ -32,7 +32,8 @@ use Rattle.tac_pass.specs.Moved.{moved_block, moved, moved_word, moved_words, mo
 use Rattle.tac_pass.specs.Claims.{Claim, Certificate}
 use Rattle.tac_pass.specs.Alike.{Memories, Alike}
 use Rattle.tac_pass.specs.Rules.{Holds, Sees, Gave, Found, Wrote, None_of_them, Elsewhere, Anywhere, As, As_word}
-use Rattle.tac_pass.specs.Rules.{Behind, Component, Spares, Loads, LoadsWord, CopiesWord, Stores, StoresWord}
+use Rattle.tac_pass.specs.Rules.{Forgets, Behind, Component, Spares, Loads, LoadsWord, CopiesWord, Stores}
+use Rattle.tac_pass.specs.Rules.{StoresWord}
 use Rattle.tac_pass.specs.Rules.{KeepsWord, Renames, Calls}
 use Rattle.tac_pass.specs.Follows.{Checked, Becomes, IsSpared, IsRenamed, Jumps, IsEnding}
 use Rattle.tac_pass.proofs.Simulating.{stays}
@@ -180,6 +181,20 @@ module _ (old new : Code) (p : Setting) (e : Certificate) (same_count : length n
   -- ---- what is spared
 
   module _ (next : s'.current.place ≡ e.starts s.current.routine (suc s.current.place)) where
+    -- where it fails, the code is stuck
+    check_spared : (b : Bool) (number line : ℕ) → number ≡ 0 → Forgets c c' → Follow false (checks old b number line s)
+    check_spared true number line z g = (
+      s',
+      (
+        alike_inside e a (suc s.current.place) s'.current.place s.current.temporaries s'.current.temporaries s.tape
+            s'.tape a.outside.tape (inside_forgot e.stands s.current.number a.inside g),
+        next,
+      ),
+      stays new p s',
+    )
+    check_spared false number line z g =
+        subst (λ n. Follow false (checks old false n line s)) (sym z) (λ live. absurd (live refl))
+
     pub spares_follow : (i : Instruction) → Spares c c' i → Follow (turns_aside (Some i)) (old_step i)
     spares_follow (Literal t z) g = (
       s',
@@ -238,8 +253,12 @@ module _ (old new : Code) (p : Setting) (e : Certificate) (same_count : length n
     spares_follow (Arithmetic _ _ _ _ _ _) h = absurd h
     spares_follow (Bits _ _ _ _) h = absurd h
     spares_follow (Compare _ _ _ _) h = absurd h
-    spares_follow (CheckRange _ _ _ _ _) h = absurd h
-    spares_follow (CheckPointer _ _ _) h = absurd h
+    spares_follow (CheckRange u low high error line) (z, g) =
+        number_follows old new p e false s s' (s.current.temporaries u) _
+        (λ x is. check_spared (is_in_range low high x) error line z g)
+    spares_follow (CheckPointer u error line) (z, g) =
+        some_follows old new p e false s s' (pointer_of (s.current.temporaries u)) _
+        (λ n is. check_spared (not (is_nil n)) error line z g)
     spares_follow (Text _ _) h = absurd h
     spares_follow (Offset _ _ _ _) h = absurd h
     spares_follow (Index _ _ _ _ _ _ _ _) h = absurd h

@@ -158,6 +158,8 @@ module _ (r : ℕ) (minded : List ℕ) (table : Table) where
   spared (Copy t a) = Some (spare t (known_in table a) table)
   spared (Load t b n) = spared_load t (own_word b n)
   spared (Store b n a) = spared_store a (own_word b n)
+  spared (CheckRange a low high error line) = only_if (nat_eq error 0) (Some table)
+  spared (CheckPointer a error line) = only_if (nat_eq error 0) (Some table)
   spared _ = None
 
   -- ---- a load or a store of the own frame becomes a copy to t'

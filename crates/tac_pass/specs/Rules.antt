@@ -170,6 +170,8 @@ Spares c c' (Literal t z) = Spared t None_of_them None_of_them c c'
 Spares c c' (Copy t a) = Spared t (Holds c a) (As c a) c c'
 Spares c c' (Load t base.Frame n) = (k : ℕ) × (n ≡ 4 * k) × Spared t (λ v. c.words k ≡ Some v) (As_word c k) c c'
 Spares c c' (Store base.Frame n b) = (k : ℕ) × (n ≡ 4 * k) × Postponed b k c c'
+Spares c c' (CheckRange a low high error line) = (error ≡ 0) × Forgets c c'
+Spares c c' (CheckPointer a error line) = (error ≡ 0) × Forgets c c'
 Spares c c' _ = ⊥
 
 -- ---- instructions that go on to the next place

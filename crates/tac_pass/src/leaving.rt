@@ -41,6 +41,8 @@ pub fn spare(minded: &[u32], rows: &mut Rows, instruction: &Instruction) -> bool
             rows.store(minded, *from, word, true);
             true
         }
+        Instruction::CheckRange { error, .. } => *error == 0,
+        Instruction::CheckPointer { error, .. } => *error == 0,
         _ => false,
     }
 }

@@ -1,4 +1,4 @@
--- What plans make of routines, with copies and then with fewer of them, and what is lean of it.
+-- What plans make of routines, with copies, what is lean of it, and what plans make of that.
 use Rattle.std.proofs.Common.{◌≡◌, ℕ, zero, suc, ◌+◌, ◌≤◌, ◌++◌, List, [], ◌∷◌, length, slice_get, Some, None}
 use Rattle.std.proofs.Common.{refl, sym, ap, ◌∙◌, subst, arith}
 use Rattle.std.proofs.lemmas.Option.{none-some, same_Some}
@@ -17,25 +17,26 @@ use Rattle.tac_known.proofs.AgainRoom.{again_are_passed}
 use Rattle.tac_known.proofs.Room.{lean_are_passed}
 use Rattle.tac_plan.specs.Passes.{PassesBody, PassesRoutine, OneByOne, Each, PassesSoFar, Passes}
 
--- what is lean of a body that plans made, and copies between
-pub body_passes : {E : Type 0} (r : ℕ) (body : List Instruction) (between copied fewer : Vec Instruction)
+-- what a plan makes of lean code of a body that plans made, and copies between
+pub body_passes : {E : Type 0} (r : ℕ) (body : List Instruction) (between copied cleared : Vec Instruction)
     (result : Result (Option (Vec Instruction)) E) → Passed r body between.items → length between.items ≤ length body
-    → AgainBody between.items copied.items → Passed r copied.items fewer.items → length fewer.items ≤ length copied.items
-    → IfOk result (λ made. IfSome made (λ new_body. LeanBody fewer.items new_body.items))
+    → AgainBody between.items copied.items → LeanBody copied.items cleared.items
+    → IfOk result (λ made. IfSome made (λ new_body. Passed r cleared.items new_body.items))
+    → IfOk result (λ made. IfSome made (λ new_body. length new_body.items ≤ length cleared.items))
     → IfOk result (λ made. IfSome made (λ new_body. PassesBody r body new_body.items))
-body_passes r body between copied fewer (Ok (Some new_body)) passed short again spared less lean = record {
+body_passes r body between copied cleared (Ok (Some new_body)) passed short again lean spared less = record {
   between = between.items;
   copied = copied.items;
-  fewer = fewer.items;
+  cleared = cleared.items;
   passed = passed;
   shorter = short;
   again = again;
+  lean = lean;
   spared = spared;
   shorter_yet = less;
-  lean = lean;
 }
-body_passes r body between copied fewer (Ok None) passed short again spared less lean = lean
-body_passes r body between copied fewer (Err e) passed short again spared less lean = lean
+body_passes r body between copied cleared (Ok None) passed short again lean spared less = spared
+body_passes r body between copied cleared (Err e) passed short again lean spared less = spared
 
 pub routine_passes : (r : ℕ) (routine routine' : TacRoutine) → routine'.parameters ≡ routine.parameters
     → routine'.temporaries ≤ most_temporaries routine → routine'.frame ≡ routine.frame → routine'.scratch ≡ routine.scratch
@@ -43,19 +44,19 @@ pub routine_passes : (r : ℕ) (routine routine' : TacRoutine) → routine'.para
 routine_passes r routine routine' p t f s l b = record {
   between = between;
   copied = copied;
-  fewer = fewer;
+  cleared = cleared;
   passed = routine_passed r routine between refl refl refl refl refl b.passed b.shorter;
   again = record {
     heading = record { parameters = refl; frame = refl; scratch = refl; line = refl };
     temporaries = refl;
     body = b.again;
   };
-  spared = routine_passed r copied fewer refl refl refl refl refl b.spared b.shorter_yet;
   lean = record {
-    heading = record { parameters = p; frame = f; scratch = s; line = l };
+    heading = record { parameters = refl; frame = refl; scratch = refl; line = refl };
     temporaries = t;
     body = b.lean;
   };
+  spared = routine_passed r cleared routine' p refl f s l b.spared b.shorter_yet;
 }
   where
     with_body : List Instruction → TacRoutine
@@ -74,8 +75,15 @@ routine_passes r routine routine' p t f s l b = record {
     copied : TacRoutine
     copied = with_body b.copied
 
-    fewer : TacRoutine
-    fewer = with_body b.fewer
+    cleared : TacRoutine
+    cleared = record {
+      parameters = routine.parameters;
+      temporaries = routine'.temporaries;
+      frame = routine.frame;
+      scratch = routine.scratch;
+      line = routine.line;
+      body = b.cleared;
+    }
 
 -- ---- lists of routines
 
@@ -127,11 +135,11 @@ pub so_far_none : (first : ℕ) (olds news : List TacRoutine) → news ≡ [] �
 so_far_none first olds news e = record {
   between = [];
   copied = [];
-  fewer = [];
+  cleared = [];
   passed = refl;
   again = tt;
-  spared = tt;
-  lean = subst (λ (l : List TacRoutine). OneByOne (Each LeanRoutine) first [] l) (sym e) tt;
+  lean = tt;
+  spared = subst (λ (l : List TacRoutine). OneByOne PassedRoutine first [] l) (sym e) tt;
 }
 
 pub so_far_more : (first : ℕ) (olds : List TacRoutine) (n : ℕ) (before news : List TacRoutine) (old new : TacRoutine)
@@ -140,19 +148,20 @@ pub so_far_more : (first : ℕ) (olds : List TacRoutine) (n : ℕ) (before news 
 so_far_more first olds n before news old new so_far e p is = record {
   between = so_far.between ++ p.between ∷ [];
   copied = so_far.copied ++ p.copied ∷ [];
-  fewer = so_far.fewer ++ p.fewer ∷ [];
+  cleared = so_far.cleared ++ p.cleared ∷ [];
   passed = passed_more first olds n so_far.between (so_far.between ++ p.between ∷ []) old p.between so_far.passed e
       p.passed refl;
   again = one_more (Each AgainRoutine) first so_far.between so_far.copied p.between p.copied so_far.again p.again;
-  spared = one_more PassedRoutine first so_far.copied so_far.fewer p.copied p.fewer so_far.spared
-      (subst (λ (k : ℕ). PassedRoutine (first + k) p.copied p.fewer) (sym many) p.spared);
-  lean = subst (λ (l : List TacRoutine). OneByOne (Each LeanRoutine) first (so_far.fewer ++ p.fewer ∷ []) l) (sym is)
-      (one_more (Each LeanRoutine) first so_far.fewer before p.fewer new so_far.lean p.lean);
+  lean = one_more (Each LeanRoutine) first so_far.copied so_far.cleared p.copied p.cleared so_far.lean p.lean;
+  spared = subst (λ (l : List TacRoutine). OneByOne PassedRoutine first (so_far.cleared ++ p.cleared ∷ []) l) (sym is)
+      (one_more PassedRoutine first so_far.cleared before p.cleared new so_far.spared
+      (subst (λ (k : ℕ). PassedRoutine (first + k) p.cleared new) (sym many) p.spared));
 }
   where
-    many : length so_far.copied ≡ n
+    many : length so_far.cleared ≡ n
     many =
-        as_many (Each AgainRoutine) first so_far.between so_far.copied so_far.again
+        as_many (Each LeanRoutine) first so_far.copied so_far.cleared so_far.lean
+        ∙ as_many (Each AgainRoutine) first so_far.between so_far.copied so_far.again
         ∙ so_far_many first olds n so_far.between so_far.passed
 
 -- of both lists of a code
@@ -161,7 +170,7 @@ pub passes : (old new : Code) → new.objects ≡ old.objects → PassesSoFar 0 
 passes old new o p q = record {
   between = between;
   copied = copied;
-  fewer = fewer;
+  cleared = cleared;
   passed = are_passed old between refl p.passed q.passed;
   again = record {
     program = as_many (Each AgainRoutine) 0 p.between p.copied p.again;
@@ -172,24 +181,24 @@ passes old new o p q = record {
         (both_lists (Each AgainRoutine) 0 p.between p.copied q.between q.copied p.again
         (subst (λ (k : ℕ). OneByOne (Each AgainRoutine) k q.between q.copied) (sym many_between) q.again)) e;
   };
-  spared = record {
-    program = as_many PassedRoutine 0 p.copied p.fewer p.spared;
-    run_time = as_many PassedRoutine first q.copied q.fewer q.spared;
+  lean = record {
+    program = as_many (Each LeanRoutine) 0 p.copied p.cleared p.lean;
+    run_time = as_many (Each LeanRoutine) first q.copied q.cleared q.lean;
     objects = refl;
     routines = λ r routine e.
-        let one = one_at PassedRoutine 0 (p.copied ++ q.copied) (p.fewer ++ q.fewer) r routine
-        (both_lists PassedRoutine 0 p.copied p.fewer q.copied q.fewer p.spared
-        (subst (λ (k : ℕ). OneByOne PassedRoutine k q.copied q.fewer) (sym many_copied) q.spared)) e in
-        (one.0, one.1, subst (λ (k : ℕ). PassedRoutine k routine one.0) (from_none r) one.2);
+        one_at (Each LeanRoutine) 0 (p.copied ++ q.copied) (p.cleared ++ q.cleared) r routine
+        (both_lists (Each LeanRoutine) 0 p.copied p.cleared q.copied q.cleared p.lean
+        (subst (λ (k : ℕ). OneByOne (Each LeanRoutine) k q.copied q.cleared) (sym many_copied) q.lean)) e;
   };
-  lean = record {
-    program = as_many (Each LeanRoutine) 0 p.fewer new.program p.lean;
-    run_time = as_many (Each LeanRoutine) first q.fewer new.run_time q.lean;
+  spared = record {
+    program = as_many PassedRoutine 0 p.cleared new.program p.spared;
+    run_time = as_many PassedRoutine first q.cleared new.run_time q.spared;
     objects = o;
     routines = λ r routine e.
-        one_at (Each LeanRoutine) 0 (p.fewer ++ q.fewer) (new.program ++ new.run_time) r routine
-        (both_lists (Each LeanRoutine) 0 p.fewer new.program q.fewer new.run_time p.lean
-        (subst (λ (k : ℕ). OneByOne (Each LeanRoutine) k q.fewer new.run_time) (sym many_fewer) q.lean)) e;
+        let one = one_at PassedRoutine 0 (p.cleared ++ q.cleared) (new.program ++ new.run_time) r routine
+        (both_lists PassedRoutine 0 p.cleared new.program q.cleared new.run_time p.spared
+        (subst (λ (k : ℕ). OneByOne PassedRoutine k q.cleared new.run_time) (sym many_cleared) q.spared)) e in
+        (one.0, one.1, subst (λ (k : ℕ). PassedRoutine k routine one.0) (from_none r) one.2);
   };
 }
   where
@@ -202,8 +211,8 @@ passes old new o p q = record {
     copied : Code
     copied = record { program = p.copied; run_time = q.copied; objects = old.objects }
 
-    fewer : Code
-    fewer = record { program = p.fewer; run_time = q.fewer; objects = old.objects }
+    cleared : Code
+    cleared = record { program = p.cleared; run_time = q.cleared; objects = old.objects }
 
     as_between : length p.between ≡ first
     as_between = so_far_many 0 old.program (length old.program) p.between p.passed
@@ -211,8 +220,8 @@ passes old new o p q = record {
     as_copied : length p.copied ≡ first
     as_copied = as_many (Each AgainRoutine) 0 p.between p.copied p.again ∙ as_between
 
-    as_fewer : length p.fewer ≡ first
-    as_fewer = as_many PassedRoutine 0 p.copied p.fewer p.spared ∙ as_copied
+    as_cleared : length p.cleared ≡ first
+    as_cleared = as_many (Each LeanRoutine) 0 p.copied p.cleared p.lean ∙ as_copied
 
     many_between : 0 + length p.between ≡ first
     many_between = from_none (length p.between) ∙ as_between
@@ -220,8 +229,8 @@ passes old new o p q = record {
     many_copied : 0 + length p.copied ≡ first
     many_copied = from_none (length p.copied) ∙ as_copied
 
-    many_fewer : 0 + length p.fewer ≡ first
-    many_fewer = from_none (length p.fewer) ∙ as_fewer
+    many_cleared : 0 + length p.cleared ≡ first
+    many_cleared = from_none (length p.cleared) ∙ as_cleared
 
 -- ---- what that is for
 
@@ -230,5 +239,5 @@ pub is_passed : (old new : Code) → Passes old new → IsPassed old new
 is_passed old new p =
     passes_compose old p.between new (planned_are_passed old p.between p.passed)
     (passes_compose p.between p.copied new (again_are_passed p.between p.copied p.again)
-    (passes_compose p.copied p.fewer new (planned_are_passed p.copied p.fewer p.spared)
-    (lean_are_passed p.fewer new p.lean)))
+    (passes_compose p.copied p.cleared new (lean_are_passed p.copied p.cleared p.lean)
+    (planned_are_passed p.cleared new p.spared)))

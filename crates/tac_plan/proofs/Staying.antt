@@ -522,7 +522,7 @@ all_stay r puts l routine (Ok copy) none sound same p h =
         temporaries = refl;
         body = itself_again routine.body;
       };
-      fewer = routine;
+      cleared = routine;
       spared = routine_stays r puts l routine routine none sound same p refl;
       lean = record {
         heading = record { parameters = refl; frame = refl; scratch = refl; line = refl };

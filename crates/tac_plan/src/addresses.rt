@@ -520,7 +520,8 @@ impl Chains {
             next: next.as_slice(),
         };
         for start in region.start..region.exit() {
-            if view.next_of(start) != NONE
+            let is_again = view.next_of(start) != NONE;
+            if (is_again || way_at(ways, start).writes & pins.across != 0)
                 && chains.number_at(start) == NONE
                 && view.may_move(start)
             {

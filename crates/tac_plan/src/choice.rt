@@ -2,10 +2,12 @@
 
 use crate::draft::{Draft, Part};
 use crate::flow::{Flow, NONE, Way, way_at};
+use crate::items::{Items, items_of};
+use crate::look::Site;
 use crate::regions::{Region, regions_of};
 use crate::room::most_temporaries;
 use crate::sets::CONSIDERED;
-use crate::words::{Items, Pins, Site, items_of, pins_in};
+use crate::words::{Pins, pins_in};
 use std::alloc::Global;
 use tac_code::code::{OutOfMemory, TacRoutine};
 use tac_pass::plan::Plan;

@@ -1,10 +1,12 @@
 // The plan of a routine, a place after the other. Nothing is proved of it: what comes out is tested.
 
 use crate::addresses::Chains;
-use crate::flow::{Flow, NONE, Way, is_counted, is_join, is_turn, lives_at, way_at};
+use crate::flow::{NONE, Way, is_counted, is_join, is_turn, lives_at, settles, way_at};
+use crate::items::Items;
+use crate::look::{Kept, Site};
 use crate::regions::Region;
 use crate::sets::{CONSIDERED, all_below, has, least, set_of, short};
-use crate::words::{Items, Pins, Site};
+use crate::words::Pins;
 use std::alloc::Global;
 use std::mem;
 use tac_code::code::{Base, Instruction, OutOfMemory};
@@ -72,6 +74,9 @@ pub struct Draft<'a> {
     // what is computed again, and how many chains of that have begun
     chains: Chains,
     begun: usize,
+    // what is known of addresses where jumps lead, and how much of that lies behind
+    kept: Vec<Kept>,
+    passed: usize,
     // what is claimed in the region where these are alive and words are held
     common: Option<Rows>,
     alive: u64,
@@ -90,28 +95,6 @@ fn is_bare(ways: &[Way], place: usize) -> bool {
         Some(before) => way_at(ways, before).calls(),
         None => false,
     }
-}
-
-// Behind the branches at the begin of a body that turn off to where nobody looks at words any more; 0 where there are
-// none. What is stored before waits until there, since where the branches lead it isn't needed.
-fn settles(flow: &Flow) -> usize {
-    let mut settled = 0usize;
-    if flow.has_loops {
-        return settled;
-    }
-    let ways = flow.ways.as_slice();
-    for (place, way) in ways.iter().enumerate() {
-        if way.is_join() || way.is_look() || !way.falls {
-            break;
-        }
-        if way.target != NONE {
-            if way_at(ways, way.target).looks {
-                break;
-            }
-            settled = place.saturating_add(1);
-        }
-    }
-    settled
 }
 
 // The only temporary of a set.
@@ -170,6 +153,8 @@ impl<'a> Draft<'a> {
             open: 0,
             chains: Chains::none(alloc),
             begun: 0,
+            kept: Vec::new(alloc),
+            passed: 0,
             common: None,
             alive: 0,
         })
@@ -233,6 +218,8 @@ impl<'a> Draft<'a> {
         }
         self.chains = Chains::of(self.alloc, self.body, self.ways, part.region, &part.pins)?;
         self.begun = 0;
+        self.kept = part.pins.kept.as_slice().to_vec(self.alloc)?;
+        self.passed = 0;
         Ok(())
     }
 
@@ -266,6 +253,12 @@ impl<'a> Draft<'a> {
         place > held.last && !is_inside
     }
 
+    // whether a body without loops has no use for what holds a word from a place on
+    fn is_past(&self, place: usize, held: &Held) -> bool {
+        let is_kept = held.is_fixed && place > self.settles;
+        !self.has_loops && place > held.last && (is_kept || self.is_dead(place, held))
+    }
+
     // the word whose holder a control variable is counted on in
     fn counted_at(&self, place: usize) -> Option<usize> {
         if !is_counted(self.ways, place) {
@@ -281,8 +274,8 @@ impl<'a> Draft<'a> {
     }
 
     // whether a word that is held may wait where jumps lead
-    fn may_wait(&self, held: &Held, way: &Way) -> bool {
-        let is_unseen = self.is_unseen || !way.looks;
+    fn may_wait(&self, held: &Held, place: usize, way: &Way) -> bool {
+        let is_unseen = self.is_unseen || !way.looks || place <= self.settles;
         held.is_stored || (held.is_fixed && self.settles > 0 && is_unseen)
     }
 
@@ -291,10 +284,10 @@ impl<'a> Draft<'a> {
         let holds = self.holds(place);
         for at in 0..self.words.len() {
             let held = self.words[at];
-            let is_held = holds && held.holder != NOBODY;
+            let is_held = holds && held.holder != NOBODY && !self.is_past(place, &held);
             self.words[at].is_held = is_held;
             self.words[at].is_elsewhere = false;
-            self.words[at].is_stale = is_held && self.may_wait(&held, way);
+            self.words[at].is_stale = is_held && self.may_wait(&held, place, way);
         }
         for at in 0..self.holders.len() {
             let temporary = short(at);
@@ -316,7 +309,8 @@ impl<'a> Draft<'a> {
 
     // what is claimed at a place where jumps lead
     fn claim(&mut self, place: usize, way: &Way) -> Result<Rows, OutOfMemory> {
-        if !self.set_claimed(place, way) {
+        let is_kept = self.is_kept(place);
+        if !self.set_claimed(place, way) || is_kept {
             return self.claimed(place);
         }
         if let Some(rows) = &self.common
@@ -336,6 +330,7 @@ impl<'a> Draft<'a> {
         for holder in self.holders.iter() {
             list.push(known_by(*holder, Reach::Anywhere))?;
         }
+        self.set_reaches(place, list.as_mut_slice());
         let is_early = self.is_early(place);
         let mut words = Vec::with_capacity(self.alloc, self.words.len())?;
         for held in self.words.iter() {
@@ -352,6 +347,32 @@ impl<'a> Draft<'a> {
             })?;
         }
         Ok(Rows::new(list, words))
+    }
+
+    // what addresses are known to be where jumps lead
+    fn set_reaches(&self, place: usize, list: &mut [Known]) {
+        for at in self.passed..self.kept.len() {
+            if at >= self.kept.len() || self.kept[at].place != place {
+                return;
+            }
+            let kept = self.kept[at];
+            let temporary = kept.temporary as usize;
+            if temporary < list.len() {
+                list[temporary].reach = Reach::Within(kept.low, kept.high);
+            }
+        }
+    }
+
+    // whether addresses are known yet where jumps lead
+    fn is_kept(&mut self, place: usize) -> bool {
+        for _ in self.passed..self.kept.len() {
+            if self.passed < self.kept.len() && self.kept[self.passed].place < place {
+                self.passed = self.passed.saturating_add(1);
+            } else {
+                break;
+            }
+        }
+        self.passed < self.kept.len() && self.kept[self.passed].place == place
     }
 
     // whether no call can have come before
@@ -423,10 +444,10 @@ impl<'a> Draft<'a> {
     ) -> Result<(), OutOfMemory> {
         let holds = self.holds(target);
         for at in 0..self.words.len() {
-            if own != Some(at) {
+            if own != Some(at) && at < self.words.len() && !self.is_past(target, &self.words[at]) {
                 if holds {
                     self.fetch(puts, at)?;
-                } else if at < self.words.len() && !self.is_dead(target, &self.words[at]) {
+                } else if !self.is_dead(target, &self.words[at]) {
                     self.clean(puts, at)?;
                 }
             }
@@ -578,7 +599,7 @@ impl<'a> Draft<'a> {
 
     // the word that is stored behind a place where this is given
     fn stored_behind(&self, place: usize, way: &Way) -> Option<usize> {
-        if self.region.is_none() || way.calls() {
+        if self.region.is_none() {
             return None;
         }
         let at = self.pinned(way.given)?;

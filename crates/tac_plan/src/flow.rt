@@ -52,6 +52,8 @@ pub struct Way {
     /// those that are told apart.
     pub given: usize,
     pub kind: Kind,
+    /// Whether it is a copy.
+    pub copies: bool,
     /// Whether the next place may follow.
     pub falls: bool,
     /// Whether a call, or a load through an address, may come from here on; told of bodies without loops only.
@@ -92,6 +94,7 @@ const NO_WAY: Way = Way {
     item: NONE,
     given: NONE,
     kind: Kind::Plain,
+    copies: false,
     falls: false,
     looks: false,
     is_short: false,
@@ -254,7 +257,10 @@ fn read(way: &mut Way, instruction: &Instruction, place: usize) {
         | Instruction::RoutineValue { to, .. }
         | Instruction::Take { to }
         | Instruction::New { to, .. } => way.writes = set_of(*to),
-        Instruction::Copy { to, from } => give(way, *to, set_of(*from), Kind::Address),
+        Instruction::Copy { to, from } => {
+            give(way, *to, set_of(*from), Kind::Address);
+            way.copies = true;
+        }
         Instruction::Arithmetic {
             to,
             left,
@@ -484,6 +490,50 @@ impl Flow {
     }
 }
 
+// The way on from a branch, where the other way leads to where nobody looks at words any more.
+fn way_on(ways: &[Way], place: usize) -> Option<usize> {
+    let next = place.saturating_add(1);
+    let target = way_at(ways, place).target;
+    let other = way_at(ways, target);
+    if !other.looks {
+        return Some(next);
+    }
+    let is_alone = other.first == place
+        && other.last == place
+        && !way_at(ways, target.saturating_sub(1)).falls;
+    if is_alone && !way_at(ways, next).looks {
+        Some(target)
+    } else {
+        None
+    }
+}
+
+/// Behind the branches at the begin of a body one of whose ways leads to where nobody looks at words any more: the begin
+/// of the other way; 0 where there are none. What is stored before waits until there.
+pub fn settles(flow: &Flow) -> usize {
+    let mut settled = 0usize;
+    if flow.has_loops {
+        return settled;
+    }
+    let ways = flow.ways.as_slice();
+    let mut place = 0usize;
+    for _ in 0..ways.len() {
+        let way = way_at(ways, place);
+        if (way.is_join() && place != settled) || way.is_look() || !way.falls {
+            break;
+        }
+        place = place.saturating_add(1);
+        if way.target != NONE {
+            let Some(next) = way_on(ways, place.saturating_sub(1)) else {
+                break;
+            };
+            settled = next;
+            place = next;
+        }
+    }
+    settled
+}
+
 // Whether a place tests what is stored behind it, and nothing else.
 fn is_test(way: &Way, store: &Way) -> bool {
     way.kind == Kind::Plain
@@ -508,6 +558,22 @@ pub fn tell_given(ways: &mut [Way], place: usize) {
     }
     if before < ways.len() && ways[before].writes == store.reads {
         ways[before].given = store.item;
+        tell_copied(ways, before);
+    }
+}
+
+// The same of the place before, where this one copies what that gives, which is used no more.
+fn tell_copied(ways: &mut [Way], place: usize) {
+    let copy = way_at(ways, place);
+    let is_last = lives_at(ways, place.saturating_add(1)) & copy.reads == 0;
+    if copy.copies
+        && is_last
+        && !copy.is_join()
+        && let Some(before) = place.checked_sub(1)
+        && before < ways.len()
+        && ways[before].writes == copy.reads
+    {
+        ways[before].given = copy.given;
     }
 }
 

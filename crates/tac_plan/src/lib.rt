@@ -6,6 +6,8 @@ mod addresses;
 pub mod choice;
 mod draft;
 mod flow;
+mod items;
+mod look;
 pub mod pass;
 mod regions;
 mod room;

@@ -107,7 +107,7 @@ fn copied(alloc: Global, body: Vec<Instruction>) -> Result<Option<Vec<Instructio
     }
 }
 
-// A body without copies whose source holds what they give. None where no plan is found, or the rules don't allow it; else
+// A body without copies whose source holds what they give, and without checks that can't fail. None where no plan is found, or the rules don't allow it; else
 // the new code's begin for each place comes later.
 fn spared(
     alloc: Global,
@@ -146,8 +146,8 @@ fn leaned(
     }
 }
 
-// A body by a plan, then with copies of addresses that temporaries hold, then with fewer copies, and then without tests
-// that can't fail. None where the rules don't allow what is planned or claimed.
+// A body by a plan, then with copies of addresses that temporaries hold, then without tests that can't fail, and then with
+// fewer copies. None where the rules don't allow what is planned or claimed.
 #[tactic(auto, using(crate::proofs::Passing::body_passes))]
 fn passed_body(
     alloc: Global,
@@ -165,10 +165,10 @@ fn passed_body(
         return Ok(None);
     };
     let temporaries = temporaries_for(routine, list.as_slice());
-    let Some(list) = spared(alloc, number, temporaries, list.as_slice(), later)? else {
+    let Some(list) = leaned(alloc, temporaries as usize, list)? else {
         return Ok(None);
     };
-    leaned(alloc, temporaries as usize, list)
+    spared(alloc, number, temporaries, list.as_slice(), later)
 }
 
 // By the plan that was chosen, or as it is.

@@ -61,6 +61,8 @@ fn action_of(ways: &[Way], place: usize, instruction: &Instruction) -> Action {
     let writes = way_at(ways, place).writes;
     let is_spared = match instruction {
         Instruction::Copy { .. } => is_vain(ways, place),
+        Instruction::CheckRange { error, .. } => *error == 0,
+        Instruction::CheckPointer { error, .. } => *error == 0,
         Instruction::Literal { .. } => lives_at(ways, place.saturating_add(1)) & writes == 0,
         _ => false,
     };
