@@ -1,5 +1,9 @@
 //! The listing of an image with its source.
 
+ghost use Rattle.std.specs.Prelude.{IfOk, OnOk};
+ghost use Rattle.std.specs.String.{string_bytes};
+ghost use Rattle.ps_map.specs.Shown.{AddsLine, AddsLines, Grows, Shows};
+
 use crate::characters::readable;
 use crate::map::{Map, Owner, Row};
 use crate::variables::Variable;
@@ -160,43 +164,79 @@ struct Lister<'a> {
 }
 
 impl<'a> Lister<'a> {
-    // What stands before the words of a row: of what they are, and the line of the text, where that is another one.
-    fn head(&mut self, row: Row) -> Result<(), AllocError> {
-        if self.owner != Some(row.owner) {
-            self.owner = Some(row.owner);
-            self.line = None;
-            let name = owner_told(self.map, row.owner);
-            let told = format!(in self.alloc; "; {name}\n")?;
-            self.out.push_str(told.as_str())?;
-        }
-        let line = line_of(row);
-        if line.is_some() && line != self.line {
-            self.line = line;
-            self.source(line.unwrap_or(0))?;
-        }
-        Ok(())
+    // Adds a line.
+    fn add_line(&mut self, line: &str) -> Result<(), AllocError>
+        ensures { OnOk result (AddsLines (string_bytes self.old.out) (string_bytes self.new.out)) }
+    {
+        self.out.push_str(line)?;
+        self.out.push_str("\n")
     }
 
-    // Adds a line of the text.
-    fn source(&mut self, line: u32) -> Result<(), AllocError> {
-        let at = (line as usize).saturating_sub(1);
+    // What stands before the words of a row: of what they are, and the line of the text, where that is another one.
+    #[tactic(auto, using(crate::proofs::ShownLines::none_added))]
+    fn head(&mut self, row: Option<Row>) -> Result<(), AllocError>
+        ensures { OnOk result (AddsLines (string_bytes self.old.out) (string_bytes self.new.out)) }
+    {
+        let Some(row) = row else {
+            return Ok(());
+        };
+        self.name(row.owner)?;
+        self.source(line_of(row))
+    }
+
+    // Adds the name of what the words are of, where that is another one.
+    #[tactic(auto, using(crate::proofs::ShownLines::none_added))]
+    fn name(&mut self, owner: Owner) -> Result<(), AllocError>
+        ensures { OnOk result (AddsLines (string_bytes self.old.out) (string_bytes self.new.out)) }
+    {
+        if self.owner == Some(owner) {
+            return Ok(());
+        }
+        self.owner = Some(owner);
+        self.line = None;
+        let name = owner_told(self.map, owner);
+        let told = format!(in self.alloc; "; {name}")?;
+        self.add_line(told.as_str())
+    }
+
+    // Adds the line of the text, where that is another one.
+    #[tactic(auto, using(crate::proofs::ShownLines::none_added))]
+    fn source(&mut self, line: Option<u32>) -> Result<(), AllocError>
+        ensures { OnOk result (AddsLines (string_bytes self.old.out) (string_bytes self.new.out)) }
+    {
+        let Some(number) = line else {
+            return Ok(());
+        };
+        if line == self.line {
+            return Ok(());
+        }
+        self.line = line;
+        let at = (number as usize).saturating_sub(1);
         let text = self.lines.get(at).copied().unwrap_or("");
         let front = front_of(text);
         let more = if front.len() < text.len() { " .." } else { "" };
-        let told = format!(in self.alloc; ";{line:5}  {front}{more}\n")?;
-        self.out.push_str(told.as_str())
+        let told = format!(in self.alloc; ";{number:5}  {front}{more}")?;
+        self.add_line(told.as_str())
+    }
+
+    // Adds the name of the variable that a word loads or stores.
+    fn variable(&mut self, row: Option<Row>, word: u32) -> Result<(), AllocError>
+        ensures { OnOk result (Grows (string_bytes self.old.out) (string_bytes self.new.out)) }
+    {
+        let Some(variable) = variable_of(self.map, row, word) else {
+            return Ok(());
+        };
+        self.out.push_str(" ; ")?;
+        self.out.push_str(variable.name.as_str())
     }
 
     // Adds the line of a word, as the listing without the source has it.
-    fn word(&mut self, row: Option<Row>, listed: &str, word: u32) -> Result<(), AllocError> {
-        if let Some(row) = row {
-            self.head(row)?;
-        }
+    fn word(&mut self, row: Option<Row>, listed: &str, word: u32) -> Result<(), AllocError>
+        ensures { OnOk result (AddsLine listed.now (string_bytes self.old.out) (string_bytes self.new.out)) }
+    {
+        self.head(row)?;
         self.out.push_str(listed)?;
-        if let Some(variable) = variable_of(self.map, row, word) {
-            self.out.push_str(" ; ")?;
-            self.out.push_str(variable.name.as_str())?;
-        }
+        self.variable(row, word)?;
         self.out.push_str("\n")
     }
 }
@@ -217,7 +257,9 @@ fn listing_with_text(
     map: &Map,
     image: &ImageView<'_>,
     listing: &str,
-) -> Result<String, AllocError> {
+) -> Result<String, AllocError>
+    ensures { IfOk result (λ shown. Shows listing.now (string_bytes shown)) }
+{
     let mut lister = Lister {
         alloc,
         map,
@@ -255,7 +297,9 @@ pub fn listing_with_source(
     map: &Map,
     image: &ImageView<'_>,
     listing: &str,
-) -> Result<String, AllocError> {
+) -> Result<String, AllocError>
+    ensures { IfOk result (λ shown. Shows listing.now (string_bytes shown)) }
+{
     let text = readable(alloc, text)?;
     listing_with_text(alloc, text.as_str(), map, image, listing)
 }
