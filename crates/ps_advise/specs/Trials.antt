@@ -1,8 +1,8 @@
 -- What is told of texts, and of those that changes make: what the front end says.
-use Rattle.std.specs.Prelude.{◌≡◌, ℕ, Bool, true, false, List, All, unwrap_or}
+use Rattle.std.specs.Prelude.{◌≡◌, ⊤, ℕ, Bool, true, false, List, [], ◌∷◌, All, unwrap_or}
 use Rattle.ps_build.specs.Accepts.{IsAccepted, IsRefused}
 use Rattle.ps_build.specs.Headline.{Compiles}
-use Rattle.ps_build.specs.Refusals.{line_of}
+use Rattle.ps_build.specs.Refusals.{line_of, name_of, number_of}
 use Rattle.ps_build.specs.declared.refusal.Refusal.{Refusal}
 use Rattle.ps_build.specs.declared.refusal.Refusal.TheVariants.{OutOfMemory}
 use Rattle.ps_diagnose.specs.Changes.{changed_from}
@@ -59,6 +59,27 @@ abbrev pub IsTold : List ℕ → Bool → Type 0
 IsTold text true = (bytes : List ℕ) × Compiles text bytes
 IsTold text false = (refusal : Refusal) × IsAtFault text refusal
 
--- The text is told as accepted where it has an image, and else it is refused; and each mend that is told is one of it.
+-- what is told has the number and the name of a refusal
+abbrev pub Names : Refusal → Diagnostic → Type 0
+Names refusal told = (told.number ≡ number_of refusal) × (told.name.now ≡ name_of refusal)
+
+-- nothing is told yet, or a refusal first
+abbrev pub MayBegin : Refusal → List Diagnostic → Type 0
+MayBegin refusal [] = ⊤
+MayBegin refusal (told ∷ rest) = Names refusal told
+
+-- a refusal is told first
+abbrev pub Begins : Refusal → List Diagnostic → Type 0
+Begins refusal [] = ⊥
+Begins refusal (told ∷ rest) = Names refusal told
+
+-- where a text is refused, its refusal is told first
+abbrev pub BeginsAsRefused : List ℕ → Bool → List Diagnostic → Type 0
+BeginsAsRefused text true told = ⊤
+BeginsAsRefused text false told = (refusal : Refusal) × IsAtFault text refusal × Begins refusal told
+
+-- The text is told as accepted where it has an image, and else it is refused, and that is told first; and each mend that
+-- is told is one of it.
 abbrev pub IsAdviceOn : List ℕ → Advice → Type 0
 IsAdviceOn text advice = IsTold text advice.is_accepted × HaveMendsOf text advice.told.items
+    × BeginsAsRefused text advice.is_accepted advice.told.items

@@ -1,7 +1,7 @@
 //! All that is told of a text.
 
-ghost use Rattle.std.specs.Prelude.{◌≡◌, [], ℕ, IfOk, List, OnOk};
-ghost use Rattle.ps_advise.specs.Trials.{HaveMendsOf, IsAdviceOn, IsRestOf};
+ghost use Rattle.std.specs.Prelude.{◌≡◌, [], ℕ, IfOk, List, OnOk, false};
+ghost use Rattle.ps_advise.specs.Trials.{Begins, HaveMendsOf, IsAdviceOn, IsRestOf, MayBegin, Names};
 
 use crate::rest::{Rest, goes_on, tell_next};
 use crate::warned::warned;
@@ -41,7 +41,8 @@ fn sentence(refusal: Refusal) -> &'static str {
 }
 
 fn without_place(alloc: Global, refusal: Refusal) -> Result<Diagnostic, AllocError>
-    ensures { IfOk result (λ told. told.mends.items ≡ []) }
+    ensures mends { IfOk result (λ told. told.mends.items ≡ []) }
+    ensures names { IfOk result (Names refusal) }
 {
     Ok(Diagnostic {
         severity: Severity::Error,
@@ -64,8 +65,11 @@ fn tell_one(
     all: &mut Vec<Diagnostic>,
     wants: Wants,
 ) -> Result<bool, AllocError>
-    ensures { (text : List ℕ) → IsRestOf text rest.old → HaveMendsOf text all.old.items
+    ensures told { (text : List ℕ) → IsRestOf text rest.old → HaveMendsOf text all.old.items
         → OnOk result (HaveMendsOf text all.new.items × IsRestOf text rest.new) }
+    ensures first { (refusal : Refusal) → MayBegin refusal all.old.items
+        → (all.old.items ≡ [] → rest.old.refusal ≡ refusal)
+        → IfOk result (λ is_next. MayBegin refusal all.new.items × (all.new.items ≡ [] → is_next ≡ false)) }
 {
     let step = tell_next(alloc, rest, all)?;
     if wants.first {
@@ -82,8 +86,10 @@ fn tell_each(
     all: &mut Vec<Diagnostic>,
     wants: Wants,
 ) -> Result<(), AllocError>
-    ensures { (text : List ℕ) → IsRestOf text rest.old → HaveMendsOf text all.old.items
+    ensures told { (text : List ℕ) → IsRestOf text rest.old → HaveMendsOf text all.old.items
         → OnOk result (HaveMendsOf text all.new.items) }
+    ensures first { (refusal : Refusal) → MayBegin refusal all.old.items
+        → (all.old.items ≡ [] → rest.old.refusal ≡ refusal) → OnOk result (MayBegin refusal all.new.items) }
 {
     for _ in 0..MOST_FAULTS {
         if !tell_one(alloc, rest, all, wants)? {
@@ -99,7 +105,8 @@ fn with_one(
     mut all: Vec<Diagnostic>,
     refusal: Refusal,
 ) -> Result<Vec<Diagnostic>, AllocError>
-    ensures { (text : List ℕ) → HaveMendsOf text all.items → IfOk result (λ told. HaveMendsOf text told.items) }
+    ensures told { (text : List ℕ) → HaveMendsOf text all.items → IfOk result (λ told. HaveMendsOf text told.items) }
+    ensures first { MayBegin refusal all.items → IfOk result (λ told. Begins refusal told.items) }
 {
     if !all.is_empty() {
         return Ok(all);
@@ -116,7 +123,8 @@ fn faults_of(
     refusal: Refusal,
     wants: Wants,
 ) -> Result<Vec<Diagnostic>, AllocError>
-    ensures { IfOk result (λ told. HaveMendsOf text.now told.items) }
+    ensures told { IfOk result (λ told. HaveMendsOf text.now told.items) }
+    ensures first { IfOk result (λ told. Begins refusal told.items) }
 {
     let mut all = Vec::new(alloc);
     let mut rest = Rest::new(alloc, text, refusal)?;

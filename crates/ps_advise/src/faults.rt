@@ -1,7 +1,7 @@
 //! What is told of one refusal.
 
 ghost use Rattle.std.specs.Prelude.{◌≡◌, ℕ, IfOk, IfSome, List, OnOk};
-ghost use Rattle.ps_advise.specs.Trials.{AreGradedOf, HasMendsOf, IsMendOf};
+ghost use Rattle.ps_advise.specs.Trials.{AreGradedOf, HasMendsOf, IsMendOf, Names};
 
 use crate::budget::Budget;
 use crate::candidates::Change;
@@ -128,7 +128,8 @@ fn diagnostic_of(
     mends: Vec<Mend>,
     expected: Vec<Expected>,
 ) -> Diagnostic
-    ensures { result.mends ≡ mends }
+    ensures mends { result.mends ≡ mends }
+    ensures names { Names refusal result }
 {
     let Draft {
         text,
@@ -178,7 +179,8 @@ fn told_by_grammar(
     fault: &Fault<'_>,
     budget: &mut Budget,
 ) -> Result<Told, AllocError>
-    ensures { IfOk result (λ told. HasMendsOf faulty.entry.source.now told.diagnostic) }
+    ensures mends { IfOk result (λ told. HasMendsOf faulty.entry.source.now told.diagnostic) }
+    ensures names { IfOk result (λ told. Names faulty.entry.refusal told.diagnostic) }
 {
     let around = around_place(alloc, faulty.source.bytes(), faulty.tokens, faulty.at)?;
     let Drafted { draft, mends } = drafted_by_grammar(alloc, faulty, fault, &around, budget)?;
@@ -207,7 +209,8 @@ fn told_by_reason(
     fault: &Fault<'_>,
     budget: &mut Budget,
 ) -> Result<Told, AllocError>
-    ensures { IfOk result (λ told. HasMendsOf faulty.entry.source.now told.diagnostic) }
+    ensures mends { IfOk result (λ told. HasMendsOf faulty.entry.source.now told.diagnostic) }
+    ensures names { IfOk result (λ told. Names faulty.entry.refusal told.diagnostic) }
 {
     let Drafted { draft, mends } = drafted_by_reason(alloc, faulty, fault, budget)?;
     let mends = best_of(alloc, faulty.source.bytes(), mends)?;
@@ -227,7 +230,8 @@ pub(crate) fn told_of_fault(
     place: Span,
     budget: &mut Budget,
 ) -> Result<Told, AllocError>
-    ensures { IfOk result (λ told. HasMendsOf faulty.entry.source.now told.diagnostic) }
+    ensures mends { IfOk result (λ told. HasMendsOf faulty.entry.source.now told.diagnostic) }
+    ensures names { IfOk result (λ told. Names faulty.entry.refusal told.diagnostic) }
 {
     let fault = Fault {
         source: faulty.source,

@@ -1,7 +1,7 @@
 //! The faults of a text one after another.
 
-ghost use Rattle.std.specs.Prelude.{◌≡◌, [], ℕ, IfOk, IfSome, List, OnOk, true};
-ghost use Rattle.ps_advise.specs.Trials.{HasMendsOf, HaveMendsOf, IsRestOf};
+ghost use Rattle.std.specs.Prelude.{◌≡◌, [], ℕ, IfOk, IfSome, List, OnOk, false, true};
+ghost use Rattle.ps_advise.specs.Trials.{Begins, HasMendsOf, HaveMendsOf, IsRestOf, MayBegin, Names};
 
 use crate::budget::Budget;
 use crate::faults::{Told, told_of_fault};
@@ -36,7 +36,8 @@ pub(crate) struct Rest {
 impl Rest {
     /// A text and its first fault.
     pub(crate) fn new(alloc: Global, text: &[u8], refusal: Refusal) -> Result<Rest, AllocError>
-        ensures { IfOk result (IsRestOf text.now) }
+        ensures whole { IfOk result (IsRestOf text.now) }
+        ensures refused { IfOk result (λ rest. rest.refusal ≡ refusal) }
     {
         Ok(Rest {
             text: Vec::from_slice(alloc, text)?,
@@ -60,7 +61,8 @@ fn told_at(
     place: Place,
     budget: &mut Budget,
 ) -> Result<Option<Told>, AllocError>
-    ensures { IfOk result (λ found. IfSome found (λ told. HasMendsOf text.now told.diagnostic)) }
+    ensures mends { IfOk result (λ found. IfSome found (λ told. HasMendsOf text.now told.diagnostic)) }
+    ensures names { IfOk result (λ found. IfSome found (λ told. Names refusal told.diagnostic)) }
 {
     let Ok(source) = Source::new(text) else {
         return Ok(None);
@@ -79,7 +81,8 @@ fn told_at(
 // Gives what is told the places that it had in the text at first. Mends are told of the first fault alone: those of later ones were
 // tried on a text that has no longer the earlier ones.
 fn place_back(alloc: Global, layers: &Layers, told: &mut Diagnostic, is_whole: bool)
-    ensures { (text : List ℕ) → (is_whole ≡ true → HasMendsOf text told.old) → HasMendsOf text told.new }
+    ensures mends { (text : List ℕ) → (is_whole ≡ true → HasMendsOf text told.old) → HasMendsOf text told.new }
+    ensures names { (refusal : Refusal) → Names refusal told.old → Names refusal told.new }
 {
     if let Some(place) = told.place {
         told.place = Some(layers.span_of(place));
@@ -135,6 +138,8 @@ fn add_told(
         → (rest.old.is_whole ≡ true → HasMendsOf text told.diagnostic)
         → OnOk result (HaveMendsOf text all.new.items) }
     ensures rest { (text : List ℕ) → IsRestOf text rest.old → IsRestOf text rest.new }
+    ensures first { (refusal : Refusal) → MayBegin refusal all.old.items
+        → (all.old.items ≡ [] → Names refusal told.diagnostic) → OnOk result (Begins refusal all.new.items) }
 {
     let Told {
         mut diagnostic,
@@ -155,7 +160,9 @@ fn add_told(
         &diagnostic,
         rest.home,
     );
-    if is_known || is_doubtful(rest.refusal, rest.parted.as_slice(), rest.home) {
+    let is_unsure = is_known || is_doubtful(rest.refusal, rest.parted.as_slice(), rest.home);
+    // (the first one is told always)
+    if is_unsure && !all.is_empty() {
         return Ok(step);
     }
     all.push(diagnostic)?;
@@ -172,6 +179,9 @@ pub(crate) fn tell_next(
     ensures told { (text : List ℕ) → IsRestOf text rest.old → HaveMendsOf text all.old.items
         → OnOk result (HaveMendsOf text all.new.items) }
     ensures rest { (text : List ℕ) → IsRestOf text rest.old → IsRestOf text rest.new }
+    ensures first { (refusal : Refusal) → MayBegin refusal all.old.items
+        → (all.old.items ≡ [] → rest.old.refusal ≡ refusal)
+        → IfOk result (λ step. MayBegin refusal all.new.items × (all.new.items ≡ [] → step.items ≡ [])) }
 {
     let Some(place) = rest.refusal.place() else {
         return Ok(Vec::new(alloc));
@@ -204,7 +214,8 @@ fn is_looked_at(refusal: Refusal, before: Refusal) -> bool {
 
 /// Goes on behind a fault: whether there is a further one that is looked at.
 pub(crate) fn goes_on(alloc: Global, rest: &mut Rest, step: Vec<Edit>) -> Result<bool, AllocError>
-    ensures { (text : List ℕ) → IsRestOf text rest.old → OnOk result (IsRestOf text rest.new) }
+    ensures rest { (text : List ℕ) → IsRestOf text rest.old → OnOk result (IsRestOf text rest.new) }
+    ensures end { IfOk result (λ is_next. step.items ≡ [] → is_next ≡ false) }
 {
     if step.is_empty() || !rest.behind.takes(rest.text.len()) {
         return Ok(false);
