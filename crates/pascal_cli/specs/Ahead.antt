@@ -2,9 +2,15 @@
 use Rattle.std.specs.Prelude.{ℕ, List, Option, take, drop}
 use Rattle.std.specs.Io.KnownBytes.{prepend_known}
 use Rattle.pascal_cli.specs.declared.ahead.Ahead.{Ahead}
+use Rattle.pascal_cli.specs.declared.counted.Counted.{Counted}
+use Rattle.pascal_cli.specs.Transfers.{device_of}
+
+-- the reader, with the count of its failures
+abbrev pub counted_of : {R : Type 0} → Ahead R → Counted R
+counted_of a = a.reader
 
 abbrev pub reader_of : {R : Type 0} → Ahead R → R
-reader_of a = a.reader
+reader_of a = device_of (counted_of a)
 
 -- what was read in a block and not taken
 abbrev pub unread_of : {R : Type 0} → Ahead R → List ℕ

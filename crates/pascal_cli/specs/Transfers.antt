@@ -1,5 +1,5 @@
 -- Readers and writers with the count of their failures.
-use Rattle.std.specs.Prelude.{◌≡◌, ℕ, ◌≤◌, List, length, take, Result, Ok, Err, Option}
+use Rattle.std.specs.Prelude.{◌≡◌, ℕ, ◌<◌, ◌≤◌, List, length, take, Result, Ok, Err, Option}
 use Rattle.std.specs.Io.KnownBytes.{Appends, Consumes}
 use Rattle.risc_machine.specs.Console.{one_more}
 use Rattle.pascal_cli.specs.declared.counted.Counted.{Counted}
@@ -28,6 +28,7 @@ abbrev pub TakesUpTo : ReadFault → ℕ → Option (List ℕ) → Option (List 
 TakesUpTo Device limit old new = (bytes : List ℕ) × (length bytes ≤ limit) × Consumes old new bytes
 TakesUpTo OutOfMemory limit old new = Unit {0}
 
--- some of the first of the bytes were appended, or none
-abbrev pub AppendsFront : Option (List ℕ) → Option (List ℕ) → List ℕ → Type 0
-AppendsFront old new bytes = (count : ℕ) × Appends old new (take count bytes)
+-- some of the first of the bytes were appended, not all, and none only with a failure
+abbrev pub AppendsFront : (old new : Option (List ℕ)) → List ℕ → (faults after : ℕ) → Type 0
+AppendsFront old new bytes faults after = (count : ℕ) × (count < length bytes) × Appends old new (take count bytes)
+    × (count ≡ 0 → after ≡ one_more faults)

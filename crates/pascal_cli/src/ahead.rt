@@ -1,10 +1,12 @@
 //! Input that is read ahead of what is taken, and given back where it can be.
 
-ghost use Rattle.std.specs.Prelude.{◌≡◌, [], Some, MatchResult, OnOk, option_map};
+ghost use Rattle.std.specs.Prelude.{◌≡◌, [], Some, MatchResult, OnOk};
 ghost use Rattle.std.specs.Io.KnownBytes.{IsAtEnd, Keeps};
 ghost use Rattle.risc_machine.specs.Console.{Gives};
-ghost use Rattle.pascal_cli.specs.Ahead.{reader_of, unread_of, ahead_bytes};
+ghost use Rattle.pascal_cli.specs.Ahead.{counted_of, reader_of, unread_of, ahead_bytes};
+ghost use Rattle.pascal_cli.specs.Transfers.{faults_of, Counts};
 
+use crate::counted::Counted;
 use risc_machine::DeviceFault;
 use std::io::BufRead;
 
@@ -28,7 +30,7 @@ enum Kind {
 /// it is a file. Of any other one blocks are read, each of what there is when a byte is wanted.
 #[derive(Drop)]
 pub struct Ahead<R> {
-    reader: R,
+    reader: Counted<R>,
     kind: Kind,
     // the block, and where what isn't taken of it begins and ends
     block: [u8; BLOCK],
@@ -41,9 +43,10 @@ impl<R> Ahead<R> {
     pub fn new(reader: R) -> Ahead<R>
         ensures reader { reader_of result ≡ reader }
         ensures unread { unread_of result ≡ [] }
+        ensures faults { faults_of (counted_of result) ≡ 0 }
     {
         Ahead {
-            reader,
+            reader: Counted::new(reader),
             kind: Kind::Unknown,
             block: [0; BLOCK],
             next: 0,
@@ -53,7 +56,7 @@ impl<R> Ahead<R> {
 
     // The next byte of the block, if there is one.
     fn pop(&mut self) -> Option<u8>
-        ensures reader { reader_of self.new ≡ reader_of self.old }
+        ensures reader { counted_of self.new ≡ counted_of self.old }
         ensures bytes { Gives result (Some (unread_of self.old)) (Some (unread_of self.new)) }
     {
         if self.next >= self.end {
@@ -65,28 +68,13 @@ impl<R> Ahead<R> {
     }
 }
 
-// The next byte that a reader shows, with how many it shows.
-fn shown_byte<R: BufRead>(reader: &mut R) -> Result<Option<(u8, usize)>, DeviceFault>
-    ensures { MatchResult result (λ shown. Gives (option_map (λ s. s.0) shown) (R.remaining reader.old)
-        (R.remaining reader.new)) (λ _. Keeps (R.remaining reader.old) (R.remaining reader.new)) }
-{
-    let Ok(shown) = reader.fill_buf() else {
-        return Err(DeviceFault);
-    };
-    let Some(byte) = shown.first() else {
-        return Ok(None);
-    };
-    let (byte, count) = (*byte, shown.len());
-    reader.consume(1);
-    Ok(Some((byte, count)))
-}
-
 impl<R: BufRead> Ahead<R> {
     // Reads a block.
     fn fill(&mut self) -> Result<(), DeviceFault>
         requires { unread_of self.old ≡ [] }
         ensures kept { Keeps (ahead_bytes R.remaining self.old) (ahead_bytes R.remaining self.new) }
         ensures end { OnOk result (unread_of self.new ≡ [] → IsAtEnd (R.remaining (reader_of self.new))) }
+        ensures counted { Counts result (faults_of (counted_of self.old)) (faults_of (counted_of self.new)) }
     {
         self.next = 0;
         self.end = 0;
@@ -100,9 +88,10 @@ impl<R: BufRead> Ahead<R> {
     // The next byte, by a block of its own.
     fn next_of_block(&mut self) -> Result<Option<u8>, DeviceFault>
         requires { unread_of self.old ≡ [] }
-        ensures { MatchResult result (λ byte. Gives byte (ahead_bytes R.remaining self.old)
+        ensures bytes { MatchResult result (λ byte. Gives byte (ahead_bytes R.remaining self.old)
             (ahead_bytes R.remaining self.new)) (λ _. Keeps (ahead_bytes R.remaining self.old)
             (ahead_bytes R.remaining self.new)) }
+        ensures counted { Counts result (faults_of (counted_of self.old)) (faults_of (counted_of self.new)) }
     {
         self.fill()?;
         Ok(self.pop())
@@ -111,11 +100,12 @@ impl<R: BufRead> Ahead<R> {
     // The next byte that the reader shows. At the first, it is seen how bytes are to be read ahead.
     fn next_shown(&mut self) -> Result<Option<u8>, DeviceFault>
         requires { unread_of self.old ≡ [] }
-        ensures { MatchResult result (λ byte. Gives byte (ahead_bytes R.remaining self.old)
+        ensures bytes { MatchResult result (λ byte. Gives byte (ahead_bytes R.remaining self.old)
             (ahead_bytes R.remaining self.new)) (λ _. Keeps (ahead_bytes R.remaining self.old)
             (ahead_bytes R.remaining self.new)) }
+        ensures counted { Counts result (faults_of (counted_of self.old)) (faults_of (counted_of self.new)) }
     {
-        let Some((byte, count)) = shown_byte(&mut self.reader)? else {
+        let Some((byte, count)) = self.reader.shown_byte()? else {
             return Ok(None);
         };
         if let Kind::Unknown = self.kind {
@@ -124,11 +114,12 @@ impl<R: BufRead> Ahead<R> {
         Ok(Some(byte))
     }
 
-    /// The next byte, or none at the end.
+    /// The next byte, or none at the end. It fails only where the reader does.
     pub fn take(&mut self) -> Result<Option<u8>, DeviceFault>
-        ensures { MatchResult result (λ byte. Gives byte (ahead_bytes R.remaining self.old)
+        ensures bytes { MatchResult result (λ byte. Gives byte (ahead_bytes R.remaining self.old)
             (ahead_bytes R.remaining self.new)) (λ _. Keeps (ahead_bytes R.remaining self.old)
             (ahead_bytes R.remaining self.new)) }
+        ensures counted { Counts result (faults_of (counted_of self.old)) (faults_of (counted_of self.new)) }
     {
         if let Some(byte) = self.pop() {
             return Ok(Some(byte));

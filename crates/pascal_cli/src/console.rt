@@ -95,7 +95,7 @@ impl<R: BufRead, W> BlockConsole<R, W> {
 }
 
 impl<R, W: Write> BlockConsole<R, W> {
-    /// Hands on all that is held, unless a write has failed before.
+    /// Hands on all that is held, unless a write has failed before. It fails only where a write did, now or before.
     pub fn write_out(&mut self) -> Result<(), DeviceFault>
         ensures input { input_of self.new ≡ input_of self.old }
         ensures output { Keeps (output_of W.contents self.old) (output_of W.contents self.new) }
@@ -103,6 +103,8 @@ impl<R, W: Write> BlockConsole<R, W> {
         ensures failed { MatchResult result (λ _. has_failed self.new ≡ false) (λ _. has_failed self.new ≡ true) }
         ensures once { has_failed self.old ≡ true → (writer_of self.new ≡ writer_of self.old)
             × (has_failed self.new ≡ true) }
+        ensures counted { has_failed self.old ≡ false → transfer.Counts result
+            (transfer.faults_of (writer_of self.old)) (transfer.faults_of (writer_of self.new)) }
         ensures faults { faults_of self.new ≡ faults_of self.old }
     {
         if self.has_failed {
@@ -201,7 +203,18 @@ impl<R: BufRead, W: Write> Paced for BlockConsole<R, W> {
 
     ghost has_failed = { has_failed };
 
-    fn pause(&mut self) -> Result<(), DeviceFault> {
+    fn pause(&mut self) -> Result<(), DeviceFault>
+        ensures failed { OnErr result (has_failed self.new ≡ true) }
+        ensures input { Keeps (console_world R.remaining W.contents self.old).input
+            (console_world R.remaining W.contents self.new).input }
+        ensures output { Keeps (console_world R.remaining W.contents self.old).output
+            (console_world R.remaining W.contents self.new).output }
+        ensures faults { (console_world R.remaining W.contents self.new).faults
+            ≡ (console_world R.remaining W.contents self.old).faults }
+        ensures all { OnOk result (held_of self.new ≡ []) }
+        ensures counted { has_failed self.old ≡ false → transfer.Counts result
+            (transfer.faults_of (writer_of self.old)) (transfer.faults_of (writer_of self.new)) }
+    {
         self.write_out()
     }
 }

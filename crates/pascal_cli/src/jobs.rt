@@ -5,7 +5,9 @@
 
 ghost use Rattle.std.specs.Prelude.{◌≡◌, ◌≤◌, ◌<◌, ◌⊎◌, ℕ, IfErr, IfOk, List, length, true};
 ghost use Rattle.std.specs.Io.KnownBytes.{Appends};
+ghost use Rattle.std.specs.String.{string_bytes};
 ghost use Rattle.ps_build.specs.Listed.{IsListed};
+ghost use Rattle.ps_map.specs.Shown.{Shows};
 ghost use Rattle.pascal_cli.specs.Command as work;
 ghost use Rattle.pascal_cli.specs.Command.{request_in, work_of};
 ghost use Rattle.pascal_cli.specs.Console.{console_world, has_failed, held_of};
@@ -304,9 +306,18 @@ fn print_source_listing<R: Print + Eprint + AllocGlobal>(
         ⊎ ((result ≡ 0) × ((bytes : List ℕ) × (text : List ℕ) × IsBuilt bytes × IsListed bytes text)) }
 {
     match with_source(rt.alloc(), text, mapped, listing) {
-        Ok(told) => print_all(rt, told.as_bytes()),
+        Ok(told) => print_shown(rt, listing, told.as_str()),
         Err(_) => out_of_memory(rt),
     }
+}
+
+// Writes what is shown of a listing to standard output.
+fn print_shown<R: Print + Eprint>(rt: &R, listing: &str, told: &str) -> u8
+    requires { Shows listing.now told.now }
+    ensures { result ≤ FAILED }
+{
+    let _ = listing;
+    print_all(rt, told.as_bytes())
 }
 
 // A listing with the lines of its text.
@@ -315,7 +326,9 @@ fn with_source(
     text: &[u8],
     mapped: &Mapped,
     listing: &str,
-) -> Result<String, AllocError> {
+) -> Result<String, AllocError>
+    ensures { IfOk result (λ shown. Shows listing.now (string_bytes shown)) }
+{
     let map = map_of_text(alloc, text, mapped)?;
     let Ok(view) = ImageView::read(mapped.built.bytes()) else {
         return Err(AllocError);
