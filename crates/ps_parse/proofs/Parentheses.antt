@@ -1,5 +1,5 @@
 -- Parentheses that come one after the other are taken at once, and closed one by one.
-use Rattle.std.proofs.Common.{◌≡◌, ℕ, zero, suc, ◌+◌, ◌-◌, ◌<◌, ◌≤◌, true, false, List, [], ◌∷◌, drop, get_or, None, Ok}
+use Rattle.std.proofs.Common.{◌≡◌, ◌⊎◌, ℕ, zero, suc, ◌+◌, ◌-◌, ◌<◌, ◌≤◌, true, false, List, [], ◌∷◌, drop, get_or, None, Ok}
 use Rattle.std.proofs.Common.{Err, Result, inl, inr, refl, sym, ap, ◌∙◌, subst, arith}
 use Rattle.std.specs.Result.{result_and}
 use Rattle.std.proofs.lemmas.List.{drop-drop}
@@ -114,6 +114,31 @@ all_taken most ts r taken =
     let none : most - most ≡ 0 = omega arith in
     let left : parentheses (most - most) r ≡ 0 = ap (λ (m : ℕ). parentheses m r) none in
     (omega (arith, taken.number, left), taken.left)
+
+lt_or_ge : (x y : ℕ) → (x < y) ⊎ (y ≤ x)
+lt_or_ge x y = grind arith
+
+taken_run : (n most : ℕ) (ts : Tokens) → n ≤ most → ((i : ℕ) → i < n → sees k.LeftParen (drop i ts) ≡ true)
+    → Taken most ts n (drop n ts)
+taken_run zero most ts le run = nothing_taken most ts
+taken_run (suc n) most ts le run =
+    let before = taken_run n most ts (omega arith) (λ i below. run i (omega arith)) in
+    let here = run n (omega arith) in
+    let next = next_taken most n ts (drop n ts) before (omega arith) here in
+    let after_it : after k.LeftParen (drop n ts) ≡ drop (n + 1) ts = (one_taken 0 (drop n ts) here).1 ∙ drop-drop 1 n ts in
+    let count : n + 1 ≡ suc n = omega arith in
+    subst (λ (j : ℕ). Taken most ts j (drop j ts)) count (subst (Taken most ts (n + 1)) after_it next)
+
+-- a longest run of them is all that come next
+pub run_taken : (n most : ℕ) (ts : Tokens) → n ≤ most → ((i : ℕ) → i < n → sees k.LeftParen (drop i ts) ≡ true)
+    → (n < most → sees k.LeftParen (drop n ts) ≡ false) → n ≡ parentheses most ts
+run_taken n most ts le run end =
+    let taken = taken_run n most ts le run in
+    elim (lt_or_ge n most) [
+      | inl below ↦ (last_taken most n ts (drop n ts) taken (end below)).0
+      | inr past ↦ (let whole : n ≡ most = omega arith in
+          whole ∙ (all_taken most ts (drop n ts) (subst (λ (j : ℕ). Taken most ts j (drop n ts)) whole taken)).0)
+    ]
 
 -- what is read where i of them are open
 abbrev pub opened : ℕ → Span → Tokens → Token → ℕ → Outcome Factor
@@ -261,3 +286,31 @@ module _ (n : ℕ) (at : Span) (ts : Tokens) (t : Token) (o : ℕ) (r : Tokens) 
       ∙ ap (λ (p : Outcome Expr). and_then p (λ y. close n at ts t o (stripped y))) h
       ∙ ap (λ (p : ℕ × Expr). close n at ts t o p m) (innermost n ts x m here)
       ∙ ap (λ (j : ℕ). close n at ts t j (0, x) m) whole
+
+-- ---- closing parentheses directly behind one another
+
+closing_taken : (ts : Tokens) → sees k.RightParen ts ≡ true → (at : Span) × (expect k.RightParen ts ≡ Ok (at, drop 1 ts))
+unfolding expect
+closing_taken [] h = cc
+closing_taken (t ∷ ts) h = (t.span, rw h refl)
+
+closing_ends : (ts : Tokens) → sees k.RightParen ts ≡ true → sees_operator ts ≡ false
+closing_ends [] h = refl
+closing_ends (t ∷ ts) h = rw (same_is t.kind k.RightParen h) refl
+
+-- what a group is, of which r parentheses were closed that have another one behind them
+pub closed_begun : (r n : ℕ) (at : Span) (ts : Tokens) (t : Token) (o : ℕ) (x : Expr) (g : Outcome Factor) (m : Tokens)
+    → g ≡ close n at ts t (o - 0) (0, x) m → r ≤ o
+    → ((i : ℕ) → i < r → (sees k.RightParen (drop i m) ≡ true) × (sees k.RightParen (drop (i + 1) m) ≡ true))
+    → g ≡ close n at ts t (o - r) (r, x) (drop r m)
+closed_begun zero n at ts t o x g m begun le run = begun
+closed_begun (suc r) n at ts t o x g m begun le run =
+    let before = closed_begun r n at ts t o x g m begun (omega arith) (λ i below. run i (omega arith)) in
+    let here = run r (omega arith) in
+    let taken = closing_taken (drop r m) here.0 in
+    let read : expect k.RightParen (drop r m) ≡ Ok (taken.0, drop (r + 1) m) = taken.1
+    ∙ ap (λ (q : Tokens). Ok (taken.0, q)) (drop-drop 1 r m) in
+    let next = turn_alone n at ts t o r r x g (drop r m) before taken.0 (drop (r + 1) m) (omega arith) read
+    (closing_ends (drop (r + 1) m) here.1) in
+    let count : r + 1 ≡ suc r = omega arith in
+    subst (λ (j : ℕ). g ≡ close n at ts t (o - j) (j, x) (drop j m)) count next

@@ -1,19 +1,35 @@
 //! Expressions.
 
-ghost use Rattle.std.specs.Prelude.{◌≡◌, ◌≤◌, Ok, Some, drop};
+ghost use Rattle.std.specs.Prelude.{◌≡◌, ◌≤◌, ◌<◌, ◌+◌, ℕ, true, false, Ok, Some, drop, length};
 ghost use Rattle.ps_scan.specs.declared.token.Kind.TheVariants as k;
-ghost use Rattle.ps_parse.specs.Steps.{Reads, separated, many};
+ghost use Rattle.ps_parse.specs.Steps.{Reads, sees, separated, many};
 ghost use Rattle.ps_parse.specs.ReadExpressions as read;
 
 use crate::answer::{beside, boxed_answer, push_answer};
 use crate::error::Fault;
 use crate::parser::Parser;
-use ps_scan::{Kind, Token};
+use ps_scan::{Kind, Token, is};
 use ps_syntax::{
     AddedTerm, Adding, Boxed, Expr, Factor, Items, Member, MultipliedFactor, Multiplying, Relation,
     Selector, Sign, Simple, Term, Variable,
 };
 use ps_text::Span;
+
+/// How many of these tokens, from the first one on, are of a kind, up to a limit.
+#[tactic(auto, using(crate::proofs::Runs::run_more, crate::proofs::Runs::run_ends, crate::proofs::Runs::none_left))]
+fn run_of(tokens: &[Token], kind: Kind, most: u32) -> u32
+    ensures most { result ≤ most }
+    ensures within { result ≤ length tokens.now }
+    ensures run { (i : ℕ) → i < result → sees kind (drop i tokens.now) ≡ true }
+    ensures end { result < most → sees kind (drop result tokens.now) ≡ false }
+{
+    for (count, token) in tokens.iter().enumerate() {
+        if count == most as usize || !is(token.kind, kind) {
+            return count as u32;
+        }
+    }
+    tokens.len() as u32
+}
 
 impl<'a> Parser<'a> {
     #[tactic(auto, unfolding(crate::specs::ReadExpressions::eat_operator))]
@@ -329,17 +345,28 @@ impl<'a> Parser<'a> {
     }
 
     /// Skips the parentheses that come next, at most `most` of them, and returns their number.
+    #[tactic(auto, using(crate::proofs::Parentheses::run_taken))]
     fn opened(&mut self, most: u32) -> u32
         ensures count { result ≡ read.parentheses most self.old.rest.now }
         ensures most { result ≤ most }
         ensures after { self.new.rest.now ≡ drop result self.old.rest.now }
     {
-        for count in 0..most {
-            if !self.eat(Kind::LeftParen) {
-                return count;
-            }
-        }
-        most
+        let count = run_of(self.rest, Kind::LeftParen, most);
+        self.rest = &self.rest[count as usize..];
+        count
+    }
+
+    /// Skips closing parentheses that come next and have another one behind them, fewer than `most`, and returns their
+    /// number.
+    fn closed_ahead(&mut self, most: u32) -> u32
+        ensures most { result ≤ most }
+        ensures closing { (i : ℕ) → i < result → (sees k.RightParen (drop i self.old.rest.now) ≡ true)
+            × (sees k.RightParen (drop (i + 1) self.old.rest.now) ≡ true) }
+        ensures after { self.new.rest.now ≡ drop result self.old.rest.now }
+    {
+        let count = run_of(self.rest, Kind::RightParen, most).saturating_sub(1);
+        self.rest = &self.rest[count as usize..];
+        count
     }
 
     /// A group after its parenthesis. The parentheses that come next are taken at once and closed one by one, so that
@@ -351,8 +378,8 @@ impl<'a> Parser<'a> {
         let tokens = self.rest;
         let opened = self.opened(depth);
         let mut inner = self.boxed_expr(depth - opened)?;
-        let mut redundant = 0;
-        for closed in 0..opened {
+        let mut redundant = self.closed_ahead(opened);
+        for closed in redundant..opened {
             self.expect(Kind::RightParen)?;
             if !self.sees_operator() {
                 redundant += 1;

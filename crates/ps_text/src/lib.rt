@@ -1,8 +1,8 @@
 //! Code: source texts within the limits, spans of them, and their lines.
 #![tactic(auto)]
 
-ghost use Rattle.std.specs.Prelude.{◌≡◌, ◌<◌, ◌≤◌, ◌+◌, ◌↔◌, ℕ, List, IsTrue, length, slice_range, IfOk, IsOk};
-ghost use Rattle.ps_text.specs.Lines.{line_count, line_at, IsSource};
+ghost use Rattle.std.specs.Prelude.{◌≡◌, ◌<◌, ◌≤◌, ◌+◌, ◌↔◌, ℕ, List, IsTrue, length, count_by, slice_range, IfOk, IsOk};
+ghost use Rattle.ps_text.specs.Lines.{is_line_end, line_count, line_at, IsSource};
 ghost use Rattle.ps_text.specs.Refusals.{number_of};
 
 mod table;
@@ -19,6 +19,9 @@ pub const MAX_LINES: usize = 65_535;
 
 /// Byte 10, which ends a line.
 const LINE_END: u8 = b'\n';
+
+/// Of how many bytes the line ends are counted in one go.
+const PIECE: usize = 128;
 
 /// A part of a text, from the offset of its first byte to the one after its last.
 #[derive(Clone, Copy)]
@@ -125,15 +128,31 @@ impl<'a> Source<'a> {
 }
 
 /// The number of lines in the bytes.
+#[tactic(auto, using(crate::proofs::Pieces::few_lines, crate::proofs::Pieces::no_more))]
 fn lines_of(bytes: &[u8]) -> u32
     requires { length bytes.now ≤ MAX_LENGTH }
     ensures { result ≡ line_count bytes.now }
 {
     let mut lines = 1;
-    for byte in bytes {
-        if *byte == LINE_END {
-            lines += 1;
-        }
+    let mut rest = bytes;
+    while !rest.is_empty() {
+        let length = rest.len().min(PIECE);
+        lines += u32::from(ends_in(&rest[..length]));
+        rest = &rest[length..];
     }
     lines
+}
+
+/// The number of line ends in a few bytes. It fits a byte, and bytes are compared and counted many at a time.
+fn ends_in(bytes: &[u8]) -> u8
+    requires { length bytes.now ≤ PIECE }
+    ensures { result ≡ count_by is_line_end bytes.now }
+{
+    let mut ends = 0;
+    for byte in bytes {
+        if *byte == LINE_END {
+            ends += 1;
+        }
+    }
+    ends
 }

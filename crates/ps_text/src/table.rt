@@ -5,7 +5,8 @@ ghost use Rattle.std.specs.List.Sorted.{IsNonDecreasing, IsPartitionPoint};
 ghost use Rattle.ps_text.specs.declared.TheConstants.{MAX_LINES};
 ghost use Rattle.ps_text.specs.Lines.{line_at, line_ends as ends_from, IsSource};
 
-use crate::Source;
+use crate::{LINE_END, Source};
+use memchr::memchr_iter;
 use std::alloc::{AllocError, Global};
 use std::marker::Model;
 
@@ -65,10 +66,8 @@ fn line_ends(alloc: Global, text: &[u8]) -> Result<Vec<u32>, OutOfMemory>
     ensures { IfOk result (λ ends. ends.items ≡ ends_from 0 text.now) }
 {
     let mut ends = Vec::new(alloc);
-    for (offset, byte) in text.iter().enumerate() {
-        if *byte == b'\n' {
-            ends.push(offset as u32)?;
-        }
+    for offset in memchr_iter(LINE_END, text) {
+        ends.push(offset as u32)?;
     }
     Ok(ends)
 }

@@ -6,14 +6,16 @@ ghost use Rattle.ps_tree.specs.Names.{has, place};
 ghost use Rattle.ps_tree.specs.NameCode.{symbol, name_symbols, joined, packed, names_code};
 
 use indexmap::IndexSet;
-use md5::{Digest, Md5};
 use std::alloc::{AllocError, Global};
-use std::hash::{BuildHasher, FoldHasher, Hasher};
+use std::hash::{BuildHasher, DefaultHasher, FoldHasher, Hasher};
 use std::marker::Model;
 
 /// What the hashes of a text's names and numbers begin with.
 ///
-/// It is made of the whole text: names whose hashes are alike can't be chosen, since another name makes another seed.
+/// It is SipHash-1-3 of the whole text, with both keys 0. So names whose hashes are alike can't be chosen by trial:
+/// another name makes another seed, and of the texts round names that were made for one seed, one in 2^64 has it. No
+/// shorter way is known to us, though SipHash doesn't promise that there is none where its keys are known. Who found
+/// one would make the check of his text slow, and no answer wrong.
 #[derive(Clone, Copy)]
 pub struct Seed {
     initial: FoldHasher,
@@ -22,9 +24,10 @@ pub struct Seed {
 impl Seed {
     /// The seed of a text.
     pub fn of(text: &[u8]) -> Seed {
-        let [a, b, c, d, e, f, g, h, ..] = Md5::digest(text);
+        let mut whole = DefaultHasher::new();
+        whole.write(text);
         let mut initial = FoldHasher::default();
-        initial.write_u64(u64::from_le_bytes([a, b, c, d, e, f, g, h]));
+        initial.write_u64(whole.finish());
         Seed { initial }
     }
 }
