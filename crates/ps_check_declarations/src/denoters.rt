@@ -1,330 +1,34 @@
 //! Type denoters: the type that each makes, and what it defines for its block.
 
-ghost use Rattle.std.specs.Prelude.{[], ◌≡◌, ◌<◌, ◌^◌, ◌++◌, ◌∷◌, ℕ, IfOk, OnOk, OnErr, map, length};
+mod named;
+mod ordinals;
+
+ghost use Rattle.std.specs.Prelude.{[], ◌≡◌, ◌++◌, ◌∷◌, IfOk, OnOk, map};
 ghost use Rattle.ps_tree.specs.Types.{ArrayType, RecordType, field_list};
 ghost use Rattle.ps_tree.specs.View.{type_of, types_of};
 ghost use Rattle.ps_check_judgement.specs.Judged.{Answers, steps};
-ghost use Rattle.ps_check_names.specs.Spelling.{spelled};
-ghost use Rattle.ps_check_names.specs.Regions.{ConstantMeaning};
-ghost use Rattle.ps_check_names.specs.Constants.{constant};
-ghost use Rattle.ps_check_names.specs.Views.{scope_of, point_of, meaning_of, constant_of};
 ghost use Rattle.ps_check_declarations.specs.Points.{add_points, new_points};
-ghost use Rattle.ps_check_declarations.specs.Denoters.{regions, passes, passes_in, type_at, type_named, ordinal_at};
-ghost use Rattle.ps_check_declarations.specs.Denoters.{constants_from, enumeration, subrange, subrange_of, ordinal};
 ghost use Rattle.ps_check_declarations.specs.Denoters.{index_begins, pointer, small, begins, is_packed, index_type};
 ghost use Rattle.ps_check_declarations.specs.Denoters.{array_of, fields_of_type, set_of, add_fields, record_names};
-ghost use Rattle.ps_check_declarations.specs.Denoters.{array_type, record_type, set_type, simple_type, denoter};
+ghost use Rattle.ps_check_declarations.specs.Denoters.{array_type, record_type, set_type, denoter};
 ghost use Rattle.ps_check_declarations.specs.Denoters.{structure, fields, section_names};
 ghost use Rattle.ps_check_declarations.specs.Views.{frame_of, declared_of, hidden_of};
 
+use crate::denoters::named::pass_hidden;
+use crate::denoters::ordinals::{ordinal, simple_type};
 use crate::frame::{Declared, Frame, Hidden, Place};
 use crate::points::{add_points, new_points};
+pub(crate) use named::{constant_in, type_in};
 use ps_check_judgement::answer::broken;
 use ps_check_judgement::refusal::{Fault, Rule};
-use ps_check_names::constants::{ConstantValue, constant, misplacement};
-use ps_check_names::meaning::Meaning;
-use ps_check_names::reading::Reading;
-use ps_check_names::scope::{Found, Scope, within_own};
 use ps_check_names::wides::Wides;
-use ps_syntax::{Constant, Fields, Ordinal as OrdinalDenoter, Structure, TypeDenoter};
+use ps_syntax::{Fields, Ordinal as OrdinalDenoter, Structure, TypeDenoter};
 use ps_text::Span;
 use ps_tree::names::{Names, Seed};
-use ps_tree::types::{Component, Fields as RecordFields, Host, Ordinal, Packing, Ty, same_host};
+use ps_tree::types::{Component, Fields as RecordFields, Ordinal, Packing, Ty};
 use std::alloc::{AllocError, Global};
 use std::mem;
 use std::rc::Rc;
-
-/// A name that begins at an offset, and is hidden by no definition within which the place lies.
-#[tactic(auto, unfolding(crate::specs::Denoters::passes, crate::specs::Views::hidden_of))]
-fn passes(hidden: &Hidden, name: &[u8], at: u32) -> Result<(), Fault>
-    ensures { Answers result (λ _. tt) (passes (hidden_of hidden.now) name.now at) }
-{
-    match hidden {
-        Hidden::Nothing => Ok(()),
-        Hidden::Own {
-            names,
-            defined,
-            outer,
-        } => match names.find(name) {
-            None => passes(outer, name, at),
-            Some(index) => Err(broken(within_own(index, *defined), at)),
-        },
-    }
-}
-
-/// The same for the name at this place.
-#[tactic(auto, unfolding(crate::specs::Denoters::passes, crate::specs::Views::hidden_of))]
-fn pass_hidden(reading: &Reading, alloc: Global, hidden: &Hidden, name: Span) -> Result<(), Fault>
-    ensures { Answers result (λ _. tt) (passes (hidden_of hidden.now) (spelled reading.now.source.now name) name.from) }
-{
-    match hidden {
-        Hidden::Nothing => Ok(()),
-        Hidden::Own { .. } => {
-            let spelling = reading.spelling(alloc, name)?;
-            passes(hidden, spelling.as_slice(), name.from)
-        }
-    }
-}
-
-/// The type denoted by what a name was found to be.
-#[tactic(auto, unfolding(crate::specs::Denoters::type_at, ps_check_names::specs::Views::meaning_of))]
-fn type_at(found: &Found, at: u32) -> Result<Ty, Fault>
-    ensures { Answers result (λ ty. type_of ty) (type_at at (point_of found.now)) }
-{
-    match found {
-        Found::Name { meaning, .. } => match meaning {
-            Meaning::Type(ty) => Ok(ty.copy()?),
-            Meaning::Constant { .. }
-            | Meaning::Text(_)
-            | Meaning::Variable { .. }
-            | Meaning::Parameter { .. }
-            | Meaning::RoutineParameter { .. }
-            | Meaning::Routine(_)
-            | Meaning::Required(_)
-            | Meaning::File(_)
-            | Meaning::LeftOut => Err(broken(misplacement(found), at)),
-        },
-        Found::Field { .. } => Err(broken(misplacement(found), at)),
-    }
-}
-
-/// The type that a name denotes.
-fn type_named(reading: &Reading, alloc: Global, scope: &Scope, name: Span) -> Result<Ty, Fault>
-    ensures { Answers result (λ ty. type_of ty) (type_named reading.now.source.now (scope_of scope.now) name) }
-{
-    let found = reading.denoted(alloc, scope, name)?;
-    type_at(&found, name.from)
-}
-
-/// The type that a name denotes at a place of a block.
-#[tactic(auto, using(crate::proofs::HiddenLemmas::type_named_past), unfolding(ps_check_names::specs::Views::scope_of))]
-pub(crate) fn type_in(place: &Place, known: &[Meaning], name: Span) -> Result<Ty, Fault>
-    ensures { Answers result (λ ty. type_of ty)
-        (type_named place.now.frame.reading.now.source.now
-        (regions (frame_of place.now.frame) (hidden_of place.now.hidden) (map meaning_of known.now)) name) }
-{
-    let Frame {
-        reading,
-        routine,
-        names,
-        outer,
-        ..
-    } = place.frame;
-    pass_hidden(reading, place.alloc, &place.hidden, name)?;
-    let scope = Scope::Block {
-        routine,
-        names,
-        known,
-        outer,
-    };
-    type_named(reading, place.alloc, &scope, name)
-}
-
-/// The constant is none of the hidden names.
-#[tactic(auto, unfolding(crate::specs::Denoters::passes_in))]
-fn pass_hidden_in(
-    reading: &Reading,
-    alloc: Global,
-    hidden: &Hidden,
-    written: Constant,
-) -> Result<(), Fault>
-    ensures { Answers result (λ _. tt) (passes_in reading.now.source.now (hidden_of hidden.now) written) }
-{
-    match written {
-        Constant::Number(..) | Constant::Text(_) => Ok(()),
-        Constant::Name(_, name) => pass_hidden(reading, alloc, hidden, name),
-    }
-}
-
-/// A constant at a place of a block.
-#[tactic(auto, using(crate::proofs::HiddenLemmas::constant_past), unfolding(ps_check_names::specs::Views::scope_of))]
-pub(crate) fn constant_in(
-    place: &Place,
-    known: &[Meaning],
-    written: Constant,
-) -> Result<ConstantValue, Fault>
-    ensures { Answers result (λ value. constant_of value)
-        (constant place.now.frame.reading.now.source.now
-        (regions (frame_of place.now.frame) (hidden_of place.now.hidden) (map meaning_of known.now)) written) }
-{
-    let Frame {
-        reading,
-        routine,
-        names,
-        outer,
-        ..
-    } = place.frame;
-    pass_hidden_in(reading, place.alloc, &place.hidden, written)?;
-    let scope = Scope::Block {
-        routine,
-        names,
-        known,
-        outer,
-    };
-    constant(reading, place.alloc, &scope, written)
-}
-
-/// The ordinal type that a type is.
-#[tactic(auto, unfolding(crate::specs::Denoters::ordinal_at, ps_tree::specs::View::type_of))]
-fn ordinal_at(ty: &Ty, at: u32) -> Result<Ordinal, Fault>
-    ensures { Answers result (λ ordinal. ordinal) (ordinal_at at (type_of ty.now)) }
-{
-    match ty {
-        Ty::Simple(ordinal) => Ok(*ordinal),
-        Ty::Pointer { .. }
-        | Ty::Nil
-        | Ty::Set { .. }
-        | Ty::EmptySet
-        | Ty::Text { .. }
-        | Ty::Array { .. }
-        | Ty::Record { .. } => Err(broken(Rule::WrongType, at)),
-    }
-}
-
-/// A subrange of these constants, which begins at this place.
-#[tactic(auto, unfolding(crate::specs::Denoters::subrange, ps_check_names::specs::Views::constant_of))]
-fn subrange(at: u32, low: &ConstantValue, high: &ConstantValue) -> Result<Ordinal, Fault>
-    ensures { Answers result (λ ordinal. ordinal) (subrange at (constant_of low.now) (constant_of high.now)) }
-{
-    match (low, high) {
-        (ConstantValue::Ordinal(first, low), ConstantValue::Ordinal(second, high)) => {
-            if !same_host(first.host, second.host) {
-                return Err(broken(Rule::WrongType, at));
-            }
-            if *low <= *high {
-                Ok(Ordinal {
-                    host: first.host,
-                    subrange: Some(at),
-                    low: *low,
-                    high: *high,
-                })
-            } else {
-                Err(broken(Rule::BadSubrange, at))
-            }
-        }
-        (ConstantValue::Ordinal(..) | ConstantValue::Text(_), _) => {
-            Err(broken(Rule::WrongType, at))
-        }
-    }
-}
-
-/// The constants of an enumerated type, one for each name.
-#[tactic(auto, using(crate::proofs::DenoterLemmas::values_start, crate::proofs::DenoterLemmas::values_next, crate::proofs::DenoterLemmas::values_end))]
-fn define_values(
-    ordinal: Ordinal,
-    names: &[Span],
-    known: &mut Vec<Meaning>,
-) -> Result<(), AllocError>
-    requires { length names.now < 2 ^ 31 }
-    ensures { OnOk result (map meaning_of known.new.items ≡ map meaning_of known.old.items
-        ++ constants_from ordinal 0 names.now) }
-{
-    for value in 0..names.len() {
-        define_value(ordinal, value as i32, known)?;
-    }
-    Ok(())
-}
-
-#[tactic(auto, unfolding(ps_check_names::specs::Views::meaning_of))]
-fn define_value(ordinal: Ordinal, value: i32, known: &mut Vec<Meaning>) -> Result<(), AllocError>
-    ensures { OnOk result (map meaning_of known.new.items ≡ map meaning_of known.old.items
-        ++ ConstantMeaning ordinal value ∷ []) }
-{
-    known.push(Meaning::Constant { ordinal, value })?;
-    Ok(())
-}
-
-/// An enumerated type, whose constants are defined for the block.
-fn enumeration(
-    place: &Place,
-    declared: &mut Declared,
-    at: u32,
-    constants: &[Span],
-) -> Result<Ordinal, Fault>
-    ensures { Answers result (λ ordinal. (ordinal, declared_of declared.new))
-        (enumeration (frame_of place.now.frame) at constants.now (declared_of declared.old)) }
-{
-    let Frame {
-        reading,
-        names,
-        begun,
-        ..
-    } = place.frame;
-    let known = declared.known.len();
-    let _defined = new_points(reading, place.alloc, names, begun, known, constants)?;
-    if constants.len() >= 2_147_483_648 {
-        return Err(broken(Rule::Limit, at));
-    }
-    let greatest = constants.len().saturating_sub(1) as i32;
-    let ordinal = Ordinal {
-        host: Host::Enumeration { at, greatest },
-        subrange: None,
-        low: 0,
-        high: greatest,
-    };
-    define_values(ordinal, constants, &mut declared.known)?;
-    Ok(ordinal)
-}
-
-/// The subrange of two constants.
-fn subrange_of(
-    place: &Place,
-    known: &[Meaning],
-    at: u32,
-    low: Constant,
-    high: Constant,
-) -> Result<Ordinal, Fault>
-    ensures { Answers result (λ o. o) (subrange_of (frame_of place.now.frame) (hidden_of place.now.hidden)
-        (map meaning_of known.now) at low high) }
-{
-    let first = constant_in(place, known, low)?;
-    let second = constant_in(place, known, high)?;
-    subrange(at, &first, &second)
-}
-
-/// An ordinal type.
-#[tactic(auto, unfolding(crate::specs::Denoters::ordinal))]
-fn ordinal(
-    place: &Place,
-    declared: &mut Declared,
-    denoter: &OrdinalDenoter,
-) -> Result<Ordinal, Fault>
-    ensures { Answers result (λ o. (o, declared_of declared.new))
-        (ordinal (frame_of place.now.frame) (hidden_of place.now.hidden) (declared_of declared.old) denoter.now) }
-{
-    match denoter {
-        OrdinalDenoter::Name(at) => {
-            let ty = type_in(place, declared.known.as_slice(), *at)?;
-            ordinal_at(&ty, at.from)
-        }
-        OrdinalDenoter::Enumeration(at, names) => {
-            enumeration(place, declared, at.from, names.as_slice())
-        }
-        OrdinalDenoter::Subrange(low, high) => {
-            let known = declared.known.as_slice();
-            subrange_of(place, known, denoter.first_token(), *low, *high)
-        }
-    }
-}
-
-/// A type that a name or an ordinal type's denoter makes.
-#[tactic(auto, unfolding(crate::specs::Denoters::simple_type, ps_tree::specs::View::type_of))]
-fn simple_type(
-    place: &Place,
-    declared: &mut Declared,
-    denoter: &OrdinalDenoter,
-) -> Result<Ty, Fault>
-    ensures { Answers result (λ ty. (type_of ty, declared_of declared.new))
-        (simple_type (frame_of place.now.frame) (hidden_of place.now.hidden) (declared_of declared.old) denoter.now) }
-{
-    match denoter {
-        OrdinalDenoter::Name(at) => type_in(place, declared.known.as_slice(), *at),
-        OrdinalDenoter::Enumeration(..) | OrdinalDenoter::Subrange(..) => {
-            let ordinal = ordinal(place, declared, denoter)?;
-            Ok(Ty::Simple(ordinal))
-        }
-    }
-}
 
 /// A pointer type, whose domain type is resolved later.
 #[tactic(auto, unfolding(ps_tree::specs::View::type_of))]

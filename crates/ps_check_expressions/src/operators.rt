@@ -1,31 +1,31 @@
 //! The operators (ISO 7185, 6.7.2).
 
+mod comparison;
+
 ghost use Rattle.std.specs.Prelude.{◌≡◌, if◌then◌else◌, IfOk};
-ghost use Rattle.ps_tree.specs.View.{type_of, expr_of, set_of, structure_of};
-ghost use Rattle.ps_tree.specs.Types.{are_same, is_compatible, string_length, OrdinalType};
+ghost use Rattle.ps_tree.specs.View.{type_of, expr_of, set_of};
+ghost use Rattle.ps_tree.specs.Types.{is_compatible};
 ghost use Rattle.ps_tree.specs.Chains.{combined};
 ghost use Rattle.ps_check_judgement.specs.Judged.{Answers, provided};
 ghost use Rattle.ps_check_judgement.specs.declared.refusal.Fault.TheVariants.{Broken};
 ghost use Rattle.ps_check_judgement.specs.declared.refusal.Rule.TheVariants.{WrongType};
-ghost use Rattle.ps_check_expressions.specs.Values.{SimpleValue, SetValue, StructureValue, set_type_of_both};
-ghost use Rattle.ps_check_expressions.specs.Values.{type_of_value};
+ghost use Rattle.ps_check_expressions.specs.Values.{SetValue, set_type_of_both};
 ghost use Rattle.ps_check_expressions.specs.Operators.{operand_of, number, with_sign, negated, arithmetic};
-ghost use Rattle.ps_check_expressions.specs.Operators.{arithmetic_or_set, logic, added, multiplied, ordered};
-ghost use Rattle.ps_check_expressions.specs.Operators.{of_pointers, of_sets, simple_comparison, may_be_first};
-ghost use Rattle.ps_check_expressions.specs.Operators.{may_be_member, is_in, compared, truth};
+ghost use Rattle.ps_check_expressions.specs.Operators.{arithmetic_or_set, logic, added, multiplied};
+ghost use Rattle.ps_check_expressions.specs.Operators.{may_be_first};
+ghost use Rattle.ps_check_expressions.specs.Operators.{truth};
 ghost use Rattle.ps_check_expressions.specs.View.{value_of};
 
+use crate::operators::comparison::may_be_first;
 use crate::value::{TypedValue, has_host, set_type_of_both};
+pub(crate) use comparison::compared;
 use ps_check_judgement::answer::{boxed_answer, broken, paired};
 use ps_check_judgement::refusal::{Fault, Rule};
 use ps_check_names::constants::{BOOLEAN, INTEGER};
 use ps_syntax::{Adding, Multiplying, Relation, Sign};
 use ps_tree::line::Line;
-use ps_tree::tree::{
-    ArithmeticOperator, BooleanOperator, Expr, PointerRelation, Relation as TreeRelation, SetExpr,
-    SetOperator, SetRelation, Structure,
-};
-use ps_tree::types::{Host, Ty, compatible, same_host};
+use ps_tree::tree::{ArithmeticOperator, BooleanOperator, Expr, SetExpr, SetOperator, Structure};
+use ps_tree::types::{Host, Ty, compatible};
 use std::alloc::{AllocError, Global};
 
 /// Where the first tokens of two operands are.
@@ -263,272 +263,5 @@ pub(crate) fn multiplied(
         Multiplying::Div => arithmetic(alloc, ArithmeticOperator::Div, line, left, right, at),
         Multiplying::Mod => arithmetic(alloc, ArithmeticOperator::Mod, line, left, right, at),
         Multiplying::And => logic(alloc, BooleanOperator::And, left, right, at),
-    }
-}
-
-/// The relation on ordinals or strings.
-fn ordered(relation: Relation) -> Option<TreeRelation>
-    ensures { result ≡ ordered relation }
-{
-    match relation {
-        Relation::Equal => Some(TreeRelation::Equal),
-        Relation::NotEqual => Some(TreeRelation::Different),
-        Relation::Less => Some(TreeRelation::Less),
-        Relation::Greater => Some(TreeRelation::Greater),
-        Relation::LessEqual => Some(TreeRelation::AtMost),
-        Relation::GreaterEqual => Some(TreeRelation::AtLeast),
-        Relation::In => None,
-    }
-}
-
-/// The relation on pointers.
-fn of_pointers(relation: Relation) -> Option<PointerRelation>
-    ensures { result ≡ of_pointers relation }
-{
-    match relation {
-        Relation::Equal => Some(PointerRelation::Same),
-        Relation::NotEqual => Some(PointerRelation::Other),
-        Relation::Less
-        | Relation::Greater
-        | Relation::LessEqual
-        | Relation::GreaterEqual
-        | Relation::In => None,
-    }
-}
-
-/// The relation on sets.
-fn of_sets(relation: Relation) -> Option<SetRelation>
-    ensures { result ≡ of_sets relation }
-{
-    match relation {
-        Relation::Equal => Some(SetRelation::Same),
-        Relation::NotEqual => Some(SetRelation::Other),
-        Relation::LessEqual => Some(SetRelation::Included),
-        Relation::GreaterEqual => Some(SetRelation::Includes),
-        Relation::Less | Relation::Greater | Relation::In => None,
-    }
-}
-
-/// Whether a value of the type may by itself be the first operand of the relation.
-#[tactic(auto, unfolding(crate::specs::Operators::may_be_first, ps_tree::specs::View::type_of))]
-fn may_be_first(relation: Relation, ty: &Ty) -> bool
-    ensures { result ≡ may_be_first relation (type_of ty.now) }
-{
-    match ty {
-        Ty::Simple(_) => true,
-        Ty::Pointer { .. } | Ty::Nil => of_pointers(relation).is_some(),
-        Ty::Set { .. } | Ty::EmptySet => of_sets(relation).is_some(),
-        Ty::Text { .. } | Ty::Array { .. } | Ty::Record { .. } => {
-            ordered(relation).is_some() && ty.string_length().is_some()
-        }
-    }
-}
-
-/// A comparison of two ordinals, or of two pointers or nil, of compatible types.
-#[tactic(auto, unfolding(crate::specs::Operators::simple_comparison, crate::specs::Operators::compared, crate::specs::View::value_of, ps_tree::specs::View::type_of, ps_tree::specs::View::expr_of))]
-fn simple_comparison(
-    alloc: Global,
-    relation: Relation,
-    left: (Expr, &Ty),
-    right: (Expr, &Ty),
-    at: Operands,
-) -> Result<TypedValue, Fault>
-    ensures { Answers result (λ v. value_of v)
-        (compared at relation (SimpleValue (expr_of left.entry.0) (type_of left.entry.1.now))
-        (SimpleValue (expr_of right.entry.0) (type_of right.entry.1.now))) }
-{
-    let ((left, s), (right, t)) = (left, right);
-    let (left, right) = boxed_pair(alloc, left, right)?;
-    if !compatible(s, t) {
-        return Err(unlike(relation, s, at));
-    }
-    match s {
-        Ty::Simple(_) => match ordered(relation) {
-            None => Err(wrong_type(at.second)),
-            Some(relation) => Ok(truth(Expr::Compare {
-                relation,
-                left,
-                right,
-            })),
-        },
-        Ty::Pointer { .. }
-        | Ty::Nil
-        | Ty::Set { .. }
-        | Ty::EmptySet
-        | Ty::Text { .. }
-        | Ty::Array { .. }
-        | Ty::Record { .. } => match of_pointers(relation) {
-            None => Err(wrong_type(at.first)),
-            Some(relation) => Ok(truth(Expr::ComparePointers {
-                relation,
-                left,
-                right,
-            })),
-        },
-    }
-}
-
-/// Whether a value of the first type may be a member of a set of the second.
-#[tactic(auto, unfolding(ps_tree::specs::View::type_of))]
-fn may_be_member(ty: &Ty, set: &Ty) -> bool
-    ensures { result ≡ may_be_member (type_of ty.now) (type_of set.now) }
-{
-    match (ty, set) {
-        (Ty::Simple(ordinal), Ty::Set { base, .. }) => same_host(ordinal.host, base.host),
-        (Ty::Simple(_), Ty::EmptySet) => true,
-        (
-            Ty::Simple(_)
-            | Ty::Pointer { .. }
-            | Ty::Nil
-            | Ty::Set { .. }
-            | Ty::EmptySet
-            | Ty::Text { .. }
-            | Ty::Array { .. }
-            | Ty::Record { .. },
-            _,
-        ) => false,
-    }
-}
-
-/// String types of the same length.
-fn are_equally_long(a: &Ty, b: &Ty) -> bool
-    ensures { result ≡ are_same (string_length (type_of a.now)) (string_length (type_of b.now)) }
-{
-    match (a.string_length(), b.string_length()) {
-        (Some(m), Some(n)) => m == n,
-        (Some(_) | None, _) => false,
-    }
-}
-
-/// A comparison of two sets of compatible types.
-#[tactic(auto, unfolding(ps_tree::specs::View::expr_of, crate::specs::Operators::compared, crate::specs::View::value_of))]
-fn set_comparison(
-    alloc: Global,
-    relation: Relation,
-    left: (SetExpr, &Ty),
-    right: (SetExpr, &Ty),
-    at: Operands,
-) -> Result<TypedValue, Fault>
-    ensures { Answers result (λ v. value_of v)
-        (compared at relation (SetValue (set_of left.entry.0) (type_of left.entry.1.now))
-        (SetValue (set_of right.entry.0) (type_of right.entry.1.now))) }
-{
-    let ((left, s), (right, t)) = (left, right);
-    let (left, right) = boxed_pair(alloc, left, right)?;
-    match of_sets(relation) {
-        Some(relation) if compatible(s, t) => Ok(truth(Expr::CompareSets {
-            relation,
-            left,
-            right,
-        })),
-        _ => Err(unlike(relation, s, at)),
-    }
-}
-
-/// A comparison of two strings of the same length.
-#[tactic(auto, unfolding(ps_tree::specs::View::expr_of, crate::specs::Operators::compared, crate::specs::View::value_of))]
-fn string_comparison(
-    alloc: Global,
-    relation: Relation,
-    left: (Structure, &Ty),
-    right: (Structure, &Ty),
-    at: Operands,
-) -> Result<TypedValue, Fault>
-    ensures { Answers result (λ v. value_of v)
-        (compared at relation (StructureValue (structure_of left.entry.0) (type_of left.entry.1.now))
-        (StructureValue (structure_of right.entry.0) (type_of right.entry.1.now))) }
-{
-    let ((left, s), (right, t)) = (left, right);
-    let (left, right) = boxed_pair(alloc, left, right)?;
-    match ordered(relation) {
-        Some(relation) if are_equally_long(s, t) => Ok(truth(Expr::CompareStrings {
-            relation,
-            left,
-            right,
-        })),
-        _ => Err(unlike(relation, s, at)),
-    }
-}
-
-/// A test of whether an ordinal is in a set.
-#[tactic(auto, unfolding(ps_tree::specs::View::expr_of, crate::specs::Operators::compared, crate::specs::View::value_of))]
-fn membership(
-    alloc: Global,
-    relation: Relation,
-    left: (Expr, &Ty),
-    right: (SetExpr, &Ty),
-    at: Operands,
-) -> Result<TypedValue, Fault>
-    ensures { Answers result (λ v. value_of v)
-        (compared at relation (SimpleValue (expr_of left.entry.0) (type_of left.entry.1.now))
-        (SetValue (set_of right.entry.0) (type_of right.entry.1.now))) }
-{
-    let ((left, s), (right, t)) = (left, right);
-    let (left, right) = boxed_pair(alloc, left, right)?;
-    match relation {
-        Relation::In => {
-            if may_be_member(s, t) {
-                Ok(truth(Expr::In { left, right }))
-            } else {
-                Err(wrong_type(at.first))
-            }
-        }
-        Relation::Equal
-        | Relation::NotEqual
-        | Relation::Less
-        | Relation::Greater
-        | Relation::LessEqual
-        | Relation::GreaterEqual => Err(unlike(relation, s, at)),
-    }
-}
-
-/// Why no relation compares two operands, the first of which is `left`.
-#[tactic(auto, unfolding(crate::specs::View::value_of))]
-fn unlike_values(relation: Relation, left: &TypedValue, at: Operands) -> Fault
-    ensures { result ≡ Broken WrongType (if may_be_first relation (type_of_value (value_of left.now)) then at.second
-        else at.first) }
-{
-    match left {
-        TypedValue::Simple(_, ty) | TypedValue::Set(_, ty) | TypedValue::Structure(_, ty) => {
-            unlike(relation, ty, at)
-        }
-    }
-}
-
-/// A relational operator.
-#[inline(never)]
-#[tactic(auto, unfolding(crate::specs::Operators::compared, crate::specs::View::value_of))]
-pub(crate) fn compared(
-    alloc: Global,
-    relation: Relation,
-    left: TypedValue,
-    right: TypedValue,
-    at: Operands,
-) -> Result<TypedValue, Fault>
-    ensures { Answers result (λ v. value_of v) (compared at relation (value_of left) (value_of right)) }
-{
-    match (left, right) {
-        (TypedValue::Simple(a, s), TypedValue::Simple(b, t)) => {
-            simple_comparison(alloc, relation, (a, &s), (b, &t), at)
-        }
-        (TypedValue::Simple(a, s), TypedValue::Set(b, t)) => {
-            membership(alloc, relation, (a, &s), (b, &t), at)
-        }
-        (TypedValue::Set(a, s), TypedValue::Set(b, t)) => {
-            set_comparison(alloc, relation, (a, &s), (b, &t), at)
-        }
-        (TypedValue::Structure(a, s), TypedValue::Structure(b, t)) => {
-            string_comparison(alloc, relation, (a, &s), (b, &t), at)
-        }
-        (left @ TypedValue::Simple(..), right @ TypedValue::Structure(..))
-        | (left @ TypedValue::Set(..), right @ (TypedValue::Simple(..) | TypedValue::Structure(..)))
-        | (
-            left @ TypedValue::Structure(..),
-            right @ (TypedValue::Simple(..) | TypedValue::Set(..)),
-        ) => {
-            let wrong = unlike_values(relation, &left, at);
-            drop((left, right));
-            Err(wrong)
-        }
     }
 }

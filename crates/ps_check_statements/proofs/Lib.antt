@@ -1,5 +1,6 @@
 pub mod Equations
 pub mod Opening
+pub mod Closest
 pub mod Sources
 pub mod Loops
 pub mod Lists

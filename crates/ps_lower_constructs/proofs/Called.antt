@@ -1,7 +1,7 @@
 -- The run of a call: the routine is entered, its frame is filled, its statements run, and it returns to its caller.
-use Rattle.std.proofs.Common.{◌≡◌, ℕ, zero, suc, pos, ◌+◌, ◌*◌, ◌/◌, ◌<◌, ◌≤◌, Bool, true, false, if◌then◌else◌, List}
-use Rattle.std.proofs.Common.{[], ◌∷◌, ◌++◌, length, get_or, slice_get, replicate, Option, Some, None, sum_by, refl}
-use Rattle.std.proofs.Common.{sym, ap, ◌∙◌, subst, append_assoc, append-nil, arith}
+use Rattle.std.proofs.Common.{◌≡◌, ℕ, suc, pos, ◌+◌, ◌*◌, ◌/◌, ◌<◌, ◌≤◌, Bool, true, false, if◌then◌else◌, List, []}
+use Rattle.std.proofs.Common.{◌∷◌, ◌++◌, length, get_or, slice_get, replicate, Option, Some, None, sum_by, refl, sym}
+use Rattle.std.proofs.Common.{ap, ◌∙◌, subst, arith}
 use Rattle.std.specs.List.{All}
 use Rattle.behavior.specs.Endings.{Stack}
 use Rattle.ps_tree.specs.Types.{DataType}
@@ -14,8 +14,7 @@ use Rattle.tac_code.specs.declared.code.Instruction.{Instruction}
 use Rattle.tac_code.specs.declared.code.Instruction.TheVariants.{End}
 use Rattle.tac_code.specs.declared.code.TacRoutine.{TacRoutine}
 use Rattle.tac_code.specs.Memory.{Words, Living, living, load, known}
-use Rattle.tac_code.specs.Meaning.{Code, State, Temporaries, Over, Goes, routines, body_at, unwritten, entered, enter}
-use Rattle.tac_code.specs.Meaning.{fetch, put, text_at}
+use Rattle.tac_code.specs.Meaning.{State, Over, Goes, routines, unwritten, entered, enter, fetch, put, text_at}
 use Rattle.ps_meaning.specs.Text.{Input}
 use Rattle.ps_meaning.specs.Values.{Value, Spot, first}
 use Rattle.ps_meaning.specs.Worlds.{Env, Within, World, Answer, Done, stop}
@@ -28,19 +27,17 @@ use Rattle.tac_code_steps.specs.Splices.{ArePlaced}
 use Rattle.tac_code_steps.proofs.Runs.{split, one_turn, a_step, ◌>>◌, leads_comes, stops_now}
 use Rattle.tac_code_steps.proofs.Temporaries.{eq_same, put_same, put_other}
 use Rattle.tac_code_steps.proofs.Instructions.{literal_step, load_step, return_step}
-use Rattle.ps_lower_layout.specs.Shapes.{Shape, NumberShape, PointerShape, SetShape, ByteShape, ArrayShape}
-use Rattle.ps_lower_layout.specs.Shapes.{RecordShape, Whole, shape_of}
+use Rattle.ps_lower_layout.specs.Shapes.{Shape, shape_of}
 use Rattle.ps_lower_layout.specs.Words.{value_words}
-use Rattle.ps_lower_layout.specs.Paths.{Sort, HasShape}
 use Rattle.ps_lower_layout.specs.Frames.{Kinds, Own, kinds_of, result_kinds, listed_kinds, variable_kinds, entries}
 use Rattle.ps_lower_layout.specs.Frames.{layout_of, entry_offset, is_program_block}
 use Rattle.ps_lower_code.specs.Routines.{begin_code, end_code, result_end, routine_code, parameter_total}
 use Rattle.ps_lower_code.specs.Routines.{count_parameters, scope_of}
 use Rattle.ps_lower_code.specs.Statements.{statements_code}
 use Rattle.ps_lower_code.specs.Programs.{tac_of}
-use Rattle.ps_lower_code.specs.Fits.{tail, SortOf, StatementsFit}
-use Rattle.ps_lower_relation.specs.Ghosts.{Ghost, OwnSlot, found, Numbered, slot_kinds, pieces, frames_of, objects_of}
-use Rattle.ps_lower_relation.specs.Ghosts.{tape_of, ObjectsFit, RoutineHere, EnvAt}
+use Rattle.ps_lower_code.specs.Fits.{tail, StatementsFit}
+use Rattle.ps_lower_relation.specs.Ghosts.{Ghost, OwnSlot, found, slot_kinds, pieces, frames_of, objects_of, tape_of}
+use Rattle.ps_lower_relation.specs.Ghosts.{ObjectsFit, RoutineHere, EnvAt}
 use Rattle.ps_lower_relation.specs.Here.{Setting, costs_in, code_in, machine_of, Work, Activated, IsActive, Alive}
 use Rattle.ps_lower_relation.specs.Here.{activation, state, context, chain_of}
 use Rattle.ps_lower_relation.specs.Outcomes.{Outcome, Reached, Runs}
@@ -65,68 +62,8 @@ use Rattle.ps_lower_constructs.proofs.Runs.{with_temporary, outcome_from, outcom
 use Rattle.ps_lower_constructs.proofs.Calls.{called, called_active, enters, leaves, map_there, length_map}
 use Rattle.ps_lower_relation.specs.RunTime.{WritesDo}
 use Rattle.ps_lower_constructs.proofs.Writes.{frames_below, waiting_below}
-
--- ---- where the code of a routine is
-
-middle : {A : Type 0} (front back : List A) (x : A) → slice_get (front ++ x ∷ back) (length front) ≡ Some x
-middle [] back x = refl
-middle (y ∷ front) back x = middle front back x
-
-stands_from : (code : Code) (r : ℕ) (routine : TacRoutine) → slice_get (routines code) r ≡ Some routine
-    → (front back : List Instruction) → front ++ back ≡ routine.body → Stands code r (length front) back
-    (length routine.body)
-stands_from code r routine h front [] e = ap length (sym (append-nil front)) ∙ ap length e
-stands_from code r routine h front (i ∷ back) e = (
-  ap (λ o. body_at o (length front)) h ∙ ap (λ l. slice_get l (length front)) (sym e) ∙ middle front back i,
-  subst (λ n. Stands code r n back (length routine.body)) (longer front i)
-      (stands_from code r routine h (front ++ i ∷ []) back (append_assoc front (i ∷ []) back ∙ e)),
-)
-  where
-    longer : (front : List Instruction) (i : Instruction) → length (front ++ i ∷ []) ≡ suc (length front)
-    longer [] i = refl
-    longer (j ∷ front) i = ap suc (longer front i)
-
-quarter : (n : ℕ) → 4 * n / 4 ≡ n
-quarter n = omega arith
-
-count_none : (n : ℕ) → length (replicate {A = Option Word} n None) ≡ n
-count_none zero = refl
-count_none (suc n) = ap suc (count_none n)
-
--- ---- small facts
-
-abbrev number_in : Word → ℕ
-number_in (Address (FrameBlock n) o) = n
-number_in _ = 0
-
-words_in : (f : Temporaries) (t : ℕ) (xs : List Word) → ((i : ℕ) → f (t + i) ≡ slice_get xs i) → WordsIn f t xs
-words_in f t [] h = tt
-words_in f t (x ∷ xs) h =
-    let z : t ≡ t + 0 = omega arith in
-    (ap f z ∙ h 0, words_in f (suc t) xs (λ i. let e : suc t + i ≡ t + suc i = omega arith in ap f e ∙ h (suc i)))
-
-true_no : {A : Type 0} → true ≡ false → A
-true_no e = absurd (cc)
-
-numbered_less : (gs : List Ghost) (m n : ℕ) → m ≤ n → Numbered gs m → Numbered gs n
-numbered_less [] m n l h = tt
-numbered_less (g ∷ gs) m n l h = let low = h.0 in (omega (arith, l, low), h.1)
-
--- a value of one word
-one_word : (shape : Shape) (sort : Sort) (v : Value) → SortOf (Whole shape) sort → (x : Word)
-    × (value_words shape v ≡ Some x ∷ [])
-one_word (NumberShape first narrow) sort v e = (_, refl)
-one_word (PointerShape t) sort v e = (_, refl)
-one_word SetShape sort v e = absurd e
-one_word (ByteShape count first) sort v e = absurd e
-one_word (ArrayShape count shape) sort v e = absurd e
-one_word (RecordShape shapes) sort v e = absurd e
-
--- what a call leaves in a temporary, where the result was declared under a name
-abbrev pub ResultIn : Option DataType → (name t : ℕ) → World → Work → Type 0
-ResultIn None name t w k = Unit {0}
-ResultIn (Some type) name t w k = (x : Word) × (k.temporaries t ≡ Some x)
-    × (value_words (shape_of type) (w.store name) ≡ Some x ∷ []) × HasShape w.made (w.store name) (shape_of type)
+use Rattle.ps_lower_constructs.proofs.RoutinePlaces.{ResultIn, count_none, number_in, numbered_less, one_word, quarter}
+use Rattle.ps_lower_constructs.proofs.RoutinePlaces.{stands_from, true_no, words_in}
 
 module _ (p : Setting) (c : Activated) (active : IsActive p c) (fit : RoutinesFit p.program) (does : WritesDo p) (w : World) (k : Work) (pc t line r : ℕ) (parent : Env) (link : Word) (ps : List Passing) (kinds : Kinds) (shaped : Option Shape) (alive : Alive p c w k) (known_ : RoutineHere p.program c.ghosts w.made kinds shaped r) (outside : EnvAt p.program c.ghosts w.made parent link (tail (routine_at p.program r).chain)) (same : passed_kinds ps ≡ kinds) (passed : PassingsAt p.program c.ghosts w.made ps) (last : ℕ) (are : ArePassed c.number k.scratch last ps) where
   abbrev routine : Routine

@@ -34,7 +34,8 @@ use Rattle.ps_lower_constructs.specs.Tasks.{Nothing, NextRuns}
 use Rattle.ps_lower_constructs.proofs.Runs.{runs_bind, runs_map, runs_from, here, keeps_less}
 use Rattle.ps_lower_constructs.proofs.Values.{FrontIn, FrontRuns, plain_front, false_true, load_word}
 use Rattle.ps_lower_constructs.proofs.Calls.{length_map}
-use Rattle.ps_lower_constructs.proofs.Called.{ResultIn, call_runs}
+use Rattle.ps_lower_constructs.proofs.RoutinePlaces.{ResultIn}
+use Rattle.ps_lower_constructs.proofs.Called.{call_runs}
 use Rattle.ps_lower_constructs.proofs.Links.{link_to, formal_run}
 use Rattle.ps_lower_constructs.proofs.Arguments.{below_less, values_same, arguments_above, arguments_below}
 use Rattle.ps_lower_constructs.proofs.Arguments.{ArgumentsIn, declared_here, ArgumentsRun}

@@ -15,6 +15,7 @@ pub mod Passed
 pub mod Expressions
 pub mod Checks
 pub mod Calls
+pub mod RoutinePlaces
 pub mod Called
 pub mod Scratch
 pub mod Links

@@ -9,6 +9,9 @@ pub mod Heights
 pub mod Trees
 pub mod Answers
 pub mod Acts
+pub mod Repetitions
+pub mod Turns
+pub mod Called
 pub mod Chains
 pub mod Arms
 pub mod Runs

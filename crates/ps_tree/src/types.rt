@@ -1,17 +1,19 @@
-// Types: what they are, when two are the same, and their sizes.
+// Types: what they are, and the components of arrays and records.
 
-ghost use Rattle.std.specs.Prelude.{◌≡◌, ◌↔◌, ◌+◌, ◌*◌, ◌-◌, ◌^◌, ◌<◌, ◌≤◌, min, IfOk, IfSome, IsTrue, option_map, ℕ};
-ghost use Rattle.std.specs.Prelude.{List};
-ghost use Rattle.ps_tree.specs.Types.{Compatible, Assignable, is_same_host, are_same, is_same_ordinal, is_same_type};
-ghost use Rattle.ps_tree.specs.Types.{is_char, is_string_index, string_length, goes_with, has_variables, is_compatible};
-ghost use Rattle.ps_tree.specs.Types.{is_assignable, field_list, field_types, field_at, field_in, HaveSameNames};
-ghost use Rattle.ps_tree.specs.Sizes.{depth, depth_of_fields, value_count, fits_byte, whole_words, cells, record_cells};
-ghost use Rattle.ps_tree.specs.Sizes.{bytes, record_bytes, field_bytes, bytes_before, beginnings};
+mod agreement;
+mod sizes;
+
+ghost use Rattle.std.specs.Prelude.{◌≡◌, ◌↔◌, ◌+◌, ◌*◌, ◌-◌, ◌^◌, ◌<◌, ◌≤◌, min, IfOk, IfSome, IsTrue, option_map};
+ghost use Rattle.ps_tree.specs.Types.{field_list, field_types, field_in, HaveSameNames};
+ghost use Rattle.ps_tree.specs.Sizes.{depth, depth_of_fields, cells, record_cells};
+ghost use Rattle.ps_tree.specs.Sizes.{bytes, record_bytes, bytes_before, beginnings};
 ghost use Rattle.ps_tree.specs.TypeDepth.{deepest};
 ghost use Rattle.ps_tree.specs.TypeView.{type_of, types_of};
 ghost use Rattle.ps_tree.specs.declared.types.Component.TheDeep.{size-Ty};
 
 use crate::names::Names;
+use crate::types::sizes::{bytes_of_all, cells_of_all, field_at, offsets_of_all, take_largest};
+pub use agreement::{assignable, compatible, same_host, same_type};
 use std::alloc::{AllocError, Global};
 use std::marker::Model;
 use std::rc::Rc;
@@ -268,68 +270,6 @@ impl Model for Fields {
     ghost size_decreases = { λ f h. deep_in_fields f.names f.types.items };
 }
 
-/// Two types have values of one kind: apart from all their subranges, they are the same type.
-pub fn same_host(a: Host, b: Host) -> bool
-    ensures { result ≡ is_same_host a b }
-{
-    match (a, b) {
-        (Host::Integer, Host::Integer)
-        | (Host::Char, Host::Char)
-        | (Host::Boolean, Host::Boolean) => true,
-        (Host::Enumeration { at: x, .. }, Host::Enumeration { at: y, .. }) => x == y,
-        (Host::Integer | Host::Char | Host::Boolean | Host::Enumeration { .. }, _) => false,
-    }
-}
-
-fn same_number(a: Option<u32>, b: Option<u32>) -> bool
-    ensures { result ≡ are_same a b }
-{
-    match (a, b) {
-        (Some(x), Some(y)) => x == y,
-        (Some(_) | None, _) => false,
-    }
-}
-
-fn same_ordinal(a: Ordinal, b: Ordinal) -> bool
-    ensures { result ≡ is_same_ordinal a b }
-{
-    same_host(a.host, b.host)
-        && (same_number(a.subrange, b.subrange) || (a.subrange.is_none() && b.subrange.is_none()))
-}
-
-fn packings_agree(a: Packing, b: Packing) -> bool
-    ensures { result ≡ goes_with a b }
-{
-    match (a, b) {
-        (Packing::Packed, Packing::Unpacked) | (Packing::Unpacked, Packing::Packed) => false,
-        (Packing::Packed | Packing::Unpacked | Packing::Either, _) => true,
-    }
-}
-
-impl Ordinal {
-    /// The number of values of the type.
-    pub fn value_count(self) -> u64
-        ensures value { result ≡ value_count self }
-        ensures small { result ≤ 2 ^ 32 }
-    {
-        if self.high < self.low {
-            0
-        } else {
-            u64::from(self.high.abs_diff(self.low)) + 1
-        }
-    }
-
-    /// A subrange of integer from 1 to n > 1.
-    fn is_string_index(self) -> bool
-        ensures { result ≡ is_string_index self }
-    {
-        same_host(self.host, Host::Integer)
-            && self.subrange.is_some()
-            && self.low == 1
-            && 1 < self.high
-    }
-}
-
 impl Ty {
     /// The same type.
     #[tactic(auto, unfolding(crate::specs::TypeView::type_of))]
@@ -365,234 +305,9 @@ impl Ty {
             }),
         }
     }
-
-    /// The type char itself.
-    #[tactic(auto, unfolding(crate::specs::TypeView::type_of))]
-    fn is_char(&self) -> bool
-        ensures { result ≡ is_char (type_of self.now) }
-    {
-        match self {
-            Ty::Simple(ordinal) => same_host(ordinal.host, Host::Char)
-                && ordinal.subrange.is_none(),
-            Ty::Pointer { .. }
-            | Ty::Nil
-            | Ty::Set { .. }
-            | Ty::EmptySet
-            | Ty::Text { .. }
-            | Ty::Array { .. }
-            | Ty::Record { .. } => false,
-        }
-    }
-
-    /// The length of the strings that are the type's values, if it is a string type (6.4.3.2).
-    #[tactic(auto, unfolding(crate::specs::TypeView::type_of, crate::specs::Types::string_length))]
-    pub fn string_length(&self) -> Option<u32>
-        ensures { result ≡ string_length (type_of self.now) }
-    {
-        match self {
-            Ty::Text { length } => Some(*length),
-            Ty::Array {
-                packed,
-                index,
-                component,
-                ..
-            } => {
-                if *packed && component.ty.is_char() && index.is_string_index() {
-                    Some(index.high.unsigned_abs())
-                } else {
-                    None
-                }
-            }
-            Ty::Simple(_)
-            | Ty::Pointer { .. }
-            | Ty::Nil
-            | Ty::Set { .. }
-            | Ty::EmptySet
-            | Ty::Record { .. } => None,
-        }
-    }
 }
 
-/// The same type (6.4.1).
-#[tactic(auto, unfolding(crate::specs::TypeView::type_of, crate::specs::Types::is_same_type))]
-pub fn same_type(a: &Ty, b: &Ty) -> bool
-    ensures { result ≡ is_same_type (type_of a.now) (type_of b.now) }
-{
-    match (a, b) {
-        (Ty::Simple(x), Ty::Simple(y)) => same_ordinal(*x, *y),
-        (Ty::Pointer { number: x }, Ty::Pointer { number: y }) => *x == *y,
-        (Ty::Nil, Ty::Nil) | (Ty::EmptySet, Ty::EmptySet) => true,
-        (Ty::Set { at: x, .. }, Ty::Set { at: y, .. }) => same_number(*x, *y),
-        (Ty::Array { at: x, .. }, Ty::Array { at: y, .. }) => *x == *y,
-        (Ty::Record { at: x, .. }, Ty::Record { at: y, .. }) => *x == *y,
-        (
-            Ty::Simple(_)
-            | Ty::Pointer { .. }
-            | Ty::Nil
-            | Ty::Set { .. }
-            | Ty::EmptySet
-            | Ty::Text { .. }
-            | Ty::Array { .. }
-            | Ty::Record { .. },
-            _,
-        ) => false,
-    }
-}
-
-/// String types with the same number of components.
-#[tactic(auto, unfolding(crate::specs::TypeView::type_of))]
-fn same_strings(a: &Ty, b: &Ty) -> bool
-    ensures { result ≡ are_same (string_length (type_of a.now)) (string_length (type_of b.now)) }
-{
-    same_number(a.string_length(), b.string_length())
-}
-
-#[tactic(auto, unfolding(crate::specs::TypeView::type_of, crate::specs::Types::is_compatible))]
-fn test_compatible(a: &Ty, b: &Ty) -> bool
-    ensures { result ≡ is_compatible (type_of a.now) (type_of b.now) }
-{
-    match (a, b) {
-        (Ty::Simple(x), Ty::Simple(y)) => same_host(x.host, y.host),
-        (
-            Ty::Set {
-                at: x,
-                packing: k,
-                base: o,
-            },
-            Ty::Set {
-                at: y,
-                packing: l,
-                base: p,
-            },
-        ) => same_number(*x, *y) || (same_host(o.host, p.host) && packings_agree(*k, *l)),
-        (Ty::EmptySet, Ty::Set { .. })
-        | (Ty::Set { .. }, Ty::EmptySet)
-        | (Ty::Nil, Ty::Pointer { .. })
-        | (Ty::Pointer { .. }, Ty::Nil) => true,
-        (
-            Ty::Simple(_)
-            | Ty::Pointer { .. }
-            | Ty::Nil
-            | Ty::Set { .. }
-            | Ty::EmptySet
-            | Ty::Text { .. }
-            | Ty::Array { .. }
-            | Ty::Record { .. },
-            _,
-        ) => same_type(a, b) || same_strings(a, b),
-    }
-}
-
-/// Two types are compatible (6.4.5).
-pub fn compatible(a: &Ty, b: &Ty) -> bool
-    ensures rule { IsTrue result ↔ Compatible (type_of a.now) (type_of b.now) }
-    ensures value { result ≡ is_compatible (type_of a.now) (type_of b.now) }
-{
-    test_compatible(a, b)
-}
-
-#[tactic(auto, unfolding(crate::specs::TypeView::type_of))]
-fn may_be_of_a_variable(ty: &Ty) -> bool
-    ensures { result ≡ has_variables (type_of ty.now) }
-{
-    match ty {
-        Ty::Nil | Ty::EmptySet | Ty::Text { .. } => false,
-        Ty::Simple(_)
-        | Ty::Pointer { .. }
-        | Ty::Set { .. }
-        | Ty::Array { .. }
-        | Ty::Record { .. } => true,
-    }
-}
-
-/// A value of the first type may be assigned to a variable of the second (6.4.6). The value itself is tested at run
-/// time.
-pub fn assignable(from: &Ty, to: &Ty) -> bool
-    ensures rule { IsTrue result ↔ Assignable (type_of from.now) (type_of to.now) }
-    ensures value { result ≡ is_assignable (type_of from.now) (type_of to.now) }
-{
-    may_be_of_a_variable(to) && compatible(from, to)
-}
-
-/// The next multiple of four.
-fn whole_words(n: u64) -> u64
-    requires { n ≤ 2 ^ 32 }
-    ensures { result ≡ whole_words n }
-{
-    4 * ((n + 3) / 4)
-}
-
-/// The number, or the largest of four bytes if it is above that.
-fn capped(n: u64) -> u32
-    ensures { result ≡ min n (2 ^ 32 - 1) }
-{
-    if n <= 0xFFFF_FFFF { n as u32 } else { u32::MAX }
-}
-
-impl Ty {
-    /// Whether all values of the type lie in 0..255.
-    #[tactic(auto, unfolding(crate::specs::TypeView::type_of))]
-    fn fits_byte(&self) -> bool
-        ensures { result ≡ fits_byte (type_of self.now) }
-    {
-        match self {
-            Ty::Simple(ordinal) => 0 <= ordinal.low && ordinal.high <= 255,
-            Ty::Pointer { .. }
-            | Ty::Nil
-            | Ty::Set { .. }
-            | Ty::EmptySet
-            | Ty::Text { .. }
-            | Ty::Array { .. }
-            | Ty::Record { .. } => false,
-        }
-    }
-
-    /// The cells of a variable of the type: 1 for an ordinal or a pointer, 8 for a set, for an array its length times
-    /// its component's, for a record the sum, or 1 if it has no field. A count of 2^64 or more is given as 2^64 - 1.
-    #[tactic(auto, using(crate::proofs::SizeLemmas::times_capped), unfolding(crate::specs::TypeView::type_of, crate::specs::Sizes::cells))]
-    pub fn cells(&self) -> u64
-        ensures { result ≡ min (cells (type_of self.now)) (2 ^ 64 - 1) }
-    {
-        match self {
-            Ty::Simple(_) | Ty::Pointer { .. } | Ty::Nil => 1,
-            Ty::Set { .. } | Ty::EmptySet => 8,
-            Ty::Text { length } => u64::from(*length),
-            Ty::Array {
-                index,
-                component,
-                ..
-            } => index.value_count().saturating_mul(component.cells()),
-            Ty::Record { fields, .. } => fields.cells(),
-        }
-    }
-
-    /// The bytes of a variable of the type: 4 for an ordinal or a pointer, 32 for a set, for an array its length times
-    /// its component's, for a record the sum. A packed array whose components lie in 0..255 takes one for each, padded
-    /// to a multiple of 4. A count of 2^32 or more is given as 2^32 - 1.
-    #[tactic(auto, using(crate::proofs::SizeLemmas::times_capped), unfolding(crate::specs::TypeView::type_of, crate::specs::Sizes::bytes))]
-    pub fn bytes(&self) -> u32
-        ensures { result ≡ min (bytes (type_of self.now)) (2 ^ 32 - 1) }
-    {
-        match self {
-            Ty::Simple(_) | Ty::Pointer { .. } | Ty::Nil => 4,
-            Ty::Set { .. } | Ty::EmptySet => 32,
-            Ty::Text { length } => capped(whole_words(u64::from(*length))),
-            Ty::Array {
-                packed,
-                index,
-                component,
-                ..
-            } => {
-                if *packed && component.ty.fits_byte() {
-                    capped(whole_words(index.value_count()))
-                } else {
-                    capped(index.value_count() * u64::from(component.bytes()))
-                }
-            }
-            Ty::Record { fields, .. } => fields.bytes(),
-        }
-    }
-}
+impl Ty {}
 
 impl Component {
     /// The type, as that of an array's components.
@@ -639,77 +354,6 @@ impl Component {
     {
         self.byte_count
     }
-}
-
-/// The cells of a record with fields of these types.
-fn cells_of_all(types: &[Ty]) -> u64
-    ensures { (names : List (List ℕ)) → result ≡ min (record_cells (field_list names (types_of types.now)))
-        (2 ^ 64 - 1) }
-{
-    if types.is_empty() {
-        return 1;
-    }
-    let mut total: u64 = 0;
-    for ty in types {
-        total = total.saturating_add(ty.cells());
-    }
-    total
-}
-
-/// The bytes of a record with fields of these types.
-fn bytes_of_all(types: &[Ty]) -> u32
-    ensures { result ≡ min (field_bytes (types_of types.now)) (2 ^ 32 - 1) }
-{
-    let mut total: u32 = 0;
-    for ty in types {
-        total = total.saturating_add(ty.bytes());
-    }
-    total
-}
-
-/// Where each of the fields of these types begins in a record.
-fn offsets_of_all(alloc: Global, types: &[Ty]) -> Result<Vec<u32>, AllocError>
-    ensures { IfOk result (λ offsets. offsets.items ≡ beginnings (2 ^ 32 - 1) 0 (types_of types.now)) }
-{
-    let mut offsets = Vec::new(alloc);
-    let mut total: u32 = 0;
-    for ty in types {
-        offsets.push(total)?;
-        total = total.saturating_add(ty.bytes());
-    }
-    Ok(offsets)
-}
-
-/// Removes the type with the most cells.
-#[tactic(auto, using(crate::proofs::DropLemmas::deepest_left, crate::proofs::DropLemmas::deepest_taken))]
-fn take_largest(types: &mut Vec<Ty>) -> Option<Ty>
-    ensures rest { deepest types.new.items ≤ deepest types.old.items }
-    ensures largest { IfSome result (λ ty. size-Ty ty ≤ deepest types.old.items) }
-{
-    let mut place = 0;
-    let mut most = 0;
-    for i in 0..types.len() {
-        let cells = types[i].cells();
-        if most < cells {
-            most = cells;
-            place = i;
-        }
-    }
-    if place < types.len() {
-        Some(types.swap_remove(place))
-    } else {
-        None
-    }
-}
-
-#[tactic(auto, using(crate::proofs::FieldLemmas::field_at_place, crate::proofs::FieldLemmas::no_field_above, crate::proofs::FieldLemmas::no_field_past))]
-fn field_at(types: &[Ty], place: usize) -> Option<(u32, &Ty)>
-    ensures { option_map (λ f. (f.0, type_of f.1.now)) result ≡ field_at (types_of types.now) place }
-{
-    if types.len() <= place || 0xFFFF_FFFF < place {
-        return None;
-    }
-    Some((place as u32, &types[place]))
 }
 
 impl Fields {

@@ -1,12 +1,15 @@
 // Where a register is short of the offset of a block: between an index and the load by it.
 
+mod rows;
+
 ghost use Rattle.std.specs.Prelude.{◌≡◌, ◌<◌, ◌≤◌, ◌≤ℤ◌, pos, negsuc, slice_get, get_or, true, Some, IfSome};
 ghost use Rattle.risc_emit_relation.specs.Context.{home};
 ghost use Rattle.risc_emit_forms.specs.Told.{jumped, block_at, fold_near, fold_by, folded, short_of, back_near, back_by};
-ghost use Rattle.risc_emit_forms.specs.Told.{back, both_short, is_apart, row_near, offset_of, bend_near, bend_in};
-ghost use Rattle.risc_emit_forms.specs.Told.{bend_load, row_from, bend_row, row, row_bent, start, bend, load_bent, bent};
+ghost use Rattle.risc_emit_forms.specs.Told.{back, offset_of, bend_near, bend_in};
+ghost use Rattle.risc_emit_forms.specs.Told.{bend_load, row_bent, start, bend, load_bent, bent};
 ghost use Rattle.risc_emit.specs.Frames.{context_of};
 
+use crate::bent::rows::{both_short, row};
 use crate::frame::Frame;
 use crate::seat::Seat;
 use risc_word::Register;
@@ -227,175 +230,6 @@ fn bend_load(
     match body.get(place) {
         Some(instruction) => bend_by(frame, to, short, instruction),
         None => None,
-    }
-}
-
-// An offset with that of an index that goes on from the same register.
-fn both_short(offset: i64, further: Option<i64>) -> Option<i64>
-    requires least { negsuc 16777215 ≤ℤ offset }
-    requires most { offset ≤ℤ pos 1099511627776 }
-    requires further_least { IfSome further (λ more. negsuc 16777215 ≤ℤ more) }
-    requires further_most { IfSome further (λ more. more ≤ℤ pos 0) }
-    ensures is { result ≡ both_short offset further }
-    ensures least { IfSome result (λ whole. negsuc 2147483647 ≤ℤ whole) }
-    ensures most { IfSome result (λ whole. whole ≤ℤ pos 1099511627776) }
-{
-    match further {
-        Some(more) => Some(offset + more),
-        None => None,
-    }
-}
-
-// Whether a temporary lives elsewhere than in a register.
-fn is_apart(frame: &Frame<'_>, temporary: u32, register: Register) -> bool
-    ensures { result ≡ is_apart (home (context_of frame.now) frame.now.number temporary) register }
-{
-    match frame.seat(temporary) {
-        Seat::Register(other) => other.number() != register.number(),
-        Seat::Slot(_) => true,
-    }
-}
-
-// A register is short of an offset, where an index whose own home is another goes on from it to what a load takes.
-fn row_near(
-    frame: &Frame<'_>,
-    offset: i64,
-    index: u32,
-    found: Option<(Register, i64)>,
-) -> Option<(Register, i64)>
-    requires most { offset ≤ℤ pos 1099511627776 }
-    ensures is { result ≡ row_near offset (home (context_of frame.now) frame.now.number index) found }
-    ensures least { IfSome result (λ bent. negsuc 16777215 ≤ℤ bent.1) }
-    ensures most { IfSome result (λ bent. bent.1 ≤ℤ pos 1099511627776) }
-{
-    match found {
-        Some((register, _)) => {
-            if offset < -16777216 {
-                return None;
-            }
-            if is_apart(frame, index, register) {
-                Some((register, offset))
-            } else {
-                None
-            }
-        }
-        None => None,
-    }
-}
-
-fn row_from(
-    frame: &Frame<'_>,
-    to: u32,
-    short: Option<i64>,
-    index: u32,
-    further: Option<i64>,
-    body: &[Instruction],
-    third: usize,
-) -> Option<(Register, i64)>
-    requires least { IfSome short (λ offset. negsuc 16777215 ≤ℤ offset) }
-    requires most { IfSome short (λ offset. offset ≤ℤ pos 1099511627776) }
-    requires further_least { IfSome further (λ more. negsuc 16777215 ≤ℤ more) }
-    requires further_most { IfSome further (λ more. more ≤ℤ pos 0) }
-    ensures is { result ≡ row_from (context_of frame.now) frame.now.number to short
-        (home (context_of frame.now) frame.now.number index) further (slice_get body.now third) }
-    ensures least { IfSome result (λ bent. negsuc 16777215 ≤ℤ bent.1) }
-    ensures most { IfSome result (λ bent. bent.1 ≤ℤ pos 1099511627776) }
-{
-    match short {
-        Some(offset) => {
-            let whole = both_short(offset, further);
-            let found = bend_load(frame, to, whole, body, third);
-            row_near(frame, offset, index, found)
-        }
-        None => None,
-    }
-}
-
-// The address of an index, if an instruction goes on from it with an index into the same temporary.
-fn row_by(
-    frame: &Frame<'_>,
-    to: u32,
-    short: Option<i64>,
-    instruction: &Instruction,
-    body: &[Instruction],
-    third: usize,
-) -> Option<(Register, i64)>
-    requires least { IfSome short (λ offset. negsuc 16777215 ≤ℤ offset) }
-    requires most { IfSome short (λ offset. offset ≤ℤ pos 1099511627776) }
-    ensures is { result ≡ bend_row (context_of frame.now) frame.now.number to short (Some instruction.now)
-        (slice_get body.now third) }
-    ensures least { IfSome result (λ bent. negsuc 16777215 ≤ℤ bent.1) }
-    ensures most { IfSome result (λ bent. bent.1 ≤ℤ pos 1099511627776) }
-{
-    match instruction {
-        Instruction::Index {
-            to: other,
-            base: Base::Temporary(address),
-            index,
-            low,
-            high,
-            width,
-            error,
-            ..
-        } => {
-            if *address == to && *other == to {
-                let further = back(Base::Temporary(*address), *low, *high, *width, *error);
-                row_from(frame, to, short, *index, further, body, third)
-            } else {
-                None
-            }
-        }
-        _ => None,
-    }
-}
-
-fn bend_row(
-    frame: &Frame<'_>,
-    to: u32,
-    short: Option<i64>,
-    body: &[Instruction],
-    place: usize,
-    third: usize,
-) -> Option<(Register, i64)>
-    requires least { IfSome short (λ offset. negsuc 16777215 ≤ℤ offset) }
-    requires most { IfSome short (λ offset. offset ≤ℤ pos 1099511627776) }
-    ensures is { result ≡ bend_row (context_of frame.now) frame.now.number to short (slice_get body.now place)
-        (slice_get body.now third) }
-    ensures least { IfSome result (λ bent. negsuc 16777215 ≤ℤ bent.1) }
-    ensures most { IfSome result (λ bent. bent.1 ≤ℤ pos 1099511627776) }
-{
-    match body.get(place) {
-        Some(instruction) => row_by(frame, to, short, instruction, body, third),
-        None => None,
-    }
-}
-
-fn row(
-    frame: &Frame<'_>,
-    instruction: &Instruction,
-    body: &[Instruction],
-    place: usize,
-    third: usize,
-) -> Option<(Register, i64)>
-    ensures is { result ≡ row (context_of frame.now) frame.now.number (Some instruction.now)
-        (slice_get body.now place) (slice_get body.now third) }
-    ensures least { IfSome result (λ bent. negsuc 16777215 ≤ℤ bent.1) }
-    ensures most { IfSome result (λ bent. bent.1 ≤ℤ pos 1099511627776) }
-{
-    match instruction {
-        Instruction::Index {
-            to,
-            base,
-            low,
-            high,
-            width,
-            error,
-            ..
-        } => {
-            let short = offset_of(frame, *base, *low, *high, *width, *error);
-            bend_row(frame, *to, short, body, place, third)
-        }
-        _ => None,
     }
 }
 

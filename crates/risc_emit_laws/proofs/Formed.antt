@@ -23,7 +23,8 @@ use Rattle.risc_emit_laws.specs.Drawn.{body_pieces, routine_pieces, routines_pie
 use Rattle.risc_emit_laws.specs.Drawn.{entry_place, trap_rows_of, call_rows_of, frame_rows_of, object_rows_of}
 use Rattle.risc_emit_laws.specs.Drawn.{IsTabled}
 use Rattle.risc_emit_laws.proofs.Built.{first_routine, sound_routine}
-use Rattle.risc_emit_laws.proofs.Good.{AreGood, good_append, form_good, entry_good, start_good}
+use Rattle.risc_emit_laws.proofs.Good.{AreGood, good_append, form_good}
+use Rattle.risc_emit_laws.proofs.GoodEntries.{entry_good, start_good}
 use Rattle.risc_emit_laws.proofs.Growing.{routines_grow}
 use Rattle.risc_emit_laws.proofs.Drawn.{routine_step}
 

@@ -1,6 +1,6 @@
 -- The numbers and lines in the pieces of sound code are in their ranges.
-use Rattle.std.proofs.Common.{◌≡◌, ℕ, zero, suc, ◌+◌, ◌*◌, ◌≤◌, Bool, true, false, cond, ◌&&◌, not, nat_eq, nat_lt}
-use Rattle.std.proofs.Common.{List, [], ◌∷◌, ◌++◌, length, slice_index, Option, Some, None, ℤ, pos, refl, arith}
+use Rattle.std.proofs.Common.{◌≡◌, ℕ, zero, suc, ◌+◌, ◌≤◌, Bool, true, false, cond, nat_eq, nat_lt, List, [], ◌∷◌, ◌++◌}
+use Rattle.std.proofs.Common.{length, slice_index, Option, Some, None, ℤ, pos, refl, arith}
 use Rattle.std.specs.Prelude.{int_lt}
 use Rattle.risc_word.specs.declared.instr.Width.{Width}
 use Rattle.risc_word.specs.declared.instr.Condition.{Condition}
@@ -19,7 +19,6 @@ use Rattle.tac_code.specs.declared.code.Instruction.TheVariants.{CheckPointer, T
 use Rattle.tac_code.specs.declared.code.Instruction.TheVariants.{Store, LoadByte, StoreByte, Jump, JumpBack, Branch}
 use Rattle.tac_code.specs.declared.code.Instruction.TheVariants.{BranchBack, Call, CallValue, Return, Trap, Take, Put}
 use Rattle.tac_code.specs.declared.code.Instruction.TheVariants.{New, End}
-use Rattle.tac_code.specs.declared.code.TacRoutine.{TacRoutine}
 use Rattle.tac_code.specs.declared.check.Limits.{Limits}
 use Rattle.tac_code.specs.Numbers.{is_zero, steps_above}
 use Rattle.tac_code.specs.Sound.{IsErrorNumber, IsTestNumber, IsLine, IsSoundAt}
@@ -29,8 +28,7 @@ use Rattle.risc_emit_relation.specs.Context.{Context, home, is_program, slot_at}
 use Rattle.risc_emit_forms.specs.Pieces.{Label, Piece, Fails, Enters, Joins, EntersAt}
 use Rattle.risc_emit_forms.specs.Told.{told_at, short_of, near_of, bent_at, folded}
 use Rattle.risc_emit_forms.specs.Forms as form
-use Rattle.risc_emit_forms.specs.Forms.{is_near, is_small, is_divisor, carried, is_taken, is_stored, stands}
-use Rattle.risc_emit_laws.specs.Emits.{start_form}
+use Rattle.risc_emit_forms.specs.Forms.{is_near, is_small, is_divisor, carried, is_taken, is_stored}
 
 -- what a piece's row requires
 abbrev pub IsGood : Piece → Type 0
@@ -47,7 +45,7 @@ pub good_append : (ps qs : List Piece) → AreGood ps → AreGood qs → AreGood
 good_append [] qs h k = k
 good_append (p ∷ ps) qs h k = (h.0, good_append ps qs h.1 k)
 
-by_test : (b : Bool) (ps qs : List Piece) → AreGood ps → AreGood qs → AreGood (cond b ps qs)
+pub by_test : (b : Bool) (ps qs : List Piece) → AreGood ps → AreGood qs → AreGood (cond b ps qs)
 by_test true ps qs h k = h
 by_test false ps qs h k = k
 
@@ -79,16 +77,16 @@ error_two = (omega arith, omega arith)
 error_three : IsErrorNumber 3
 error_three = (omega arith, omega arith)
 
-error_stack : IsErrorNumber 12
+pub error_stack : IsErrorNumber 12
 error_stack = (omega arith, omega arith)
 
 error_heap : IsErrorNumber 13
 error_heap = (omega arith, omega arith)
 
-load_good : (d b n : ℕ) → AreGood (form.load d b n)
+pub load_good : (d b n : ℕ) → AreGood (form.load d b n)
 load_good d b n = by_test (is_near n) _ _ (tt, tt) (tt, (tt, (tt, (tt, tt))))
 
-store_good : (a b n : ℕ) → AreGood (form.store a b n)
+pub store_good : (a b n : ℕ) → AreGood (form.store a b n)
 store_good a b n = by_test (is_near n) _ _ (tt, tt) (tt, (tt, (tt, (tt, tt))))
 
 number_good : (d : ℕ) (z : ℤ) → AreGood (form.number d z)
@@ -103,7 +101,7 @@ module _ (c : Context) (r : ℕ) where
   bring_good d (Reg q) = (tt, tt)
   bring_good d (Slot k) = load_good d 14 (slot_at c r k)
 
-  save_good : (h : Home) → AreGood (form.save c r h)
+  pub save_good : (h : Home) → AreGood (form.save c r h)
   save_good (Reg q) = tt
   save_good (Slot k) = store_good 12 14 (slot_at c r k)
 
@@ -446,60 +444,3 @@ module _ (c : Context) (r : ℕ) where
     ),
   )
   form_good limits k End h = (tt, (tt, (tt, tt)))
-
-  take_good : (j : ℕ) (h : Home) → AreGood (form.take c r j h)
-  take_good j (Reg q) = (tt, tt)
-  take_good j (Slot k) = store_good j 14 (slot_at c r k)
-
-  spill_one_good : (m n j : ℕ) (h : Home) → AreGood (form.spill_one c r m n j h)
-  spill_one_good m n j h =
-      by_test (form.is_clear m j h) _ _ (take_good j h)
-      (by_test (nat_lt j 8 && not (stands j h)) _ _ (store_good j 14 (n + 8 + 4 * j)) tt)
-
-  spill_good : (m n j count : ℕ) → AreGood (form.spill c r m n j count)
-  spill_good m n j zero = tt
-  spill_good m n j (suc count) = good_append (form.spill_one c r m n j (home c r j)) _
-      (spill_one_good m n j (home c r j)) (spill_good m n (suc j) count)
-
-  parameter_good : (m n j : ℕ) (h : Home) → AreGood (form.parameter c r m n j h)
-  parameter_good m n j h =
-      by_test (form.is_direct m j h) _ _ tt (good_append (form.load (form.target c r h) 14 (n + 8 + 4 * j)) _
-      (load_good _ 14 _) (save_good h))
-
-  parameters_good : (m n j count : ℕ) → AreGood (form.parameters c r m n j count)
-  parameters_good m n j zero = tt
-  parameters_good m n j (suc count) =
-      good_append (form.parameter c r m n j (home c r j)) _ (parameter_good m n j (home c r j))
-      (parameters_good m n (suc j) count)
-
-  arrived_good : (n count : ℕ) → AreGood (form.arrive c r n count)
-  arrived_good n count =
-      good_append (form.spill c r (form.carried count) n 0 count) _ (spill_good (form.carried count) n 0 count)
-      (parameters_good (form.carried count) n 0 count)
-
-  below_good : (n : ℕ) → AreGood (form.frame_below c r n)
-  below_good n = by_test (nat_lt n 65536) _ _ (tt, tt) (tt, (tt, (tt, tt)))
-
-  enter_good : (routine : TacRoutine) → IsLine routine.line → AreGood (form.enter_form c r routine)
-  enter_good routine l =
-      good_append (form.frame_below c r (c.costs r)) _ (below_good (c.costs r))
-      (tt, (tt, ((error_stack, l), (tt, (tt, (tt, arrived_good (c.costs r) routine.parameters))))))
-
-  pub entry_good : (routine : TacRoutine) → IsLine routine.line → AreGood (form.entry_form c r routine)
-  entry_good routine l =
-      by_test (is_program c r) _ _ (by_test (form.is_entered c r routine) _ _ (enter_good routine l)
-      ((error_stack, l), tt)) (tt, arrived_good 0 routine.parameters)
-
-pub start_good : (c : Context) (block : TacRoutine) → IsLine block.line → AreGood (start_form c block)
-start_good c block l = (
-  tt,
-  (
-    tt,
-    (
-      tt,
-      by_test (nat_lt (c.costs 0) 16777153) _ _
-          (good_append (form.frame_below c 0 (c.costs 0)) _ (below_good c 0 (c.costs 0))
-          (tt, ((error_stack, l), (tt, (tt, (tt, (tt, tt))))))) ((error_stack, l), tt),
-    ),
-  ),
-)

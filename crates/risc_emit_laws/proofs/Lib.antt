@@ -7,6 +7,7 @@ pub mod Rows
 pub mod Drawn
 pub mod Growing
 pub mod Good
+pub mod GoodEntries
 pub mod Formed
 pub mod Charged
 pub mod Texts

@@ -1,11 +1,7 @@
 -- What is made of an instruction is what the rules allow.
-use Rattle.std.proofs.Common.{◌≡◌, ◌⊎◌, inl, inr, ℕ, ◌+◌, ◌*◌, ◌/◌, ◌%◌, ◌≤◌, Bool, true, false, nat_eq, nat_lt}
-use Rattle.std.proofs.Common.{if◌then◌else◌, List, [], ◌∷◌, Option, Some, None, refl, sym, subst, arith, eqb-true}
-use Rattle.std.proofs.Common.{true≢false}
-use Rattle.std.proofs.lemmas.Nat.{mul-le}
+use Rattle.std.proofs.Common.{◌≡◌, ◌⊎◌, inl, inr, ℕ, ◌*◌, Bool, true, false, nat_eq, if◌then◌else◌, List, Option, Some}
+use Rattle.std.proofs.Common.{None, refl, sym, subst, eqb-true, true≢false}
 use Rattle.std.proofs.lemmas.Option.{none-some, same_Some}
-use Rattle.tac_code.specs.declared.code.Operand.{Operand}
-use Rattle.tac_code.specs.declared.code.Operand.TheVariants as operand
 use Rattle.tac_code.specs.declared.code.Base.{Base}
 use Rattle.tac_code.specs.declared.code.Base.TheVariants as base
 use Rattle.tac_code.specs.declared.code.Instruction.{Instruction}
@@ -15,132 +11,28 @@ use Rattle.tac_code.specs.declared.code.Instruction.TheVariants.{Store, LoadByte
 use Rattle.tac_code.specs.declared.code.Instruction.TheVariants.{BranchBack, Call, CallValue, Return, Trap, Take, Put}
 use Rattle.tac_code.specs.declared.code.Instruction.TheVariants.{New, End}
 use Rattle.tac_code.specs.Numbers.{steps_above}
-use Rattle.tac_pass.specs.declared.table.Reach.{Reach}
-use Rattle.tac_pass.specs.declared.table.Reach.TheVariants.{Anywhere, Within}
-use Rattle.tac_pass.specs.Claims.{Claim}
-use Rattle.tac_pass.specs.Rules.{Holds, Right, SameBase, AllHold, base_points, Forgets, Gave, None_of_them, Elsewhere}
-use Rattle.tac_pass.specs.Rules.{As, As_word, Behind, Component, Spares, Renames, Calls, Ends, PutsIn}
+use Rattle.tac_pass.specs.declared.table.Reach.TheVariants.{Anywhere}
+use Rattle.tac_pass.specs.Rules.{Holds, None_of_them, Elsewhere, As, As_word, Behind, Component, Spares, Renames, Calls}
+use Rattle.tac_pass.specs.Rules.{Ends, PutsIn}
 use Rattle.tac_pass.specs.Rules as rule
-use Rattle.tac_pass.specs.Tables.{Table, points_to, nowhere, unknown, known_in, word_in, claim_in, free, is_minded, give}
-use Rattle.tac_pass.specs.Tables.{give_word, spare, store_both, store_old, base_reach, is_seen, write, are_fresh}
-use Rattle.tac_pass.specs.Acts.{and_then, only_if, holder, renamed_right, renamed_base, renamed_list, own_word}
-use Rattle.tac_pass.specs.Acts.{bounded, shifted, stretched, Made, makes, kept_load, kept_store, kept, ending}
-use Rattle.tac_pass.specs.Acts.{spared_load, spared_store, spared, moved_load, moved_store, moved_word, cleaned}
-use Rattle.tac_pass.specs.Acts.{fetched}
-use Rattle.tac_pass.proofs.Tables.{give_is, give_word_is, spare_is, find_is, store_both_is, store_old_is, keep_word_is}
-use Rattle.tac_pass.proofs.Tables.{clean_is, fetch_word_is, base_is, seen, write_is, call_is}
-
--- ---- what was tested
-
-then_some : {A B : Type 0} (o : Option A) (go : A → Option B) (y : B) → and_then o go ≡ Some y → (x : A) × (o ≡ Some x)
-    × (go x ≡ Some y)
-then_some None go y f = absurd (none-some y f)
-then_some (Some x) go y f = (x, refl, f)
-
-only_some : {A : Type 0} (b : Bool) (o : Option A) (y : A) → only_if b o ≡ Some y → (b ≡ true) × (o ≡ Some y)
-only_some true o y f = (refl, f)
-only_some false o y f = absurd (none-some y f)
-
-was_false : (b : Bool) → (if b then false else true) ≡ true → b ≡ false
-was_false true f = absurd (true≢false (sym f))
-was_false false f = refl
-
-pub all_forgets : (c : Claim) → Forgets c c
-all_forgets c = record {
-  temporaries = λ u v h. h;
-  words = λ k v h. h;
-  stale = λ k h. h;
-  blank = λ k h. h;
-  points = λ u o h. h;
-  word_points = λ k o h. h;
-}
-
-own_is : (b : Base) (n k : ℕ) → own_word b n ≡ Some k → (b ≡ base.Frame) × (n ≡ 4 * k)
-own_is base.Frame n k f = which (nat_eq (n % 4) 0) refl f
-  where
-    which : (t : Bool) → nat_eq (n % 4) 0 ≡ t → (if t then Some (n / 4) else None) ≡ Some k → (base.Frame ≡ base.Frame)
-        × (n ≡ 4 * k)
-    which true e f = let g = eqb-true (n % 4) 0 e in let h = same_Some (n / 4) k f in (refl, omega (arith, g, h))
-    which false e f = absurd (none-some k f)
-own_is base.Scratch n k f = absurd (none-some k f)
-own_is base.Program n k f = absurd (none-some k f)
-own_is (base.Temporary _) n k f = absurd (none-some k f)
-
-bounded_not : (low high o : ℕ) → points_to (bounded low high) o ≡ false → points_to (Within low high) o ≡ false
-bounded_not low high o f = which (nat_lt high 4294967296) f
-  where
-    which : (b : Bool) → points_to (if b then Within low high else Anywhere) o ≡ false → points_to (Within low high) o
-        ≡ false
-    which true f = f
-    which false f = absurd (true≢false f)
+use Rattle.tac_pass.specs.Tables.{Table, unknown, known_in, word_in, claim_in, free, is_minded, give, give_word, spare}
+use Rattle.tac_pass.specs.Tables.{store_both, store_old, base_reach, is_seen, write, are_fresh}
+use Rattle.tac_pass.specs.Acts.{and_then, holder, renamed_right, renamed_base, renamed_list, own_word, shifted}
+use Rattle.tac_pass.specs.Acts.{stretched, Made, makes, kept_load, kept_store, kept, ending, spared_load, spared_store}
+use Rattle.tac_pass.specs.Acts.{spared, moved_load, moved_store, moved_word, cleaned, fetched}
+use Rattle.tac_pass.proofs.TableValues.{give_is, give_word_is, spare_is, find_is}
+use Rattle.tac_pass.proofs.TableWords.{store_both_is, store_old_is, keep_word_is}
+use Rattle.tac_pass.proofs.TableWords.{clean_is, fetch_word_is}
+use Rattle.tac_pass.proofs.TableWrites.{seen, write_is, call_is}
+use Rattle.tac_pass.proofs.ActParts.{all_forgets, base_same, c, given, list_is, only_some, own_is, right_is}
+use Rattle.tac_pass.proofs.ActParts.{shifted_away, stretched_away, then_some, was_false}
 
 module _ (r : ℕ) (minded : List ℕ) (table : Table) where
-  abbrev c : Claim
-  c = claim_in minded table
-
-  -- ---- operands
-
-  pub right_is : (b b' : Operand) → renamed_right table b ≡ Some b' → Right c b b'
-  right_is (operand.Temporary u) b' f =
-      let x = then_some (holder table u) (λ v. Some (operand.Temporary v)) b' f
-      in (x.0, sym (same_Some (operand.Temporary x.0) b' x.2), x.1)
-  right_is (operand.Number z) b' f = sym (same_Some (operand.Number z) b' f)
-
-  base_same : (b b' : Base) → renamed_base table b ≡ Some b' → SameBase c b b'
-  base_same (base.Temporary u) b' f =
-      let x = then_some (holder table u) (λ v. Some (base.Temporary v)) b' f
-      in (x.0, sym (same_Some (base.Temporary x.0) b' x.2), x.1)
-  base_same base.Frame b' f = sym (same_Some base.Frame b' f)
-  base_same base.Scratch b' f = sym (same_Some base.Scratch b' f)
-  base_same base.Program b' f = sym (same_Some base.Program b' f)
-
-  list_is : (us vs : List ℕ) → renamed_list table us ≡ Some vs → AllHold c us vs
-  list_is [] vs f = subst (AllHold c []) (same_Some [] vs f) tt
-  list_is (u ∷ us) vs f =
-      let x = then_some (holder table u) (λ v. and_then (renamed_list table us) (λ vs. Some (v ∷ vs))) vs f in
-      let y = then_some (renamed_list table us) (λ vs. Some (x.0 ∷ vs)) vs x.2 in
-      subst (AllHold c (u ∷ us)) (same_Some (x.0 ∷ y.0) vs y.2) (x.1, list_is us y.0 y.1)
-
-  -- ---- where addresses point to
-
-  shifted_away : (b : Base) (n o : ℕ) → points_to (shifted n (base_reach r b table)) o ≡ false → Behind r c b n o
-  shifted_away b n o f from e = base_is minded table r b from (not_there (base_reach r b table) f)
-    where
-      not_there : (reach : Reach) → points_to (shifted n reach) o ≡ false → points_to reach from ≡ false
-      not_there Anywhere f = absurd (true≢false f)
-      not_there (Within low high) f = which (nat_lt low high) refl f
-        where
-          which : (t : Bool) → nat_lt low high ≡ t → points_to (if t then bounded (low + n) (high + n) else nowhere) o
-              ≡ false → points_to (Within low high) from ≡ false
-          which true g f = let h = bounded_not (low + n) (high + n) o f in grind arith
-          which false g f = grind arith
-
-  stretched_away : (b : Base) (width most o : ℕ) → points_to (stretched (most * width) (base_reach r b table)) o ≡ false
-      → Component r c b width most o
-  stretched_away b width most o f from steps within e = base_is minded table r b from
-      (not_there (base_reach r b table) f)
-    where
-      product : steps * width ≤ most * width
-      product = mul-le steps width most width within (omega arith)
-
-      not_there : (reach : Reach) → points_to (stretched (most * width) reach) o ≡ false → points_to reach from ≡ false
-      not_there Anywhere f = absurd (true≢false f)
-      not_there (Within low high) f = which (nat_lt low high) refl f
-        where
-          which : (t : Bool) → nat_lt low high ≡ t → points_to
-              (if t then bounded low (high + most * width) else nowhere) o ≡ false → points_to (Within low high) from
-              ≡ false
-          which true g f = let h = bounded_not low (high + most * width) o f in let l = product in grind arith
-          which false g f = grind arith
-
-  given : (t t' : ℕ) → Gave t t' None_of_them Elsewhere c (claim_in minded (give t t' nowhere table))
-  given t t' = give_is minded table t t' nowhere Elsewhere (λ o f. tt)
-
   -- ---- what is kept
 
   abbrev Allowed : Instruction → Made → Type 0
   Allowed i made =
-      Renames r c (claim_in minded made.table) i made.instruction ⊎ Calls r c
+      Renames r (c r minded table) (claim_in minded made.table) i made.instruction ⊎ Calls r (c r minded table)
       (claim_in minded made.table) i made.instruction
 
   made_one : Instruction → Table → Made
@@ -171,7 +63,7 @@ module _ (r : ℕ) (minded : List ℕ) (table : Table) where
         t' = t';
         b' = y.0;
         same = refl;
-        from = base_same b y.0 y.1;
+        from = base_same r minded table b y.0 y.1;
         sees = seen minded table r b n x.0;
         gave = give_is minded table t t' Anywhere rule.Anywhere (λ o f. absurd (true≢false f));
       })))
@@ -202,39 +94,49 @@ module _ (r : ℕ) (minded : List ℕ) (table : Table) where
         a' = y.0;
         b' = x.0;
         same = refl;
-        to = base_same b x.0 x.1;
+        to = base_same r minded table b x.0 x.1;
         holds = y.1;
-        wrote = write_is minded table r b n (As c a);
+        wrote = write_is minded table r b n (As (c r minded table) a);
       })))
 
   pub kept_is : (t' : ℕ) (i : Instruction) (made : Made) → kept r minded table t' i ≡ Some made → Allowed i made
-  kept_is t' (Literal t z) made f = subst (Allowed (Literal t z)) (same_Some _ made f) (inl (t', refl, given t t'))
+  kept_is t' (Literal t z) made f = subst (Allowed (Literal t z)) (same_Some _ made f)
+      (inl (t', refl, given r minded table t t'))
   kept_is t' (Copy t a) made f =
       let x = then_some (holder table a) _ made f in
       subst (Allowed (Copy t a)) (same_Some _ made x.2)
-      (inl (t', x.0, refl, x.1, give_is minded table t t' (known_in table a).reach (As c a) (λ o g. g)))
+      (inl (
+        t',
+        x.0,
+        refl,
+        x.1,
+        give_is minded table t t' (known_in table a).reach (As (c r minded table) a)
+            (λ o g. g),
+      ))
   kept_is t' (Arithmetic operator t a b error line) made f =
       let x = then_some (holder table a) _ made f in
       let y = then_some (renamed_right table b) _ made x.2 in
       subst (Allowed (Arithmetic operator t a b error line)) (same_Some _ made y.2)
-      (inl (t', x.0, y.0, refl, x.1, right_is b y.0 y.1, given t t'))
+      (inl (t', x.0, y.0, refl, x.1, right_is r minded table b y.0 y.1, given r minded table t t'))
   kept_is t' (Bits operator t a b) made f =
       let x = then_some (holder table a) _ made f in
       let y = then_some (renamed_right table b) _ made x.2 in
       subst (Allowed (Bits operator t a b)) (same_Some _ made y.2)
-      (inl (t', x.0, y.0, refl, x.1, right_is b y.0 y.1, given t t'))
+      (inl (t', x.0, y.0, refl, x.1, right_is r minded table b y.0 y.1, given r minded table t t'))
   kept_is t' (Compare relation t a b) made f =
       let x = then_some (holder table a) _ made f in
       let y = then_some (renamed_right table b) _ made x.2 in
       subst (Allowed (Compare relation t a b)) (same_Some _ made y.2)
-      (inl (t', x.0, y.0, refl, x.1, right_is b y.0 y.1, given t t'))
+      (inl (t', x.0, y.0, refl, x.1, right_is r minded table b y.0 y.1, given r minded table t t'))
   kept_is t' (CheckRange a low high error line) made f =
       let x = then_some (holder table a) _ made f in
-      subst (Allowed (CheckRange a low high error line)) (same_Some _ made x.2) (inl (x.0, refl, x.1, all_forgets c))
+      subst (Allowed (CheckRange a low high error line)) (same_Some _ made x.2)
+      (inl (x.0, refl, x.1, all_forgets (c r minded table)))
   kept_is t' (CheckPointer a error line) made f =
       let x = then_some (holder table a) _ made f in
       subst (Allowed (CheckPointer a error line)) (same_Some _ made x.2) (inl (x.0, refl, x.1, find_is minded table a))
-  kept_is t' (Text t bytes) made f = subst (Allowed (Text t bytes)) (same_Some _ made f) (inl (t', refl, given t t'))
+  kept_is t' (Text t bytes) made f = subst (Allowed (Text t bytes)) (same_Some _ made f)
+      (inl (t', refl, given r minded table t t'))
   kept_is t' (Offset t b n extent) made f =
       let x = then_some (renamed_base table b) _ made f in
       subst (Allowed (Offset t b n extent)) (same_Some _ made x.2)
@@ -242,9 +144,9 @@ module _ (r : ℕ) (minded : List ℕ) (table : Table) where
         t',
         x.0,
         refl,
-        base_same b x.0 x.1,
+        base_same r minded table b x.0 x.1,
         give_is minded table t t' (shifted n (base_reach r b table))
-            (Behind r c b n) (λ o g. shifted_away b n o g),
+            (Behind r (c r minded table) b n) (λ o g. shifted_away r minded table b n o g),
       ))
   kept_is t' (Index t b i low high width error line) made f =
       let x = then_some (renamed_base table b) _ made f in
@@ -255,21 +157,22 @@ module _ (r : ℕ) (minded : List ℕ) (table : Table) where
         x.0,
         y.0,
         refl,
-        base_same b x.0 x.1,
+        base_same r minded table b x.0 x.1,
         y.1,
         give_is minded table t t'
             (stretched (steps_above low high * width) (base_reach r b table))
-            (Component r c b width (steps_above low high)) (λ o g. stretched_away b width (steps_above low high) o g),
+            (Component r (c r minded table) b width (steps_above low high))
+            (λ o g. stretched_away r minded table b width (steps_above low high) o g),
       ))
   kept_is t' (RoutineValue t routine) made f = subst (Allowed (RoutineValue t routine)) (same_Some _ made f)
-      (inl (t', refl, given t t'))
+      (inl (t', refl, given r minded table t t'))
   kept_is t' (Load t b n) made f = load_is t' t b n (own_word b n) refl made f
   kept_is t' (Store b n a) made f = store_is b n a (own_word b n) refl made f
   kept_is t' (LoadByte t b n) made f =
       let x = only_some (is_seen minded (base_reach r b table) n table) _ made f in
       let y = then_some (renamed_base table b) _ made x.1 in
       subst (Allowed (LoadByte t b n)) (same_Some _ made y.2)
-      (inl (t', y.0, refl, base_same b y.0 y.1, seen minded table r b n x.0, given t t'))
+      (inl (t', y.0, refl, base_same r minded table b y.0 y.1, seen minded table r b n x.0, given r minded table t t'))
   kept_is t' (StoreByte b n a) made f =
       let x = only_some (is_seen minded (base_reach r b table) n table) _ made f in
       let y = then_some (renamed_base table b) _ made x.1 in
@@ -279,29 +182,29 @@ module _ (r : ℕ) (minded : List ℕ) (table : Table) where
         y.0,
         z.0,
         refl,
-        base_same b y.0 y.1,
+        base_same r minded table b y.0 y.1,
         z.1,
         seen minded table r b n x.0,
         write_is minded table r b n
             Elsewhere,
       ))
-  kept_is t' (Take t) made f = subst (Allowed (Take t)) (same_Some _ made f) (inl (t', refl, given t t'))
+  kept_is t' (Take t) made f = subst (Allowed (Take t)) (same_Some _ made f) (inl (t', refl, given r minded table t t'))
   kept_is t' (Put a) made f =
       let x = then_some (holder table a) _ made f in
-      subst (Allowed (Put a)) (same_Some _ made x.2) (inl (x.0, refl, x.1, all_forgets c))
+      subst (Allowed (Put a)) (same_Some _ made x.2) (inl (x.0, refl, x.1, all_forgets (c r minded table)))
   kept_is t' (New t object_type line) made f = subst (Allowed (New t object_type line)) (same_Some _ made f)
-      (inl (t', refl, given t t'))
+      (inl (t', refl, given r minded table t t'))
   kept_is t' (Call t routine operands line) made f =
       let x = only_some (are_fresh table.words) _ made f in
       let y = then_some (renamed_list table operands) _ made x.1 in
       subst (Allowed (Call t routine operands line)) (same_Some _ made y.2)
-      (inr (t', y.0, refl, list_is operands y.0 y.1, call_is minded table t t' x.0))
+      (inr (t', y.0, refl, list_is r minded table operands y.0 y.1, call_is minded table t t' x.0))
   kept_is t' (CallValue t a operands line) made f =
       let x = only_some (are_fresh table.words) _ made f in
       let y = then_some (holder table a) _ made x.1 in
       let z = then_some (renamed_list table operands) _ made y.2 in
       subst (Allowed (CallValue t a operands line)) (same_Some _ made z.2)
-      (inr (t', y.0, z.0, refl, y.1, list_is operands z.0 z.1, call_is minded table t t' x.0))
+      (inr (t', y.0, z.0, refl, y.1, list_is r minded table operands z.0 z.1, call_is minded table t t' x.0))
   kept_is t' (Jump _) made f = absurd (none-some made f)
   kept_is t' (JumpBack _) made f = absurd (none-some made f)
   kept_is t' (Branch _ _ _ _) made f = absurd (none-some made f)
@@ -312,7 +215,7 @@ module _ (r : ℕ) (minded : List ℕ) (table : Table) where
 
   -- ---- ends
 
-  pub ending_is : (i i' : Instruction) → ending r minded table i ≡ Some i' → Ends c i i'
+  pub ending_is : (i i' : Instruction) → ending r minded table i ≡ Some i' → Ends (c r minded table) i i'
   ending_is (Return a) i' f = let x = then_some (holder table a) _ i' f
       in (x.0, sym (same_Some (Return x.0) i' x.2), x.1)
   ending_is (Trap error line) i' f = sym (same_Some (Trap error line) i' f)
@@ -345,7 +248,7 @@ module _ (r : ℕ) (minded : List ℕ) (table : Table) where
   -- ---- what is left out
 
   abbrev Left_out : Instruction → Table → Type 0
-  Left_out i t = Spares c (claim_in minded t) i
+  Left_out i t = Spares (c r minded table) (claim_in minded t) i
 
   at_frame : (b : Base) (n k t : ℕ) (i : Base → Instruction) (table' : Table) → own_word b n ≡ Some k → Left_out
       (i base.Frame) table' → Left_out (i b) table'
@@ -359,8 +262,8 @@ module _ (r : ℕ) (minded : List ℕ) (table : Table) where
       (at_frame b n k t (λ b. Load t b n) (spare t (word_in minded table k).value table) own (
         k,
         (own_is b n k own).1,
-        spare_is minded table t (word_in minded table k).value (λ v. c.words k ≡ Some v)
-            (As_word c k) (λ v g. g) (λ o g. g),
+        spare_is minded table t (word_in minded table k).value (λ v. (c r minded table).words k ≡ Some v)
+            (As_word (c r minded table) k) (λ v g. g) (λ o g. g),
       ))
 
   store_spared : (b : Base) (n a : ℕ) (o : Option ℕ) → own_word b n ≡ o → (table' : Table)
@@ -379,7 +282,8 @@ module _ (r : ℕ) (minded : List ℕ) (table : Table) where
       (λ o g. absurd (true≢false g)))
   spared_is (Copy t a) table' f =
       subst (Left_out (Copy t a)) (same_Some _ table' f)
-      (spare_is minded table t (known_in table a) (Holds c a) (As c a) (λ v g. g) (λ o g. g))
+      (spare_is minded table t (known_in table a) (Holds (c r minded table) a) (As (c r minded table) a) (λ v g. g)
+      (λ o g. g))
   spared_is (Load t b n) table' f = load_spared t b n (own_word b n) refl table' f
   spared_is (Store b n a) table' f = store_spared b n a (own_word b n) refl table' f
   spared_is (Arithmetic _ _ _ _ _ _) table' f = absurd (none-some table' f)
@@ -387,10 +291,12 @@ module _ (r : ℕ) (minded : List ℕ) (table : Table) where
   spared_is (Compare _ _ _ _) table' f = absurd (none-some table' f)
   spared_is (CheckRange a low high error line) table' f =
       let x = only_some (nat_eq error 0) (Some table) table' f in
-      subst (Left_out (CheckRange a low high error line)) (same_Some _ table' x.1) (eqb-true error 0 x.0, all_forgets c)
+      subst (Left_out (CheckRange a low high error line)) (same_Some _ table' x.1)
+      (eqb-true error 0 x.0, all_forgets (c r minded table))
   spared_is (CheckPointer a error line) table' f =
       let x = only_some (nat_eq error 0) (Some table) table' f in
-      subst (Left_out (CheckPointer a error line)) (same_Some _ table' x.1) (eqb-true error 0 x.0, all_forgets c)
+      subst (Left_out (CheckPointer a error line)) (same_Some _ table' x.1)
+      (eqb-true error 0 x.0, all_forgets (c r minded table))
   spared_is (Text _ _) table' f = absurd (none-some table' f)
   spared_is (Offset _ _ _ _) table' f = absurd (none-some table' f)
   spared_is (Index _ _ _ _ _ _ _ _) table' f = absurd (none-some table' f)
@@ -483,7 +389,7 @@ module _ (r : ℕ) (minded : List ℕ) (table : Table) where
   -- ---- what is put in
 
   abbrev Put_in : Made → Type 0
-  Put_in made = PutsIn c (claim_in minded made.table) made.instruction
+  Put_in made = PutsIn (c r minded table) (claim_in minded made.table) made.instruction
 
   pub cleaned_is : (k : ℕ) (made : Made) → cleaned r minded table k ≡ Some made → Put_in made
   cleaned_is k made f =

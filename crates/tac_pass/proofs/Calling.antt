@@ -25,7 +25,8 @@ use Rattle.tac_pass.specs.Rules.{Called, AllHold, Calls}
 use Rattle.tac_pass.specs.Follows.{Begins, SameHeading}
 use Rattle.tac_pass.proofs.Memories.{all_agree, unwritten_is, unwritten_moved}
 use Rattle.tac_pass.proofs.Values.{moved_list, length_moved, get_moved, values_there, bytes_alike, hold_value}
-use Rattle.tac_pass.proofs.Below.{BelowWord, AreBelow, values_below, passed_away}
+use Rattle.tac_pass.proofs.BelowWords.{BelowWord, AreBelow}
+use Rattle.tac_pass.proofs.Below.{values_below, passed_away}
 use Rattle.tac_pass.proofs.Stepping.{routine_follows, Followed, act_old, act_new, some_follows, if_follows, reached}
 use Rattle.tac_pass.proofs.Stepping.{ended}
 

@@ -19,8 +19,10 @@ use Rattle.tac_pass.specs.Tables.{Table, or_unknown, or_unminded, place_of, word
 use Rattle.tac_pass.specs.Acts.{Made, kept, moved_word}
 use Rattle.tac_pass.specs.Certified.{is_passed, are_passed, is_new, are_new, begins, Tested, certificate_of, IsPut}
 use Rattle.tac_pass.specs.Certified.{ArePut, Leads, LeftOut, MadeFrom, Turned, Ended, PassedAt, Certified}
-use Rattle.tac_pass.proofs.Tables.{both_true, forgetful_is}
-use Rattle.tac_pass.proofs.Acts.{all_forgets, right_is, kept_is, ending_is, spared_is, moved_is, cleaned_is, fetched_is}
+use Rattle.tac_pass.proofs.TableRows.{both_true}
+use Rattle.tac_pass.proofs.Tables.{forgetful_is}
+use Rattle.tac_pass.proofs.ActParts.{all_forgets, right_is}
+use Rattle.tac_pass.proofs.Acts.{kept_is, ending_is, spared_is, moved_is, cleaned_is, fetched_is}
 use Rattle.tac_pass.proofs.Forgetting.{spares_on, renames_on, calls_on}
 use Rattle.tac_pass.proofs.Whole.{checked_keeps}
 

@@ -19,9 +19,12 @@ use Rattle.tac_pass.specs.Rules.{Renames, Calls}
 use Rattle.tac_pass.specs.Follows.{Checked, Becomes, IsSpared, IsRenamed, Jumps, IsEnding, SameHeading}
 use Rattle.tac_pass.proofs.Simulating.{Follows, Simulates, Enters, entry, simulated_is_kept}
 use Rattle.tac_pass.proofs.Memories.{unwritten_is, unwritten_moved}
-use Rattle.tac_pass.proofs.Below.{AreBelow, OnGoes, unwritten_below, below_follows}
+use Rattle.tac_pass.proofs.BelowWords.{AreBelow, unwritten_below}
+use Rattle.tac_pass.proofs.Below.{OnGoes, below_follows}
 use Rattle.tac_pass.proofs.Stepping.{Followed, act_old}
-use Rattle.tac_pass.proofs.Steps.{texts_move, spares_follow, renames_follow}
+use Rattle.tac_pass.proofs.StepParts.{texts_move}
+use Rattle.tac_pass.proofs.Spared.{spares_follow}
+use Rattle.tac_pass.proofs.Steps.{renames_follow}
 use Rattle.tac_pass.proofs.Calling.{calls_follow}
 use Rattle.tac_pass.proofs.Jumping.{jumps_follow, ends_follow}
 use Rattle.tac_pass.proofs.Puts.{behind_puts}

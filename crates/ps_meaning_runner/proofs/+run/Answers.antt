@@ -18,6 +18,9 @@ use Rattle.ps_meaning_runner.specs.Heights.{writes_height}
 use Rattle.ps_meaning_runner.specs.Runs.{Halted, levels}
 use Rattle.ps_meaning_runner.proofs.Heights.{place_is_high, expr_is_high, set_is_high, statement_is_high, block_levels}
 use Rattle.ps_meaning_runner.proofs.Acts as a
+use Rattle.ps_meaning_runner.proofs.Called as of_calls
+use Rattle.ps_meaning_runner.proofs.Repetitions as repeating
+use Rattle.ps_meaning_runner.proofs.Turns as counted
 use Rattle.ps_meaning_runner.proofs.Chains as chain
 use Rattle.ps_meaning_runner.proofs.Arms as arm
 use Rattle.ps_meaning_runner.specs.View.{listed, value_of, spot_of, integer_of}
@@ -89,7 +92,7 @@ statements::act-returns-in-Case t c = a.case_runs c.args.here.job.now c.args.her
     c.choose.new.world c.args.here.depth c.in-Case.is c.deref-in-Case.ensures.value c.choose.ensures
 
 pub statements::act-returns-in-Repeat : goal.statements::act-returns-in-Repeat
-statements::act-returns-in-Repeat t c = a.repeat_runs c.args.here.job.now c.args.here.fuel
+statements::act-returns-in-Repeat t c = repeating.repeat_runs c.args.here.job.now c.args.here.fuel
     (context_of c.args.here.context.now) (world_of c.args.world.now) c.args.statement.now _ _ _ c.repeat_until.result
     c.repeat_until.new.world c.args.here.depth c.in-Repeat.is c.deref-in-Repeat.ensures.value c.repeat_until.ensures
 
@@ -104,7 +107,7 @@ calls::call_procedure-returns-in_err-body t c =
     (arguments_of c.args.arguments.now) c.args.line (context_of c.args.here.context.now)
     (world_of c.args.world.now)) c.args.here.depth
     (levels c.args.here.job.now c.args.here.fuel (arguments_height (arguments_of c.args.arguments.now)))
-    c.in_err-body.field-0.0 c.enter.new.self = a.called_stops c.args.here.job.now c.args.here.fuel c.args.callee
+    c.in_err-body.field-0.0 c.enter.new.self = of_calls.called_stops c.args.here.job.now c.args.here.fuel c.args.callee
     (arguments_of c.args.arguments.now) c.args.line (context_of c.args.here.context.now)
     (actuals_in c.in_ok-actuals.actuals) (world_of c.args.world.now)
     (world_of c.take_actuals.new.world) _ c.enter.new.self c.args.here.depth _ c.in_ok-actuals.ensures stopped in
@@ -118,7 +121,8 @@ calls::call_procedure-returns t c =
     (calling c.args.line (context_of c.args.here.context.now)) (world_of c.take_actuals.new.world)
     ≡ next c.args.here.job.now c.args.here.fuel (Block (statements_of c.in_ok-body.body.now))
     (context_of c.in_ok-body.inner) (world_of c.enter.new.self) = c.in_ok-body.ensures.entered c.args.here.fuel in
-    a.called_runs c.args.here.job.now c.args.here.fuel c.args.callee (arguments_of c.args.arguments.now) c.args.line
+    of_calls.called_runs c.args.here.job.now c.args.here.fuel c.args.callee
+    (arguments_of c.args.arguments.now) c.args.line
     (context_of c.args.here.context.now) (actuals_in c.in_ok-actuals.actuals) (world_of c.args.world.now)
     (world_of c.take_actuals.new.world) _ c.do_block.result c.do_block.new.world c.args.here.depth
     c.in_ok-actuals.ensures same c.do_block.ensures
@@ -134,7 +138,7 @@ calls::call_value-returns-in_err-body t c =
     (arguments_of c.args.arguments.now) c.args.line (context_of c.args.here.context.now)
     (world_of c.args.world.now)) c.args.here.depth
     (levels c.args.here.job.now c.args.here.fuel (arguments_height (arguments_of c.args.arguments.now)))
-    c.in_err-body.field-0.0 c.enter.new.self = a.valued_stops c.args.here.job.now c.args.here.fuel c.args.callee
+    c.in_err-body.field-0.0 c.enter.new.self = of_calls.valued_stops c.args.here.job.now c.args.here.fuel c.args.callee
     (arguments_of c.args.arguments.now) c.args.line (context_of c.args.here.context.now)
     (actuals_in c.in_ok-actuals.actuals) (world_of c.args.world.now)
     (world_of c.take_actuals.new.world) _ c.enter.new.self c.args.here.depth _ c.in_ok-actuals.ensures stopped in
@@ -152,7 +156,7 @@ calls::call_value-returns-in_err-do_block t c =
     (arguments_of c.args.arguments.now) c.args.line (context_of c.args.here.context.now)
     (world_of c.args.world.now)) c.args.here.depth
     (levels c.args.here.job.now c.args.here.fuel (arguments_height (arguments_of c.args.arguments.now)))
-    c.in_err-do_block.field-0.0 c.do_block.new.world = a.valued_halts c.args.here.job.now c.args.here.fuel
+    c.in_err-do_block.field-0.0 c.do_block.new.world = of_calls.valued_halts c.args.here.job.now c.args.here.fuel
     c.args.callee (arguments_of c.args.arguments.now) c.args.line (context_of c.args.here.context.now)
     (actuals_in c.in_ok-actuals.actuals) (world_of c.args.world.now)
     (world_of c.take_actuals.new.world) _ _ c.do_block.new.world c.args.here.depth c.in_ok-actuals.ensures same
@@ -167,7 +171,8 @@ calls::call_value-returns t c =
     (calling c.args.line (context_of c.args.here.context.now)) (world_of c.take_actuals.new.world)
     ≡ next c.args.here.job.now c.args.here.fuel (Block (statements_of c.in_ok-body.body.now))
     (context_of c.in_ok-body.inner) (world_of c.enter.new.self) = c.in_ok-body.ensures.entered c.args.here.fuel in
-    a.valued_runs c.args.here.job.now c.args.here.fuel c.args.callee (arguments_of c.args.arguments.now) c.args.line
+    of_calls.valued_runs c.args.here.job.now c.args.here.fuel c.args.callee
+    (arguments_of c.args.arguments.now) c.args.line
     (context_of c.args.here.context.now) (actuals_in c.in_ok-actuals.actuals) (world_of c.args.world.now)
     (world_of c.take_actuals.new.world) (world_of c.do_block.new.world) c.result_at.result c.do_block.new.world
     c.args.here.depth _ c.in_ok-actuals.ensures (same ∙ c.in_ok-do_block.ensures) c.result_at.ensures
@@ -175,7 +180,7 @@ calls::call_value-returns t c =
 pub calls::do_block-returns-then-here-eq0 : goal.calls::do_block-returns-then-here-eq0
 calls::do_block-returns-then-here-eq0 t c =
     a.halts_same _ _ c.used_up.result c.args.world.now _ _
-    (a.block_over c.args.here.job.now c.args.here.fuel (statements_of c.args.body.now)
+    (repeating.block_over c.args.here.job.now c.args.here.fuel (statements_of c.args.body.now)
     (context_of c.args.here.context.now) (world_of c.args.world.now) c.if-here-eq0.true) c.used_up.ensures
 
 pub calls::do_block-returns-else-here-eq0 : goal.calls::do_block-returns-else-here-eq0
@@ -183,7 +188,7 @@ calls::do_block-returns-else-here-eq0 t c =
     a.runs_same done_of _ _ c.act_all.result c.act_all.new.world c.args.here.depth
     (levels c.args.here.job.now (c.args.here.fuel - 1) (statements_height (statements_of c.args.body.now)))
     (levels c.args.here.job.now c.args.here.fuel 0)
-    (a.block_done c.args.here.job.now c.args.here.fuel (statements_of c.args.body.now)
+    (repeating.block_done c.args.here.job.now c.args.here.fuel (statements_of c.args.body.now)
     (context_of c.args.here.context.now) (world_of c.args.world.now) c.if-here-eq0.false)
     (block_levels c.args.here.job.now c.args.here.fuel
     (statements_height (statements_of c.args.body.now)) c.if-here-eq0.false c.requires) c.act_all.ensures
@@ -323,7 +328,7 @@ loops::count-returns-in_err-x t c =
     (levels c.args.here.job.now c.args.here.fuel
     (max (expr_height (expr_of c.args.from.now))
     (max (expr_height (expr_of c.args.to.now)) (statement_height (statement_of c.args.body.now)))))
-    c.in_err-x.field-0.0 c.evaluate.new.world = a.for_halt c.args.here.job.now c.args.here.fuel c.args.variable
+    c.in_err-x.field-0.0 c.evaluate.new.world = counted.for_halt c.args.here.job.now c.args.here.fuel c.args.variable
     c.args.low c.args.high (expr_of c.args.from.now) c.args.from_line c.args.direction
     (expr_of c.args.to.now) c.args.to_line (statement_of c.args.body.now) (context_of c.args.here.context.now) _
     (world_of c.args.world.now) c.evaluate.new.world c.args.here.depth c.in_err-x.ensures in
@@ -338,7 +343,7 @@ loops::count-returns-in_err-y t c =
     (levels c.args.here.job.now c.args.here.fuel
     (max (expr_height (expr_of c.args.from.now))
     (max (expr_height (expr_of c.args.to.now)) (statement_height (statement_of c.args.body.now)))))
-    c.in_err-y.field-0.0 c.evaluate-2.new.world = a.for_halt_second c.args.here.job.now c.args.here.fuel
+    c.in_err-y.field-0.0 c.evaluate-2.new.world = counted.for_halt_second c.args.here.job.now c.args.here.fuel
     c.args.variable c.args.low c.args.high (expr_of c.args.from.now) c.args.from_line c.args.direction
     (expr_of c.args.to.now) c.args.to_line (statement_of c.args.body.now) (context_of c.args.here.context.now)
     (value_of c.in_ok-x.x) _ (world_of c.args.world.now)
@@ -346,7 +351,7 @@ loops::count-returns-in_err-y t c =
     handed_on _ _ _ _ _ _ _ c.from_residual-in_err-y.ensures.1 h
 
 pub loops::count-returns-then-is_past : goal.loops::count-returns-then-is_past
-loops::count-returns-then-is_past t c = a.for_past c.args.here.job.now c.args.here.fuel c.args.variable c.args.low
+loops::count-returns-then-is_past t c = counted.for_past c.args.here.job.now c.args.here.fuel c.args.variable c.args.low
     c.args.high (expr_of c.args.from.now) c.args.from_line c.args.direction (expr_of c.args.to.now) c.args.to_line
     (statement_of c.args.body.now) (context_of c.args.here.context.now) (value_of c.in_ok-x.x) (value_of c.in_ok-y.y)
     (world_of c.args.world.now) (world_of c.evaluate.new.world)
@@ -361,24 +366,24 @@ loops::count-returns-in_err-begin_turns t c =
     (levels c.args.here.job.now c.args.here.fuel
     (max (expr_height (expr_of c.args.from.now))
     (max (expr_height (expr_of c.args.to.now)) (statement_height (statement_of c.args.body.now)))))
-    c.in_err-begin_turns.field-0.0 c.begin_turns.new.world = a.for_stops c.args.here.job.now c.args.here.fuel
+    c.in_err-begin_turns.field-0.0 c.begin_turns.new.world = counted.for_stops c.args.here.job.now c.args.here.fuel
     c.args.variable c.args.low c.args.high (expr_of c.args.from.now) c.args.from_line c.args.direction
     (expr_of c.args.to.now) c.args.to_line (statement_of c.args.body.now) (context_of c.args.here.context.now)
     (value_of c.in_ok-x.x) (value_of c.in_ok-y.y) (world_of c.args.world.now) (world_of c.evaluate.new.world)
     (world_of c.evaluate-2.new.world) _ c.begin_turns.new.world c.args.here.depth _ c.in_ok-x.ensures
     c.in_ok-y.ensures (sym c.is_past.ensures ∙ c.if-is_past.false) _
-    (a.within_is c.args.low c.args.high _ _ (to_z-of_z c.ranges.low) (to_z-of_z c.ranges.high))
+    (counted.within_is c.args.low c.args.high _ _ (to_z-of_z c.ranges.low) (to_z-of_z c.ranges.high))
     c.in_err-begin_turns.ensures in
     handed_on _ _ _ _ _ _ _ c.from_residual-in_err-begin_turns.ensures.1 h
 
 pub loops::count-returns : goal.loops::count-returns
-loops::count-returns t c = a.for_runs c.args.here.job.now c.args.here.fuel c.args.variable c.args.low c.args.high
+loops::count-returns t c = counted.for_runs c.args.here.job.now c.args.here.fuel c.args.variable c.args.low c.args.high
     (expr_of c.args.from.now) c.args.from_line c.args.direction (expr_of c.args.to.now) c.args.to_line
     (statement_of c.args.body.now) (context_of c.args.here.context.now) (value_of c.in_ok-x.x) (value_of c.in_ok-y.y)
     (world_of c.args.world.now) (world_of c.evaluate.new.world) (world_of c.evaluate-2.new.world)
     (world_of c.begin_turns.new.world) c.turns.result c.turns.new.world c.args.here.depth c.in_ok-x.ensures
     c.in_ok-y.ensures (sym c.is_past.ensures ∙ c.if-is_past.false) _
-    (a.within_is c.args.low c.args.high _ _ (to_z-of_z c.ranges.low) (to_z-of_z c.ranges.high))
+    (counted.within_is c.args.low c.args.high _ _ (to_z-of_z c.ranges.low) (to_z-of_z c.ranges.high))
     c.in_ok-begin_turns.ensures c.turns.ensures
 
 pub loops::repeat_while-returns-in_err-evaluate_truth : goal.loops::repeat_while-returns-in_err-evaluate_truth
@@ -388,7 +393,7 @@ loops::repeat_while-returns-in_err-evaluate_truth t c =
     (world_of c.args.world.now)) c.args.here.depth
     (levels c.args.here.job.now c.args.here.fuel
     (max (expr_height (expr_of c.args.condition.now)) (statement_height (statement_of c.args.body.now))))
-    c.in_err-evaluate_truth.field-0.0 c.evaluate_truth.new.world = a.while_halt c.args.here.job.now
+    c.in_err-evaluate_truth.field-0.0 c.evaluate_truth.new.world = repeating.while_halt c.args.here.job.now
     c.loop-world.left c.args.here.fuel (expr_of c.args.condition.now) (statement_of c.args.body.now)
     (context_of c.args.here.context.now) _ (world_of c.loop-world.world) c.evaluate_truth.new.world _
     c.args.here.depth c.loop-world.invariant.left c.loop-world.invariant.same c.in_err-evaluate_truth.ensures in
@@ -402,7 +407,7 @@ loops::repeat_while-returns-in_err-act t c =
     (world_of c.args.world.now)) c.args.here.depth
     (levels c.args.here.job.now c.args.here.fuel
     (max (expr_height (expr_of c.args.condition.now)) (statement_height (statement_of c.args.body.now))))
-    c.in_err-act.field-0.0 c.act.new.world = a.while_body_halt c.args.here.job.now c.loop-world.left
+    c.in_err-act.field-0.0 c.act.new.world = repeating.while_body_halt c.args.here.job.now c.loop-world.left
     c.args.here.fuel (expr_of c.args.condition.now) (statement_of c.args.body.now)
     (context_of c.args.here.context.now) c.in_ok-evaluate_truth.field-0 _ (world_of c.loop-world.world)
     (world_of c.evaluate_truth.new.world) c.act.new.world _ c.args.here.depth c.loop-world.invariant.left
@@ -413,7 +418,7 @@ pub loops::repeat_while-returns-then-left-eq0 : goal.loops::repeat_while-returns
 loops::repeat_while-returns-then-left-eq0 t c =
     let k : c.in_ok-evaluate_truth.field-0 ≡ true = search (rules, c.if-not-branch.false) in
     a.halts_same _ _ c.used_up.result c.act.new.world _ _
-    (a.while_over c.args.here.job.now c.loop-world.left (expr_of c.args.condition.now)
+    (repeating.while_over c.args.here.job.now c.loop-world.left (expr_of c.args.condition.now)
     (statement_of c.args.body.now) (context_of c.args.here.context.now) c.in_ok-evaluate_truth.field-0
     (world_of c.loop-world.world) (world_of c.evaluate_truth.new.world)
     (world_of c.act.new.world) _ c.loop-world.invariant.same c.in_ok-evaluate_truth.ensures k c.in_ok-act.ensures
@@ -423,7 +428,7 @@ pub loops::repeat_while-loop-world-preserved : goal.loops::repeat_while-loop-wor
 loops::repeat_while-loop-world-preserved t c =
     let k : c.in_ok-evaluate_truth.field-0 ≡ true = search (rules, c.if-not-branch.false) in
     record {
-      same = a.while_next c.args.here.job.now c.loop-world.left (expr_of c.args.condition.now)
+      same = repeating.while_next c.args.here.job.now c.loop-world.left (expr_of c.args.condition.now)
           (statement_of c.args.body.now) (context_of c.args.here.context.now) c.in_ok-evaluate_truth.field-0
           (world_of c.loop-world.world) (world_of c.evaluate_truth.new.world)
           (world_of c.act.new.world) _ c.loop-world.invariant.same c.in_ok-evaluate_truth.ensures k c.in_ok-act.ensures
@@ -438,7 +443,7 @@ loops::repeat_until-returns-in_err-act_all t c =
     (context_of c.args.here.context.now) (world_of c.args.world.now)) c.args.here.depth
     (levels c.args.here.job.now c.args.here.fuel
     (max (statements_height (statements_of c.args.body.now)) (expr_height (expr_of c.args.condition.now))))
-    c.in_err-act_all.field-0.0 c.act_all.new.world = a.repeat_halt c.args.here.job.now c.loop-world.left
+    c.in_err-act_all.field-0.0 c.act_all.new.world = repeating.repeat_halt c.args.here.job.now c.loop-world.left
     c.args.here.fuel (statements_of c.args.body.now) (expr_of c.args.condition.now)
     (context_of c.args.here.context.now) _ (world_of c.loop-world.world) c.act_all.new.world _ c.args.here.depth
     c.loop-world.invariant.left c.loop-world.invariant.same c.in_err-act_all.ensures in
@@ -451,7 +456,7 @@ loops::repeat_until-returns-in_err-evaluate_truth t c =
     (context_of c.args.here.context.now) (world_of c.args.world.now)) c.args.here.depth
     (levels c.args.here.job.now c.args.here.fuel
     (max (statements_height (statements_of c.args.body.now)) (expr_height (expr_of c.args.condition.now))))
-    c.in_err-evaluate_truth.field-0.0 c.evaluate_truth.new.world = a.repeat_until_halt c.args.here.job.now
+    c.in_err-evaluate_truth.field-0.0 c.evaluate_truth.new.world = repeating.repeat_until_halt c.args.here.job.now
     c.loop-world.left c.args.here.fuel (statements_of c.args.body.now) (expr_of c.args.condition.now)
     (context_of c.args.here.context.now) _ (world_of c.loop-world.world)
     (world_of c.act_all.new.world) c.evaluate_truth.new.world _ c.args.here.depth c.loop-world.invariant.left
@@ -461,7 +466,7 @@ loops::repeat_until-returns-in_err-evaluate_truth t c =
 pub loops::repeat_until-returns-then-left-eq0 : goal.loops::repeat_until-returns-then-left-eq0
 loops::repeat_until-returns-then-left-eq0 t c =
     a.halts_same _ _ c.used_up.result c.evaluate_truth.new.world _ _
-    (a.repeat_over c.args.here.job.now c.loop-world.left (statements_of c.args.body.now)
+    (repeating.repeat_over c.args.here.job.now c.loop-world.left (statements_of c.args.body.now)
     (expr_of c.args.condition.now) (context_of c.args.here.context.now) c.in_ok-evaluate_truth.field-0
     (world_of c.loop-world.world) (world_of c.act_all.new.world)
     (world_of c.evaluate_truth.new.world) _ c.loop-world.invariant.same c.in_ok-act_all.ensures
@@ -470,7 +475,7 @@ loops::repeat_until-returns-then-left-eq0 t c =
 pub loops::repeat_until-loop-world-preserved : goal.loops::repeat_until-loop-world-preserved
 loops::repeat_until-loop-world-preserved t c =
     record {
-      same = a.repeat_next c.args.here.job.now c.loop-world.left (statements_of c.args.body.now)
+      same = repeating.repeat_next c.args.here.job.now c.loop-world.left (statements_of c.args.body.now)
           (expr_of c.args.condition.now) (context_of c.args.here.context.now) c.in_ok-evaluate_truth.field-0
           (world_of c.loop-world.world) (world_of c.act_all.new.world)
           (world_of c.evaluate_truth.new.world) _ c.loop-world.invariant.same c.in_ok-act_all.ensures
@@ -484,7 +489,7 @@ loops::turns-returns-in_err-act t c =
     (number_of (value_of c.args.last.now)) (statement_of c.args.body.now) (context_of c.args.here.context.now)
     (world_of c.args.world.now)) c.args.here.depth
     (levels c.args.here.job.now c.args.here.fuel (statement_height (statement_of c.args.body.now)))
-    c.in_err-act.field-0.0 c.act.new.world = a.turns_halt c.args.here.job.now c.loop-world.left c.args.here.fuel
+    c.in_err-act.field-0.0 c.act.new.world = counted.turns_halt c.args.here.job.now c.loop-world.left c.args.here.fuel
     c.args.variable c.args.direction (number_of (value_of c.args.last.now)) (statement_of c.args.body.now)
     (context_of c.args.here.context.now) _ (world_of c.loop-world.world) c.act.new.world _ c.args.here.depth
     c.loop-world.invariant.left c.loop-world.invariant.same c.in_err-act.ensures in
@@ -493,7 +498,7 @@ loops::turns-returns-in_err-act t c =
 pub loops::turns-returns-then-left-eq0 : goal.loops::turns-returns-then-left-eq0
 loops::turns-returns-then-left-eq0 t c =
     a.halts_same _ _ c.used_up.result c.act.new.world _ _
-    (a.turns_over c.args.here.job.now c.loop-world.left c.args.variable c.args.direction
+    (counted.turns_over c.args.here.job.now c.loop-world.left c.args.variable c.args.direction
     (number_of (value_of c.args.last.now)) (statement_of c.args.body.now) (context_of c.args.here.context.now)
     (world_of c.loop-world.world) (world_of c.act.new.world) _ c.loop-world.invariant.same c.in_ok-act.ensures
     c.if-left-eq0.true) c.used_up.ensures
@@ -501,7 +506,7 @@ loops::turns-returns-then-left-eq0 t c =
 pub loops::turns-returns-then-not-branch : goal.loops::turns-returns-then-not-branch
 loops::turns-returns-then-not-branch t c =
     let k : c.in_ok-advance.field-0 ≡ false = search (rules, c.if-not-branch.true) in
-    a.turns_done c.args.here.job.now c.loop-world.left c.args.variable c.args.direction
+    counted.turns_done c.args.here.job.now c.loop-world.left c.args.variable c.args.direction
     (number_of (value_of c.args.last.now)) (statement_of c.args.body.now)
     (context_of c.args.here.context.now) _ c.in_ok-advance.field-0 (world_of c.loop-world.world)
     (world_of c.act.new.world) (world_of c.advance.new.world) _ c.loop-world.invariant.same c.in_ok-act.ensures
@@ -511,7 +516,7 @@ pub loops::turns-loop-world-preserved : goal.loops::turns-loop-world-preserved
 loops::turns-loop-world-preserved t c =
     let k : c.in_ok-advance.field-0 ≡ true = search (rules, c.if-not-branch.false) in
     record {
-      same = a.turns_next c.args.here.job.now c.loop-world.left c.args.variable c.args.direction
+      same = counted.turns_next c.args.here.job.now c.loop-world.left c.args.variable c.args.direction
           (number_of (value_of c.args.last.now)) (statement_of c.args.body.now)
           (context_of c.args.here.context.now) _ c.in_ok-advance.field-0 (world_of c.loop-world.world)
           (world_of c.act.new.world) (world_of c.advance.new.world) _ c.loop-world.invariant.same c.in_ok-act.ensures

@@ -1,6 +1,6 @@
 use Rattle.std.proofs.Common.{[], sym, ◌∙◌}
 use Rattle.tac_pass.specs.Walk.{spot}
-use Rattle.tac_pass.proofs.Passing.{walked_none}
+use Rattle.tac_pass.proofs.Walks.{walked_none}
 use Rattle.tac_pass.proofs.walk.begin.Goals as goal
 
 pub returns : goal.returns

@@ -1,7 +1,7 @@
 use Rattle.std.proofs.Common.{length, refl}
 use Rattle.std.proofs.lemmas.Option.{slice_get_read}
 use Rattle.tac_pass.specs.Walk.{spot}
-use Rattle.tac_pass.proofs.Passing.{walks_on}
+use Rattle.tac_pass.proofs.Walks.{walks_on}
 use Rattle.tac_pass.proofs.walk.walk_on.Goals as goal
 
 pub loop-place-preserved : goal.loop-place-preserved

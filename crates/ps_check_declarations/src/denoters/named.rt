@@ -1,0 +1,157 @@
+//! Types and constants by their names, where no definition within which the place lies hides them.
+
+ghost use Rattle.std.specs.Prelude.{map};
+ghost use Rattle.ps_tree.specs.View.{type_of};
+ghost use Rattle.ps_check_judgement.specs.Judged.{Answers};
+ghost use Rattle.ps_check_names.specs.Spelling.{spelled};
+ghost use Rattle.ps_check_names.specs.Constants.{constant};
+ghost use Rattle.ps_check_names.specs.Views.{scope_of, point_of, meaning_of, constant_of};
+ghost use Rattle.ps_check_declarations.specs.Denoters.{regions, passes, passes_in, type_at, type_named};
+ghost use Rattle.ps_check_declarations.specs.Views.{frame_of, hidden_of};
+
+use crate::frame::{Frame, Hidden, Place};
+use ps_check_judgement::answer::broken;
+use ps_check_judgement::refusal::Fault;
+use ps_check_names::constants::{ConstantValue, constant, misplacement};
+use ps_check_names::meaning::Meaning;
+use ps_check_names::reading::Reading;
+use ps_check_names::scope::{Found, Scope, within_own};
+use ps_syntax::Constant;
+use ps_text::Span;
+use ps_tree::types::Ty;
+use std::alloc::Global;
+
+/// A name that begins at an offset, and is hidden by no definition within which the place lies.
+#[tactic(auto, unfolding(crate::specs::Denoters::passes, crate::specs::Views::hidden_of))]
+fn passes(hidden: &Hidden, name: &[u8], at: u32) -> Result<(), Fault>
+    ensures { Answers result (λ _. tt) (passes (hidden_of hidden.now) name.now at) }
+{
+    match hidden {
+        Hidden::Nothing => Ok(()),
+        Hidden::Own {
+            names,
+            defined,
+            outer,
+        } => match names.find(name) {
+            None => passes(outer, name, at),
+            Some(index) => Err(broken(within_own(index, *defined), at)),
+        },
+    }
+}
+
+/// The same for the name at this place.
+#[tactic(auto, unfolding(crate::specs::Denoters::passes, crate::specs::Views::hidden_of))]
+pub(super) fn pass_hidden(
+    reading: &Reading,
+    alloc: Global,
+    hidden: &Hidden,
+    name: Span,
+) -> Result<(), Fault>
+    ensures { Answers result (λ _. tt) (passes (hidden_of hidden.now) (spelled reading.now.source.now name) name.from) }
+{
+    match hidden {
+        Hidden::Nothing => Ok(()),
+        Hidden::Own { .. } => {
+            let spelling = reading.spelling(alloc, name)?;
+            passes(hidden, spelling.as_slice(), name.from)
+        }
+    }
+}
+
+/// The type denoted by what a name was found to be.
+#[tactic(auto, unfolding(crate::specs::Denoters::type_at, ps_check_names::specs::Views::meaning_of))]
+fn type_at(found: &Found, at: u32) -> Result<Ty, Fault>
+    ensures { Answers result (λ ty. type_of ty) (type_at at (point_of found.now)) }
+{
+    match found {
+        Found::Name { meaning, .. } => match meaning {
+            Meaning::Type(ty) => Ok(ty.copy()?),
+            Meaning::Constant { .. }
+            | Meaning::Text(_)
+            | Meaning::Variable { .. }
+            | Meaning::Parameter { .. }
+            | Meaning::RoutineParameter { .. }
+            | Meaning::Routine(_)
+            | Meaning::Required(_)
+            | Meaning::File(_)
+            | Meaning::LeftOut => Err(broken(misplacement(found), at)),
+        },
+        Found::Field { .. } => Err(broken(misplacement(found), at)),
+    }
+}
+
+/// The type that a name denotes.
+fn type_named(reading: &Reading, alloc: Global, scope: &Scope, name: Span) -> Result<Ty, Fault>
+    ensures { Answers result (λ ty. type_of ty) (type_named reading.now.source.now (scope_of scope.now) name) }
+{
+    let found = reading.denoted(alloc, scope, name)?;
+    type_at(&found, name.from)
+}
+
+/// The type that a name denotes at a place of a block.
+#[tactic(auto, using(crate::proofs::HiddenLemmas::type_named_past), unfolding(ps_check_names::specs::Views::scope_of))]
+pub(crate) fn type_in(place: &Place, known: &[Meaning], name: Span) -> Result<Ty, Fault>
+    ensures { Answers result (λ ty. type_of ty)
+        (type_named place.now.frame.reading.now.source.now
+        (regions (frame_of place.now.frame) (hidden_of place.now.hidden) (map meaning_of known.now)) name) }
+{
+    let Frame {
+        reading,
+        routine,
+        names,
+        outer,
+        ..
+    } = place.frame;
+    pass_hidden(reading, place.alloc, &place.hidden, name)?;
+    let scope = Scope::Block {
+        routine,
+        names,
+        known,
+        outer,
+    };
+    type_named(reading, place.alloc, &scope, name)
+}
+
+/// The constant is none of the hidden names.
+#[tactic(auto, unfolding(crate::specs::Denoters::passes_in))]
+fn pass_hidden_in(
+    reading: &Reading,
+    alloc: Global,
+    hidden: &Hidden,
+    written: Constant,
+) -> Result<(), Fault>
+    ensures { Answers result (λ _. tt) (passes_in reading.now.source.now (hidden_of hidden.now) written) }
+{
+    match written {
+        Constant::Number(..) | Constant::Text(_) => Ok(()),
+        Constant::Name(_, name) => pass_hidden(reading, alloc, hidden, name),
+    }
+}
+
+/// A constant at a place of a block.
+#[tactic(auto, using(crate::proofs::HiddenLemmas::constant_past), unfolding(ps_check_names::specs::Views::scope_of))]
+pub(crate) fn constant_in(
+    place: &Place,
+    known: &[Meaning],
+    written: Constant,
+) -> Result<ConstantValue, Fault>
+    ensures { Answers result (λ value. constant_of value)
+        (constant place.now.frame.reading.now.source.now
+        (regions (frame_of place.now.frame) (hidden_of place.now.hidden) (map meaning_of known.now)) written) }
+{
+    let Frame {
+        reading,
+        routine,
+        names,
+        outer,
+        ..
+    } = place.frame;
+    pass_hidden_in(reading, place.alloc, &place.hidden, written)?;
+    let scope = Scope::Block {
+        routine,
+        names,
+        known,
+        outer,
+    };
+    constant(reading, place.alloc, &scope, written)
+}

@@ -1,7 +1,0 @@
-use Rattle.std.proofs.Common.{◌≡◌, drop}
-use Rattle.tac_pass.specs.Tables.{all_no_more, is_no_more}
-use Rattle.tac_pass.proofs.table.are_no_more.Given as goal
-
-abbrev pub invariant-loop-at : goal.invariant-loop-at
-invariant-loop-at l =
-    all_no_more is_no_more (drop l.at l.from) (drop l.at l.to) ≡ all_no_more is_no_more l.from l.to
