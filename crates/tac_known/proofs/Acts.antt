@@ -1,10 +1,11 @@
 -- Each instruction does what it did, where its tests that lost their numbers can't fail.
-use Rattle.std.proofs.Common.{◌≡◌, ℕ, suc, ◌+◌, ◌*◌, Bool, true, false, not, ◌&&◌, nat_eq, nat_lt, if◌then◌else◌, List}
-use Rattle.std.proofs.Common.{[], ◌∷◌, length, slice_get, Option, Some, None, ℤ, pos, refl, sym, ap, ◌∙◌, subst}
+use Rattle.std.proofs.Common.{◌≡◌, ℕ, zero, suc, ◌+◌, ◌*◌, Bool, true, false, not, ◌&&◌, nat_eq, nat_lt, if◌then◌else◌, List}
+use Rattle.std.proofs.Common.{[], ◌∷◌, length, slice_get, Option, Some, None, ℤ, pos, negsuc, refl, sym, ap, ◌∙◌, subst}
 use Rattle.std.proofs.lemmas.Bool.{true≢false}
-use Rattle.std.proofs.lemmas.Option.{same_Some}
+use Rattle.std.proofs.lemmas.Option.{none-some, same_Some}
 use Rattle.behavior.specs.Endings.{Stack, Stuck}
 use Rattle.tac_code.specs.declared.code.Block.{Block}
+use Rattle.tac_code.specs.declared.code.Block.TheVariants.{Frame, Scratch, Object, Constant}
 use Rattle.tac_code.specs.declared.code.Operand.{Operand}
 use Rattle.tac_code.specs.declared.code.Operand.TheVariants as operand
 use Rattle.tac_code.specs.declared.code.Relation.{Relation}
@@ -134,8 +135,20 @@ is_number : (k : Kind) (o : Option Value) (x : ℤ) → IsOf k o → o ≡ Some 
 is_number k o x is e = subst (IsOf k) e is
 
 object_pointer : (o : Option Value) → IsOf Pointer o → (p : Option ℕ) → pointer_of o ≡ Some p → not (is_nil p) ≡ true
-object_pointer o (n, e) p f =
-    sym (ap (λ q. not (is_nil q)) (same_Some (Some n) p (sym (ap pointer_of e) ∙ f)))
+object_pointer o other (Some n) f = refl
+object_pointer None other None f = absurd (none-some None f)
+object_pointer (Some (Number (pos zero))) other None f = absurd (other refl)
+object_pointer (Some (Number (pos (suc n)))) other None f = absurd (none-some None f)
+object_pointer (Some (Number (negsuc n))) other None f = absurd (none-some None f)
+object_pointer (Some (Address (Frame a) o)) other None f = absurd (none-some None f)
+object_pointer (Some (Address (Scratch a) o)) other None f = absurd (none-some None f)
+object_pointer (Some (Address (Constant r place) o)) other None f = absurd (none-some None f)
+object_pointer (Some (Address (Object a) o)) other None f = which (nat_eq o 0) f
+  where
+    which : (b : Bool) → (if b then Some (Some a) else None) ≡ Some None → false ≡ true
+    which true f = absurd (none-some a (sym (same_Some (Some a) None f)))
+    which false f = absurd (none-some None f)
+object_pointer (Some (Routine r)) other None f = absurd (none-some None f)
 
 -- two codes with programs of as many routines, called alike, with the same objects and constants
 module _ (old new : Code) (program : length new.program ≡ length old.program) (objects : new.objects ≡ old.objects)

@@ -29,7 +29,8 @@ use Rattle.tac_known.specs.declared.again.Facts.{Facts}
 use Rattle.tac_known.specs.Again.{AreHeld, no_facts, each_unless_written, component, total, after_given, IsNoMore}
 use Rattle.tac_known.specs.Again.{GoesOn}
 use Rattle.tac_known.proofs.Goes.{on_some, on_number, on_routine, on_if, on_byte}
-use Rattle.tac_known.proofs.AgainHeld.{are_like, each_kept, index_kept, sum_kept}
+use Rattle.tac_known.proofs.AgainLike.{are_like}
+use Rattle.tac_known.proofs.AgainHeld.{each_kept, index_kept, sum_kept}
 
 -- nothing is held in any activation
 none : (facts : Facts) (current : Activation) → facts ≡ no_facts → AreHeld facts current
@@ -105,7 +106,11 @@ module _ (helds : ℕ → ℕ → Facts) where
     }
 
     goes_kept : (q : ℕ) → helds s.current.routine q ≡ no_facts → Goes_on (goes_to q s)
-    goes_kept q e = record { here = none (helds s.current.routine q) (record s.current { place = q }) e; callers = kept.callers }
+    goes_kept q e = record {
+      here = none (helds s.current.routine q)
+          (record s.current { place = q }) e;
+      callers = kept.callers;
+    }
 
     stays_kept : IsNoMore now next → AreHeld next (onward s.current)
     stays_kept l = no_more now next (onward s.current) l (moved now s.current (suc s.current.place) kept.here)

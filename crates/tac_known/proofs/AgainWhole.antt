@@ -20,7 +20,8 @@ use Rattle.tac_known.specs.declared.again.Facts.{Facts}
 use Rattle.tac_known.specs.Again.{AreHeld, no_facts, again, GoesOn, IsAgain}
 use Rattle.tac_known.proofs.Acts.{acts_alike, enter_alike}
 use Rattle.tac_known.proofs.Itself.{lean_not}
-use Rattle.tac_known.proofs.AgainHeld.{again_text, again_turns, again_alike}
+use Rattle.tac_known.proofs.AgainHeld.{again_text, again_turns}
+use Rattle.tac_known.proofs.AgainCopied.{again_alike}
 use Rattle.tac_known.proofs.AgainGoes.{IsKept, held_follows}
 
 nothing_held : (facts : Facts) (current : Activation) → facts ≡ no_facts → AreHeld facts current
@@ -198,4 +199,8 @@ module _ (old new : Code) (made : IsAgain old new) where
 pub again_keeps : (old new : Code) → IsAgain old new → Keeps old new
 again_keeps old new made =
     simulated_is_kept old new (R old new made)
-    (λ p. (simulates old new made p, enters old new made p (entry old new p (R old new made p) (simulates old new made p) old) refl))
+    (λ p. (
+      simulates old new made p,
+      enters old new made p (entry old new p (R old new made p)
+          (simulates old new made p) old) refl,
+    ))

@@ -1,12 +1,13 @@
 -- What is known stays true from step to step.
 use Rattle.std.proofs.Common.{◌≡◌, ℕ, suc, ◌+◌, ◌-◌, ◌*◌, Bool, true, false, not, nat_eq, nat_lt, if◌then◌else◌, List}
 use Rattle.std.proofs.Common.{[], ◌∷◌, length, map, slice_get, slice_set, Option, Some, None, ℤ, pos, negsuc, refl, sym, ap}
-use Rattle.std.proofs.Common.{◌∙◌, subst, arith, eqb-true}
+use Rattle.std.proofs.Common.{◌∙◌, subst, arith}
+use Rattle.std.proofs.lemmas.Bool.{true≢false}
 use Rattle.std.proofs.lemmas.Int.{ints}
 use Rattle.std.proofs.lemmas.Option.{none-some, same_Some}
 use Rattle.behavior.specs.Endings.{Stack, Heap, Stuck}
 use Rattle.tac_code.specs.declared.code.Block.{Block}
-use Rattle.tac_code.specs.declared.code.Block.TheVariants.{Frame, Scratch, Object, Constant}
+use Rattle.tac_code.specs.declared.code.Block.TheVariants.{Object, Constant}
 use Rattle.tac_code.specs.declared.code.Operand.{Operand}
 use Rattle.tac_code.specs.declared.code.Relation.{Relation}
 use Rattle.tac_code.specs.declared.code.Value.{Value}
@@ -17,7 +18,7 @@ use Rattle.tac_code.specs.declared.code.Instruction.TheVariants.{CheckPointer, T
 use Rattle.tac_code.specs.declared.code.Instruction.TheVariants.{Store, LoadByte, StoreByte, Jump, JumpBack, Branch}
 use Rattle.tac_code.specs.declared.code.Instruction.TheVariants.{BranchBack, Call, CallValue, Return, Trap, Take, Put}
 use Rattle.tac_code.specs.declared.code.Instruction.TheVariants.{New, End}
-use Rattle.tac_code.specs.Numbers.{Computed, Gives, Fails, computed, bits, truth, compared, is_in_range, is_zero}
+use Rattle.tac_code.specs.Numbers.{Computed, Gives, Fails, computed, bits, truth, compared, is_in_range}
 use Rattle.tac_code.specs.Numbers.{steps_above}
 use Rattle.tac_code.specs.Memory.{Memory, load, load_byte, store, store_byte}
 use Rattle.tac_code.specs.Meaning.{Code, Activation, State, Step, Goes, Over, routines, put, with_some, with_number}
@@ -32,7 +33,8 @@ use Rattle.tac_known.specs.Kinds.{IsOf, kind_in, Hold, operand_kind, met, comput
 use Rattle.tac_known.specs.Kinds.{say_no_more, forget}
 use Rattle.tac_known.specs.Lean.{where_related, Leads}
 use Rattle.tac_known.proofs.Integers.{bounds_of}
-use Rattle.tac_known.proofs.Results.{is_between, met_is, computed_is, bits_is, related_is, unrelated_is}
+use Rattle.tac_known.proofs.Results.{is_between, met_is, computed_is, bits_is, related_is, unrelated_is, not_nil_is}
+use Rattle.tac_known.proofs.Results.{nor_nil_is}
 use Rattle.tac_known.proofs.Holding.{operand_is, holds_put, holds_more, nothing_holds, forgotten, less_holds, nothing_more}
 
 -- ---- steps that go on
@@ -74,22 +76,14 @@ module _ (P : State → Type 0) where
 -- ---- values
 
 pointer_is : (o : Option Value) (n : ℕ) → pointer_of o ≡ Some (Some n) → IsOf Pointer o
-pointer_is None n e = absurd (none-some (Some n) e)
-pointer_is (Some (Number z)) n e = which (is_zero z) e
+pointer_is o n e = λ same. none-some n (same_Some None (Some n) (sym (ap pointer_of same) ∙ e))
+
+address_is : (block : Block) (offset : ℕ) → IsOf Pointer (Some (Address block offset))
+address_is block offset = λ same. true≢false (ap is_address same)
   where
-    which : (b : Bool) → (if b then Some None else None) ≡ Some (Some n) → IsOf Pointer (Some (Number z))
-    which true e = absurd (none-some n (same_Some None (Some n) e))
-    which false e = absurd (none-some (Some n) e)
-pointer_is (Some (Address (Frame a) o)) n e = absurd (none-some (Some n) e)
-pointer_is (Some (Address (Scratch a) o)) n e = absurd (none-some (Some n) e)
-pointer_is (Some (Address (Constant r place) o)) n e = absurd (none-some (Some n) e)
-pointer_is (Some (Address (Object a) o)) n e = which (nat_eq o 0) refl e
-  where
-    which : (b : Bool) → nat_eq o 0 ≡ b → (if b then Some (Some a) else None) ≡ Some (Some n) → IsOf Pointer
-        (Some (Address (Object a) o))
-    which true f e = (a, ap (λ o. Some (Address (Object a) o)) (eqb-true o 0 f))
-    which false f e = absurd (none-some (Some n) e)
-pointer_is (Some (Routine r)) n e = absurd (none-some (Some n) e)
+    is_address : Option Value → Bool
+    is_address (Some (Address b o)) = true
+    is_address _ = false
 
 truth_is : (holds : Bool) → IsOf (Between (pos 0) (pos 1)) (Some (Number (truth holds)))
 truth_is true = is_between (pos 0) (pos 1) (pos 1) (omega (arith, ints)) (omega (arith, ints))
@@ -102,7 +96,8 @@ found false relation = opposite relation
 
 branch_is : (relation : Relation) (k k' : Kind) (o o' : Option Value) (b : Bool) → IsOf k o → IsOf k' o' → related
     relation o o' ≡ Some b → IsOf (related_kind (found b relation) k k') o
-branch_is relation Unknown k' o o' b is is' e = is
+branch_is relation Unknown k' o o' true is is' e = not_nil_is relation k' o o' e is'
+branch_is relation Unknown k' o o' false is is' e = nor_nil_is relation k' o o' e is'
 branch_is relation Pointer k' o o' b is is' e = is
 branch_is relation (Between l h) Unknown o o' b is is' e = is
 branch_is relation (Between l h) Pointer o o' b is is' e = is
@@ -117,9 +112,9 @@ branch_is relation (Between l h) (Between l' h') o o' b (x, f, p, q) (y, g, p', 
     which : (b : Bool) → compared relation x y ≡ b → IsOf (related_kind (found b relation) (Between l h) (Between l' h'))
         (Some (Number x))
     which true c =
-        related_is relation (Between l h) (Between l' h') x y c (is_between l h x p q) (is_between l' h' y p' q')
+        related_is relation l h l' h' x y c (is_between l h x p q) (is_between l' h' y p' q')
     which false c =
-        unrelated_is relation (Between l h) (Between l' h') x y c (is_between l h x p q) (is_between l' h' y p' q')
+        unrelated_is relation l h l' h' x y c (is_between l h x p q) (is_between l' h' y p' q')
 
 -- ---- states
 
@@ -226,7 +221,7 @@ module _ (claims : ℕ → ℕ → List Kind) where
           here = less_holds (slice_set ks t Pointer) next
               (put s.current.temporaries t (Address (Object (length s.memory.objects)) 0)) l
               (holds_put ks s.current.temporaries known.here t Pointer
-              (Address (Object (length s.memory.objects)) 0) (length s.memory.objects, refl));
+              (Address (Object (length s.memory.objects)) 0) (address_is (Object (length s.memory.objects)) 0));
           callers = known.callers;
         })
 

@@ -8,6 +8,8 @@ pub mod Leaned
 pub mod Itself
 pub mod Walked
 pub mod Room
+pub mod AgainLike
+pub mod AgainCopied
 pub mod AgainHeld
 pub mod AgainGoes
 pub mod AgainWhole

@@ -17,11 +17,12 @@ use Rattle.tac_code.specs.declared.code.Relation.{Relation}
 use Rattle.tac_code.specs.declared.code.Relation.TheVariants.{Equal, NotEqual, Less, LessEqual, Greater, GreaterEqual}
 use Rattle.tac_code.specs.Numbers.{is_integer, is_zero, is_in_range, Computed, Gives, Fails, within, computed, bits}
 use Rattle.tac_code.specs.Numbers.{truth, compared, same_number}
+use Rattle.tac_code.specs.Meaning.{related}
 use Rattle.tac_known.specs.declared.kind.Kind.{Kind}
 use Rattle.tac_known.specs.declared.kind.Kind.TheVariants.{Unknown, Pointer, Between}
 use Rattle.tac_known.specs.Kinds.{IsOf, least, greatest, met, low_of, high_of, sum, difference, remainder, computed_kind}
 use Rattle.tac_known.specs.Kinds.{are_integers, plain_sum, bits_kind, fits, lies_within, opposite, one_less, one_more, without, narrowed}
-use Rattle.tac_known.specs.Kinds.{related_kind, says_no_more}
+use Rattle.tac_known.specs.Kinds.{says_nil, not_nil, says_no_more}
 use Rattle.tac_known.proofs.Integers.{not_below, is_below, both_true, not_false, in_range}
 use Rattle.tac_known.proofs.Integers.{integer_bounds, is_integer_between, plain, remainder_bounds, same_int, other_int}
 use Rattle.tac_known.proofs.Integers.{eq_int}
@@ -323,20 +324,66 @@ narrowed_is GreaterEqual l h l' h' x y e p q p' q' =
     let s = not_below y x (not_false (int_lt x y) e) in
     is_between (int_max l l') h x (omega (arith, ints, clamps, p, p', s)) q
 
-pub related_is : (relation : Relation) (k k' : Kind) (x y : ℤ) → compared relation x y ≡ true → IsOf k (Some (Number x))
-    → IsOf k' (Some (Number y)) → IsOf (related_kind relation k k') (Some (Number x))
-related_is relation Unknown k' x y e a b = a
-related_is relation Pointer k' x y e a b = a
-related_is relation (Between l h) Unknown x y e a b = a
-related_is relation (Between l h) Pointer x y e a b = a
-related_is relation (Between l h) (Between l' h') x y e a b =
+pub related_is : (relation : Relation) (l h l' h' x y : ℤ) → compared relation x y ≡ true → IsOf (Between l h)
+    (Some (Number x)) → IsOf (Between l' h') (Some (Number y)) → IsOf (narrowed relation l h l' h') (Some (Number x))
+related_is relation l h l' h' x y e a b =
     let m = number_within l h x a in let n = number_within l' h' y b in
     narrowed_is relation l h l' h' x y e m.0 m.1 n.0 n.1
 
-pub unrelated_is : (relation : Relation) (k k' : Kind) (x y : ℤ) → compared relation x y ≡ false → IsOf k
-    (Some (Number x)) → IsOf k' (Some (Number y)) → IsOf (related_kind (opposite relation) k k') (Some (Number x))
-unrelated_is relation k k' x y e a b =
-    related_is (opposite relation) k k' x y (other_relation relation x y e) a b
+pub unrelated_is : (relation : Relation) (l h l' h' x y : ℤ) → compared relation x y ≡ false → IsOf (Between l h)
+    (Some (Number x)) → IsOf (Between l' h') (Some (Number y)) → IsOf (narrowed (opposite relation) l h l' h')
+    (Some (Number x))
+unrelated_is relation l h l' h' x y e a b =
+    related_is (opposite relation) l h l' h' x y (other_relation relation x y e) a b
+
+-- ---- what isn't nil
+
+-- what is nil is the number 0
+zero_is : (k : Kind) (o : Option Value) → says_nil k ≡ true → IsOf k o → o ≡ Some (Number (pos 0))
+zero_is Unknown o e is = absurd (true≢false (sym e))
+zero_is Pointer o e is = absurd (true≢false (sym e))
+zero_is (Between l h) o e (x, f, p, q) =
+    let b = both_true (int_eq l (pos 0)) (int_eq h (pos 0)) e in
+    let s = eq_int l (pos 0) b.0 in
+    let t = eq_int h (pos 0) b.1 in
+    let only : x ≡ pos 0 = omega (arith, ints, p, q, s, t) in
+    f ∙ ap (λ x. Some (Number x)) only
+
+other_than : (k : Kind) (o o' : Option Value) → IsOf k o' → (o ≡ Some (Number (pos 0)) → o' ≢ Some (Number (pos 0)))
+    → IsOf (if says_nil k then Pointer else Unknown) o
+other_than k o o' is differ = which (says_nil k) refl
+  where
+    which : (b : Bool) → says_nil k ≡ b → IsOf (if b then Pointer else Unknown) o
+    which true e = λ same. differ same (zero_is k o' e is)
+    which false e = tt
+
+-- two values that are the number 0 are equal
+related_zeros : (relation : Relation) (o o' : Option Value) → o ≡ Some (Number (pos 0)) → o' ≡ Some (Number (pos 0))
+    → related relation o o' ≡ Some (compared relation (pos 0) (pos 0))
+related_zeros relation o o' e f =
+    ap (λ o. related relation o o') e ∙ ap (related relation (Some (Number (pos 0)))) f
+
+pub not_nil_is : (relation : Relation) (k : Kind) (o o' : Option Value) → related relation o o' ≡ Some true → IsOf k o'
+    → IsOf (not_nil relation k) o
+not_nil_is NotEqual k o o' e is =
+    other_than k o o' is
+    (λ f g. true≢false (sym (same_Some false true (sym (related_zeros NotEqual o o' f g) ∙ e))))
+not_nil_is Equal k o o' e is = tt
+not_nil_is Less k o o' e is = tt
+not_nil_is LessEqual k o o' e is = tt
+not_nil_is Greater k o o' e is = tt
+not_nil_is GreaterEqual k o o' e is = tt
+
+pub nor_nil_is : (relation : Relation) (k : Kind) (o o' : Option Value) → related relation o o' ≡ Some false → IsOf k o'
+    → IsOf (not_nil (opposite relation) k) o
+nor_nil_is Equal k o o' e is =
+    other_than k o o' is
+    (λ f g. true≢false (same_Some true false (sym (related_zeros Equal o o' f g) ∙ e)))
+nor_nil_is NotEqual k o o' e is = tt
+nor_nil_is Less k o o' e is = tt
+nor_nil_is LessEqual k o o' e is = tt
+nor_nil_is Greater k o o' e is = tt
+nor_nil_is GreaterEqual k o o' e is = tt
 
 -- ---- where places meet
 

@@ -1,6 +1,6 @@
 -- What a walk over a body has tested.
 use Rattle.std.proofs.Common.{◌≡◌, ◌≢◌, ◌⊎◌, inl, inr, ℕ, zero, suc, ◌+◌, ◌-◌, ◌<◌, ◌≤◌, ◌&&◌, true}
-use Rattle.std.proofs.Common.{if◌then◌else◌, List, [], ◌∷◌, ◌++◌, length, slice_get, slice_set, take, drop, map, Option, Some, None}
+use Rattle.std.proofs.Common.{List, [], ◌∷◌, ◌++◌, length, slice_get, slice_set, take, drop, map, Option, Some, None}
 use Rattle.std.proofs.Common.{refl, sym, ap, ◌∙◌, subst, arith}
 use Rattle.std.specs.Prelude.{int_lt}
 use Rattle.std.proofs.Common.{not}
@@ -19,7 +19,7 @@ use Rattle.tac_known.specs.declared.kind.Kind.TheVariants.{Unknown, Pointer, Bet
 use Rattle.tac_known.specs.Kinds.{kind_in, or_unknown, says_no_more, say_no_more, forget}
 use Rattle.tac_known.specs.Lean.{lean, where_related, Leads, LeanBody}
 use Rattle.tac_known.specs.Walk.{Claims, claim_at, claimed_or, falls, falls_from, nothing, kinds_at, allows, aims}
-use Rattle.tac_known.specs.Walk.{aims_well, goes_on_to_next, falls_well, is_well}
+use Rattle.tac_known.specs.Walk.{aims_well, falls_well, is_well}
 use Rattle.tac_known.proofs.Integers.{no_less, both_true}
 use Rattle.tac_known.proofs.Holding.{nothing_more}
 

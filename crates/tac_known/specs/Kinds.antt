@@ -1,11 +1,10 @@
 -- What is known of the temporaries of an activation, and what instructions make of it.
-use Rattle.std.specs.Prelude.{◌≡◌, ℕ, ◌&&◌, not, Bool, true, false, if◌then◌else◌, List, [], ◌∷◌, slice_get}
+use Rattle.std.specs.Prelude.{◌≡◌, ◌≢◌, ℕ, ◌&&◌, not, Bool, true, false, if◌then◌else◌, List, [], ◌∷◌, slice_get}
 use Rattle.std.specs.Prelude.{Option, Some, None, ℤ, pos, negsuc, ◌+ℤ◌, ◌-ℤ◌, ◌≤ℤ◌, int_lt}
 use Rattle.std.specs.Int.{int_max, int_min}
 use Rattle.std.specs.Ordering.{int_eq}
-use Rattle.tac_code.specs.declared.code.Block.TheVariants as block
 use Rattle.tac_code.specs.declared.code.Value.{Value}
-use Rattle.tac_code.specs.declared.code.Value.TheVariants.{Number, Address}
+use Rattle.tac_code.specs.declared.code.Value.TheVariants.{Number}
 use Rattle.tac_code.specs.declared.code.Operator.{Operator}
 use Rattle.tac_code.specs.declared.code.Operator.TheVariants.{Add, Subtract, Multiply, Divide, Modulo}
 use Rattle.tac_code.specs.declared.code.BitOperator.{BitOperator}
@@ -21,10 +20,10 @@ use Rattle.tac_known.specs.declared.kind.Kind.TheVariants.{Unknown, Pointer, Bet
 
 -- ---- what kinds mean
 
--- a temporary holds a value of a kind: any or none, the address of an object, or a number within bounds
+-- a temporary holds a value of a kind: any or none, anything but nil, which is the number 0, or a number within bounds
 abbrev pub IsOf : Kind → Option Value → Type 0
 IsOf Unknown o = Unit {0}
-IsOf Pointer o = (n : ℕ) × (o ≡ Some (Address (block.Object n) 0))
+IsOf Pointer o = o ≢ Some (Number (pos 0))
 IsOf (Between low high) o = (x : ℤ) × (o ≡ Some (Number x)) × (low ≤ℤ x) × (x ≤ℤ high)
 
 abbrev pub or_unknown : Option Kind → Kind
@@ -166,7 +165,17 @@ narrowed LessEqual l h l' h' = Between l (int_min h h')
 narrowed Greater l h l' h' = Between (int_max l (one_more l')) h
 narrowed GreaterEqual l h l' h' = Between (int_max l l') h
 
+-- what was compared with nil, and is something else
+abbrev pub says_nil : Kind → Bool
+says_nil (Between l h) = int_eq l (pos 0) && int_eq h (pos 0)
+says_nil _ = false
+
+abbrev pub not_nil : Relation → Kind → Kind
+not_nil NotEqual k' = if says_nil k' then Pointer else Unknown
+not_nil _ k' = Unknown
+
 abbrev pub related_kind : Relation → Kind → Kind → Kind
+related_kind relation Unknown k' = not_nil relation k'
 related_kind relation (Between l h) (Between l' h') = narrowed relation l h l' h'
 related_kind relation k k' = k
 

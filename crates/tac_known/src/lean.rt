@@ -87,7 +87,7 @@ fn clear(instruction: &mut Instruction)
     }
 }
 
-/// A test that can't fail loses the number of its error, and a comparison that gives what it compares becomes a copy of it.
+/// A test that can't fail loses the number of its error; a comparison that gives what it compares becomes a copy.
 pub fn lean(is_vain: bool, instruction: &mut Instruction)
     ensures { instruction.new ≡ specs.cleared_if is_vain instruction.old }
 {

@@ -1,4 +1,5 @@
 mod Examples
 mod Passing
+mod StayingRows
 mod Staying
 mod Unheld

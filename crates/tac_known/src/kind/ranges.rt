@@ -1,0 +1,321 @@
+// Kinds as ranges of integers: what is known of a sum, a difference, a remainder, and of what a relation leaves.
+
+ghost use Rattle.std.specs.Prelude.{◌≡◌, ◌+ℤ◌, ◌-ℤ◌};
+ghost use Rattle.tac_code.specs.Numbers.{is_integer};
+ghost use Rattle.tac_known.specs.Kinds as kinds;
+
+use crate::kind::Kind;
+use tac_code::code::{BitOperator, Operator, Relation};
+
+#[tactic(auto, using(crate::proofs::Integers::integer_test))]
+fn is_integer(number: i64) -> bool
+    ensures { result ≡ is_integer number }
+{
+    number >= -2147483648 && number <= 2147483647
+}
+
+fn are_integers(low: i64, high: i64) -> bool
+    ensures { result ≡ kinds.are_integers low high }
+{
+    is_integer(low) && is_integer(high)
+}
+
+// A bound of an integer; what is none bounds nothing.
+fn low_of(number: i64) -> i32
+    ensures { result ≡ kinds.low_of number }
+{
+    if is_integer(number) {
+        number as i32
+    } else {
+        i32::MIN
+    }
+}
+
+fn high_of(number: i64) -> i32
+    ensures { result ≡ kinds.high_of number }
+{
+    if is_integer(number) {
+        number as i32
+    } else {
+        i32::MAX
+    }
+}
+
+// A number within bounds that lies within other bounds too.
+pub(super) fn met(kind: Kind, low: i32, high: i32) -> Kind
+    ensures { result ≡ kinds.met kind low high }
+{
+    match kind {
+        Kind::Between(from, to) => Kind::Between(from.max(low), to.min(high)),
+        _ => Kind::Between(low, high),
+    }
+}
+
+// All numbers of temporaries that were computed.
+fn all_integers() -> Kind
+    ensures { result ≡ kinds.all_integers }
+{
+    Kind::Between(i32::MIN, i32::MAX)
+}
+
+fn wide(number: i32) -> i64
+    ensures { result ≡ number }
+{
+    number as i64
+}
+
+fn sum_of(left: i32, right: i32) -> i64
+    ensures { result ≡ left +ℤ right }
+{
+    wide(left) + wide(right)
+}
+
+fn difference_of(left: i32, right: i32) -> i64
+    ensures { result ≡ left -ℤ right }
+{
+    wide(left) - wide(right)
+}
+
+fn bounded(low: i64, high: i64) -> Kind
+    ensures { result ≡ kinds.bounded low high }
+{
+    Kind::Between(low_of(low), high_of(high))
+}
+
+fn sum(left: Kind, right: Kind) -> Kind
+    ensures { result ≡ kinds.sum left right }
+{
+    match left {
+        Kind::Between(low, high) => match right {
+            Kind::Between(from, to) => bounded(sum_of(low, from), sum_of(high, to)),
+            _ => all_integers(),
+        },
+        _ => all_integers(),
+    }
+}
+
+fn difference(left: Kind, right: Kind) -> Kind
+    ensures { result ≡ kinds.difference left right }
+{
+    match left {
+        Kind::Between(low, high) => match right {
+            Kind::Between(from, to) => bounded(difference_of(low, to), difference_of(high, from)),
+            _ => all_integers(),
+        },
+        _ => all_integers(),
+    }
+}
+
+// By a divisor that is above 0.
+fn remainder(right: Kind) -> Kind
+    ensures { result ≡ kinds.remainder right }
+{
+    match right {
+        Kind::Between(low, high) if 0 < low && 0 < high => Kind::Between(0, high - 1),
+        _ => Kind::Unknown,
+    }
+}
+
+pub(super) fn computed(operator: Operator, left: Kind, right: Kind) -> Kind
+    ensures { result ≡ kinds.computed_kind operator left right }
+{
+    match operator {
+        Operator::Add => sum(left, right),
+        Operator::Subtract => difference(left, right),
+        Operator::Modulo => remainder(right),
+        Operator::Multiply => all_integers(),
+        Operator::Divide => all_integers(),
+    }
+}
+
+// Whether sums of numbers within bounds go around nowhere.
+fn are_plain(low: i32, high: i32, from: i32, to: i32) -> bool
+    ensures { result ≡ kinds.are_plain low high from to }
+{
+    are_integers(wide(low), wide(high))
+        && (are_integers(wide(from), wide(to)) && are_integers(sum_of(low, from), sum_of(high, to)))
+}
+
+fn plain_between(low: i32, high: i32, from: i32, to: i32) -> Kind
+    ensures { result ≡ kinds.plain_between low high from to }
+{
+    if are_plain(low, high, from, to) {
+        bounded(sum_of(low, from), sum_of(high, to))
+    } else {
+        Kind::Unknown
+    }
+}
+
+// A sum modulo 2^32, where none goes around.
+fn plain_sum(left: Kind, right: Kind) -> Kind
+    ensures { result ≡ kinds.plain_sum left right }
+{
+    match left {
+        Kind::Between(low, high) => match right {
+            Kind::Between(from, to) => plain_between(low, high, from, to),
+            _ => Kind::Unknown,
+        },
+        _ => Kind::Unknown,
+    }
+}
+
+pub(super) fn bits(operator: BitOperator, left: Kind, right: Kind) -> Kind
+    ensures { result ≡ kinds.bits_kind operator left right }
+{
+    match operator {
+        BitOperator::Plus => plain_sum(left, right),
+        _ => Kind::Unknown,
+    }
+}
+
+fn fits_sum(left: Kind, right: Kind) -> bool
+    ensures { result ≡ kinds.fits_sum left right }
+{
+    match left {
+        Kind::Between(low, high) => match right {
+            Kind::Between(from, to) => are_integers(sum_of(low, from), sum_of(high, to)),
+            _ => false,
+        },
+        _ => false,
+    }
+}
+
+fn fits_difference(left: Kind, right: Kind) -> bool
+    ensures { result ≡ kinds.fits_difference left right }
+{
+    match left {
+        Kind::Between(low, high) => match right {
+            Kind::Between(from, to) => {
+                are_integers(difference_of(low, to), difference_of(high, from))
+            }
+            _ => false,
+        },
+        _ => false,
+    }
+}
+
+// Whether no result can be outside the integers.
+pub(super) fn fits(operator: Operator, left: Kind, right: Kind) -> bool
+    ensures { result ≡ kinds.fits operator left right }
+{
+    match operator {
+        Operator::Add => fits_sum(left, right),
+        Operator::Subtract => fits_difference(left, right),
+        _ => false,
+    }
+}
+
+pub(super) fn lies_within(kind: Kind, low: i32, high: i32) -> bool
+    ensures { result ≡ kinds.lies_within kind low high }
+{
+    match kind {
+        Kind::Between(from, to) => from >= low && to <= high,
+        _ => false,
+    }
+}
+
+pub(super) fn is_pointer(kind: Kind) -> bool
+    ensures { result ≡ kinds.is_pointer kind }
+{
+    match kind {
+        Kind::Pointer => true,
+        _ => false,
+    }
+}
+
+fn says_nil(kind: Kind) -> bool
+    ensures { result ≡ kinds.says_nil kind }
+{
+    match kind {
+        Kind::Between(low, high) => low == 0 && high == 0,
+        _ => false,
+    }
+}
+
+// What is known of what was compared with another value, where nothing was: that it isn't nil.
+pub(super) fn not_nil(relation: Relation, right: Kind) -> Kind
+    ensures { result ≡ kinds.not_nil relation right }
+{
+    match relation {
+        Relation::NotEqual => {
+            if says_nil(right) {
+                Kind::Pointer
+            } else {
+                Kind::Unknown
+            }
+        }
+        _ => Kind::Unknown,
+    }
+}
+
+/// The relation that holds where another one doesn't.
+pub fn opposite(relation: Relation) -> Relation
+    ensures { result ≡ kinds.opposite relation }
+{
+    match relation {
+        Relation::Equal => Relation::NotEqual,
+        Relation::NotEqual => Relation::Equal,
+        Relation::Less => Relation::GreaterEqual,
+        Relation::LessEqual => Relation::Greater,
+        Relation::Greater => Relation::LessEqual,
+        Relation::GreaterEqual => Relation::Less,
+    }
+}
+
+fn one_less(number: i32) -> i32
+    ensures { result ≡ kinds.one_less number }
+{
+    if number > i32::MIN {
+        number - 1
+    } else {
+        number
+    }
+}
+
+fn one_more(number: i32) -> i32
+    ensures { result ≡ kinds.one_more number }
+{
+    if number < i32::MAX {
+        number + 1
+    } else {
+        number
+    }
+}
+
+// Without one of its bounds.
+fn without(low: i32, high: i32, number: i32) -> Kind
+    ensures { result ≡ kinds.without low high number }
+{
+    if low == number {
+        Kind::Between(one_more(low), high)
+    } else if high == number {
+        Kind::Between(low, one_less(high))
+    } else {
+        Kind::Between(low, high)
+    }
+}
+
+// A number within bounds that is none within others.
+fn unequal(low: i32, high: i32, from: i32, to: i32) -> Kind
+    ensures { result ≡ kinds.unequal low high from to }
+{
+    if from == to {
+        without(low, high, from)
+    } else {
+        Kind::Between(low, high)
+    }
+}
+
+// A number within bounds that is so related to one within others.
+pub(super) fn narrowed(relation: Relation, low: i32, high: i32, from: i32, to: i32) -> Kind
+    ensures { result ≡ kinds.narrowed relation low high from to }
+{
+    match relation {
+        Relation::Equal => met(Kind::Between(low, high), from, to),
+        Relation::NotEqual => unequal(low, high, from, to),
+        Relation::Less => Kind::Between(low, high.min(one_less(to))),
+        Relation::LessEqual => Kind::Between(low, high.min(to)),
+        Relation::Greater => Kind::Between(low.max(one_more(from)), high),
+        Relation::GreaterEqual => Kind::Between(low.max(from), high),
+    }
+}
