@@ -2,7 +2,7 @@
 
 use crate::context::Context;
 use crate::facts::{is_text, variable_in};
-use crate::spot::Spot;
+use crate::spot::Passed;
 use crate::why::{Change, Help, Mark, Why};
 use ps_diagnose_outline::{Form, Point, Type};
 use ps_scan::Token;
@@ -15,18 +15,11 @@ const LONGEST: u32 = 100;
 impl<'a> Context<'a> {
     /// A value that cannot be assigned.
     pub(crate) fn not_assignable(&self, why: &mut Why) -> bool {
-        for spot in self.spots.iter().rev() {
-            match spot {
-                Spot::Assignment(variable, value) => {
-                    return self.wrong_assignment(variable, value, why);
-                }
-                Spot::Passed(name, number, value) => {
-                    return self.wrong_value(*name, *number, value, why);
-                }
-                _ => {}
-            }
+        match (self.seen.assignment, self.seen.passed) {
+            (Some((variable, value)), _) => self.wrong_assignment(variable, value, why),
+            (None, Some(passed)) => self.wrong_passing(passed, why),
+            (None, None) => false,
         }
-        false
     }
 
     fn wrong_assignment(&self, variable: &Variable, value: &Expr, why: &mut Why) -> bool {
@@ -63,35 +56,31 @@ impl<'a> Context<'a> {
 
     // Strings of two lengths, or one for a character.
     fn wrong_string(&self, target: Target, value: &Expr, why: &mut Why) -> bool {
-        let lengths = (
-            self.outline.string_length(target.given),
-            self.outline.string_length(target.wanted),
-        );
-        match lengths {
-            (Some(length), Some(other)) if length != other => {
-                self.wrong_length(target, self.expr_span(value), length, other, why);
-                true
+        let wanted = self.outline.string_length(target.wanted);
+        let Some(length) = self.outline.string_length(target.given) else {
+            return false;
+        };
+        match wanted {
+            Some(other) if length != other => {
+                why.form = "a string of @N characters is not assignable to `@y`, which has @M";
+                why.further = i64::from(other);
+                why.change = self.filled(self.expr_span(value), length, other);
+                if length > other {
+                    why.help = Help::Is("`@y` takes it as a packed array [1..@N] of char");
+                }
             }
-            (Some(length), _) if self.is_char(target.wanted) => {
-                string_for_char(target, length, why);
-                true
+            _ if self.is_char(target.wanted) => {
+                why.form = "a string of @N characters is not assignable to `@y`, a char";
+                why.help = Help::Is(
+                    "a char is one character; a string is a packed array [1..@N] of char",
+                );
             }
-            _ => false,
+            _ => return false,
         }
-    }
-
-    fn wrong_length(&self, target: Target, text: Span, length: u32, other: u32, why: &mut Why) {
-        why.form = "a string of @N characters is not assignable to `@y`, which has @M";
         why.other = target.text;
         why.number = i64::from(length);
-        why.further = i64::from(other);
         why.mark = Mark::Declared(target.name);
-        why.change = self.filled(text, length, other);
-        why.help = if length > other {
-            Help::Is("`@y` takes it as a packed array [1..@N] of char")
-        } else {
-            Help::None
-        };
+        true
     }
 
     /// A string that is filled with spaces up to a length.
@@ -106,33 +95,26 @@ impl<'a> Context<'a> {
 
     // Two variables whose types are of one form, each by itself.
     fn own_types(&self, target: Target, value: &Expr, why: &mut Why) -> bool {
-        match variable_in(value) {
-            Some(other) if self.is_one_form(target.wanted, target.given) => {
-                self.types_apart(target, self.variable_span(other), why)
-            }
-            _ => false,
+        let Some(variable) = variable_in(value) else {
+            return false;
+        };
+        if !self.is_one_form(target.wanted, target.given) {
+            return false;
         }
-    }
-
-    fn types_apart(&self, target: Target, text: Span, why: &mut Why) -> bool {
-        match (
+        let (Some(place), Some(own)) = (
             self.denoter_token(target.given),
             self.denoter_token(target.wanted),
-        ) {
-            (Some(place), Some(own)) => {
-                why.form =
-                    "`@x` is not assignable to `@y`: each has a type of its own, though of one form";
-                why.text = text;
-                why.other = target.text;
-                why.mark = Mark::TypeOf(place.span, text);
-                why.next_mark = Mark::TypeOf(own.span, target.text);
-                why.help = Help::Is(
-                    "declare both in one list, `a, b: ..`, or by the name of one type",
-                );
-                true
-            }
-            _ => false,
-        }
+        ) else {
+            return false;
+        };
+        let text = self.variable_span(variable);
+        why.form = "`@x` is not assignable to `@y`: each has a type of its own, though of one form";
+        why.text = text;
+        why.other = target.text;
+        why.mark = Mark::TypeOf(place.span, text);
+        why.next_mark = Mark::TypeOf(own.span, target.text);
+        why.help = Help::Is("declare both in one list, `a, b: ..`, or by the name of one type");
+        true
     }
 
     // Whether two types are arrays or records of one form.
@@ -202,13 +184,10 @@ impl<'a> Context<'a> {
 
     // What makes a value one of another type.
     fn value_change(&self, wanted: Type, given: Type, text: Span) -> Change {
-        match self.literal_change(wanted, given, text) {
-            Change::None => self.converted(wanted, given, text),
-            change => change,
+        let change = self.literal_change(wanted, given, text);
+        if !matches!(change, Change::None) {
+            return change;
         }
-    }
-
-    fn converted(&self, wanted: Type, given: Type, text: Span) -> Change {
         match (self.outline.form(wanted), self.outline.form(given)) {
             (Some(Form::Boolean), Some(Form::Integer)) => self.boolean_change(text),
             (
@@ -289,17 +268,15 @@ impl<'a> Context<'a> {
     // A string for an array that is no string type.
     fn with_packed(&self, wanted: Type, why: &mut Why) {
         why.add_help(Help::Is("a string type is a packed array [1..n] of char"));
-        why.add_change(self.packed_change(wanted));
-    }
-
-    fn packed_change(&self, wanted: Type) -> Change {
-        match self.denoter_token(wanted) {
-            Some(place)
-                if self
-                    .outline
-                    .bytes(place.span)
-                    .eq_ignore_ascii_case(b"array") => { Change::Before(place.span, " ", "packed") }
-            _ => Change::None,
+        let Some(place) = self.denoter_token(wanted) else {
+            return;
+        };
+        if self
+            .outline
+            .bytes(place.span)
+            .eq_ignore_ascii_case(b"array")
+        {
+            why.add_change(Change::Before(place.span, " ", "packed"));
         }
     }
 
@@ -325,41 +302,35 @@ impl<'a> Context<'a> {
     }
 
     // A value that cannot be passed.
-    fn wrong_value(&self, routine: Span, number: u32, value: &Expr, why: &mut Why) -> bool {
-        match self.formal_of(routine, number) {
-            Some(formal) => self.wrong_passing(routine, formal, value, why),
-            None => false,
+    fn wrong_passing(&self, passed: Passed<'_>, why: &mut Why) -> bool {
+        let Some(formal) = self.formal_of(passed) else {
+            return false;
+        };
+        let (Some(wanted), Some(given)) = (self.told(formal.ty), self.told_expr(passed.value))
+        else {
+            return false;
+        };
+        if self.own_types_passed(passed, formal, why) {
+            return true;
         }
-    }
-
-    fn wrong_passing(&self, routine: Span, formal: Point, value: &Expr, why: &mut Why) -> bool {
-        match (self.told(formal.ty), self.told_expr(value)) {
-            (Some(wanted), Some(given)) => {
-                if self.own_types_passed(routine, formal, value, why) {
-                    return true;
-                }
-
-                let text = self.expr_span(value);
-                why.form = "@t cannot be passed for `@y` of `@z`, @u";
-                why.ty = given;
-                why.other = formal.name;
-                why.third = routine;
-                why.second = wanted;
-                why.mark = Mark::Here(formal.name);
-                why.change = self.value_change(wanted, given, text);
-                why.help = self.value_help(wanted, given, text);
-                true
-            }
-            _ => false,
-        }
+        let text = self.expr_span(passed.value);
+        why.form = "@t cannot be passed for `@y` of `@z`, @u";
+        why.ty = given;
+        why.other = formal.name;
+        why.third = passed.routine;
+        why.second = wanted;
+        why.mark = Mark::Here(formal.name);
+        why.change = self.value_change(wanted, given, text);
+        why.help = self.value_help(wanted, given, text);
+        true
     }
 
     // A variable whose type is of the parameter's form, each by itself.
-    fn own_types_passed(&self, routine: Span, formal: Point, value: &Expr, why: &mut Why) -> bool {
+    fn own_types_passed(&self, passed: Passed<'_>, formal: Point, why: &mut Why) -> bool {
         let (Some(wanted), Some(given), Some(variable)) = (
             formal.ty,
-            self.outline.type_of(value),
-            variable_in(value),
+            self.outline.type_of(passed.value),
+            variable_in(passed.value),
         ) else {
             return false;
         };
@@ -371,7 +342,7 @@ impl<'a> Context<'a> {
             "`@x` cannot be passed for `@y` of `@z`: each has a type of its own, though of one form";
         why.text = text;
         why.other = formal.name;
-        why.third = routine;
+        why.third = passed.routine;
         why.mark = match self.denoter_token(given) {
             Some(place) => Mark::TypeOf(place.span, text),
             None => Mark::None,
@@ -389,12 +360,4 @@ struct Target {
     text: Span,
     wanted: Type,
     given: Type,
-}
-
-fn string_for_char(target: Target, length: u32, why: &mut Why) {
-    why.form = "a string of @N characters is not assignable to `@y`, a char";
-    why.other = target.text;
-    why.number = i64::from(length);
-    why.mark = Mark::Declared(target.name);
-    why.help = Help::Is("a char is one character; a string is a packed array [1..@N] of char");
 }

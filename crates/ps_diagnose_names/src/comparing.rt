@@ -16,30 +16,25 @@ impl<'a> Context<'a> {
         right: &Simple,
         why: &mut Why,
     ) -> bool {
-        let first = self.told(self.outline.type_of_simple(left));
-        let second = self.told(self.outline.type_of_simple(right));
-        match (first, second) {
-            (Some(first), Some(second)) => {
-                let pair = Pair {
-                    relation,
-                    first,
-                    second,
-                    left: self.simple_span(left),
-                    right: self.simple_span(right),
-                };
-                match relation {
-                    Relation::In => self.wrong_in(pair, right, why),
-                    _ => self.wrong_pair(pair, why),
-                }
-            }
-            _ => false,
+        let (Some(first), Some(second)) = (
+            self.told(self.outline.type_of_simple(left)),
+            self.told(self.outline.type_of_simple(right)),
+        ) else {
+            return false;
+        };
+        let pair = Pair {
+            relation,
+            first,
+            second,
+            left: self.simple_span(left),
+            right: self.simple_span(right),
+        };
+        if matches!(relation, Relation::In) {
+            return self.wrong_in(pair, right, why);
         }
-    }
-
-    fn wrong_pair(&self, pair: Pair, why: &mut Why) -> bool {
         self.strings_compared(pair, why)
-            || self.structure_compared(pair.relation, pair.left, pair.first, why)
-            || self.structure_compared(pair.relation, pair.right, pair.second, why)
+            || self.structure_compared(relation, pair.left, first, why)
+            || self.structure_compared(relation, pair.right, second, why)
             || self.order_compared(pair, why)
             || self.two_types_compared(pair, why)
     }
@@ -47,32 +42,22 @@ impl<'a> Context<'a> {
     // `in` behind which no set stands, or no member before it.
     fn wrong_in(&self, pair: Pair, right: &Simple, why: &mut Why) -> bool {
         if !self.is_set(pair.second) {
-            self.no_set(pair.right, pair.second, why);
+            why.form = "behind `in` stands a set, and `@x` is @t";
+            why.text = pair.right;
+            why.ty = pair.second;
+            why.mark = Mark::Declared(pair.right);
+            if self.is_simple(pair.second) {
+                why.change = Change::For(pair.right, "[@a]");
+            }
             return true;
         }
-        match self.unlike(
-            self.told(self.member_of(right, pair.second)),
-            Some(pair.first),
-        ) {
-            Some((member, given)) => {
-                self.no_member(member, pair.left, given, why);
-                why.mark = Mark::Declared(pair.left);
-                true
-            }
-            None => false,
-        }
-    }
-
-    fn no_set(&self, text: Span, ty: Type, why: &mut Why) {
-        why.form = "behind `in` stands a set, and `@x` is @t";
-        why.text = text;
-        why.ty = ty;
-        why.mark = Mark::Declared(text);
-        why.change = if self.is_simple(ty) {
-            Change::For(text, "[@a]")
-        } else {
-            Change::None
+        let member = self.told(self.member_of(right, pair.second));
+        let Some((member, given)) = self.unlike(member, Some(pair.first)) else {
+            return false;
         };
+        self.no_member(member, pair.left, given, why);
+        why.mark = Mark::Declared(pair.left);
+        true
     }
 
     // The type of a member of a set.
@@ -88,25 +73,24 @@ impl<'a> Context<'a> {
 
     // Strings of two lengths.
     fn strings_compared(&self, pair: Pair, why: &mut Why) -> bool {
-        let lengths = (
+        let (Some(one), Some(other)) = (
             self.outline.string_length(pair.first),
             self.outline.string_length(pair.second),
-        );
-        match lengths {
-            (Some(one), Some(other)) if one != other => {
-                why.form =
-                    "`@w` compares strings of one length, and these have @N and @M characters";
-                why.word = relation_word(pair.relation);
-                why.number = i64::from(one);
-                why.further = i64::from(other);
-                why.mark = Mark::Declared(pair.left);
-                why.next_mark = Mark::Declared(pair.right);
-                why.change = self.filled(pair.right, other, one);
-                why.next_change = self.filled(pair.left, one, other);
-                true
-            }
-            _ => false,
+        ) else {
+            return false;
+        };
+        if one == other {
+            return false;
         }
+        why.form = "`@w` compares strings of one length, and these have @N and @M characters";
+        why.word = relation_word(pair.relation);
+        why.number = i64::from(one);
+        why.further = i64::from(other);
+        why.mark = Mark::Declared(pair.left);
+        why.next_mark = Mark::Declared(pair.right);
+        why.change = self.filled(pair.right, other, one);
+        why.next_change = self.filled(pair.left, one, other);
+        true
     }
 
     // An array or a record.

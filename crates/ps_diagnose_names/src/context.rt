@@ -1,6 +1,6 @@
 //! What is known where a reason is looked for, and how forms are put into words.
 
-use crate::spot::Spot;
+use crate::spot::{Seen, Spot};
 use crate::text::Text;
 use crate::why::Why;
 use ps_diagnose::Fault;
@@ -16,6 +16,8 @@ pub(crate) struct Context<'a> {
     pub(crate) outline: Outline<'a>,
     /// What the place may be the place of, from the outside in.
     pub(crate) spots: Vec<Spot<'a>>,
+    /// The same by their kinds.
+    pub(crate) seen: Seen<'a>,
     /// The control variables of the `for` statements round the place, from the inside out.
     pub(crate) controls: Vec<Span>,
     /// Where else the name stands that is not declared.

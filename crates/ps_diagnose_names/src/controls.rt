@@ -2,7 +2,7 @@
 
 use crate::context::Context;
 use crate::required::Known;
-use crate::spot::Spot;
+use crate::spot::Passed;
 use crate::why::{Help, Mark, Why};
 use ps_diagnose_outline::{Point, PointKind};
 use ps_scan::Kind;
@@ -16,20 +16,10 @@ impl<'a> Context<'a> {
         };
         match self.open_control(point) {
             Some(control) => self.changed_within(control, why),
-            None if self.is_control() => self.foreign_control(point, why),
+            None if self.seen.is_control => self.foreign_control(point, why),
             None => self.changed_elsewhere(point, why),
         }
         true
-    }
-
-    // Whether the place is the control variable of a `for`.
-    fn is_control(&self) -> bool {
-        for spot in self.spots.iter() {
-            if let Spot::Control(_) = spot {
-                return true;
-            }
-        }
-        false
     }
 
     // The control variable of the innermost `for` round the place that a point controls.
@@ -52,66 +42,49 @@ impl<'a> Context<'a> {
 
     // A variable that is none of the block.
     fn foreign_control(&self, point: Point, why: &mut Why) {
+        let is_parameter = matches!(
+            point.kind,
+            PointKind::ValueParameter | PointKind::VariableParameter
+        );
         why.mark = Mark::Here(point.name);
-        why.help = self.own_variable(point.kind);
-        match (point.kind, self.region_name(point.region)) {
-            (PointKind::ValueParameter | PointKind::VariableParameter, _) => {
-                why.form = "a `for` takes a variable of its own block, and `@p` is a parameter";
-            }
-            (PointKind::Field, _) => {
-                why.form = "a `for` takes a variable of its own block, and `@p` is a field";
-            }
-            (_, Some(routine)) => {
-                why.form = "a `for` takes a variable of its own block, and `@p` is of `@x`";
-                why.text = routine;
-            }
-            (_, None) => {
-                why.form = "a `for` takes a variable of its own block, and `@p` is the program's";
-            }
-        }
-    }
-
-    // How to have a variable of the block.
-    fn own_variable(&self, kind: PointKind) -> Help {
-        let block = self.outline.block_at(self.fault.place.from);
-        match (kind, self.region_name(block)) {
-            (PointKind::ValueParameter | PointKind::VariableParameter, _) | (_, None) => {
-                Help::Is("declare a variable of the block for it, by another name")
-            }
-            (_, Some(routine)) => {
+        why.help = match self.region_name(self.block_here()) {
+            Some(routine) if !is_parameter => {
                 Help::Of("declare `@p` in `@a` too: var @p: integer;", routine)
             }
-        }
+            _ => Help::Is("declare a variable of the block for it, by another name"),
+        };
+        why.form = match self.region_name(point.region) {
+            _ if is_parameter => {
+                "a `for` takes a variable of its own block, and `@p` is a parameter"
+            }
+            _ if matches!(point.kind, PointKind::Field) => {
+                "a `for` takes a variable of its own block, and `@p` is a field"
+            }
+            Some(routine) => {
+                why.text = routine;
+                "a `for` takes a variable of its own block, and `@p` is of `@x`"
+            }
+            None => "a `for` takes a variable of its own block, and `@p` is the program's",
+        };
     }
 
     // A change within the `for`.
     fn changed_within(&self, control: Span, why: &mut Why) {
-        let (form, help) = match self.spots.last() {
-            Some(Spot::Control(_)) => (
-                "`@p` controls a `for`, and another one within it",
-                "each of two loops in one another has a variable of its own",
-            ),
-            _ => (
-                self.form_of_change(),
-                "a loop that may end early is a `while` or a `repeat`",
-            ),
-        };
-        why.form = form;
         why.mark = self.for_mark(control);
-        why.help = Help::Is(help);
-    }
-
-    // What is done to the variable at the place.
-    fn form_of_change(&self) -> &'static str {
-        for spot in self.spots.iter() {
-            if let Spot::Passed(name, ..) = spot {
-                return match self.known(*name) {
-                    Known::Read | Known::Readln => "`@p` controls a `for`, and is read within it",
-                    _ => "`@p` controls a `for`, and is passed for a `var` parameter within it",
-                };
-            }
+        if self.seen.is_control {
+            why.form = "`@p` controls a `for`, and another one within it";
+            why.help = Help::Is("each of two loops in one another has a variable of its own");
+            return;
         }
-        "`@p` controls a `for`, and is assigned within it"
+        why.help = Help::Is("a loop that may end early is a `while` or a `repeat`");
+        let Some(passed) = self.seen.passed else {
+            why.form = "`@p` controls a `for`, and is assigned within it";
+            return;
+        };
+        why.form = match self.known(passed.routine) {
+            Known::Read | Known::Readln => "`@p` controls a `for`, and is read within it",
+            _ => "`@p` controls a `for`, and is passed for a `var` parameter within it",
+        };
     }
 
     // Marks the `for` of a control variable.
@@ -148,35 +121,30 @@ impl<'a> Context<'a> {
 
     /// A part of a packed variable that is passed.
     pub(crate) fn packed_variable(&self, why: &mut Why) -> bool {
-        for spot in self.spots.iter() {
-            if let Spot::Passed(name, number, value) = spot {
-                if let Some(formal) = self.formal_of(*name, *number) {
-                    self.packed_passed(*name, formal.name, self.expr_span(value), why);
-                    return true;
-                }
-            }
-        }
-        false
-    }
-
-    /// The formal parameter of a routine's name by its number, counted from 0.
-    pub(crate) fn formal_of(&self, routine: Span, number: u32) -> Option<Point> {
-        match self.outline.declared(routine) {
-            Some(point) => self.formal(point, number),
-            None => None,
-        }
-    }
-
-    fn packed_passed(&self, routine: Span, formal: Span, text: Span, why: &mut Why) {
+        let Some(passed) = self.seen.passed else {
+            return false;
+        };
+        let Some(formal) = self.formal_of(passed) else {
+            return false;
+        };
         why.form =
             "`@x` is a part of a packed variable, and cannot be passed for `@y` of `@z`, a `var` parameter";
-        why.text = text;
-        why.other = formal;
-        why.third = routine;
+        why.text = self.expr_span(passed.value);
+        why.other = formal.name;
+        why.third = passed.routine;
         why.mark = Mark::Declared(self.fault.place);
-        why.next_mark = Mark::Here(formal);
+        why.next_mark = Mark::Here(formal.name);
         why.help = Help::Is(
             "pass a variable of its own, and assign it to the part then; or leave `packed` out",
         );
+        true
+    }
+
+    /// The formal parameter of a routine that is declared, for which a parameter is given.
+    pub(crate) fn formal_of(&self, passed: Passed<'_>) -> Option<Point> {
+        match self.outline.declared(passed.routine) {
+            Some(point) => self.formal(point, passed.number),
+            None => None,
+        }
     }
 }

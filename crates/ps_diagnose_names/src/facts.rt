@@ -13,11 +13,6 @@ impl<'a> Context<'a> {
         self.outline.declared(self.fault.place)
     }
 
-    /// The required name at the place.
-    pub(crate) fn required_here(&self) -> Option<Required> {
-        self.outline.required(self.fault.place)
-    }
-
     /// The kind of what a name denotes.
     pub(crate) fn kind_of(&self, name: Span) -> Option<PointKind> {
         match self.outline.denoted(name) {
@@ -146,30 +141,16 @@ impl<'a> Context<'a> {
     /// The formal parameter of a routine by its number, counted from 0.
     pub(crate) fn formal(&self, routine: Point, number: u32) -> Option<Point> {
         match routine.formals {
-            Some(region) if number < routine.count => {
-                self.point_of(self.outline.points_of(region).get(number as usize))
-            }
+            Some(region) if number < routine.count => self.outline.point_at(region, number),
             _ => None,
-        }
-    }
-
-    /// The defining point of a number.
-    pub(crate) fn point_of(&self, number: Option<&u32>) -> Option<Point> {
-        match number {
-            Some(number) => self.outline.point(*number),
-            None => None,
         }
     }
 
     /// The last variable before the place of which the type has the same form as another.
     pub(crate) fn variable_like(&self, ty: Option<Type>) -> Option<Point> {
-        match ty {
-            Some(wanted) => self.last_like(wanted),
-            None => None,
-        }
-    }
-
-    fn last_like(&self, wanted: Type) -> Option<Point> {
+        let Some(wanted) = ty else {
+            return None;
+        };
         let region = self.outline.region_at(self.fault.place.from);
         let mut best = None;
         for point in self.outline.points() {
@@ -200,15 +181,8 @@ impl<'a> Context<'a> {
 
     /// The name of the routine or program that a region is of.
     pub(crate) fn region_name(&self, region: u32) -> Option<Span> {
-        match self.outline.region(region) {
-            Some(region) => self.point_name(region.routine),
-            None => None,
-        }
-    }
-
-    fn point_name(&self, number: Option<u32>) -> Option<Span> {
-        match number {
-            Some(number) => match self.outline.point(number) {
+        match self.outline.routine_of(region) {
+            Some(routine) => match self.outline.point(routine) {
                 Some(point) => Some(point.name),
                 None => None,
             },

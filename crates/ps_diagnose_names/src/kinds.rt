@@ -3,7 +3,7 @@
 use crate::context::Context;
 use crate::facts::{is_text, is_variable, variable_in};
 use crate::required::Known;
-use crate::spot::Spot;
+use crate::spot::{Passed, Spot};
 use crate::why::{Change, Help, Mark, Why};
 use ps_diagnose_outline::{Form, Point, PointKind};
 use ps_scan::Kind;
@@ -13,7 +13,12 @@ use ps_text::Span;
 impl<'a> Context<'a> {
     /// A name of a kind that cannot stand there.
     pub(crate) fn wrong_kind(&self, why: &mut Why) -> bool {
-        if self.wrong_kind_first(why) {
+        let is_found = match (self.seen.passed, self.seen.target) {
+            (Some(passed), _) => self.wrong_parameter(passed, why),
+            (None, Some(name)) => self.wrong_target(name, why),
+            (None, None) => false,
+        };
+        if is_found {
             return true;
         }
         for spot in self.spots.iter().rev() {
@@ -22,23 +27,6 @@ impl<'a> Context<'a> {
             }
         }
         self.kind_of_name(self.fault.place, "`@x` is @k", why)
-    }
-
-    // Parameters and targets, from the outside in.
-    fn wrong_kind_first(&self, why: &mut Why) -> bool {
-        for spot in self.spots.iter() {
-            let found = match spot {
-                Spot::Passed(name, number, value) => self.wrong_parameter(
-                    *name, *number, value, why,
-                ),
-                Spot::Target(variable, _) => self.wrong_target(variable.name, why),
-                _ => false,
-            };
-            if found {
-                return true;
-            }
-        }
-        false
     }
 
     // One construct.
@@ -257,7 +245,7 @@ impl<'a> Context<'a> {
 
     // A constant's place elsewhere.
     fn no_constant(&self, why: &mut Why) -> bool {
-        let help = if self.is_in_case() {
+        let help = if self.seen.case_constant.is_some() {
             Help::Is("compare with variables by `if .. then .. else`")
         } else {
             Help::None
@@ -275,16 +263,6 @@ impl<'a> Context<'a> {
         }
     }
 
-    // Whether the place is that of a constant of a `case`.
-    fn is_in_case(&self) -> bool {
-        for spot in self.spots.iter() {
-            if let Spot::CaseConstant(..) = spot {
-                return true;
-            }
-        }
-        false
-    }
-
     // What `with` opens and is no variable.
     fn no_record_variable(&self, variable: &Variable, why: &mut Why) {
         why.form = "`@x` is no variable, and `with` takes one";
@@ -293,30 +271,21 @@ impl<'a> Context<'a> {
     }
 
     // A parameter that is no variable, or no routine, where one is needed.
-    fn wrong_parameter(&self, routine: Span, number: u32, value: &Expr, why: &mut Why) -> bool {
-        match self.outline.declared(routine) {
-            Some(point) => match self.formal(point, number) {
-                Some(formal) => self.wrong_formal(routine, formal, value, why),
-                None => false,
-            },
-            None => self.wrong_required(routine, value, why),
-        }
-    }
-
-    // A parameter of a routine that is declared.
-    fn wrong_formal(&self, routine: Span, formal: Point, value: &Expr, why: &mut Why) -> bool {
-        match formal.kind {
-            PointKind::VariableParameter => self.no_variable_passed(routine, formal, value, why),
-            PointKind::ProcedureParameter => {
-                self.no_routine(routine, formal, value, "a procedure", why);
-                true
-            }
-            PointKind::FunctionParameter => {
-                self.no_routine(routine, formal, value, "a function", why);
-                true
-            }
-            _ => false,
-        }
+    fn wrong_parameter(&self, passed: Passed<'_>, why: &mut Why) -> bool {
+        let Some(routine) = self.outline.declared(passed.routine) else {
+            return self.wrong_required(passed.routine, passed.value, why);
+        };
+        let Some(formal) = self.formal(routine, passed.number) else {
+            return false;
+        };
+        let word = match formal.kind {
+            PointKind::VariableParameter => return self.no_variable_passed(passed, formal, why),
+            PointKind::ProcedureParameter => "a procedure",
+            PointKind::FunctionParameter => "a function",
+            _ => return false,
+        };
+        self.no_routine(passed, formal, word, why);
+        true
     }
 
     // Whether an expression is a variable, as far as its first name tells.
@@ -330,34 +299,21 @@ impl<'a> Context<'a> {
         }
     }
 
-    fn no_variable_passed(
-        &self,
-        routine: Span,
-        formal: Point,
-        value: &Expr,
-        why: &mut Why,
-    ) -> bool {
-        if self.is_a_variable(value) {
+    fn no_variable_passed(&self, passed: Passed<'_>, formal: Point, why: &mut Why) -> bool {
+        if self.is_a_variable(passed.value) {
             return false;
         }
         why.form = "`@x` is no variable, and `@y` of `@z` is a `var` parameter";
-        why.text = self.expr_span(value);
+        why.text = self.expr_span(passed.value);
         why.other = formal.name;
-        why.third = routine;
+        why.third = passed.routine;
         why.mark = Mark::Here(formal.name);
         why.help = Help::Is("assign it to a variable, and pass that");
         true
     }
 
-    fn no_routine(
-        &self,
-        routine: Span,
-        formal: Point,
-        value: &Expr,
-        word: &'static str,
-        why: &mut Why,
-    ) {
-        match self.required_here() {
+    fn no_routine(&self, passed: Passed<'_>, formal: Point, word: &'static str, why: &mut Why) {
+        match self.outline.required(self.fault.place) {
             Some(required) => {
                 why.form = "`@w` is required by the language, and cannot be passed";
                 why.word = required.name;
@@ -366,9 +322,9 @@ impl<'a> Context<'a> {
             None => {
                 why.form = "`@y` of `@z` is @w, and `@x` is none";
                 why.word = word;
-                why.text = self.expr_span(value);
+                why.text = self.expr_span(passed.value);
                 why.other = formal.name;
-                why.third = routine;
+                why.third = passed.routine;
                 why.mark = Mark::Here(formal.name);
             }
         }

@@ -2,7 +2,6 @@
 
 use crate::context::Context;
 use crate::required::Known;
-use crate::spot::Spot;
 use crate::why::{Change, Help, Mark, Why};
 use ps_diagnose_outline::{Form, Part, Type};
 use ps_scan::Kind;
@@ -56,25 +55,19 @@ impl<'a> Context<'a> {
     /// The operand of `not`.
     pub(crate) fn wrong_not(&self, at: Span, factor: &Factor, why: &mut Why) -> bool {
         let text = self.factor_span(factor);
-        match self.told(self.outline.type_of_factor(factor)) {
-            Some(ty) if !self.is_boolean(ty) => {
-                takes("not", BOOLEAN, text, ty, why);
-                why.mark = Mark::Variable(text);
-                why.change = self.not_change(at, text);
-                true
-            }
-            _ => false,
-        }
-    }
-
-    // Tries parentheses round a comparison behind `not`.
-    fn not_change(&self, at: Span, operand: Span) -> Change {
-        match self.token_at(operand.to) {
+        let ty = match self.told(self.outline.type_of_factor(factor)) {
+            Some(ty) if !self.is_boolean(ty) => ty,
+            _ => return false,
+        };
+        takes("not", BOOLEAN, text, ty, why);
+        why.mark = Mark::Variable(text);
+        match self.token_at(text.to) {
             Some(relation) if is_comparing(relation.kind) => {
-                self.parenthesized(at.from, operand, relation.span.to, "not (@b)")
+                why.change = self.parenthesized(at.from, text, relation.span.to, "not (@b)");
             }
-            _ => Change::None,
+            _ => {}
         }
+        true
     }
 
     // Tries parentheses round the comparison that begins with an operand, in a form that stands for all from an offset on.
@@ -94,93 +87,49 @@ impl<'a> Context<'a> {
 
     /// An operand of `*`, `div`, `mod` or `and`.
     pub(crate) fn wrong_multiplied(&self, term: &Term, number: u32, why: &mut Why) -> bool {
-        match factor_of(term, number) {
-            Some(factor) => {
-                let ty = self.told(self.outline.type_of_factor(factor));
-                self.wrong_factor(term, number, self.factor_span(factor), ty, why)
-            }
-            None => false,
-        }
-    }
-
-    fn wrong_factor(
-        &self,
-        term: &Term,
-        number: u32,
-        text: Span,
-        given: Option<Type>,
-        why: &mut Why,
-    ) -> bool {
-        let Some(ty) = given else {
+        let Some(factor) = factor_of(term, number) else {
             return false;
         };
-        match multiplying_of(term, number) {
-            Multiplying::And if !self.is_boolean(ty) => {
-                takes("and", BOOLEAN, text, ty, why);
-                why.mark = Mark::Variable(text);
-                self.with_comparison(term.first.first_token(), text, why);
-                true
-            }
-            Multiplying::Div if !self.is_integer(ty) => {
-                self.no_number("div", INTEGER, text, ty, why);
-                why.mark = Mark::Variable(text);
-                true
-            }
-            Multiplying::Mod if !self.is_integer(ty) => {
-                self.no_number("mod", INTEGER, text, ty, why);
-                why.mark = Mark::Variable(text);
-                true
-            }
-            Multiplying::Times if !self.is_integer(ty) && !self.is_set(ty) => {
-                self.no_number("*", INTEGERS, text, ty, why);
-                why.mark = Mark::Variable(text);
-                true
-            }
-            _ => false,
+        let Some(ty) = self.told(self.outline.type_of_factor(factor)) else {
+            return false;
+        };
+        let operator = multiplying_of(term, number);
+        let (word, form, is_taken) = match operator {
+            Multiplying::And => ("and", BOOLEAN, self.is_boolean(ty)),
+            Multiplying::Div => ("div", INTEGER, self.is_integer(ty)),
+            Multiplying::Mod => ("mod", INTEGER, self.is_integer(ty)),
+            Multiplying::Times => ("*", INTEGERS, self.is_added(ty)),
+        };
+        if is_taken {
+            return false;
         }
-    }
-
-    // An operand that is no integer.
-    fn no_number(
-        &self,
-        operator: &'static str,
-        form: &'static str,
-        text: Span,
-        ty: Type,
-        why: &mut Why,
-    ) {
-        takes(operator, form, text, ty, why);
-        why.help = self.conversion(Type::Integer, ty, text);
+        let text = self.factor_span(factor);
+        takes(word, form, text, ty, why);
+        why.mark = Mark::Variable(text);
+        match operator {
+            Multiplying::And => self.with_comparison(term.first.first_token(), text, why),
+            _ => why.help = self.conversion(Type::Integer, ty, text),
+        }
+        true
     }
 
     // How tight `and` or `or` binds, where a comparison stands before its operands, or behind one of them.
     fn with_comparison(&self, first: u32, operand: Span, why: &mut Why) {
-        match self.outline.token_before(first) {
-            Some(before) if is_comparing(before.kind) => {
-                why.add_change(self.left_comparison(operand));
-                why.help = Help::Of(
-                    "`@w` binds tighter than `@a`: each comparison stands between parentheses",
-                    before.span,
-                );
-            }
-            _ => {
-                self.with_right(first, operand, why);
-            }
+        let before = match self.outline.token_before(first) {
+            Some(before) if is_comparing(before.kind) => before.span,
+            _ => return self.with_right(first, operand, why),
+        };
+        why.help = Help::Of(
+            "`@w` binds tighter than `@a`: each comparison stands between parentheses",
+            before,
+        );
+        if let Some((left, ..)) = self.seen.compared {
+            let inner = Span {
+                from: self.simple_span(left).from,
+                to: operand.to,
+            };
+            why.add_change(Change::With(inner, inner, "(@b)"));
         }
-    }
-
-    // Tries parentheses round the comparison whose right side begins with an operand.
-    fn left_comparison(&self, operand: Span) -> Change {
-        for spot in self.spots.iter() {
-            if let Spot::Compare(left, ..) = spot {
-                let inner = Span {
-                    from: self.simple_span(left).from,
-                    to: operand.to,
-                };
-                return Change::With(inner, inner, "(@b)");
-            }
-        }
-        Change::None
     }
 
     // Tries parentheses round the comparison that begins with an operand.
@@ -206,28 +155,17 @@ impl<'a> Context<'a> {
 
     /// An operand of `+`, `-` or `or`, or of a sign.
     pub(crate) fn wrong_added(&self, simple: &Simple, number: u32, why: &mut Why) -> bool {
-        match term_of(simple, number) {
-            Some(term) => {
-                let ty = self.told(self.outline.type_of_term(term));
-                self.wrong_term(simple, number, self.term_span(term), ty, why)
-            }
-            None => false,
-        }
-    }
-
-    fn wrong_term(
-        &self,
-        simple: &Simple,
-        number: u32,
-        text: Span,
-        given: Option<Type>,
-        why: &mut Why,
-    ) -> bool {
-        match (given, adding_of(simple, number)) {
-            (Some(ty), Adding::Or) => self.wrong_or(simple, text, ty, why),
-            (Some(ty), Adding::Plus) => self.wrong_plus(simple, number, text, ty, why),
-            (Some(ty), Adding::Minus) => self.wrong_sum("-", text, ty, why),
-            (None, _) => false,
+        let Some(term) = term_of(simple, number) else {
+            return false;
+        };
+        let Some(ty) = self.told(self.outline.type_of_term(term)) else {
+            return false;
+        };
+        let text = self.term_span(term);
+        match adding_of(simple, number) {
+            Adding::Or => self.wrong_or(simple, text, ty, why),
+            Adding::Plus => self.wrong_plus(simple, number, text, ty, why),
+            Adding::Minus => self.wrong_sum("-", text, ty, why),
         }
     }
 
@@ -258,7 +196,14 @@ impl<'a> Context<'a> {
         if !is_text || self.is_added(ty) {
             return self.wrong_sum("+", text, ty, why);
         }
-        self.joined_strings(simple, number, why);
+        why.form = "`+` cannot take a string";
+        if let Some(added) = simple.more.get(number.saturating_sub(1) as usize) {
+            why.mark = Mark::At("this `+`", added.at);
+            why.help = Help::Is("strings are not joined: `write(a, b)` writes one behind another");
+            if self.is_written() {
+                why.change = Change::Commas;
+            }
+        }
         true
     }
 
@@ -271,8 +216,9 @@ impl<'a> Context<'a> {
         if self.is_added(ty) {
             return false;
         }
-        self.no_number(operator, INTEGERS, text, ty, why);
+        takes(operator, INTEGERS, text, ty, why);
         why.mark = Mark::Declared(text);
+        why.help = self.conversion(Type::Integer, ty, text);
         true
     }
 
@@ -289,20 +235,6 @@ impl<'a> Context<'a> {
         false
     }
 
-    // Strings that are joined by `+`.
-    fn joined_strings(&self, simple: &Simple, number: u32, why: &mut Why) {
-        why.form = "`+` cannot take a string";
-        if let Some(added) = simple.more.get(number.saturating_sub(1) as usize) {
-            why.mark = Mark::At("this `+`", added.at);
-            why.change = if self.is_written() {
-                Change::Commas
-            } else {
-                Change::None
-            };
-            why.help = Help::Is("strings are not joined: `write(a, b)` writes one behind another");
-        }
-    }
-
     /// Whether a name denotes `write` or `writeln`.
     pub(crate) fn is_writing(&self, name: Span) -> bool {
         matches!(self.known(name), Known::Write | Known::Writeln)
@@ -310,10 +242,8 @@ impl<'a> Context<'a> {
 
     // Whether the place is in a parameter of `write`, or behind a sign as it stands in one.
     fn is_written(&self) -> bool {
-        for spot in self.spots.iter() {
-            if let Spot::Passed(name, ..) = spot {
-                return self.is_writing(*name);
-            }
+        if let Some(passed) = self.seen.passed {
+            return self.is_writing(passed.routine);
         }
         match self.outline.token_before(self.fault.place.from) {
             Some(first) => matches!(first.kind, Kind::Plus | Kind::Comma | Kind::LeftParen),

@@ -2,47 +2,37 @@
 
 use crate::context::Context;
 use crate::required::Known;
+use crate::spot::Passed;
 use crate::why::{Help, Mark, Why};
-use ps_diagnose_outline::{Form, Point, PointKind, Type};
+use ps_diagnose_outline::{Form, PointKind, Type};
 use ps_syntax::Expr;
 use ps_text::Span;
 
 impl<'a> Context<'a> {
     /// A parameter of another type.
-    pub(crate) fn wrong_passed(
-        &self,
-        routine: Span,
-        number: u32,
-        value: &Expr,
-        why: &mut Why,
-    ) -> bool {
-        match self.outline.declared(routine) {
-            Some(point) => match self.formal(point, number) {
-                Some(formal) => self.wrong_variable(routine, formal, value, why),
-                None => false,
-            },
-            None => self.wrong_for_required(routine, value, why),
-        }
-    }
-
-    // A variable of another type for a variable parameter.
-    fn wrong_variable(&self, routine: Span, formal: Point, value: &Expr, why: &mut Why) -> bool {
+    pub(crate) fn wrong_passed(&self, passed: Passed<'_>, why: &mut Why) -> bool {
+        let Some(routine) = self.outline.declared(passed.routine) else {
+            return self.wrong_for_required(passed.routine, passed.value, why);
+        };
+        let Some(formal) = self.formal(routine, passed.number) else {
+            return false;
+        };
         let (PointKind::VariableParameter, Some(wanted), Some(ty)) = (
             formal.kind,
             formal.ty,
-            self.outline.type_of(value),
+            self.outline.type_of(passed.value),
         ) else {
             return false;
         };
         if !self.is_told(wanted) || !self.is_told(ty) || self.is_one_type(wanted, ty) {
             return false;
         }
-        let text = self.expr_span(value);
+        let text = self.expr_span(passed.value);
         why.form = "`@y` of `@z` takes a variable of its own type, @u, and `@x` is @t";
         why.text = text;
         why.ty = ty;
         why.other = formal.name;
-        why.third = routine;
+        why.third = passed.routine;
         why.second = wanted;
         why.mark = Mark::Here(formal.name);
         why.next_mark = Mark::Variable(text);
@@ -64,7 +54,9 @@ impl<'a> Context<'a> {
     fn is_taken(&self, known: Known, ty: Type) -> bool {
         match known {
             Known::Read | Known::Readln => self.is_integer(ty) || self.is_char(ty),
-            Known::Write | Known::Writeln => self.is_simple_text(ty),
+            Known::Write | Known::Writeln => {
+                self.is_integer(ty) || self.is_char(ty) || self.is_boolean(ty) || self.is_string(ty)
+            }
             Known::New => matches!(self.outline.form(ty), Some(Form::Pointer(_))),
             Known::Order => self.is_simple(ty),
             Known::Number => self.is_integer(ty),
@@ -72,44 +64,32 @@ impl<'a> Context<'a> {
         }
     }
 
-    // Whether a value of a type is written as it is.
-    fn is_simple_text(&self, ty: Type) -> bool {
-        self.is_integer(ty) || self.is_char(ty) || self.is_boolean(ty) || self.is_string(ty)
-    }
-
     // A parameter of a required routine.
     fn wrong_for_required(&self, routine: Span, value: &Expr, why: &mut Why) -> bool {
         let known = self.known(routine);
-        match self.outline.type_of(value) {
-            Some(ty) if !self.is_taken(known, ty) => match known {
-                Known::Read | Known::Readln => self.cannot_be(value, ty, "read", why),
-                Known::Write | Known::Writeln => self.cannot_be(value, ty, "written", why),
-                _ => self.takes(takes_form(known), routine, self.expr_span(value), ty, why),
-            },
-            _ => false,
-        }
-    }
-
-    // What a required routine takes.
-    fn takes(
-        &self,
-        form: &'static str,
-        routine: Span,
-        text: Span,
-        ty: Type,
-        why: &mut Why,
-    ) -> bool {
-        match self.told(Some(ty)) {
-            Some(ty) if !form.is_empty() => {
-                why.form = form;
-                why.word = self.required_name(routine);
-                why.text = text;
-                why.ty = ty;
-                why.mark = Mark::Variable(text);
-                true
-            }
-            _ => false,
-        }
+        let ty = match self.outline.type_of(value) {
+            Some(ty) if !self.is_taken(known, ty) => ty,
+            _ => return false,
+        };
+        let form = match known {
+            Known::Read | Known::Readln => return self.cannot_be(value, ty, "read", why),
+            Known::Write | Known::Writeln => return self.cannot_be(value, ty, "written", why),
+            Known::New => "`@w` takes a pointer, and `@x` is @t",
+            Known::Number => "`@w` takes an integer, and `@x` is @t",
+            Known::Order => "`@w` takes a value of a simple type, and `@x` is @t",
+            Known::End => "`@w` takes a file, and `@x` is @t",
+            _ => return false,
+        };
+        let Some(ty) = self.told(Some(ty)) else {
+            return false;
+        };
+        let text = self.expr_span(value);
+        why.form = form;
+        why.word = self.required_name(routine);
+        why.text = text;
+        why.ty = ty;
+        why.mark = Mark::Variable(text);
+        true
     }
 
     // What cannot be read or written.
@@ -173,45 +153,24 @@ impl<'a> Context<'a> {
 
     // A loop over the components of an array.
     fn with_loop(&self, bounds: Option<(i64, i64)>, component: Option<Type>, why: &mut Why) {
+        let Some((low, high)) = bounds else {
+            why.add_help(Help::Is("its components are @w one by one, in a loop"));
+            return;
+        };
         let is_text = matches!(self.outline.form_of(component), Some(Form::Char));
         let is_read = why.word == "read";
-        match bounds {
-            Some((low, high)) => {
-                why.number = low;
-                why.further = high;
-                why.add_help(Help::Is(loop_form(is_read, is_text)));
-                if is_read && is_text {
-                    why.add_help(Help::Is(
-                        "`readln` behind the loop passes over the rest of the line",
-                    ));
-                }
+        why.number = low;
+        why.further = high;
+        why.add_help(Help::Is(match (is_read, is_text) {
+            (true, true) => {
+                "read its characters one by one: for i := @n to @m do if not eoln then read(@x[i])"
             }
-            None => {
-                why.add_help(Help::Is("its components are @w one by one, in a loop"));
-            }
+            (true, false) => "read its components one by one: for i := @n to @m do read(@x[i])",
+            (false, true) => "write its characters one by one: for i := @n to @m do write(@x[i])",
+            (false, false) => "write its components one by one: for i := @n to @m do write(@x[i])",
+        }));
+        if is_read && is_text {
+            why.add_help(Help::Is("`readln` behind the loop passes over the rest of the line"));
         }
-    }
-}
-
-// What a required routine takes, if only one kind of types.
-fn takes_form(known: Known) -> &'static str {
-    match known {
-        Known::New => "`@w` takes a pointer, and `@x` is @t",
-        Known::Number => "`@w` takes an integer, and `@x` is @t",
-        Known::Order => "`@w` takes a value of a simple type, and `@x` is @t",
-        Known::End => "`@w` takes a file, and `@x` is @t",
-        _ => "",
-    }
-}
-
-// What a loop over the components of an array does.
-fn loop_form(is_read: bool, is_text: bool) -> &'static str {
-    match (is_read, is_text) {
-        (true, true) => {
-            "read its characters one by one: for i := @n to @m do if not eoln then read(@x[i])"
-        }
-        (true, false) => "read its components one by one: for i := @n to @m do read(@x[i])",
-        (false, true) => "write its characters one by one: for i := @n to @m do write(@x[i])",
-        (false, false) => "write its components one by one: for i := @n to @m do write(@x[i])",
     }
 }

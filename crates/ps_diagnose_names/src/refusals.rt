@@ -2,7 +2,7 @@
 
 use crate::context::Context;
 use crate::routines::no_result;
-use crate::spot::Spot;
+use crate::spot::{Spot, seen_among};
 use crate::tell::{Told, untold};
 use crate::uses::other_uses;
 use crate::walk::Walk;
@@ -39,19 +39,6 @@ fn looked_for<'a>(
     }
 }
 
-// Where else the name stands that a refusal is told of, if it is not declared.
-fn uses_of(
-    alloc: Global,
-    outline: &Outline<'_>,
-    number: u8,
-    place: Span,
-) -> Result<Vec<Span>, AllocError> {
-    match number {
-        30 => other_uses(alloc, outline, place),
-        _ => Ok(Vec::new(alloc)),
-    }
-}
-
 // What is known of a refusal.
 fn context_of<'a>(
     alloc: Global,
@@ -59,13 +46,18 @@ fn context_of<'a>(
     program: &'a Program,
 ) -> Result<Context<'a>, AllocError> {
     let outline = Outline::new(alloc, fault.source, fault.tokens, program)?;
-    let uses = uses_of(alloc, &outline, fault.number, fault.place)?;
+    let uses = match fault.number {
+        30 => other_uses(alloc, &outline, fault.place)?,
+        _ => Vec::new(alloc),
+    };
     let (spots, controls) = looked_for(alloc, fault.place.from, program)?;
+    let seen = seen_among(spots.as_slice());
     Ok(Context {
         alloc,
         fault,
         outline,
         spots,
+        seen,
         controls,
         uses,
     })

@@ -27,7 +27,7 @@ impl<'a> Context<'a> {
                     Known::Input | Known::Output => "`@w` is not in the heading of the program",
                     _ => "`@p` needs `@w` in the heading of the program",
                 };
-                why.word = file_name(file);
+                why.word = if file { "output" } else { "input" };
                 why.change = self.file_change(file);
                 true
             }
@@ -62,11 +62,20 @@ impl<'a> Context<'a> {
 
     /// A limit.
     pub(crate) fn limit(&self, why: &mut Why) -> bool {
-        if self.is_array() {
+        let is_type = match self.token_at(self.fault.place.from) {
+            Some(token) => matches!(
+                token.kind,
+                Kind::Array | Kind::Record | Kind::Packed | Kind::Set | Kind::Number | Kind::Minus
+            ),
+            None => false,
+        };
+        if is_type {
             why.form = "this type has more than 100,000 cells, the most that there may be";
             return true;
         }
-        why.form = match self.routine_here() {
+        let routine = self.routine_here();
+        why.number = i64::from(routine.unwrap_or(0));
+        why.form = match routine {
             Some(count) if count > 32 => "`@p` has @N parameters, and 32 are the most",
             Some(_) if self.depth_here() > 15 => "`@p` lies more than 15 routines deep",
             None if self.outline.program().name.from != self.fault.place.from => {
@@ -76,19 +85,7 @@ impl<'a> Context<'a> {
                 "the variables of `@p` have more than 100,000 cells together, the most that there may be"
             }
         };
-        why.number = i64::from(self.routine_here().unwrap_or(0));
         true
-    }
-
-    // Whether the place begins a structured type.
-    fn is_array(&self) -> bool {
-        match self.token_at(self.fault.place.from) {
-            Some(token) => matches!(
-                token.kind,
-                Kind::Array | Kind::Record | Kind::Packed | Kind::Set | Kind::Number | Kind::Minus
-            ),
-            None => false,
-        }
     }
 
     // How many parameters the routine has that is declared at the place.
@@ -123,10 +120,6 @@ fn file_of(known: Known) -> Option<bool> {
         Known::Read | Known::Readln | Known::End | Known::Input => Some(false),
         _ => None,
     }
-}
-
-fn file_name(is_output: bool) -> &'static str {
-    if is_output { "output" } else { "input" }
 }
 
 /// A function without a result.

@@ -26,17 +26,12 @@ impl<'a> Context<'a> {
                 Some(next) => ty = next,
                 None => return false,
             }
-            end = self.end_of_selector(end, selector);
+            end = match selector {
+                Selector::Index(_) => self.end_of_index(end),
+                Selector::Field(at) | Selector::Content(at) => at.to,
+            };
         }
         false
-    }
-
-    // Where a selector ends that stands behind an offset.
-    fn end_of_selector(&self, end: u32, selector: &Selector) -> u32 {
-        match selector {
-            Selector::Index(_) => self.end_of_index(end),
-            Selector::Field(at) | Selector::Content(at) => at.to,
-        }
     }
 
     // Where the brackets end that stand behind an offset, of which one pair may close several indices.
@@ -130,32 +125,20 @@ impl<'a> Context<'a> {
         true
     }
 
-    // The type of an index: behind so many selectors and indices of a variable.
+    // The type of an index: behind so many selectors of a variable, and so many indices.
     fn index_type(&self, variable: &Variable, before: u32, number: u32) -> Option<Type> {
-        match variable.selectors.as_slice().get(..before as usize) {
-            Some(selectors) => {
-                self.index_behind(self.outline.type_behind(variable.name, selectors), number)
-            }
-            None => None,
-        }
-    }
-
-    // The type of an index behind so many others.
-    fn index_behind(&self, ty: Option<Type>, number: u32) -> Option<Type> {
-        let mut at = ty;
+        let Some(selectors) = variable.selectors.as_slice().get(..before as usize) else {
+            return None;
+        };
+        let mut at = self.outline.type_behind(variable.name, selectors);
         for _ in 0..number {
-            at = self.component_of(at);
+            at = match self.outline.form_of(at) {
+                Some(Form::Array { component, .. }) => component,
+                _ => None,
+            };
         }
         match self.outline.form_of(at) {
             Some(Form::Array { index, .. }) => index,
-            _ => None,
-        }
-    }
-
-    // The type of an array's components.
-    fn component_of(&self, ty: Option<Type>) -> Option<Type> {
-        match self.outline.form_of(ty) {
-            Some(Form::Array { component, .. }) => component,
             _ => None,
         }
     }
@@ -170,31 +153,24 @@ impl<'a> Context<'a> {
         why: &mut Why,
     ) -> bool {
         let index = self.told(self.index_type(variable, before, number));
-        match self.unlike(index, self.told_expr(value)) {
-            Some((index, ty)) => {
-                let text = self.expr_span(value);
-                why.form = "an index of `@y` is @u, and `@x` is @t";
-                why.text = text;
-                why.ty = ty;
-                why.second = index;
-                why.other = self.indexed_before(variable.name, number, value.first_token());
-                why.mark = Mark::Declared(variable.name);
-                why.help = self.conversion(index, ty, text);
-                true
-            }
-            None => false,
-        }
-    }
-
-    // What stands before the bracket of an index.
-    fn indexed_before(&self, name: Span, number: u32, index: u32) -> Span {
-        match self.outline.token_before(index) {
+        let Some((index, ty)) = self.unlike(index, self.told_expr(value)) else {
+            return false;
+        };
+        let text = self.expr_span(value);
+        why.form = "an index of `@y` is @u, and `@x` is @t";
+        why.text = text;
+        why.ty = ty;
+        why.second = index;
+        why.other = match self.outline.token_before(value.first_token()) {
             Some(bracket) if number == 0 => Span {
-                from: name.from,
+                from: variable.name.from,
                 to: bracket.span.from,
             },
-            _ => name,
-        }
+            _ => variable.name,
+        };
+        why.mark = Mark::Declared(variable.name);
+        why.help = self.conversion(index, ty, text);
+        true
     }
 }
 

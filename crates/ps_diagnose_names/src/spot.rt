@@ -1,5 +1,6 @@
 //! What a place may be the place of.
 
+use ps_diagnose_outline::count_of;
 use ps_syntax::{
     Constant, Element, Expr, Factor, Member, Ordinal, Parameter, Relation, Simple, Term, Variable,
 };
@@ -56,4 +57,77 @@ pub(crate) enum Spot<'a> {
     IndexType(&'a Ordinal),
     /// A set type, where the place is its `set`, or the first of its base.
     SetType(&'a Ordinal),
+}
+
+/// A parameter that is given: its routine, its number from 0 and the value.
+#[derive(Clone, Copy)]
+pub(crate) struct Passed<'a> {
+    pub(crate) routine: Span,
+    pub(crate) number: u32,
+    pub(crate) value: &'a Expr,
+}
+
+/// The constructs of a place that are asked for by their kinds. One of a kind at most has its place there, since what lies within another of its kind
+/// begins behind it.
+#[derive(Clone, Copy)]
+pub(crate) struct Seen<'a> {
+    pub(crate) target: Option<Span>,
+    pub(crate) assignment: Option<(&'a Variable, &'a Expr)>,
+    pub(crate) passed: Option<Passed<'a>>,
+    /// What is called, or stands as a variable, and how many parameters it is given.
+    pub(crate) called: Option<(Span, u32)>,
+    pub(crate) selected: Option<(&'a Variable, u32)>,
+    pub(crate) compared: Option<(&'a Simple, Relation, &'a Simple)>,
+    pub(crate) sum: Option<&'a Simple>,
+    pub(crate) range: Option<(Constant, Constant)>,
+    pub(crate) case_constant: Option<(Constant, &'a [Element])>,
+    pub(crate) set_base: Option<&'a Ordinal>,
+    pub(crate) is_control: bool,
+}
+
+// Nothing.
+const UNSEEN: Seen<'static> = Seen {
+    target: None,
+    assignment: None,
+    passed: None,
+    called: None,
+    selected: None,
+    compared: None,
+    sum: None,
+    range: None,
+    case_constant: None,
+    set_base: None,
+    is_control: false,
+};
+
+/// The constructs of a place by their kinds.
+pub(crate) fn seen_among<'a>(spots: &[Spot<'a>]) -> Seen<'a> {
+    let mut seen = UNSEEN;
+    for spot in spots {
+        match *spot {
+            Spot::Target(variable, _) => seen.target = Some(variable.name),
+            Spot::Assignment(variable, value) => seen.assignment = Some((variable, value)),
+            Spot::Passed(routine, number, value) => {
+                seen.passed = Some(Passed {
+                    routine,
+                    number,
+                    value,
+                });
+            }
+            Spot::Statement(name, given) => seen.called = Some((name, count_of(given.len()))),
+            Spot::Call(name, given) => seen.called = Some((name, count_of(given.len()))),
+            Spot::Named(variable) => seen.called = Some((variable.name, 0)),
+            Spot::Selected(variable, before) => seen.selected = Some((variable, before)),
+            Spot::Compare(left, relation, right) => seen.compared = Some((left, relation, right)),
+            Spot::Added(sum, _) => seen.sum = Some(sum),
+            Spot::Range(low, high) => seen.range = Some((low, high)),
+            Spot::CaseConstant(constant, _, elements) => {
+                seen.case_constant = Some((constant, elements));
+            }
+            Spot::SetType(base) => seen.set_base = Some(base),
+            Spot::Control(_) => seen.is_control = true,
+            _ => {}
+        }
+    }
+    seen
 }

@@ -2,13 +2,12 @@
 
 use crate::context::{Context, Own};
 use crate::facts::relation_word;
-use crate::spot::Spot;
 use crate::text::Text;
 use crate::why::{Change, Help, Mark, NOWHERE, Why};
 use ps_diagnose::{Draft, Trial};
 use ps_diagnostic::{Edit, Label};
 use ps_scan::Kind;
-use ps_syntax::{AddedTerm, Relation, Simple};
+use ps_syntax::Relation;
 use ps_text::Span;
 use std::alloc::Global;
 
@@ -36,24 +35,6 @@ pub(crate) fn untold(alloc: Global) -> Told {
 }
 
 impl Told {
-    // Says the sentence.
-    fn say(&mut self, text: Text) {
-        self.is_short |= text.is_short;
-        self.draft.text = text.text;
-    }
-
-    // Adds a second place.
-    fn label(&mut self, span: Span, text: Text) {
-        self.is_short |= text.is_short;
-        let label = Label {
-            span,
-            text: text.text,
-        };
-        if self.draft.labels.push(label).is_err() {
-            self.is_short = true;
-        }
-    }
-
     /// Adds a help.
     pub(crate) fn help(&mut self, text: Text) {
         self.is_short |= text.is_short;
@@ -138,7 +119,9 @@ const HERE: &str = "`@a` is declared here";
 impl<'a> Context<'a> {
     /// Tells a reason.
     pub(crate) fn tell(&self, why: &Why, out: &mut Told) {
-        out.say(self.formed(why.form, why, words_of(NOWHERE, NOWHERE)));
+        let sentence = self.formed(why.form, why, words_of(NOWHERE, NOWHERE));
+        out.is_short |= sentence.is_short;
+        out.draft.text = sentence.text;
         self.mark(out, why, why.mark);
         self.mark(out, why, why.next_mark);
         self.change(out, why, why.change);
@@ -180,7 +163,15 @@ impl<'a> Context<'a> {
 
     // Marks a place in the words of a form.
     fn mark_as(&self, out: &mut Told, why: &Why, form: &str, span: Span, own: Span) {
-        out.label(span, self.formed(form, why, words_of(own, NOWHERE)));
+        let words = self.formed(form, why, words_of(own, NOWHERE));
+        out.is_short |= words.is_short;
+        let label = Label {
+            span,
+            text: words.text,
+        };
+        if out.draft.labels.push(label).is_err() {
+            out.is_short = true;
+        }
     }
 
     // Adds a help.
@@ -321,16 +312,13 @@ impl<'a> Context<'a> {
 
     // Tries a comparison for each operand of `or`, where the right side of one is meant as several values.
     fn try_each_compared(&self, out: &mut Told) {
-        for spot in self.spots.iter() {
-            if let Spot::Compare(left, relation, right) = spot {
-                if right.first_token() == self.fault.place.from {
-                    return self.try_compared(out, self.simple_span(left), *relation, right);
-                }
-            }
+        let Some((left, relation, values)) = self.seen.compared else {
+            return;
+        };
+        if values.first_token() != self.fault.place.from {
+            return;
         }
-    }
-
-    fn try_compared(&self, out: &mut Told, left: Span, relation: Relation, values: &Simple) {
+        let left = self.simple_span(left);
         let mut put = Text::new(self.alloc);
         self.put_compared(&mut put, left, relation, self.term_span(&values.first));
         for added in values.more.as_slice() {
@@ -355,21 +343,13 @@ impl<'a> Context<'a> {
 
     // Tries a comma for each `+` of the sum at the place.
     fn try_commas(&self, out: &mut Told, why: &Why) {
-        for spot in self.spots.iter() {
-            if let Spot::Added(simple, _) = spot {
-                return self.try_commas_in(out, why, simple.more.as_slice());
-            }
+        let Some(sum) = self.seen.sum else {
+            return;
+        };
+        let terms = sum.more.as_slice();
+        if let [only] = terms {
+            return self.try_for(out, why, only.at, ",", edit_of(NOWHERE, NOWHERE, 0));
         }
-    }
-
-    fn try_commas_in(&self, out: &mut Told, why: &Why, terms: &[AddedTerm]) {
-        match terms {
-            [only] => self.try_for(out, why, only.at, ",", edit_of(NOWHERE, NOWHERE, 0)),
-            _ => self.try_all_commas(out, why, terms),
-        }
-    }
-
-    fn try_all_commas(&self, out: &mut Told, why: &Why, terms: &[AddedTerm]) {
         let mut edits = Edits::new(self.alloc);
         for added in terms {
             self.push_edit(&mut edits, added.at, why, ",");

@@ -12,34 +12,24 @@ impl<'a> Context<'a> {
         if self.twice_in_heading(why) {
             return true;
         }
-        match self.declared_here() {
-            Some(point) => self.declared_twice(point, why),
+        let Some(point) = self.declared_here() else {
+            return false;
+        };
+        let Some(first) = self.outline.point_in(point.region, point.spelling) else {
+            return false;
+        };
+        let is_completed = match self.token_at(self.fault.place.to) {
+            Some(token) => token.kind == Kind::Semicolon,
             None => false,
+        };
+        why.mark = Mark::At("here the first time", first.name);
+        if first.is_forward && !is_completed {
+            self.twice_forward(why);
+        } else {
+            why.form = form_of_twice(point.kind, first.kind);
+            why.change = self.without_declaration(point);
         }
-    }
-
-    fn declared_twice(&self, point: Point, why: &mut Why) -> bool {
-        match self.outline.point_in(point.region, point.spelling) {
-            Some(first) if first.is_forward && !self.is_before(Kind::Semicolon) => {
-                self.twice_forward(first, why);
-                true
-            }
-            Some(first) => {
-                why.form = form_of_twice(point.kind, first.kind);
-                why.mark = Mark::At("here the first time", first.name);
-                why.change = self.without_declaration(point);
-                true
-            }
-            None => false,
-        }
-    }
-
-    // Whether the token behind the place is one of a kind.
-    fn is_before(&self, kind: Kind) -> bool {
-        match self.token_at(self.fault.place.to) {
-            Some(token) => token.kind == kind,
-            None => false,
-        }
+        true
     }
 
     /// The defining point at the place.
@@ -54,19 +44,19 @@ impl<'a> Context<'a> {
 
     // A program parameter.
     fn twice_in_heading(&self, why: &mut Why) -> bool {
-        match (
+        let (Some(first), Some(last)) = (
             self.first_like(),
             self.outline.program().parameters.as_slice().last(),
-        ) {
-            (Some(first), Some(last))
-                if self.fault.place.from <= last.from && first.from < self.fault.place.from => {
-                why.form = "`@p` stands twice in the heading";
-                why.mark = Mark::At("here the first time", first);
-                why.change = self.without_comma();
-                true
-            }
-            _ => false,
+        ) else {
+            return false;
+        };
+        if last.from < self.fault.place.from || self.fault.place.from <= first.from {
+            return false;
         }
+        why.form = "`@p` stands twice in the heading";
+        why.mark = Mark::At("here the first time", first);
+        why.change = self.without_comma();
+        true
     }
 
     // The first program parameter of the spelling at the place.
@@ -97,9 +87,8 @@ impl<'a> Context<'a> {
     }
 
     // A heading by `forward` whose parameters are told again.
-    fn twice_forward(&self, first: Point, why: &mut Why) {
+    fn twice_forward(&self, why: &mut Why) {
         why.form = "`@p` was declared with `forward`: its parameters are not repeated";
-        why.mark = Mark::At("here the first time", first.name);
         if let Some(to) = end_of_heading(self.tokens_behind(self.fault.place.to)) {
             why.change = Change::Without(Span {
                 from: self.fault.place.to,
@@ -129,69 +118,67 @@ impl<'a> Context<'a> {
                 if before.kind == Kind::Comma || behind.kind == Kind::Comma {
                     self.without_comma()
                 } else {
-                    self.without_whole()
+                    self.without_whole(before)
                 }
             }
             _ => Change::None,
         }
     }
 
-    // Tries the text without what begins at the place, up to its `;`.
-    fn without_whole(&self) -> Change {
-        match end_of_declaration(self.tokens_behind(self.fault.place.from)) {
-            Some(to) => Change::Without(Span {
-                from: self.from_word(to),
-                to,
-            }),
-            None => Change::None,
-        }
-    }
-
-    // Where the declaration at the place begins: with its `var`, `const` or `type` where it is the only one behind that.
-    fn from_word(&self, end: u32) -> u32 {
-        let is_last = match self.token_at(end) {
+    // Tries the text without what begins at the place, up to its `;`: with its `var`, `const` or `type` where it is the only one behind that.
+    fn without_whole(&self, before: Token) -> Change {
+        let Some(to) = end_of_declaration(self.tokens_behind(self.fault.place.from)) else {
+            return Change::None;
+        };
+        let is_last = match self.token_at(to) {
             Some(next) => next.kind != Kind::Name,
             None => true,
         };
-        match self.outline.token_before(self.fault.place.from) {
-            Some(word) if is_last && matches!(word.kind, Kind::Var | Kind::Const | Kind::Type) => {
-                word.span.from
-            }
-            _ => self.fault.place.from,
-        }
+        let is_first = matches!(before.kind, Kind::Var | Kind::Const | Kind::Type);
+        let from = if is_first && is_last {
+            before.span.from
+        } else {
+            self.fault.place.from
+        };
+        Change::Without(Span { from, to })
     }
 
     /// A name that is used before it is declared.
     pub(crate) fn used_before(&self, why: &mut Why) -> bool {
-        match self.point_here() {
-            Some(point) if point.name.from < self.fault.place.from => {
-                used_in_itself(point, why);
-                true
+        let Some(point) = self.point_here() else {
+            return false;
+        };
+        why.mark = Mark::Here(point.name);
+        if point.name.from < self.fault.place.from {
+            why.form = "`@p` is used in its own declaration";
+            if matches!(point.kind, PointKind::Type) {
+                why.help = Help::Of(
+                    "a type reaches itself only through a pointer: `^@a`",
+                    point.name,
+                );
             }
-            Some(point) => {
-                self.used_above(point, why);
-                true
-            }
-            None => false,
+        } else if let Some(other) = self.around(point) {
+            why.form = "`@p` is used before it is declared in this block";
+            why.other = other.name;
+            why.note = "the `@y` of the block around, at @l, is hidden in this one";
+        } else {
+            why.form = "`@p` is used before it is declared";
+            why.help = self.earlier(point);
         }
+        true
     }
 
-    fn used_above(&self, point: Point, why: &mut Why) {
-        match (self.around(point), point.kind) {
-            (Some(other), _) => {
-                why.form = "`@p` is used before it is declared in this block";
-                why.other = other.name;
-                why.mark = Mark::Here(point.name);
-                why.note = "the `@y` of the block around, at @l, is hidden in this one";
-            }
-            (None, PointKind::Procedure | PointKind::Function) => {
-                used_early(point, why);
-                self.with_forward(point, why);
-            }
-            (None, _) => {
-                used_early(point, why);
-                why.help = Help::Of("declare `@a` before what uses it", point.name);
-            }
+    // How what is used is declared before.
+    fn earlier(&self, point: Point) -> Help {
+        if !matches!(point.kind, PointKind::Procedure | PointKind::Function) {
+            return Help::Of("declare `@a` before what uses it", point.name);
+        }
+        match self.heading_of(point) {
+            Some(heading) => Help::Of(
+                "declare it first, or put its heading before this one, with `forward`: @a; forward;",
+                heading,
+            ),
+            None => Help::None,
         }
     }
 
@@ -203,25 +190,12 @@ impl<'a> Context<'a> {
         }
     }
 
-    // The heading by `forward` that would help.
-    fn with_forward(&self, point: Point, why: &mut Why) {
-        if let Some(heading) = self.heading_of(point) {
-            why.help = Help::Of(
-                "declare it first, or put its heading before this one, with `forward`: @a; forward;",
-                heading,
-            );
-        }
-    }
-
     /// The heading of a routine, without its `;`.
     pub(crate) fn heading_of(&self, point: Point) -> Option<Span> {
-        match self.outline.token_before(point.name.from) {
-            Some(word) => self.heading_from(word.span.from),
-            None => None,
-        }
-    }
-
-    fn heading_from(&self, from: u32) -> Option<Span> {
+        let Some(word) = self.outline.token_before(point.name.from) else {
+            return None;
+        };
+        let from = word.span.from;
         match end_of_heading(self.tokens_behind(from)) {
             Some(to) => Some(Span { from, to }),
             None => None,
@@ -240,25 +214,6 @@ fn form_of_twice(kind: PointKind, first: PointKind) -> &'static str {
         }
         _ => "`@p` is declared twice in this block",
     }
-}
-
-fn used_in_itself(point: Point, why: &mut Why) {
-    why.form = "`@p` is used in its own declaration";
-    why.mark = Mark::Here(point.name);
-    match point.kind {
-        PointKind::Type => {
-            why.help = Help::Of(
-                "a type reaches itself only through a pointer: `^@a`",
-                point.name,
-            );
-        }
-        _ => {}
-    }
-}
-
-fn used_early(point: Point, why: &mut Why) {
-    why.form = "`@p` is used before it is declared";
-    why.mark = Mark::Here(point.name);
 }
 
 // Where the `;` begins that ends a heading.

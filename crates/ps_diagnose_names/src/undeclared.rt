@@ -45,14 +45,12 @@ impl<'a> Context<'a> {
 
     // The string that may be meant where a name is written once, and used nowhere else.
     fn with_string(&self, why: &mut Why) {
-        for spot in self.spots.iter() {
-            if let Spot::Passed(name, ..) = spot {
-                if self.uses.is_empty() && self.is_writing(*name) {
-                    why.add_help(Help::Is("a string stands between apostrophes: '@p'"));
-                    why.change = Change::For(self.fault.place, "'@p'");
-                }
-                return;
-            }
+        let Some(passed) = self.seen.passed else {
+            return;
+        };
+        if self.uses.is_empty() && self.is_writing(passed.routine) {
+            why.add_help(Help::Is("a string stands between apostrophes: '@p'"));
+            why.change = Change::For(self.fault.place, "'@p'");
         }
     }
 
@@ -74,38 +72,28 @@ impl<'a> Context<'a> {
 
     /// Tries a declaration of a variable in a block, if its type can be told.
     pub(crate) fn with_variable(&self, block: u32, why: &mut Why) {
-        match self.wanted_type() {
+        let wanted = self.wanted_type();
+        let (form, part) = match wanted {
             Some(Type::Text(length)) => {
                 why.number = i64::from(length);
-                self.declared_in(
-                    block,
+                (
                     "@p: packed array [1..@n] of char;",
                     "var @p: packed array [1..@n] of char;",
-                    why,
-                );
+                )
             }
-            Some(Type::Integer) => {
-                self.declared_in(block, "@p: integer;", "var @p: integer;", why);
-            }
-            Some(Type::Boolean) => {
-                self.declared_in(block, "@p: Boolean;", "var @p: Boolean;", why);
-            }
-            Some(Type::Char) => {
-                self.declared_in(block, "@p: char;", "var @p: char;", why);
-            }
-            Some(Type::Told(_)) => match self.wanted_name() {
-                Some(name) => {
-                    why.third = name;
-                    self.declared_in(block, "@p: @z;", "var @p: @z;", why);
+            Some(Type::Integer) => ("@p: integer;", "var @p: integer;"),
+            Some(Type::Boolean) => ("@p: Boolean;", "var @p: Boolean;"),
+            Some(Type::Char) => ("@p: char;", "var @p: char;"),
+            Some(Type::Told(denoter)) => match self.denoter_token(Type::Told(denoter)) {
+                Some(token) if token.kind == Kind::Name => {
+                    why.third = token.span;
+                    ("@p: @z;", "var @p: @z;")
                 }
-                None => {
-                    why.add_help(Help::Is(A_VARIABLE));
-                }
+                _ => return why.add_help(Help::Is(A_VARIABLE)),
             },
-            _ => {
-                why.add_help(Help::Is(A_VARIABLE));
-            }
-        }
+            _ => return why.add_help(Help::Is(A_VARIABLE)),
+        };
+        self.declared_in(block, form, part, why)
     }
 
     // The type that the name is used with at the place.
@@ -116,17 +104,6 @@ impl<'a> Context<'a> {
             }
         }
         None
-    }
-
-    // The type name of the denoter by which the wanted type is told.
-    fn wanted_name(&self) -> Option<Span> {
-        match self.wanted_type() {
-            Some(ty) => match self.denoter_token(ty) {
-                Some(token) if token.kind == Kind::Name => Some(token.span),
-                _ => None,
-            },
-            None => None,
-        }
     }
 
     // The type that a construct wants of what stands at the place, where it is a name alone.
@@ -148,20 +125,16 @@ impl<'a> Context<'a> {
 
     // The type of the first bound where the place is a control variable.
     fn control_type(&self) -> Option<Type> {
-        match self.token_at(self.fault.place.to) {
-            Some(assign) => self.type_of_bound(assign.span.to),
-            None => None,
-        }
-    }
-
-    fn type_of_bound(&self, from: u32) -> Option<Type> {
-        match self.token_at(from) {
-            Some(first) => match first.kind {
-                Kind::Text => self.outline.type_of_text(first.span),
-                Kind::Name => self.outline.type_of_name(first.span),
-                _ => Some(Type::Integer),
-            },
-            None => None,
+        let Some(assign) = self.token_at(self.fault.place.to) else {
+            return None;
+        };
+        let Some(first) = self.token_at(assign.span.to) else {
+            return None;
+        };
+        match first.kind {
+            Kind::Text => self.outline.type_of_text(first.span),
+            Kind::Name => self.outline.type_of_name(first.span),
+            _ => Some(Type::Integer),
         }
     }
 
@@ -191,14 +164,11 @@ impl<'a> Context<'a> {
 
     // Tries a declaration in a block: before its first variable, or behind its declarations.
     fn declared_in(&self, block: u32, form: &'static str, part: &'static str, why: &mut Why) {
-        match self.first_variable(block) {
-            Some(name) => {
-                why.add_change(Change::Before(name, " ", form));
-            }
-            None => {
-                if let Some(place) = self.end_of_declarations(block) {
-                    why.add_change(Change::Before(place, "\n", part));
-                }
+        if let Some(name) = self.first_variable(block) {
+            why.add_change(Change::Before(name, " ", form));
+        } else if let Some(region) = self.outline.region(block) {
+            if let Some(place) = first_behind(self.tokens_behind(region.from)) {
+                why.add_change(Change::Before(place, "\n", part));
             }
         }
     }
@@ -230,14 +200,6 @@ impl<'a> Context<'a> {
             }
         }
         None
-    }
-
-    // The first routine of a block, or its `begin`.
-    fn end_of_declarations(&self, block: u32) -> Option<Span> {
-        match self.outline.region(block) {
-            Some(region) => first_behind(self.tokens_behind(region.from)),
-            None => None,
-        }
     }
 }
 

@@ -28,13 +28,14 @@ const MOST_PLACES: usize = 6;
 impl<'a> Context<'a> {
     /// Tells of a name that is not declared.
     pub(crate) fn unknown(&self, out: &mut Told) -> Result<(), AllocError> {
-        for spot in self.spots.iter() {
-            if let Spot::Selected(variable, before) = spot {
-                return self.unknown_field(out, variable, *before);
-            }
+        if let Some((variable, before)) = self.seen.selected {
+            return self.unknown_field(out, variable, before);
         }
         let mut why = Why::new();
-        if !self.known_elsewhere(&mut why) && !self.near_name(&mut why)? {
+        let is_known = self.unheaded(&mut why)
+            || self.field_alone(&mut why)
+            || self.out_of_reach(&mut why);
+        if !is_known && !self.near_name(&mut why)? {
             self.undeclared(&mut why);
         }
         self.tell(&why, out);
@@ -42,11 +43,6 @@ impl<'a> Context<'a> {
             out.note(self.told_uses());
         }
         Ok(())
-    }
-
-    // A name that is declared, and cannot be used so.
-    fn known_elsewhere(&self, why: &mut Why) -> bool {
-        self.unheaded(why) || self.field_alone(why) || self.out_of_reach(why)
     }
 
     // The number of the spelling at the place.
@@ -65,18 +61,13 @@ impl<'a> Context<'a> {
             text.put(joint(number, told, self.uses.len()));
             self.put_place(&mut text, span.from);
         }
-        self.put_more(&mut text, self.uses.len().saturating_sub(told));
-        text.put(" too");
-        text
-    }
-
-    // Puts how many places are not told.
-    fn put_more(&self, text: &mut Text, more: usize) {
-        if more > 0 {
+        if told < self.uses.len() {
             text.put(" and at ");
-            self.put_number(text, long(more));
+            self.put_number(&mut text, long(self.uses.len().saturating_sub(told)));
             text.put(" more places");
         }
+        text.put(" too");
+        text
     }
 
     // A field behind a point.
@@ -88,24 +79,19 @@ impl<'a> Context<'a> {
     ) -> Result<(), AllocError> {
         let mut why = Why::new();
         why.form = "`@p` is no field of `@x`";
-        why.text = self.record_text(variable.name);
+        why.text = match self.outline.token_before(self.fault.place.from) {
+            Some(point) => Span {
+                from: variable.name.from,
+                to: point.span.from,
+            },
+            None => variable.name,
+        };
         match self.record_before(variable, before) {
             Some(region) => self.tell_fields(out, &mut why, region),
             None => {
                 self.tell(&why, out);
                 Ok(())
             }
-        }
-    }
-
-    // What stands before the point before the place.
-    fn record_text(&self, name: Span) -> Span {
-        match self.outline.token_before(self.fault.place.from) {
-            Some(point) => Span {
-                from: name.from,
-                to: point.span.from,
-            },
-            None => name,
         }
     }
 
@@ -123,32 +109,21 @@ impl<'a> Context<'a> {
         }
     }
 
-    // Marks the record.
-    fn with_record(&self, region: u32, why: &mut Why) {
+    // Tells the fields of a record, and tries the nearest.
+    fn tell_fields(&self, out: &mut Told, why: &mut Why, region: u32) -> Result<(), AllocError> {
+        let fields = self.fields_of(region)?;
+        if let Some(near) = self.nearest_of(fields.as_slice())? {
+            why.other = near.name;
+            why.change = Change::For(self.fault.place, "@y");
+        }
         if let Some(record) = self.outline.region(region) {
             if let Some(token) = self.token_at(record.from) {
                 why.mark = Mark::At("its record", token.span);
             }
         }
-    }
-
-    // Tells the fields of a record, and tries the nearest.
-    fn tell_fields(&self, out: &mut Told, why: &mut Why, region: u32) -> Result<(), AllocError> {
-        let fields = self.fields_of(region)?;
-        let near = self.nearest_of(fields.as_slice())?;
-        self.with_record(region, why);
-        self.with_near(near, why);
         self.tell(why, out);
         out.help(self.told_fields(fields.as_slice()));
         Ok(())
-    }
-
-    // Tries the nearest field.
-    fn with_near(&self, near: Option<Point>, why: &mut Why) {
-        if let Some(near) = near {
-            why.other = near.name;
-            why.change = Change::For(self.fault.place, "@y");
-        }
     }
 
     fn fields_of(&self, region: u32) -> Result<Vec<Point>, AllocError> {
@@ -230,9 +205,13 @@ impl<'a> Context<'a> {
         if !self.could_stand(PointKind::Variable) {
             return false;
         }
+        let spelling = self.spelling_here();
         let mut tried: u32 = 0;
         for point in self.outline.points() {
-            if self.is_field_here(*point) && tried < MOST_RECORDS {
+            if matches!(point.kind, PointKind::Field)
+                && Some(point.spelling) == spelling
+                && tried < MOST_RECORDS
+            {
                 tried = tried.saturating_add(1);
                 if self.field_of(*point, why) {
                     return true;
@@ -242,25 +221,18 @@ impl<'a> Context<'a> {
         false
     }
 
-    // Whether a point is a field of the spelling at the place.
-    fn is_field_here(&self, point: Point) -> bool {
-        matches!(point.kind, PointKind::Field) && Some(point.spelling) == self.spelling_here()
-    }
-
     // A field, if a variable of its record is visible.
     fn field_of(&self, field: Point, why: &mut Why) -> bool {
-        match self.record_variable(field.region) {
-            Some((variable, is_pointer)) => {
-                why.form = "`@p` is not declared: it is a field of `@x@w`";
-                why.text = variable.name;
-                why.other = field.name;
-                why.word = if is_pointer { "^" } else { "" };
-                why.mark = Mark::At("the field is declared here", field.name);
-                why.change = Change::For(self.fault.place, "@x@w.@y");
-                true
-            }
-            None => false,
-        }
+        let Some((variable, is_pointer)) = self.record_variable(field.region) else {
+            return false;
+        };
+        why.form = "`@p` is not declared: it is a field of `@x@w`";
+        why.text = variable.name;
+        why.other = field.name;
+        why.word = if is_pointer { "^" } else { "" };
+        why.mark = Mark::At("the field is declared here", field.name);
+        why.change = Change::For(self.fault.place, "@x@w.@y");
+        true
     }
 
     // A visible variable whose type is a record, or a pointer to it.
@@ -325,19 +297,13 @@ impl<'a> Context<'a> {
 
     // Where a name is declared that is meant in two blocks.
     fn with_block(&self, kind: PointKind, why: &mut Why) {
-        match self.spots.last() {
-            Some(Spot::Control(_)) => {
-                why.help = Help::Is("declare it in this block too");
-                self.with_variable(self.block_here(), why);
-            }
-            _ if is_variable(kind) => {
-                why.help = Help::Is(
-                    "declare it in the block around both, or pass it as a parameter",
-                );
-            }
-            _ => {
-                why.help = Help::Is("declare it in the block around both");
-            }
+        if self.seen.is_control {
+            why.help = Help::Is("declare it in this block too");
+            self.with_variable(self.block_here(), why);
+        } else if is_variable(kind) {
+            why.help = Help::Is("declare it in the block around both, or pass it as a parameter");
+        } else {
+            why.help = Help::Is("declare it in the block around both");
         }
     }
 
@@ -369,13 +335,14 @@ impl<'a> Context<'a> {
     // A name that is near by its spelling.
     fn near_name(&self, why: &mut Why) -> Result<bool, AllocError> {
         let fitting = self.points_that_fit()?;
-        match self.nearest_of(fitting.as_slice())? {
-            Some(point) => {
-                near_point(point, why);
-                Ok(true)
-            }
-            None => self.near_required(why),
-        }
+        let Some(point) = self.nearest_of(fitting.as_slice())? else {
+            return self.near_required(why);
+        };
+        why.form = "`@p` is not declared, `@x` is";
+        why.text = point.name;
+        why.mark = Mark::Here(point.name);
+        why.change = Change::Everywhere("@x");
+        Ok(true)
     }
 
     // The visible names of a kind that could stand at the place.
@@ -397,11 +364,16 @@ impl<'a> Context<'a> {
             return Ok(false);
         }
         let names = self.required_that_fit()?;
-        let found = nearest(self.alloc, name, names.as_slice())?;
-        match found {
-            Some(number) => Ok(near_word(names.get(number), why)),
-            None => Ok(false),
-        }
+        let Some(number) = nearest(self.alloc, name, names.as_slice())? else {
+            return Ok(false);
+        };
+        let Some(near) = names.get(number) else {
+            return Ok(false);
+        };
+        why.form = "`@p` is not declared, `@w` is";
+        why.word = *near;
+        why.change = Change::Everywhere("@w");
+        Ok(true)
     }
 
     // The required names of a kind that could stand at the place.
@@ -427,23 +399,4 @@ fn joint(number: usize, told: usize, all: usize) -> &'static str {
     } else {
         ", "
     }
-}
-
-// The name that is near.
-fn near_point(point: Point, why: &mut Why) {
-    why.form = "`@p` is not declared, `@x` is";
-    why.text = point.name;
-    why.mark = Mark::Here(point.name);
-    why.change = Change::Everywhere("@x");
-}
-
-// The required name that is near.
-fn near_word(name: Option<&&'static str>, why: &mut Why) -> bool {
-    let Some(name) = name else {
-        return false;
-    };
-    why.form = "`@p` is not declared, `@w` is";
-    why.word = *name;
-    why.change = Change::Everywhere("@w");
-    true
 }

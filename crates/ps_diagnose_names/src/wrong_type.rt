@@ -3,7 +3,7 @@
 use crate::context::Context;
 use crate::required::Known;
 use crate::selected::no_content;
-use crate::spot::Spot;
+use crate::spot::{Passed, Spot};
 use crate::why::{Change, Help, Mark, Why};
 use ps_diagnose_outline::{Form, Type};
 use ps_syntax::{Constant, Expr, Member, Ordinal, Variable};
@@ -32,7 +32,14 @@ impl<'a> Context<'a> {
             Spot::Multiplied(term, number) => self.wrong_multiplied(term, number, why),
             Spot::Compare(left, relation, right) => self.wrong_compare(left, relation, right, why),
             Spot::Member(all, value) => self.wrong_member(all, value, why),
-            Spot::Passed(name, number, value) => self.wrong_passed(name, number, value, why),
+            Spot::Passed(routine, number, value) => {
+                let passed = Passed {
+                    routine,
+                    number,
+                    value,
+                };
+                self.wrong_passed(passed, why)
+            }
             Spot::Condition(value) => self.wrong_condition(value, why),
             _ => self.wrong_type_elsewhere(spot, why),
         }
@@ -57,7 +64,8 @@ impl<'a> Context<'a> {
             Spot::Opened(variable) => self.wrong_opened(variable, why),
             Spot::Result(function, name) => self.wrong_result(function, name, why),
             Spot::IndexType(Ordinal::Name(_)) => {
-                self.wrong_index_type(why);
+                why.form = "the index of an array has a type like 1..10, and `@p` is none";
+                why.mark = Mark::Declared(self.fault.place);
                 true
             }
             Spot::Range(low, high) => self.wrong_range(low, high, why),
@@ -68,29 +76,18 @@ impl<'a> Context<'a> {
 
     // A condition.
     fn wrong_condition(&self, value: &Expr, why: &mut Why) -> bool {
-        let Some(ty) = self.told_expr(value) else {
-            return false;
-        };
-        if self.is_boolean(ty) {
-            return false;
+        let is_wrong = self.not_wanted(
+            value,
+            Wanted::Boolean,
+            "a condition is Boolean, and `@x` is @t",
+            Help::Is("a comparison is Boolean, as `.. = ..`"),
+            why,
+        );
+        if is_wrong && self.is_integer(why.ty) {
+            why.change = Change::Behind(why.text, " ", "<> 0");
+            why.help = Help::None;
         }
-        let text = self.expr_span(value);
-        let is_number = self.is_integer(ty);
-        why.form = "a condition is Boolean, and `@x` is @t";
-        why.text = text;
-        why.ty = ty;
-        why.mark = Mark::Variable(text);
-        why.change = if is_number {
-            Change::Behind(text, " ", "<> 0")
-        } else {
-            Change::None
-        };
-        why.help = if is_number {
-            Help::None
-        } else {
-            Help::Is("a comparison is Boolean, as `.. = ..`")
-        };
-        true
+        is_wrong
     }
 
     /// Two types that are told and not of one simple form.
@@ -126,7 +123,7 @@ impl<'a> Context<'a> {
 
     /// A help that names a field of a record, the first one.
     pub(crate) fn field_help(&self, form: &'static str, text: Span, region: u32) -> Help {
-        match self.point_of(self.outline.points_of(region).first()) {
+        match self.outline.point_at(region, 0) {
             Some(field) => Help::Both(form, text, field.name),
             None => Help::None,
         }
@@ -194,26 +191,24 @@ impl<'a> Context<'a> {
         help: Help,
         why: &mut Why,
     ) -> bool {
-        match self.told_expr(value) {
-            Some(ty) if !self.is_wanted(ty, wanted) => {
-                let text = self.expr_span(value);
-                why.form = form;
-                why.text = text;
-                why.ty = ty;
-                why.mark = Mark::Variable(text);
-                why.help = help;
-                true
-            }
-            _ => false,
-        }
-    }
-
-    // Whether a type is of the kind that is wanted.
-    fn is_wanted(&self, ty: Type, wanted: Wanted) -> bool {
-        match wanted {
+        let Some(ty) = self.told_expr(value) else {
+            return false;
+        };
+        let is_wanted = match wanted {
             Wanted::Integer => self.is_integer(ty),
+            Wanted::Boolean => self.is_boolean(ty),
             Wanted::Simple => self.is_simple(ty),
+        };
+        if is_wanted {
+            return false;
         }
+        let text = self.expr_span(value);
+        why.form = form;
+        why.text = text;
+        why.ty = ty;
+        why.mark = Mark::Variable(text);
+        why.help = help;
+        true
     }
 
     // A constant of a `case`.
@@ -314,12 +309,6 @@ impl<'a> Context<'a> {
         true
     }
 
-    // An index type.
-    fn wrong_index_type(&self, why: &mut Why) {
-        why.form = "the index of an array has a type like 1..10, and `@p` is none";
-        why.mark = Mark::Declared(self.fault.place);
-    }
-
     // Two bounds of two types.
     fn wrong_range(&self, low: Constant, high: Constant, why: &mut Why) -> bool {
         let first = self.told(self.outline.constant(low).0);
@@ -357,6 +346,7 @@ impl<'a> Context<'a> {
 #[derive(Clone, Copy)]
 enum Wanted {
     Integer,
+    Boolean,
     Simple,
 }
 
