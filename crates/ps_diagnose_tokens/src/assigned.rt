@@ -121,6 +121,9 @@ const IN_STATEMENTS: Steps = &[
     Why("a statement assigns once"),
     Label(One(Assigned), "the first `:=`"),
     Help("write two statements, with `;` between; what is compared stands beside `=`"),
+    Also,
+    Is(Back(1), &[Kind::RightParen]),
+    Exchange(One(Here), "="),
 
     // `1 := x`, `x + 1 := y`
     Rule,

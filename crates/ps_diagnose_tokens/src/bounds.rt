@@ -23,6 +23,15 @@ const BEGINS: &[Kind] = &[
     Kind::Function,
 ];
 
+// What begins a declaration, or several.
+const DECLARES: &[Kind] = &[
+    Kind::Const,
+    Kind::Type,
+    Kind::Var,
+    Kind::Procedure,
+    Kind::Function,
+];
+
 // The ends of a text: where it ends too early, begins otherwise than by a heading, or goes on behind its end.
 const AT_THE_ENDS: Steps = &[
     // nothing
@@ -92,6 +101,9 @@ const AT_THE_ENDS: Steps = &[
     Is(Point, &[Kind::Dot]),
     Why("the program ended before it"),
     Label(To(Ended, Point), "it ends here"),
+    Also,
+    Is(Here, DECLARES),
+    Help("declarations stand before the `begin` of the program"),
     Also,
     Same(Ahead(1), TextEnd),
     TakeAway(0, One(Here)),

@@ -1,13 +1,15 @@
 //! What is told of declarations by the habits of other languages, and of what beginners take for Pascal.
 
 use crate::context::Context;
-use crate::kinds::PARTS;
+use crate::kinds::{ENDS_PART, PARTS};
 use crate::lists::TYPES;
-use crate::rule::Place::{Ahead, Back, BehindNames, Here, Routines, StatementEnd, Top};
-use crate::rule::Reach::{One, To, UpTo};
+use crate::rule::Place::{
+    Ahead, Back, BeforeTop, BehindNames, Here, Routines, StatementEnd, Top, TopEnd,
+};
+use crate::rule::Reach::{Between, One, To, UpTo};
 use crate::rule::Step::{
-    Also, Exchange, Fails, Has, Help, Holds, InPart, Is, Label, No, NotInPart, Or, Put, PutBefore,
-    PutBehind, Rule, Spelled, Tell, Token, Tokens, Why,
+    Also, Exchange, Fails, Has, Help, Holds, InPart, Is, IsNot, IsShown, Label, No, NotInPart, Or,
+    Put, PutBefore, PutBehind, Rule, Spelled, Tell, Token, Tokens, Why,
 };
 use crate::rule::{Fact, More, Steps};
 use crate::tests::first_of;
@@ -21,6 +23,23 @@ pub(crate) const BEGINS_TYPE: &[Kind] = &[
     Kind::Packed,
     Kind::Caret,
 ];
+
+// What begins a type and is no name.
+const BEGINS_OTHER_TYPE: &[Kind] = &[
+    Kind::Array,
+    Kind::Record,
+    Kind::Set,
+    Kind::Packed,
+    Kind::File,
+    Kind::Caret,
+    Kind::LeftParen,
+    Kind::Number,
+    Kind::Text,
+    Kind::Minus,
+];
+
+// What begins a type with components.
+const STRUCTURES: &[Kind] = &[Kind::Array, Kind::Record, Kind::Set, Kind::Packed];
 
 // What a constant is.
 const CONSTANT: &str =
@@ -226,6 +245,153 @@ const IN_DECLARATIONS: Steps = &[
     PutBehind(1, Back(1), ": integer", ": integer"),
 ];
 
+// What is missing in a declaration, or stands for another type.
+const OF_TYPES: Steps = &[
+    // `program p var`, `procedure p begin`
+    Rule,
+    Is(Here, ENDS_PART),
+    Is(Back(1), &[Kind::Name, Kind::RightParen]),
+    Fails(Fact::Headed),
+    Fails(Fact::InFunction),
+    No(Top),
+    // `function f: integer begin`
+    Or,
+    Is(Here, ENDS_PART),
+    Is(Back(1), &[Kind::Name]),
+    Is(Back(2), &[Kind::Colon]),
+    Fails(Fact::Headed),
+    No(Top),
+    Why("`;` is missing before it"),
+    PutBehind(0, Back(1), ";", ";"),
+
+    // `function f(n: integer) begin`
+    Rule,
+    Is(Here, ENDS_PART),
+    Holds(Fact::BehindHeading),
+    Holds(Fact::InFunction),
+    Why("the type of the function's result is missing before it"),
+    Help("a function is declared as `function f(n: integer): integer;`"),
+    PutBehind(0, Back(1), ": integer;", ": integer;"),
+
+    // `array [] of integer`
+    Rule,
+    Is(Here, &[Kind::RightBracket]),
+    Is(Back(1), &[Kind::LeftBracket]),
+    Is(Back(2), &[Kind::Array]),
+    Why("the bounds of an array are missing before it"),
+    Help("an array is declared as `array [1..10] of integer`"),
+
+    // `a: integer, b: char`, also in a record or a list of parameters
+    Rule,
+    Is(Here, &[Kind::Comma]),
+    Is(Back(1), &[Kind::Name]),
+    Is(Back(2), &[Kind::Colon]),
+    Is(BehindNames, &[Kind::Colon]),
+    Fails(Fact::Statements),
+    Or,
+    Is(Here, &[Kind::Comma]),
+    Is(Back(1), &[Kind::Name]),
+    Is(Back(2), &[Kind::Colon]),
+    Is(Ahead(1), &[Kind::Var]),
+    Fails(Fact::Statements),
+    Why("behind a type stands `;`"),
+    Exchange(One(Here), ";"),
+
+    // `('red', 'green')`
+    Rule,
+    Is(Here, &[Kind::Text]),
+    Is(Back(1), &[Kind::LeftParen]),
+    Is(Back(2), &[Kind::Equal, Kind::Colon, Kind::Of]),
+    Fails(Fact::Statements),
+    Why("the constants of an enumeration are names, without apostrophes"),
+    Help("an enumeration is written as `(red, green, blue)`"),
+
+    // `(x: integer; y: integer)`
+    Rule,
+    Is(Here, &[Kind::Colon]),
+    Is(Top, &[Kind::LeftParen]),
+    Is(BeforeTop, &[Kind::Equal, Kind::Colon, Kind::Of]),
+    InPart(&[Kind::Type, Kind::Var]),
+    Is(TopEnd, &[Kind::RightParen]),
+    Why("the fields of a record stand between `record` and `end`"),
+    Also,
+    IsShown(Between(Top, TopEnd)),
+    Exchange(To(Top, TopEnd), "record "),
+    Tokens(Between(Top, TopEnd)),
+    Put(" end"),
+
+    // `a: ;`
+    Rule,
+    Is(Here, &[Kind::Semicolon, Kind::RightParen, Kind::End]),
+    Is(Back(1), &[Kind::Colon]),
+    Fails(Fact::Statements),
+    Or,
+    Is(Here, &[Kind::Semicolon]),
+    Is(Back(1), &[Kind::Equal]),
+    InPart(&[Kind::Type]),
+    Why("a type is missing before it"),
+
+    // `const a = ;`
+    Rule,
+    Is(Here, &[Kind::Semicolon]),
+    Is(Back(1), &[Kind::Equal]),
+    InPart(&[Kind::Const]),
+    Why("a value is missing before it"),
+
+    // `procedure (a: integer)`
+    Rule,
+    Is(Here, &[Kind::LeftParen, Kind::Semicolon, Kind::Colon]),
+    Is(Back(1), &[Kind::Program, Kind::Procedure, Kind::Function]),
+    Why("a name is missing before it"),
+    Also,
+    Is(Back(1), &[Kind::Program]),
+    PutBefore(Here, "name", "name"),
+
+    // `function f: array [1..3] of integer`
+    Rule,
+    Is(Here, BEGINS_OTHER_TYPE),
+    Is(Back(1), &[Kind::Colon]),
+    Holds(Fact::InFunction),
+    Fails(Fact::Headed),
+    No(Top),
+    Why("the type of a result is a name"),
+    Also,
+    Is(Here, STRUCTURES),
+    Help("an array, a record or a set is given back by a `var` parameter"),
+    Also,
+    IsNot(Here, STRUCTURES),
+    Help("declare the type in the `type` part, and write its name here"),
+
+    // `procedure p(s: set of char)`
+    Rule,
+    Is(Here, BEGINS_OTHER_TYPE),
+    Is(Back(1), &[Kind::Colon]),
+    Holds(Fact::Parameters),
+    Or,
+    Is(Here, &[Kind::DotDot]),
+    Is(Back(2), &[Kind::Colon]),
+    Holds(Fact::Parameters),
+    Why("the type of a parameter is a name"),
+    Help("declare the type in the `type` part, and write its name here"),
+
+    // `function f(n: integer) = integer`
+    Rule,
+    Is(Here, &[Kind::Equal, Kind::Assign]),
+    Holds(Fact::BehindHeading),
+    Holds(Fact::InFunction),
+    Why("before the type of a result stands `:`"),
+    Exchange(One(Here), ":"),
+
+    // `function f(n: integer) -> integer`
+    Rule,
+    Is(Here, &[Kind::Minus]),
+    Is(Ahead(1), &[Kind::Greater]),
+    Holds(Fact::BehindHeading),
+    Holds(Fact::InFunction),
+    Why("before the type of a result stands `:`"),
+    Exchange(To(Here, Ahead(1)), ":"),
+];
+
 // A name of two words.
 const OF_SPACES: Steps = &[
     // `var a b: integer`
@@ -254,6 +420,11 @@ const OF_SPACES: Steps = &[
 /// The first that fits of those of declarations.
 pub(crate) fn in_declarations(cx: &Context<'_>) -> Option<Steps> {
     first_of(cx, IN_DECLARATIONS)
+}
+
+/// The first that fits of those of what is missing in a declaration, or stands for a type.
+pub(crate) fn of_types(cx: &Context<'_>) -> Option<Steps> {
+    first_of(cx, OF_TYPES)
 }
 
 /// The rule of a name of two words.

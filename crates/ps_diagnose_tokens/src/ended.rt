@@ -3,15 +3,15 @@
 use crate::context::Context;
 use crate::kinds::ENDS_VALUE;
 use crate::rule::Place::{
-    Ahead, Back, Bare, BeforeOutside, BehindEnd, BehindThen, Closed, ClosedHead, ClosedName, Ended,
-    EndedIf, Here, Innermost, List, Outside, PastIf, TextEnd, Top, WaitingIf,
+    Ahead, Back, Bare, BeforeOutside, Begun, BehindEnd, BehindThen, Closed, ClosedHead, ClosedName,
+    Ended, EndedIf, Here, Innermost, List, Outside, PastIf, TextEnd, Top, WaitingIf,
 };
 use crate::rule::Reach::One;
 use crate::rule::Step::{
-    Also, Exchange, Has, Help, Holds, InHead, Is, IsNot, Label, Line, No, NotBefore, Note, Put,
-    PutBefore, PutBehind, Routine, Rule, Same, TakeAway, Tell, Token, Where, Why,
+    Also, Enclose, Exchange, Has, Help, Holds, InHead, Is, IsNot, Label, Line, No, NotBefore, Note,
+    Or, Put, PutBefore, PutBehind, Routine, Rule, Same, TakeAway, Token, Where, Why,
 };
-use crate::rule::{Fact, More, Steps};
+use crate::rule::{Fact, Steps};
 use crate::tests::first_of;
 use ps_scan::Kind;
 
@@ -68,7 +68,7 @@ const AT_THE_END: Steps = &[
     Has(PastIf),
     Why("the `if` before it ended at its `;`"),
     Label(One(PastIf), "the `if`"),
-    Tell(More::Compound),
+    Enclose(BehindThen, Here),
     Help("several statements are one where they stand between `begin` and `end`"),
 
     // `else` where no `if` waits for it
@@ -98,7 +98,22 @@ const AT_THE_END: Steps = &[
     Is(Here, &[Kind::Until]),
     Holds(Fact::Statements),
     No(Innermost(Kind::Repeat)),
+    Same(List, Begun),
+    Or,
+    Is(Here, &[Kind::Until]),
+    Holds(Fact::Statements),
+    No(Innermost(Kind::Repeat)),
+    IsNot(List, &[Kind::Begin]),
     Why("no `repeat` before it waits for one"),
+
+    // `begin a until b`
+    Rule,
+    Is(Here, &[Kind::Until]),
+    Holds(Fact::Statements),
+    No(Innermost(Kind::Repeat)),
+    Why("a `begin` ends with `end`, and a `repeat` with `until`"),
+    Label(One(List), "the `begin`"),
+    Exchange(One(List), "repeat"),
 
     // `until` within a `begin` that has not ended, in a `repeat`
     Rule,
@@ -129,7 +144,32 @@ const AT_THE_END: Steps = &[
     Same(Ahead(1), TextEnd),
     Exchange(One(Here), "."),
     Also,
+    Is(Here, &[Kind::Name]),
+    Is(Ahead(1), &[Kind::Dot]),
+    TakeAway(0, One(Here)),
+    Also,
     TakeAway(1, One(Ended)),
+
+    // an `end` behind that of a routine
+    Rule,
+    Is(Here, &[Kind::End]),
+    Is(Back(1), &[Kind::End]),
+    Has(Closed),
+    Has(ClosedHead),
+    Why("the `end` before it ends the "),
+    Routine,
+    Put(" `"),
+    Token(ClosedName),
+    Put("`"),
+    Label(One(Closed), "its `begin`"),
+    TakeAway(0, One(Here)),
+    Also,
+    NotBefore(Bare, Closed),
+    Help("the `"),
+    Token(Bare),
+    Put("` at "),
+    Where(Bare),
+    Put(" has no `begin`"),
 
     // a point behind the `end` of a routine
     Rule,

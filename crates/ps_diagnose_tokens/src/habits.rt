@@ -5,15 +5,13 @@ use crate::declaring::BEGINS_TYPE;
 use crate::kinds::{COMPARES, OPERATORS};
 use crate::lists::TYPES;
 use crate::places::number_of;
-use crate::rule::Place::{
-    Ahead, Back, BeforeTop, Begun, BehindNames, BehindThen, Here, Start, Top, TopEnd,
-};
+use crate::rule::Place::{Ahead, Back, BeforeTop, Begun, BehindNames, Here, Start, Top, TopEnd};
 use crate::rule::Reach::{Between, One, To};
 use crate::rule::Step::{
     Exchange, Help, Holds, InBody, Is, Label, Or, Put, Rule, Same, Spelled, TakeAway, Tell, Tokens,
     Why,
 };
-use crate::rule::{Fact, More, Steps};
+use crate::rule::{Fact, More, Place, Steps};
 use crate::spread::statement_end;
 use crate::tell::{Telling, empty, joined, shown};
 use crate::tests::first_of;
@@ -42,7 +40,8 @@ const IN_STATEMENTS: Steps = &[
     Is(Top, &[Kind::LeftParen]),
     Is(BeforeTop, &[Kind::Assign]),
     Why("one value is assigned, and no list"),
-    Help("the components of an array are assigned one by one"),
+    Help("the components of an array or a record are assigned one by one"),
+    Help("a set stands between `[` and `]`"),
 
     // `break;` in a `case`
     Rule,
@@ -145,20 +144,29 @@ fn move_with(cx: &Context<'_>, to: &mut Telling, span: Span, before: usize, word
     to.change(span, empty(cx.alloc));
 }
 
-/// Proposes `begin` behind the `then` of the past `if`, and `end` before the place.
-pub(crate) fn propose_compound(cx: &Context<'_>, to: &mut Telling) {
-    let Some(first) = number_of(cx, BehindThen) else {
+// What is put before a token to end a statement there.
+fn end_before(cx: &Context<'_>, at: usize) -> &'static str {
+    if cx.is_of(at, &[Kind::Semicolon]) {
+        " end"
+    } else {
+        "end "
+    }
+}
+
+/// Proposes `begin` before a token, and `end` before another one.
+pub(crate) fn enclose(cx: &Context<'_>, to: &mut Telling, first: Place, behind: Place) {
+    let (Some(first), Some(behind)) = (number_of(cx, first), number_of(cx, behind)) else {
         return;
     };
-    let (begin, end) = (cx.span(first).from, cx.span(cx.at).from);
+    let (begin, end) = (cx.span(first).from, cx.span(behind).from);
     let mut words = joined(cx, &["put `begin` before `", cx.told(first), "` at "]);
     words.put_place(cx, begin);
-    words.put_all(&[", and `end` before `", cx.told(cx.at), "` at "]);
+    words.put_all(&[", and `end` before `", cx.told(behind), "` at "]);
     words.put_place(cx, end);
     to.propose(cx, 0, words);
     let (begin, end) = (span_at(begin), span_at(end));
     to.change(begin, joined(cx, &["begin "]));
-    to.change(end, joined(cx, &["end "]));
+    to.change(end, joined(cx, &[end_before(cx, behind)]));
 }
 
 // The empty span at an offset.

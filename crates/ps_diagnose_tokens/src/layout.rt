@@ -18,7 +18,8 @@ fn stands_outside(cx: &Context<'_>, at: usize, indent: usize) -> bool {
     begins_line && from.saturating_sub(start) <= indent
 }
 
-/// The first token behind the beginning of what the `end` before the place ended, whose line stands as if that had ended.
+/// The first token behind the beginning of what the `end` before the place ended, whose line stands as if that had
+/// ended.
 pub(crate) fn outside(cx: &Context<'_>) -> Option<usize> {
     let open = cx.opened.closed?;
     let indent = indent_of(cx, open.at);

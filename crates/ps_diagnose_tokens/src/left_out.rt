@@ -3,9 +3,10 @@
 use crate::context::Context;
 use crate::rows::{Part, other_pascal};
 use crate::rule::Place::{Ahead, Back, Here, Start, Top};
+use crate::rule::Reach::To;
 use crate::rule::Step::{
-    Advice, Also, Fails, Help, Is, IsNot, Or, Origin, Put, Rule, Same, Says, Spelled, Tell, Token,
-    Touches,
+    Advice, Also, Exchange, Fails, Help, Is, IsNot, Or, Origin, Put, Rule, Same, Says, Spelled,
+    Tell, Token, Touches,
 };
 use crate::rule::{Fact, More, Steps};
 use crate::tell::{Telling, exchange, joined};
@@ -35,6 +36,26 @@ const LEFT_OUT: Steps = &[
     Says("`/*` comes from "),
     Origin(Part::Statements, "/ *"),
     Advice(Part::Statements, "/ *"),
+    Tell(More::Stars),
+
+    // `if a =/= b`
+    Rule,
+    Is(Here, &[Kind::Slash]),
+    Is(Ahead(1), &[Kind::Equal]),
+    Is(Back(1), &[Kind::Equal]),
+    Touches(Here),
+    Says("`=/=` is written `<>`"),
+    Exchange(To(Back(1), Ahead(1)), "<>"),
+
+    // `if a /= b`
+    Rule,
+    Is(Here, &[Kind::Slash]),
+    Is(Ahead(1), &[Kind::Equal]),
+    Touches(Here),
+    Fails(Fact::BehindVariable),
+    Says("`/=` comes from Ada"),
+    Help("What is not equal is `<>`."),
+    Exchange(To(Here, Ahead(1)), "<>"),
 
     // `a /= b`
     Rule,
@@ -44,6 +65,7 @@ const LEFT_OUT: Steps = &[
     Says("`/=` comes from "),
     Origin(Part::Statements, "/ ="),
     Advice(Part::Statements, "/ ="),
+    Tell(More::Divided),
 
     // `writeln(a:1:2)`
     Rule,
@@ -82,6 +104,7 @@ const LEFT_OUT: Steps = &[
     Says("`"),
     Token(Here),
     Put("` is no program parameter here: these are `input` and `output`"),
+    Tell(More::Files),
     Help("other files are given on the command line: `pascal go p.pas < a.txt > b.txt`"),
 
     // `input` elsewhere than first in a list of parameters
@@ -95,7 +118,10 @@ const LEFT_OUT: Steps = &[
     Is(Ahead(1), &[Kind::Caret]),
     Advice(Part::StatementsLeftOut, "input ^"),
     Also,
-    IsNot(Ahead(1), &[Kind::Caret]),
+    Is(Ahead(1), &[Kind::LeftParen]),
+    Help("`read(n)` gives a variable what is read; a question is written before, by `write`"),
+    Also,
+    IsNot(Ahead(1), &[Kind::Caret, Kind::LeftParen]),
     Help("the files are `input` and `output` alone, and no variable holds one"),
 
     // `output` elsewhere

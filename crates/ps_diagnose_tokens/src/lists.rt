@@ -78,6 +78,9 @@ const OF_VALUES: Steps = &[
     Is(Back(1), &[Kind::Comma]),
     Is(Top, &[Kind::LeftParen]),
     Why("a value is missing before it"),
+    Also,
+    Holds(Fact::Brace),
+    Help("what stands between `{` and `}` is a comment; a set stands between `[` and `]`"),
 ];
 
 /// Names that are those of types in most texts.

@@ -1,14 +1,17 @@
-//! What is told of an `until`, a constant or an operator that is missing, and of what began the construction that lacks a word or a sign.
+//! What is told of an `until`, a constant or an operator that is missing, and of what began the construction that lacks
+//! a word or a sign.
 
 use crate::context::Context;
 use crate::kinds::{BEGINS_STATEMENT, ENDS_VALUE};
-use crate::rule::Place::{Back, ExpressionEnd, Here, NextEnd, NextUntil, Start, Top};
+use crate::rule::Place::{
+    Back, Chosen, ExpressionEnd, Here, NextChoice, NextEnd, NextUntil, Start, Top,
+};
 use crate::rule::Reach::One;
 use crate::rule::Step::{
-    Also, Help, Holds, InBody, InHead, Is, Label, NotBefore, Or, Put, PutBefore, Rule, Same, Token,
-    Why,
+    Also, Enclose, Has, Help, Holds, InBody, InHead, Is, Label, No, NotBefore, Or, Put, PutBefore,
+    Rule, Same, Tell, Token, Why,
 };
-use crate::rule::{Fact, Steps};
+use crate::rule::{Fact, More, Steps};
 use crate::tests::first_of;
 use ps_scan::Kind;
 
@@ -45,7 +48,8 @@ const NO_END: Steps = &[
     Put("` is not ended"),
 ];
 
-// What began the construction that lacks a word or a sign of its head; beside, where a comment stands in the place of statements.
+// What began the construction that lacks a word or a sign of its head; beside, where a comment stands in the place of
+// statements.
 const NO_THEN: Steps = &[
     Rule,
     InHead(&[Kind::If]),
@@ -120,6 +124,7 @@ const IN_STATEMENTS: Steps = &[
     Why("`;` or the `until` of a `repeat` is missing before it"),
     Label(One(Top), "the `repeat`"),
     Help("a `repeat` ends with `until` and a condition"),
+    Tell(More::Words),
 
     // A statement in a `case` without a constant before it.
 
@@ -147,9 +152,15 @@ const IN_STATEMENTS: Steps = &[
         ],
     ),
     Why("in a `case` constants and `:` stand before a statement"),
-    Label(One(Top), "this `case` is not ended"),
     Help("several statements of one constant stand between `begin` and `end`"),
+    Also,
+    No(NextChoice),
+    Label(One(Top), "this `case` is not ended"),
     PutBefore(Start, "end;", "end; "),
+    Also,
+    Has(NextChoice),
+    Label(One(Top), "the `case`"),
+    Enclose(Chosen, NextChoice),
 
     // `if a b then`
     Rule,
@@ -160,6 +171,7 @@ const IN_STATEMENTS: Steps = &[
         &[Kind::Name, Kind::Number, Kind::Text, Kind::Nil, Kind::Not],
     ),
     Is(ExpressionEnd, &[Kind::Then, Kind::Do]),
+    Holds(Fact::OneLine),
     Why("an operator is missing before it"),
 ];
 

@@ -2,10 +2,11 @@
 
 use crate::context::Context;
 use crate::rows::{Part, Row, row_of};
-use crate::spread::statement_end;
+use crate::spread::{expression_end, statement_end};
 use crate::table::{numbers_of, text_at};
 use crate::tell::{Telling, Text, exchange, exchange_text, joined, refusal, shown, take_away};
 use crate::tests::is_behind_variable;
+use crate::walk::Stage;
 use ps_scan::Kind;
 use ps_text::Span;
 
@@ -127,14 +128,40 @@ fn is_in_for(cx: &Context<'_>) -> bool {
     }
 }
 
-// Whether a row that stands at the place is meant there, by the tokens round it; words of blocks never, of which other reasons tell more.
+// Whether the `then` at the place is that of the `if` whose condition is open.
+fn is_end_of_condition(cx: &Context<'_>) -> bool {
+    let end = expression_end(cx, cx.at.saturating_add(1));
+    match cx.top() {
+        Some(open) => { matches!(open.kind, Kind::If) && !cx.is_of(end, &[Kind::Then]) }
+        None => false,
+    }
+}
+
+// Whether an arrow stands at the place for what assigns, or behind a constant of a `case`.
+fn is_behind_variable_or_constant(cx: &Context<'_>, row: &Row) -> bool {
+    let is_behind_constant = match cx.top() {
+        Some(open) => {
+            matches!(open.kind, Kind::Case)
+                && matches!(open.stage, Stage::Body)
+                && cx.opened.start.saturating_add(1) == cx.at
+        }
+        None => false,
+    };
+    is_behind_constant || (row.word == "= >" && is_behind_variable(cx))
+}
+
+// Whether a row that stands at the place is meant there, by the tokens round it; words of blocks never, of which other
+// reasons tell more.
 fn is_meant(cx: &Context<'_>, row: &Row) -> bool {
     match row.word {
         "var" | "begin" => false,
         "end if" => is_end_of_if(cx),
         "value" => is_next(cx, &[Kind::Number, Kind::Text, Kind::Plus, Kind::Minus]),
-        "step" => is_in_for(cx),
+        "step" | "by" => is_in_for(cx),
         "= =" => !is_behind_variable(cx),
+        "= >" | "- >" => !is_behind_variable_or_constant(cx, row),
+        "; do" => cx.is_of(cx.at, &[Kind::Do]),
+        "and then" => !is_end_of_condition(cx),
         "NAME :" => is_type_of_constant(cx),
         "NAME =" => is_value_behind_type(cx),
         _ => true,
@@ -180,7 +207,8 @@ fn row_here(cx: &Context<'_>) -> Option<Row> {
     }
 }
 
-// Whether a row that stands from a token on is something else: a name that the text seems to declare, or two signs of which the second is of a value.
+// Whether a row that stands from a token on is something else: a name that the text seems to declare, or two signs of
+// which the second is of a value.
 fn is_else(cx: &Context<'_>, row: &Row, from: usize) -> bool {
     match row.word {
         "+ +" | "- -" => is_next(cx, &[Kind::Name, Kind::Number, Kind::LeftParen]),
@@ -217,8 +245,9 @@ fn put_word(out: &mut Text, row: &Row) {
 fn put_row(cx: &Context<'_>, out: &mut Text, row: &Row, from: usize) {
     let is_all = from == cx.at && count_of(row) == 1;
     if !row.within.is_empty() {
-        out.put_all(&["in a `", row.within, "` it comes from ", row.origin()]);
-    } else if is_all || row.word.starts_with("NAME ") {
+        out.put_all(&["in a `", row.within, "` "]);
+    }
+    if is_all || row.word.starts_with("NAME ") {
         out.put_all(&["it comes from ", row.origin()]);
     } else if row.word.starts_with("; ") {
         out.put_all(&["where a statement begins, it comes from ", row.origin()]);
@@ -316,8 +345,8 @@ fn assigned(cx: &Context<'_>, end: usize, sign: &str) -> Text {
     put
 }
 
-// Proposes `n := n + 1` for `n += 1`.
-fn propose_computed(cx: &Context<'_>, to: &mut Telling, sign: &str, from: usize) {
+/// Proposes `n := n + 1` for `n += 1`.
+pub(crate) fn propose_computed(cx: &Context<'_>, to: &mut Telling, sign: &str, from: usize) {
     let first = from.saturating_add(2);
     let last = statement_end(cx, first).saturating_sub(1);
     let start = cx.opened.start;

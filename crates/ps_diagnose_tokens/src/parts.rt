@@ -9,7 +9,7 @@ use crate::rule::Place::{
 use crate::rule::Reach::One;
 use crate::rule::Step::{
     Advice, Also, Declares, Fails, Has, Help, Holds, InPart, Is, IsNot, Label, Move, No, NotInPart,
-    Or, Put, PutBefore, PutBehind, Rule, SeemsDeclared, Spelled, TakeAway, Tell, Token, Why,
+    Or, Put, PutBefore, PutBehind, Rule, Same, SeemsDeclared, Spelled, TakeAway, Tell, Token, Why,
 };
 use crate::rule::{Fact, More, Steps};
 use crate::tests::first_of;
@@ -78,7 +78,21 @@ const IN_DECLARATIONS: Steps = &[
     Is(Back(1), &[Kind::Name, Kind::Number, Kind::Text]),
     Holds(Fact::Declarations),
     Why("a constant is a number, a string or a name, and no formula"),
-    Help("compute the value, or a variable of it"),
+    Help("write the number that comes out; a formula stands in a statement"),
+
+    // `record begin`
+    Rule,
+    Is(Here, &[Kind::Begin]),
+    Is(Back(1), &[Kind::Record]),
+    Why("a record has no `begin`"),
+    TakeAway(0, One(Here)),
+
+    // `record var`
+    Rule,
+    Is(Here, PARTS),
+    Is(Back(1), &[Kind::Record]),
+    Why("the fields of a record stand without it"),
+    TakeAway(0, One(Here)),
 
     // `begin` behind a record that has no end
     Rule,
@@ -141,6 +155,17 @@ const IN_STATEMENTS: Steps = &[
     Also,
     Is(Here, &[Kind::Var]),
     Advice(Part::Statements, "var"),
+
+    // `procedure` among the statements of the program
+    Rule,
+    Is(Here, ROUTINES),
+    Holds(Fact::Statements),
+    Fails(Fact::InRoutine),
+    Same(List, Begun),
+    Why(AMONG),
+    Label(One(Begun), "the `begin`"),
+    Help("the `begin` of the program stands behind its procedures and functions"),
+    TakeAway(1, One(Begun)),
 
     // `procedure` among statements
     Rule,

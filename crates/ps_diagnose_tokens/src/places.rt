@@ -156,6 +156,8 @@ fn number_further(cx: &Context<'_>, place: Place) -> Option<usize> {
         Place::NextEnd => Some(next_end(cx)),
         Place::BehindThen => behind_then(cx),
         Place::BehindNames => Some(behind_names(cx)),
+        Place::Chosen => chosen(cx),
+        Place::NextChoice => next_choice(cx),
         Place::BehindEnd => next_end(cx).checked_add(1),
         Place::NextUntil => Some(next_of(cx, at, &[Kind::Until, Kind::Repeat])),
         Place::Closing => Some(next_of(cx, at.saturating_add(1), &[])),
@@ -205,6 +207,50 @@ fn next_end(cx: &Context<'_>) -> usize {
         }
     }
     cx.tokens.len()
+}
+
+// How deep what stands behind a token of statements is; none where it ends what began before.
+fn depth_in_statements(depth: usize, kind: Kind) -> Option<usize> {
+    match kind {
+        Kind::Repeat | Kind::LeftParen | Kind::LeftBracket => Some(depth.saturating_add(1)),
+        Kind::Until | Kind::RightParen | Kind::RightBracket => depth.checked_sub(1),
+        _ => depth_behind(depth, kind),
+    }
+}
+
+// The first `:` from a token on that stands in nothing which begins there.
+fn next_colon(cx: &Context<'_>, from: usize, end: usize) -> Option<usize> {
+    let mut depth = 0;
+    for (count, token) in cx.tokens.get(from..end)?.iter().enumerate() {
+        if depth == 0 && token.kind == Kind::Colon {
+            return from.checked_add(count);
+        }
+        depth = depth_in_statements(depth, token.kind)?;
+    }
+    None
+}
+
+// The token behind the last `:` before the place of the `case` that is open.
+fn chosen(cx: &Context<'_>) -> Option<usize> {
+    let mut at = begin_of(cx.top())?.saturating_add(1);
+    for _ in at..cx.at {
+        match next_colon(cx, at, cx.at) {
+            Some(colon) => at = colon.saturating_add(1),
+            None => break,
+        }
+    }
+    Some(at)
+}
+
+// The `;` from the place on that stands before the next constants of the `case` that is open.
+fn next_choice(cx: &Context<'_>) -> Option<usize> {
+    let colon = next_colon(cx, cx.at, cx.tokens.len())?;
+    let at = last_between(cx, cx.at, colon, &[Kind::Semicolon])?;
+    if cx.is_of(at, &[Kind::Semicolon]) {
+        Some(at)
+    } else {
+        None
+    }
 }
 
 // The last token of the part that begins at the place, if it ends in the text.

@@ -90,8 +90,8 @@ fn is_colon(text: &[u8]) -> bool {
     matches!(text, [b':'])
 }
 
-// The offset at which a use of real numbers begins, if a piece is one and not at the place; the last three pieces before it are known, the last
-// first.
+// The offset at which a use of real numbers begins, if a piece is one and not at the place; the last three pieces
+// before it are known, the last first.
 fn use_at(cx: &Context<'_>, before: &[Piece<'_>; 3], piece: Piece<'_>) -> Option<usize> {
     let [colon, _, _] = before;
     let from = if is_real(piece.text) {

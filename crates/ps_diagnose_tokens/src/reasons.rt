@@ -10,7 +10,7 @@ use crate::rows::Part;
 use crate::rule::Place::Here;
 use crate::rule::Step::{Expects, Put, Says, Tell, Token};
 use crate::rule::{More, Steps};
-use crate::scanned::{comment_of_line, rule_of_scanner};
+use crate::scanned::{comment_before, comment_of_line, rule_of_scanner};
 use crate::tell::{Telling, nothing, refusal};
 use crate::telling::tell_rule;
 use crate::{
@@ -34,7 +34,9 @@ const PLAIN: Steps = &[
 // The first rule that fits of those of what is written otherwise elsewhere.
 fn rule_of_habits(cx: &Context<'_>) -> Option<Steps> {
     slips::in_statements(cx)
+        .or(slips::further(cx))
         .or(habits::in_statements(cx))
+        .or(declaring::of_types(cx))
         .or(declaring::in_declarations(cx))
 }
 
@@ -57,7 +59,8 @@ fn rule_of_statements(cx: &Context<'_>) -> Option<Steps> {
         .or(missing::in_statements(cx))
 }
 
-// The rule of a token that cannot stand where it does, behind those of the ends of the text and the table of other Pascals.
+// The rule of a token that cannot stand where it does, behind those of the ends of the text and the table of other
+// Pascals.
 fn rule_of_tables(cx: &Context<'_>) -> Steps {
     rule_of_habits(cx)
         .or(rule_of_parts(cx))
@@ -82,6 +85,7 @@ fn tell_not_a_program(cx: &Context<'_>, to: &mut Telling) {
         Some((row, from)) => tell_row(cx, to, &row, from),
         None => tell_rule(cx, to, rule_of_tables(cx)),
     }
+    comment_before(cx, to);
 }
 
 // Tells a refusal by the scanner or the parser.
@@ -124,8 +128,8 @@ fn is_of_tokens(number: u8) -> bool
     number >= 20 && number <= 22
 }
 
-/// What is told of a refusal by the scanner or the parser (10 to 16 and 20 to 22), made of the tokens round its place; none of another
-/// number.
+/// What is told of a refusal by the scanner or the parser (10 to 16 and 20 to 22), made of the tokens round its place;
+/// none of another number.
 pub fn drafted(alloc: Global, fault: &Fault<'_>) -> Result<Option<Draft>, AllocError>
     ensures { IfOk result (λ draft. IsSome draft ↔ IsOfTokens fault.now.number) }
 {
@@ -147,8 +151,8 @@ fn tell_missing(cx: &Context<'_>, to: &mut Telling, token: &str) {
     }
 }
 
-/// Tells that a word or a sign is missing before the place, with what begins the construction that it is of as a second place. It stands
-/// for the sentence of a draft that tells only that the token cannot stand there.
+/// Tells that a word or a sign is missing before the place, with what begins the construction that it is of as a second
+/// place. It stands for the sentence of a draft that tells only that the token cannot stand there.
 pub fn missing_before(
     alloc: Global,
     fault: &Fault<'_>,

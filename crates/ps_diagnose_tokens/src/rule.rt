@@ -1,5 +1,6 @@
-//! The rules by which reasons are found and told: where one fits, by the tokens round the place, and what is told of it. The tables of them stand beside:
-//! flat lists of steps, since what proving a function costs grows fast with the depth of the constants that it names.
+//! The rules by which reasons are found and told: where one fits, by the tokens round the place, and what is told of
+//! it. The tables of them stand beside: flat lists of steps, since what proving a function costs grows fast with the
+//! depth of the constants that it names.
 
 use crate::letters::Class;
 use crate::rows::Part;
@@ -65,6 +66,10 @@ pub(crate) enum Place {
     BehindThen,
     /// The token behind the names, with commas between, that stand from the place on.
     BehindNames,
+    /// The token behind the last `:` of the `case` that is open.
+    Chosen,
+    /// The `;` before its next constants.
+    NextChoice,
     /// The heading of the block.
     Head,
     /// The name of the block.
@@ -148,6 +153,8 @@ pub(crate) enum Fact {
     Brace,
     /// A digit stands behind the sign there.
     Digit,
+    /// A letter or a digit stands before it.
+    BehindLetter,
 }
 
 /// What only code can tell.
@@ -160,6 +167,8 @@ pub(crate) enum More {
     Apostrophe,
     /// Proposes words of the language that are spelled nearly so.
     Words,
+    /// Proposes `input` or `output`, if the name is spelled nearly so.
+    Files,
     /// Proposes parentheses round the comparisons of the expression.
     Parentheses,
     /// Proposes braces for two slashes.
@@ -196,16 +205,21 @@ pub(crate) enum More {
     Hash,
     /// Proposes to move the declaration of variables that begins the statement, or at the place, up.
     Variables,
-    /// Proposes `begin` behind the `then` of the past `if`, and `end` before the place.
-    Compound,
+    /// Proposes `n := n div 2` for `n /= 2`.
+    Divided,
+    /// Proposes `1..3` for `1.3`.
+    Bounds,
+    /// Proposes `(*` and `*)` for the ends of a comment of C.
+    Stars,
 }
 
-/// A step of a table of rules. A rule goes from one `Rule` to the next: its tests, and behind them what is told where they hold. What begins a text is
-/// told with the pieces that stand behind it.
+/// A step of a table of rules. A rule goes from one `Rule` to the next: its tests, and behind them what is told where
+/// they hold. What begins a text is told with the pieces that stand behind it.
 pub(crate) enum Step {
     /// A rule begins.
     Rule,
-    /// The rule fits too where the tests behind this hold, in the place of those before it. It stands before all that is told.
+    /// The rule fits too where the tests behind this hold, in the place of those before it. It stands before all that
+    /// is told.
     Or,
     /// What is told beside begins, behind tests of its own.
     Also,
@@ -273,6 +287,8 @@ pub(crate) enum Step {
     PutBehind(u32, Place, &'static str, &'static str),
     /// Proposes to move the declarations from the place to a token before another one.
     Move(Place, Place),
+    /// Proposes `begin` before a token, and `end` before another one.
+    Enclose(Place, Place),
     /// Proposes to exchange the sign at the place, with spaces where what is put would touch a name.
     ExchangeSign(&'static str, &'static str),
     /// Proposes to put something behind the line: how it is told, and how it is put.

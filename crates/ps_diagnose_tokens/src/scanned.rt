@@ -5,12 +5,13 @@ use crate::letters::{Class, byte_at, byte_before, end_of, is_in, span_at, start_
 use crate::rows::Part;
 use crate::rule::Place::Back;
 use crate::rule::Step::{
-    Advice, Also, CloseLine, Found, Help, Is, IsNot, Put, Rule, Run, Says, Spelled, Stands, Tell,
+    Advice, Also, CloseLine, Fails, Found, Help, InPart, Is, IsNot, NotInPart, Or, Put, Rule, Run,
+    Says, Spelled, Stands, Tell,
 };
-use crate::rule::{More, Steps};
+use crate::rule::{Fact, More, Steps};
 use crate::signs::rule_of_byte;
 use crate::slashes::exchange_slashes;
-use crate::tell::{Telling, exchange, joined, put_at, shown, take_away};
+use crate::tell::{Telling, exchange, exchange_text, joined, put_at, shown, take_away};
 use crate::telling::advise;
 use crate::tests::first_of;
 use ps_scan::Kind;
@@ -90,8 +91,23 @@ const NUMBER: Steps = &[
     Put("` is above 2147483647, the largest integer"),
 ];
 
+// What a bound stands behind.
+const BEFORE_BOUND: &[Kind] = &[Kind::LeftBracket, Kind::Colon, Kind::Of];
+
 // A real number.
 const REAL: Steps = &[
+    // `array [1.3]`
+    Rule,
+    Is(Back(1), BEFORE_BOUND),
+    Fails(Fact::Statements),
+    NotInPart(&[Kind::Const]),
+    Or,
+    Is(Back(1), &[Kind::Equal]),
+    InPart(&[Kind::Type]),
+    Says("between two bounds stands `..`"),
+    Tell(More::Bounds),
+
+    // `1.5`
     Rule,
     Says("`"),
     Found,
@@ -168,16 +184,55 @@ pub(crate) fn label_comment(cx: &Context<'_>, to: &mut Telling) {
     }
 }
 
+// The comment in braces at an offset, if another one seems to begin in it.
+fn comment_with_another(cx: &Context<'_>, at: usize) -> Option<Span> {
+    let end = end_of(cx.bytes, at, Class::Comment);
+    let inner = comment_within(cx.bytes, at.saturating_add(1))?;
+    if (inner.from as usize) < end {
+        Some(span_at(at, end))
+    } else {
+        None
+    }
+}
+
+// The first comment in braces before the place, behind the token before it, if another one seems to begin in it.
+fn long_comment(cx: &Context<'_>) -> Option<Span> {
+    let from = match cx.at.checked_sub(1) {
+        Some(before) => cx.span(before).to,
+        None => 0,
+    };
+    for at in from as usize..cx.span(cx.at).from as usize {
+        if byte_at(cx.bytes, at) == b'{' {
+            return comment_with_another(cx, at);
+        }
+    }
+    None
+}
+
+/// Tells where a comment before the place begins and ends, if another one seems to begin in it.
+pub(crate) fn comment_before(cx: &Context<'_>, to: &mut Telling) {
+    let Some(comment) = long_comment(cx) else {
+        return;
+    };
+    let mut text = joined(cx, &["the comment that begins at "]);
+    text.put_place(cx, comment.from);
+    text.put(" ends at ");
+    text.put_place(cx, comment.to);
+    text.put(", at the first `}` behind it");
+    to.note(text);
+}
+
 /// Proposes to put something behind the line of the place.
 pub(crate) fn close_line(cx: &Context<'_>, to: &mut Telling, told: &str, put: &str) {
     let end = trimmed_end(cx.bytes, cx.place.from as usize);
     put_behind_word(cx, to, 0, end, told, put);
 }
 
-// Whether an apostrophe stands between two letters.
+// Whether an apostrophe stands between two letters, or behind a backslash.
 fn is_between_letters(bytes: &[u8], at: usize) -> bool {
+    let before = byte_before(bytes, at);
     byte_at(bytes, at) == b'\''
-        && byte_before(bytes, at).is_ascii_alphabetic()
+        && (before == b'\\' || before.is_ascii_alphabetic())
         && byte_at(bytes, at.saturating_add(1)).is_ascii_alphabetic()
 }
 
@@ -203,7 +258,22 @@ pub(crate) fn double_apostrophe(cx: &Context<'_>, to: &mut Telling) {
         return;
     };
     to.note(joined(cx, &["an apostrophe within a string is written twice"]));
-    exchange(cx, to, 0, span_at(at, at.saturating_add(1)), "''");
+    let is_escaped = byte_before(cx.bytes, at) == b'\\';
+    let from = if is_escaped { at.saturating_sub(1) } else { at };
+    exchange(cx, to, 0, span_at(from, at.saturating_add(1)), "''");
+}
+
+/// Proposes two points for the one of a real number that stands for a bound.
+pub(crate) fn exchange_point(cx: &Context<'_>, to: &mut Telling) {
+    let from = cx.place.from as usize;
+    let point = end_of(cx.bytes, from, Class::Digit);
+    let behind = point.saturating_add(1);
+    let end = end_of(cx.bytes, behind, Class::Digit);
+    if byte_at(cx.bytes, point) == b'.' && !is_in(Class::Name, byte_at(cx.bytes, end)) {
+        let first = shown_from(cx, from, Class::Digit);
+        let last = shown_from(cx, behind, Class::Digit);
+        exchange_text(cx, to, span_at(from, end), joined(cx, &[first, "..", last]));
+    }
 }
 
 /// Proposes to write the apostrophe twice that ended the string before the place, and one more behind what follows.

@@ -3,15 +3,17 @@
 use crate::context::Context;
 use crate::letters::{Class, byte_at, byte_before, end_of, is_in, letter_at, span_at};
 use crate::rows::Part;
-use crate::rule::Place::Back;
+use crate::rule::Place::{Back, Here};
+use crate::rule::Reach::One;
 use crate::rule::Step::{
-    Advice, Byte, Code, ExchangeSign, Fails, Has, Help, IsSign, Letter, Or, Origin, Put, Rule,
-    Says, Stands, Tell,
+    Advice, Byte, Code, ExchangeSign, Fails, Has, Help, Holds, Is, IsSign, Letter, Or, Origin, Put,
+    Rule, Says, Stands, TakeAway, Tell,
 };
 use crate::rule::{Fact, More, Steps};
 use crate::table::{SIGNS_OF_PROGRAMS, SIGNS_OF_STATEMENTS};
 use crate::tell::{Telling, Text, empty, exchange, exchange_text, joined, shown};
 use crate::tests::first_of;
+use ps_scan::Kind;
 
 /// What a sign that begins no token is.
 #[derive(Clone, Copy, PartialEq, Eq)]
@@ -118,6 +120,21 @@ const KNOWN: Steps = &[
     Code,
     Put(") is no letter of a name"),
     Help("names are made of the letters a to z and of digits"),
+
+    // `a$`
+    Rule,
+    Stands("$"),
+    Holds(Fact::BehindLetter),
+    Says("a name has only letters and digits, and no `$`"),
+    Help("take another name"),
+
+    // `read(&a)`
+    Rule,
+    Stands("&"),
+    Is(Back(1), &[Kind::LeftParen, Kind::Comma]),
+    Says("`&` is not used in standard Pascal: it comes from C"),
+    Help("A `var` parameter takes the variable itself."),
+    TakeAway(0, One(Here)),
 
     // controls, and bytes that are no character
     Rule,
@@ -242,11 +259,31 @@ pub(crate) fn exchange_quotes(cx: &Context<'_>, to: &mut Telling) {
     if let Some((next, other)) = second {
         words.put(", and ");
         put_exchange(cx, &mut words, other, next);
+        words.put(words_of_apostrophes(cx, at, next));
     }
     to.propose(cx, 0, words);
     change_quote(cx, to, quote, at);
     if let Some((next, other)) = second {
+        double_between(cx, to, at, next);
         change_quote(cx, to, other, next);
+    }
+}
+
+// What is told of the apostrophes between two quotes.
+fn words_of_apostrophes(cx: &Context<'_>, from: usize, to: usize) -> &'static str {
+    if cx.bytes.get(from..to).unwrap_or(&[]).contains(&b'\'') {
+        ", and write each apostrophe between them twice"
+    } else {
+        ""
+    }
+}
+
+// Adds the change of each apostrophe between two quotes: it is written twice.
+fn double_between(cx: &Context<'_>, to: &mut Telling, from: usize, end: usize) {
+    for at in from..end {
+        if byte_at(cx.bytes, at) == b'\'' {
+            to.change(span_at(at, at.saturating_add(1)), joined(cx, &["''"]));
+        }
     }
 }
 

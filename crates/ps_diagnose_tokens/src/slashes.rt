@@ -95,3 +95,30 @@ pub(crate) fn exchange_hash(cx: &Context<'_>, to: &mut Telling) {
         exchange_text(cx, to, span_at(from, end), joined(cx, &["{", text, " }"]));
     }
 }
+
+// The offset of the text `*/` from one on.
+fn end_of_stars(bytes: &[u8], from: usize) -> Option<usize> {
+    for at in from..bytes.len() {
+        if byte_at(bytes, at) == b'*' && byte_at(bytes, at.saturating_add(1)) == b'/' {
+            return Some(at);
+        }
+    }
+    None
+}
+
+/// Proposes `(*` and `*)` for the ends of the comment of C at the place.
+pub(crate) fn exchange_stars(cx: &Context<'_>, to: &mut Telling) {
+    let from = cx.place.from as usize;
+    let behind = from.saturating_add(2);
+    let Some(end) = end_of_stars(cx.bytes, behind) else {
+        return;
+    };
+    let last = span_at(end, end.saturating_add(2));
+    let mut words = joined(cx, &["write `(*` for `/*` at "]);
+    words.put_place(cx, cx.place.from);
+    words.put(", and `*)` for `*/` at ");
+    words.put_place(cx, last.from);
+    to.propose(cx, 0, words);
+    to.change(span_at(from, behind), joined(cx, &["(*"]));
+    to.change(last, joined(cx, &["*)"]));
+}

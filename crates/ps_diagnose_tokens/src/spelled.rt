@@ -40,8 +40,15 @@ const WORDS: [&str; 27] = [
 // The most letters of a name that is compared with them.
 const MOST: usize = 12;
 
-// The word that a name is near by spelling, if there is one.
-fn word_near(cx: &Context<'_>, name: &[u8]) -> Result<Option<&'static str>, AllocError> {
+// The program's parameters.
+const FILES: [&str; 2] = ["input", "output"];
+
+// The one of some words that a name is near by spelling, if there is one.
+fn word_near(
+    cx: &Context<'_>,
+    name: &[u8],
+    words: &[&'static str],
+) -> Result<Option<&'static str>, AllocError> {
     let mut small = empty(cx.alloc);
     for byte in name.iter() {
         small.put_byte(byte.to_ascii_lowercase());
@@ -49,8 +56,8 @@ fn word_near(cx: &Context<'_>, name: &[u8]) -> Result<Option<&'static str>, Allo
     if small.has_failed {
         return Err(AllocError);
     }
-    match nearest(cx.alloc, small.string.as_str(), WORDS.as_slice())? {
-        Some(number) => Ok(WORDS.get(number).copied()),
+    match nearest(cx.alloc, small.string.as_str(), words)? {
+        Some(number) => Ok(words.get(number).copied()),
         None => Ok(None),
     }
 }
@@ -62,16 +69,25 @@ fn may_be_word(cx: &Context<'_>, at: usize) -> bool {
     fits && cx.is_of(at, &[Kind::Name]) && !cx.seems_declared(at)
 }
 
-// Proposes the word that a token is near by spelling.
-fn propose_word(cx: &Context<'_>, to: &mut Telling, at: usize) {
-    if !may_be_word(cx, at) {
-        return;
-    }
-    match word_near(cx, cx.text(at)) {
+// Proposes the one of some words that a token is near by spelling.
+fn propose_near(cx: &Context<'_>, to: &mut Telling, at: usize, words: &[&'static str]) {
+    match word_near(cx, cx.text(at), words) {
         Ok(Some(word)) => exchange(cx, to, 3, cx.span(at), word),
         Ok(None) => {}
         Err(AllocError) => to.has_failed = true,
     }
+}
+
+// Proposes the word of the language that a token is near by spelling.
+fn propose_word(cx: &Context<'_>, to: &mut Telling, at: usize) {
+    if may_be_word(cx, at) {
+        propose_near(cx, to, at, WORDS.as_slice());
+    }
+}
+
+/// Proposes `input` or `output` for the name at the place.
+pub(crate) fn propose_file(cx: &Context<'_>, to: &mut Telling) {
+    propose_near(cx, to, cx.at, FILES.as_slice());
 }
 
 /// Proposes words of the language for the token at the place and the one before it.

@@ -32,8 +32,8 @@ fn depth_behind(depth: usize, goes_deeper: bool, goes_up: bool) -> usize {
     }
 }
 
-/// The first token from one on, at its depth, that is of one of some kinds, or that closes what is around; the number of all tokens where there is
-/// none.
+/// The first token from one on, at its depth, that is of one of some kinds, or that closes what is around; the number
+/// of all tokens where there is none.
 pub(crate) fn next_of(cx: &Context<'_>, from: usize, kinds: &[Kind]) -> usize {
     let mut depth: usize = 0;
     let tokens = cx.tokens.get(from..).unwrap_or(&[]);

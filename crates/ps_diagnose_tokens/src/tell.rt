@@ -1,5 +1,5 @@
-//! Putting a draft together: its sentence, second places, helps and changes that are worth a trial. Where memory is refused, that is remembered to
-//! the end, and what would have been told is left out.
+//! Putting a draft together: its sentence, second places, helps and changes that are worth a trial. Where memory is
+//! refused, that is remembered to the end, and what would have been told is left out.
 
 use crate::context::Context;
 use ps_diagnose::{Draft, Trial};

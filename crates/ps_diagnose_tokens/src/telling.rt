@@ -3,24 +3,25 @@
 use crate::bounds::propose_ends;
 use crate::compared::propose_parentheses;
 use crate::context::Context;
-use crate::habits::{move_variables, propose_compound};
+use crate::habits::{enclose, move_variables};
 use crate::kinds::declared_by;
 use crate::left_out::advise_left_out;
 use crate::letters::byte_at;
+use crate::other::propose_computed;
 use crate::places::{number_of, part_of, span_of};
 use crate::reals::note_others;
 use crate::rows::{Part, other_pascal};
 use crate::rule::{More, Place, Step, Steps};
 use crate::scanned::{
-    close_line, close_string, double_apostrophe, fill_string, label_comment, open_earlier,
-    propose_closed, separate, shown_from,
+    close_line, close_string, double_apostrophe, exchange_point, fill_string, label_comment,
+    open_earlier, propose_closed, separate, shown_from,
 };
 use crate::signs::{
     exchange_code, exchange_dash, exchange_hexadecimal, exchange_quotes, exchange_sign,
     exchange_spaces, letter_here, put_code,
 };
-use crate::slashes::{exchange_hash, exchange_slashes};
-use crate::spelled::propose_words;
+use crate::slashes::{exchange_hash, exchange_slashes, exchange_stars};
+use crate::spelled::{propose_file, propose_words};
 use crate::tell::{
     Telling, Text, exchange_text, joined, move_up, place_of, put_before, put_behind, refusal,
     shown, take_away,
@@ -89,6 +90,7 @@ fn propose(cx: &Context<'_>, to: &mut Telling, step: &'static Step) {
             put_behind(cx, to, *cost, at_or_here(cx, *place), told, put)
         }
         Step::Move(last, before) => propose_move(cx, to, *last, *before),
+        Step::Enclose(first, behind) => enclose(cx, to, *first, *behind),
         Step::ExchangeSign(sign, put) => exchange_sign(cx, to, sign, put),
         Step::CloseLine(told, put) => close_line(cx, to, told, put),
         _ => {}
@@ -102,12 +104,13 @@ fn tell_more(cx: &Context<'_>, to: &mut Telling, more: &More) {
         More::Beginning => advise_beginning(cx, to),
         More::Apostrophe => propose_closed(cx, to),
         More::Words => propose_words(cx, to),
+        More::Files => propose_file(cx, to),
         More::Parentheses => propose_parentheses(cx, to),
         More::Braces => exchange_slashes(cx, to),
         More::Reals => note_others(cx, to),
         More::LeftOut => advise_left_out(cx, to),
         More::Variables => move_variables(cx, to),
-        More::Compound => propose_compound(cx, to),
+        More::Divided => propose_computed(cx, to, " div ", cx.at),
         _ => tell_of_bytes(cx, to, more),
     }
 }
@@ -128,6 +131,8 @@ fn tell_of_bytes(cx: &Context<'_>, to: &mut Telling, more: &More) {
         More::EmptyString => fill_string(cx, to),
         More::Separators => separate(cx, to),
         More::Hash => exchange_hash(cx, to),
+        More::Bounds => exchange_point(cx, to),
+        More::Stars => exchange_stars(cx, to),
         _ => {}
     }
 }

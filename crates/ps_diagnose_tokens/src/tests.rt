@@ -2,7 +2,7 @@
 
 use crate::context::Context;
 use crate::kinds::OPERATORS;
-use crate::letters::byte_at;
+use crate::letters::{Class, byte_at, byte_before, is_in as is_of_class};
 use crate::places::{number_of, span_of};
 use crate::rule::{Fact, Place, Step, Steps};
 use crate::signs::sign_here;
@@ -194,6 +194,9 @@ fn is_so_before(cx: &Context<'_>, fact: &Fact) -> bool {
             cx.bytes,
             (cx.place.from as usize).saturating_add(1),
         ).is_ascii_digit(),
+        Fact::BehindLetter => {
+            is_of_class(Class::Name, byte_before(cx.bytes, cx.place.from as usize))
+        }
         _ => false,
     }
 }

@@ -141,8 +141,8 @@ fn has_letters(name: &[u8]) -> bool {
     false
 }
 
-/// Proposes the name with an underscore that stands at the place without it, wherever it stands, and all others; or to take away one of underscores
-/// alone.
+/// Proposes the name with an underscore that stands at the place without it, wherever it stands, and all others; or to
+/// take away one of underscores alone.
 pub(crate) fn exchange_underscores(cx: &Context<'_>, to: &mut Telling) {
     let name = name_at(cx.bytes, cx.place.from as usize);
     if !has_letters(cx.piece(name)) {

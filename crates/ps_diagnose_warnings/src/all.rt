@@ -5,7 +5,7 @@ use crate::directives::directive;
 use crate::empty::empty;
 use crate::finding::{Finding, Warning};
 use crate::hidden::told_of;
-use crate::indented::indented;
+use crate::indented::{indented, misplaced};
 use crate::lost::lost;
 use crate::reading::{body_of, uses_of};
 use crate::tell::Teller;
@@ -83,6 +83,7 @@ impl Findings {
                 }
                 self.add(found);
             }
+            self.add(misplaced(text, part));
         }
     }
 
@@ -181,8 +182,8 @@ fn outlined(
     warnings_of(alloc, &text)
 }
 
-/// What is told of an accepted text, in the order of the text: a warning of a statement by the word that the statement begins with. Where
-/// it isn't sure that a reader would say the same, nothing is told.
+/// What is told of an accepted text, in the order of the text: a warning of a statement by the word that the statement
+/// begins with. Where it isn't sure that a reader would say the same, nothing is told.
 pub fn warnings(
     alloc: Global,
     source: &Source<'_>,

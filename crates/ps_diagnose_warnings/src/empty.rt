@@ -27,7 +27,8 @@ fn is_followed(text: &Text<'_>, part: &Construction) -> bool {
         || text.is_first(next) && is_deeper(text.lead(next), text.lead(part.first))
 }
 
-// Whether a construction is ended by its `;`, and not meant so for what its condition does, as a call of a routine that changes something.
+// Whether a construction is ended by its `;`, and not meant so for what its condition does, as a call of a routine that
+// changes something.
 fn is_ended(text: &Text<'_>, uses: &Uses, part: &Construction) -> bool {
     text.is(part.body, Kind::Semicolon)
         && (!uses.has(CALLS, part.first, part.body) || is_followed(text, part))

@@ -1,9 +1,9 @@
 //! Lines that are indented as if they belonged to the statement before them.
 
 use crate::finding::Finding;
-use crate::rows::INDENTED;
+use crate::rows::{ELSE_INDENTED, INDENTED};
 use crate::text::{Text, is_deeper};
-use ps_diagnose_outline::Construction;
+use ps_diagnose_outline::{Construct, Construction};
 use ps_scan::Kind;
 
 // Whether a construction ends with a `;` behind a statement, and another one begins a line behind that.
@@ -57,5 +57,48 @@ pub(crate) fn indented(text: &Text<'_>, part: &Construction) -> Option<Finding> 
     let mut found = Finding::new(INDENTED, text.span(next), word);
     found.label = word;
     found.at = text.span(part.end).from;
+    Some(found)
+}
+
+// Whether an `if` without an `else` begins the line that another line is indented as.
+fn is_alike(text: &Text<'_>, part: &Construction, lead: &[u8]) -> bool {
+    matches!(part.construct, Construct::If)
+        && !part.has_turned
+        && text.is_first(part.first)
+        && text.lead(part.first) == lead
+}
+
+// The `if` around a construction that an `else` with such blanks before it seems to be of.
+fn seeming_if(text: &Text<'_>, part: &Construction, lead: &[u8]) -> Option<Construction> {
+    let mut around = text.constructions().get(part.within)?;
+    for _ in text.constructions() {
+        if !around.is_prefix() {
+            return None;
+        }
+        if is_alike(text, around, lead) {
+            return Some(*around);
+        }
+        around = text.constructions().get(around.within)?;
+    }
+    None
+}
+
+/// The `else` of an `if`, if it looks as if it were that of one further out.
+pub(crate) fn misplaced(text: &Text<'_>, part: &Construction) -> Option<Finding> {
+    let other = part.body.checked_sub(1)?;
+    let lead = text.lead(other);
+    let is_apart = part.has_turned
+        && text.is(other, Kind::Else)
+        && text.is_first(other)
+        && text.is_first(part.first)
+        && is_deeper(text.lead(part.first), lead);
+    if !is_apart {
+        return None;
+    }
+    let outer = seeming_if(text, part, lead)?;
+    let word = text.span(other);
+    let mut found = Finding::new(ELSE_INDENTED, word, word);
+    found.label = text.span(part.first);
+    found.at = text.span(outer.first).from;
     Some(found)
 }

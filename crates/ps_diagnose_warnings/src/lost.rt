@@ -11,7 +11,8 @@ use ps_text::Span;
 // The most tokens that a statement is looked through.
 const FURTHEST: usize = 200;
 
-// The first token behind the statement that a token is of, where no other statement stands in that; of a long one a token of it.
+// The first token behind the statement that a token is of, where no other statement stands in that; of a long one a
+// token of it.
 fn end_of_statement(text: &Text<'_>, at: usize) -> usize {
     let furthest = at.saturating_add(FURTHEST);
     for next in at..furthest {

@@ -1,6 +1,7 @@
 //! What is told, in words.
 //!
-//! A text has its parts between bars: `@` stands for the word that is told, `%` for names or a value, `#` for a line and a column.
+//! A text has its parts between bars: `@` stands for the word that is told, `%` for names or a value, `#` for a line
+//! and a column.
 
 /// A kind of warnings, and what is told in one case of it; a part that is empty isn't told.
 pub(crate) struct Row {
@@ -54,7 +55,9 @@ pub(crate) const DIRECTIVE: usize = 17;
 
 pub(crate) const OPERANDS: usize = 18;
 
-const COUNT: usize = 19;
+pub(crate) const ELSE_INDENTED: usize = 19;
+
+const COUNT: usize = 20;
 
 const TAKE_AWAY: &str = "take away `;` at |#";
 
@@ -223,6 +226,14 @@ pub(crate) static ROWS: [Row; COUNT] = [
         sentence: "`|@|` is a comment here",
         label: "",
         help: "It is a comment here: both operands of `and` and `or` are always evaluated.",
+        trial: "",
+    },
+    Row {
+        number: 82,
+        name: "Indentation",
+        sentence: "this `|@|` stands as if it were that of another `if`, and belongs to the nearest",
+        label: "its `if`",
+        help: "it is that of the `if` at |#| where the nearer one stands between `begin` and `end`",
         trial: "",
     },
 ];

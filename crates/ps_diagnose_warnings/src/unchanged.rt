@@ -115,7 +115,8 @@ impl<'a> Loop<'a> {
         names.add(at);
     }
 
-    // The names of a condition, if all of it is as it was, after what the loop does; none where there are too many to be told.
+    // The names of a condition, if all of it is as it was, after what the loop does; none where there are too many to
+    // be told.
     fn names(&self, from: usize, to: usize) -> Names {
         let mut names = Names::none();
         for at in from..to {

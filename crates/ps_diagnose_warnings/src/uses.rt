@@ -40,7 +40,8 @@ pub(crate) struct Body {
     pub(crate) region: u32,
 }
 
-/// What a program does with its variables, as one sorted list: of each note what it is, the variable that it is of, and a token.
+/// What a program does with its variables, as one sorted list: of each note what it is, the variable that it is of, and
+/// a token.
 #[derive(Drop)]
 pub(crate) struct Uses {
     keys: Vec<u64>,
