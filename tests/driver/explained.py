@@ -188,11 +188,13 @@ def held(page: Page, session: Block, program: str) -> List[str]:
 
 
 def wanted_titles() -> Set[str]:
-    """The titles that there must be: of each refusal, error, stop, machine fault and status that the documents tell."""
-    refusals, language = text_of("docs/REFUSALS.md"), text_of("docs/LANGUAGE.md")
+    """The titles that there must be: of each refusal, warning, error, stop and machine fault that the documents tell."""
+    refusals, language, messages = (text_of(f"docs/{name}.md") for name in ("REFUSALS", "LANGUAGE", "MESSAGES"))
     titles = {f"{number} {name}" for number, name in re.findall(r"(?m)^\| (\d+) \| ([A-Z]\w+) \|", refusals)}
     (first, names), = re.findall(r"(?m)^\| (\d+) to \d+ \| ([\w, ]+) \|", refusals)
     titles |= {f"{number} {name}" for number, name in enumerate(names.split(", "), int(first))}
+    warnings = re.findall(r"(?m)^### (\d+) (\w+)$", messages[messages.index("## Warnings") :])
+    titles |= {f"Warning {number}: {name}" for number, name in warnings}
     errors = re.findall(r"(?m)^\| (\d+) \| ([a-z ]+) \|", language[language.index("## Errors") :])
     titles |= {f"{'Stop' if int(number) > 11 else 'Error'} {number}: {words}" for number, words in errors}
     return titles | {f"Machine fault: {fault}" for fault in ("BadWord", "BadAddress", "BadDivisor", "BadJump", "UnknownTrap")}
@@ -204,7 +206,7 @@ def wanted_statuses() -> Set[str]:
 
 
 def all_are_there() -> List[str]:
-    """Each refusal, error, stop, status and fault has a page, and no page is of something else."""
+    """Each refusal, warning, error, stop, status and fault has a page, and no page is of something else."""
     titles = [page.title for page in pages()]
     others = {title for title in titles if re.match(r"Status \d: |Fault: ", title)}
     wrong = [f"no page of {title}" for title in sorted(wanted_titles() - set(titles))]
@@ -267,7 +269,7 @@ def trials_of(page: Page, program: str) -> Iterator[Trial]:
 
 def trials(program: str) -> List[Trial]:
     """All that the pages have to try over a program."""
-    found = [Trial("each refusal, error, status and fault has a page", PAGES, all_are_there)]
+    found = [Trial("each refusal, warning, error, status and fault has a page", PAGES, all_are_there)]
     for page in pages():
         found.append(Trial(f"{page.title}: form", page.place(page.line), lambda page=page: parts_of(page) + names_of(page)))
         found.extend(trials_of(page, program))

@@ -42,6 +42,14 @@ pages =
     page_names (codes "64 BadTable") (codes "BadTable") (codes "64") (codes "refusal 64") ∷
     page_names (codes "70 BudgetTooLarge") (codes "BudgetTooLarge") (codes "70") (codes "refusal 70") ∷
     page_names (codes "71 BudgetUneven") (codes "BudgetUneven") (codes "71") (codes "refusal 71") ∷
+    page_names (codes "Warning 81: EmptyStatement") (codes "EmptyStatement") (codes "81") (codes "warning 81") ∷
+    page_names (codes "Warning 82: Indentation") (codes "Indentation") (codes "82") (codes "warning 82") ∷
+    page_names (codes "Warning 83: NeverAssigned") (codes "NeverAssigned") (codes "83") (codes "warning 83") ∷
+    page_names (codes "Warning 84: LoopUnchanged") (codes "LoopUnchanged") (codes "84") (codes "warning 84") ∷
+    page_names (codes "Warning 85: ValueParameter") (codes "ValueParameter") (codes "85") (codes "warning 85") ∷
+    page_names (codes "Warning 86: Hidden") (codes "Hidden") (codes "86") (codes "warning 86") ∷
+    page_names (codes "Warning 87: Unreached") (codes "Unreached") (codes "87") (codes "warning 87") ∷
+    page_names (codes "Warning 88: Directive") (codes "Directive") (codes "88") (codes "warning 88") ∷
     page_names (codes "Error 1: integer overflow") (codes "integer overflow") (codes "1") (codes "error 1") ∷
     page_names (codes "Error 2: division by zero") (codes "division by zero") (codes "2") (codes "error 2") ∷
     page_names (codes "Error 3: modulus below one") (codes "modulus below one") (codes "3") (codes "error 3") ∷

@@ -8,6 +8,7 @@ ghost use Rattle.pascal_pages.specs.Pages.{pages};
 mod endings;
 mod refusals;
 mod texts;
+mod warnings;
 
 pub use texts::COUNT;
 

@@ -4,10 +4,10 @@ ghost use Rattle.std.specs.Prelude.{◌≡◌, option_map, slice_get};
 ghost use Rattle.pascal_pages.specs.Asked.{names_of};
 ghost use Rattle.pascal_pages.specs.Pages.{pages};
 
-use crate::{Page, endings, refusals};
+use crate::{Page, endings, refusals, warnings};
 
 /// How many pages there are.
-pub const COUNT: usize = 66;
+pub const COUNT: usize = 74;
 
 // The page with a number, counted from 0; none behind the last.
 pub(crate) fn numbered(at: usize) -> Option<Page>
@@ -52,34 +52,42 @@ pub(crate) fn numbered(at: usize) -> Option<Page>
         35 => refusals::refusal_64_badtable(),
         36 => refusals::refusal_70_budgettoolarge(),
         37 => refusals::refusal_71_budgetuneven(),
-        38 => endings::error_1_integer_overflow(),
-        39 => endings::error_2_division_by_zero(),
-        40 => endings::error_3_modulus_below_one(),
-        41 => endings::error_4_value_out_of_range(),
-        42 => endings::error_5_index_out_of_range(),
-        43 => endings::error_6_nil_pointer(),
-        44 => endings::error_7_no_case_constant(),
-        45 => endings::error_8_set_member_out_of_range(),
-        46 => endings::error_9_end_of_input(),
-        47 => endings::error_10_not_an_integer(),
-        48 => endings::error_11_field_width_below_one(),
-        49 => endings::stop_12_out_of_stack(),
-        50 => endings::stop_13_out_of_heap(),
-        51 => endings::status_0_all_is_well(),
-        52 => endings::status_1_refused_or_not_to_be_read_or_written(),
-        53 => endings::status_2_an_error_of_the_program(),
-        54 => endings::status_3_out_of_stack_or_heap(),
-        55 => endings::status_4_step_limit(),
-        56 => endings::status_5_machine_fault(),
-        57 => endings::fault_cannot_read(),
-        58 => endings::fault_cannot_write(),
-        59 => endings::fault_input_fault(),
-        60 => endings::fault_output_fault(),
-        61 => endings::machine_fault_badword(),
-        62 => endings::machine_fault_badaddress(),
-        63 => endings::machine_fault_baddivisor(),
-        64 => endings::machine_fault_badjump(),
-        65 => endings::machine_fault_unknowntrap(),
+        38 => warnings::warning_81_emptystatement(),
+        39 => warnings::warning_82_indentation(),
+        40 => warnings::warning_83_neverassigned(),
+        41 => warnings::warning_84_loopunchanged(),
+        42 => warnings::warning_85_valueparameter(),
+        43 => warnings::warning_86_hidden(),
+        44 => warnings::warning_87_unreached(),
+        45 => warnings::warning_88_directive(),
+        46 => endings::error_1_integer_overflow(),
+        47 => endings::error_2_division_by_zero(),
+        48 => endings::error_3_modulus_below_one(),
+        49 => endings::error_4_value_out_of_range(),
+        50 => endings::error_5_index_out_of_range(),
+        51 => endings::error_6_nil_pointer(),
+        52 => endings::error_7_no_case_constant(),
+        53 => endings::error_8_set_member_out_of_range(),
+        54 => endings::error_9_end_of_input(),
+        55 => endings::error_10_not_an_integer(),
+        56 => endings::error_11_field_width_below_one(),
+        57 => endings::stop_12_out_of_stack(),
+        58 => endings::stop_13_out_of_heap(),
+        59 => endings::status_0_all_is_well(),
+        60 => endings::status_1_refused_or_not_to_be_read_or_written(),
+        61 => endings::status_2_an_error_of_the_program(),
+        62 => endings::status_3_out_of_stack_or_heap(),
+        63 => endings::status_4_step_limit(),
+        64 => endings::status_5_machine_fault(),
+        65 => endings::fault_cannot_read(),
+        66 => endings::fault_cannot_write(),
+        67 => endings::fault_input_fault(),
+        68 => endings::fault_output_fault(),
+        69 => endings::machine_fault_badword(),
+        70 => endings::machine_fault_badaddress(),
+        71 => endings::machine_fault_baddivisor(),
+        72 => endings::machine_fault_badjump(),
+        73 => endings::machine_fault_unknowntrap(),
         _ => return None,
     };
     Some(page)

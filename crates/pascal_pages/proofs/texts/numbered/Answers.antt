@@ -6,5 +6,5 @@ use Rattle.pascal_pages.proofs.texts.numbered.Goals as goal
 
 pub returns-in_default : goal.returns-in_default
 returns-in_default c =
-    let past : 66 ≤ c.args.at = omega (arith, c.in_default) in
+    let past : 74 ≤ c.args.at = omega (arith, c.in_default) in
     sym (slice_get_past pages c.args.at past)
