@@ -1,8 +1,9 @@
 -- What is told of texts, and of those that changes make: what the front end says.
-use Rattle.std.specs.Prelude.{◌≡◌, ⊤, ℕ, Bool, true, false, List, [], ◌∷◌, All, unwrap_or}
+use Rattle.std.specs.Prelude.{◌≡◌, ◌<◌, ◌≤◌, ⊤, ℕ, Bool, true, false, List, [], ◌∷◌, All, Option, Some, None, unwrap_or}
 use Rattle.ps_build.specs.Accepts.{IsAccepted, IsRefused}
 use Rattle.ps_build.specs.Headline.{Compiles}
-use Rattle.ps_build.specs.Refusals.{line_of, name_of, number_of}
+use Rattle.ps_build.specs.Refusals.{line_of, name_of, number_of, place_of}
+use Rattle.ps_build.specs.declared.refusal.Place.{Place}
 use Rattle.ps_build.specs.declared.refusal.Refusal.{Refusal}
 use Rattle.ps_build.specs.declared.refusal.Refusal.TheVariants.{OutOfMemory}
 use Rattle.ps_diagnose.specs.Changes.{changed_from}
@@ -14,6 +15,7 @@ use Rattle.ps_advise.specs.declared.answer.Advice.{Advice}
 use Rattle.ps_advise.specs.declared.mends.Graded.{Graded}
 use Rattle.ps_advise.specs.declared.rest.Rest.{Rest}
 use Rattle.ps_advise.specs.declared.trial.Verdict.{Verdict}
+use Rattle.ps_text.specs.declared.Span.{Span}
 use Rattle.ps_advise.specs.declared.trial.Verdict.TheVariants.{Accepted, Refused}
 
 -- the text is refused, and not for want of memory
@@ -63,15 +65,34 @@ IsTold text false = (refusal : Refusal) × IsAtFault text refusal
 abbrev pub Names : Refusal → Diagnostic → Type 0
 Names refusal told = (told.number ≡ number_of refusal) × (told.name.now ≡ name_of refusal)
 
+-- A span shows a place: it begins there, and doesn't end before it. The numbers up to 12 are those of characters, which
+-- are told whole, and of comments and strings, which are told to the end of their line.
+abbrev pub Shows : ℕ → Place → Span → Type 0
+Shows number place span = (span.from ≡ place.from) × (place.to ≤ span.to) × (12 < number → span.to ≡ place.to)
+
+-- what is told has a place where the refusal has one
+abbrev pub IsPlaced : ℕ → Option Place → Option Span → Type 0
+IsPlaced number (Some place) (Some span) = Shows number place span
+IsPlaced number None None = ⊤
+IsPlaced number _ _ = ⊥
+
+-- what is told has the number, the name and the place of a refusal
+abbrev pub Reports : Refusal → Diagnostic → Type 0
+Reports refusal told = Names refusal told × IsPlaced (number_of refusal) (place_of refusal) told.place
+
+-- the text is still the one that was given, and this is its refusal
+abbrev pub IsFirst : Refusal → Rest → Type 0
+IsFirst refusal rest = (rest.refusal ≡ refusal) × (rest.is_whole ≡ true)
+
 -- nothing is told yet, or a refusal first
 abbrev pub MayBegin : Refusal → List Diagnostic → Type 0
 MayBegin refusal [] = ⊤
-MayBegin refusal (told ∷ rest) = Names refusal told
+MayBegin refusal (told ∷ rest) = Reports refusal told
 
 -- a refusal is told first
 abbrev pub Begins : Refusal → List Diagnostic → Type 0
 Begins refusal [] = ⊥
-Begins refusal (told ∷ rest) = Names refusal told
+Begins refusal (told ∷ rest) = Reports refusal told
 
 -- where a text is refused, its refusal is told first
 abbrev pub BeginsAsRefused : List ℕ → Bool → List Diagnostic → Type 0

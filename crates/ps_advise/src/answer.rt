@@ -1,12 +1,14 @@
 //! All that is told of a text.
 
 ghost use Rattle.std.specs.Prelude.{◌≡◌, [], ℕ, IfOk, List, OnOk, false};
-ghost use Rattle.ps_advise.specs.Trials.{Begins, HaveMendsOf, IsAdviceOn, IsRestOf, MayBegin, Names};
+ghost use Rattle.ps_advise.specs.Trials.{Begins, HaveMendsOf, IsAdviceOn, IsFirst, IsPlaced, IsRestOf, MayBegin, Reports};
+ghost use Rattle.ps_build.specs.Refusals.{number_of, place_of};
 
 use crate::rest::{Rest, goes_on, tell_next};
 use crate::warned::warned;
 use ps_build::{Refusal, build};
 use ps_diagnostic::{Diagnostic, Severity};
+use ps_text::Span;
 use std::alloc::{AllocError, Global};
 
 // So many faults of a text are told.
@@ -40,16 +42,28 @@ fn sentence(refusal: Refusal) -> &'static str {
     }
 }
 
-fn without_place(alloc: Global, refusal: Refusal) -> Result<Diagnostic, AllocError>
+// Where a refusal is told, if it has a place.
+fn place_told(refusal: Refusal) -> Option<Span>
+    ensures { IsPlaced (number_of refusal) (place_of refusal) result }
+{
+    let place = refusal.place()?;
+    Some(Span {
+        from: place.from,
+        to: place.to,
+    })
+}
+
+// What is told of a refusal of which no more is known.
+fn plain(alloc: Global, refusal: Refusal) -> Result<Diagnostic, AllocError>
     ensures mends { IfOk result (λ told. told.mends.items ≡ []) }
-    ensures names { IfOk result (Names refusal) }
+    ensures reports { IfOk result (Reports refusal) }
 {
     Ok(Diagnostic {
         severity: Severity::Error,
         number: refusal.number(),
         name: refusal.name(),
         text: String::from_str(alloc, sentence(refusal))?,
-        place: None,
+        place: place_told(refusal),
         labels: Vec::new(alloc),
         expected: Vec::new(alloc),
         mends: Vec::new(alloc),
@@ -68,7 +82,7 @@ fn tell_one(
     ensures told { (text : List ℕ) → IsRestOf text rest.old → HaveMendsOf text all.old.items
         → OnOk result (HaveMendsOf text all.new.items × IsRestOf text rest.new) }
     ensures first { (refusal : Refusal) → MayBegin refusal all.old.items
-        → (all.old.items ≡ [] → rest.old.refusal ≡ refusal)
+        → (all.old.items ≡ [] → IsFirst refusal rest.old)
         → IfOk result (λ is_next. MayBegin refusal all.new.items × (all.new.items ≡ [] → is_next ≡ false)) }
 {
     let step = tell_next(alloc, rest, all)?;
@@ -89,7 +103,7 @@ fn tell_each(
     ensures told { (text : List ℕ) → IsRestOf text rest.old → HaveMendsOf text all.old.items
         → OnOk result (HaveMendsOf text all.new.items) }
     ensures first { (refusal : Refusal) → MayBegin refusal all.old.items
-        → (all.old.items ≡ [] → rest.old.refusal ≡ refusal) → OnOk result (MayBegin refusal all.new.items) }
+        → (all.old.items ≡ [] → IsFirst refusal rest.old) → OnOk result (MayBegin refusal all.new.items) }
 {
     for _ in 0..MOST_FAULTS {
         if !tell_one(alloc, rest, all, wants)? {
@@ -111,7 +125,7 @@ fn with_one(
     if !all.is_empty() {
         return Ok(all);
     }
-    let told = without_place(alloc, refusal)?;
+    let told = plain(alloc, refusal)?;
     all.push(told)?;
     Ok(all)
 }

@@ -1,6 +1,6 @@
 //! What is told of one refusal.
 
-ghost use Rattle.std.specs.Prelude.{◌≡◌, ℕ, IfOk, IfSome, List, OnOk};
+ghost use Rattle.std.specs.Prelude.{◌≡◌, ℕ, IfOk, IfSome, List, OnOk, Some};
 ghost use Rattle.ps_advise.specs.Trials.{AreGradedOf, HasMendsOf, IsMendOf, Names};
 
 use crate::budget::Budget;
@@ -130,6 +130,7 @@ fn diagnostic_of(
 ) -> Diagnostic
     ensures mends { result.mends ≡ mends }
     ensures names { Names refusal result }
+    ensures place { result.place ≡ Some place }
 {
     let Draft {
         text,
@@ -181,6 +182,7 @@ fn told_by_grammar(
 ) -> Result<Told, AllocError>
     ensures mends { IfOk result (λ told. HasMendsOf faulty.entry.source.now told.diagnostic) }
     ensures names { IfOk result (λ told. Names faulty.entry.refusal told.diagnostic) }
+    ensures place { IfOk result (λ told. told.diagnostic.place ≡ Some fault.now.place) }
 {
     let around = around_place(alloc, faulty.source.bytes(), faulty.tokens, faulty.at)?;
     let Drafted { draft, mends } = drafted_by_grammar(alloc, faulty, fault, &around, budget)?;
@@ -211,6 +213,7 @@ fn told_by_reason(
 ) -> Result<Told, AllocError>
     ensures mends { IfOk result (λ told. HasMendsOf faulty.entry.source.now told.diagnostic) }
     ensures names { IfOk result (λ told. Names faulty.entry.refusal told.diagnostic) }
+    ensures place { IfOk result (λ told. told.diagnostic.place ≡ Some fault.now.place) }
 {
     let Drafted { draft, mends } = drafted_by_reason(alloc, faulty, fault, budget)?;
     let mends = best_of(alloc, faulty.source.bytes(), mends)?;
@@ -232,6 +235,7 @@ pub(crate) fn told_of_fault(
 ) -> Result<Told, AllocError>
     ensures mends { IfOk result (λ told. HasMendsOf faulty.entry.source.now told.diagnostic) }
     ensures names { IfOk result (λ told. Names faulty.entry.refusal told.diagnostic) }
+    ensures place { IfOk result (λ told. told.diagnostic.place ≡ Some place) }
 {
     let fault = Fault {
         source: faulty.source,

@@ -1,5 +1,7 @@
 //! Places of a text, in words.
 
+ghost use Rattle.ps_advise.specs.Trials.{Shows};
+
 use ps_build::Place;
 use ps_scan::Token;
 use ps_text::Span;
@@ -71,7 +73,9 @@ fn line_end(text: &[u8], offset: u32) -> u32 {
 }
 
 /// The span of a refusal's place: where a comment is open all of its line, a string too; a character wholly.
-pub(crate) fn whole(text: &[u8], number: u8, place: Place) -> Span {
+pub(crate) fn whole(text: &[u8], number: u8, place: Place) -> Span
+    ensures { Shows number place result }
+{
     let from = place.from;
     let to = match number {
         10 => character_end(text, from),

@@ -1,7 +1,8 @@
 //! The faults of a text one after another.
 
-ghost use Rattle.std.specs.Prelude.{◌≡◌, [], ℕ, IfOk, IfSome, List, OnOk, false, true};
-ghost use Rattle.ps_advise.specs.Trials.{Begins, HasMendsOf, HaveMendsOf, IsRestOf, MayBegin, Names};
+ghost use Rattle.std.specs.Prelude.{◌≡◌, [], ℕ, IfOk, IfSome, List, OnOk, Some, false, true};
+ghost use Rattle.ps_advise.specs.Trials.{Begins, HasMendsOf, HaveMendsOf, IsFirst, IsRestOf, MayBegin, Reports};
+ghost use Rattle.ps_build.specs.Refusals.{place_of};
 
 use crate::budget::Budget;
 use crate::faults::{Told, told_of_fault};
@@ -37,7 +38,7 @@ impl Rest {
     /// A text and its first fault.
     pub(crate) fn new(alloc: Global, text: &[u8], refusal: Refusal) -> Result<Rest, AllocError>
         ensures whole { IfOk result (IsRestOf text.now) }
-        ensures refused { IfOk result (λ rest. rest.refusal ≡ refusal) }
+        ensures first { IfOk result (IsFirst refusal) }
     {
         Ok(Rest {
             text: Vec::from_slice(alloc, text)?,
@@ -61,8 +62,9 @@ fn told_at(
     place: Place,
     budget: &mut Budget,
 ) -> Result<Option<Told>, AllocError>
+    requires { place_of refusal ≡ Some place }
     ensures mends { IfOk result (λ found. IfSome found (λ told. HasMendsOf text.now told.diagnostic)) }
-    ensures names { IfOk result (λ found. IfSome found (λ told. Names refusal told.diagnostic)) }
+    ensures reports { IfOk result (λ found. IfSome found (λ told. Reports refusal told.diagnostic)) }
 {
     let Ok(source) = Source::new(text) else {
         return Ok(None);
@@ -78,19 +80,20 @@ fn told_at(
     Ok(Some(told))
 }
 
-// Gives what is told the places that it had in the text at first. Mends are told of the first fault alone: those of later ones were
-// tried on a text that has no longer the earlier ones.
+// Gives what is told of a changed text the places that it had in the text at first. Mends are told of the first fault alone: those of
+// later ones were tried on a text that has no longer the earlier ones.
 fn place_back(alloc: Global, layers: &Layers, told: &mut Diagnostic, is_whole: bool)
     ensures mends { (text : List ℕ) → (is_whole ≡ true → HasMendsOf text told.old) → HasMendsOf text told.new }
-    ensures names { (refusal : Refusal) → Names refusal told.old → Names refusal told.new }
+    ensures whole { is_whole ≡ true → told.new ≡ told.old }
 {
+    if is_whole {
+        return;
+    }
     if let Some(place) = told.place {
         told.place = Some(layers.span_of(place));
     }
     layers.move_labels(&mut told.labels);
-    if !is_whole {
-        told.mends = Vec::new(alloc);
-    }
+    told.mends = Vec::new(alloc);
 }
 
 // Where the routine began at first, if there is one.
@@ -139,7 +142,8 @@ fn add_told(
         → OnOk result (HaveMendsOf text all.new.items) }
     ensures rest { (text : List ℕ) → IsRestOf text rest.old → IsRestOf text rest.new }
     ensures first { (refusal : Refusal) → MayBegin refusal all.old.items
-        → (all.old.items ≡ [] → Names refusal told.diagnostic) → OnOk result (Begins refusal all.new.items) }
+        → (all.old.items ≡ [] → Reports refusal told.diagnostic × (rest.old.is_whole ≡ true))
+        → OnOk result (Begins refusal all.new.items) }
 {
     let Told {
         mut diagnostic,
@@ -180,7 +184,7 @@ pub(crate) fn tell_next(
         → OnOk result (HaveMendsOf text all.new.items) }
     ensures rest { (text : List ℕ) → IsRestOf text rest.old → IsRestOf text rest.new }
     ensures first { (refusal : Refusal) → MayBegin refusal all.old.items
-        → (all.old.items ≡ [] → rest.old.refusal ≡ refusal)
+        → (all.old.items ≡ [] → IsFirst refusal rest.old)
         → IfOk result (λ step. MayBegin refusal all.new.items × (all.new.items ≡ [] → step.items ≡ [])) }
 {
     let Some(place) = rest.refusal.place() else {

@@ -13,4 +13,4 @@ pub returns-clause-first : goal.returns-clause-first
 returns-clause-first c =
     let refusal = c.args.refusal in
     c.with_one.ensures.first (c.in_ok-tell_each.ensures.first refusal
-    (none_begun refusal c.new-all.result.items c.new-all.ensures.items) (λ none. c.in_ok-rest.ensures.refused))
+    (none_begun refusal c.new-all.result.items c.new-all.ensures.items) (λ none. c.in_ok-rest.ensures.first))

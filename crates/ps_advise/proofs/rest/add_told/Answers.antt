@@ -1,4 +1,5 @@
-use Rattle.ps_advise.specs.Trials.{HasMendsOf}
+use Rattle.std.proofs.Common.{subst, sym}
+use Rattle.ps_advise.specs.Trials.{HasMendsOf, Reports}
 use Rattle.ps_advise.proofs.Added.{one_more}
 use Rattle.ps_advise.proofs.Beginning.{push_begins}
 use Rattle.ps_advise.proofs.rest.add_told.Goals as goal
@@ -9,4 +10,4 @@ returns-clause-told c text all told = one_more (HasMendsOf text) c.args.all.now.
 
 pub returns-clause-first : goal.returns-clause-first
 returns-clause-first c refusal may named = push_begins refusal c.args.all.now.items c.push.new.self.items _
-    c.in_ok-push.ensures.items may (λ none. c.place_back.ensures.names refusal (named none))
+    c.in_ok-push.ensures.items may (λ none. subst (Reports refusal) (sym (c.place_back.ensures.whole (named none).1)) (named none).0)
