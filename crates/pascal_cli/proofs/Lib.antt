@@ -1,3 +1,5 @@
+pub mod LimitsAgree
+pub mod CommandsAgree
 pub mod Agreement
 pub mod Answered
 pub mod Called

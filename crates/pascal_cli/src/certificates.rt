@@ -1,26 +1,17 @@
 //! Certificates: what is told of a text and its image, and what it is compared with.
 
-ghost use Rattle.std.specs.Prelude.{
-  ◌≡◌,
-  ◌⊎◌,
-  IfOk,
-  IfSome,
-  List,
-  map,
-  option_map,
-  string_bytes,
-  true,
-  ℕ,
-};
+mod verifying;
+
+ghost use Rattle.std.specs.Prelude.{◌≡◌, ◌⊎◌, IfOk, IfSome, List, map, option_map, string_bytes, true, ℕ};
 ghost use Rattle.pascal_certificate.specs.Form.{CertifiesWith};
 ghost use Rattle.ps_build.specs.Accepts.{IsRefused};
 ghost use Rattle.ps_build.specs.Headline.{Compiles};
 ghost use Rattle.pascal_cli.specs.Command as work;
 ghost use Rattle.pascal_cli.specs.Command.{request_in, work_of};
-ghost use Rattle.pascal_cli.specs.Certificates.{AreCertified, AreOthers, CertifiesSome, HasCertificate, HoldsNot};
-ghost use Rattle.pascal_cli.specs.Certificates.{IsBeside, IsBuiltOf, IsComparison, IsFound, IsNotBuilt, KnowsStack};
-ghost use Rattle.pascal_cli.specs.Certificates.{NoCertificate, NoneHolding, SomeCertificate, SomeCertified, SomeHolding, SomeOthers};
-ghost use Rattle.pascal_cli.specs.Certificates.{TellsOfStack, TellsStack, is_same, least_text, stack_told};
+ghost use Rattle.pascal_cli.specs.Certificates.{HasCertificate};
+ghost use Rattle.pascal_cli.specs.Certificates.{IsBeside, IsNotBuilt, KnowsStack};
+ghost use Rattle.pascal_cli.specs.Certificates.{NoCertificate, SomeCertificate};
+ghost use Rattle.pascal_cli.specs.Certificates.{TellsOfStack, TellsStack, least_text, stack_told};
 ghost use Rattle.pascal_cli.specs.Failures.{Answers, Keeps, Notes, Tells, has_failed};
 ghost use Rattle.pascal_cli.specs.Jobs.{IsStatus};
 
@@ -31,16 +22,14 @@ use crate::jobs::IMAGE_LIMIT;
 use crate::session::TEXT_LIMIT;
 use crate::transfer::{Counted, read_up_to};
 use crate::version::{KIT, SOURCES, TARGET, VERSION};
-use pascal_certificate::{
-    Comparison, Damage, Fact, Found, NOT_KNOWN, Names, Seal, certificate_of, compared, damage_of,
-    fits, parse, seal_of,
-};
+use pascal_certificate::{Fact, NOT_KNOWN, Seal, certificate_of, fits, seal_of};
 use ps_build::{Built, Refusal, build};
 use ps_needs_image::{Needed, needs_of};
 use ps_needs_least::Need;
 use std::alloc::{AllocError, Global};
 use std::rt::{Env, Files};
 use std::{env, fs, str};
+pub(crate) use verifying::verify;
 
 // Where the system shows the file of the program that runs.
 const PROGRAM_FILE: &str = "/proc/self/exe";
@@ -381,193 +370,3 @@ pub(crate) fn certify<R: Files + Print + Eprint + Input + Env + AllocGlobal>(
 }
 
 // ---- verify
-
-// Tells what is wrong with a certificate that is none.
-fn tell_damage<R: Eprint>(rt: &R, path: &str, damage: Damage) {
-    let _ = match damage {
-        Damage::NoCertificate => eprintln!(rt; "cannot verify {path}: it is no certificate"),
-        Damage::OtherForm => eprintln!(rt; "cannot verify {path}: it has another form"),
-        Damage::CarriageReturn(line) => {
-            eprintln!(rt; "cannot verify {path}: line {line} has a carriage return")
-        }
-        Damage::Line(line) => eprintln!(rt; "cannot verify {path}: line {line} is damaged"),
-        Damage::Cut(line) => eprintln!(rt; "cannot verify {path}: it is cut in line {line}"),
-        Damage::Behind => eprintln!(rt; "cannot verify {path}: it goes on behind its end"),
-    };
-}
-
-// Tells what was found: on standard output where all holds, else on standard error.
-fn tell_comparison<R: Print + Eprint>(rt: &R, failures: &mut Failures, comparison: &Comparison)
-    ensures { Keeps (has_failed failures.old) (has_failed failures.new) }
-{
-    if comparison.holds {
-        failures.print(rt, &comparison.told);
-    } else if let Ok(text) = str::from_utf8(&comparison.told) {
-        let _ = rt.eprint(text);
-    }
-}
-
-// Compares the values of a certificate with what was found of a source and an image.
-fn compared_found(
-    alloc: Global,
-    names: &Names<'_>,
-    values: &[&[u8]],
-    pair: &Pair,
-    found: &Found<'_, '_>,
-) -> Result<Comparison, AllocError>
-    requires found { IsFound pair.now.source.items pair.now.image.items found.now }
-    requires stack { (told : List ℕ) × TellsOfStack (map (λ value. value.now) found.now.maker.now) told
-        × TellsStack pair.now.source.items told }
-    ensures { IfOk result (IsComparison pair.now.source.items pair.now.image.items
-        (map (λ value. value.now) values.now)) }
-{
-    let _ = pair;
-    compared(alloc, names, values, found)
-}
-
-// Compares the values of a certificate with a source and an image, of which it is known whether the one is built as
-// the other.
-fn comparison<R: Files + Env + AllocGlobal>(
-    rt: &R,
-    names: &Names<'_>,
-    values: &[&[u8]],
-    pair: &Pair,
-    is_built: bool,
-) -> Result<Comparison, AllocError>
-    requires { IsBuiltOf pair.now.source.items pair.now.image.items is_built }
-    ensures { IfOk result (IsComparison pair.now.source.items pair.now.image.items
-        (map (λ value. value.now) values.now)) }
-{
-    let known = known_of(rt, &pair.source)?;
-    let source = seal_of(rt.alloc(), &pair.source)?;
-    let image = seal_of(rt.alloc(), &pair.image)?;
-    let told = maker(&known);
-    let found = Found {
-        source: &source,
-        image: &image,
-        maker: &told,
-        is_built,
-    };
-    compared_found(rt.alloc(), names, values, pair, &found)
-}
-
-// Whether a source is built as the image.
-fn is_same(beside: Beside) -> bool
-    ensures { result ≡ is_same beside }
-{
-    match beside {
-        Beside::Same => true,
-        Beside::Other => false,
-        Beside::Refused => false,
-    }
-}
-
-// Compares the values of a certificate with a source and an image that were read.
-fn compare_pair<R: Files + Eprint + Env + AllocGlobal>(
-    rt: &R,
-    failures: &mut Failures,
-    names: &Names<'_>,
-    values: &[&[u8]],
-    pair: &Pair,
-) -> Option<Comparison>
-    ensures compared { IfSome result (IsComparison pair.now.source.items pair.now.image.items
-        (map (λ value. value.now) values.now)) }
-    ensures noted { Notes result (has_failed failures.old) (has_failed failures.new) }
-{
-    let beside = built_beside(rt, failures, &pair.source, &pair.image)?;
-    failures.made(rt, comparison(rt, names, values, pair, is_same(beside)))
-}
-
-// Compares the values of a certificate with a source and an image that were read, and tells what was found.
-fn verify_pair<R: Files + Print + Eprint + Env + AllocGlobal>(
-    rt: &R,
-    failures: &mut Failures,
-    names: &Names<'_>,
-    values: &[&[u8]],
-    pair: &Pair,
-) -> bool
-    ensures { Tells result (has_failed failures.new)
-        (AreCertified pair.now.source.items pair.now.image.items (map (λ value. value.now) values.now))
-        (AreOthers pair.now.source.items pair.now.image.items (map (λ value. value.now) values.now)) }
-{
-    let Some(comparison) = compare_pair(rt, failures, names, values, pair) else {
-        return false;
-    };
-    tell_comparison(rt, failures, &comparison);
-    comparison.holds
-}
-
-// Reads a source and an image, and compares them with the values of a certificate.
-fn verify_files<R: Files + Print + Eprint + Input + Env + AllocGlobal>(
-    rt: &R,
-    failures: &mut Failures,
-    names: &Names<'_>,
-    values: &[&[u8]],
-) -> bool
-    ensures { Tells result (has_failed failures.new) (SomeCertified (map (λ value. value.now) values.now))
-        (SomeOthers (map (λ value. value.now) values.now)) }
-{
-    match read_pair(rt, failures, names.source, names.image) {
-        Some(pair) => verify_pair(rt, failures, names, values, &pair),
-        None => false,
-    }
-}
-
-// Compares a certificate with a source and an image.
-fn verify_text<R: Files + Print + Eprint + Input + Env + AllocGlobal>(
-    rt: &R,
-    failures: &mut Failures,
-    names: &Names<'_>,
-    certificate: &[u8],
-) -> bool
-    ensures { Tells result (has_failed failures.new) (CertifiesSome certificate.now) (HoldsNot certificate.now) }
-{
-    match failures.made(rt, parse(rt.alloc(), certificate)) {
-        Some(Some(values)) => verify_files(rt, failures, names, &values),
-        Some(None) => {
-            tell_damage(rt, names.certificate, damage_of(certificate));
-            false
-        }
-        None => false,
-    }
-}
-
-// Reads a certificate, and compares it with a source and an image.
-fn verify_paths<R: Files + Print + Eprint + Input + Env + AllocGlobal>(
-    rt: &R,
-    failures: &mut Failures,
-    names: &Names<'_>,
-) -> bool
-    ensures { Tells result (has_failed failures.new) SomeHolding NoneHolding }
-{
-    if !failures.are_apart(rt, &[names.certificate, names.source, names.image]) {
-        return false;
-    }
-    match failures.read(rt, names.certificate, CERTIFICATE_LIMIT) {
-        Some(text) => verify_text(rt, failures, names, &text),
-        None => false,
-    }
-}
-
-/// Compares the certificate at a path with the text and the image at two others.
-pub(crate) fn verify<R: Files + Print + Eprint + Input + Env + AllocGlobal>(
-    rt: &R,
-    failures: &mut Failures,
-    job: &Job<'_>,
-    certificate: &str,
-    source: &str,
-    image: &str,
-) -> u8
-    requires { work_of job.now.task ≡ work.verify certificate.now source.now image.now }
-    ensures answer { Answers result (has_failed failures.new) SomeHolding NoneHolding }
-    ensures status { IsStatus (request_in job.now) result }
-{
-    let _ = job;
-    let names = Names {
-        certificate,
-        source,
-        image,
-    };
-    let holds = verify_paths(rt, failures, &names);
-    failures.status(holds)
-}

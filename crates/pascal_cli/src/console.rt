@@ -7,7 +7,7 @@ ghost use Rattle.risc_machine.specs.Console as devices;
 ghost use Rattle.pascal_cli.specs.Ahead as ahead;
 ghost use Rattle.pascal_cli.specs.Transfers as transfer;
 ghost use Rattle.pascal_cli.specs.Console.{input_of, writer_of, held_of, has_failed, faults_of, output_of};
-ghost use Rattle.pascal_cli.specs.Console.{console_world};
+ghost use Rattle.pascal_cli.specs.Console.{console_world, read_faults_of, write_faults_of, CountsOne};
 
 use crate::ahead::Ahead;
 use crate::counted::Counted;
@@ -67,6 +67,7 @@ impl<R, W> BlockConsole<R, W> {
         ensures input { input_of self.new ≡ input_of self.old }
         ensures writer { writer_of self.new ≡ writer_of self.old }
         ensures held { held_of self.new ≡ held_of self.old }
+        ensures failed { has_failed self.new ≡ has_failed self.old }
         ensures faults { faults_of self.new ≡ one_more (faults_of self.old) }
     {
         self.faults = self.faults.saturating_add(1);
@@ -82,8 +83,10 @@ impl<R: BufRead, W> BlockConsole<R, W> {
             (ahead.ahead_bytes R.remaining (input_of self.new)))
             (λ _. Keeps (ahead.ahead_bytes R.remaining (input_of self.old))
             (ahead.ahead_bytes R.remaining (input_of self.new))) }
+        ensures counted { transfer.Counts result (read_faults_of self.old) (read_faults_of self.new) }
         ensures writer { writer_of self.new ≡ writer_of self.old }
         ensures held { held_of self.new ≡ [] }
+        ensures failed { has_failed self.new ≡ has_failed self.old }
         ensures faults { MatchResult result (λ _. faults_of self.new ≡ faults_of self.old)
             (λ _. faults_of self.new ≡ one_more (faults_of self.old)) }
     {
@@ -104,7 +107,7 @@ impl<R, W: Write> BlockConsole<R, W> {
         ensures once { has_failed self.old ≡ true → (writer_of self.new ≡ writer_of self.old)
             × (has_failed self.new ≡ true) }
         ensures counted { has_failed self.old ≡ false → transfer.Counts result
-            (transfer.faults_of (writer_of self.old)) (transfer.faults_of (writer_of self.new)) }
+            (write_faults_of self.old) (write_faults_of self.new) }
         ensures faults { faults_of self.new ≡ faults_of self.old }
     {
         if self.has_failed {
@@ -130,6 +133,7 @@ impl<R, W: Write> BlockConsole<R, W> {
         ensures output { MatchResult result (λ _. Appends (output_of W.contents self.old)
             (output_of W.contents self.new) (byte ∷ []))
             (λ _. Keeps (output_of W.contents self.old) (output_of W.contents self.new)) }
+        ensures counted { transfer.Counts result (write_faults_of self.old) (write_faults_of self.new) }
         ensures faults { faults_of self.new ≡ faults_of self.old }
     {
         match put_all(&mut self.writer, &[byte]) {
@@ -148,6 +152,7 @@ impl<R, W: Write> BlockConsole<R, W> {
         ensures output { MatchResult result (λ _. Appends (output_of W.contents self.old)
             (output_of W.contents self.new) (byte ∷ []))
             (λ _. Keeps (output_of W.contents self.old) (output_of W.contents self.new)) }
+        ensures counted { transfer.Counts result (write_faults_of self.old) (write_faults_of self.new) }
         ensures faults { faults_of self.new ≡ faults_of self.old }
     {
         match self.held.push(byte) {
@@ -163,6 +168,10 @@ impl<R, W: Write> BlockConsole<R, W> {
         ensures output { MatchResult result (λ _. Appends (output_of W.contents self.old)
             (output_of W.contents self.new) (byte ∷ []))
             (λ _. Keeps (output_of W.contents self.old) (output_of W.contents self.new)) }
+        ensures once { has_failed self.old ≡ true → (writer_of self.new ≡ writer_of self.old)
+            × (has_failed self.new ≡ true) }
+        ensures counted { has_failed self.old ≡ false → transfer.Counts result
+            (write_faults_of self.old) (write_faults_of self.new) }
         ensures faults { MatchResult result (λ _. faults_of self.new ≡ faults_of self.old)
             (λ _. faults_of self.new ≡ one_more (faults_of self.old)) }
     {
@@ -181,7 +190,17 @@ impl<R: BufRead, W: Write> Console for BlockConsole<R, W> {
 
     ghost world = { console_world R.remaining W.contents };
 
-    fn take(&mut self) -> Result<Option<u8>, DeviceFault> {
+    fn take(&mut self) -> Result<Option<u8>, DeviceFault>
+        ensures moved { MatchResult result
+            (λ byte. devices.Took byte (console_world R.remaining W.contents self.old)
+            (console_world R.remaining W.contents self.new))
+            (λ _. devices.Failed (console_world R.remaining W.contents self.old)
+            (console_world R.remaining W.contents self.new)) }
+        ensures failed { OnOk result (has_failed self.new ≡ false) }
+        ensures once { has_failed self.old ≡ true → (input_of self.new ≡ input_of self.old)
+            × (writer_of self.new ≡ writer_of self.old) × (has_failed self.new ≡ true) }
+        ensures counted { has_failed self.old ≡ false → CountsOne result self.old self.new }
+    {
         let handed_on = self.write_out();
         if handed_on.is_err() {
             return Err(self.fault());
@@ -190,7 +209,18 @@ impl<R: BufRead, W: Write> Console for BlockConsole<R, W> {
     }
 
     #[inline(always)]
-    fn put(&mut self, byte: u8) -> Result<(), DeviceFault> {
+    fn put(&mut self, byte: u8) -> Result<(), DeviceFault>
+        ensures moved { MatchResult result
+            (λ _. devices.Wrote byte (console_world R.remaining W.contents self.old)
+            (console_world R.remaining W.contents self.new))
+            (λ _. devices.Failed (console_world R.remaining W.contents self.old)
+            (console_world R.remaining W.contents self.new)) }
+        ensures input { input_of self.new ≡ input_of self.old }
+        ensures once { has_failed self.old ≡ true → (writer_of self.new ≡ writer_of self.old)
+            × (has_failed self.new ≡ true) }
+        ensures counted { has_failed self.old ≡ false → transfer.Counts result
+            (write_faults_of self.old) (write_faults_of self.new) }
+    {
         if self.held.len() < ROOM && self.held.push(byte).is_ok() {
             return Ok(());
         }
@@ -213,7 +243,7 @@ impl<R: BufRead, W: Write> Paced for BlockConsole<R, W> {
             ≡ (console_world R.remaining W.contents self.old).faults }
         ensures all { OnOk result (held_of self.new ≡ []) }
         ensures counted { has_failed self.old ≡ false → transfer.Counts result
-            (transfer.faults_of (writer_of self.old)) (transfer.faults_of (writer_of self.new)) }
+            (write_faults_of self.old) (write_faults_of self.new) }
     {
         self.write_out()
     }

@@ -2,31 +2,19 @@
 //!
 //! Contracts tell which words stay, and what the options ask for. What is then told, no contract tells.
 
-ghost use Rattle.std.specs.Prelude.{
-  ◌≡◌,
-  ◌⊎◌,
-  ◌++◌,
-  IfOk,
-  IfErr,
-  OnOk,
-  [],
-  ◌∷◌,
-  if◌then◌else◌,
-  map,
-  Some,
-  None,
-  option_map,
-};
+mod parts;
+
+ghost use Rattle.std.specs.Prelude.{◌≡◌, ◌⊎◌, ◌++◌, IfOk, IfErr, OnOk, [], ◌∷◌, if◌then◌else◌, map, Some, None, option_map};
 ghost use Rattle.std.specs.Char.{is_ascii_digit};
 ghost use Rattle.std.specs.List.{list_all};
-ghost use Rattle.pascal_cli.specs.Options.{begins_with, has_value, is_check_flag, is_flag, is_joined, is_trace_joined};
-ghost use Rattle.pascal_cli.specs.Options.{is_trace_value, is_why_flag, next_part, plain_words, stays, without_options};
+ghost use Rattle.pascal_cli.specs.Options.{plain_words, without_options};
 ghost use Rattle.pascal_cli.specs.Wanted.{is_end, line_in, names_file, nothing_more, number_in, wanted_behind, wanted_in};
 ghost use Rattle.pascal_cli.specs.Wanted.{wanted_of, with_flag, with_input, with_joined, with_named, with_next, with_value};
 ghost use Rattle.pascal_cli.specs.Wanted.{with_word};
 ghost use Rattle.pascal_cli.specs.declared.options.OptionFault.TheVariants.{OutOfMemory};
 ghost use Rattle.pascal_cli.specs.declared.options.Part.TheVariants.{Open};
 
+use crate::options::parts::{has_value, is_flag, is_joined, next_part, stays};
 use std::alloc::{AllocError, Global};
 use thiserror::Error;
 
@@ -104,112 +92,6 @@ pub enum Part {
     Value,
     /// A word behind `--`.
     Closed,
-}
-
-fn is_check_flag(word: &str) -> bool
-    ensures { result ≡ is_check_flag word.now }
-{
-    word == "--json" || word == "--first" || word == "--no-warnings"
-}
-
-fn is_why_flag(word: &str) -> bool
-    ensures { result ≡ is_why_flag word.now }
-{
-    word == "--json" || word == "--all"
-}
-
-// Whether a word is an option of a command that stands alone.
-fn is_flag(command: &str, word: &str) -> bool
-    ensures { result ≡ is_flag command.now word.now }
-{
-    match command {
-        "check" => is_check_flag(word),
-        "list" => word == "--source",
-        "go" => word == "--usage",
-        "run" => word == "--usage",
-        "why" => is_why_flag(word),
-        "trace" => word == "--json",
-        "cover" => word == "--lcov",
-        _ => false,
-    }
-}
-
-fn is_trace_value(word: &str) -> bool
-    ensures { result ≡ is_trace_value word.now }
-{
-    word == "--from" || word == "--to" || word == "--routine" || word == "--first"
-}
-
-// Whether a word is an option of a command whose value is the next word.
-fn has_value(command: &str, word: &str) -> bool
-    ensures { result ≡ has_value command.now word.now }
-{
-    match command {
-        "compile" => word == "--map",
-        "trace" => is_trace_value(word),
-        "cover" => word == "--input",
-        _ => false,
-    }
-}
-
-// Whether a word begins with another.
-fn begins_with(word: &str, front: &str) -> bool
-    ensures { result ≡ begins_with word.now front.now }
-{
-    word.as_bytes().starts_with(front.as_bytes())
-}
-
-fn is_trace_joined(word: &str) -> bool
-    ensures { result ≡ is_trace_joined word.now }
-{
-    begins_with(word, "--from=")
-        || begins_with(word, "--to=")
-        || begins_with(word, "--routine=")
-        || begins_with(word, "--first=")
-}
-
-// Whether a word is such an option with its value, `--name=value`.
-fn is_joined(command: &str, word: &str) -> bool
-    ensures { result ≡ is_joined command.now word.now }
-{
-    match command {
-        "compile" => begins_with(word, "--map="),
-        "trace" => is_trace_joined(word),
-        "cover" => begins_with(word, "--input="),
-        _ => false,
-    }
-}
-
-// Whether a word stays among the words.
-fn stays(command: &str, part: Part, word: &str) -> bool
-    ensures { result ≡ stays command.now part word.now }
-{
-    match part {
-        Part::Open => {
-            !(is_flag(command, word) || has_value(command, word) || is_joined(command, word))
-        }
-        Part::Value => false,
-        Part::Closed => true,
-    }
-}
-
-// What the next word is.
-fn next_part(command: &str, part: Part, word: &str) -> Part
-    ensures { result ≡ next_part command.now part word.now }
-{
-    match part {
-        Part::Open => {
-            if word == "--" {
-                Part::Closed
-            } else if has_value(command, word) {
-                Part::Value
-            } else {
-                Part::Open
-            }
-        }
-        Part::Value => Part::Open,
-        Part::Closed => Part::Closed,
-    }
 }
 
 // Puts a word, if it stays.

@@ -13,5 +13,5 @@ loop-k-preserved c = elim c.match-page_at.branch [
 
 pub returns : goal.returns
 returns c =
-    let all : c.loop-k.k ≡ 66 = omega (arith, c.loop-k.auto.k-end, c.loop-k-test.false) in
+    let all : c.loop-k.k ≡ 74 = omega (arith, c.loop-k.auto.k-end, c.loop-k-test.false) in
     titles_whole c.loop-k.k (string_bytes c.loop-k.text) c.loop-k.invariant all
