@@ -491,7 +491,8 @@ def congruity_quarter(length: int) -> str:
 
 @shape()
 def congruity_subranges(length: int) -> str:
-    """Calls that compare lists of a quarter of the text, of parameters of two subranges of enumerated types by turns."""
+    """Calls that compare lists of a quarter of the text, of parameters of two subranges of enumerated types by
+    turns."""
     parameters = ";".join(f"b{k}:{'tu'[k % 2]}" for k in range(MOST_PARAMETERS))
     children = formal_list(length // 4 * 15 // (15 + MOST_PARAMETERS * 5))
     formals = re.sub(r"procedure (b\d+)(?=[;)])", rf"procedure \1({parameters})", children)
@@ -800,7 +801,8 @@ def with_list_long_names(length: int) -> str:
 
 @shape()
 def with_list_long_pointers(length: int) -> str:
-    """A record that is half of the text, and opened in the other half by a pointer that is a field of the one before."""
+    """A record that is half of the text, and opened in the other half by a pointer that is a field of the one
+    before."""
     names = ",".join(fields(min(length // 10, MOST_CELLS - 1)))
     head = f"program p; type t=^r; r=record {names}:char;p:t end; var p:t; begin with "
     return filled(head, "p^,", "p^ do a0:='a' end.\n", length)

@@ -48,7 +48,7 @@ unfoldable pub finished : (at : ℕ) → Heading → List ℕ → Done → Judge
 finished at h chain b = do
   tree ← provided (assigns h.result b.changes) NoResultAssigned at (routine_tree chain h b)
   small ← provided (is_small_routine tree) Limit at tree
-  Yes (record { domains = b.gathered.domains; routines = slice_set b.gathered.routines h.number (Some small) })
+  Yes (record (b.gathered) { routines = slice_set b.gathered.routines h.number (Some small) })
 
 unfoldable pub heading_at : (at : ℕ) → Option Meaning → Judged Heading
 heading_at at (Some (RoutineMeaning h)) = Yes h
@@ -60,14 +60,7 @@ own_number (n ∷ ns) = n
 
 -- the context of a block's statements, in which more domain types are known, and what the routines of the block change
 abbrev pub of_statements : Context → List DataType → List Change → Context
-of_statements c domains inner = record {
-  text = c.text;
-  domains = domains;
-  has_input = c.has_input;
-  has_output = c.has_output;
-  controls = [];
-  inner = inner;
-}
+of_statements c domains inner = record c { domains = domains; controls = []; inner = inner }
 
 -- ---- routines and blocks
 
@@ -93,13 +86,9 @@ new_heading f is_forward r h = do
     names = map (spelled f.text) (all (map (section_points f r.known) (heading_list h)));
     is_forward = is_forward;
   }
-  Yes (record {
+  Yes (record r {
     known = r.known ++ RoutineMeaning new ∷ [];
-    changes = r.changes;
-    gathered = record {
-      domains = r.gathered.domains;
-      routines = r.gathered.routines ++ None ∷ [];
-    };
+    gathered = record (r.gathered) { routines = r.gathered.routines ++ None ∷ [] };
   })
 
 -- `function` with a name that is not that of a forward heading
@@ -141,23 +130,9 @@ routine_step (Routine-F.Completion name b) = record { name = name; heading = Non
 -- the declarations of a block, and the types of its variables
 unfoldable pub declared : Frame → BlockLayer → (first : ℕ) → List Meaning → Gathered → Judged (Routines × List DataType)
 declared f b first known g = do
-  d ← declarations f first (record {
-    known = known;
-    domains = g.domains;
-    pending = [];
-    variables = [];
-  }) b.constants b.types b.variables
-  Yes (
-    record {
-      known = d.known;
-      changes = [];
-      gathered = record {
-        domains = d.domains;
-        routines = g.routines;
-      };
-    },
-    d.variables,
-  )
+  d ← declarations f first
+      (record { known = known; domains = g.domains; pending = []; variables = [] }) b.constants b.types b.variables
+  Yes (record { known = d.known; changes = []; gathered = record g { domains = d.domains } }, d.variables)
 
 -- The statements of a block whose routines have their blocks, with what they change.
 unfoldable pub block_body : Context → Frame → BlockLayer → Routines → Judged (Tree.Statements × List Change)

@@ -16,10 +16,8 @@ pub record Entries : Type 0 where
 
 -- one more, for a routine whose name is at `at`
 abbrev pub add_entry : (at : ℕ) → (ℕ → Meaning) → Entries → Judged Entries
-add_entry at meaning e = some_or Limit at (one_more e.next) >>= (λ n. Yes (record {
-  next = n;
-  known = e.known ++ meaning e.next ∷ [];
-}))
+add_entry at meaning e = some_or Limit at (one_more e.next)
+    >>= (λ n. Yes (record { next = n; known = e.known ++ meaning e.next ∷ [] }))
 
 -- the given number of one type
 unfoldable pub add_parameters : (at : ℕ) → DataType → ℕ → Entries → Judged Entries

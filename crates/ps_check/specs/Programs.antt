@@ -72,10 +72,9 @@ file_named at s = if same s (codes "input") then Yes (FileMeaning Input)
 
 -- one more name of the region around the program, unless it is present
 unfoldable pub add_required : Files → List ℕ × Meaning → Files
-add_required region e = if has region.names e.0 then region else record {
-  names = region.names ++ e.0 ∷ [];
-  known = region.known ++ e.1 ∷ [];
-}
+add_required region e =
+    if has region.names e.0 then region
+    else record { names = region.names ++ e.0 ∷ []; known = region.known ++ e.1 ∷ [] }
 
 abbrev pub add_all_required : Files → Names → Files
 add_all_required region [] = region
@@ -131,10 +130,8 @@ assembled at g = do
 
 -- with the program block as routine 0
 unfoldable pub program_of : (at : ℕ) → Done → Judged Tree.Program
-program_of at b = assembled at (record {
-  domains = b.gathered.domains;
-  routines = slice_set b.gathered.routines 0 (Some (program_routine b));
-})
+program_of at b = assembled at
+    (record (b.gathered) { routines = slice_set b.gathered.routines 0 (Some (program_routine b)) })
 
 -- the checked program of a tree whose heading lists these files
 unfoldable pub program_with : List ℕ → syntax.Program → Files → Judged Tree.Program

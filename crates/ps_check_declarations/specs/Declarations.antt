@@ -58,13 +58,13 @@ module _ (f : Frame) where
   resolve_domain d waits = do
     point ← denoted f.text (regions f [] d.known) waits.0
     type ← domain_at (is_later f.names waits.1 (spelled f.text waits.0)) waits.0.from point
-    Yes (record { known = d.known; domains = d.domains ++ type ∷ []; pending = d.pending; variables = d.variables })
+    Yes (record d { domains = d.domains ++ type ∷ [] })
 
   -- at the end of a part each pending domain type is the type that its name denotes there
   unfoldable pub resolve_domains : Declared → Judged Declared
   resolve_domains d = do
     e ← steps resolve_domain d d.pending
-    Yes (record { known = e.known; domains = e.domains; pending = []; variables = e.variables })
+    Yes (record e { pending = [] })
 
 -- ---- variables (6.5.1)
 
@@ -73,10 +73,8 @@ module _ (f : Frame) where
 abbrev pub declare_variable : ℕ → DataType → Declared → Span → Judged Declared
 declare_variable first type d name = do
   next ← some_or Limit name.from (one_more (first + length d.variables))
-  Yes (record {
+  Yes (record d {
     known = d.known ++ VariableMeaning (first + length d.variables) type ∷ [];
-    domains = d.domains;
-    pending = d.pending;
     variables = d.variables ++ type ∷ [];
   })
 

@@ -46,7 +46,7 @@ pub record Declared : Type 0 where
   pub variables : List DataType
 
 abbrev pub with_known : Declared → List Meaning → Declared
-with_known d known = record { known = known; domains = d.domains; pending = d.pending; variables = d.variables }
+with_known d known = record d { known = known }
 
 -- one more definition in progress
 abbrev pub begin : Frame → List Meaning → (begun : List (List ℕ)) → Span → Judged (List (List ℕ))
@@ -55,7 +55,7 @@ begin f known begun name = provided (is_new f.names begun (length known) (spelle
 
 -- a place within these definitions
 abbrev pub within : Frame → (begun : List (List ℕ)) → Frame
-within f begun = record { text = f.text; routine = f.routine; names = f.names; begun = begun; outer = f.outer }
+within f begun = record f { begun = begun }
 
 -- What a place lies within: the denoters of records, the lists of formal parameters and the declaration of variables,
 -- from the inside out, each by its names and how many of them come before the place.
@@ -95,12 +95,8 @@ ordinal_at at _ = No WrongType at
 
 -- 6.4.2.3: the type with the given number of constants, which begins there; no text has 2147483648 names
 abbrev pub enumerated : (at count : ℕ) → Ordinal
-enumerated at count = record {
-  host = Enumeration at (pos (count - 1));
-  subrange = None;
-  low = pos 0;
-  high = pos (count - 1);
-}
+enumerated at count =
+    record { host = Enumeration at (pos (count - 1)); subrange = None; low = pos 0; high = pos (count - 1) }
 
 -- its constants, from the given one on
 abbrev pub constants_from : Ordinal → ℕ → Points → List Meaning
@@ -110,12 +106,7 @@ constants_from o n (at ∷ rest) = ConstantMeaning o (pos n) ∷ constants_from 
 -- 6.4.2.4: two constants of the same ordinal type, the second not below the first
 unfoldable pub subrange : (at : ℕ) → ConstantValue → ConstantValue → Judged Ordinal
 subrange at (OrdinalConstant o m) (OrdinalConstant p n) = if is_same_host o.host p.host then provided
-    (int_le m n) BadSubrange at (record {
-      host = o.host;
-      subrange = Some at;
-      low = m;
-      high = n;
-    }) else No WrongType at
+    (int_le m n) BadSubrange at (record { host = o.host; subrange = Some at; low = m; high = n }) else No WrongType at
 subrange at _ _ = No WrongType at
 
 -- the subrange of two constants, which begins at an offset
@@ -148,12 +139,7 @@ module _ (f : Frame) where
 abbrev pub waiting : Declared → Span → DataType × Declared
 waiting d domain = (
   PointerType (length d.domains + length d.pending),
-  record {
-    known = d.known;
-    domains = d.domains;
-    pending = d.pending ++ (domain, length d.known) ∷ [];
-    variables = d.variables;
-  },
+  record d { pending = d.pending ++ (domain, length d.known) ∷ [] },
 )
 
 -- A name within whose definition it lies is not a type.

@@ -46,22 +46,16 @@ module _ (f : Frame) (known : List Meaning) where
   abbrev pub formal_type : Hidden → Span → Judged DataType
   formal_type hidden name = type_named f.text (regions f hidden known) name
 
+  -- a section of value or variable parameters
+  abbrev pub named_section : (ℕ → DataType → Section) → Points → Span → SectionReading
+  named_section made names type =
+      (names, λ hidden. few type.from (length names) >>= (λ n. formal_type hidden type >>= (λ t. Yes (made n t))))
+
   unfoldable pub section_step : Section-F HeadingReading SectionReading → SectionReading
-  section_step (Section-F.Value names type) = (
-    names,
-    λ hidden. few type.from (length names)
-        >>= (λ n. formal_type hidden type >>= (λ t. Yes (ValueSection n t))),
-  )
-  section_step (Section-F.Variable names type) = (
-    names,
-    λ hidden. few type.from (length names)
-        >>= (λ n. formal_type hidden type >>= (λ t. Yes (VariableSection n t))),
-  )
-  section_step (Section-F.Routine h) = (
-    h.0 ∷ [],
-    λ hidden. h.1 hidden
-        >>= (λ s. Yes (RoutineSection (section_list s.0) s.1)),
-  )
+  section_step (Section-F.Value names type) = named_section ValueSection names type
+  section_step (Section-F.Variable names type) = named_section VariableSection names type
+  section_step (Section-F.Routine h) =
+      (h.0 ∷ [], λ hidden. h.1 hidden >>= (λ s. Yes (RoutineSection (section_list s.0) s.1)))
 
   -- One more section of a list with these names. Its own come before what follows. The sections so far are given with
   -- the number of their names.

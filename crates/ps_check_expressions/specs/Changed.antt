@@ -16,14 +16,8 @@ is_control c up entry = up == 0 && list_any (λ e. e == entry) c.controls
 
 -- 6.8.3.9: the statement that a `for` statement repeats doesn't threaten the control variable
 unfoldable pub changed_entry : Context → (up entry at : ℕ) → Changing (Unit {0})
-changed_entry c up entry at changes = provided (not (is_control c up entry)) ControlVariable at (
-  tt,
-  changes ++ record {
-    up = up;
-    entry = entry;
-    at = at;
-  } ∷ [],
-)
+changed_entry c up entry at changes = provided (not (is_control c up entry)) ControlVariable at
+    (tt, changes ++ record { up = up; entry = entry; at = at } ∷ [])
 
 unfoldable pub changed : Context → Tree.Place → (at : ℕ) → Changing (Unit {0})
 changed c (Tree.Variable (Tree.Entry up entry) Tree.no_selector) at = changed_entry c up entry at

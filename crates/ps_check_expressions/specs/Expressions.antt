@@ -140,12 +140,8 @@ module _ (c : Context) (Γ : List Region) where
   selected_variable name fs = named_variable name >>= all_steps name.from fs
 
   unfoldable pub variable_seen : Span → List (Step Variable) → Operand
-  variable_seen name [] = record {
-    first = name.from;
-    value = named_value name;
-    variable = named_variable name;
-    name = Some name;
-  }
+  variable_seen name [] =
+      record { first = name.from; value = named_value name; variable = named_variable name; name = Some name }
   variable_seen name (f ∷ fs) = record {
     first = name.from;
     value = selected_variable name (f ∷ fs) >>= (λ v. still (loaded name.from v));
@@ -228,10 +224,8 @@ module _ (c : Context) (Γ : List Region) where
 
   unfoldable pub member_step : Member-F Operand Operand SeenMember (Step Variable) (Step Value)
       (Step Value) Operand Operand Operand → SeenMember
-  member_step (Member-F.One x) = record {
-    first = x.first;
-    member = x.value >>= (λ v. still (single x.first v (line_in c.text x.first)));
-  }
+  member_step (Member-F.One x) =
+      record { first = x.first; member = x.value >>= (λ v. still (single x.first v (line_in c.text x.first))) }
   member_step (Member-F.Range x y) = record { first = x.first; member = several_seen x y }
 
   -- several indices are those of nested arrays

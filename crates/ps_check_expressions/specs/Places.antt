@@ -13,16 +13,10 @@ use Rattle.ps_check_expressions.specs.Values.{Value, SimpleValue, Variable, is_p
 
 -- 6.5.2, 6.8.3.10: the variable that a name denotes: one of a block, or a field of a record that a `with` opens
 unfoldable pub variable_at : (at : ℕ) → Point → Judged Variable
-variable_at at (BlockPoint up (VariableMeaning entry type)) = Yes (record {
-  place = Tree.Variable (Tree.Entry up entry) Tree.no_selector;
-  type = type;
-  in_packed = false;
-})
-variable_at at (BlockPoint up (ParameterMeaning entry type)) = Yes (record {
-  place = Tree.Variable (Tree.Entry up entry) Tree.no_selector;
-  type = type;
-  in_packed = false;
-})
+variable_at at (BlockPoint up (VariableMeaning entry type)) =
+    Yes (record { place = Tree.Variable (Tree.Entry up entry) Tree.no_selector; type = type; in_packed = false })
+variable_at at (BlockPoint up (ParameterMeaning entry type)) =
+    Yes (record { place = Tree.Variable (Tree.Entry up entry) Tree.no_selector; type = type; in_packed = false })
 variable_at at (FieldPoint which record_type number type) = Yes (record {
   place = Tree.Variable (Tree.Opened which record_type number) Tree.no_selector;
   type = type;
@@ -47,11 +41,8 @@ element at place _ _ line = No WrongType at.first
 
 abbrev pub field_of : (at : ℕ) → Tree.Place → DataType → Option (ℕ × DataType) → Judged Variable
 field_of at place type None = No Unknown at
-field_of at place type (Some f) = Yes (record {
-  place = selected place (Tree.Field type f.0);
-  type = f.1;
-  in_packed = is_packed type;
-})
+field_of at place type (Some f) =
+    Yes (record { place = selected place (Tree.Field type f.0); type = f.1; in_packed = is_packed type })
 
 -- 6.5.3.3: a field of a record, which begins at `first`; its name is at `at`
 unfoldable pub component : (first at : ℕ) → Tree.Place → DataType → List ℕ → Judged Variable
@@ -62,9 +53,6 @@ component first at place _ name = No WrongType first
 -- 6.5.4: what a pointer, which begins at `first`, identifies
 unfoldable pub target : (first : ℕ) → List DataType → Tree.Place → DataType → ℕ → Judged Variable
 target first domains place (PointerType number) line =
-    some_or WrongType first (slice_get domains number) >>= (λ type. Yes (record {
-      place = selected place (Tree.Target number line);
-      type = type;
-      in_packed = false;
-    }))
+    some_or WrongType first (slice_get domains number)
+    >>= (λ type. Yes (record { place = selected place (Tree.Target number line); type = type; in_packed = false }))
 target first domains place _ line = No WrongType first

@@ -46,12 +46,8 @@ abbrev pub host_type : Host → Ordinal
 host_type Integer = integer
 host_type Char = char
 host_type Boolean = boolean
-host_type (Enumeration at greatest) = record {
-  host = Enumeration at greatest;
-  subrange = None;
-  low = pos 0;
-  high = greatest;
-}
+host_type (Enumeration at greatest) =
+    record { host = Enumeration at greatest; subrange = None; low = pos 0; high = greatest }
 
 -- ---- the kinds of types
 

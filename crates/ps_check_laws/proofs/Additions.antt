@@ -1,7 +1,8 @@
 -- What a reading adds to the changes: nothing, what two parts add, what each of a list adds.
-use Rattle.std.proofs.Common.{◌≡◌, ℕ, Bool, true, false, not, List, [], ◌∷◌, ◌++◌, refl, sym, ap, ◌∙◌, subst}
+use Rattle.std.proofs.Common.{◌≡◌, ℕ, false, not, List, [], ◌∷◌, ◌++◌, sym, ap, ◌∙◌, subst}
 use Rattle.std.proofs.Common.{append-nil, append_assoc}
 use Rattle.std.proofs.lemmas.List.{map-append}
+use Rattle.std.proofs.lemmas.Bool.{not-true}
 use Rattle.ps_tree.specs.Tree as Tree
 use Rattle.ps_check_judgement.specs.declared.change.Change.{Change}
 use Rattle.ps_check_judgement.specs.declared.refusal.Rule.TheVariants.{ControlVariable}
@@ -11,7 +12,7 @@ use Rattle.ps_check_judgement.proofs.Binds.{inside_yes, then_yes, provided_yes}
 use Rattle.ps_check_names.specs.Regions.{Context}
 use Rattle.ps_check_expressions.specs.Changed.{is_control, changed, changed_entry}
 use Rattle.ps_check_laws.specs.Threats.{Threatened, whole, entries_of}
-use Rattle.ps_check_laws.proofs.Lists.{last_still, never, Each, each_append}
+use Rattle.ps_check_laws.proofs.Lists.{last_still, Each, each_append}
 
 -- none of these entries is a control variable of an enclosing `for` statement
 abbrev pub Free : Context → Threatened → Type 0
@@ -115,10 +116,6 @@ pub each_all : {X : Type 0} (P : X → Type 0) → ((x : X) → P x) → (xs : L
 each_all P h [] = tt
 each_all P h (x ∷ xs) = (h x, each_all P h xs)
 
-turned : (b : Bool) → not b ≡ true → b ≡ false
-turned true e = never e
-turned false e = refl
-
 -- a variable that is changed
 pub changed_adds : (c : Context) (place : Tree.Place) (at : ℕ) (cs : List Change) (p : Unit {0} × List Change)
     → changed c place at cs ≡ Yes p → Adds c cs p.1 (whole place)
@@ -135,7 +132,7 @@ changed_adds c (Tree.Variable (Tree.Entry up entry) Tree.no_selector) at cs p e 
     let x : Change = record { up = up; entry = entry; at = at } in
     subst (λ (z : Unit {0} × List Change). Adds c cs z.1 ((up, entry) ∷ [])) is.1 (record {
       entries = map-append (λ (x : Change). (x.up, x.entry)) cs (x ∷ []);
-      free = (turned (is_control c up entry) is.0, tt);
+      free = (not-true (is_control c up entry) is.0, tt);
     })
 changed_adds c place at cs p e = subst (λ (z : Unit {0} × List Change). Adds c cs z.1 []) (inside_yes (tt, cs) p e)
     (adds_none cs)

@@ -2,6 +2,7 @@
 use Rattle.std.proofs.Common.{◌≡◌, ℕ, Bool, true, false, not, ◌||◌, List, [], ◌∷◌, ◌++◌, length, map, nat_lt, is_none}
 use Rattle.std.proofs.Common.{◌⊎◌, inl, inr, refl, sym, ap, ◌∙◌, subst, append_assoc, append-nil}
 use Rattle.std.specs.Prelude.{if◌then◌else◌}
+use Rattle.std.proofs.lemmas.Bool.{not-true}
 use Rattle.ps_check_judgement.specs.declared.refusal.Rule.TheVariants.{Twice, Limit}
 use Rattle.ps_check_judgement.specs.Judged.{Yes, provided, steps}
 use Rattle.ps_check_judgement.proofs.Binds.{inside_yes, then_yes, provided_yes}
@@ -48,10 +49,6 @@ apart_more xs s new apart before after u e = at (last_or_before xs before after 
     at : ((before ≡ xs) × (u ≡ s)) ⊎ ((rest : List (List ℕ)) × (xs ≡ before ++ u ∷ rest)) → has before u ≡ false
     at (inl h) = ap (λ l. has l u) h.0 ∙ ap (has xs) h.1 ∙ new
     at (inr h) = apart before h.0 u h.1
-
-not_true : (b : Bool) → not b ≡ true → b ≡ false
-not_true true h = absurd (cc)
-not_true false h = refl
 
 -- a name that is added is new, or present already
 pub one_apart : (xs : List (List ℕ)) (s : List ℕ) → AreApart xs → AreApart (add_name xs s)
@@ -133,7 +130,7 @@ module _ (text : List ℕ) where
       in
       let is = provided_yes (not (has files.names s)) Twice p.from (files.names ++ s ∷ []) names.0 names.1 in
       files_apart ps one.0 last one.2 (subst (λ (z : Files). AreApart z.names) (inside_yes _ one.0 names.2)
-      (subst AreApart is.1 (apart_more files.names s (not_true (has files.names s) is.0) apart)))
+      (subst AreApart is.1 (apart_more files.names s (not-true (has files.names s) is.0) apart)))
 
 -- the formal parameters of a routine
 pub start_apart : (at : ℕ) (chain : List ℕ) (h : Heading) (s : Start) → start at chain h ≡ Yes s → AreApart s.names

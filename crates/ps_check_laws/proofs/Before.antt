@@ -1,6 +1,7 @@
 -- What is used in the declarations and headings of a block denotes a point that comes before it.
 use Rattle.std.proofs.Common.{◌≡◌, ℕ, ◌+◌, List, [], ◌∷◌, ◌++◌, length, take, drop, Some, slice_get, refl, sym, ap}
 use Rattle.std.proofs.Common.{◌∙◌, subst, arith}
+use Rattle.std.proofs.lemmas.Option.{slice_get_within}
 use Rattle.ps_syntax.specs.declared.program.Heading as syntax_heading
 use Rattle.ps_syntax.specs.declared.program.Routine.{Routine}
 use Rattle.ps_syntax.specs.declared.program.Program as syntax
@@ -15,7 +16,7 @@ use Rattle.ps_check_laws.specs.InDeclarations.{Uses, behind, IsDenotedBefore, he
 use Rattle.ps_check_laws.proofs.EnclosedNames.{own_names, AllKnown, known_later, known_unhidden}
 use Rattle.ps_check_laws.proofs.Parameters.{headings_found}
 use Rattle.ps_check_laws.proofs.Found.{uses_find_what_they_denote}
-use Rattle.ps_check_laws.proofs.Lists.{inside, get_below, get_stays, there_is, take_left, take_length, take_drop, Each}
+use Rattle.ps_check_laws.proofs.Lists.{inside, get_stays, there_is, take_left, take_length, take_drop, Each}
 
 module _ (text : List ℕ) (p : syntax.Program) (v : List ℕ) (n : ℕ) (regions : List Region) (r : Region) (t : IsRegion text p v n regions r) (around : AreAround text p v regions) where
   abbrev frame : Frame
@@ -39,7 +40,7 @@ module _ (text : List ℕ) (p : syntax.Program) (v : List ℕ) (n : ℕ) (region
     is = refl;
     before = many;
     meanings = λ i d x at g.
-        let l = get_below known i x g in
+        let l = slice_get_within known i x g in
         subst (λ k. Defines frame t.first (λ k. t.next + headings_before text t.block k) k d x)
         (ap (take i) e ∙ take_left known more i (omega (arith, l)))
         (t.meanings i d x at (ap (λ k. slice_get k i) e ∙ get_stays known more i x g));
@@ -67,7 +68,7 @@ module _ (text : List ℕ) (p : syntax.Program) (v : List ℕ) (n : ℕ) (region
       → slice_get t.definitions i ≡ Some (OfRoutine k x) → routine_heading x ≡ Some h → Each
       (IsDenotedBefore text p v regions) (behind i (heading_part h).1)
   headings_denoted i k x h many at is =
-      let l = get_below t.definitions i (OfRoutine k x) at in
+      let l = slice_get_within t.definitions i (OfRoutine k x) at in
       let m = there_is t.known i (omega (arith, l, many)) in
       let d = t.meanings i (OfRoutine k x) m.0 at m.1 in
       let same : d.1 ≡ h = inside d.1 h (sym d.4 ∙ is) in

@@ -4,6 +4,7 @@ use Rattle.std.proofs.Common.{length, map, Option, Some, None, is_none, option_m
 use Rattle.std.proofs.Common.{subst, append_assoc, append-nil}
 use Rattle.std.proofs.lemmas.List.{map-append}
 use Rattle.std.proofs.lemmas.Option.{slice_get-map}
+use Rattle.std.proofs.lemmas.Bool.{or_parts}
 use Rattle.ps_text.specs.declared.Span.{Span}
 use Rattle.ps_syntax.specs.declared.program.Heading as syntax
 use Rattle.ps_syntax.specs.declared.program.Routine.{Routine}
@@ -21,7 +22,7 @@ use Rattle.ps_check_laws.specs.Definitions.{Declaration, Declarations, OfFile, O
 use Rattle.ps_check_laws.specs.Definitions.{OfType, OfVariable, Definition, OfDeclaration, OfRoutine, InPart, numbered}
 use Rattle.ps_check_laws.specs.Definitions.{routine_name, routine_names, of_routine, point, names_of, as_routine}
 use Rattle.ps_check_laws.specs.Meanings.{Declares}
-use Rattle.ps_check_laws.proofs.Lists.{or_false, none_some, inside, each_at, has_append}
+use Rattle.ps_check_laws.proofs.Lists.{none_some, inside, each_at, has_append}
 use Rattle.ps_check_laws.proofs.Formals.{IsPlain, formals_plain}
 use Rattle.ps_check_laws.proofs.Routines.{same_itself, or_true, sp}
 
@@ -117,7 +118,7 @@ module _ (text : List ℕ) where
       (routine_names text I) s ≡ false
   not_routine D I s e =
       let a = names_of text (map OfDeclaration D) in
-      (or_false (has a s) (has (routine_names text I) s)
+      (or_parts (has a s) (has (routine_names text I) s)
       (sym (has_append a (routine_names text I) s) ∙ ap (λ l. has l s)
       (sym (points_names D I ∙ ap (λ l. a ++ l) (routines_names I))) ∙ e)).1
 

@@ -2,6 +2,7 @@
 use Rattle.std.proofs.Common.{◌≡◌, ℕ, ◌+◌, ◌<◌, List, [], ◌∷◌, ◌++◌, length, map, take, slice_get, refl, sym, ap, ◌∙◌}
 use Rattle.std.proofs.Common.{subst, append_assoc, append-nil, length-append, arith}
 use Rattle.std.proofs.lemmas.List.{map-append}
+use Rattle.std.proofs.lemmas.Option.{slice_get_within}
 use Rattle.ps_text.specs.declared.Span.{Span}
 use Rattle.ps_syntax.specs.First.{first_of_type}
 use Rattle.ps_syntax.specs.declared.program.TypeDenoter.{TypeDenoter}
@@ -24,7 +25,7 @@ use Rattle.ps_check_laws.specs.Definitions.{Declaration, Declarations, OfConstan
 use Rattle.ps_check_laws.specs.Definitions.{Definition, OfDeclaration, numbered, joined, type_declarations}
 use Rattle.ps_check_laws.specs.Definitions.{definition_declarations, variable_declarations}
 use Rattle.ps_check_laws.specs.Meanings.{in_definition, variable_names, hidden_by, Declares, Defines, AreMeanings}
-use Rattle.ps_check_laws.proofs.Lists.{inside, get_below, get_left, get_at, get_last, take_left, take_whole, Each}
+use Rattle.ps_check_laws.proofs.Lists.{inside, get_left, get_at, get_last, take_left, take_whole, Each}
 use Rattle.ps_check_laws.proofs.TypePoints.{constant_of, IsEnumerated, types_told}
 
 -- a limit that is reported elsewhere is not part of what is accepted
@@ -97,7 +98,7 @@ module _ (f : Frame) (first : ℕ) (numbers : ℕ → ℕ) where
         many = (let a = length-append known (m ∷ []) in let b = length-append ds (d ∷ []) in omega (arith, a, b, many));
         are = λ i x y e g. get_last ds d i x (Defines f first numbers (take i (known ++ m ∷ [])) x y) e
             (λ b.
-            let l = get_below ds i x b in
+            let l = slice_get_within ds i x b in
             let lk : i < length known = omega (arith, l, many) in
             subst (λ t. Defines f first numbers t x y) (sym (take_left known (m ∷ []) i (omega (arith, lk))))
             (s.are i x y b (sym (get_left known (m ∷ []) i lk) ∙ g)))

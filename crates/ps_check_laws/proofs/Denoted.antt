@@ -2,6 +2,7 @@
 use Rattle.std.proofs.Common.{◌≡◌, ℕ, suc, ◌+◌, ◌<◌, true, false, List, [], ◌∷◌, ◌++◌, length, map, Option, Some, None}
 use Rattle.std.proofs.Common.{is_some, refl, sym, ap, ◌∙◌, subst, lt-ltb, length-append, arith}
 use Rattle.std.specs.Prelude.{if◌then◌else◌}
+use Rattle.std.proofs.lemmas.Option.{slice_get_within}
 use Rattle.ps_syntax.specs.declared.program.Program as syntax
 use Rattle.ps_tree.specs.Types.{DataType, FieldList, field_in}
 use Rattle.ps_tree.proofs.NameLemmas.{has_place}
@@ -15,7 +16,7 @@ use Rattle.ps_check_laws.specs.Denoting.{Where, Denotes, here, outward, definiti
 use Rattle.ps_check_laws.specs.Meanings.{IsRegion, AreAround, program_block, routine_block}
 use Rattle.ps_check_laws.specs.Uses.{IsNowhere, not_in_program, nor_further_in, Opened, NoField, a_field, a_point}
 use Rattle.ps_check_laws.specs.Uses.{a_required_name, opened_regions, WhatIsDenotedIsFound, OnePointIsDenoted}
-use Rattle.ps_check_laws.proofs.Lists.{none_some, inside, never, get_below, there_is}
+use Rattle.ps_check_laws.proofs.Lists.{none_some, inside, never, there_is}
 use Rattle.ps_check_laws.proofs.Forwards.{placed}
 use Rattle.ps_check_laws.proofs.Found.{found_at}
 
@@ -94,7 +95,7 @@ module _ (text : List ℕ) (p : syntax.Program) (s : List ℕ) where
   required_found up which e =
       let i = present (map (λ r. r.0) required_names) s e in
       let at = placed s 0 (map (λ r. r.0) required_names) i.0 i.1 in
-      let below = get_below (map (λ r. r.0) required_names) at.0 s at.2 in
+      let below = slice_get_within (map (λ r. r.0) required_names) at.0 s at.2 in
       let q = at.1 in
       let many = as_many required_names in
       let m = there_is (map (λ r. r.1) required_names) i.0 (omega (arith, below, q, many)) in (

@@ -27,6 +27,7 @@ use Rattle.ps_check.specs.Programs.{Files, file_named, list_file}
 use Rattle.ps_check_laws.specs.Definitions.{Declarations, OfFile, OfFormal, Definition, OfDeclaration, numbered}
 use Rattle.ps_check_laws.specs.Definitions.{formal_points, formal_declarations, entries_before, names_of, point}
 use Rattle.std.specs.Prelude.{codes}
+use Rattle.std.proofs.lemmas.Bool.{lt-ltb}
 use Rattle.ps_check_laws.specs.Meanings.{IsHeading, Defines}
 use Rattle.ps_check_laws.proofs.Lists.{inside, none_some, Each, each_append}
 use Rattle.ps_check_laws.proofs.Declared.{Stand, one_more_declared}
@@ -152,9 +153,6 @@ module _ (at : ℕ) where
 
 -- ---- there are enough entries
 
-less_so : (m n : ℕ) → m < n → nat_lt m n ≡ true
-less_so m n l = grind (arith, l)
-
 module _ (at : ℕ) where
   entry_enters : (meaning : ℕ → Meaning) (e : Entries) → e.next < 4294967295 → add_entry at meaning e ≡ Yes (record {
     next = e.next + 1;
@@ -163,7 +161,7 @@ module _ (at : ℕ) where
   entry_enters meaning e l = ap (λ b. some_or Limit at (if b then Some (e.next + 1) else None) >>= (λ n. Yes (record {
     next = n;
     known = e.known ++ meaning e.next ∷ [];
-  }))) (less_so e.next 4294967295 l)
+  }))) (lt-ltb e.next 4294967295 l)
 
   parameters_enter : (type : DataType) (n : ℕ) (e : Entries) → e.next + n ≤ 4294967295 → (d : Entries)
       × (add_parameters at type n e ≡ Yes d)
@@ -285,7 +283,7 @@ begins_so f before x h at chain s is deep chained names known first =
       names = add_names [] h.names;
       known = e.known;
       first = e.next;
-    })))) (less_so (length chain) 16 deep)
+    })))) (lt-ltb (length chain) 16 deep)
     ∙ ap (λ o. o >>= (λ e. Yes (record {
       chain = h.number ∷ chain;
       names = add_names [] h.names;

@@ -3,6 +3,7 @@
 use Rattle.std.proofs.Common.{◌≡◌, ℕ, zero, suc, ◌<◌, ◌≤◌, Bool, true, false, ◌&&◌, not, if◌then◌else◌, List, [], ◌∷◌}
 use Rattle.std.proofs.Common.{◌++◌, length, map, take, nat_eq, Option, Some, None, is_some, is_none, option_map}
 use Rattle.std.proofs.Common.{slice_get, refl, sym, ap, ◌∙◌, subst, append_assoc, append-nil, eqb-true, eq-eqb, arith}
+use Rattle.std.proofs.lemmas.Option.{slice_get_within}
 use Rattle.ps_syntax.specs.declared.program.Heading as syntax
 use Rattle.ps_syntax.specs.declared.program.Block as syntax_block
 use Rattle.ps_syntax.specs.declared.program.Routine.{Routine, out-Routine}
@@ -21,7 +22,7 @@ use Rattle.ps_check.specs.Paths.{layer_block, routine_block}
 use Rattle.ps_check_laws.specs.Definitions.{Declaration, Declarations, Definition, OfDeclaration, layer_heading}
 use Rattle.ps_check_laws.specs.Definitions.{routine_heading, introduced_from, names_of}
 use Rattle.ps_check_laws.specs.Forward.{is_function, layer_completes, Completes, HasBlock, AreCompleted}
-use Rattle.ps_check_laws.proofs.Lists.{none_some, inside, never, get_below, there_is, get_left, get_stays, get_at}
+use Rattle.ps_check_laws.proofs.Lists.{none_some, inside, never, there_is, get_left, get_stays, get_at}
 use Rattle.ps_check_laws.proofs.Lists.{get_last, compare, Each}
 use Rattle.ps_check_laws.proofs.HeadingPoints.{heading_told}
 use Rattle.ps_check_laws.proofs.Routines.{read, sp}
@@ -182,7 +183,7 @@ module _ (c : Context) (number : ℕ) (names : List (List ℕ)) (outer : List Re
         let count = intro.count in
         old_or_new intro.how i h (h.number < length s.gathered.routines) e
         (λ old. let l = o.below i h old in omega (arith, l, count))
-        (λ is q n. let l = get_below s.gathered.routines intro.heading.number None intro.vacant
+        (λ is q n. let l = slice_get_within s.gathered.routines intro.heading.number None intro.vacant
         in let m = ap (λ (z : Heading). z.number) is in omega (arith, l, m))
 
     apart_new : (i j : ℕ) (h g : Heading) → slice_get s.known i ≡ Some (RoutineMeaning h) → slice_get s.known j ≡ Some
@@ -286,7 +287,7 @@ module _ (c : Context) (number : ℕ) (names : List (List ℕ)) (outer : List Re
 
     completes_by : IsHow → (p : Routine) (t : Named r p) (b : Option syntax_block.Block) → routine_block p ≡ b
         → sp c.text x ≡ sp c.text p → t.index ≡ index → Completes c.text p x
-    completes_by (introducing is last known numbered) p t b q e i = let l = get_below r.known t.index
+    completes_by (introducing is last known numbered) p t b q e i = let l = slice_get_within r.known t.index
         (RoutineMeaning t.heading) t.known in absurd (omega (arith, l, i, last))
     completes_by (completing here same_routines alike may) p t b q e i =
         let same_heading : t.heading ≡ intro.heading = ap (heading_or t.heading)
@@ -327,7 +328,7 @@ module _ (c : Context) (number : ℕ) (names : List (List ℕ)) (outer : List Re
       closed = λ i h y e slot. closed_at i h y (nat_eq h.number intro.heading.number) refl
           (in_s i (RoutineMeaning h) e) slot;
       only = λ k j p q l a b e. get_last done x j q (Completes c.text p q) b
-          (λ old. let m = get_below done j q old in o.only k j p q l
+          (λ old. let m = slice_get_within done j q old in o.only k j p q l
           (sym (get_left done (x ∷ []) k (omega (arith, l, m))) ∙ a) old e)
           (λ n is. subst (Completes c.text p) is (only_last k p
           (sym (get_left done (x ∷ []) k (omega (arith, l, n))) ∙ a) (ap (sp c.text) is ∙ e)));
@@ -340,7 +341,7 @@ module _ (c : Context) (number : ℕ) (names : List (List ℕ)) (outer : List Re
   none_open r at =
       let none : (i : ℕ) (h : Heading) → slice_get r.known i ≡ Some (RoutineMeaning h) → ⊥ = λ i h e.
       let many = at.stands.many in
-      let l = get_below r.known i (RoutineMeaning h) e in
+      let l = slice_get_within r.known i (RoutineMeaning h) e in
       let d = there_is (map OfDeclaration D ++ []) i (omega (arith, many, l)) in
       let y = declaration_at D i d.0 d.1 in
       plain_not (RoutineMeaning h) h refl (declares_plain (f c number names outer first chain D base drawn all) first

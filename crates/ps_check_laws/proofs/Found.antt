@@ -1,6 +1,7 @@
 -- A use that finds a point finds what its name denotes.
 use Rattle.std.proofs.Common.{◌≡◌, ℕ, suc, ◌+◌, false, List, [], ◌∷◌, ◌++◌, length, map, drop, nat_lt, Option, Some}
 use Rattle.std.proofs.Common.{None, is_some, slice_get, refl, sym, ap, ◌∙◌, subst, arith}
+use Rattle.std.proofs.lemmas.Option.{slice_get_within}
 use Rattle.ps_syntax.specs.declared.program.Program as syntax
 use Rattle.ps_tree.specs.Types.{DataType, FieldList, field_in}
 use Rattle.ps_tree.proofs.NameLemmas.{has_place}
@@ -16,7 +17,7 @@ use Rattle.ps_check_laws.specs.Meanings.{IsRegion, AreAround, program_block, rou
 use Rattle.ps_check_laws.specs.Uses as uses
 use Rattle.ps_check_laws.specs.Uses.{IsNowhere, not_in_program, nor_further_in, IsOfBlock, IsRequired, Opened, NoField}
 use Rattle.ps_check_laws.specs.Uses.{IsDenoted, of_record, of_required, opened_regions, UsesFindWhatTheyDenote}
-use Rattle.ps_check_laws.proofs.Lists.{some_if, get_below}
+use Rattle.ps_check_laws.proofs.Lists.{some_if}
 
 module _ (text : List ℕ) (p : syntax.Program) (s : List ℕ) (from : ℕ) where
   -- the same, where some blocks are further in already
@@ -130,7 +131,7 @@ module _ (text : List ℕ) (p : syntax.Program) (s : List ℕ) (from : ℕ) wher
           further k.0 (next_of up k.0 k.1) (absent (names_of text t.definitions) g) k.2
       at (Some i) g h =
           let m = point_at up t.known i q h in
-          let below = get_below t.known i m.0 m.1 in
+          let below = slice_get_within t.known i m.0 m.1 in
           past_block (record {
             at = record { path = v; number = i };
             denotes = here v n i t.definitions t.points g (let b = t.before in omega (arith, below, b));

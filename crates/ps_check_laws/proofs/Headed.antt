@@ -2,6 +2,7 @@
 use Rattle.std.proofs.Common.{◌≡◌, ℕ, ◌+◌, Bool, true, false, ◌&&◌, if◌then◌else◌, List, [], ◌∷◌, ◌++◌, length, map}
 use Rattle.std.proofs.Common.{take, nat_lt, Some, None, is_none, slice_get, refl, sym, ap, ◌∙◌, subst, length-append}
 use Rattle.std.proofs.Common.{arith}
+use Rattle.std.proofs.lemmas.Option.{slice_get_past}
 use Rattle.ps_syntax.specs.declared.program.Heading as syntax
 use Rattle.ps_syntax.specs.declared.program.Routine.{Routine}
 use Rattle.ps_check_judgement.specs.declared.refusal.Rule.TheVariants.{Limit}
@@ -21,7 +22,7 @@ use Rattle.ps_check_laws.specs.Definitions.{routine_heading, routine_names, intr
 use Rattle.ps_check_laws.specs.Denoting.{counted}
 use Rattle.ps_check_laws.specs.Meanings.{Defines, IsHeading}
 use Rattle.ps_check_declarations.specs.Points as points_of
-use Rattle.ps_check_laws.proofs.Lists.{inside, never, there_is, get_left, get_stays, get_at, get_end, take_whole}
+use Rattle.ps_check_laws.proofs.Lists.{inside, never, there_is, get_left, get_stays, get_at, take_whole}
 use Rattle.ps_check_laws.proofs.Lists.{there_place}
 use Rattle.ps_check_laws.specs.Counts.{sum, routine_domains}
 use Rattle.ps_check_laws.proofs.Declared.{Standing, one_more_stands}
@@ -266,6 +267,6 @@ module _ (c : Context) (number : ℕ) (names : List (List ℕ)) (outer : List Re
         let long = names_length c.text (before done) in
         let many = at.stands.many in
         let last : index ≡ length r.known = omega (arith, at_end, long, many) in
-        let nothing : slice_get r.known index ≡ None = get_end r.known index (omega (arith, last)) in
+        let nothing : slice_get r.known index ≡ None = slice_get_past r.known index (omega (arith, last)) in
         new_at xh is_said rest split new last (ap (headed f (routine c x) r) (sym ((read c x).heading ∙ is_said))
         ∙ ap (introduce f (routine c x) r) (sym nothing) ∙ e)

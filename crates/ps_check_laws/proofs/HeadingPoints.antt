@@ -1,7 +1,8 @@
 -- The points of a heading: the names of its formal parameters, and their number.
-use Rattle.std.proofs.Common.{◌≡◌, ℕ, ◌+◌, ◌≤◌, true, List, [], ◌∷◌, ◌++◌, length, map, nat_le, Some, None, is_some}
+use Rattle.std.proofs.Common.{◌≡◌, ℕ, ◌+◌, ◌≤◌, List, [], ◌∷◌, ◌++◌, length, map, nat_le, Some, None, is_some}
 use Rattle.std.proofs.Common.{refl, sym, ap, ◌∙◌, append_assoc, append-nil, length-append, arith}
 use Rattle.std.proofs.lemmas.List.{map-append, length-map}
+use Rattle.std.proofs.lemmas.Bool.{leb-true}
 use Rattle.ps_syntax.specs.declared.program.Heading as syntax
 use Rattle.ps_syntax.specs.declared.program.Heading.{out-Heading, roll-Heading, roll-out-Heading}
 use Rattle.ps_syntax.specs.declared.program.Section as syntax_section
@@ -33,9 +34,6 @@ total (s ∷ ss) = section_count s + total ss
 total_more : (ss : List Section) (s : Section) → total (ss ++ s ∷ []) ≡ total ss + section_count s
 total_more [] s = omega arith
 total_more (x ∷ ss) s = let q = total_more ss s in omega (arith, q)
-
-at_most : (m n : ℕ) → nat_le m n ≡ true → m ≤ n
-at_most m n e = grind (arith, e)
 
 -- names are added as their points are
 names_points : (text : List ℕ) (ps : Points) (A : Names) → add_names A (map (spelled text) ps) ≡ add_points text A ps
@@ -185,7 +183,7 @@ module _ (f : Frame) (known : List Meaning) where
   list_few at hidden xs ss e =
       let names = list_names f known (map (section f known) xs) in
       let n = then_yes (few at (length names)) _ ss e in
-      let q = at_most (length names) 32 (provided_yes (nat_le (length names) 32) _ _ (length names) n.0 n.1).0 in
+      let q = leb-true (length names) 32 (provided_yes (nat_le (length names) 32) _ _ (length names) n.0 n.1).0 in
       let l = ap length (list_names_are at hidden (map (section f known) xs) ss e ∙ ap (map (spelled f.text))
       (list_points xs)) in
       let m = length-map (all (map section_points xs)) (spelled f.text) in

@@ -1,9 +1,11 @@
 -- Lists, and steps that were made.
 use Rattle.std.proofs.Common.{◌≡◌, ℕ, zero, suc, ◌+◌, ◌<◌, ◌≤◌, Bool, true, false, ◌||◌, cond, List, [], ◌∷◌, ◌++◌}
-use Rattle.std.proofs.Common.{length, take, drop, Option, Some, None, slice_get, slice_set, refl, sym, ap, ◌∙◌, subst}
+use Rattle.std.proofs.Common.{length, take, drop, Option, Some, None, slice_get, slice_set, refl, ap, ◌∙◌, subst}
 use Rattle.std.proofs.Common.{arith}
 use Rattle.std.specs.Prelude.{if◌then◌else◌}
 use Rattle.std.specs.List.{position_from}
+use Rattle.std.proofs.lemmas.Option.{slice_get_within}
+use Rattle.std.proofs.lemmas.Bool.{or_parts}
 use Rattle.ps_check_judgement.specs.Judged as j
 use Rattle.ps_check_judgement.specs.Judged.{Judged, Yes, No}
 use Rattle.ps_check_judgement.proofs.Binds.{no_yes, inside_yes}
@@ -49,11 +51,6 @@ never e = absurd (cc)
 
 -- ---- items of lists
 
-pub get_below : {A : Type 0} (xs : List A) (i : ℕ) (x : A) → slice_get xs i ≡ Some x → i < length xs
-get_below [] i x e = absurd (none_some e)
-get_below (y ∷ xs) zero x e = omega arith
-get_below (y ∷ xs) (suc i) x e = let l = get_below xs i x e in omega (arith, l)
-
 pub there_is : {A : Type 0} (xs : List A) (i : ℕ) → i < length xs → (x : A) × (slice_get xs i ≡ Some x)
 there_is [] i l = absurd (omega (arith, l))
 there_is (x ∷ xs) zero l = (x, refl)
@@ -66,16 +63,11 @@ get_left (x ∷ xs) ys (suc i) l = get_left xs ys i (omega (arith, l))
 
 pub get_stays : {A : Type 0} (xs ys : List A) (i : ℕ) (x : A) → slice_get xs i ≡ Some x → slice_get (xs ++ ys) i
     ≡ Some x
-get_stays xs ys i x e = get_left xs ys i (get_below xs i x e) ∙ e
+get_stays xs ys i x e = get_left xs ys i (slice_get_within xs i x e) ∙ e
 
 pub get_at : {A : Type 0} (xs : List A) (y : A) (ys : List A) → slice_get (xs ++ y ∷ ys) (length xs) ≡ Some y
 get_at [] y ys = refl
 get_at (x ∷ xs) y ys = get_at xs y ys
-
-pub get_end : {A : Type 0} (xs : List A) (i : ℕ) → length xs ≤ i → slice_get xs i ≡ None
-get_end [] i l = refl
-get_end (x ∷ xs) zero l = absurd (omega (arith, l))
-get_end (x ∷ xs) (suc i) l = get_end xs i (omega (arith, l))
 
 -- an item is one of a list, or the one after it
 pub get_last : {A : Type 0} (xs : List A) (y : A) (i : ℕ) (x : A) (C : Type 0) → slice_get (xs ++ y ∷ []) i ≡ Some x
@@ -173,10 +165,6 @@ each_append P (x ∷ xs) ys h g = (h.0, each_append P xs ys h.1 g)
 
 -- ---- places of names
 
-pub or_false : (a b : Bool) → (a || b) ≡ false → (a ≡ false) × (b ≡ false)
-or_false true b e = never (sym e)
-or_false false b e = (refl, e)
-
 pub has_append : (xs ys : List (List ℕ)) (s : List ℕ) → has (xs ++ ys) s ≡ (has xs s || has ys s)
 has_append [] ys s = refl
 has_append (x ∷ xs) ys s = at (same s x) (has_append xs ys s)
@@ -228,6 +216,6 @@ pub new_place : (n : ℕ) (xs ys : List (List ℕ)) (s x : List ℕ) → has xs 
 new_place n [] ys s x e q = ap (λ b. cond b (Some n) (position_from (same s) (n + 1) ys)) q
     ∙ (let z : n ≡ n + 0 = omega arith in ap (λ k. Some k) z)
 new_place n (y ∷ xs) ys s x e q =
-    let h = or_false (same s y) (has xs s) e in
+    let h = or_parts (same s y) (has xs s) e in
     ap (λ b. cond b (Some n) (position_from (same s) (n + 1) (xs ++ x ∷ ys))) h.0 ∙ new_place (n + 1) xs ys s x h.1 q
     ∙ (let z : (n + 1) + length xs ≡ n + suc (length xs) = omega arith in ap (λ k. Some k) z)

@@ -2,6 +2,7 @@
 use Rattle.std.proofs.Common.{◌≡◌, ℕ, ◌+◌, ◌<◌, ◌≤◌, true, List, [], ◌∷◌, ◌++◌, length, map, take, Option, Some, None}
 use Rattle.std.proofs.Common.{option_map, option_and_then, slice_get, slice_set, refl, sym, ap, ◌∙◌, subst}
 use Rattle.std.proofs.Common.{append_assoc, append-nil, length-append, arith}
+use Rattle.std.proofs.lemmas.Option.{slice_get_within}
 use Rattle.ps_syntax.specs.declared.program.Heading as syntax
 use Rattle.ps_syntax.specs.declared.program.Block as syntax_block
 use Rattle.ps_syntax.specs.declared.program.Routine.{Routine, out-Routine}
@@ -26,7 +27,7 @@ use Rattle.ps_check_laws.specs.Definitions.{Declarations, Definition, OfRoutine,
 use Rattle.ps_check_laws.specs.Definitions.{formal_declarations, routine_name, routine_heading, routine_names}
 use Rattle.ps_check_laws.specs.Definitions.{introduced}
 use Rattle.ps_check_laws.specs.Denoting.{counted, headings_within}
-use Rattle.ps_check_laws.proofs.Lists.{none_some, inside, get_below, there_is, take_whole, set_same, set_other}
+use Rattle.ps_check_laws.proofs.Lists.{none_some, inside, there_is, take_whole, set_same, set_other}
 use Rattle.ps_check_laws.proofs.Lists.{set_length}
 use Rattle.ps_check_laws.specs.Counts.{sum, routine_domains, block_domains}
 use Rattle.ps_check_laws.proofs.Drawn.{inner_domains as inner_drawn, domains_are as drawn_are, sum_last}
@@ -194,7 +195,7 @@ module _ (c : Context) (number : ℕ) (names : List (List ℕ)) (outer : List Re
         ≡ Some None = ap (λ (z : Heading). slice_get s.gathered.routines z.number) (sym same_heading) ∙ intro.vacant
         in
         let count = inner.count in
-        let below = get_below s.gathered.routines h.0.number None vacant in
+        let below = slice_get_within s.gathered.routines h.0.number None vacant in
         let there = there_is d.0.gathered.routines h.0.number (omega (arith, count, below)) in
         let routines_are : w.gathered.routines ≡ set = ap (λ (z : Routines). z.gathered.routines) (sym w_is)
         ∙ ap (λ (z : Gathered). z.routines) (sym g_is) in

@@ -2,6 +2,7 @@
 use Rattle.std.proofs.Common.{◌≡◌, ℕ, ◌+◌, Bool, true, false, not, ◌&&◌, List, [], ◌∷◌, ◌++◌, length, map, take, refl}
 use Rattle.std.proofs.Common.{sym, ap, ◌∙◌, append_assoc, append-nil, length-append, arith}
 use Rattle.std.specs.Prelude.{if◌then◌else◌}
+use Rattle.std.proofs.lemmas.Bool.{not-true}
 use Rattle.ps_check_judgement.specs.declared.refusal.Rule.TheVariants.{Twice}
 use Rattle.ps_check_judgement.specs.Judged.{Yes}
 use Rattle.ps_check_judgement.proofs.Binds.{inside_yes, then_yes, provided_yes}
@@ -23,10 +24,6 @@ and_left false b e = never e
 and_right : (a b : Bool) → (a && b) ≡ true → b ≡ true
 and_right true b e = e
 and_right false b e = never e
-
-not_true : (b : Bool) → not b ≡ true → b ≡ false
-not_true true h = absurd (cc)
-not_true false h = refl
 
 take_first : {A : Type 0} (xs ys : List A) → take (length xs) (xs ++ ys) ≡ xs
 take_first [] ys = refl
@@ -77,9 +74,9 @@ module _ (text : List ℕ) (N begun : Names) where
       in
       let later = and_left (is_later N count s) (not (has begun s)) e in
       record {
-        absent = sym (ap (λ l. has l s) first) ∙ not_true (has (take count N) s)
+        absent = sym (ap (λ l. has l s) first) ∙ not-true (has (take count N) s)
             (and_right (has N s) (not (has (take count N) s)) later);
-        unbegun = not_true (has begun s) (and_right (is_later N count s) (not (has begun s)) e);
+        unbegun = not-true (has begun s) (and_right (is_later N count s) (not (has begun s)) e);
       }
 
   -- points that are each new

@@ -4,7 +4,8 @@ use Rattle.std.proofs.Common.{◌≡◌, ℕ, zero, suc, ◌+◌, Bool, true, fa
 use Rattle.std.proofs.Common.{◌++◌, length, map, take, drop, Option, Some, None, is_some, is_none, option_map}
 use Rattle.std.proofs.Common.{slice_get, refl, sym, ap, ◌∙◌, append_assoc, append-nil, length-append, arith}
 use Rattle.std.proofs.lemmas.List.{map-append}
-use Rattle.std.proofs.lemmas.Option.{slice_get-map}
+use Rattle.std.proofs.lemmas.Option.{slice_get-map, slice_get_within}
+use Rattle.std.proofs.lemmas.Bool.{not-true}
 use Rattle.ps_syntax.specs.declared.program.Heading as syntax
 use Rattle.ps_syntax.specs.declared.program.Block as syntax_block
 use Rattle.ps_syntax.specs.declared.program.Routine.{Routine, out-Routine}
@@ -21,7 +22,7 @@ use Rattle.ps_check_laws.specs.Definitions.{Declarations, Definition, OfDeclarat
 use Rattle.ps_check_laws.specs.Definitions.{routine_heading, routine_name, routine_names, introduced_from, introduced}
 use Rattle.ps_check_laws.specs.Definitions.{of_routine, point, names_of}
 use Rattle.ps_check_laws.specs.Forward.{is_function, layer_completes, Completes, AreCompleted}
-use Rattle.ps_check_laws.proofs.Lists.{none_some, inside, never, get_below, there_is, get_stays, get_at, get_last}
+use Rattle.ps_check_laws.proofs.Lists.{none_some, inside, never, there_is, get_stays, get_at, get_last}
 use Rattle.ps_check_laws.proofs.Lists.{take_length, there_place, new_place}
 use Rattle.ps_check_laws.proofs.Shown.{split_at}
 use Rattle.ps_check_laws.proofs.Pending.{declarations_length}
@@ -82,10 +83,6 @@ completing_may c x (Routine-F.Completion name b) h o e =
     ((read c x).block_is ∙ ap (λ z. option_map (block c) (layer_block z)) o)
     ∙ ap is_name_alone ((read c x).heading ∙ ap layer_heading o)
 
-turned : (b : Bool) → not b ≡ true → b ≡ false
-turned true e = never e
-turned false e = refl
-
 none_is : {A : Type 0} (o : Option A) → is_some o ≡ false → is_none o ≡ true
 none_is None e = refl
 none_is (Some x) e = never (sym e)
@@ -95,7 +92,7 @@ completing_kind : (c : Context) (x : Routine) (z : Routine-F Routine syntax_bloc
     → is_same_kind (routine c x) h ≡ true
 unfolding routine_heading
 completing_kind c x (Routine-F.Whole q b) g h o e kind =
-    let no_function : is_function g ≡ false = turned (is_function g)
+    let no_function : is_function g ≡ false = not-true (is_function g)
     (and_right (is_bare q) (not (is_function g)) (sym (ap (layer_completes g) o) ∙ e)) in
     ap (λ z. if is_some z then is_none h.result else is_some h.result) ((read c x).heading ∙ ap layer_heading o)
     ∙ none_is h.result (kind ∙ no_function)
@@ -300,7 +297,7 @@ module _ (c : Context) (D : Declarations) (rs : List Routine) (apart : AreApart 
         ∙ ap (option_map (λ (r : InPart). spelled c.text (routine_name r.1))) q.1) in
         let alike : sp c.text q.0.1 ≡ sp c.text x = sym (same_equal (sp c.text x) st.name st.alike ∙ name) in
         let there = introduced_of c.text done st.index q.0.0 q.0.1 q.1 in
-        let in_done = get_below done q.0.0 q.0.1 there in
+        let in_done = slice_get_within done q.0.0 q.0.1 there in
         let first = declarations_length D in
         let i = length (map OfDeclaration D) + st.index in
         let at : slice_get (before done) i ≡ Some (OfRoutine q.0.0 q.0.1) = get_right (map OfDeclaration D)

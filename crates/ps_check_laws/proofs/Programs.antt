@@ -2,6 +2,7 @@
 use Rattle.std.proofs.Common.{◌≡◌, ℕ, suc, ◌+◌, ◌≤◌, Bool, true, false, ◌&&◌, if◌then◌else◌, List, [], ◌∷◌, ◌++◌}
 use Rattle.std.proofs.Common.{length, map, take, nat_eq, nat_le, Option, Some, None, slice_get, slice_set, refl, sym}
 use Rattle.std.proofs.Common.{ap, ◌∙◌, subst, arith}
+use Rattle.std.proofs.lemmas.Bool.{leb-true, eq-eqb, ne_eqb}
 use Rattle.ps_syntax.specs.declared.program.Block as syntax_block
 use Rattle.ps_syntax.specs.declared.program.Block.{roll-Block, out-roll-Block}
 use Rattle.ps_syntax.specs.declared.program.Routine.{Routine, roll-Routine, map-Routine, out-roll-Routine}
@@ -25,8 +26,7 @@ use Rattle.ps_check_laws.specs.Counts.{block_domains, first_domain_at}
 use Rattle.ps_check_laws.specs.Rule.{BlockIsRead, is_read, IsBegun, of_program, ReadProgramsAreChecked}
 use Rattle.ps_check_laws.specs.Rule.{OneProgramIsRead}
 use Rattle.ps_check_laws.proofs.Lists.{none_some, inside, there_is, take_next, take_all, Each}
-use Rattle.ps_check_laws.proofs.Shown.{differ, closed, shown, shown_from, shown_all, shown_closed, all_some}
-use Rattle.ps_check_laws.proofs.Rebuilt.{equal_true}
+use Rattle.ps_check_laws.proofs.Shown.{closed, shown, shown_from, shown_all, shown_closed, all_some}
 use Rattle.ps_check_laws.proofs.Recovered.{recovered}
 use Rattle.ps_check_laws.proofs.ByParts.{tree_parts}
 use Rattle.ps_check_laws.proofs.RecoveredNames.{BlockRecovers, RoutineRecovers}
@@ -49,16 +49,13 @@ limited false b c d e = absurd (never e)
     never : false ≡ true → ⊥
     never e = cc
 
-less_equal : (m k : ℕ) → nat_le m k ≡ true → m ≤ k
-less_equal m k e = grind (arith, e)
-
 limits_told : (made : Tree.Program) → is_within_limits made ≡ true → (length made.routines ≤ 1048576)
     × (are_routines_within_limits made.routines ≡ true)
 unfolding is_within_limits
 limits_told made e =
     let l = limited (nat_le (length made.routines) 1048576) (nat_le (length made.domains) 1048576)
     (are_small made.domains) (are_routines_within_limits made.routines) e in
-    (less_equal (length made.routines) 1048576 l.0, l.1)
+    (leb-true (length made.routines) 1048576 l.0, l.1)
 
 -- ---- all blocks
 
@@ -124,11 +121,11 @@ by_root text p files made all many drawn within (is_read u a G some mine all_cha
     let one : mine.next ≡ 1 = inside mine.next 1 (sym mine.numbers) in
     let none : mine.pointers ≡ 0 = inside mine.pointers 0 (sym mine.domains) in
     let count : mine.next + headings_within text p.block ≡ length made.routines = omega (arith, one, many) in
-    let low : (m : ℕ) → mine.next ≤ m → is_root m ≡ false = λ m l. differ m 0 (λ q. omega (arith, l, one, q)) in
+    let low : (m : ℕ) → mine.next ≤ m → is_root m ≡ false = λ m l. ne_eqb m 0 (λ q. omega (arith, l, one, q)) in
     let root = there_is made.routines 0 (omega (arith, many)) in
     let first : shown made.routines is_root mine.next ≡ None ∷ [] =
     ap (shown made.routines is_root) one ∙ ap (shown_from is_root 0) (take_next made.routines 0 root.0 root.1)
-    ∙ ap (λ b. (if b then None else Some root.0) ∷ []) (equal_true 0 0 refl) in
+    ∙ ap (λ b. (if b then None else Some root.0) ∷ []) (eq-eqb 0 0 refl) in
     let g_is : nothing_gathered ≡ record {
       domains = take mine.pointers made.domains;
       routines = shown made.routines is_root mine.next;

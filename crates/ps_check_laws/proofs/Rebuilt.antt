@@ -1,8 +1,10 @@
 -- A block that keeps the rules is what the checker reads.
 use Rattle.std.proofs.Common.{◌≡◌, ℕ, zero, suc, ◌+◌, ◌<◌, ◌≤◌, Bool, true, false, ◌||◌, not, if◌then◌else◌, List, []}
-use Rattle.std.proofs.Common.{◌∷◌, ◌++◌, length, take, drop, nat_eq, nat_lt, Some, slice_get, refl, sym, ap, ◌∙◌}
+use Rattle.std.proofs.Common.{◌∷◌, ◌++◌, length, take, drop, nat_eq, Some, slice_get, refl, sym, ap, ◌∙◌}
 use Rattle.std.proofs.Common.{append_assoc, append-nil, length-append, eqb-true, arith}
 use Rattle.std.proofs.lemmas.List.{map-append}
+use Rattle.std.proofs.lemmas.Option.{slice_get_within}
+use Rattle.std.proofs.lemmas.Bool.{eq-eqb, ne_eqb}
 use Rattle.ps_syntax.specs.declared.program.Heading as syntax
 use Rattle.ps_syntax.specs.declared.program.Routine.{Routine, out-Routine}
 use Rattle.ps_syntax.specs.declared.program.Routine.TheOpen.{Routine-F}
@@ -14,9 +16,9 @@ use Rattle.ps_check.specs.RegionNames.{AreApart}
 use Rattle.ps_check_laws.specs.Definitions.{Declarations, InPart, routine_name, routine_names, introduced, names_of}
 use Rattle.ps_check_laws.specs.Denoting.{counted, routine_count}
 use Rattle.ps_check_laws.specs.Forward.{layer_completes, Completes, AreCompleted}
-use Rattle.ps_check_laws.proofs.Lists.{none_some, inside, never, get_below, get_stays, get_at, get_last, take_whole}
+use Rattle.ps_check_laws.proofs.Lists.{none_some, inside, never, get_stays, get_at, get_last, take_whole}
 use Rattle.ps_check_laws.proofs.Lists.{take_next, compare, difference, has_append}
-use Rattle.ps_check_laws.proofs.Shown.{split_at, take_add, differ, opened, closed}
+use Rattle.ps_check_laws.proofs.Shown.{split_at, take_add, opened, closed}
 use Rattle.ps_check_laws.proofs.Routines.{sp, introduced_last, introduced_more, introduced_append, names_last, own}
 use Rattle.ps_check_laws.proofs.Routines.{counts, counted_none, counted_last}
 use Rattle.ps_check_laws.proofs.BlockPoints.{points}
@@ -24,12 +26,6 @@ use Rattle.ps_check_laws.proofs.Forwards.{and_left, and_right}
 use Rattle.ps_check_laws.proofs.Ordered.{has_at, before, Point, new, old, routed}
 
 -- ---- numbers and limits
-
-pub less_true : (m k : ℕ) → m < k → nat_lt m k ≡ true
-less_true m k l = grind (arith, l)
-
-pub equal_true : (m k : ℕ) → m ≡ k → nat_eq m k ≡ true
-equal_true m k e = grind (arith, e)
 
 -- the limits of a program hold of each of its routines
 pub routine_small : (rs : List Tree.Routine) (n : ℕ) (r : Tree.Routine) → are_routines_within_limits rs ≡ true
@@ -232,14 +228,14 @@ module _ (c : Context) (D : Declarations) (rs : List Routine) (apart : AreApart 
       pub forward_are : (h : syntax.Heading) → out-Routine x ≡ Routine-F.Forward h → Are (done ++ x ∷ []) first
           (opened n vacant)
       forward_are h o = record {
-        same = λ m l. ap (λ b. if b then true else vacant m) (differ m n (λ q. omega (arith, q, l))) ∙ a.same m l;
-        below = λ m l. let z = more in ap (λ b. if b then true else vacant m) (differ m n (λ q. omega (arith, q, l, z)))
+        same = λ m l. ap (λ b. if b then true else vacant m) (ne_eqb m n (λ q. omega (arith, q, l))) ∙ a.same m l;
+        below = λ m l. let z = more in ap (λ b. if b then true else vacant m) (ne_eqb m n (λ q. omega (arith, q, l, z)))
             ∙ a.below m (omega (arith, l, z));
         waiting = λ m l e. at m l (nat_eq m n) refl e;
         waits = λ j y g e f not. get_last done x j y (opened n vacant (number_of j) ≡ true) e
             (λ before. still (number_of j) (nat_eq (number_of j) n) (a.waits j y g before f (earlier y j not)))
             (λ q is. let z = is_numbered in ap (λ b. if b then true else vacant (number_of j))
-            (equal_true (number_of j) n (ap number_of q ∙ z)));
+            (eq-eqb (number_of j) n (ap number_of q ∙ z)));
       }
         where
           still : (m : ℕ) (b : Bool) → vacant m ≡ true → (if b then true else vacant m) ≡ true
@@ -255,7 +251,7 @@ module _ (c : Context) (D : Declarations) (rs : List Routine) (apart : AreApart 
             there = get_at done x [];
             forward = o;
             number = eqb-true m n q ∙ sym is_numbered;
-            not_yet = λ i z below there same_name. let y = get_below (done ++ x ∷ []) i z there
+            not_yet = λ i z below there same_name. let y = slice_get_within (done ++ x ∷ []) i z there
                 in let s = length-append done (x ∷ []) in omega (arith, below, y, s);
           }
           at m l false q e = let w = a.waiting m l e in waits_on m w (new_differs absent w.at w.routine_there w.there)
@@ -276,7 +272,7 @@ module _ (c : Context) (D : Declarations) (rs : List Routine) (apart : AreApart 
       }
         where
           here : (m : ℕ) → (m ≡ n → ⊥) → closed n (opened n vacant) m ≡ vacant m
-          here m q = ap (λ b. if b then false else (if b then true else vacant m)) (differ m n q)
+          here m q = ap (λ b. if b then false else (if b then true else vacant m)) (ne_eqb m n q)
 
           plain : (m : ℕ) → n < m → closed n (opened n vacant) m ≡ vacant m
           plain m l = here m (λ q. omega (arith, q, l))
@@ -290,7 +286,7 @@ module _ (c : Context) (D : Declarations) (rs : List Routine) (apart : AreApart 
           waiting_at m l false e = a.waiting m l e
 
       pub inner_low : (m : ℕ) → n + 1 ≤ m → opened n vacant m ≡ false
-      inner_low m l = ap (λ b. if b then true else vacant m) (differ m n (λ q. omega (arith, q, l))) ∙ a.below m
+      inner_low m l = ap (λ b. if b then true else vacant m) (ne_eqb m n (λ q. omega (arith, q, l))) ∙ a.below m
           (omega (arith, l))
 
     -- the routine completes one that is pending
@@ -299,13 +295,13 @@ module _ (c : Context) (D : Declarations) (rs : List Routine) (apart : AreApart 
       no_forward h o = forward_not c.text y x h completes o
 
       below_k : j < k
-      below_k = get_below done j y there
+      below_k = slice_get_within done j y there
 
       -- none between them has the name
       between : NotYet c.text done j y
       between i z l e q =
           let one = completed.only j i y z l (in_rs j y there) (in_rs i z e) q in
-          let two = completed.only i k z x (get_below done i z e) (in_rs i z e) at_k (sym (q ∙ alike)) in
+          let two = completed.only i k z x (slice_get_within done i z e) (in_rs i z e) at_k (sym (q ∙ alike)) in
           forward_not c.text y z two.heading one two.forward
 
       pub is_open_there : vacant (number_of j) ≡ true
@@ -316,13 +312,13 @@ module _ (c : Context) (D : Declarations) (rs : List Routine) (apart : AreApart 
 
       pub completed_are : Are (done ++ x ∷ []) first (closed (number_of j) vacant)
       completed_are = record {
-        same = λ m l. ap (λ b. if b then false else vacant m) (differ m (number_of j) (λ q. omega (arith, q, l)))
+        same = λ m l. ap (λ b. if b then false else vacant m) (ne_eqb m (number_of j) (λ q. omega (arith, q, l)))
             ∙ a.same m l;
         below = λ m l. at m (nat_eq m (number_of j)) (let z = grows in a.below m (omega (arith, l, z)));
         waiting = λ m l e. waiting_at m l (nat_eq m (number_of j)) refl e;
         waits = λ i z g e f not. get_last done x i z (closed (number_of j) vacant (number_of i) ≡ true) e
             (λ before. ap (λ b. if b then false else vacant (number_of i))
-            (differ (number_of i) (number_of j) (λ q. numbers_differ i z g before f not q)) ∙ a.waits i z g before f
+            (ne_eqb (number_of i) (number_of j) (λ q. numbers_differ i z g before f not q)) ∙ a.waits i z g before f
             (earlier z i not))
             (λ q is. absurd (no_forward g (ap out-Routine is ∙ f)));
       }
@@ -340,7 +336,7 @@ module _ (c : Context) (D : Declarations) (rs : List Routine) (apart : AreApart 
               waits_on m w (λ s.
               compare w.at j ⊥
               (λ less. w.not_yet j y less there (alike ∙ s))
-              (λ same_place. never (sym q ∙ equal_true m (number_of j) (w.number ∙ ap number_of same_place)))
+              (λ same_place. never (sym q ∙ eq-eqb m (number_of j) (w.number ∙ ap number_of same_place)))
               (λ more. between w.at w.routine_there more w.there (sym s ∙ sym alike)))
 
           numbers_differ : (i : ℕ) (z : Routine) (g : syntax.Heading) → slice_get done i ≡ Some z → out-Routine z
@@ -348,7 +344,7 @@ module _ (c : Context) (D : Declarations) (rs : List Routine) (apart : AreApart 
           numbers_differ i z g e f not q =
               compare i j ⊥
               (λ l. let m = forward_less i j z g l (in_rs i z e) f in omega (arith, m, q))
-              (λ same_place. not k x (get_below done i z e) (get_at done x [])
+              (λ same_place. not k x (slice_get_within done i z e) (get_at done x [])
               (sym alike ∙ ap (sp c.text) (inside y z (sym there ∙ ap (slice_get done) (sym same_place) ∙ e))))
               (λ l. let m = forward_less j i y completes.heading l (in_rs j y there) completes.forward in omega
               (arith, m, q))

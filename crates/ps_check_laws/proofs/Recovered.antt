@@ -1,6 +1,7 @@
 -- A block that keeps the rules is what the checker reads.
 use Rattle.std.proofs.Common.{◌≡◌, ℕ, suc, ◌+◌, ◌<◌, ◌≤◌, Bool, true, false, not, if◌then◌else◌, List, [], ◌∷◌, ◌++◌}
 use Rattle.std.proofs.Common.{length, map, take, drop, Some, None, slice_get, refl, sym, ap, ◌∙◌, arith}
+use Rattle.std.proofs.lemmas.Option.{slice_get_within}
 use Rattle.ps_syntax.specs.declared.program.Block as syntax_block
 use Rattle.ps_syntax.specs.declared.program.Block.{out-Block}
 use Rattle.ps_syntax.specs.declared.program.Routine.{Routine}
@@ -31,7 +32,7 @@ use Rattle.ps_check_laws.specs.Counts.{sum, routine_domains, block_domains, own_
 use Rattle.ps_check_laws.specs.Meanings.{AreMeanings, Defines}
 use Rattle.ps_check_laws.specs.Controls.{changes_from}
 use Rattle.ps_check_laws.specs.Rule.{KeepsRules}
-use Rattle.ps_check_laws.proofs.Lists.{get_below, there_is, take_next, take_all, take_drop, Each}
+use Rattle.ps_check_laws.proofs.Lists.{there_is, take_next, take_all, take_drop, Each}
 use Rattle.ps_check_laws.proofs.Shown.{shown, shown_at, shown_alike}
 use Rattle.ps_check_laws.proofs.Routines.{sp, counts, counted_none}
 use Rattle.ps_check_laws.proofs.Pending.{declarations_length}
@@ -185,7 +186,7 @@ module _ (text : List ℕ) (p : syntax_program.Program) (files : Files) (made : 
     all_is_complete : all_complete end mine.known ≡ Yes tt
     unfolding all_complete
     all_is_complete = all_are end mine.known (λ i m e.
-        let l = get_below mine.known i m e in
+        let l = slice_get_within mine.known i m e in
         let d = there_is all i (omega (arith, l, many)) in
         complete_at i m d.0 e d.1 (means i d.0 m d.1 e))
 

@@ -2,6 +2,8 @@
 use Rattle.std.proofs.Common.{◌≡◌, ℕ, suc, ◌+◌, ◌<◌, ◌≤◌, Bool, true, false, ◌&&◌, if◌then◌else◌, List, [], ◌∷◌, ◌++◌}
 use Rattle.std.proofs.Common.{length, map, take, Some, None, is_some, is_none, slice_get, refl, sym, ap, ◌∙◌, subst}
 use Rattle.std.proofs.Common.{append_assoc, length-append, arith}
+use Rattle.std.proofs.lemmas.Option.{slice_get_within, slice_get_past}
+use Rattle.std.proofs.lemmas.Bool.{lt-ltb}
 use Rattle.ps_syntax.specs.declared.program.Heading as syntax
 use Rattle.ps_syntax.specs.declared.program.Block as syntax_block
 use Rattle.ps_syntax.specs.declared.program.Block.{out-Block}
@@ -31,14 +33,14 @@ use Rattle.ps_check_laws.specs.Denoting.{counted, routine_count, headings_within
 use Rattle.ps_check_laws.specs.Forward.{is_function}
 use Rattle.ps_check_laws.specs.Controls.{changes_from}
 use Rattle.ps_check_laws.specs.Rule.{KeepsRules}
-use Rattle.ps_check_laws.proofs.Lists.{inside, get_below, there_is, get_stays, get_at, get_end, take_whole, take_next}
+use Rattle.ps_check_laws.proofs.Lists.{inside, there_is, get_stays, get_at, take_whole, take_next}
 use Rattle.ps_check_laws.proofs.Shown.{take_many, get_take, opened, closed, shown, shown_many, shown_at, shown_new}
 use Rattle.ps_check_laws.proofs.HeadingPoints.{points_told, heading_told}
 use Rattle.ps_check_laws.proofs.Routines.{read, sp, own, counts}
 use Rattle.ps_check_laws.proofs.BlockPoints.{none_stays, points, points_last}
 use Rattle.ps_check_laws.proofs.Blocks.{within_is}
 use Rattle.ps_check_laws.proofs.Ordered.{may_so, kind_so, Point as Standing, new, old, points_further, routed}
-use Rattle.ps_check_laws.proofs.Rebuilt.{less_true, counted_end, counted_more, own_one, own_none, Are, forward_are}
+use Rattle.ps_check_laws.proofs.Rebuilt.{counted_end, counted_more, own_one, own_none, Are, forward_are}
 use Rattle.ps_check_laws.proofs.Rebuilt.{whole_are, inner_low, completed_are, is_open_there, no_forward, forward_less}
 use Rattle.ps_check_laws.proofs.ByParts.{heading_parts}
 use Rattle.ps_check_laws.proofs.RecoveredNames.{Meant, Nested, State, apart, many, meant}
@@ -169,7 +171,7 @@ module _ (text : List ℕ) (p : syntax_program.Program) (files : Files) (made : 
           ap (λ z. j.◌>>=◌ (provided z Limit (heading_name m.said).from (length r.gathered.routines))
           (λ z. j.◌>>=◌ ((heading f r.known m.said).1 (hidden_in_heading f m.said))
           (λ said. Yes (as_routines (as_heading z said)))))
-          (less_true (length r.gathered.routines) 1048576 in_limit)
+          (lt-ltb (length r.gathered.routines) 1048576 in_limit)
           ∙ ap (λ o. j.◌>>=◌ o (λ said. Yes (as_routines (as_heading (length r.gathered.routines) said)))) reading
           ∙ ap (λ h. Yes (as_routines h)) same_heading
 
@@ -205,8 +207,8 @@ module _ (text : List ℕ) (p : syntax_program.Program) (files : Files) (made : 
               routines = r.gathered.routines ++ None ∷ [];
             };
           } in
-          let nothing : slice_get r.known i ≡ None = ap (λ l. slice_get l i) s.known ∙ get_end (take i mine.known) i
-          (let l = get_below all i (OfRoutine (length done) x) at in let z = take_many i mine.known
+          let nothing : slice_get r.known i ≡ None = ap (λ l. slice_get l i) s.known ∙ slice_get_past (take i mine.known) i
+          (let l = slice_get_within all i (OfRoutine (length done) x) at in let z = take_many i mine.known
           (omega (
             arith,
             l,
@@ -251,7 +253,7 @@ module _ (text : List ℕ) (p : syntax_program.Program) (files : Files) (made : 
           let more = points_further c D rs
           (apart text p files made limits few v b Γ mine changes inner_is nested there room vacant low) mine.completed
           done rest x split in
-          let below : i < length (points text D I) = get_below (points text D I) i (OfRoutine j y) at in
+          let below : i < length (points text D I) = slice_get_within (points text D I) i (OfRoutine j y) at in
           let in_all : slice_get all i ≡ Some (OfRoutine j y) = ap (λ l. slice_get l i)
           (more.1 ∙ ap (λ l. l ++ more.0) grown) ∙ get_stays (points text D I) more.0 i (OfRoutine j y) at in
           let m = meant text p files made limits few v b Γ mine changes inner_is nested there room vacant low i j y
@@ -260,7 +262,7 @@ module _ (text : List ℕ) (p : syntax_program.Program) (files : Files) (made : 
           let number_less : number j < n = (let l = forward_less c D rs
           (apart text p files made limits few v b Γ mine changes inner_is nested there room vacant low) mine.completed
           mine.next j
-          (length done) y completes.heading (get_below done j y in_done) (in_part_of j y in_done) completes.forward
+          (length done) y completes.heading (slice_get_within done j y in_done) (in_part_of j y in_done) completes.forward
           in let z = number_is in omega (arith, l, z)) in
           let tree = there_is made.routines (number j)
           (let z = one_more in let y = inside_block in omega (arith, z, y, number_less)) in

@@ -1,6 +1,7 @@
 -- The names and the meanings of a block that keeps the rules, before its routines are read.
 use Rattle.std.proofs.Common.{◌≡◌, ℕ, ◌+◌, ◌≤◌, Bool, true, false, List, [], ◌∷◌, ◌++◌, length, map, take, Some}
 use Rattle.std.proofs.Common.{is_none, slice_get, refl, sym, ap, ◌∙◌, append_assoc, append-nil, arith}
+use Rattle.std.proofs.lemmas.Option.{slice_get_within}
 use Rattle.ps_syntax.specs.declared.program.Heading as syntax
 use Rattle.ps_syntax.specs.declared.program.Block as syntax_block
 use Rattle.ps_syntax.specs.declared.program.Block.{out-Block}
@@ -29,7 +30,7 @@ use Rattle.ps_check_laws.specs.Counts.{sum, routine_domains, block_domains, own_
 use Rattle.ps_check_laws.specs.Meanings.{AreMeanings, IsHeading}
 use Rattle.ps_check_laws.specs.Controls.{changes_from}
 use Rattle.ps_check_laws.specs.Rule.{KeepsRules, BlockIsRead}
-use Rattle.ps_check_laws.proofs.Lists.{get_below, there_is}
+use Rattle.ps_check_laws.proofs.Lists.{there_is}
 use Rattle.ps_check_laws.proofs.Shown.{shown}
 use Rattle.ps_check_laws.proofs.Routines.{counts}
 use Rattle.ps_check_laws.proofs.BlockPoints.{points_names, points}
@@ -122,7 +123,7 @@ module _ (text : List ℕ) (p : syntax_program.Program) (files : Files) (made : 
 
     pub meant : (i j : ℕ) (y : Routine) → slice_get all i ≡ Some (OfRoutine j y) → Meant i j y
     meant i j y e =
-        let l = get_below all i (OfRoutine j y) e in
+        let l = slice_get_within all i (OfRoutine j y) e in
         let m = there_is mine.known i (omega (arith, l, many)) in
         let d = means i (OfRoutine j y) m.0 e m.1 in
         record {

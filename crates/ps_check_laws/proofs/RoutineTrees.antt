@@ -1,6 +1,7 @@
 -- The tree that is made of a routine, the lists of such, and routines with and without blocks.
 use Rattle.std.proofs.Common.{◌≡◌, ℕ, zero, suc, true, List, [], ◌∷◌, ◌++◌, length, map, Option, Some, None, slice_get}
 use Rattle.std.proofs.Common.{refl, sym, ap, ◌∙◌, arith}
+use Rattle.std.proofs.lemmas.Option.{slice_get_within}
 use Rattle.ps_syntax.specs.declared.program.Block as syntax_block
 use Rattle.ps_syntax.specs.declared.program.Heading as syntax_heading
 use Rattle.ps_syntax.specs.declared.program.Routine.{Routine, out-Routine}
@@ -17,7 +18,7 @@ use Rattle.ps_check.specs.Paths.{layer_block, routine_block}
 use Rattle.ps_check_laws.specs.Definitions.{Definition}
 use Rattle.ps_check_laws.specs.Meanings.{AreMeanings}
 use Rattle.ps_check_laws.specs.Forward.{layer_completes}
-use Rattle.ps_check_laws.proofs.Lists.{never, none_some, inside, get_below, get_left}
+use Rattle.ps_check_laws.proofs.Lists.{never, none_some, inside, get_left}
 use Rattle.ps_check_laws.proofs.Declared.{Standing}
 
 pub map_length : {A B : Type 0} (f : A → B) (xs : List A) → length (map f xs) ≡ length xs
@@ -30,7 +31,7 @@ pub prefix_meanings : (f : Frame) (first : ℕ) (numbers : ℕ → ℕ) (ds more
     ≡ ds ++ more → Standing f first numbers ds known → AreMeanings f first numbers all known
 prefix_meanings f first numbers ds more all known e s i d m at g =
     let many = s.many in
-    let below = get_below known i m g in
+    let below = slice_get_within known i m g in
     s.are i d m (sym (ap (λ l. slice_get l i) e ∙ get_left ds more i (omega (arith, many, below))) ∙ at) g
 
 -- those that are traversed

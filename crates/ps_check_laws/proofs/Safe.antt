@@ -3,6 +3,7 @@
 use Rattle.std.proofs.Common.{◌≡◌, ℕ, zero, suc, ◌+◌, ◌-◌, ◌==◌, Bool, true, false, ◌&&◌, if◌then◌else◌, List, [], ◌∷◌}
 use Rattle.std.proofs.Common.{◌++◌, length, Some, slice_get, refl, sym, ap, ◌∙◌, subst, append-nil, length-append}
 use Rattle.std.proofs.Common.{eqb-true, arith}
+use Rattle.std.proofs.lemmas.Bool.{eq-eqb, ne_eqb}
 use Rattle.ps_syntax.specs.declared.program.Block as syntax_block
 use Rattle.ps_syntax.specs.declared.program.Block.{out-Block}
 use Rattle.ps_syntax.specs.declared.program.Routine.{Routine}
@@ -20,8 +21,6 @@ use Rattle.ps_check_laws.specs.Threats.{Threatened, is_entry, statements_threate
 use Rattle.ps_check_laws.specs.Safe.{IsRoutineAt, IsSafe, ControlVariablesAreSafe}
 use Rattle.ps_check_laws.specs.Rule.{KeepsRules, BlockIsRead, is_read}
 use Rattle.ps_check_laws.proofs.Lists.{none_some, inside, then_some, never, Each}
-use Rattle.ps_check_laws.proofs.Shown.{differ}
-use Rattle.ps_check_laws.proofs.Rebuilt.{equal_true}
 use Rattle.ps_check_laws.proofs.Threatened.{what_is_threatened_is_changed}
 use Rattle.ps_check_laws.proofs.Controls.{IsKept, AreKept, loops_kept}
 use Rattle.ps_check_laws.proofs.Accepted.{checked_programs_are_read}
@@ -57,11 +56,11 @@ further_out zero u e = never (sym e)
 further_out (suc m) u e = at (m == u) refl ∙ (let n : m ≡ suc m - 1 = omega arith in ap (λ k. k == u) n)
   where
     at : (b : Bool) → (m == u) ≡ b → (suc m == (u + 1)) ≡ (m == u)
-    at true q = equal_true (suc m) (u + 1) (let z = eqb-true m u q in omega (arith, z)) ∙ sym q
-    at false q = differ (suc m) (u + 1) (λ e. never (sym q ∙ equal_true m u (omega (arith, e)))) ∙ sym q
+    at true q = eq-eqb (suc m) (u + 1) (let z = eqb-true m u q in omega (arith, z)) ∙ sym q
+    at false q = ne_eqb (suc m) (u + 1) (λ e. never (sym q ∙ eq-eqb m u (omega (arith, e)))) ∙ sym q
 
 not_here : (m u : ℕ) (b : Bool) → (m == 0) ≡ true → ((m == (u + 1)) && b) ≡ false
-not_here m u b e = ap (λ z. z && b) (differ m (u + 1) (λ q. let z = eqb-true m 0 e in omega (arith, q, z)))
+not_here m u b e = ap (λ z. z && b) (ne_eqb m (u + 1) (λ q. let z = eqb-true m 0 e in omega (arith, q, z)))
 
 outward_none : (u i : ℕ) (xs : List Change) → NoneAt u i (outward xs) → NoneAt (u + 1) i xs
 unfolding outward

@@ -3,6 +3,7 @@
 use Rattle.std.proofs.Common.{◌≡◌, ℕ, zero, suc, ◌+◌, ◌<◌, ◌≤◌, Bool, true, false, if◌then◌else◌, List, [], ◌∷◌, ◌++◌}
 use Rattle.std.proofs.Common.{length, map, take, drop, nat_eq, Option, Some, None, slice_get, slice_set, refl, sym, ap}
 use Rattle.std.proofs.Common.{◌∙◌, eqb-true, arith}
+use Rattle.std.proofs.lemmas.Bool.{ne_eqb}
 use Rattle.ps_tree.specs.Tree as Tree
 use Rattle.ps_check_judgement.specs.declared.refusal.Rule.TheVariants.{Limit}
 use Rattle.ps_check_judgement.specs.Judged.{Yes, ◌>>=◌, some_or, traverse}
@@ -13,9 +14,6 @@ use Rattle.ps_check_laws.proofs.Lists.{none_some, inside, take_next}
 equal_at : (m k : ℕ) (b : Bool) → nat_eq m k ≡ b → (m ≡ k → ⊥) → b ≡ false
 equal_at m k true e differs = absurd (differs (eqb-true m k e))
 equal_at m k false e differs = refl
-
-pub differ : (m k : ℕ) → (m ≡ k → ⊥) → nat_eq m k ≡ false
-differ m k differs = equal_at m k (nat_eq m k) refl differs
 
 -- ---- parts of lists
 
@@ -107,7 +105,7 @@ shown_set vacant n (x ∷ rs) zero r e =
     let z : n ≡ n + 0 = omega arith in
     ap (λ y. Some y ∷ shown_from vacant (n + 1) rs) (sym (inside x r e))
     ∙ ap (λ l. Some x ∷ l) (shown_same vacant (closed (n + 0) vacant) (n + 1) rs
-    (λ m l k. ap (λ b. if b then false else vacant m) (sym (differ m (n + 0) (λ q. omega (arith, q, l))))))
+    (λ m l k. ap (λ b. if b then false else vacant m) (sym (ne_eqb m (n + 0) (λ q. omega (arith, q, l))))))
     ∙ ap (λ b. (if (if b then false else vacant n) then None else Some x) ∷ shown_from (closed (n + 0) vacant)
     (n + 1) rs) (sym (equal n (n + 0) z))
   where
@@ -116,7 +114,7 @@ shown_set vacant n (x ∷ rs) zero r e =
 shown_set vacant n (x ∷ rs) (suc i) r e =
     let z : (n + 1) + i ≡ n + suc i = omega arith in
     ap (λ b. (if (if b then false else vacant n) then None else Some x) ∷ slice_set (shown_from vacant (n + 1) rs) i
-    (Some r)) (sym (differ n (n + suc i) (λ q. omega (arith, q))))
+    (Some r)) (sym (ne_eqb n (n + suc i) (λ q. omega (arith, q))))
     ∙ ap (λ l. (if (closed (n + suc i) vacant n) then None else Some x) ∷ l)
     (shown_set vacant (n + 1) rs i r e ∙ ap (λ k. shown_from (closed k vacant) (n + 1) rs) z)
 
@@ -142,7 +140,7 @@ module _ (routines : List Tree.Routine) where
       let many = take_many n routines l in
       let at : 0 + length (take n routines) ≡ n = omega (arith, many) in
       ap (λ l. l ++ None ∷ []) (shown_same vacant (opened n vacant) 0 (take n routines)
-      (λ m low high. ap (λ b. if b then true else vacant m) (sym (differ m n (λ q. omega (arith, q, high, many))))))
+      (λ m low high. ap (λ b. if b then true else vacant m) (sym (ne_eqb m n (λ q. omega (arith, q, high, many))))))
       ∙ ap (λ b. shown_from (opened n vacant) 0 (take n routines)
       ++ (if (if b then true else vacant n) then None else Some r) ∷ []) (sym (itself n))
       ∙ ap (λ k. shown_from (opened n vacant) 0 (take n routines) ++ (if opened n vacant k then None else Some r) ∷ [])

@@ -3,6 +3,7 @@
 use Rattle.std.proofs.Common.{◌≡◌, ℕ, zero, suc, ◌+◌, Bool, true, false, ◌||◌, if◌then◌else◌, List, [], ◌∷◌, ◌++◌}
 use Rattle.std.proofs.Common.{length, map, Option, Some, None, is_none, option_map, option_and_then, get_or}
 use Rattle.std.proofs.Common.{slice_get, refl, sym, ap, ◌∙◌, subst, append_assoc, append-nil, length-append, arith}
+use Rattle.std.proofs.lemmas.Option.{slice_get_past}
 use Rattle.ps_syntax.specs.declared.program.Heading as syntax
 use Rattle.ps_syntax.specs.declared.program.Block as syntax_block
 use Rattle.ps_syntax.specs.declared.program.Routine.{Routine}
@@ -19,7 +20,7 @@ use Rattle.ps_check.specs.Blocks.{block, routine}
 use Rattle.ps_check.specs.Paths.{routine_block}
 use Rattle.ps_check_laws.specs.Controls.{changes_by}
 use Rattle.ps_check_laws.specs.Definitions.{Declarations, Definition, routine_heading, introduced, names_of}
-use Rattle.ps_check_laws.proofs.Lists.{none_some, inside, never, compare, get_left, get_end, Each, there_place}
+use Rattle.ps_check_laws.proofs.Lists.{none_some, inside, never, compare, get_left, Each, there_place}
 use Rattle.ps_check_laws.proofs.Lists.{new_place}
 use Rattle.ps_check_laws.proofs.Routines.{placed, same_itself, or_true, read, sp}
 use Rattle.ps_check_laws.proofs.GatheredSoFar.{Keeps, Same, Longer, longer_both, changes_of, RoutineGrows}
@@ -95,8 +96,8 @@ module _ (c : Context) (number : ℕ) (names : List (List ℕ)) (outer : List Re
         (λ l. never (sym new ∙ has_at so_far i (sp c.text x)
         (sym (get_left so_far more i (omega (arith, l, long, many))) ∙ ap (λ l. slice_get l i) (sym is)
         ∙ ap (slice_get names) (sym same_index) ∙ there.2)))
-        (λ e. get_end r.known i (omega (arith, e)))
-        (λ l. get_end r.known i (omega (arith, l)))
+        (λ e. slice_get_past r.known i (omega (arith, e)))
+        (λ l. slice_get_past r.known i (omega (arith, l)))
 
     intro_by : (h : Option syntax.Heading) (b : Bool) → routine_heading x ≡ h → has so_far (sp c.text x) ≡ b
         → (s : Routines) → introduce f (routine c x) r (named_so (place names (sp c.text x))) ≡ Yes s → Entered s

@@ -2,6 +2,7 @@
 use Rattle.std.proofs.Common.{◌≡◌, ℕ, ℤ, ◌==◌, Bool, true, false, ◌&&◌, ◌||◌, List, [], ◌∷◌, ◌++◌, map, refl, sym}
 use Rattle.std.proofs.Common.{ap, ◌∙◌, subst, append-nil, append_assoc, eqb-true, arith}
 use Rattle.std.specs.List.{list_any}
+use Rattle.std.proofs.lemmas.Bool.{ne_eqb}
 use Rattle.ps_syntax.specs.declared.expression.Expr.{Expr}
 use Rattle.ps_syntax.specs.declared.expression.Variable as syntax
 use Rattle.ps_syntax.specs.declared.statement.Statement.{Statement, roll-Statement, map-Statement}
@@ -25,7 +26,6 @@ use Rattle.ps_check_laws.specs.Threats.{Threatened, is_entry, place_threatens, e
 use Rattle.ps_check_laws.specs.Threats.{statement_threatens, statements_threaten, elements_threaten}
 use Rattle.ps_check_laws.specs.Threats.{WhatIsThreatenedIsChanged}
 use Rattle.ps_check_laws.proofs.Lists.{never, then_still, Each}
-use Rattle.ps_check_laws.proofs.Shown.{differ}
 use Rattle.ps_check_laws.proofs.Additions.{Free, Adds, adds_none, adds_both, More, adds_all, made_adds, still_more}
 use Rattle.ps_check_laws.proofs.Additions.{through_more, each_more, each_all}
 use Rattle.ps_check_laws.proofs.HandedParts.{place_of, parts, read_each}
@@ -110,7 +110,7 @@ turned_round m k = at (m == k) refl
   where
     at : (b : Bool) → (m == k) ≡ b → (m == k) ≡ (k == m)
     at true q = q ∙ sym (equal_so k m (sym (eqb-true m k q)))
-    at false q = q ∙ sym (differ k m (λ e. never (sym q ∙ equal_so m k (sym e))))
+    at false q = q ∙ sym (ne_eqb k m (λ e. never (sym q ∙ equal_so m k (sym e))))
 
 -- the statement that is repeated doesn't threaten the control variable
 pub repeated_free : (c : Context) (variable : ℕ) (a : Threatened) → Free (with_control c variable) a → Each

@@ -19,11 +19,9 @@ use Rattle.ps_check_expressions.specs.Expressions.{operand, variable_operand}
 
 -- the result of a function, as a variable of the block that is `levels` blocks out
 abbrev pub result_of : Heading → ℕ → Option Variable
-result_of h levels = option_map (λ type. record {
-  place = Tree.Variable (Tree.Entry levels 0) Tree.no_selector;
-  type = type;
-  in_packed = false;
-}) h.result
+result_of h levels = option_map
+    (λ type. record { place = Tree.Variable (Tree.Entry levels 0) Tree.no_selector; type = type; in_packed = false })
+    h.result
 
 -- 6.6.2: the function's name denotes its result in the function's own block, which is n blocks further out
 unfoldable pub result_in : List Region → ℕ → Heading → ℕ → Option Variable

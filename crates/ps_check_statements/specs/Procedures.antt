@@ -118,11 +118,8 @@ first_of_parameter (Plain x) = first_of_expr x
 first_of_parameter (Width x w) = first_of_expr x
 
 abbrev pub places_of : (unpacked packed index : Parameter) → Places
-places_of a z i = record {
-  unpacked = first_of_parameter a;
-  packed = first_of_parameter z;
-  index = first_of_parameter i;
-}
+places_of a z i =
+    record { unpacked = first_of_parameter a; packed = first_of_parameter z; index = first_of_parameter i }
 
 module _ (c : Context) (Γ : List Region) where
   -- ---- actual parameters. Only write and writeln have widths.

@@ -100,14 +100,7 @@ repeated h body = Tree.For h.variable h.type.low h.type.high h.first h.first_lin
 
 -- the statement that is repeated doesn't threaten the control variable
 abbrev pub with_control : Context → ℕ → Context
-with_control c entry = record {
-  text = c.text;
-  domains = c.domains;
-  has_input = c.has_input;
-  has_output = c.has_output;
-  controls = entry ∷ c.controls;
-  inner = c.inner;
-}
+with_control c entry = record c { controls = entry ∷ c.controls }
 
 -- ---- with (6.8.3.10)
 
