@@ -18,7 +18,11 @@ use Rattle.ps_parse.specs.declared.error.ParseFault.TheVariants.{NotAProgram, To
 
 -- what is a program begins one
 pub tree_begins : (text : List ℕ) (ts : Tokens) (p : Program) → IsTreeOf text ts p → Begins text ts
-tree_begins text ts p t = ([], p, subst (λ (q : Tokens). Derives (is_forward text) q p) (sym (append-nil ts)) t.derives)
+tree_begins text ts p t = (
+  [],
+  p,
+  subst (λ (q : Tokens). Derives (is_forward text) q p) (sym (append-nil ts)) (500, t.derives),
+)
 
 -- the first tokens of what begins a program begin one
 first_begin : (text : List ℕ) (xs ys : Tokens) → Begins text (xs ++ ys) → Begins text xs

@@ -1,6 +1,7 @@
 -- Calls (6.6.3, 6.6.6, 6.7.3): actual parameters for the kinds that formal ones are.
 use Rattle.std.proofs.Common.{◌≡◌, ℕ, zero, suc, Bool, true, false, not, ◌&&◌, ◌||◌, ◌==◌, if◌then◌else◌, List, []}
 use Rattle.std.proofs.Common.{◌∷◌, length, Option, Some, None, refl, sym, ap, ◌∙◌, subst, eqb-true}
+use Rattle.std.proofs.lemmas.Bool.{not-true}
 use Rattle.ps_text.specs.declared.Span.{Span}
 use Rattle.ps_tree.specs.declared.types.Host.{Host}
 use Rattle.ps_tree.specs.declared.types.Host.TheVariants.{Integer, Char, Boolean, Enumeration}
@@ -178,10 +179,6 @@ pub not_or : (b : Bool) → (not b || b) ≡ true
 not_or true = refl
 not_or false = refl
 
-pub not_true : (b : Bool) → not b ≡ true → b ≡ false
-not_true true e = never e
-not_true false e = refl
-
 module _ (D : Table) (k : Scope) (os : List Shape) where
   -- ---- actual parameters
 
@@ -247,7 +244,7 @@ module _ (D : Table) (k : Scope) (os : List Shape) where
   variable_passed at type v a t told q =
       let o = if_yes (is_same_type v.type type) _ _ _ a q in
       let p = provided_yes (not v.in_packed) _ _ (ByVariable v.place) a o.1 in
-      let whole = go told.byte refl (not_true v.in_packed p.0) in
+      let whole = go told.byte refl (not-true v.in_packed p.0) in
       let same = same_shape D (bound_of k) (bound_of k) v.type type told.known t o.0 in
       subst (λ x. ArgumentSound k os x (Reference (shape_of type))) p.1
       (let x = subst (λ s. PlaceSound k os v.place (Whole s)) same

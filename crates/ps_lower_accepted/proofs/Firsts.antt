@@ -1,6 +1,7 @@
 -- Variables of known types have first values.
 use Rattle.std.proofs.Common.{◌≡◌, ℕ, Bool, true, false, not, ◌&&◌, ◌||◌, if◌then◌else◌, ℤ, pos, negsuc, int_le}
 use Rattle.std.proofs.Common.{IsTrue, is_none, refl, arith, leb-true, le-leb}
+use Rattle.std.proofs.lemmas.Bool.{and_from}
 use Rattle.ps_tree.specs.declared.types.Host.TheVariants.{Integer}
 use Rattle.ps_tree.specs.declared.types.Ordinal.{Ordinal}
 use Rattle.ps_tree.specs.Types.{DataType, OrdinalType, PointerType, NilType, SetType, EmptySetType, TextType}
@@ -10,7 +11,7 @@ use Rattle.ps_meaning.specs.Values.{first_ordinal}
 use Rattle.tac_code.specs.Numbers.{is_integer}
 use Rattle.ps_lower_layout.specs.Shapes.{ByteShape, ArrayShape, shape_of, shapes_of, first_of}
 use Rattle.ps_lower_code.specs.First.{FirstFits, FieldsFit}
-use Rattle.ps_lower_accepted.proofs.Lists.{left, right, both, never}
+use Rattle.ps_lower_accepted.proofs.Lists.{left, right, never}
 use Rattle.ps_lower_accepted.proofs.Tables.{Table, OrdinalKnown, TypeKnown, TypesKnown}
 
 pub rises_through : (a b c : ℤ) → int_le a b ≡ true → int_le b c ≡ true → int_le a c ≡ true
@@ -46,7 +47,7 @@ first_known D o k = record {
     small false e =
         let a = int_le (pos 0) o.low in
         let b = int_le o.high (pos 255) in
-        both a (int_le o.low (pos 255)) (left a b e) (rises_through o.low o.high (pos 255) k.rises (right a b e))
+        and_from a (int_le o.low (pos 255)) (left a b e) (rises_through o.low o.high (pos 255) k.rises (right a b e))
 
 or_not : (b c : Bool) → (b ≡ true → c ≡ true) → (not b || c) ≡ true
 or_not true c h = h refl

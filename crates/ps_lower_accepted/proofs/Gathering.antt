@@ -1,9 +1,10 @@
 -- What of the whole program is gathered while its blocks are read, and what the program has of it in the end.
 use Rattle.std.proofs.Common.{◌≡◌, ℕ, zero, suc, ◌<◌, ◌≤◌, List, [], ◌∷◌, ◌++◌, length, get_or, Option, Some, None}
 use Rattle.std.proofs.Common.{slice_get, slice_set, refl, sym, ap, ◌∙◌, arith, append_assoc, length-append}
+use Rattle.std.proofs.lemmas.Option.{slice_get_within}
 use Rattle.ps_tree.specs.Types.{DataType, OrdinalType, PointerType}
 use Rattle.ps_tree.specs.Tree as Tree
-use Rattle.ps_tree.specs.Tree.{Program, routine_at, no_routine}
+use Rattle.ps_tree.specs.Tree.{Program, no_routine}
 use Rattle.ps_lower_layout.specs.Paths.{NumberSort, PointerSort}
 use Rattle.ps_lower_calls.specs.Binding.{FirstsFit}
 use Rattle.ps_lower_calls.specs.Routines.{ResultFits}
@@ -35,11 +36,6 @@ pub set_length : {A : Type 0} (xs : List A) (j : ℕ) (y : A) → length (slice_
 set_length [] j y = refl
 set_length (z ∷ xs) zero y = refl
 set_length (z ∷ xs) (suc j) y = ap suc (set_length xs j y)
-
-pub get_below : {A : Type 0} (xs : List A) (i : ℕ) (x : A) → slice_get xs i ≡ Some x → i < length xs
-get_below [] i x e = absurd (none_some e)
-get_below (y ∷ xs) zero x e = omega arith
-get_below (y ∷ xs) (suc i) x e = let l = get_below xs i x e in omega (arith, l)
 
 pub get_first : {A : Type 0} (xs ys : List A) (i : ℕ) → i < length xs → slice_get (xs ++ ys) i ≡ slice_get xs i
 get_first [] ys i l = absurd (omega (arith, l))
@@ -140,7 +136,7 @@ pub is_declared : (P : Program) (chain : List ℕ) (h : Heading) (x : Tree.Routi
 is_declared P chain h x is e =
     let at = or_there P.routines h.number x e in
     record {
-      some = get_below P.routines h.number x e;
+      some = slice_get_within P.routines h.number x e;
       number = ap (λ (y : Tree.Routine). y.chain) at ∙ is.chain_is;
       formals = ap (λ (y : Tree.Routine). y.formals) at ∙ is.formals;
       result = ap (λ (y : Tree.Routine). y.result) at ∙ is.result;

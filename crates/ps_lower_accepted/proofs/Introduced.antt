@@ -2,6 +2,7 @@
 use Rattle.std.proofs.Common.{◌≡◌, ℕ, suc, ◌<◌, ◌≤◌, Bool, true, ◌&&◌, nat_lt, List, [], ◌∷◌, ◌++◌, length, Option}
 use Rattle.std.proofs.Common.{Some, None, is_none, slice_get, refl, sym, ap, ◌∙◌, subst, arith, append-nil}
 use Rattle.std.proofs.Common.{length-append}
+use Rattle.std.proofs.lemmas.Option.{slice_get_within}
 use Rattle.ps_syntax.specs.declared.program.Heading as syntax
 use Rattle.ps_tree.specs.Tree as Tree
 use Rattle.ps_tree.specs.Tree.{Program}
@@ -19,7 +20,7 @@ use Rattle.ps_lower_accepted.proofs.Lists.{get_left}
 use Rattle.ps_lower_accepted.proofs.Tables.{Table, extends_self, TypeKnown}
 use Rattle.ps_lower_accepted.proofs.Standing.{ResultKnown, SectionsKnown, MeaningKnown, RegionsKnown, MeaningStands}
 use Rattle.ps_lower_accepted.proofs.Standing.{BlocksStand}
-use Rattle.ps_lower_accepted.proofs.Gathering.{get_below, get_first, get_new, IsMade, IsVacant, Grows, Final}
+use Rattle.ps_lower_accepted.proofs.Gathering.{get_first, get_new, IsMade, IsVacant, Grows, Final}
 use Rattle.ps_lower_accepted.proofs.Gathering.{final_before, AllFit, IsRoutineOf}
 use Rattle.ps_lower_accepted.proofs.BlockMeanings.{IsDeclaredIf, IsNumbered, Targets, added_heading, added_other}
 use Rattle.ps_lower_accepted.proofs.BlockMeanings.{added_there, at_place, number_of, numbered_added, place_last, unmade}
@@ -89,7 +90,7 @@ module _ (own : ℕ) (rest : List ℕ) (f : Frame) (base : ℕ) (begun : List Me
         fresh = λ i le. added_other n h reading.headings i (λ e. omega (arith, le, grown, e)) ∙ reading.fresh i
             (omega (arith, le, grown));
         made = λ i x y e m. reading.made i x y (sym
-            (added_other n h reading.headings i (λ q. let l = get_below r.gathered.routines i (Some y)
+            (added_other n h reading.headings i (λ q. let l = slice_get_within r.gathered.routines i (Some y)
             (unmade r.gathered.routines i y m) in omega (arith, l, q))) ∙ e) (unmade r.gathered.routines i y m);
         stands = λ P b ifs. each_append (MeaningStands P (own ∷ rest)) r.known (RoutineMeaning h ∷ [])
             (reading.stands P b (each_left (IsDeclaredIf P (own ∷ rest)) r.known (RoutineMeaning h ∷ []) ifs))

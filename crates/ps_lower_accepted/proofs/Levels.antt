@@ -1,18 +1,18 @@
 -- What is known of a block is known of the blocks within it: each block of a program fits.
 use Rattle.std.proofs.Common.{◌≡◌, ℕ, zero, suc, ◌<◌, ◌≤◌, Bool, true, not, List, [], ◌∷◌, ◌++◌, length, map, Option}
 use Rattle.std.proofs.Common.{Some, None, slice_get, refl, sym, ap, ◌∙◌, subst, arith, length-append, append_assoc}
+use Rattle.std.proofs.lemmas.Option.{slice_get_within}
 use Rattle.ps_text.specs.Lines.{line_count}
 use Rattle.ps_text.specs.declared.Span.{Span}
 use Rattle.ps_scan.specs.Spans.{AreOrdered}
 use Rattle.ps_scan.specs.declared.token.Kind.TheVariants as k
 use Rattle.ps_syntax.specs.declared.statement.Statement as syntax_statement
 use Rattle.ps_syntax.specs.declared.program.Block as syntax_block
-use Rattle.ps_syntax.specs.declared.program.Block.{roll-Block}
 use Rattle.ps_syntax.specs.declared.program.Routine.TheFolds.{fold-roll-Block}
 use Rattle.ps_parse_grammar.specs.Symbols.{Tokens, Symbol, token}
 use Rattle.ps_parse_grammar.specs.Statements.{IsSequence, statement_within}
 use Rattle.ps_parse_grammar.specs.Programs as p
-use Rattle.ps_parse_grammar.specs.Programs.{IsPart, IsConstantDefinition, IsTypeDefinition, IsVariables, type_within}
+use Rattle.ps_parse_grammar.specs.Programs.{type_within}
 use Rattle.ps_parse_grammar.specs.Programs.{heading_within, block_within}
 use Rattle.ps_tree.specs.Types.{DataType}
 use Rattle.ps_tree.specs.Tree as Tree
@@ -42,7 +42,7 @@ use Rattle.ps_lower_accepted.proofs.Aims.{pointers, DeclaredKnown, IsOwn, Declar
 use Rattle.ps_lower_accepted.proofs.Statements.{statements_tell_all}
 use Rattle.ps_lower_accepted.proofs.Places.{Later, same_place, behind, past, sequences_go}
 use Rattle.ps_lower_accepted.proofs.Headings.{meanings_more, types_all_more, regions_more}
-use Rattle.ps_lower_accepted.proofs.Gathering.{get_below, there_is, IsMade, more_domains, Final, all_domains, AllFit}
+use Rattle.ps_lower_accepted.proofs.Gathering.{there_is, IsMade, more_domains, Final, all_domains, AllFit}
 use Rattle.ps_lower_accepted.proofs.Gathering.{is_declared}
 use Rattle.ps_lower_accepted.proofs.BlockMeanings.{IsPlain, IsNumbered, IsDeclaredIf, plain_numbered, OwnStand, Targets}
 use Rattle.ps_lower_accepted.proofs.BlockMeanings.{Ready, BlockTold, start_of}
@@ -152,7 +152,7 @@ module _ (own : ℕ) (rest : List ℕ) (names : List (List ℕ)) (text : List �
     made = λ i h x q m. absurd (none_some q);
     stands = λ P b ifs. b;
     fits = λ P F final targets stand blocks i x le m. absurd
-        (let l = get_below g.routines i (Some x) m in omega (arith, le, l));
+        (let l = slice_get_within g.routines i (Some x) m in omega (arith, le, l));
   }
 
   -- ---- the statements

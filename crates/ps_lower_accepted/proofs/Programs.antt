@@ -2,6 +2,7 @@
 use Rattle.std.proofs.Common.{◌≡◌, ℕ, zero, suc, ◌<◌, ◌≤◌, Bool, true, false, not, if◌then◌else◌, List, [], ◌∷◌, ◌++◌}
 use Rattle.std.proofs.Common.{length, Option, Some, None, slice_get, slice_set, codes, refl, sym, ap, ◌∙◌, subst}
 use Rattle.std.proofs.Common.{arith, append-nil}
+use Rattle.std.proofs.lemmas.Option.{slice_get_within}
 use Rattle.ps_text.specs.Lines.{line_count}
 use Rattle.ps_text.specs.declared.Span.{Span}
 use Rattle.ps_scan.specs.Lexis.{IsTokens}
@@ -41,7 +42,7 @@ use Rattle.ps_lower_accepted.proofs.Standing.{MeaningKnown, RegionsKnown, Meanin
 use Rattle.ps_lower_accepted.proofs.Declared.{declarations_tell}
 use Rattle.ps_lower_accepted.proofs.Places.{behind, past, same_place, Later, names_go}
 use Rattle.ps_lower_accepted.proofs.Entries.{all_own}
-use Rattle.ps_lower_accepted.proofs.Gathering.{set_same, set_other, get_below, or_there, there_is, IsMade, IsVacant}
+use Rattle.ps_lower_accepted.proofs.Gathering.{set_same, set_other, or_there, there_is, IsMade, IsVacant}
 use Rattle.ps_lower_accepted.proofs.Gathering.{not_both, Final, AllFit, variables_fit}
 use Rattle.ps_lower_accepted.proofs.BlockMeanings.{IsPlain, OwnStand, Ready, BlockTold, either}
 use Rattle.ps_lower_accepted.proofs.Levels.{blocks_tell}
@@ -408,7 +409,7 @@ module _ (small : (P : Program) → is_within_limits P ≡ true → AreSmall P) 
     whole_fits : ProgramFits P
     whole_fits = record {
       small = small P assembled.limits;
-      begins = get_below P.routines 0 (program_routine done) first_there;
+      begins = slice_get_within P.routines 0 (program_routine done) first_there;
       chain = ap (λ (q : Tree.Routine). q.chain) first_is;
       outermost = subst IsOutermost (sym first_is) outermost_is;
       routines = λ i l. let sound = routines_sound i l in sound.fits;
@@ -469,5 +470,5 @@ module _ (small : (P : Program) → is_within_limits P ≡ true → AreSmall P) 
 
     pub accepted_sound : (tokens : Tokens) (tree : syntax.Program) → IsTokens text tokens → IsTreeOf text tokens tree
         → program text tree ≡ Yes P → ProgramSound P
-    accepted_sound tokens tree scanned derived e = derived_sound derived.derives.0 tree tokens
-        (length text) derived.derives.1 (tokens_ordered text tokens scanned) e
+    accepted_sound tokens tree scanned derived e = derived_sound 500 tree tokens
+        (length text) derived.derives (tokens_ordered text tokens scanned) e

@@ -48,12 +48,8 @@ call_routine program costs next r parent actuals c =
     if passes_stack costs (r ∷ c.active) then stop (Stack routine.line)
     else (λ w.
     let bound = bind routine.result actuals routine.variables w in
-    next (Block routine.body) (record {
-      env = Within bound.frame parent;
-      opened = [];
-      active = r ∷ c.active;
-      calls = c.calls;
-    }) bound.world)
+    next (Block routine.body)
+    (record { env = Within bound.frame parent; opened = []; active = r ∷ c.active; calls = c.calls }) bound.world)
 
 -- a task, executed with n of fuel
 abbrev pub execute : Program → Costs → ℕ → Next

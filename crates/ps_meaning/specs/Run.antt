@@ -9,14 +9,8 @@ use Rattle.ps_meaning.specs.Statements.{Costs}
 use Rattle.ps_meaning.specs.Calls.{call_routine, execute}
 
 abbrev pub first_world : List ℕ → World
-first_world input = record {
-  next = 0;
-  store = λ name. unset;
-  objects = [];
-  made = [];
-  input = whole_input input;
-  transcript = [];
-}
+first_world input =
+    record { next = 0; store = λ name. unset; objects = []; made = []; input = whole_input input; transcript = [] }
 
 abbrev pub first_context : Context
 first_context = record { env = Outside; opened = []; active = []; calls = [] }

@@ -113,15 +113,9 @@ after_line_end [] = []
 after_line_end (b ∷ rest) = if b == 10 then rest else after_line_end rest
 
 abbrev pub after_line : Input → Input
-after_line i = if has_line_end i.left then record {
-  left = after_line_end i.left;
-  looked = false;
-  in_line = false;
-} else record {
-  left = [];
-  looked = true;
-  in_line = false;
-}
+after_line i =
+    if has_line_end i.left then record { left = after_line_end i.left; looked = false; in_line = false }
+    else record { left = []; looked = true; in_line = false }
 
 abbrev pub line_marks : Input → List ℕ
 line_marks i = if has_line_end i.left then replicate

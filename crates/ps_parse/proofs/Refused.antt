@@ -6,7 +6,6 @@ use Rattle.ps_syntax.specs.declared.program.Program.{Program}
 use Rattle.ps_parse_grammar.specs.Symbols.{Tokens}
 use Rattle.ps_parse_grammar.specs.Forward.{is_forward}
 use Rattle.ps_parse_grammar.specs.Trees.{IsTreeOf}
-use Rattle.ps_parse_grammar.proofs.ProgramLevels.{low_is_within}
 use Rattle.ps_parse.specs.Steps.{Outcome, Parser, first}
 use Rattle.ps_parse.specs.ReadPrograms.{program, read_block}
 use Rattle.ps_parse.specs.Untaken.{NoneTakes, NoneTakesAt}
@@ -24,8 +23,7 @@ module _ (text : List ℕ) where
   looks = local_program (is_forward text) (read_block (is_forward text) 500) (local_block (is_forward text) 500)
 
   read_whole : (ts : Tokens) (p : Program) → IsTreeOf text ts p → reading ts ≡ Ok (p, [])
-  read_whole ts p t = derived_is_read (is_forward text) 500 ts p
-      (low_is_within (is_forward text) 500 ts p (t.derives, t.low))
+  read_whole ts p t = derived_is_read (is_forward text) 500 ts p t.derives
 
   no_tree : (c r : Tokens) → ((r' : Tokens) → first r' ≡ first r → (p : Program) → reading (c ++ r') ≡ Ok (p, []) → ⊥)
       → NoneTakes text c r

@@ -69,10 +69,7 @@ pub data IsSelector (expr : Symbol Expr) : Selector → Tokens → Tokens → Ty
 -- variable = name {selector}
 pub data IsVariable (expr : Symbol Expr) : Variable → Tokens → Tokens → Type 0 where
   selected : {at : Span} {xs : List Selector} {ts r : Tokens} → Many (IsSelector expr) xs ts r → IsVariable expr
-      (record {
-        name = at;
-        selectors = xs;
-      }) (token k.Name at ∷ ts) r
+      (record { name = at; selectors = xs }) (token k.Name at ∷ ts) r
 
 -- factor, where factor' is the factor after "not"
 pub data IsFactor (expr : Symbol Expr) (factor' : Symbol Factor) : Factor → Tokens → Tokens → Type 0 where
@@ -95,40 +92,23 @@ pub data IsFactor (expr : Symbol Expr) (factor' : Symbol Factor) : Factor → To
 -- term = factor {operator factor}
 pub data IsMultiplied (factor : Symbol Factor) : MultipliedFactor → Tokens → Tokens → Type 0 where
   multiplied : (op : Multiplying) (at : Span) (x : Factor) {ts r : Tokens} → factor x ts r → IsMultiplied factor
-      (record {
-        operator = op;
-        at = at;
-        factor = x;
-      }) (token (multiplying_kind op) at ∷ ts) r
+      (record { operator = op; at = at; factor = x }) (token (multiplying_kind op) at ∷ ts) r
 
 pub data IsTerm (factor : Symbol Factor) : Term → Tokens → Tokens → Type 0 where
   term : (x : Factor) (xs : List MultipliedFactor) {ts m r : Tokens} → factor x ts m → Many (IsMultiplied factor) xs m r
-      → IsTerm factor (roll-Term (record {
-        first = x;
-        more = xs;
-      })) ts r
+      → IsTerm factor (roll-Term (record { first = x; more = xs })) ts r
 
 -- simple = [sign] term {operator term}
 pub data IsAdded (term : Symbol Term) : AddedTerm → Tokens → Tokens → Type 0 where
-  added : (op : Adding) (at : Span) (x : Term) {ts r : Tokens} → term x ts r → IsAdded term (roll-AddedTerm (record {
-    operator = op;
-    at = at;
-    term = x;
-  })) (token (adding_kind op) at ∷ ts) r
+  added : (op : Adding) (at : Span) (x : Term) {ts r : Tokens} → term x ts r → IsAdded term
+      (roll-AddedTerm (record { operator = op; at = at; term = x })) (token (adding_kind op) at ∷ ts) r
 
 pub data IsSimple (term : Symbol Term) : Simple → Tokens → Tokens → Type 0 where
   plain : (x : Term) (xs : List AddedTerm) {ts m r : Tokens} → term x ts m → Many (IsAdded term) xs m r → IsSimple term
-      (roll-Simple (record {
-        sign = None;
-        first = x;
-        more = xs;
-      })) ts r
-  signed : (s : Sign) (at : Span) (x : Term) (xs : List AddedTerm) {ts m r : Tokens} → term x ts m → Many
-      (IsAdded term) xs m r → IsSimple term (roll-Simple (record {
-        sign = Some (s, at);
-        first = x;
-        more = xs;
-      })) (token (sign_kind s) at ∷ ts) r
+      (roll-Simple (record { sign = None; first = x; more = xs })) ts r
+  signed : (s : Sign) (at : Span) (x : Term) (xs : List AddedTerm) {ts m r : Tokens} → term x ts m
+      → Many (IsAdded term) xs m r → IsSimple term
+      (roll-Simple (record { sign = Some (s, at); first = x; more = xs })) (token (sign_kind s) at ∷ ts) r
 
 -- expr = simple [relation simple]
 pub data IsExpr (simple : Symbol Simple) : Expr → Tokens → Tokens → Type 0 where

@@ -45,10 +45,7 @@ pub data IsOrdinal : Ordinal → Tokens → Tokens → Type 0 where
 -- names ":" type
 pub data IsFields (type : Symbol TypeDenoter) : Fields → Tokens → Tokens → Type 0 where
   fields : (xs : List Span) (x : TypeDenoter) {at : Span} {ts m r : Tokens} → IsNames xs ts (token k.Colon at ∷ m)
-      → type x m r → IsFields type (roll-Fields (record {
-        names = xs;
-        ty = x;
-      })) ts r
+      → type x m r → IsFields type (roll-Fields (record { names = xs; ty = x })) ts r
 
 pub data IsStructure (index : Symbol Ordinal) (type : Symbol TypeDenoter) : Structure → Tokens → Tokens → Type 0 where
   array : {at left right of : Span} {xs : List Ordinal} {x : TypeDenoter} {ts m r : Tokens}
@@ -124,24 +121,16 @@ pub data IsPart {A : Type 0} (word : Kind) (item : Symbol A) : List A → Tokens
 
 pub data IsConstantDefinition : ConstantDefinition → Tokens → Tokens → Type 0 where
   constant : {at equal end : Span} {x : Constant} {ts r : Tokens} → IsConstant x ts (token k.Semicolon end ∷ r)
-      → IsConstantDefinition (record {
-        name = at;
-        value = x;
-      }) (token k.Name at ∷ token k.Equal equal ∷ ts) r
+      → IsConstantDefinition (record { name = at; value = x }) (token k.Name at ∷ token k.Equal equal ∷ ts) r
 
 pub data IsTypeDefinition (type : Symbol TypeDenoter) : TypeDefinition → Tokens → Tokens → Type 0 where
   definition : {at equal end : Span} {x : TypeDenoter} {ts r : Tokens} → type x ts (token k.Semicolon end ∷ r)
-      → IsTypeDefinition type (record {
-        name = at;
-        ty = x;
-      }) (token k.Name at ∷ token k.Equal equal ∷ ts) r
+      → IsTypeDefinition type (record { name = at; ty = x }) (token k.Name at ∷ token k.Equal equal ∷ ts) r
 
 pub data IsVariables (type : Symbol TypeDenoter) : Variables → Tokens → Tokens → Type 0 where
   variables : {colon end : Span} {xs : List Span} {x : TypeDenoter} {ts m r : Tokens} → IsNames xs ts
-      (token k.Colon colon ∷ m) → type x m (token k.Semicolon end ∷ r) → IsVariables type (record {
-        names = xs;
-        ty = x;
-      }) ts r
+      (token k.Colon colon ∷ m) → type x m (token k.Semicolon end ∷ r)
+      → IsVariables type (record { names = xs; ty = x }) ts r
 
 -- is_forward says which names are spelled "forward"
 module _ (is_forward : Span → Bool) where
@@ -180,18 +169,12 @@ module _ (is_forward : Span → Bool) where
   -- program = "program" name ["(" names ")"] ";" block "."
   pub data IsProgram (block : Symbol Block) : Program → Tokens → Tokens → Type 0 where
     plain : {word at semicolon dot : Span} {b : Block} {ts r : Tokens} → block b ts (token k.Dot dot ∷ r)
-        → IsProgram block (record {
-          name = at;
-          parameters = [];
-          block = b;
-        }) (token k.Program word ∷ token k.Name at ∷ token k.Semicolon semicolon ∷ ts) r
+        → IsProgram block (record { name = at; parameters = []; block = b })
+        (token k.Program word ∷ token k.Name at ∷ token k.Semicolon semicolon ∷ ts) r
     listed : {word at left right semicolon dot : Span} {xs : List Span} {b : Block} {ts m r : Tokens} → IsNames xs ts
-        (token k.RightParen right ∷ token k.Semicolon semicolon ∷ m) → block b m (token k.Dot dot ∷ r) → IsProgram block
-        (record {
-          name = at;
-          parameters = xs;
-          block = b;
-        }) (token k.Program word ∷ token k.Name at ∷ token k.LeftParen left ∷ ts) r
+        (token k.RightParen right ∷ token k.Semicolon semicolon ∷ m) → block b m (token k.Dot dot ∷ r)
+        → IsProgram block (record { name = at; parameters = xs; block = b })
+        (token k.Program word ∷ token k.Name at ∷ token k.LeftParen left ∷ ts) r
 
   -- the whole list of tokens derives from `program` and gives this tree, whose height is at most n
   abbrev pub DerivesWithin : ℕ → Tokens → Program → Type 0

@@ -46,10 +46,7 @@ pub data IsParameter (expr : Symbol Expr) : Parameter → Tokens → Tokens → 
 pub data IsElement (statement : Bool → Symbol Statement) : Element → Tokens → Tokens → Type 0 where
   element : (cs : List Constant) (x : Statement) {ends : Bool} {ts m r : Tokens} {at : Span}
       → Separated k.Comma IsConstant cs ts (token k.Colon at ∷ m) → statement ends x m r → IsElement statement
-      (roll-Element (record {
-        constants = cs;
-        statement = x;
-      })) ts r
+      (roll-Element (record { constants = cs; statement = x })) ts r
 
 -- a statement of a sequence
 pub data InSequence (statement : Bool → Symbol Statement) : Statement → Tokens → Tokens → Type 0 where
@@ -74,13 +71,21 @@ pub data IsStatement (expr : Symbol Expr) (statement : Bool → Symbol Statement
   if_else : {at next other : Span} {c : Expr} {x y : Statement} {ends : Bool} {ts l m r : Tokens} → expr c ts
       (token k.Then next ∷ l) → statement false x l (token k.Else other ∷ m) → statement ends y m r
       → IsStatement expr statement ends (s.IfElse c x y) (token k.If at ∷ ts) r
-  case : {at of end : Span} {x : Expr} {xs : List Element} {ts m r : Tokens} → expr x ts (token k.Of of ∷ m) → Terminated k.Semicolon (IsElement statement) xs m (token k.End end ∷ r) → IsStatement expr statement false (s.Case at x xs) (token k.Case at ∷ ts) r
-  while : {at do' : Span} {c : Expr} {x : Statement} {ends : Bool} {ts m r : Tokens} → expr c ts (token k.Do do' ∷ m) → statement ends x m r → IsStatement expr statement ends (s.While c x) (token k.While at ∷ ts) r
+  case : {at of end : Span} {x : Expr} {xs : List Element} {ts m r : Tokens} → expr x ts (token k.Of of ∷ m)
+      → Terminated k.Semicolon (IsElement statement) xs m (token k.End end ∷ r)
+      → IsStatement expr statement false (s.Case at x xs) (token k.Case at ∷ ts) r
+  while : {at do' : Span} {c : Expr} {x : Statement} {ends : Bool} {ts m r : Tokens} → expr c ts (token k.Do do' ∷ m)
+      → statement ends x m r → IsStatement expr statement ends (s.While c x) (token k.While at ∷ ts) r
   repeat : {at until : Span} {xs : List Statement} {c : Expr} {ts m r : Tokens} → IsSequence statement xs ts
       (token k.Until until ∷ m) → expr c m r → IsStatement expr statement false (s.Repeat xs c)
       (token k.Repeat at ∷ ts) r
-  for : (d : Direction) {at name becomes to do' : Span} {x y : Expr} {z : Statement} {ends : Bool} {ts l m r : Tokens} → expr x ts (token (direction_kind d) to ∷ l) → expr y l (token k.Do do' ∷ m) → statement ends z m r → IsStatement expr statement ends (s.For name x d y z) (token k.For at ∷ token k.Name name ∷ token k.Assign becomes ∷ ts) r
-  with : {at do' : Span} {vs : List Variable} {x : Statement} {ends : Bool} {ts m r : Tokens} → Separated k.Comma (IsVariable expr) vs ts (token k.Do do' ∷ m) → statement ends x m r → IsStatement expr statement ends (s.With vs x) (token k.With at ∷ ts) r
+  for : (d : Direction) {at name becomes to do' : Span} {x y : Expr} {z : Statement} {ends : Bool} {ts l m r : Tokens}
+      → expr x ts (token (direction_kind d) to ∷ l) → expr y l (token k.Do do' ∷ m) → statement ends z m r
+      → IsStatement expr statement ends (s.For name x d y z)
+      (token k.For at ∷ token k.Name name ∷ token k.Assign becomes ∷ ts) r
+  with : {at do' : Span} {vs : List Variable} {x : Statement} {ends : Bool} {ts m r : Tokens}
+      → Separated k.Comma (IsVariable expr) vs ts (token k.Do do' ∷ m) → statement ends x m r
+      → IsStatement expr statement ends (s.With vs x) (token k.With at ∷ ts) r
 
 -- a statement of a height of at most n
 abbrev pub statement_within : ℕ → Bool → Symbol Statement

@@ -8,10 +8,9 @@ use Rattle.ps_parse_grammar.specs.Programs.{Derives, DerivesWithin}
 use Rattle.ps_parse_grammar.specs.Forward.{is_forward}
 use Rattle.ps_parse_grammar.specs.declared.TheConstants.{MAX_HEIGHT}
 
--- the tree derives from the tokens of the text, and isn't too high
+-- The tree derives from the tokens of the text, within as many levels as the limit allows: it isn't too high.
 pub record IsTreeOf (text : List ℕ) (ts : Tokens) (p : Program) : Type 0 where
-  pub derives : Derives (is_forward text) ts p
-  pub low : height_of p ≤ MAX_HEIGHT
+  pub derives : DerivesWithin (is_forward text) MAX_HEIGHT ts p
 
 -- A tree derives within n levels exactly where it derives and is at most n high.
 abbrev pub LevelsAreHeights : Type 0
