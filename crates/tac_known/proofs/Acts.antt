@@ -31,7 +31,7 @@ use Rattle.tac_code.specs.Meaning.{unwritten}
 use Rattle.tac_code_steps.specs.Turns.{turns_aside}
 use Rattle.tac_pass.specs.Follows.{SameHeading}
 use Rattle.tac_known.specs.declared.kind.Kind.{Kind}
-use Rattle.tac_known.specs.declared.kind.Kind.TheVariants.{Unknown, Pointer, Between}
+use Rattle.tac_known.specs.declared.kind.Kind.TheVariants.{Unknown, NotNil, Between}
 use Rattle.tac_known.specs.Kinds.{IsOf, kind_in, Hold, operand_kind, fits, lies_within, is_pointer}
 use Rattle.tac_known.specs.Lean.{number_unless, is_nought, is_unequal, is_truth, copied_if, lean}
 use Rattle.tac_known.proofs.Integers.{both_true, eq_int}
@@ -134,7 +134,7 @@ routine_alike (Some (Routine r)) f g h = h r
 is_number : (k : Kind) (o : Option Value) (x : ℤ) → IsOf k o → o ≡ Some (Number x) → IsOf k (Some (Number x))
 is_number k o x is e = subst (IsOf k) e is
 
-object_pointer : (o : Option Value) → IsOf Pointer o → (p : Option ℕ) → pointer_of o ≡ Some p → not (is_nil p) ≡ true
+object_pointer : (o : Option Value) → IsOf NotNil o → (p : Option ℕ) → pointer_of o ≡ Some p → not (is_nil p) ≡ true
 object_pointer o other (Some n) f = refl
 object_pointer None other None f = absurd (none-some None f)
 object_pointer (Some (Number (pos zero))) other None f = absurd (other refl)
@@ -314,7 +314,7 @@ module _ (old new : Code) (program : length new.program ≡ length old.program) 
             ≡ checks old (not (is_nil p)) error line s
         which Unknown is p e = checks_alike (not (is_nil p)) error line
         which (Between l m) is p e = checks_alike (not (is_nil p)) error line
-        which Pointer is p e =
+        which NotNil is p e =
             checks_vain (not (is_nil p)) 0 error line (object_pointer (s.current.temporaries a) is p e)
 
     index_alike : (t : ℕ) (b : Base) (i : ℕ) (low high : ℤ) (width error line : ℕ)

@@ -16,7 +16,7 @@ use Rattle.tac_code.specs.declared.code.Instruction.TheVariants.{Store, LoadByte
 use Rattle.tac_code.specs.declared.code.Instruction.TheVariants.{BranchBack, Call, CallValue, Return, Trap, Take, Put}
 use Rattle.tac_code.specs.declared.code.Instruction.TheVariants.{New, End}
 use Rattle.tac_code.specs.Numbers.{Computed, Gives, Fails, computed, bits, truth, is_in_range, steps_above}
-use Rattle.tac_code.specs.Memory.{Memory, load, load_byte, store, store_byte}
+use Rattle.tac_code.specs.Memory.{Constants, Memory, load, load_byte, store, store_byte}
 use Rattle.tac_code.specs.Meaning.{Code, Activation, State, Step, Goes, Over, routines, with_address}
 use Rattle.tac_code.specs.Meaning.{operand_value, base_value, pointer_of, is_nil, related, giving, gives, gives_address}
 use Rattle.tac_code.specs.Meaning.{gives_computed, gives_component, checks, goes_on, goes_to, stores, takes, values_of}
@@ -24,47 +24,53 @@ use Rattle.tac_code.specs.Meaning.{is_full, calls, leave, made, makes, act, onwa
 use Rattle.tac_pass.proofs.Below.{OnGoes}
 use Rattle.tac_known.specs.declared.again.Component.{Component}
 use Rattle.tac_known.specs.declared.again.Sum.{Sum}
-use Rattle.tac_known.specs.declared.again.Fact.TheVariants.{Pointed, Summed}
+use Rattle.tac_known.specs.declared.again.Word.{Word}
+use Rattle.tac_known.specs.declared.again.Fact.TheVariants.{Pointed, Summed, Loaded}
 use Rattle.tac_known.specs.declared.again.Facts.{Facts}
 use Rattle.tac_known.specs.Again.{AreHeld, no_facts, each_unless_written, component, total, after_given, IsNoMore}
-use Rattle.tac_known.specs.Again.{GoesOn}
+use Rattle.tac_known.specs.Again.{each_unless_loaded, word, GoesOn}
 use Rattle.tac_known.proofs.Goes.{on_some, on_number, on_routine, on_if, on_byte}
 use Rattle.tac_known.proofs.AgainLike.{are_like}
-use Rattle.tac_known.proofs.AgainHeld.{each_kept, index_kept, sum_kept}
-
--- nothing is held in any activation
-none : (facts : Facts) (current : Activation) → facts ≡ no_facts → AreHeld facts current
-none facts current e =
-    subst (λ o. AreHeld o current) (sym e) (record {
-      first = tt;
-      second = tt;
-      third = tt;
-      fourth = tt;
-      fifth = tt;
-      sixth = tt;
-      seventh = tt;
-      eighth = tt;
-    })
-
-no_more : (here next : Facts) (current : Activation) → IsNoMore here next → AreHeld here current → AreHeld next current
-no_more here next current (inl e) h = none next current e
-no_more here next current (inr e) h = subst (λ o. AreHeld o current) (sym e) h
+use Rattle.tac_known.proofs.AgainHeld.{each_kept, each_lost, index_kept, sum_kept, word_kept}
 
 -- what follows from nothing is nothing
 no_more_of_none : (next : Facts) → IsNoMore no_facts next → next ≡ no_facts
 no_more_of_none next (inl e) = e
 no_more_of_none next (inr e) = e
 
--- the place doesn't matter
-moved : (facts : Facts) (current : Activation) (q : ℕ) → AreHeld facts current → AreHeld facts
-    (record current { place = q })
-moved facts current q is = are_like facts current (record current { place = q }) (λ u. refl) same is
-  where
-    same : (b : Base) → base_value (record current { place = q }) b ≡ base_value current b
-    same base.Frame = refl
-    same base.Scratch = refl
-    same base.Program = refl
-    same (base.Temporary t) = refl
+module _ (constants : Constants) (m : Memory) where
+  -- nothing is held in any activation
+  none : (facts : Facts) (current : Activation) → facts ≡ no_facts → AreHeld constants m facts current
+  none facts current e =
+      subst (λ o. AreHeld constants m o current) (sym e) (record {
+        first = tt;
+        second = tt;
+        third = tt;
+        fourth = tt;
+        fifth = tt;
+        sixth = tt;
+        seventh = tt;
+        eighth = tt;
+        ninth = tt;
+        tenth = tt;
+        eleventh = tt;
+        twelfth = tt;
+      })
+
+  no_more : (here next : Facts) (current : Activation) → IsNoMore here next → AreHeld constants m here current → AreHeld constants m next current
+  no_more here next current (inl e) h = none next current e
+  no_more here next current (inr e) h = subst (λ o. AreHeld constants m o current) (sym e) h
+
+  -- the place doesn't matter
+  moved : (facts : Facts) (current : Activation) (q : ℕ) → AreHeld constants m facts current → AreHeld constants m facts
+      (record current { place = q })
+  moved facts current q is = are_like constants m facts current (record current { place = q }) (λ u. refl) same is
+    where
+      same : (b : Base) → base_value (record current { place = q }) b ≡ base_value current b
+      same base.Frame = refl
+      same base.Scratch = refl
+      same base.Program = refl
+      same (base.Temporary t) = refl
 
 on_based : (P : State → Type 0) (o : Option Value) (go : Block → ℕ → Step)
     → ((block : Block) (offset : ℕ) → o ≡ Some (Address block offset) → OnGoes P (go block offset))
@@ -79,17 +85,17 @@ on_test : (P : State → Type 0) (b : Bool) (x y : Step) → (b ≡ true → OnG
 on_test P true x y f g = f refl
 on_test P false x y f g = g
 
-module _ (helds : ℕ → ℕ → Facts) where
+module _ (helds : ℕ → ℕ → Facts) (code : Code) where
   -- of callers nothing is known where they go on
   abbrev pub CallersRest : List Activation → Type 0
   CallersRest [] = Unit {0}
   CallersRest (c ∷ cs) = (helds c.routine c.place ≡ no_facts) × CallersRest cs
 
   pub record IsKept (s : State) : Type 0 where
-    pub here : AreHeld (helds s.current.routine s.current.place) s.current
+    pub here : AreHeld (text_at code) s.memory (helds s.current.routine s.current.place) s.current
     pub callers : CallersRest s.callers
 
-  module _ (begins : (r : ℕ) → helds r 0 ≡ no_facts) (code : Code) (F G : ℕ → ℕ) (S H : ℕ) (s : State) (kept : IsKept s) where
+  module _ (begins : (r : ℕ) → helds r 0 ≡ no_facts) (F G : ℕ → ℕ) (S H : ℕ) (s : State) (kept : IsKept s) where
     abbrev now : Facts
     now = helds s.current.routine s.current.place
 
@@ -101,25 +107,43 @@ module _ (helds : ℕ → ℕ → Facts) where
 
     gives_kept : (t : ℕ) (v : Value) → IsNoMore (each_unless_written t now) next → Goes_on (gives t v s)
     gives_kept t v l = record {
-      here = no_more (each_unless_written t now) next (giving t v s.current) l (each_kept now s.current t v kept.here);
+      here = no_more (text_at code) s.memory (each_unless_written t now) next (giving t v s.current) l
+          (each_kept (text_at code) s.memory now s.current t v kept.here);
       callers = kept.callers;
     }
 
-    goes_kept : (q : ℕ) → helds s.current.routine q ≡ no_facts → Goes_on (goes_to q s)
-    goes_kept q e = record {
-      here = none (helds s.current.routine q)
-          (record s.current { place = q }) e;
+    goes_kept : (q : ℕ) → IsNoMore now (helds s.current.routine q) → Goes_on (goes_to q s)
+    goes_kept q l = record {
+      here = no_more (text_at code) s.memory now (helds s.current.routine q) (record s.current { place = q }) l
+          (moved (text_at code) s.memory now s.current q kept.here);
       callers = kept.callers;
     }
 
-    stays_kept : IsNoMore now next → AreHeld next (onward s.current)
-    stays_kept l = no_more now next (onward s.current) l (moved now s.current (suc s.current.place) kept.here)
+    stays_kept : IsNoMore now next → AreHeld (text_at code) s.memory next (onward s.current)
+    stays_kept l =
+        no_more (text_at code) s.memory now next (onward s.current) l
+        (moved (text_at code) s.memory now s.current (suc s.current.place) kept.here)
 
     on_kept : IsNoMore now next → Goes_on (goes_on s)
     on_kept l = record { here = stays_kept l; callers = kept.callers }
 
-    stores_kept : (m : Memory) → IsNoMore now next → Goes_on (stores m s)
-    stores_kept m l = record { here = stays_kept l; callers = kept.callers }
+    stores_kept : (m : Memory) → IsNoMore (each_unless_loaded now) next → Goes_on (stores m s)
+    stores_kept m l = record {
+      here = no_more (text_at code) m (each_unless_loaded now) next (onward s.current) l
+          (moved (text_at code) m (each_unless_loaded now) s.current (suc s.current.place)
+          (each_lost (text_at code) s.memory m now s.current kept.here));
+      callers = kept.callers;
+    }
+
+    fetch_kept : (d : Word) (block : Block) (o : ℕ) (v : Value) → base_value s.current d.base ≡ Some (Address block o)
+        → load (text_at code) s.memory block (o + d.offset) ≡ Some v
+        → IsNoMore (after_given now d.holder (Loaded d)) next → Goes_on (gives d.holder v s)
+    fetch_kept d block o v e f l = record {
+      here = no_more (text_at code) s.memory (after_given now d.holder (Loaded d)) next (giving d.holder v s.current) l
+          (word_kept (text_at code) s.memory now d s.current v kept.here
+          (record { block = block; offset = o; based = e; loaded = f }));
+      callers = kept.callers;
+    }
 
     address_kept : (t : ℕ) (block : Block) (o : ℕ) → IsNoMore (each_unless_written t now) next → Goes_on
         (gives_address t block o s)
@@ -131,8 +155,9 @@ module _ (helds : ℕ → ℕ → Facts) where
         → operand_value s.current.temporaries d.right ≡ Some (Number y) → computed d.operator d.error x y ≡ r
         → IsNoMore (after_given now d.holder (Summed d)) next → Goes_on (gives_computed code d.holder r line s)
     computed_kept d x y (Gives z) line e f g l = record {
-      here = no_more (after_given now d.holder (Summed d)) next (giving d.holder (Number z) s.current) l
-          (sum_kept now d s.current z kept.here (record { left = x; right = y; first = e; second = f; fits = g }));
+      here = no_more (text_at code) s.memory (after_given now d.holder (Summed d)) next
+          (giving d.holder (Number z) s.current) l
+          (sum_kept (text_at code) s.memory now d s.current z kept.here (record { left = x; right = y; first = e; second = f; fits = g }));
       callers = kept.callers;
     }
     computed_kept d x y (Fails number) line e f g l = tt
@@ -150,9 +175,9 @@ module _ (helds : ℕ → ℕ → Facts) where
         on_test IsKept (nat_lt (offset + steps_above d.low x * d.width) 2147483648)
         (gives d.holder (Address block (offset + steps_above d.low x * d.width)) s) (Over Stuck)
         (λ near. record {
-          here = no_more (after_given now d.holder (Pointed d)) next
+          here = no_more (text_at code) s.memory (after_given now d.holder (Pointed d)) next
               (giving d.holder (Address block (offset + steps_above d.low x * d.width)) s.current) l
-              (index_kept now d s.current (Address block (offset + steps_above d.low x * d.width)) kept.here (record {
+              (index_kept (text_at code) s.memory now d s.current (Address block (offset + steps_above d.low x * d.width)) kept.here (record {
                 block = block;
                 offset = offset;
                 index = x;
@@ -167,24 +192,29 @@ module _ (helds : ℕ → ℕ → Facts) where
 
     takes_kept : (t : ℕ) (input : List ℕ) → IsNoMore (each_unless_written t now) next → Goes_on (takes t input s)
     takes_kept t [] l = record {
-      here = no_more (each_unless_written t now) next (giving t (Number (negsuc 0)) s.current) l
-          (each_kept now s.current t (Number (negsuc 0)) kept.here);
+      here = no_more (text_at code) s.memory (each_unless_written t now) next
+          (giving t (Number (negsuc 0)) s.current) l
+          (each_kept (text_at code) s.memory now s.current t (Number (negsuc 0)) kept.here);
       callers = kept.callers;
     }
     takes_kept t (x ∷ rest) l = record {
-      here = no_more (each_unless_written t now) next (giving t (Number (pos x)) s.current) l
-          (each_kept now s.current t (Number (pos x)) kept.here);
+      here = no_more (text_at code) s.memory (each_unless_written t now) next (giving t (Number (pos x)) s.current) l
+          (each_kept (text_at code) s.memory now s.current t (Number (pos x)) kept.here);
       callers = kept.callers;
     }
 
-    makes_kept : (t object_type bytes line : ℕ) → IsNoMore (each_unless_written t now) next → Goes_on
-        (makes code F G S H t object_type bytes line s)
+    makes_kept : (t object_type bytes line : ℕ) → IsNoMore (each_unless_written t (each_unless_loaded now)) next
+        → Goes_on (makes code F G S H t object_type bytes line s)
     makes_kept t object_type bytes line l =
         on_if IsKept (nat_lt H (s.heap + G object_type)) (Over (Heap line))
         (Goes (made code F G S H t object_type bytes s)) tt (record {
-          here = no_more (each_unless_written t now) next
+          here = no_more (text_at code) (made code F G S H t object_type bytes s).memory
+              (each_unless_written t (each_unless_loaded now)) next
               (giving t (Address (Object (length s.memory.objects)) 0) s.current) l
-              (each_kept now s.current t (Address (Object (length s.memory.objects)) 0) kept.here);
+              (each_kept (text_at code) (made code F G S H t object_type bytes s).memory (each_unless_loaded now)
+              s.current t (Address (Object (length s.memory.objects)) 0)
+              (each_lost (text_at code) s.memory (made code F G S H t object_type bytes s).memory now s.current
+              kept.here));
           callers = kept.callers;
         })
 
@@ -195,15 +225,18 @@ module _ (helds : ℕ → ℕ → Facts) where
         on_some IsKept (slice_get (routines code) r) _ (λ routine _.
         on_if IsKept (not (nat_eq (length values) routine.parameters)) (Over Stuck) _ tt
         (on_if IsKept (is_full code F G S H r (onward s.current ∷ s.callers)) (Over (Stack routine.line)) _ tt (record {
-          here = none (helds r 0) _ (begins r);
+          here = none (text_at code) _ (helds r 0) _ (begins r);
           callers = (no_more_of_none next l, kept.callers);
         }))))
 
     leaves_kept : (v : Value) (cs : List Activation) → CallersRest cs → Goes_on (leave v cs s)
     leaves_kept v [] w = tt
-    leaves_kept v (c ∷ cs) w = record { here = none (helds c.routine c.place) _ w.0; callers = w.1 }
+    leaves_kept v (c ∷ cs) w = record {
+      here = none (text_at code) _ (helds c.routine c.place) _ w.0;
+      callers = w.1;
+    }
 
-    branch_kept : (q : ℕ) → helds s.current.routine q ≡ no_facts → IsNoMore now next → (holds : Bool)
+    branch_kept : (q : ℕ) → IsNoMore now (helds s.current.routine q) → IsNoMore now next → (holds : Bool)
         → Goes_on (if holds then goes_to q s else goes_on s)
     branch_kept q e l true = goes_kept q e
     branch_kept q e l false = on_kept l
@@ -234,7 +267,8 @@ module _ (helds : ℕ → ℕ → Facts) where
     held_follows (RoutineValue t r) l = gives_kept t (Routine r) l
     held_follows (Load t b n) l =
         on_based IsKept (base_value s.current b) _
-        (λ block o _. on_some IsKept (load (text_at code) s.memory block (o + n)) _ (λ v _. gives_kept t v l))
+        (λ block o e. on_some IsKept (load (text_at code) s.memory block (o + n)) _
+        (λ v f. fetch_kept (word t b n) block o v e f l))
     held_follows (Store b n a) l =
         on_based IsKept (base_value s.current b) _ (λ block o _. on_some IsKept (s.current.temporaries a) _
         (λ v _. on_some IsKept (store s.memory block (o + n) v) _ (λ m _. stores_kept m l)))
@@ -247,13 +281,13 @@ module _ (helds : ℕ → ℕ → Facts) where
         (λ x _. on_byte IsKept x _
         (λ byte. on_some IsKept (store_byte s.memory block (o + n) byte) _ (λ m _. stores_kept m l))))
     held_follows (Jump n) l = goes_kept (suc s.current.place + n) l
-    held_follows (JumpBack n) l = goes_kept (s.current.place - n) l
+    held_follows (JumpBack n) l = goes_kept (s.current.place - n) (inl l)
     held_follows (Branch relation a b n) l =
         on_some IsKept (related relation (s.current.temporaries a) (operand_value s.current.temporaries b)) _
         (λ holds e. branch_kept (suc s.current.place + n) l.0 l.1 holds)
     held_follows (BranchBack relation a b n) l =
         on_some IsKept (related relation (s.current.temporaries a) (operand_value s.current.temporaries b)) _
-        (λ holds e. branch_kept (s.current.place - n) l.0 l.1 holds)
+        (λ holds e. branch_kept (s.current.place - n) (inl l.0) l.1 holds)
     held_follows (Call t r operands line) l = calls_kept t r operands line l
     held_follows (CallValue t a operands line) l =
         on_routine IsKept (s.current.temporaries a) _

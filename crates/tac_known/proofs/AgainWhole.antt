@@ -6,6 +6,7 @@ use Rattle.std.proofs.lemmas.Option.{none-some}
 use Rattle.behavior.specs.Endings.{Stack, Stuck}
 use Rattle.tac_code.specs.declared.code.Instruction.{Instruction}
 use Rattle.tac_code.specs.declared.code.TacRoutine.{TacRoutine}
+use Rattle.tac_code.specs.Memory.{Constants, Memory}
 use Rattle.tac_code.specs.Meaning.{Code, Activation, State, Step, Goes, Over, routines, body_at, fetch, text_of, text_at, act}
 use Rattle.tac_code.specs.Meaning.{enter, with_some, is_full, entered}
 use Rattle.tac_code.specs.Run.{before}
@@ -24,9 +25,10 @@ use Rattle.tac_known.proofs.AgainHeld.{again_text, again_turns}
 use Rattle.tac_known.proofs.AgainCopied.{again_alike}
 use Rattle.tac_known.proofs.AgainGoes.{IsKept, held_follows}
 
-nothing_held : (facts : Facts) (current : Activation) → facts ≡ no_facts → AreHeld facts current
-nothing_held facts current e =
-    subst (λ o. AreHeld o current) (sym e) (record {
+nothing_held : (constants : Constants) (m : Memory) (facts : Facts) (current : Activation) → facts ≡ no_facts
+    → AreHeld constants m facts current
+nothing_held constants m facts current e =
+    subst (λ o. AreHeld constants m o current) (sym e) (record {
       first = tt;
       second = tt;
       third = tt;
@@ -35,6 +37,10 @@ nothing_held facts current e =
       sixth = tt;
       seventh = tt;
       eighth = tt;
+      ninth = tt;
+      tenth = tt;
+      eleventh = tt;
+      twelfth = tt;
     })
 
 -- ---- lists of one length
@@ -121,7 +127,7 @@ module _ (old new : Code) (made : IsAgain old new) where
   module _ (p : Setting) where
     -- the states are one, and what is known is true
     abbrev R : State → State → Type 0
-    R s s' = (s' ≡ s) × IsKept claims s
+    R s s' = (s' ≡ s) × IsKept claims old s
 
     abbrev Followed : Bool → State → State → Step → Type 0
     Followed b s s' x = Follows old new p R b s s' x
@@ -134,13 +140,13 @@ module _ (old new : Code) (made : IsAgain old new) where
         ∙ acts_alike old new made.program made.objects texts headings absent p.frames p.objects p.stack p.heap s []
         (λ u. tt) i
 
-    follows : (b : Bool) (s : State) → aside new p s ≡ b → (x : Step) → step_in new p s ≡ x → OnGoes (IsKept claims) x
+    follows : (b : Bool) (s : State) → aside new p s ≡ b → (x : Step) → step_in new p s ≡ x → OnGoes (IsKept claims old) x
         → Followed b s s x
     follows b s e (Goes t) f known = (t, (refl, known), subst (λ b. Reaches new p b s t) e (goes new p s t f))
     follows b s e (Over ending) f known =
         λ live. subst (λ b. Ends new p b s (s.tape.transcript, ending)) e (ends new p s ending f)
 
-    place_follows : (s : State) → IsKept claims s → (o : Option Instruction) → fetch old s.current.routine s.current.place
+    place_follows : (s : State) → IsKept claims old s → (o : Option Instruction) → fetch old s.current.routine s.current.place
         ≡ o → Followed (turns_aside o) s s (act old p.frames p.objects p.stack p.heap o s)
     place_follows s known None f = λ live. absurd (live refl)
     place_follows s known (Some i) f =
@@ -151,7 +157,7 @@ module _ (old new : Code) (made : IsAgain old new) where
         (ap (λ o. act new p.frames p.objects p.stack p.heap o s) at
         ∙ unchanged s (again ks i)
         ∙ again_alike old p.frames p.objects p.stack p.heap s ks known.here i)
-        (held_follows claims begins old p.frames p.objects p.stack p.heap s known i
+        (held_follows claims old begins p.frames p.objects p.stack p.heap s known i
         (goes_on_so s.current.routine s.current.place i f))
 
     both : (s s' : State) → R s s' → Followed (aside old p s) s s' (step_in old p s)
@@ -172,15 +178,15 @@ module _ (old new : Code) (made : IsAgain old new) where
         enter_alike old new made.program made.objects texts headings absent p.frames p.objects p.stack p.heap
         (before p.input) 0 [] 0 0 []
 
-    entered_known : (x : Step) → entry_in old ≡ x → OnGoes (IsKept claims) x
-    entered_known x e = subst (OnGoes (IsKept claims)) e (found (slice_get (routines old) 0))
+    entered_known : (x : Step) → entry_in old ≡ x → OnGoes (IsKept claims old) x
+    entered_known x e = subst (OnGoes (IsKept claims old)) e (found (slice_get (routines old) 0))
       where
-        opened : (b : Bool) (x y : Step) → OnGoes (IsKept claims) x → OnGoes (IsKept claims) y
-            → OnGoes (IsKept claims) (if b then x else y)
+        opened : (b : Bool) (x y : Step) → OnGoes (IsKept claims old) x → OnGoes (IsKept claims old) y
+            → OnGoes (IsKept claims old) (if b then x else y)
         opened true x y f g = f
         opened false x y f g = g
 
-        found : (o : Option TacRoutine) → OnGoes (IsKept claims) (with_some o (λ routine.
+        found : (o : Option TacRoutine) → OnGoes (IsKept claims old) (with_some o (λ routine.
             if not (nat_eq 0 routine.parameters) then Over Stuck
             else if is_full old p.frames p.objects p.stack p.heap 0 [] then Over (Stack routine.line)
             else Goes (entered old p.frames p.objects p.stack p.heap routine 0 [] 0 0 [] (before p.input))))
@@ -188,7 +194,7 @@ module _ (old new : Code) (made : IsAgain old new) where
         found (Some routine) =
             opened (not (nat_eq 0 routine.parameters)) (Over Stuck) _ tt
             (opened (is_full old p.frames p.objects p.stack p.heap 0 []) (Over (Stack routine.line)) _ tt (record {
-              here = nothing_held (claims 0 0) (entered old p.frames p.objects p.stack p.heap routine 0 [] 0 0 [] (before p.input)).current (begins 0);
+              here = nothing_held (text_at old) _ (claims 0 0) (entered old p.frames p.objects p.stack p.heap routine 0 [] 0 0 [] (before p.input)).current (begins 0);
               callers = tt;
             }))
 

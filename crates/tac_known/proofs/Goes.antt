@@ -28,13 +28,15 @@ use Rattle.tac_code.specs.Meaning.{checks, goes_on, goes_to, stores, takes, valu
 use Rattle.tac_code.specs.Meaning.{calls, leave, made, makes, act, onward, text_at}
 use Rattle.tac_pass.proofs.Below.{OnGoes}
 use Rattle.tac_known.specs.declared.kind.Kind.{Kind}
-use Rattle.tac_known.specs.declared.kind.Kind.TheVariants.{Unknown, Pointer, Between}
+use Rattle.tac_known.specs.declared.kind.Kind.TheVariants.{Unknown, NotNil, Between}
 use Rattle.tac_known.specs.Kinds.{IsOf, kind_in, Hold, operand_kind, met, computed_kind, bits_kind, opposite, related_kind}
 use Rattle.tac_known.specs.Kinds.{say_no_more, forget}
+use Rattle.tac_known.specs.declared.order.Orders.{Orders}
+use Rattle.tac_known.specs.Orders.{AreOrdered, sharp}
 use Rattle.tac_known.specs.Lean.{where_related, Leads}
 use Rattle.tac_known.proofs.Integers.{bounds_of}
-use Rattle.tac_known.proofs.Results.{is_between, met_is, computed_is, bits_is, related_is, unrelated_is, not_nil_is}
-use Rattle.tac_known.proofs.Results.{nor_nil_is}
+use Rattle.tac_known.proofs.Results.{is_between, met_is, computed_is, bits_is, related_is, not_nil_is}
+use Rattle.tac_known.proofs.Ordered.{opposite_holds, sharp_is}
 use Rattle.tac_known.proofs.Holding.{operand_is, holds_put, holds_more, nothing_holds, forgotten, less_holds, nothing_more}
 
 -- ---- steps that go on
@@ -52,7 +54,7 @@ module _ (P : State → Type 0) where
   on_number (Some (Address block offset)) go h = tt
   on_number (Some (Routine r)) go h = tt
 
-  on_address : (o : Option Value) (go : Block → ℕ → Step) → ((block : Block) (offset : ℕ) → OnGoes P (go block offset))
+  pub on_address : (o : Option Value) (go : Block → ℕ → Step) → ((block : Block) (offset : ℕ) → OnGoes P (go block offset))
       → OnGoes P (with_address o go)
   on_address None go h = tt
   on_address (Some (Number x)) go h = tt
@@ -75,10 +77,10 @@ module _ (P : State → Type 0) where
 
 -- ---- values
 
-pointer_is : (o : Option Value) (n : ℕ) → pointer_of o ≡ Some (Some n) → IsOf Pointer o
+pointer_is : (o : Option Value) (n : ℕ) → pointer_of o ≡ Some (Some n) → IsOf NotNil o
 pointer_is o n e = λ same. none-some n (same_Some None (Some n) (sym (ap pointer_of same) ∙ e))
 
-address_is : (block : Block) (offset : ℕ) → IsOf Pointer (Some (Address block offset))
+address_is : (block : Block) (offset : ℕ) → IsOf NotNil (Some (Address block offset))
 address_is block offset = λ same. true≢false (ap is_address same)
   where
     is_address : Option Value → Bool
@@ -90,31 +92,20 @@ truth_is true = is_between (pos 0) (pos 1) (pos 1) (omega (arith, ints)) (omega 
 truth_is false = is_between (pos 0) (pos 1) (pos 0) (omega (arith, ints)) (omega (arith, ints))
 
 -- what a branch finds of its left operand
-abbrev pub found : Bool → Relation → Relation
-found true relation = relation
-found false relation = opposite relation
-
-branch_is : (relation : Relation) (k k' : Kind) (o o' : Option Value) (b : Bool) → IsOf k o → IsOf k' o' → related
-    relation o o' ≡ Some b → IsOf (related_kind (found b relation) k k') o
-branch_is relation Unknown k' o o' true is is' e = not_nil_is relation k' o o' e is'
-branch_is relation Unknown k' o o' false is is' e = nor_nil_is relation k' o o' e is'
-branch_is relation Pointer k' o o' b is is' e = is
-branch_is relation (Between l h) Unknown o o' b is is' e = is
-branch_is relation (Between l h) Pointer o o' b is is' e = is
-branch_is relation (Between l h) (Between l' h') o o' b (x, f, p, q) (y, g, p', q') e =
-    subst (IsOf (related_kind (found b relation) (Between l h) (Between l' h'))) (sym f) (which b compares)
+branch_is : (relation : Relation) (k k' : Kind) (o o' : Option Value) → IsOf k o → IsOf k' o' → related relation o o'
+    ≡ Some true → IsOf (related_kind relation k k') o
+branch_is relation Unknown k' o o' is is' e = not_nil_is relation k' o o' e is'
+branch_is relation NotNil k' o o' is is' e = is
+branch_is relation (Between l h) Unknown o o' is is' e = is
+branch_is relation (Between l h) NotNil o o' is is' e = is
+branch_is relation (Between l h) (Between l' h') o o' (x, f, p, q) (y, g, p', q') e =
+    subst (IsOf (related_kind relation (Between l h) (Between l' h'))) (sym f)
+    (related_is relation l h l' h' x y compares (is_between l h x p q) (is_between l' h' y p' q'))
   where
-    compares : compared relation x y ≡ b
+    compares : compared relation x y ≡ true
     compares =
-        same_Some (compared relation x y) b
+        same_Some (compared relation x y) true
         (sym (ap (λ v. related relation v o') f ∙ ap (related relation (Some (Number x))) g) ∙ e)
-
-    which : (b : Bool) → compared relation x y ≡ b → IsOf (related_kind (found b relation) (Between l h) (Between l' h'))
-        (Some (Number x))
-    which true c =
-        related_is relation l h l' h' x y c (is_between l h x p q) (is_between l' h' y p' q')
-    which false c =
-        unrelated_is relation l h l' h' x y c (is_between l h x p q) (is_between l' h' y p' q')
 
 -- ---- states
 
@@ -128,7 +119,7 @@ module _ (claims : ℕ → ℕ → List Kind) where
     pub here : Hold (claims s.current.routine s.current.place) s.current.temporaries
     pub callers : CallersWait s.callers
 
-  module _ (begins : (r u : ℕ) → kind_in (claims r 0) u ≡ Unknown) (code : Code) (F G : ℕ → ℕ) (S H : ℕ) (s : State) (known : IsKnown s) where
+  module _ (begins : (r u : ℕ) → kind_in (claims r 0) u ≡ Unknown) (code : Code) (F G : ℕ → ℕ) (S H : ℕ) (s : State) (known : IsKnown s) (orders : Orders) (ordered : AreOrdered s.current.temporaries orders) where
     abbrev ks : List Kind
     ks = claims s.current.routine s.current.place
 
@@ -213,14 +204,14 @@ module _ (claims : ℕ → ℕ → List Kind) where
       callers = known.callers;
     }
 
-    makes_known : (t object_type bytes line : ℕ) → say_no_more (slice_set ks t Pointer) next ≡ true → Goes_on
+    makes_known : (t object_type bytes line : ℕ) → say_no_more (slice_set ks t NotNil) next ≡ true → Goes_on
         (makes code F G S H t object_type bytes line s)
     makes_known t object_type bytes line l =
         on_if IsKnown (nat_lt H (s.heap + G object_type)) (Over (Heap line))
         (Goes (made code F G S H t object_type bytes s)) tt (record {
-          here = less_holds (slice_set ks t Pointer) next
+          here = less_holds (slice_set ks t NotNil) next
               (put s.current.temporaries t (Address (Object (length s.memory.objects)) 0)) l
-              (holds_put ks s.current.temporaries known.here t Pointer
+              (holds_put ks s.current.temporaries known.here t NotNil
               (Address (Object (length s.memory.objects)) 0) (address_is (Object (length s.memory.objects)) 0));
           callers = known.callers;
         })
@@ -243,26 +234,29 @@ module _ (claims : ℕ → ℕ → List Kind) where
       callers = w.1;
     }
 
-    related_holds : (relation : Relation) (a : ℕ) (b : Operand) (holds : Bool)
-        → related relation (s.current.temporaries a) (operand_value s.current.temporaries b) ≡ Some holds
-        → Hold (where_related (found holds relation) a b ks) s.current.temporaries
-    related_holds relation a b holds e =
+    related_holds : (relation : Relation) (a : ℕ) (b : Operand)
+        → related relation (s.current.temporaries a) (operand_value s.current.temporaries b) ≡ Some true
+        → Hold (where_related (sharp orders relation a b) a b ks) s.current.temporaries
+    related_holds relation a b e =
         holds_more ks s.current.temporaries known.here a
-        (related_kind (found holds relation) (kind_in ks a) (operand_kind ks b))
-        (branch_is relation (kind_in ks a) (operand_kind ks b) (s.current.temporaries a)
-        (operand_value s.current.temporaries b) holds (known.here a)
-        (operand_is ks s.current.temporaries known.here b) e)
+        (related_kind (sharp orders relation a b) (kind_in ks a) (operand_kind ks b))
+        (branch_is (sharp orders relation a b) (kind_in ks a) (operand_kind ks b) (s.current.temporaries a)
+        (operand_value s.current.temporaries b) (known.here a)
+        (operand_is ks s.current.temporaries known.here b) (sharp_is s.current.temporaries orders ordered relation a b e))
 
-    branch_known : (relation : Relation) (a : ℕ) (b : Operand) (q : ℕ) → say_no_more (where_related relation a b ks)
-        (claims s.current.routine q) ≡ true → say_no_more (where_related (opposite relation) a b ks) next ≡ true
-        → (holds : Bool) → related relation (s.current.temporaries a) (operand_value s.current.temporaries b) ≡ Some holds
+    branch_known : (relation : Relation) (a : ℕ) (b : Operand) (q : ℕ)
+        → say_no_more (where_related (sharp orders relation a b) a b ks) (claims s.current.routine q) ≡ true
+        → say_no_more (where_related (sharp orders (opposite relation) a b) a b ks) next ≡ true → (holds : Bool)
+        → related relation (s.current.temporaries a) (operand_value s.current.temporaries b) ≡ Some holds
         → Goes_on (if holds then goes_to q s else goes_on s)
     branch_known relation a b q l m true e =
-        goes_known q (where_related relation a b ks) l (related_holds relation a b true e)
+        goes_known q (where_related (sharp orders relation a b) a b ks) l (related_holds relation a b e)
     branch_known relation a b q l m false e =
-        goes_known (suc s.current.place) (where_related (opposite relation) a b ks) m (related_holds relation a b false e)
+        goes_known (suc s.current.place) (where_related (sharp orders (opposite relation) a b) a b ks) m
+        (related_holds (opposite relation) a b
+        (opposite_holds relation (s.current.temporaries a) (operand_value s.current.temporaries b) e))
 
-    pub known_follows : (i : Instruction) → Leads (claims s.current.routine) s.current.place i → Goes_on
+    pub known_follows : (i : Instruction) → Leads (claims s.current.routine) orders s.current.place i → Goes_on
         (act code F G S H (Some i) s)
     known_follows (Literal t z) l = gives_known t (Between z z) (Number z) l
         (is_between z z z (omega (arith, ints)) (omega (arith, ints)))
@@ -294,7 +288,7 @@ module _ (claims : ℕ → ℕ → List Kind) where
             (checks code (not (is_nil p)) error line s)
         which None e = tt
         which (Some n) e =
-            checks_known true a Pointer error line l (λ _. pointer_is (s.current.temporaries a) n e)
+            checks_known true a NotNil error line l (λ _. pointer_is (s.current.temporaries a) n e)
     known_follows (Text t bytes) l =
         gives_known t Unknown (Address (Constant s.current.routine s.current.place) 0) l tt
     known_follows (Offset t b n extent) l =

@@ -10,7 +10,7 @@ use Rattle.tac_code.specs.Meaning.{Temporaries, put, operand_value}
 use Rattle.tac_code_steps.proofs.Temporaries.{put_same, put_other}
 use Rattle.tac_pass.proofs.Words.{get_set_same, get_set_other}
 use Rattle.tac_known.specs.declared.kind.Kind.{Kind}
-use Rattle.tac_known.specs.declared.kind.Kind.TheVariants.{Unknown, Pointer, Between}
+use Rattle.tac_known.specs.declared.kind.Kind.TheVariants.{Unknown, NotNil, Between}
 use Rattle.tac_known.specs.Kinds.{IsOf, or_unknown, kind_in, Hold, operand_kind, says_no_more, say_no_more, forget}
 use Rattle.tac_known.proofs.Integers.{both_true}
 use Rattle.tac_known.proofs.Results.{less_is}
@@ -76,7 +76,7 @@ less_holds (x ∷ xs) (k ∷ ks) ts e h (suc u) =
 -- what says no more than nothing says nothing
 unknown_only : (k : Kind) → says_no_more Unknown k ≡ true → k ≡ Unknown
 unknown_only Unknown e = refl
-unknown_only Pointer e = absurd (true≢false (sym e))
+unknown_only NotNil e = absurd (true≢false (sym e))
 unknown_only (Between l h) e = absurd (true≢false (sym e))
 
 pub nothing_more : (xs ks : List Kind) → ((u : ℕ) → kind_in xs u ≡ Unknown) → say_no_more xs ks ≡ true → (u : ℕ) → kind_in

@@ -1,8 +1,10 @@
 -- Integers within bounds.
-use Rattle.std.proofs.Common.{◌≡◌, ◌≢◌, ℕ, zero, suc, ◌+◌, ◌-◌, ◌%◌, ◌<◌, ◌≤◌, Bool, true, false, not}
-use Rattle.std.proofs.Common.{◌&&◌, nat_lt, if◌then◌else◌, ℤ, pos, negsuc, ◌+ℤ◌, refl, sym, ap, ◌∙◌, arith}
-use Rattle.std.proofs.Common.{eq-eqb, eqb-true}
-use Rattle.std.specs.Prelude.{int_lt, ◌≤ℤ◌, ◌<ℤ◌}
+use Rattle.std.proofs.Common.{◌≡◌, ◌≢◌, ℕ, zero, suc, ◌+◌, ◌-◌, ◌*◌, ◌/◌, ◌%◌, ◌<◌, ◌≤◌, Bool, true, false, not}
+use Rattle.std.proofs.Common.{◌&&◌, nat_lt, if◌then◌else◌, ℤ, pos, negsuc, ◌+ℤ◌, ◌*ℤ◌, refl, sym, ap, ◌∙◌, arith}
+use Rattle.std.proofs.Common.{eq-eqb, eqb-true, FitsSigned, w32, w64, unsigned_abs}
+use Rattle.std.proofs.Math.Nat.{mul-le-mul_left, div-mul-le_self, div-le_self}
+use Rattle.std.proofs.lemmas.Nat.{le-div}
+use Rattle.std.specs.Prelude.{int_lt, int_div, neg_ℤ, ◌≤ℤ◌, ◌<ℤ◌}
 use Rattle.std.specs.Ordering.{int_eq}
 use Rattle.std.specs.Int.{int_rem_euclid}
 use Rattle.std.proofs.lemmas.Int.{ints}
@@ -103,6 +105,65 @@ remainder_bounds (negsuc a) (pos zero) h = absurd (omega (arith, ints, h))
 remainder_bounds (negsuc a) (pos (suc n)) h = (omega (arith, ints), omega (arith, ints))
 remainder_bounds x (negsuc n) h = absurd (omega (arith, ints, h))
 
+-- ---- products and quotients
+
+opposite_size : (n : ℕ) → unsigned_abs (neg_ℤ (pos n)) ≡ n
+opposite_size zero = refl
+opposite_size (suc n) = refl
+
+size_of_product : (x y : ℤ) → unsigned_abs (x *ℤ y) ≡ unsigned_abs x * unsigned_abs y
+size_of_product (pos a) (pos b) = refl
+size_of_product (pos a) (negsuc b) = opposite_size (a * suc b)
+size_of_product (negsuc a) (pos b) = opposite_size (suc a * b)
+size_of_product (negsuc a) (negsuc b) = refl
+
+no_more_product : (a b c d : ℕ) → a ≤ c → b ≤ d → a * b ≤ c * d
+no_more_product a b c d h k =
+    let p = mul-le-mul_left a k in
+    let q = mul-le-mul_left d h in
+    omega (arith, p, q)
+
+pub product_fits : (x y : ℤ) → unsigned_abs x ≤ 2147483648 → unsigned_abs y ≤ 2147483648 → FitsSigned w64 (x *ℤ y)
+product_fits x y h k =
+    let s = size_of_product x y in
+    let p = no_more_product (unsigned_abs x) (unsigned_abs y) 2147483648 2147483648 h k in
+    omega (arith, ints, s, p)
+
+-- of greater numbers that aren't negative the product is no less
+pub products_grow : (x y h h' : ℤ) → pos 0 ≤ℤ x → x ≤ℤ h → pos 0 ≤ℤ y → y ≤ℤ h' → (x *ℤ y) ≤ℤ (h *ℤ h')
+products_grow (pos a) (pos b) (pos c) (pos d) p q r s =
+    let m = no_more_product a b c d (omega (arith, ints, q)) (omega (arith, ints, s)) in
+    omega (arith, ints, m)
+products_grow (pos a) (pos b) (pos c) (negsuc d) p q r s = absurd (omega (arith, ints, s))
+products_grow (pos a) (pos b) (negsuc c) h' p q r s = absurd (omega (arith, ints, q))
+products_grow (pos a) (negsuc b) h h' p q r s = absurd (omega (arith, ints, r))
+products_grow (negsuc a) y h h' p q r s = absurd (omega (arith, ints, p))
+
+no_more_quotient : (a b k : ℕ) → a ≤ b → a / suc k ≤ b / suc k
+no_more_quotient a b k h =
+    let p = div-mul-le_self a (suc k) in
+    le-div (a / suc k) b (suc k) (omega arith) (omega (arith, p, h))
+
+-- nor is the quotient
+pub quotients_grow : (x h d : ℤ) → pos 0 ≤ℤ x → x ≤ℤ h → pos 0 <ℤ d → int_div x d ≤ℤ int_div h d
+quotients_grow (pos a) (pos b) (pos (suc k)) p q r =
+    let m = no_more_quotient a b k (omega (arith, ints, q)) in
+    omega (arith, ints, m)
+quotients_grow (pos a) (pos b) (pos zero) p q r = absurd (omega (arith, ints, r))
+quotients_grow (pos a) (pos b) (negsuc k) p q r = absurd (omega (arith, ints, r))
+quotients_grow (pos a) (negsuc b) d p q r = absurd (omega (arith, ints, q))
+quotients_grow (negsuc a) h d p q r = absurd (omega (arith, ints, p))
+
+opposite_fits : (n a : ℕ) → n ≤ suc a → FitsSigned w32 (negsuc a) → FitsSigned w32 (neg_ℤ (pos n))
+opposite_fits zero a l h = omega (arith, ints)
+opposite_fits (suc n) a l h = omega (arith, ints, l, h)
+
+pub quotient_fits : (x d : ℤ) → FitsSigned w32 x → pos 0 <ℤ d → FitsSigned w32 (int_div x d)
+quotient_fits (pos a) (pos (suc k)) h p = let q = div-le_self a (suc k) in omega (arith, ints, h, q)
+quotient_fits (negsuc a) (pos (suc k)) h p = opposite_fits (suc a / suc k) a (div-le_self (suc a) (suc k)) h
+quotient_fits x (pos zero) h p = absurd (omega (arith, ints, p))
+quotient_fits x (negsuc k) h p = absurd (omega (arith, ints, p))
+
 -- ---- equal numbers
 
 pub same_int : (x y : ℤ) → same_number x y ≡ true → x ≡ y
@@ -111,7 +172,7 @@ same_int (pos a) (negsuc b) e = absurd (true≢false (sym e))
 same_int (negsuc a) (pos b) e = absurd (true≢false (sym e))
 same_int (negsuc a) (negsuc b) e = ap negsuc (eqb-true a b e)
 
-same_itself : (x : ℤ) → same_number x x ≡ true
+pub same_itself : (x : ℤ) → same_number x x ≡ true
 same_itself (pos a) = eq-eqb a a refl
 same_itself (negsuc a) = eq-eqb a a refl
 

@@ -11,6 +11,7 @@ use Rattle.tac_code.specs.declared.code.Instruction.TheVariants.{New, End}
 use Rattle.tac_known.specs.declared.kind.Kind.{Kind}
 use Rattle.tac_known.specs.declared.kind.Kind.TheVariants.{Unknown}
 use Rattle.tac_known.specs.Kinds.{fits, operand_kind}
+use Rattle.tac_known.specs.Orders.{no_orders, OrdersLead}
 use Rattle.tac_code.specs.Meaning.{Code}
 use Rattle.tac_known.specs.Lean.{number_unless, is_nought, is_unequal, copied_if, lean, Leads, LeanBody, IsLean}
 
@@ -55,7 +56,7 @@ lean_not (Put a) = refl
 lean_not (New t o l) = refl
 lean_not End = refl
 
-leads_nowhere : (place : ℕ) (i : Instruction) → Leads (λ q. []) place i
+leads_nowhere : (place : ℕ) (i : Instruction) → Leads (λ q. []) no_orders place i
 leads_nowhere place (Literal t z) = refl
 leads_nowhere place (Copy t a) = refl
 leads_nowhere place (Arithmetic o t a b e l) = refl
@@ -84,13 +85,45 @@ leads_nowhere place (Put a) = refl
 leads_nowhere place (New t o l) = refl
 leads_nowhere place End = tt
 
+orders_lead_nowhere : (place : ℕ) (i : Instruction) → OrdersLead (λ q. []) (λ q. no_orders) place i
+orders_lead_nowhere place (Literal t z) = refl
+orders_lead_nowhere place (Copy t a) = refl
+orders_lead_nowhere place (Arithmetic o t a b e l) = refl
+orders_lead_nowhere place (Bits o t a b) = refl
+orders_lead_nowhere place (Compare r t a b) = refl
+orders_lead_nowhere place (CheckRange a m n0 e l) = refl
+orders_lead_nowhere place (CheckPointer a e l) = refl
+orders_lead_nowhere place (Text t bs) = refl
+orders_lead_nowhere place (Offset t b n x) = refl
+orders_lead_nowhere place (Index t b x m n0 w e l) = refl
+orders_lead_nowhere place (RoutineValue t r) = refl
+orders_lead_nowhere place (Load t b n) = refl
+orders_lead_nowhere place (Store b n a) = refl
+orders_lead_nowhere place (LoadByte t b n) = refl
+orders_lead_nowhere place (StoreByte b n a) = refl
+orders_lead_nowhere place (Jump n) = refl
+orders_lead_nowhere place (JumpBack n) = refl
+orders_lead_nowhere place (Branch r a b n) = (refl, refl)
+orders_lead_nowhere place (BranchBack r a b n) = (refl, refl)
+orders_lead_nowhere place (Call t r os l) = refl
+orders_lead_nowhere place (CallValue t a os l) = refl
+orders_lead_nowhere place (Return a) = tt
+orders_lead_nowhere place (Trap e l) = tt
+orders_lead_nowhere place (Take t) = refl
+orders_lead_nowhere place (Put a) = refl
+orders_lead_nowhere place (New t o l) = refl
+orders_lead_nowhere place End = tt
+
 pub itself_is_lean : (body : List Instruction) → LeanBody body body
 itself_is_lean body = record {
   at = λ q. [];
+  ord = λ q. no_orders;
   begins = λ u. refl;
+  unordered = refl;
   as_many = refl;
   there = λ place i e. e ∙ ap Some (sym (lean_not i));
   leads = λ place i e. leads_nowhere place i;
+  orders_lead = λ place i e. orders_lead_nowhere place i;
 }
 
 pub unchanged_is_lean : (code : Code) → IsLean code code

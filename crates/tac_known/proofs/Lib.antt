@@ -14,4 +14,6 @@ pub mod AgainHeld
 pub mod AgainGoes
 pub mod AgainWhole
 pub mod AgainRoom
+pub mod Ordered
+pub mod OrdersGo
 pub mod AgainWalked

@@ -19,13 +19,14 @@ use Rattle.tac_code.specs.Numbers.{is_integer, is_zero, is_in_range, Computed, G
 use Rattle.tac_code.specs.Numbers.{truth, compared, same_number}
 use Rattle.tac_code.specs.Meaning.{related}
 use Rattle.tac_known.specs.declared.kind.Kind.{Kind}
-use Rattle.tac_known.specs.declared.kind.Kind.TheVariants.{Unknown, Pointer, Between}
+use Rattle.tac_known.specs.declared.kind.Kind.TheVariants.{Unknown, NotNil, Between}
 use Rattle.tac_known.specs.Kinds.{IsOf, least, greatest, met, low_of, high_of, sum, difference, remainder, computed_kind}
+use Rattle.tac_known.specs.Kinds.{are_natural, are_all_natural, product, divide, quotient_of, quotient, are_plain}
 use Rattle.tac_known.specs.Kinds.{are_integers, plain_sum, bits_kind, fits, lies_within, opposite, one_less, one_more, without, narrowed}
 use Rattle.tac_known.specs.Kinds.{says_nil, not_nil, says_no_more}
 use Rattle.tac_known.proofs.Integers.{not_below, is_below, both_true, not_false, in_range}
 use Rattle.tac_known.proofs.Integers.{integer_bounds, is_integer_between, plain, remainder_bounds, same_int, other_int}
-use Rattle.tac_known.proofs.Integers.{eq_int}
+use Rattle.tac_known.proofs.Integers.{eq_int, products_grow, quotients_grow}
 
 abbrev number_of_value : Value → ℤ
 number_of_value (Number x) = x
@@ -46,7 +47,7 @@ is_between l h x p q = (x, refl, p, q)
 pub met_is : (k : Kind) (low high x : ℤ) → IsOf k (Some (Number x)) → low ≤ℤ x → x ≤ℤ high → IsOf (met k low high)
     (Some (Number x))
 met_is Unknown low high x is l h = is_between low high x l h
-met_is Pointer low high x is l h = is_between low high x l h
+met_is NotNil low high x is l h = is_between low high x l h
 met_is (Between a b) low high x is l h =
     let n = number_within a b x is in
     let p = n.0 in let q = n.1 in
@@ -78,9 +79,9 @@ an_integer z i = let b = integer_bounds z i in is_between least greatest z b.0 b
 sum_is : (k k' : Kind) (x y : ℤ) → IsOf k (Some (Number x)) → IsOf k' (Some (Number y)) → is_integer (x +ℤ y) ≡ true
     → IsOf (sum k k') (Some (Number (x +ℤ y)))
 sum_is Unknown k' x y a b i = an_integer (x +ℤ y) i
-sum_is Pointer k' x y a b i = an_integer (x +ℤ y) i
+sum_is NotNil k' x y a b i = an_integer (x +ℤ y) i
 sum_is (Between l h) Unknown x y a b i = an_integer (x +ℤ y) i
-sum_is (Between l h) Pointer x y a b i = an_integer (x +ℤ y) i
+sum_is (Between l h) NotNil x y a b i = an_integer (x +ℤ y) i
 sum_is (Between l h) (Between l' h') x y a b i =
     let m = number_within l h x a in let n = number_within l' h' y b in
     let m0 = m.0 in let m1 = m.1 in let n0 = n.0 in let n1 = n.1 in
@@ -89,18 +90,83 @@ sum_is (Between l h) (Between l' h') x y a b i =
 difference_is : (k k' : Kind) (x y : ℤ) → IsOf k (Some (Number x)) → IsOf k' (Some (Number y)) → is_integer (x -ℤ y)
     ≡ true → IsOf (difference k k') (Some (Number (x -ℤ y)))
 difference_is Unknown k' x y a b i = an_integer (x -ℤ y) i
-difference_is Pointer k' x y a b i = an_integer (x -ℤ y) i
+difference_is NotNil k' x y a b i = an_integer (x -ℤ y) i
 difference_is (Between l h) Unknown x y a b i = an_integer (x -ℤ y) i
-difference_is (Between l h) Pointer x y a b i = an_integer (x -ℤ y) i
+difference_is (Between l h) NotNil x y a b i = an_integer (x -ℤ y) i
 difference_is (Between l h) (Between l' h') x y a b i =
     let m = number_within l h x a in let n = number_within l' h' y b in
     let m0 = m.0 in let m1 = m.1 in let n0 = n.0 in let n1 = n.1 in
     clipped (l -ℤ h') (h -ℤ l') (x -ℤ y) (omega (arith, ints, m0, n1)) (omega (arith, ints, m1, n0)) i
 
+natural_bounds : (l h : ℤ) → are_natural l h ≡ true → (pos 0 ≤ℤ l) × (pos 0 ≤ℤ h)
+natural_bounds l h e =
+    let b = both_true (not (int_lt l (pos 0))) (not (int_lt h (pos 0))) e in (
+      not_below (pos 0) l (not_false (int_lt l (pos 0)) b.0),
+      not_below (pos 0) h (not_false (int_lt h (pos 0)) b.1),
+    )
+
+-- a product of numbers that aren't negative lies between those of their bounds
+product_within : (l h l' h' x y : ℤ) → are_all_natural l h l' h' ≡ true → l ≤ℤ x → x ≤ℤ h → l' ≤ℤ y
+    → y ≤ℤ h' → (pos 0 ≤ℤ (x *ℤ y)) × ((l *ℤ l') ≤ℤ (x *ℤ y)) × ((x *ℤ y) ≤ℤ (h *ℤ h'))
+product_within l h l' h' x y e m0 m1 n0 n1 =
+    let c = both_true (are_natural l h) (are_natural l' h') e in
+    let p = (natural_bounds l h c.0).0 in
+    let q = (natural_bounds l' h' c.1).0 in
+    let p' : pos 0 ≤ℤ x = omega (arith, ints, p, m0) in
+    let q' : pos 0 ≤ℤ y = omega (arith, ints, q, n0) in (
+      products_grow (pos 0) (pos 0) x y (omega (arith, ints)) p' (omega (arith, ints)) q',
+      products_grow l l' x y p m0 q n0,
+      products_grow x y h h' p' m1 q' n1,
+    )
+
+product_is : (k k' : Kind) (x y : ℤ) → IsOf k (Some (Number x)) → IsOf k' (Some (Number y)) → is_integer (x *ℤ y)
+    ≡ true → IsOf (product k k') (Some (Number (x *ℤ y)))
+product_is Unknown k' x y a b i = an_integer (x *ℤ y) i
+product_is NotNil k' x y a b i = an_integer (x *ℤ y) i
+product_is (Between l h) Unknown x y a b i = an_integer (x *ℤ y) i
+product_is (Between l h) NotNil x y a b i = an_integer (x *ℤ y) i
+product_is (Between l h) (Between l' h') x y a b i = which (are_all_natural l h l' h') refl
+  where
+    which : (t : Bool) → are_all_natural l h l' h' ≡ t → IsOf
+        (if t then Between (low_of (l *ℤ l')) (high_of (h *ℤ h')) else Between least greatest) (Some (Number (x *ℤ y)))
+    which true e =
+        let m = number_within l h x a in let n = number_within l' h' y b in
+        let w = product_within l h l' h' x y e m.0 m.1 n.0 n.1 in
+        clipped (l *ℤ l') (h *ℤ h') (x *ℤ y) w.1 w.2 i
+    which false e = an_integer (x *ℤ y) i
+
+quotient_is : (k k' : Kind) (x y : ℤ) → IsOf k (Some (Number x)) → IsOf k' (Some (Number y)) → is_integer (int_div x y)
+    ≡ true → IsOf (quotient k k') (Some (Number (int_div x y)))
+quotient_is Unknown k' x y a b i = an_integer (int_div x y) i
+quotient_is NotNil k' x y a b i = an_integer (int_div x y) i
+quotient_is (Between l h) Unknown x y a b i = an_integer (int_div x y) i
+quotient_is (Between l h) NotNil x y a b i = an_integer (int_div x y) i
+quotient_is (Between l h) (Between l' h') x y a b i = which (divide l h l' h') refl
+  where
+    which : (t : Bool) → divide l h l' h' ≡ t → IsOf
+        (if t then Between (quotient_of l l') (quotient_of h l') else Between least greatest)
+        (Some (Number (int_div x y)))
+    which true e =
+        let c = both_true (are_natural l h) (int_lt (pos 0) l' && int_eq l' h') e in
+        let d = both_true (int_lt (pos 0) l') (int_eq l' h') c.1 in
+        let p = (natural_bounds l h c.0).0 in
+        let r = is_below l' (pos 0) d.0 in
+        let s = eq_int l' h' d.1 in
+        let m = number_within l h x a in let n = number_within l' h' y b in
+        let m0 = m.0 in let n0 = n.0 in let n1 = n.1 in
+        let only : l' ≡ y = omega (arith, ints, n0, n1, s) in
+        let low : int_div l l' ≡ quotient_of l l' = sym (ap (λ (t : Bool). if t then int_div l l' else least) d.0) in
+        let high : int_div h l' ≡ quotient_of h l' = sym (ap (λ (t : Bool). if t then int_div h l' else least) d.0) in
+        subst (λ z. IsOf (Between (quotient_of l l') (quotient_of h l')) (Some (Number (int_div x z)))) only
+        (is_between (quotient_of l l') (quotient_of h l') (int_div x l')
+        (subst (λ z. z ≤ℤ int_div x l') low (quotients_grow l x l' p m0 r))
+        (subst (λ z. int_div x l' ≤ℤ z) high (quotients_grow x h l' (omega (arith, ints, p, m0)) m.1 r)))
+    which false e = an_integer (int_div x y) i
+
 remainder_is : (k' : Kind) (x y : ℤ) → IsOf k' (Some (Number y)) → int_lt (pos 0) y ≡ true → IsOf (remainder k')
     (Some (Number (int_rem_euclid x y)))
 remainder_is Unknown x y b p = tt
-remainder_is Pointer x y b p = tt
+remainder_is NotNil x y b p = tt
 remainder_is (Between l h) x y b p = which (int_lt (pos 0) l && int_lt (pos 0) h)
   where
     which : (t : Bool) → IsOf (if t then Between (pos 0) (h -ℤ pos 1) else Unknown) (Some (Number (int_rem_euclid x y)))
@@ -132,15 +198,14 @@ computed_is Add error k k' x y z a b e =
 computed_is Subtract error k k' x y z a b e =
     within_gives (λ z. IsOf (difference k k') (Some (Number z))) error (x -ℤ y) z e (difference_is k k' x y a b)
 computed_is Multiply error k k' x y z a b e =
-    within_gives (λ z. IsOf (Between least greatest) (Some (Number z))) error (x *ℤ y) z e (an_integer (x *ℤ y))
+    within_gives (λ z. IsOf (product k k') (Some (Number z))) error (x *ℤ y) z e (product_is k k' x y a b)
 computed_is Divide error k k' x y z a b e = which (is_zero y) e
   where
-    which : (t : Bool) → (if t then Fails 2 else within error (int_div x y)) ≡ Gives z → IsOf (Between least greatest)
+    which : (t : Bool) → (if t then Fails 2 else within error (int_div x y)) ≡ Gives z → IsOf (quotient k k')
         (Some (Number z))
     which true e = absurd (gives_no 2 z e)
     which false e =
-        within_gives (λ z. IsOf (Between least greatest) (Some (Number z))) error (int_div x y) z e
-        (an_integer (int_div x y))
+        within_gives (λ z. IsOf (quotient k k') (Some (Number z))) error (int_div x y) z e (quotient_is k k' x y a b)
 computed_is Modulo error k k' x y z a b e = which (int_lt (pos 0) y) refl e
   where
     which : (t : Bool) → int_lt (pos 0) y ≡ t → (if t then Gives (int_rem_euclid x y) else Fails 3) ≡ Gives z → IsOf
@@ -157,9 +222,9 @@ integer_in l h x e p q =
 plain_is : (k k' : Kind) (x y : ℤ) → IsOf k (Some (Number x)) → IsOf k' (Some (Number y)) → IsOf (plain_sum k k')
     (Some (Number (bits Plus x y)))
 plain_is Unknown k' x y a b = tt
-plain_is Pointer k' x y a b = tt
+plain_is NotNil k' x y a b = tt
 plain_is (Between l h) Unknown x y a b = tt
-plain_is (Between l h) Pointer x y a b = tt
+plain_is (Between l h) NotNil x y a b = tt
 plain_is (Between l h) (Between l' h') x y a b =
     which (are_integers l h && (are_integers l' h' && are_integers (l +ℤ l') (h +ℤ h'))) refl
   where
@@ -177,6 +242,19 @@ plain_is (Between l h) (Between l' h') x y a b =
         subst (λ z. IsOf (Between (low_of (l +ℤ l')) (high_of (h +ℤ h'))) (Some (Number z)))
         (sym (plain x y (integer_in l h x c.0 m0 m1) (integer_in l' h' y d.0 n0 n1) i))
         (clipped (l +ℤ l') (h +ℤ h') (x +ℤ y) p q i)
+
+-- a sum that goes around nowhere
+pub plain_sum_is : (l h x z : ℤ) → are_plain l h z z ≡ true → IsOf (Between l h) (Some (Number x)) → bits Plus x z
+    ≡ x +ℤ z
+plain_sum_is l h x z e a =
+    let c = both_true (are_integers l h) (are_integers z z && are_integers (l +ℤ z) (h +ℤ z)) e in
+    let d = both_true (are_integers z z) (are_integers (l +ℤ z) (h +ℤ z)) c.1 in
+    let m = number_within l h x a in
+    let m0 = m.0 in let m1 = m.1 in
+    let p : (l +ℤ z) ≤ℤ (x +ℤ z) = omega (arith, ints, m0) in
+    let q : (x +ℤ z) ≤ℤ (h +ℤ z) = omega (arith, ints, m1) in
+    plain x z (integer_in l h x c.0 m0 m1) (both_true (is_integer z) (is_integer z) d.0).0
+    (integer_in (l +ℤ z) (h +ℤ z) (x +ℤ z) d.1 p q)
 
 pub bits_is : (operator : BitOperator) (k k' : Kind) (x y : ℤ) → IsOf k (Some (Number x)) → IsOf k' (Some (Number y))
     → IsOf (bits_kind operator k k') (Some (Number (bits operator x y)))
@@ -200,22 +278,33 @@ fits_gives Subtract (Between l h) (Between l' h') x y e a b =
     let m0 = m.0 in let m1 = m.1 in let n0 = n.0 in let n1 = n.1 in
     let i = integer_in (l -ℤ h') (h -ℤ l') (x -ℤ y) e (omega (arith, ints, m0, n1)) (omega (arith, ints, m1, n0)) in
     (x -ℤ y, λ error. ap (λ t. if t then Gives (x -ℤ y) else Fails error) i)
+fits_gives Multiply (Between l h) (Between l' h') x y e a b =
+    let c = both_true (are_all_natural l h l' h') (is_integer (h *ℤ h')) e in
+    let m = number_within l h x a in let n = number_within l' h' y b in
+    let w = product_within l h l' h' x y c.0 m.0 m.1 n.0 n.1 in
+    let w0 = w.0 in let w1 = w.2 in
+    let top = (integer_bounds (h *ℤ h') c.1).1 in
+    let i = is_integer_between (x *ℤ y) (omega (arith, ints, w0)) (omega (arith, ints, w1, top)) in
+    (x *ℤ y, λ error. ap (λ t. if t then Gives (x *ℤ y) else Fails error) i)
 fits_gives Add Unknown k' x y e a b = absurd (true≢false (sym e))
-fits_gives Add Pointer k' x y e a b = absurd (true≢false (sym e))
+fits_gives Add NotNil k' x y e a b = absurd (true≢false (sym e))
 fits_gives Add (Between l h) Unknown x y e a b = absurd (true≢false (sym e))
-fits_gives Add (Between l h) Pointer x y e a b = absurd (true≢false (sym e))
+fits_gives Add (Between l h) NotNil x y e a b = absurd (true≢false (sym e))
 fits_gives Subtract Unknown k' x y e a b = absurd (true≢false (sym e))
-fits_gives Subtract Pointer k' x y e a b = absurd (true≢false (sym e))
+fits_gives Subtract NotNil k' x y e a b = absurd (true≢false (sym e))
 fits_gives Subtract (Between l h) Unknown x y e a b = absurd (true≢false (sym e))
-fits_gives Subtract (Between l h) Pointer x y e a b = absurd (true≢false (sym e))
-fits_gives Multiply k k' x y e a b = absurd (true≢false (sym e))
+fits_gives Subtract (Between l h) NotNil x y e a b = absurd (true≢false (sym e))
+fits_gives Multiply Unknown k' x y e a b = absurd (true≢false (sym e))
+fits_gives Multiply NotNil k' x y e a b = absurd (true≢false (sym e))
+fits_gives Multiply (Between l h) Unknown x y e a b = absurd (true≢false (sym e))
+fits_gives Multiply (Between l h) NotNil x y e a b = absurd (true≢false (sym e))
 fits_gives Divide k k' x y e a b = absurd (true≢false (sym e))
 fits_gives Modulo k k' x y e a b = absurd (true≢false (sym e))
 
 pub lies_in : (k : Kind) (low high x : ℤ) → lies_within k low high ≡ true → IsOf k (Some (Number x)) → is_in_range low
     high x ≡ true
 lies_in Unknown low high x e is = absurd (true≢false (sym e))
-lies_in Pointer low high x e is = absurd (true≢false (sym e))
+lies_in NotNil low high x e is = absurd (true≢false (sym e))
 lies_in (Between l h) low high x e is =
     let n = number_within l h x is in let n0 = n.0 in let n1 = n.1 in
     let b = both_true (not (int_lt l low)) (not (int_lt high h)) e in
@@ -227,7 +316,7 @@ lies_in (Between l h) low high x e is =
 pub is_bit : (k : Kind) (o : Option Value) → lies_within k (pos 0) (pos 1) ≡ true → IsOf k o → (x : ℤ)
     × (o ≡ Some (Number x)) × (pos 0 ≤ℤ x) × (x ≤ℤ pos 1)
 is_bit Unknown o e is = absurd (true≢false (sym e))
-is_bit Pointer o e is = absurd (true≢false (sym e))
+is_bit NotNil o e is = absurd (true≢false (sym e))
 is_bit (Between l h) o e (x, f, n0, n1) =
     let b = both_true (not (int_lt l (pos 0))) (not (int_lt (pos 1) h)) e in
     let p = not_below (pos 0) l (not_false (int_lt l (pos 0)) b.0) in
@@ -242,7 +331,7 @@ truth_of_bit (negsuc n) p q = absurd (omega (arith, ints, p))
 
 -- ---- relations
 
-other_relation : (relation : Relation) (x y : ℤ) → compared relation x y ≡ false → compared (opposite relation) x y
+pub other_relation : (relation : Relation) (x y : ℤ) → compared relation x y ≡ false → compared (opposite relation) x y
     ≡ true
 other_relation Equal x y e = ap not e
 other_relation NotEqual x y e = negated (same_number x y) e
@@ -330,18 +419,12 @@ related_is relation l h l' h' x y e a b =
     let m = number_within l h x a in let n = number_within l' h' y b in
     narrowed_is relation l h l' h' x y e m.0 m.1 n.0 n.1
 
-pub unrelated_is : (relation : Relation) (l h l' h' x y : ℤ) → compared relation x y ≡ false → IsOf (Between l h)
-    (Some (Number x)) → IsOf (Between l' h') (Some (Number y)) → IsOf (narrowed (opposite relation) l h l' h')
-    (Some (Number x))
-unrelated_is relation l h l' h' x y e a b =
-    related_is (opposite relation) l h l' h' x y (other_relation relation x y e) a b
-
 -- ---- what isn't nil
 
 -- what is nil is the number 0
 zero_is : (k : Kind) (o : Option Value) → says_nil k ≡ true → IsOf k o → o ≡ Some (Number (pos 0))
 zero_is Unknown o e is = absurd (true≢false (sym e))
-zero_is Pointer o e is = absurd (true≢false (sym e))
+zero_is NotNil o e is = absurd (true≢false (sym e))
 zero_is (Between l h) o e (x, f, p, q) =
     let b = both_true (int_eq l (pos 0)) (int_eq h (pos 0)) e in
     let s = eq_int l (pos 0) b.0 in
@@ -350,10 +433,10 @@ zero_is (Between l h) o e (x, f, p, q) =
     f ∙ ap (λ x. Some (Number x)) only
 
 other_than : (k : Kind) (o o' : Option Value) → IsOf k o' → (o ≡ Some (Number (pos 0)) → o' ≢ Some (Number (pos 0)))
-    → IsOf (if says_nil k then Pointer else Unknown) o
+    → IsOf (if says_nil k then NotNil else Unknown) o
 other_than k o o' is differ = which (says_nil k) refl
   where
-    which : (b : Bool) → says_nil k ≡ b → IsOf (if b then Pointer else Unknown) o
+    which : (b : Bool) → says_nil k ≡ b → IsOf (if b then NotNil else Unknown) o
     which true e = λ same. differ same (zero_is k o' e is)
     which false e = tt
 
@@ -374,26 +457,15 @@ not_nil_is LessEqual k o o' e is = tt
 not_nil_is Greater k o o' e is = tt
 not_nil_is GreaterEqual k o o' e is = tt
 
-pub nor_nil_is : (relation : Relation) (k : Kind) (o o' : Option Value) → related relation o o' ≡ Some false → IsOf k o'
-    → IsOf (not_nil (opposite relation) k) o
-nor_nil_is Equal k o o' e is =
-    other_than k o o' is
-    (λ f g. true≢false (same_Some true false (sym (related_zeros Equal o o' f g) ∙ e)))
-nor_nil_is NotEqual k o o' e is = tt
-nor_nil_is Less k o o' e is = tt
-nor_nil_is LessEqual k o o' e is = tt
-nor_nil_is Greater k o o' e is = tt
-nor_nil_is GreaterEqual k o o' e is = tt
-
 -- ---- where places meet
 
 pub less_is : (k k' : Kind) (o : Option Value) → says_no_more k k' ≡ true → IsOf k o → IsOf k' o
 less_is k Unknown o e is = tt
-less_is Pointer Pointer o e is = is
-less_is Unknown Pointer o e is = absurd (true≢false (sym e))
-less_is (Between l h) Pointer o e is = absurd (true≢false (sym e))
+less_is NotNil NotNil o e is = is
+less_is Unknown NotNil o e is = absurd (true≢false (sym e))
+less_is (Between l h) NotNil o e is = absurd (true≢false (sym e))
 less_is Unknown (Between l' h') o e is = absurd (true≢false (sym e))
-less_is Pointer (Between l' h') o e is = absurd (true≢false (sym e))
+less_is NotNil (Between l' h') o e is = absurd (true≢false (sym e))
 less_is (Between l h) (Between l' h') o e (x, f, p, q) =
     let b = both_true (not (int_lt l l')) (not (int_lt h' h)) e in
     let m = not_below l' l (not_false (int_lt l l') b.0) in

@@ -6,7 +6,7 @@ use Rattle.std.proofs.lemmas.Option.{none-some}
 use Rattle.behavior.specs.Endings.{Stack, Stuck}
 use Rattle.tac_code.specs.declared.code.Instruction.{Instruction}
 use Rattle.tac_code.specs.declared.code.TacRoutine.{TacRoutine}
-use Rattle.tac_code.specs.Meaning.{Code, State, Step, Goes, Over, routines, body_at, fetch, text_of, text_at, act}
+use Rattle.tac_code.specs.Meaning.{Code, Temporaries, State, Step, Goes, Over, routines, body_at, fetch, text_of, text_at, act}
 use Rattle.tac_code.specs.Meaning.{enter, with_some, is_full, entered}
 use Rattle.tac_code.specs.Run.{before}
 use Rattle.tac_code_steps.specs.Turns.{turns_aside}
@@ -19,10 +19,14 @@ use Rattle.tac_pass.proofs.Simulating.{simulated_is_kept}
 use Rattle.tac_known.specs.declared.kind.Kind.{Kind}
 use Rattle.tac_known.specs.declared.kind.Kind.TheVariants.{Unknown}
 use Rattle.tac_known.specs.Kinds.{kind_in}
+use Rattle.tac_known.specs.declared.order.Orders.{Orders}
+use Rattle.tac_known.specs.Orders.{AreOrdered, no_orders, say_all, OrdersLead}
 use Rattle.tac_known.specs.Lean.{lean, Leads, IsLean}
 use Rattle.tac_known.proofs.Holding.{nothing_holds}
 use Rattle.tac_known.proofs.Acts.{lean_text, lean_turns, acts_alike, enter_alike}
 use Rattle.tac_known.proofs.Goes.{IsKnown, known_follows}
+use Rattle.tac_known.proofs.Ordered.{nothing_ordered}
+use Rattle.tac_known.proofs.OrdersGo.{AreKnown, orders_follow}
 
 -- ---- lists of one length
 
@@ -49,6 +53,21 @@ module _ (old new : Code) (made : IsLean old new) where
   abbrev claims : ℕ → ℕ → List Kind
   claims r place = claims_of r (slice_get (routines old) r) refl place
 
+  abbrev orders_of : (r : ℕ) (o : Option TacRoutine) → slice_get (routines old) r ≡ o → ℕ → Orders
+  orders_of r None e place = no_orders
+  orders_of r (Some routine) e place = (made.routines r routine e).2.body.ord place
+
+  abbrev orders : ℕ → ℕ → Orders
+  orders r place = orders_of r (slice_get (routines old) r) refl place
+
+  unordered_of : (r : ℕ) (o : Option TacRoutine) (e : slice_get (routines old) r ≡ o) → say_all no_orders
+      (orders_of r o e 0) ≡ true
+  unordered_of r None e = refl
+  unordered_of r (Some routine) e = (made.routines r routine e).2.body.unordered
+
+  unordered : (r : ℕ) (ts : Temporaries) → AreOrdered ts (orders r 0)
+  unordered r ts = nothing_ordered ts (orders r 0) (unordered_of r (slice_get (routines old) r) refl)
+
   begins_of : (r u : ℕ) (o : Option TacRoutine) (e : slice_get (routines old) r ≡ o) → kind_in (claims_of r o e 0) u
       ≡ Unknown
   begins_of r u None e = refl
@@ -68,12 +87,20 @@ module _ (old new : Code) (made : IsLean old new) where
   there r place i f = there_of r place i (slice_get (routines old) r) refl f
 
   leads_of : (r place : ℕ) (i : Instruction) (o : Option TacRoutine) (e : slice_get (routines old) r ≡ o)
-      → body_at o place ≡ Some i → Leads (claims_of r o e) place i
+      → body_at o place ≡ Some i → Leads (claims_of r o e) (orders_of r o e place) place i
   leads_of r place i None e f = absurd (none-some i f)
   leads_of r place i (Some routine) e f = (made.routines r routine e).2.body.leads place i f
 
-  leads : (r place : ℕ) (i : Instruction) → fetch old r place ≡ Some i → Leads (claims r) place i
+  leads : (r place : ℕ) (i : Instruction) → fetch old r place ≡ Some i → Leads (claims r) (orders r place) place i
   leads r place i f = leads_of r place i (slice_get (routines old) r) refl f
+
+  orders_lead_of : (r place : ℕ) (i : Instruction) (o : Option TacRoutine) (e : slice_get (routines old) r ≡ o)
+      → body_at o place ≡ Some i → OrdersLead (claims_of r o e) (orders_of r o e) place i
+  orders_lead_of r place i None e f = absurd (none-some i f)
+  orders_lead_of r place i (Some routine) e f = (made.routines r routine e).2.body.orders_lead place i f
+
+  orders_lead : (r place : ℕ) (i : Instruction) → fetch old r place ≡ Some i → OrdersLead (claims r) (orders r) place i
+  orders_lead r place i f = orders_lead_of r place i (slice_get (routines old) r) refl f
 
   -- ---- no routine, and no instruction
 
@@ -107,19 +134,27 @@ module _ (old new : Code) (made : IsLean old new) where
 
   module _ (p : Setting) where
     -- the states are one, and what is known is true
+    record AllKnown (s : State) : Type 0 where
+      kinds : IsKnown claims s
+      ordered : AreKnown orders s
+
+    all_known : (x : Step) → OnGoes (IsKnown claims) x → OnGoes (AreKnown orders) x → OnGoes AllKnown x
+    all_known (Goes t) k o = record { kinds = k; ordered = o }
+    all_known (Over ending) k o = tt
+
     abbrev R : State → State → Type 0
-    R s s' = (s' ≡ s) × IsKnown claims s
+    R s s' = (s' ≡ s) × AllKnown s
 
     abbrev Followed : Bool → State → State → Step → Type 0
     Followed b s s' x = Follows old new p R b s s' x
 
-    follows : (b : Bool) (s : State) → aside new p s ≡ b → (x : Step) → step_in new p s ≡ x → OnGoes (IsKnown claims) x
+    follows : (b : Bool) (s : State) → aside new p s ≡ b → (x : Step) → step_in new p s ≡ x → OnGoes AllKnown x
         → Followed b s s x
     follows b s e (Goes t) f known = (t, (refl, known), subst (λ b. Reaches new p b s t) e (goes new p s t f))
     follows b s e (Over ending) f known =
         λ live. subst (λ b. Ends new p b s (s.tape.transcript, ending)) e (ends new p s ending f)
 
-    place_follows : (s : State) → IsKnown claims s → (o : Option Instruction) → fetch old s.current.routine s.current.place
+    place_follows : (s : State) → AllKnown s → (o : Option Instruction) → fetch old s.current.routine s.current.place
         ≡ o → Followed (turns_aside o) s s (act old p.frames p.objects p.stack p.heap o s)
     place_follows s known None f = λ live. absurd (live refl)
     place_follows s known (Some i) f =
@@ -129,9 +164,12 @@ module _ (old new : Code) (made : IsLean old new) where
         (act old p.frames p.objects p.stack p.heap (Some i) s)
         (ap (λ o. act new p.frames p.objects p.stack p.heap o s) at
         ∙ acts_alike old new made.program made.objects texts headings absent p.frames p.objects p.stack p.heap s ks
-        known.here i)
-        (known_follows claims begins old p.frames p.objects p.stack p.heap s known i
-        (leads s.current.routine s.current.place i f))
+        known.kinds.here i)
+        (all_known (act old p.frames p.objects p.stack p.heap (Some i) s)
+        (known_follows claims begins old p.frames p.objects p.stack p.heap s known.kinds
+        (orders s.current.routine s.current.place) known.ordered.here i (leads s.current.routine s.current.place i f))
+        (orders_follow orders unordered old p.frames p.objects p.stack p.heap s known.ordered
+        (claims s.current.routine) known.kinds.here i (orders_lead s.current.routine s.current.place i f)))
 
     both : (s s' : State) → R s s' → Followed (aside old p s) s s' (step_in old p s)
     both s s' (same, known) =
@@ -151,15 +189,15 @@ module _ (old new : Code) (made : IsLean old new) where
         enter_alike old new made.program made.objects texts headings absent p.frames p.objects p.stack p.heap
         (before p.input) 0 [] 0 0 []
 
-    entered_known : (x : Step) → entry_in old ≡ x → OnGoes (IsKnown claims) x
-    entered_known x e = subst (OnGoes (IsKnown claims)) e (found (slice_get (routines old) 0))
+    entered_known : (x : Step) → entry_in old ≡ x → OnGoes AllKnown x
+    entered_known x e = subst (OnGoes AllKnown) e (found (slice_get (routines old) 0))
       where
-        opened : (b : Bool) (x y : Step) → OnGoes (IsKnown claims) x → OnGoes (IsKnown claims) y
-            → OnGoes (IsKnown claims) (if b then x else y)
+        opened : (b : Bool) (x y : Step) → OnGoes AllKnown x → OnGoes AllKnown y
+            → OnGoes AllKnown (if b then x else y)
         opened true x y f g = f
         opened false x y f g = g
 
-        found : (o : Option TacRoutine) → OnGoes (IsKnown claims) (with_some o (λ routine.
+        found : (o : Option TacRoutine) → OnGoes AllKnown (with_some o (λ routine.
             if not (nat_eq 0 routine.parameters) then Over Stuck
             else if is_full old p.frames p.objects p.stack p.heap 0 [] then Over (Stack routine.line)
             else Goes (entered old p.frames p.objects p.stack p.heap routine 0 [] 0 0 [] (before p.input))))
@@ -167,8 +205,11 @@ module _ (old new : Code) (made : IsLean old new) where
         found (Some routine) =
             opened (not (nat_eq 0 routine.parameters)) (Over Stuck) _ tt
             (opened (is_full old p.frames p.objects p.stack p.heap 0 []) (Over (Stack routine.line)) _ tt (record {
-              here = nothing_holds (claims 0 0) (λ t. slice_get [] t) (begins 0);
-              callers = tt;
+              kinds = record {
+                here = nothing_holds (claims 0 0) (λ t. slice_get [] t) (begins 0);
+                callers = tt;
+              };
+              ordered = record { here = unordered 0 (λ t. slice_get [] t); callers = tt };
             }))
 
     enters : (x : Step) → entry_in old ≡ x → Enters old new p R simulates x (entry_in new)

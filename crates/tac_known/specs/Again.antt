@@ -1,5 +1,5 @@
--- Addresses of components and sums that are computed again: which of them temporaries hold, and a copy in place of what
--- computes one.
+-- Addresses of components, sums and words that are computed or loaded again: which of them temporaries hold, and a copy
+-- in place of what gives one.
 use Rattle.std.specs.Prelude.{◌≡◌, ◌⊎◌, ℕ, zero, suc, ◌+◌, ◌-◌, ◌*◌, ◌&&◌, ◌||◌, Bool, true, false, if◌then◌else◌, nat_eq, nat_lt}
 use Rattle.std.specs.Prelude.{List, length, slice_get, Option, Some, None, ℤ}
 use Rattle.std.specs.Ordering.{int_eq}
@@ -10,6 +10,7 @@ use Rattle.tac_code.specs.declared.code.Operand.{Operand}
 use Rattle.tac_code.specs.declared.code.Operand.TheVariants as operand
 use Rattle.tac_code.specs.declared.code.Operator.{Operator}
 use Rattle.tac_code.specs.declared.code.Operator.TheVariants.{Add, Subtract}
+use Rattle.tac_code.specs.declared.code.Value.{Value}
 use Rattle.tac_code.specs.declared.code.Value.TheVariants.{Number, Address}
 use Rattle.tac_code.specs.declared.code.Instruction.{Instruction}
 use Rattle.tac_code.specs.declared.code.Instruction.TheVariants.{Literal, Copy, Arithmetic, Bits, Compare, CheckRange}
@@ -19,13 +20,21 @@ use Rattle.tac_code.specs.declared.code.Instruction.TheVariants.{BranchBack, Ret
 use Rattle.tac_code.specs.declared.code.Instruction.TheVariants.{New, End}
 use Rattle.tac_code.specs.Numbers.{Gives, computed, is_in_range, steps_above}
 use Rattle.tac_code.specs.declared.code.TacRoutine.{TacRoutine}
+use Rattle.tac_code.specs.Memory.{Constants, Memory, load}
 use Rattle.tac_code.specs.Meaning.{Activation, Code, base_value, operand_value, routines}
 use Rattle.tac_pass.specs.Follows.{SameHeading}
 use Rattle.tac_known.specs.declared.again.Component.{Component}
 use Rattle.tac_known.specs.declared.again.Sum.{Sum}
+use Rattle.tac_known.specs.declared.again.Word.{Word}
 use Rattle.tac_known.specs.declared.again.Fact.{Fact}
-use Rattle.tac_known.specs.declared.again.Fact.TheVariants.{Empty, Pointed, Summed}
+use Rattle.tac_known.specs.declared.again.Fact.TheVariants.{Empty, Pointed, Summed, Loaded}
 use Rattle.tac_known.specs.declared.again.Facts.{Facts}
+use Rattle.tac_known.specs.declared.again.Later.{Later}
+use Rattle.tac_known.specs.declared.again.Waiting.{Waiting}
+use Rattle.tac_known.specs.declared.again.Standing.{Standing}
+use Rattle.tac_known.specs.declared.again.marks.Mark.{Mark}
+use Rattle.tac_known.specs.declared.again.marks.Mark.TheVariants.{Clear, Once, Often}
+use Rattle.tac_known.specs.Walk.{goes_on_to_next}
 
 -- ---- what a component is
 
@@ -52,22 +61,38 @@ pub record IsSum (c : Sum) (current : Activation) : Type 0 where
   pub fits : computed c.operator c.error left right ≡ Gives value
   pub held : current.temporaries c.holder ≡ Some (Number value)
 
+-- ---- what a word is
+
+-- what it holds is what the holder holds
+pub record IsWord (constants : Constants) (m : Memory) (c : Word) (current : Activation) : Type 0 where
+  pub block : Block
+  pub offset : ℕ
+  pub value : Value
+  pub based : base_value current c.base ≡ Some (Address block offset)
+  pub loaded : load constants m block (offset + c.offset) ≡ Some value
+  pub held : current.temporaries c.holder ≡ Some value
+
 -- ---- what is known
 
-abbrev pub IsHeld : Fact → Activation → Type 0
-IsHeld Empty current = Unit {0}
-IsHeld (Pointed c) current = IsComponent c current
-IsHeld (Summed c) current = IsSum c current
+abbrev pub IsHeld : Constants → Memory → Fact → Activation → Type 0
+IsHeld constants m Empty current = Unit {0}
+IsHeld constants m (Pointed c) current = IsComponent c current
+IsHeld constants m (Summed c) current = IsSum c current
+IsHeld constants m (Loaded c) current = IsWord constants m c current
 
-pub record AreHeld (facts : Facts) (current : Activation) : Type 0 where
-  pub first : IsHeld facts.first current
-  pub second : IsHeld facts.second current
-  pub third : IsHeld facts.third current
-  pub fourth : IsHeld facts.fourth current
-  pub fifth : IsHeld facts.fifth current
-  pub sixth : IsHeld facts.sixth current
-  pub seventh : IsHeld facts.seventh current
-  pub eighth : IsHeld facts.eighth current
+pub record AreHeld (constants : Constants) (m : Memory) (facts : Facts) (current : Activation) : Type 0 where
+  pub first : IsHeld constants m facts.first current
+  pub second : IsHeld constants m facts.second current
+  pub third : IsHeld constants m facts.third current
+  pub fourth : IsHeld constants m facts.fourth current
+  pub fifth : IsHeld constants m facts.fifth current
+  pub sixth : IsHeld constants m facts.sixth current
+  pub seventh : IsHeld constants m facts.seventh current
+  pub eighth : IsHeld constants m facts.eighth current
+  pub ninth : IsHeld constants m facts.ninth current
+  pub tenth : IsHeld constants m facts.tenth current
+  pub eleventh : IsHeld constants m facts.eleventh current
+  pub twelfth : IsHeld constants m facts.twelfth current
 
 abbrev pub no_facts : Facts
 no_facts = record {
@@ -79,6 +104,10 @@ no_facts = record {
   sixth = Empty;
   seventh = Empty;
   eighth = Empty;
+  ninth = Empty;
+  tenth = Empty;
+  eleventh = Empty;
+  twelfth = Empty;
 }
 
 -- ---- what hangs on a temporary
@@ -97,10 +126,14 @@ component_uses t c = is_of t c.base || nat_eq t c.index
 abbrev pub sum_uses : ℕ → Sum → Bool
 sum_uses t c = nat_eq t c.left || is_operand t c.right
 
+abbrev pub word_uses : ℕ → Word → Bool
+word_uses t c = is_of t c.base
+
 abbrev pub hangs_on : ℕ → Fact → Bool
 hangs_on t Empty = false
 hangs_on t (Pointed c) = component_uses t c || nat_eq t c.holder
 hangs_on t (Summed c) = sum_uses t c || nat_eq t c.holder
+hangs_on t (Loaded c) = word_uses t c || nat_eq t c.holder
 
 abbrev pub unless_written : ℕ → Fact → Fact
 unless_written t fact = if hangs_on t fact then Empty else fact
@@ -115,6 +148,33 @@ each_unless_written t facts = record {
   sixth = unless_written t facts.sixth;
   seventh = unless_written t facts.seventh;
   eighth = unless_written t facts.eighth;
+  ninth = unless_written t facts.ninth;
+  tenth = unless_written t facts.tenth;
+  eleventh = unless_written t facts.eleventh;
+  twelfth = unless_written t facts.twelfth;
+}
+
+-- what a word holds is lost where memory is written
+abbrev pub unless_loaded : Fact → Fact
+unless_loaded Empty = Empty
+unless_loaded (Pointed c) = Pointed c
+unless_loaded (Summed c) = Summed c
+unless_loaded (Loaded c) = Empty
+
+abbrev pub each_unless_loaded : Facts → Facts
+each_unless_loaded facts = record {
+  first = unless_loaded facts.first;
+  second = unless_loaded facts.second;
+  third = unless_loaded facts.third;
+  fourth = unless_loaded facts.fourth;
+  fifth = unless_loaded facts.fifth;
+  sixth = unless_loaded facts.sixth;
+  seventh = unless_loaded facts.seventh;
+  eighth = unless_loaded facts.eighth;
+  ninth = unless_loaded facts.ninth;
+  tenth = unless_loaded facts.tenth;
+  eleventh = unless_loaded facts.eleventh;
+  twelfth = unless_loaded facts.twelfth;
 }
 
 -- what was given lasts if it isn't what it was made from
@@ -122,6 +182,7 @@ abbrev pub lasting : Fact → Fact
 lasting Empty = Empty
 lasting (Pointed c) = if component_uses c.holder c then Empty else Pointed c
 lasting (Summed c) = if sum_uses c.holder c then Empty else Summed c
+lasting (Loaded c) = if word_uses c.holder c then Empty else Loaded c
 
 -- ---- two that are the same
 
@@ -152,6 +213,9 @@ is_same_sum c d =
     is_same_operator c.operator d.operator && (nat_eq c.left d.left && (is_same_operand c.right d.right
     && nat_eq c.error d.error))
 
+abbrev pub is_same_word : Word → Word → Bool
+is_same_word c d = is_same_base c.base d.base && nat_eq c.offset d.offset
+
 -- ---- what an instruction gives
 
 abbrev pub component : (t : ℕ) (b : Base) (x : ℕ) (low high : ℤ) (width : ℕ) → Component
@@ -173,9 +237,13 @@ total o t a b error = record {
   holder = t;
 }
 
+abbrev pub word : (t : ℕ) (b : Base) (n : ℕ) → Word
+word t b n = record { base = b; offset = n; holder = t }
+
 abbrev pub given_by : Instruction → Fact
 given_by (Index t b x low high width error line) = Pointed (component t b x low high width)
 given_by (Arithmetic operator t a b error line) = Summed (total operator t a b error)
+given_by (Load t b n) = Loaded (word t b n)
 given_by i = Empty
 
 -- ---- what holds it already
@@ -183,6 +251,7 @@ given_by i = Empty
 abbrev pub holder_by : Fact → Fact → Option ℕ
 holder_by (Pointed d) (Pointed c) = if is_same_component c d then Some c.holder else None
 holder_by (Summed d) (Summed c) = if is_same_sum c d then Some c.holder else None
+holder_by (Loaded d) (Loaded c) = if is_same_word c d then Some c.holder else None
 holder_by _ _ = None
 
 abbrev pub or_other : Option ℕ → Option ℕ → Option ℕ
@@ -194,7 +263,9 @@ holder_in given facts =
     or_other (holder_by given facts.first) (or_other (holder_by given facts.second)
     (or_other (holder_by given facts.third) (or_other (holder_by given facts.fourth)
     (or_other (holder_by given facts.fifth) (or_other (holder_by given facts.sixth)
-    (or_other (holder_by given facts.seventh) (holder_by given facts.eighth)))))))
+    (or_other (holder_by given facts.seventh) (or_other (holder_by given facts.eighth)
+    (or_other (holder_by given facts.ninth) (or_other (holder_by given facts.tenth)
+    (or_other (holder_by given facts.eleventh) (holder_by given facts.twelfth)))))))))))
 
 -- ---- what an instruction becomes
 
@@ -204,6 +275,8 @@ copy_of (Pointed d) None = None
 copy_of (Pointed d) (Some h) = Some (Copy d.holder h)
 copy_of (Summed d) None = None
 copy_of (Summed d) (Some h) = Some (Copy d.holder h)
+copy_of (Loaded d) None = None
+copy_of (Loaded d) (Some h) = Some (Copy d.holder h)
 
 abbrev pub or_itself : Option Instruction → Instruction → Instruction
 or_itself None i = i
@@ -226,6 +299,10 @@ with_fact fact facts = record {
   sixth = facts.fifth;
   seventh = facts.sixth;
   eighth = facts.seventh;
+  ninth = facts.eighth;
+  tenth = facts.ninth;
+  eleventh = facts.tenth;
+  twelfth = facts.eleventh;
 }
 
 abbrev pub behind_copy : Bool → ℕ → Facts → Facts
@@ -251,14 +328,14 @@ held_behind facts (Offset t b n extent) = each_unless_written t facts
 held_behind facts (Index t b x low high width error line) =
     after_given facts t (Pointed (component t b x low high width))
 held_behind facts (RoutineValue t r) = each_unless_written t facts
-held_behind facts (Load t b n) = each_unless_written t facts
+held_behind facts (Load t b n) = after_given facts t (Loaded (word t b n))
 held_behind facts (LoadByte t b n) = each_unless_written t facts
 held_behind facts (Take t) = each_unless_written t facts
-held_behind facts (New t object_type line) = each_unless_written t facts
+held_behind facts (New t object_type line) = each_unless_written t (each_unless_loaded facts)
 held_behind facts (CheckRange a low high error line) = facts
 held_behind facts (CheckPointer a error line) = facts
-held_behind facts (Store b n a) = facts
-held_behind facts (StoreByte b n a) = facts
+held_behind facts (Store b n a) = each_unless_loaded facts
+held_behind facts (StoreByte b n a) = each_unless_loaded facts
 held_behind facts (Put a) = facts
 held_behind facts (Branch relation a b n) = facts
 held_behind facts (BranchBack relation a b n) = facts
@@ -266,15 +343,16 @@ held_behind facts _ = no_facts
 
 -- ---- bodies
 
--- nothing is known where jumps lead, and elsewhere nothing but what falls there
+-- nothing is known where jumps lead, or what is where the only one stands; elsewhere nothing but what falls there
 abbrev pub IsNoMore : Facts → Facts → Type 0
 IsNoMore here next = (next ≡ no_facts) ⊎ (next ≡ here)
 
 -- by places of a body: what is held there
 abbrev pub GoesOn : (ℕ → Facts) → ℕ → Instruction → Type 0
-GoesOn at place (Jump n) = at (suc place + n) ≡ no_facts
+GoesOn at place (Jump n) = IsNoMore (at place) (at (suc place + n))
 GoesOn at place (JumpBack n) = at (place - n) ≡ no_facts
-GoesOn at place (Branch relation a b n) = (at (suc place + n) ≡ no_facts) × IsNoMore (at place) (at (suc place))
+GoesOn at place (Branch relation a b n) =
+    IsNoMore (at place) (at (suc place + n)) × IsNoMore (at place) (at (suc place))
 GoesOn at place (BranchBack relation a b n) = (at (place - n) ≡ no_facts) × IsNoMore (at place) (at (suc place))
 GoesOn at place (Return a) = Unit {0}
 GoesOn at place (Trap error line) = Unit {0}
@@ -306,29 +384,94 @@ pub record IsAgain (old new : Code) : Type 0 where
 
 -- ---- a walk: where jumps lead is marked
 
-abbrev pub or_false : Option Bool → Bool
-or_false None = false
-or_false (Some b) = b
+abbrev pub or_clear : Option Mark → Mark
+or_clear None = Clear
+or_clear (Some mark) = mark
 
-abbrev pub is_marked : List Bool → ℕ → Bool
-is_marked marks place = or_false (slice_get marks place)
+abbrev pub mark_at : List Mark → ℕ → Mark
+mark_at marks place = or_clear (slice_get marks place)
 
-abbrev pub unless_marked : Bool → Facts → Facts
-unless_marked true facts = no_facts
-unless_marked false facts = facts
+-- whether a jump forward from a place may lead there
+abbrev pub may_lead : Mark → ℕ → Bool
+may_lead Clear place = false
+may_lead (Once from) place = nat_eq from place
+may_lead Often place = true
 
-abbrev pub behind_place : Facts → Option Instruction → Facts
-behind_place facts None = no_facts
-behind_place facts (Some i) = held_behind facts i
+abbrev pub is_often : Mark → Bool
+is_often Often = true
+is_often _ = false
 
-abbrev pub held_at : List Bool → List Instruction → ℕ → Facts
-held_at marks body zero = no_facts
-held_at marks body (suc n) =
-    unless_marked (is_marked marks (suc n)) (behind_place (held_at marks body n) (slice_get body n))
+abbrev pub is_once : Mark → Bool
+is_once (Once from) = true
+is_once _ = false
 
-abbrev pub leads_to_marks : List Bool → ℕ → Instruction → Bool
-leads_to_marks marks place (Jump n) = is_marked marks (suc place + n)
-leads_to_marks marks place (JumpBack n) = is_marked marks (place - n)
-leads_to_marks marks place (Branch relation a b n) = is_marked marks (suc place + n)
-leads_to_marks marks place (BranchBack relation a b n) = is_marked marks (place - n)
+abbrev pub leads_to_marks : List Mark → ℕ → Instruction → Bool
+leads_to_marks marks place (Jump n) = may_lead (mark_at marks (suc place + n)) place
+leads_to_marks marks place (JumpBack n) = is_often (mark_at marks (place - n))
+leads_to_marks marks place (Branch relation a b n) = may_lead (mark_at marks (suc place + n)) place
+leads_to_marks marks place (BranchBack relation a b n) = is_often (mark_at marks (place - n))
 leads_to_marks marks place i = true
+
+-- ---- what waits for the places that only one jump leads to
+
+abbrev pub no_later : Later
+no_later = record { from = 0; facts = no_facts }
+
+abbrev pub with_later : ℕ → Facts → Waiting → Waiting
+with_later place facts waiting = record {
+  first = record { from = place; facts = facts };
+  second = waiting.first;
+  third = waiting.second;
+  fourth = waiting.third;
+}
+
+abbrev pub facts_from : Waiting → ℕ → Facts
+facts_from waiting place =
+    if nat_eq waiting.first.from place then waiting.first.facts
+    else if nat_eq waiting.second.from place then waiting.second.facts
+    else if nat_eq waiting.third.from place then waiting.third.facts
+    else if nat_eq waiting.fourth.from place then waiting.fourth.facts
+    else no_facts
+
+abbrev pub forward_of : Instruction → Option ℕ
+forward_of (Jump n) = Some n
+forward_of (Branch relation a b n) = Some n
+forward_of i = None
+
+abbrev pub wait_for : List Mark → ℕ → Option ℕ → Facts → Waiting → Waiting
+wait_for marks place None facts waiting = waiting
+wait_for marks place (Some n) facts waiting =
+    if is_once (mark_at marks (suc place + n)) then with_later place facts waiting else waiting
+
+-- ---- one place after the other
+
+-- what is known at the next place, by its mark and whether the one before goes on to it
+abbrev pub next_facts : Mark → Waiting → Bool → Facts → Facts
+next_facts Clear waiting goes behind = behind
+next_facts Often waiting goes behind = no_facts
+next_facts (Once from) waiting true behind = no_facts
+next_facts (Once from) waiting false behind = facts_from waiting from
+
+abbrev pub at_begin : Standing
+at_begin = record {
+  facts = no_facts;
+  waiting = record { first = no_later; second = no_later; third = no_later; fourth = no_later };
+}
+
+abbrev pub waits_behind : List Mark → ℕ → Instruction → Standing → Waiting
+waits_behind marks place i s = wait_for marks place (forward_of i) s.facts s.waiting
+
+abbrev pub step : List Mark → ℕ → Instruction → Standing → Standing
+step marks place i s = record {
+  facts =
+      next_facts (mark_at marks (suc place)) (waits_behind marks place i s) (goes_on_to_next i) (held_behind s.facts i);
+  waiting = waits_behind marks place i s;
+}
+
+abbrev pub step_over : List Mark → ℕ → Option Instruction → Standing → Standing
+step_over marks place None s = at_begin
+step_over marks place (Some i) s = step marks place i s
+
+abbrev pub standing_at : List Mark → List Instruction → ℕ → Standing
+standing_at marks body zero = at_begin
+standing_at marks body (suc n) = step_over marks n (slice_get body n) (standing_at marks body n)

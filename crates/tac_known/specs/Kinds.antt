@@ -1,6 +1,6 @@
 -- What is known of the temporaries of an activation, and what instructions make of it.
 use Rattle.std.specs.Prelude.{◌≡◌, ◌≢◌, ℕ, ◌&&◌, not, Bool, true, false, if◌then◌else◌, List, [], ◌∷◌, slice_get}
-use Rattle.std.specs.Prelude.{Option, Some, None, ℤ, pos, negsuc, ◌+ℤ◌, ◌-ℤ◌, ◌≤ℤ◌, int_lt}
+use Rattle.std.specs.Prelude.{Option, Some, None, ℤ, pos, negsuc, ◌+ℤ◌, ◌-ℤ◌, ◌*ℤ◌, ◌≤ℤ◌, int_lt, int_div}
 use Rattle.std.specs.Int.{int_max, int_min}
 use Rattle.std.specs.Ordering.{int_eq}
 use Rattle.tac_code.specs.declared.code.Value.{Value}
@@ -16,14 +16,14 @@ use Rattle.tac_code.specs.declared.code.Operand.TheVariants as operand
 use Rattle.tac_code.specs.Numbers.{is_integer}
 use Rattle.tac_code.specs.Meaning.{Temporaries}
 use Rattle.tac_known.specs.declared.kind.Kind.{Kind}
-use Rattle.tac_known.specs.declared.kind.Kind.TheVariants.{Unknown, Pointer, Between}
+use Rattle.tac_known.specs.declared.kind.Kind.TheVariants.{Unknown, NotNil, Between}
 
 -- ---- what kinds mean
 
 -- a temporary holds a value of a kind: any or none, anything but nil, which is the number 0, or a number within bounds
 abbrev pub IsOf : Kind → Option Value → Type 0
 IsOf Unknown o = Unit {0}
-IsOf Pointer o = o ≢ Some (Number (pos 0))
+IsOf NotNil o = o ≢ Some (Number (pos 0))
 IsOf (Between low high) o = (x : ℤ) × (o ≡ Some (Number x)) × (low ≤ℤ x) × (x ≤ℤ high)
 
 abbrev pub or_unknown : Option Kind → Kind
@@ -81,11 +81,44 @@ abbrev pub remainder : Kind → Kind
 remainder (Between l h) = if int_lt (pos 0) l && int_lt (pos 0) h then Between (pos 0) (h -ℤ pos 1) else Unknown
 remainder _ = Unknown
 
+-- whether neither of two numbers is negative
+abbrev pub are_natural : ℤ → ℤ → Bool
+are_natural l h = not (int_lt l (pos 0)) && not (int_lt h (pos 0))
+
+abbrev pub are_all_natural : (l h l' h' : ℤ) → Bool
+are_all_natural l h l' h' = are_natural l h && are_natural l' h'
+
+abbrev pub bounded_product : (l h l' h' : ℤ) → Kind
+bounded_product l h l' h' = bounded (l *ℤ l') (h *ℤ h')
+
+-- of numbers that are not negative
+abbrev pub product_between : (l h l' h' : ℤ) → Kind
+product_between l h l' h' = if are_all_natural l h l' h' then bounded_product l h l' h' else all_integers
+
+abbrev pub product : Kind → Kind → Kind
+product (Between l h) (Between l' h') = product_between l h l' h'
+product _ _ = all_integers
+
+-- of numbers that are not negative by one number that is above 0
+abbrev pub divide : (l h l' h' : ℤ) → Bool
+divide l h l' h' = are_natural l h && (int_lt (pos 0) l' && int_eq l' h')
+
+abbrev pub quotient_of : ℤ → ℤ → ℤ
+quotient_of z d = if int_lt (pos 0) d then int_div z d else least
+
+abbrev pub quotient_between : (l h l' h' : ℤ) → Kind
+quotient_between l h l' h' =
+    if divide l h l' h' then Between (quotient_of l l') (quotient_of h l') else all_integers
+
+abbrev pub quotient : Kind → Kind → Kind
+quotient (Between l h) (Between l' h') = quotient_between l h l' h'
+quotient _ _ = all_integers
+
 abbrev pub computed_kind : Operator → Kind → Kind → Kind
 computed_kind Add k k' = sum k k'
 computed_kind Subtract k k' = difference k k'
-computed_kind Multiply k k' = Between least greatest
-computed_kind Divide k k' = Between least greatest
+computed_kind Multiply k k' = product k k'
+computed_kind Divide k k' = quotient k k'
 computed_kind Modulo k k' = remainder k'
 
 -- whether all numbers between are integers of 32 bits
@@ -117,9 +150,17 @@ abbrev pub fits_difference : Kind → Kind → Bool
 fits_difference (Between l h) (Between l' h') = are_integers (l -ℤ h') (h -ℤ l')
 fits_difference _ _ = false
 
+abbrev pub fits_product_between : (l h l' h' : ℤ) → Bool
+fits_product_between l h l' h' = are_all_natural l h l' h' && is_integer (h *ℤ h')
+
+abbrev pub fits_product : Kind → Kind → Bool
+fits_product (Between l h) (Between l' h') = fits_product_between l h l' h'
+fits_product _ _ = false
+
 abbrev pub fits : Operator → Kind → Kind → Bool
 fits Add k k' = fits_sum k k'
 fits Subtract k k' = fits_difference k k'
+fits Multiply k k' = fits_product k k'
 fits _ k k' = false
 
 abbrev pub lies_within : Kind → ℤ → ℤ → Bool
@@ -127,7 +168,7 @@ lies_within (Between l h) low high = not (int_lt l low) && not (int_lt high h)
 lies_within _ low high = false
 
 abbrev pub is_pointer : Kind → Bool
-is_pointer Pointer = true
+is_pointer NotNil = true
 is_pointer _ = false
 
 -- ---- branches
@@ -171,7 +212,7 @@ says_nil (Between l h) = int_eq l (pos 0) && int_eq h (pos 0)
 says_nil _ = false
 
 abbrev pub not_nil : Relation → Kind → Kind
-not_nil NotEqual k' = if says_nil k' then Pointer else Unknown
+not_nil NotEqual k' = if says_nil k' then NotNil else Unknown
 not_nil _ k' = Unknown
 
 abbrev pub related_kind : Relation → Kind → Kind → Kind
@@ -184,7 +225,7 @@ related_kind relation k k' = k
 -- the second says no more than the first
 abbrev pub says_no_more : Kind → Kind → Bool
 says_no_more _ Unknown = true
-says_no_more Pointer Pointer = true
+says_no_more NotNil NotNil = true
 says_no_more (Between l h) (Between l' h') = not (int_lt l l') && not (int_lt h' h)
 says_no_more _ _ = false
 

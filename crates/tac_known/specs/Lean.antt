@@ -18,8 +18,10 @@ use Rattle.tac_code.specs.Meaning.{Code, routines}
 use Rattle.tac_pass.specs.Follows.{SameHeading}
 use Rattle.tac_pass_laws.specs.Passed.{most_temporaries}
 use Rattle.tac_known.specs.declared.kind.Kind.{Kind}
-use Rattle.tac_known.specs.declared.kind.Kind.TheVariants.{Unknown, Pointer, Between}
+use Rattle.tac_known.specs.declared.kind.Kind.TheVariants.{Unknown, NotNil, Between}
 use Rattle.tac_known.specs.Kinds.{kind_in, operand_kind, met, computed_kind, bits_kind, fits, lies_within, is_pointer}
+use Rattle.tac_known.specs.declared.order.Orders.{Orders}
+use Rattle.tac_known.specs.Orders.{no_orders, sharp, say_all, OrdersLead}
 use Rattle.tac_known.specs.Kinds.{opposite, related_kind, say_no_more, forget}
 
 -- ---- what an instruction becomes
@@ -89,7 +91,7 @@ behind kinds (Arithmetic operator t a b error line) =
 behind kinds (Bits operator t a b) = known kinds t (bits_kind operator (kind_in kinds a) (operand_kind kinds b))
 behind kinds (Compare relation t a b) = known kinds t (Between (pos 0) (pos 1))
 behind kinds (CheckRange a low high error line) = known kinds a (met (kind_in kinds a) low high)
-behind kinds (CheckPointer a error line) = known kinds a Pointer
+behind kinds (CheckPointer a error line) = known kinds a NotNil
 behind kinds (Text t bytes) = known kinds t Unknown
 behind kinds (Offset t b n extent) = known kinds t Unknown
 behind kinds (Index t b x low high width error line) =
@@ -98,7 +100,7 @@ behind kinds (RoutineValue t r) = known kinds t Unknown
 behind kinds (Load t b n) = known kinds t Unknown
 behind kinds (LoadByte t b n) = known kinds t Unknown
 behind kinds (Take t) = known kinds t Unknown
-behind kinds (New t object_type line) = known kinds t Pointer
+behind kinds (New t object_type line) = known kinds t NotNil
 behind kinds (Store b n a) = kinds
 behind kinds (StoreByte b n a) = kinds
 behind kinds (Put a) = kinds
@@ -111,28 +113,31 @@ where_related relation a b kinds = known kinds a (related_kind relation (kind_in
 -- ---- bodies
 
 -- by places of a body: what is known there
-abbrev pub Leads : (ℕ → List Kind) → ℕ → Instruction → Type 0
-Leads at place (Jump n) = say_no_more (at place) (at (suc place + n)) ≡ true
-Leads at place (JumpBack n) = say_no_more (at place) (at (place - n)) ≡ true
-Leads at place (Branch relation a b n) =
-    (say_no_more (where_related relation a b (at place)) (at (suc place + n)) ≡ true)
-    × (say_no_more (where_related (opposite relation) a b (at place)) (at (suc place)) ≡ true)
-Leads at place (BranchBack relation a b n) =
-    (say_no_more (where_related relation a b (at place)) (at (place - n)) ≡ true)
-    × (say_no_more (where_related (opposite relation) a b (at place)) (at (suc place)) ≡ true)
-Leads at place (Return a) = Unit {0}
-Leads at place (Trap error line) = Unit {0}
-Leads at place End = Unit {0}
-Leads at place i = say_no_more (behind (at place) i) (at (suc place)) ≡ true
+abbrev pub Leads : (ℕ → List Kind) → Orders → ℕ → Instruction → Type 0
+Leads at orders place (Jump n) = say_no_more (at place) (at (suc place + n)) ≡ true
+Leads at orders place (JumpBack n) = say_no_more (at place) (at (place - n)) ≡ true
+Leads at orders place (Branch relation a b n) =
+    (say_no_more (where_related (sharp orders relation a b) a b (at place)) (at (suc place + n)) ≡ true)
+    × (say_no_more (where_related (sharp orders (opposite relation) a b) a b (at place)) (at (suc place)) ≡ true)
+Leads at orders place (BranchBack relation a b n) =
+    (say_no_more (where_related (sharp orders relation a b) a b (at place)) (at (place - n)) ≡ true)
+    × (say_no_more (where_related (sharp orders (opposite relation) a b) a b (at place)) (at (suc place)) ≡ true)
+Leads at orders place (Return a) = Unit {0}
+Leads at orders place (Trap error line) = Unit {0}
+Leads at orders place End = Unit {0}
+Leads at orders place i = say_no_more (behind (at place) i) (at (suc place)) ≡ true
 
 pub record LeanBody (body body' : List Instruction) : Type 0 where
   pub at : ℕ → List Kind
+  pub ord : ℕ → Orders
   -- nothing is known at the begin
   pub begins : (u : ℕ) → kind_in (at 0) u ≡ Unknown
+  pub unordered : say_all no_orders (ord 0) ≡ true
   pub as_many : length body' ≡ length body
   pub there : (place : ℕ) (i : Instruction) → slice_get body place ≡ Some i
       → slice_get body' place ≡ Some (lean (at place) i)
-  pub leads : (place : ℕ) (i : Instruction) → slice_get body place ≡ Some i → Leads at place i
+  pub leads : (place : ℕ) (i : Instruction) → slice_get body place ≡ Some i → Leads at (ord place) place i
+  pub orders_lead : (place : ℕ) (i : Instruction) → slice_get body place ≡ Some i → OrdersLead at ord place i
 
 -- ---- code
 

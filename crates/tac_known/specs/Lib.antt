@@ -2,4 +2,5 @@ pub mod Kinds
 pub mod Lean
 pub mod Walk
 pub mod Laws
+pub mod Orders
 pub mod Again

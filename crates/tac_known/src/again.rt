@@ -1,11 +1,13 @@
-// Addresses of components, and sums, that are computed again.
+// Addresses of components, sums and words that are computed or loaded again.
 
 mod marks;
 
 ghost use Rattle.std.specs.Prelude.{◌≡◌, suc, true, IsTrue, IfOk};
 ghost use Rattle.tac_known.specs.Again as specs;
+ghost use Rattle.tac_known.specs.Walk.{goes_on_to_next};
 
-use crate::again::marks::{is_marked, leads_to_marks, marks_of};
+use crate::again::marks::{Mark, forward_of, is_once_ahead, leads_to_marks, mark_at, marks_of};
+use crate::walk::goes_on;
 use std::alloc::Global;
 use tac_code::code::{Base, Instruction, Operand, Operator, OutOfMemory};
 
@@ -41,6 +43,17 @@ pub struct Sum {
     pub holder: u32,
 }
 
+/// A word of memory, which a temporary holds.
+#[derive(Clone, Copy)]
+pub struct Word {
+    /// What its address is counted from.
+    pub base: Base,
+    /// So many bytes behind that.
+    pub offset: u32,
+    /// The temporary that holds what it holds.
+    pub holder: u32,
+}
+
 /// What is known of a temporary.
 #[derive(Clone, Copy)]
 pub enum Fact {
@@ -50,6 +63,8 @@ pub enum Fact {
     Pointed(Component),
     /// It holds a sum.
     Summed(Sum),
+    /// It holds what a word of memory holds.
+    Loaded(Word),
 }
 
 /// What is known.
@@ -63,6 +78,34 @@ pub struct Facts {
     pub sixth: Fact,
     pub seventh: Fact,
     pub eighth: Fact,
+    pub ninth: Fact,
+    pub tenth: Fact,
+    pub eleventh: Fact,
+    pub twelfth: Fact,
+}
+
+/// What is known where a jump forward stands, the only one that leads to its place.
+#[derive(Clone, Copy)]
+pub struct Later {
+    /// Where it stands.
+    pub from: usize,
+    pub facts: Facts,
+}
+
+/// The jumps that were passed last.
+#[derive(Clone, Copy)]
+pub struct Waiting {
+    pub first: Later,
+    pub second: Later,
+    pub third: Later,
+    pub fourth: Later,
+}
+
+/// What is known at a place, and for places further on.
+#[derive(Clone, Copy)]
+pub struct Standing {
+    pub facts: Facts,
+    pub waiting: Waiting,
 }
 
 // Whether a base is a temporary.
@@ -153,6 +196,20 @@ impl Sum {
     }
 }
 
+impl Word {
+    fn uses(self, temporary: u32) -> bool
+        ensures { result ≡ specs.word_uses temporary self }
+    {
+        is_of(temporary, self.base)
+    }
+
+    fn is_same(self, other: Word) -> bool
+        ensures { result ≡ specs.is_same_word self other }
+    {
+        is_same_base(self.base, other.base) && self.offset == other.offset
+    }
+}
+
 // Whether what is known hangs on a temporary.
 fn hangs_on(temporary: u32, fact: Fact) -> bool
     ensures { result ≡ specs.hangs_on temporary fact }
@@ -161,6 +218,7 @@ fn hangs_on(temporary: u32, fact: Fact) -> bool
         Fact::Empty => false,
         Fact::Pointed(component) => component.uses(temporary) || temporary == component.holder,
         Fact::Summed(sum) => sum.uses(temporary) || temporary == sum.holder,
+        Fact::Loaded(word) => word.uses(temporary) || temporary == word.holder,
     }
 }
 
@@ -193,6 +251,22 @@ fn lasting(fact: Fact) -> Fact
                 Fact::Summed(sum)
             }
         }
+        Fact::Loaded(word) => {
+            if word.uses(word.holder) {
+                Fact::Empty
+            } else {
+                Fact::Loaded(word)
+            }
+        }
+    }
+}
+
+// What a word holds is lost where memory is written.
+fn lose_word(fact: &mut Fact)
+    ensures { fact.new ≡ specs.unless_loaded fact.old }
+{
+    if let Fact::Loaded(_) = *fact {
+        *fact = Fact::Empty;
     }
 }
 
@@ -208,6 +282,10 @@ fn no_facts() -> Facts
         sixth: Fact::Empty,
         seventh: Fact::Empty,
         eighth: Fact::Empty,
+        ninth: Fact::Empty,
+        tenth: Fact::Empty,
+        eleventh: Fact::Empty,
+        twelfth: Fact::Empty,
     }
 }
 
@@ -225,6 +303,10 @@ impl Facts {
             sixth: self.fifth,
             seventh: self.sixth,
             eighth: self.seventh,
+            ninth: self.eighth,
+            tenth: self.ninth,
+            eleventh: self.tenth,
+            twelfth: self.eleventh,
         };
     }
 
@@ -239,6 +321,27 @@ impl Facts {
         forget(&mut self.sixth, temporary);
         forget(&mut self.seventh, temporary);
         forget(&mut self.eighth, temporary);
+        forget(&mut self.ninth, temporary);
+        forget(&mut self.tenth, temporary);
+        forget(&mut self.eleventh, temporary);
+        forget(&mut self.twelfth, temporary);
+    }
+
+    fn lose_words(&mut self)
+        ensures { self.new ≡ specs.each_unless_loaded self.old }
+    {
+        lose_word(&mut self.first);
+        lose_word(&mut self.second);
+        lose_word(&mut self.third);
+        lose_word(&mut self.fourth);
+        lose_word(&mut self.fifth);
+        lose_word(&mut self.sixth);
+        lose_word(&mut self.seventh);
+        lose_word(&mut self.eighth);
+        lose_word(&mut self.ninth);
+        lose_word(&mut self.tenth);
+        lose_word(&mut self.eleventh);
+        lose_word(&mut self.twelfth);
     }
 
     // The temporary that holds what is the same.
@@ -249,9 +352,13 @@ impl Facts {
             return None;
         }
         let last = or_other(
-            holder_by(given, self.seventh),
-            holder_by(given, self.eighth),
+            holder_by(given, self.eleventh),
+            holder_by(given, self.twelfth),
         );
+        let last = or_other(holder_by(given, self.tenth), last);
+        let last = or_other(holder_by(given, self.ninth), last);
+        let last = or_other(holder_by(given, self.eighth), last);
+        let last = or_other(holder_by(given, self.seventh), last);
         let last = or_other(holder_by(given, self.sixth), last);
         let last = or_other(holder_by(given, self.fifth), last);
         let last = or_other(holder_by(given, self.fourth), last);
@@ -289,11 +396,18 @@ pub fn holder_by(given: Fact, fact: Fact) -> Option<u32>
                 None
             }
         }
+        (Fact::Loaded(word), Fact::Loaded(other)) => {
+            if other.is_same(word) {
+                Some(other.holder)
+            } else {
+                None
+            }
+        }
         _ => None,
     }
 }
 
-/// What an instruction gives, where that is an address or a sum.
+/// What an instruction gives, where that is an address, a sum or a word.
 pub fn given_by(instruction: &Instruction) -> Fact
     ensures { result ≡ specs.given_by instruction.now }
 {
@@ -328,6 +442,11 @@ pub fn given_by(instruction: &Instruction) -> Fact
             error: *error,
             holder: *to,
         }),
+        Instruction::Load { to, base, offset } => Fact::Loaded(Word {
+            base: *base,
+            offset: *offset,
+            holder: *to,
+        }),
         _ => Fact::Empty,
     }
 }
@@ -347,10 +466,14 @@ fn copy_of(given: Fact, holder: Option<u32>) -> Option<Instruction>
             to: sum.holder,
             from,
         }),
+        Fact::Loaded(word) => Some(Instruction::Copy {
+            to: word.holder,
+            from,
+        }),
     }
 }
 
-// What gives an address or a sum becomes a copy where a temporary holds that.
+// What gives an address, a sum or a word becomes a copy where a temporary holds that.
 fn take_copy(given: Fact, holder: Option<u32>, instruction: &mut Instruction)
     ensures { instruction.new ≡ specs.or_itself (specs.copy_of given holder) instruction.old }
 {
@@ -381,7 +504,9 @@ fn go_over(facts: &mut Facts, instruction: &Instruction)
     ensures { facts.new ≡ specs.held_behind facts.old instruction.now }
 {
     match instruction {
-        Instruction::Index { to, .. } | Instruction::Arithmetic { to, .. } => {
+        Instruction::Index { to, .. }
+        | Instruction::Arithmetic { to, .. }
+        | Instruction::Load { to, .. } => {
             go_behind(facts, *to, given_by(instruction));
         }
         Instruction::Literal { to, .. }
@@ -391,14 +516,15 @@ fn go_over(facts: &mut Facts, instruction: &Instruction)
         | Instruction::Text { to, .. }
         | Instruction::Offset { to, .. }
         | Instruction::RoutineValue { to, .. }
-        | Instruction::Load { to, .. }
         | Instruction::LoadByte { to, .. }
-        | Instruction::Take { to }
-        | Instruction::New { to, .. } => facts.forget(*to),
+        | Instruction::Take { to } => facts.forget(*to),
+        Instruction::New { to, .. } => {
+            facts.lose_words();
+            facts.forget(*to);
+        }
+        Instruction::Store { .. } | Instruction::StoreByte { .. } => facts.lose_words(),
         Instruction::CheckRange { .. }
         | Instruction::CheckPointer { .. }
-        | Instruction::Store { .. }
-        | Instruction::StoreByte { .. }
         | Instruction::Put { .. }
         | Instruction::Branch { .. }
         | Instruction::BranchBack { .. } => {}
@@ -406,55 +532,148 @@ fn go_over(facts: &mut Facts, instruction: &Instruction)
     }
 }
 
-// Goes on to the next place, where nothing is known if jumps lead there.
-fn go_on(marks: &[bool], facts: &mut Facts, place: usize, instruction: &Instruction) -> bool
-    ensures { IsTrue result → facts.new ≡ specs.unless_marked (specs.is_marked marks.now (suc place))
+fn no_later() -> Later
+    ensures { result ≡ specs.no_later }
+{
+    Later {
+        from: 0,
+        facts: no_facts(),
+    }
+}
+
+fn at_begin() -> Standing
+    ensures { result ≡ specs.at_begin }
+{
+    Standing {
+        facts: no_facts(),
+        waiting: Waiting {
+            first: no_later(),
+            second: no_later(),
+            third: no_later(),
+            fourth: no_later(),
+        },
+    }
+}
+
+impl Waiting {
+    // Another one in front, where the last one falls out.
+    fn add(&mut self, from: usize, facts: &Facts)
+        ensures { self.new ≡ specs.with_later from facts.now self.old }
+    {
+        *self = Waiting {
+            first: Later {
+                from,
+                facts: *facts,
+            },
+            second: self.first,
+            third: self.second,
+            fourth: self.third,
+        };
+    }
+
+    // What is known where a jump stands; nothing where it isn't remembered.
+    fn facts_from(&self, from: usize) -> Facts
+        ensures { result ≡ specs.facts_from self.now from }
+    {
+        if self.first.from == from {
+            self.first.facts
+        } else if self.second.from == from {
+            self.second.facts
+        } else if self.third.from == from {
+            self.third.facts
+        } else if self.fourth.from == from {
+            self.fourth.facts
+        } else {
+            no_facts()
+        }
+    }
+
+    // Remembers what is known at a jump forward, where it is the only one. False where it leads nowhere.
+    fn wait(&mut self, marks: &[Mark], place: usize, forward: Option<u64>, facts: &Facts) -> bool
+        ensures { IsTrue result → self.new ≡ specs.wait_for marks.now place forward facts.now self.old }
+    {
+        let Some(distance) = forward else {
+            return true;
+        };
+        let Some(is_once) = is_once_ahead(marks, place, distance) else {
+            return false;
+        };
+        if is_once {
+            self.add(place, facts);
+        }
+        true
+    }
+}
+
+// What is known at the next place, by the mark that is there.
+fn enter(mark: Mark, waiting: &Waiting, facts: &mut Facts, instruction: &Instruction)
+    ensures { facts.new ≡ specs.next_facts mark waiting.now (goes_on_to_next instruction.now)
         (specs.held_behind facts.old instruction.now) }
+{
+    match mark {
+        Mark::Clear => go_over(facts, instruction),
+        Mark::Often => *facts = no_facts(),
+        Mark::Once(from) => {
+            *facts = if goes_on(instruction) {
+                no_facts()
+            } else {
+                waiting.facts_from(from)
+            };
+        }
+    }
+}
+
+// Goes on to the next place. False where a jump leads nowhere.
+fn go_on(marks: &[Mark], standing: &mut Standing, place: usize, instruction: &Instruction) -> bool
+    ensures { IsTrue result → standing.new ≡ specs.step marks.now place instruction.now standing.old }
 {
     let Some(next) = place.checked_add(1) else {
         return false;
     };
-    if is_marked(marks, next) {
-        *facts = no_facts();
-    } else {
-        go_over(facts, instruction);
+    let forward = forward_of(instruction);
+    if !standing
+        .waiting
+        .wait(marks, place, forward, &standing.facts)
+    {
+        return false;
     }
+    let mark = mark_at(marks, next);
+    enter(mark, &standing.waiting, &mut standing.facts, instruction);
     true
 }
 
-// One place; false where it jumps to where no mark is.
+// One place; false where it jumps to where no mark allows it.
 fn again_place(
-    marks: &[bool],
-    facts: &mut Facts,
+    marks: &[Mark],
+    standing: &mut Standing,
     place: usize,
     instruction: &mut Instruction,
 ) -> bool
     ensures well { IsTrue result → specs.leads_to_marks marks.now place instruction.old ≡ true }
-    ensures made { IsTrue result → instruction.new ≡ specs.again facts.old instruction.old }
-    ensures taken { IsTrue result → facts.new ≡ specs.unless_marked (specs.is_marked marks.now (suc place))
-        (specs.held_behind facts.old instruction.old) }
+    ensures made { IsTrue result → instruction.new ≡ specs.again standing.old.facts instruction.old }
+    ensures taken { IsTrue result → standing.new ≡ specs.step marks.now place instruction.old standing.old }
 {
     if !leads_to_marks(marks, place, instruction) {
         return false;
     }
     let given = given_by(instruction);
-    let holder = facts.holder_of(given);
-    if !go_on(marks, facts, place, instruction) {
+    let holder = standing.facts.holder_of(given);
+    if !go_on(marks, standing, place, instruction) {
         return false;
     }
     take_copy(given, holder, instruction);
     true
 }
 
-/// Copies addresses and sums that temporaries hold, where they would be computed again. After false the body is of no
+/// Copies addresses, sums and words that temporaries hold, where they would be computed or loaded again. After false the body is of no
 /// use.
 pub fn again_body(alloc: Global, body: &mut [Instruction]) -> Result<bool, OutOfMemory>
     ensures { IfOk result (λ done. IsTrue done → specs.AgainBody body.old body.new) }
 {
     let marks = marks_of(alloc, body)?;
-    let mut facts = no_facts();
+    let mut standing = at_begin();
     for place in 0..body.len() {
-        if !again_place(marks.as_slice(), &mut facts, place, &mut body[place]) {
+        if !again_place(marks.as_slice(), &mut standing, place, &mut body[place]) {
             return Ok(false);
         }
     }

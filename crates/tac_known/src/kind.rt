@@ -7,6 +7,7 @@ ghost use Rattle.tac_known.specs.Kinds as kinds;
 ghost use Rattle.tac_known.specs.Walk.{nothing};
 
 use crate::kind::ranges::{bits, computed, fits, is_pointer, lies_within, met, narrowed, not_nil};
+pub(crate) use ranges::are_plain;
 pub use ranges::opposite;
 use std::alloc::Global;
 use std::marker::Model;
@@ -18,7 +19,7 @@ pub enum Kind {
     /// Anything, or nothing.
     Unknown,
     /// Anything but nil, the number 0.
-    Pointer,
+    NotNil,
     /// A number that is neither below the first nor above the second.
     Between(i32, i32),
 }
@@ -28,7 +29,7 @@ fn related(relation: Relation, left: Kind, right: Kind) -> Kind
 {
     match left {
         Kind::Unknown => not_nil(relation, right),
-        Kind::Pointer => Kind::Pointer,
+        Kind::NotNil => Kind::NotNil,
         Kind::Between(low, high) => match right {
             Kind::Between(from, to) => narrowed(relation, low, high, from, to),
             _ => Kind::Between(low, high),
@@ -42,7 +43,7 @@ pub fn says_no_more(from: Kind, to: Kind) -> bool
 {
     match to {
         Kind::Unknown => true,
-        Kind::Pointer => is_pointer(from),
+        Kind::NotNil => is_pointer(from),
         Kind::Between(lowest, highest) => match from {
             Kind::Between(low, high) => low >= lowest && high <= highest,
             _ => false,
@@ -54,7 +55,7 @@ pub fn says_no_more(from: Kind, to: Kind) -> bool
 fn joined(one: Kind, other: Kind) -> Kind {
     match one {
         Kind::Unknown => one,
-        Kind::Pointer => {
+        Kind::NotNil => {
             if is_pointer(other) {
                 one
             } else {

@@ -3,9 +3,11 @@
 ghost use Rattle.std.specs.Prelude.{◌≡◌};
 ghost use Rattle.tac_known.specs.Lean as specs;
 ghost use Rattle.tac_known.specs.Lean.{is_vain, cleared, behind};
+ghost use Rattle.tac_known.specs.Walk as specs_walk;
 ghost use Rattle.tac_known.specs.Walk.{falls};
 
 use crate::kind::{Kind, Kinds, opposite};
+use crate::order::{Orders, orders_behind, orders_where, sharp};
 use tac_code::code::{Instruction, Operand, Relation};
 
 fn is_unequal(relation: Relation) -> bool
@@ -126,7 +128,7 @@ pub fn behind(kinds: &mut Kinds, instruction: &Instruction)
             high,
             ..
         } => kinds.meet(*value, *low, *high),
-        Instruction::CheckPointer { pointer, .. } => kinds.learn(*pointer, Kind::Pointer),
+        Instruction::CheckPointer { pointer, .. } => kinds.learn(*pointer, Kind::NotNil),
         Instruction::Index {
             to,
             index,
@@ -137,7 +139,7 @@ pub fn behind(kinds: &mut Kinds, instruction: &Instruction)
             kinds.meet(*index, *low, *high);
             kinds.learn(*to, Kind::Unknown);
         }
-        Instruction::New { to, .. } => kinds.learn(*to, Kind::Pointer),
+        Instruction::New { to, .. } => kinds.learn(*to, Kind::NotNil),
         Instruction::Text { to, .. }
         | Instruction::Offset { to, .. }
         | Instruction::RoutineValue { to, .. }
@@ -150,8 +152,8 @@ pub fn behind(kinds: &mut Kinds, instruction: &Instruction)
 }
 
 /// What falls to the next place.
-pub fn fall(kinds: &mut Kinds, instruction: &Instruction)
-    ensures { kinds.new ≡ falls kinds.old instruction.now }
+pub fn fall(kinds: &mut Kinds, orders: Orders, instruction: &Instruction)
+    ensures { kinds.new ≡ falls kinds.old orders instruction.now }
 {
     match instruction {
         Instruction::Branch {
@@ -165,7 +167,31 @@ pub fn fall(kinds: &mut Kinds, instruction: &Instruction)
             left,
             right,
             ..
-        } => kinds.relate(opposite(*relation), *left, *right),
+        } => {
+            let known = sharp(orders, opposite(*relation), *left, *right);
+            kinds.relate(known, *left, *right);
+        }
         _ => behind(kinds, instruction),
+    }
+}
+
+/// What falls to the next place of the order of temporaries.
+pub fn orders_fall(kinds: &Kinds, orders: Orders, instruction: &Instruction) -> Orders
+    ensures { result ≡ specs_walk.orders_fall kinds.now orders instruction.now }
+{
+    match instruction {
+        Instruction::Branch {
+            relation,
+            left,
+            right,
+            ..
+        }
+        | Instruction::BranchBack {
+            relation,
+            left,
+            right,
+            ..
+        } => orders_where(orders, opposite(*relation), *left, *right),
+        _ => orders_behind(kinds, orders, instruction),
     }
 }

@@ -6,4 +6,5 @@ pub mod claims;
 pub mod kind;
 pub mod laws;
 pub mod lean;
+pub mod order;
 pub mod walk;

@@ -4,11 +4,14 @@ ghost use Rattle.std.specs.Prelude.{◌≡◌, ℕ, suc, ◌+◌, ◌-◌, lengt
 ghost use Rattle.std.specs.Option.{option_copied};
 ghost use Rattle.tac_known.specs.Kinds.{say_no_more};
 ghost use Rattle.tac_known.specs.Lean.{lean, where_related, LeanBody};
-ghost use Rattle.tac_known.specs.Walk.{claim_at, claimed_or, falls, nothing, kinds_at, allows, aims, aims_well};
-ghost use Rattle.tac_known.specs.Walk.{goes_on_to_next, falls_well, is_well};
+ghost use Rattle.tac_known.specs.Walk.{claim_at, claimed_or, falls, nothing, allows, aims, aims_well};
+ghost use Rattle.tac_known.specs.Walk.{goes_on_to_next, falls_well, is_well, order_claim_at, order_claimed_or};
+ghost use Rattle.tac_known.specs.Walk.{orders_fall, orders_allowed, orders_aimed, orders_aim_well, orders_fall_well};
+ghost use Rattle.tac_known.specs.Walk.{allowed_if_falls, orders_are_well};
 
 use crate::kind::Kinds;
-use crate::lean::{fall, is_vain, lean};
+use crate::lean::{fall, is_vain, lean, orders_fall};
+use crate::order::{Orders, no_orders, orders_where, say_all, sharp};
 use std::alloc::Global;
 use tac_code::code::{Instruction, Operand, OutOfMemory, Relation};
 
@@ -95,10 +98,11 @@ fn aim_related(
 fn turn(
     claims: &[Option<Kinds>],
     kinds: &mut Kinds,
+    orders: Orders,
     place: usize,
     instruction: &Instruction,
 ) -> bool
-    ensures well { IsTrue result → aims_well claims.now kinds.old place instruction.now ≡ true }
+    ensures well { IsTrue result → aims_well claims.now kinds.old orders place instruction.now ≡ true }
     ensures kept { kinds.new ≡ kinds.old }
 {
     match instruction {
@@ -116,7 +120,10 @@ fn turn(
             right,
             forward,
         } => match ahead(place, *forward) {
-            Some(target) => aim_related(claims, kinds, target, *relation, *left, *right),
+            Some(target) => {
+                let known = sharp(orders, *relation, *left, *right);
+                aim_related(claims, kinds, target, known, *left, *right)
+            }
             None => false,
         },
         Instruction::BranchBack {
@@ -125,15 +132,18 @@ fn turn(
             right,
             back: distance,
         } => match back(place, *distance) {
-            Some(target) => aim_related(claims, kinds, target, *relation, *left, *right),
+            Some(target) => {
+                let known = sharp(orders, *relation, *left, *right);
+                aim_related(claims, kinds, target, known, *left, *right)
+            }
             None => false,
         },
         _ => true,
     }
 }
 
-// Whether an instruction goes on to the next place.
-fn goes_on(instruction: &Instruction) -> bool
+/// Whether an instruction goes on to the next place.
+pub fn goes_on(instruction: &Instruction) -> bool
     ensures { result ≡ goes_on_to_next instruction.now }
 {
     match instruction {
@@ -150,17 +160,18 @@ fn goes_on(instruction: &Instruction) -> bool
 fn go_on(
     claims: &[Option<Kinds>],
     kinds: &mut Kinds,
+    orders: Orders,
     place: usize,
     instruction: &Instruction,
 ) -> bool
-    ensures well { IsTrue result → falls_well claims.now kinds.old place instruction.now ≡ true }
+    ensures well { IsTrue result → falls_well claims.now kinds.old orders place instruction.now ≡ true }
     ensures taken { IsTrue result → kinds.new ≡ claimed_or (claim_at claims.now (suc place))
-        (falls kinds.old instruction.now) }
+        (falls kinds.old orders instruction.now) }
 {
     let Some(next) = place.checked_add(1) else {
         return false;
     };
-    fall(kinds, instruction);
+    fall(kinds, orders, instruction);
     if goes_on(instruction) {
         fall_in(claims, kinds, next)
     } else {
@@ -168,45 +179,211 @@ fn go_on(
     }
 }
 
+// What is claimed of the order of temporaries at a place.
+fn order_claim(claims: &[Option<Orders>], place: usize) -> Option<Orders>
+    ensures { result ≡ order_claim_at claims.now place }
+{
+    if place < claims.len() {
+        claims[place]
+    } else {
+        None
+    }
+}
+
+fn or_claimed(claimed: Option<Orders>, orders: Orders) -> Orders
+    ensures { result ≡ order_claimed_or claimed orders }
+{
+    match claimed {
+        Some(claimed) => claimed,
+        None => orders,
+    }
+}
+
+fn are_allowed(claimed: Option<Orders>, orders: Orders) -> bool
+    ensures { result ≡ orders_allowed claimed orders }
+{
+    match claimed {
+        Some(claimed) => say_all(orders, claimed),
+        None => true,
+    }
+}
+
+fn are_aimed(claimed: Option<Orders>, orders: Orders) -> bool
+    ensures { result ≡ orders_aimed claimed orders }
+{
+    match claimed {
+        Some(claimed) => say_all(orders, claimed),
+        None => false,
+    }
+}
+
+// Whether no more is claimed where an instruction jumps to.
+fn turn_orders(
+    claims: &[Option<Orders>],
+    orders: Orders,
+    place: usize,
+    instruction: &Instruction,
+) -> bool
+    ensures { IsTrue result → orders_aim_well claims.now orders place instruction.now ≡ true }
+{
+    match instruction {
+        Instruction::Jump { forward } => match ahead(place, *forward) {
+            Some(target) => are_aimed(order_claim(claims, target), orders),
+            None => false,
+        },
+        Instruction::JumpBack { back: distance } => match back(place, *distance) {
+            Some(target) => are_aimed(order_claim(claims, target), orders),
+            None => false,
+        },
+        Instruction::Branch {
+            relation,
+            left,
+            right,
+            forward,
+        } => match ahead(place, *forward) {
+            Some(target) => are_aimed(
+                order_claim(claims, target),
+                orders_where(orders, *relation, *left, *right),
+            ),
+            None => false,
+        },
+        Instruction::BranchBack {
+            relation,
+            left,
+            right,
+            back: distance,
+        } => match back(place, *distance) {
+            Some(target) => are_aimed(
+                order_claim(claims, target),
+                orders_where(orders, *relation, *left, *right),
+            ),
+            None => false,
+        },
+        _ => true,
+    }
+}
+
+// Whether no more is claimed at the next place than what falls there.
+fn fall_to(claimed: Option<Orders>, orders: Orders, instruction: &Instruction) -> bool
+    ensures { IsTrue result → allowed_if_falls instruction.now claimed orders ≡ true }
+{
+    !goes_on(instruction) || are_allowed(claimed, orders)
+}
+
+// Goes on to the next place with what is known of the order of temporaries.
+fn go_on_ordered(
+    claims: &[Option<Orders>],
+    kinds: &Kinds,
+    orders: &mut Orders,
+    place: usize,
+    instruction: &Instruction,
+) -> bool
+    ensures well { IsTrue result → orders_fall_well claims.now kinds.now orders.old place instruction.now ≡ true }
+    ensures taken { IsTrue result → orders.new ≡ order_claimed_or (order_claim_at claims.now (suc place))
+        (orders_fall kinds.now orders.old instruction.now) }
+{
+    let Some(next) = place.checked_add(1) else {
+        return false;
+    };
+    let behind = orders_fall(kinds, *orders, instruction);
+    let claimed = order_claim(claims, next);
+    *orders = or_claimed(claimed, behind);
+    fall_to(claimed, behind, instruction)
+}
+
+// What is known of the order of temporaries at one place; false where more is claimed.
+fn order_place(
+    claims: &[Option<Orders>],
+    kinds: &Kinds,
+    orders: &mut Orders,
+    place: usize,
+    instruction: &Instruction,
+) -> bool
+    ensures well { IsTrue result → orders_are_well claims.now kinds.now orders.old place instruction.now ≡ true }
+    ensures taken { IsTrue result → orders.new ≡ order_claimed_or (order_claim_at claims.now (suc place))
+        (orders_fall kinds.now orders.old instruction.now) }
+{
+    turn_orders(claims, *orders, place, instruction)
+        && go_on_ordered(claims, kinds, orders, place, instruction)
+}
+
 // One place; false where more is claimed than is known.
 #[tactic(auto, using(crate::proofs::Leaned::lean_is))]
 fn lean_place(
     claims: &[Option<Kinds>],
     kinds: &mut Kinds,
+    orders: Orders,
     place: usize,
     instruction: &mut Instruction,
 ) -> bool
-    ensures well { IsTrue result → is_well claims.now kinds.old place instruction.old ≡ true }
+    ensures well { IsTrue result → is_well claims.now kinds.old orders place instruction.old ≡ true }
     ensures made { IsTrue result → instruction.new ≡ lean kinds.old instruction.old }
     ensures taken { IsTrue result → kinds.new ≡ claimed_or (claim_at claims.now (suc place))
-        (falls kinds.old instruction.old) }
+        (falls kinds.old orders instruction.old) }
 {
-    if !turn(claims, kinds, place, instruction) {
+    if !turn(claims, kinds, orders, place, instruction) {
         return false;
     }
     let vain = is_vain(kinds, instruction);
-    if !go_on(claims, kinds, place, instruction) {
+    if !go_on(claims, kinds, orders, place, instruction) {
         return false;
     }
     lean(vain, instruction);
     true
 }
 
-/// Makes a body lean, where what is claimed by places is no more than what is known there. After false the body is of no use.
+// The same with what is known of the order of temporaries.
+fn whole_place(
+    claims: &[Option<Kinds>],
+    order_claims: &[Option<Orders>],
+    kinds: &mut Kinds,
+    orders: &mut Orders,
+    place: usize,
+    instruction: &mut Instruction,
+) -> bool
+    ensures well { IsTrue result → is_well claims.now kinds.old orders.old place instruction.old ≡ true }
+    ensures ordered { IsTrue result
+        → orders_are_well order_claims.now kinds.old orders.old place instruction.old ≡ true }
+    ensures made { IsTrue result → instruction.new ≡ lean kinds.old instruction.old }
+    ensures taken { IsTrue result → kinds.new ≡ claimed_or (claim_at claims.now (suc place))
+        (falls kinds.old orders.old instruction.old) }
+    ensures next { IsTrue result → orders.new ≡ order_claimed_or (order_claim_at order_claims.now (suc place))
+        (orders_fall kinds.old orders.old instruction.old) }
+{
+    let known = *orders;
+    order_place(order_claims, kinds, orders, place, instruction)
+        && lean_place(claims, kinds, known, place, instruction)
+}
+
+/// Makes a body lean, where what is claimed by places, of temporaries and of their order, is no more than what is known
+/// there. After false the body is of no use.
 pub fn lean_body(
     alloc: Global,
     temporaries: usize,
     claims: &[Option<Kinds>],
+    order_claims: &[Option<Orders>],
     body: &mut [Instruction],
 ) -> Result<bool, OutOfMemory>
     ensures { IfOk result (λ done. IsTrue done → LeanBody body.old body.new) }
 {
     let mut kinds = Kinds::new(alloc, temporaries)?;
+    let first = order_claim(order_claims, 0);
+    if !are_allowed(first, no_orders()) {
+        return Ok(false);
+    }
+    let mut orders = or_claimed(first, no_orders());
     if claims.len() != body.len() || !fall_in(claims, &mut kinds, 0) {
         return Ok(false);
     }
     for place in 0..body.len() {
-        if !lean_place(claims, &mut kinds, place, &mut body[place]) {
+        if !whole_place(
+            claims,
+            order_claims,
+            &mut kinds,
+            &mut orders,
+            place,
+            &mut body[place],
+        ) {
             return Ok(false);
         }
     }

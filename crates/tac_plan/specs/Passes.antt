@@ -1,5 +1,5 @@
--- The whole pass: words of frames come to stand in temporaries, by plans; then addresses and sums that temporaries hold
--- are copied, where they would be computed again; then tests that can't fail have the number 0 in place of an error's;
+-- The whole pass: words of frames come to stand in temporaries, by plans; then addresses, sums and words that
+-- temporaries hold are copied, where they would be computed or loaded again; then tests that can't fail have the number 0 in place of an error's;
 -- and then copies are left out, and checks that have the number 0, by plans again.
 use Rattle.std.specs.Prelude.{ℕ, suc, List, [], ◌∷◌, length, ◌≤◌}
 use Rattle.tac_code.specs.declared.code.Instruction.{Instruction}

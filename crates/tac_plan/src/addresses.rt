@@ -1,5 +1,5 @@
-// Addresses and sums that are computed more than once in a straight stretch: the first one stands in a temporary of its
-// own until the last one, so that copies of it can be made. Nothing is proved of it: what is chosen is tested.
+// Addresses, sums and words that are computed or loaded more than once in a straight stretch: the first one stands in a
+// temporary of its own until the last one, so that copies of it can be made. Nothing is proved of it: what is chosen is tested.
 
 mod numbering;
 
@@ -12,7 +12,7 @@ use tac_code::code::{Instruction, OutOfMemory};
 use tac_known::again::Fact;
 
 // So many that were computed last are remembered.
-const MOST_TERMS: usize = 8;
+const MOST_TERMS: usize = 12;
 
 // The numbers of words stand behind those of temporaries, and that of what is none.
 const FIRST_WORD: usize = CONSIDERED as usize + 1;
@@ -36,6 +36,18 @@ pub struct Chain {
     pub end: usize,
     /// The temporary that holds it, where one was found.
     pub holder: u32,
+    /// Temporaries in which nothing stands from the first to the last place, though values aren't moved to them.
+    pub idle: u64,
+    /// Whether there is room where values are moved to.
+    pub fits: bool,
+}
+
+// Where a chain ends, what is idle up to there, and whether there is room for it else.
+#[derive(Clone, Copy)]
+struct End {
+    place: usize,
+    idle: u64,
+    fits: bool,
 }
 
 // What a place gives: numbers of values stand in the place of temporaries.
@@ -210,20 +222,27 @@ impl<'a> View<'a> {
         }
     }
 
-    // the end of a chain, if there is room for it
-    fn end_of(&self, needs: &Needs, start: usize, left: u32) -> Option<usize> {
+    // in which temporaries nothing stands behind a place
+    fn idle_at(&self, place: usize) -> u64 {
+        let alive = lives_at(self.ways, place.saturating_add(1));
+        self.pins.others & !(alive | way_at(self.ways, place).writes)
+    }
+
+    // the end of a chain, if there is room for it, or more are idle than are used so
+    fn end_of(&self, needs: &Needs, start: usize, left: u32, used: u32) -> Option<End> {
         let mut link = self.begin(start, left);
-        if !needs.fits(start, self.more(&link)) {
-            return None;
-        }
+        let mut idle = self.idle_at(start);
+        let mut fits = needs.fits(start, self.more(&link));
         let first = start.saturating_add(1);
         for place in first..first.saturating_add(FAR).min(self.region.exit()) {
-            if self.go_on(&mut link, place) {
-                return Some(place);
-            }
-            if !needs.fits(place, self.more(&link)) {
+            if !fits && idle.count_ones() <= used {
                 return None;
             }
+            if self.go_on(&mut link, place) {
+                return Some(End { place, idle, fits });
+            }
+            idle &= self.idle_at(place);
+            fits = fits && needs.fits(place, self.more(&link));
         }
         None
     }
@@ -274,26 +293,44 @@ impl Chains {
         view: &View<'_>,
         needs: &mut Needs,
         start: usize,
-        end: usize,
+        end: End,
         left: u32,
     ) -> Result<(), OutOfMemory> {
         let number = self.list.len();
         self.list.push(Chain {
             start,
-            end,
+            end: end.place,
             holder: u32::MAX,
+            idle: end.idle,
+            fits: end.fits,
         })?;
         let mut link = view.begin(start, left);
         self.set(start, number);
-        needs.add(start, view.more(&link));
-        for place in start.saturating_add(1)..end {
+        if end.fits {
+            needs.add(start, view.more(&link));
+        }
+        for place in start.saturating_add(1)..end.place {
             if place == link.wanted && view.is_kept(&link, place) {
                 self.set(place, number);
             }
             view.go_on(&mut link, place);
-            needs.add(place, view.more(&link));
+            if end.fits {
+                needs.add(place, view.more(&link));
+            }
         }
         Ok(())
+    }
+
+    // how many chains that aren't at an end have temporaries that were idle
+    fn used_at(&self, place: usize) -> u32 {
+        let mut used = 0u32;
+        let many = self.list.len();
+        for at in many.saturating_sub(MOST_ACTIVE)..many {
+            if at < self.list.len() && !self.list[at].fits && place < self.list[at].end {
+                used = used.saturating_add(1);
+            }
+        }
+        used
     }
 
     // the longest chain that begins at a place and has room, or one of fewer places
@@ -304,8 +341,9 @@ impl Chains {
         start: usize,
     ) -> Result<(), OutOfMemory> {
         let mut left = MOST_LINKS;
+        let used = self.used_at(start);
         for _ in 0..ATTEMPTS {
-            if let Some(end) = view.end_of(needs, start, left) {
+            if let Some(end) = view.end_of(needs, start, left, used) {
                 return self.add(view, needs, start, end, left);
             }
             left /= 4;

@@ -139,7 +139,8 @@ fn leaned(
     let Some(claims) = claims(alloc, temporaries, list.as_slice())? else {
         return Ok(Some(list));
     };
-    if lean_body(alloc, temporaries, claims.as_slice(), list.as_mut_slice())? {
+    let (kinds, orders) = (claims.kinds.as_slice(), claims.orders.as_slice());
+    if lean_body(alloc, temporaries, kinds, orders, list.as_mut_slice())? {
         Ok(Some(list))
     } else {
         Ok(None)

@@ -202,6 +202,8 @@ pub struct Pins {
     pub moved: u64,
     /// The temporaries that these may stand in.
     pub open: u64,
+    /// The other temporaries, but for the holders.
+    pub others: u64,
     /// Whether others, or an address, may come to words of the own frame.
     pub is_seen: bool,
     /// What is known of addresses where jumps lead, in order.
@@ -216,6 +218,7 @@ impl Pins {
             list: Vec::new(alloc),
             moved: 0,
             open: 0,
+            others: 0,
             is_seen,
             kept: Vec::new(alloc),
             across: 0,
@@ -292,6 +295,7 @@ fn moved_pins(
         list,
         moved,
         open: rest,
+        others: usable & !moved & !holders,
         is_seen: look.may_see(),
         kept: look.kept.as_slice().to_vec(alloc)?,
         across: look.across,
@@ -340,6 +344,7 @@ fn held_pins(
         list,
         moved: open,
         open,
+        others: usable & !open & !holders,
         is_seen: look.may_see(),
         kept: look.kept.as_slice().to_vec(alloc)?,
         across: look.across,

@@ -1,19 +1,60 @@
-// Places that are marked, since a jump leads there.
+// Places that are marked, since jumps lead there.
 
 ghost use Rattle.std.specs.Prelude.{◌≡◌, suc, ◌+◌, ◌-◌, true, IsTrue, IfSome};
 ghost use Rattle.tac_known.specs.Again as specs;
 
+use crate::walk::goes_on;
 use std::alloc::Global;
 use tac_code::code::{Instruction, OutOfMemory};
 
-// Whether jumps lead to a place.
-pub(super) fn is_marked(marks: &[bool], place: usize) -> bool
-    ensures { result ≡ specs.is_marked marks.now place }
+/// How jumps lead to a place.
+#[derive(Clone, Copy)]
+pub enum Mark {
+    /// None does.
+    Clear,
+    /// Only one does, forward from this place, and what stands before doesn't go on to it.
+    Once(usize),
+    /// Any may.
+    Often,
+}
+
+// How jumps lead to a place.
+pub(super) fn mark_at(marks: &[Mark], place: usize) -> Mark
+    ensures { result ≡ specs.mark_at marks.now place }
 {
     if place < marks.len() {
         marks[place]
     } else {
-        false
+        Mark::Clear
+    }
+}
+
+// Whether a jump forward from a place may lead where this mark is.
+fn may_lead(mark: Mark, place: usize) -> bool
+    ensures { result ≡ specs.may_lead mark place }
+{
+    match mark {
+        Mark::Clear => false,
+        Mark::Once(from) => from == place,
+        Mark::Often => true,
+    }
+}
+
+fn is_often(mark: Mark) -> bool
+    ensures { result ≡ specs.is_often mark }
+{
+    match mark {
+        Mark::Often => true,
+        _ => false,
+    }
+}
+
+fn is_once(mark: Mark) -> bool
+    ensures { result ≡ specs.is_once mark }
+{
+    match mark {
+        Mark::Once(_) => true,
+        _ => false,
     }
 }
 
@@ -31,61 +72,98 @@ fn back(place: usize, distance: u64) -> Option<usize>
     Some(target as usize)
 }
 
-fn is_marked_ahead(marks: &[bool], place: usize, distance: u64) -> bool
-    ensures { IsTrue result → specs.is_marked marks.now (suc place + distance) ≡ true }
+fn leads_ahead(marks: &[Mark], place: usize, distance: u64) -> bool
+    ensures { IsTrue result → specs.may_lead (specs.mark_at marks.now (suc place + distance)) place ≡ true }
 {
     match ahead(place, distance) {
-        Some(target) => is_marked(marks, target),
+        Some(target) => may_lead(mark_at(marks, target), place),
         None => false,
     }
 }
 
-fn is_marked_back(marks: &[bool], place: usize, distance: u64) -> bool
-    ensures { IsTrue result → specs.is_marked marks.now (place - distance) ≡ true }
+fn leads_back(marks: &[Mark], place: usize, distance: u64) -> bool
+    ensures { IsTrue result → specs.is_often (specs.mark_at marks.now (place - distance)) ≡ true }
 {
     match back(place, distance) {
-        Some(target) => is_marked(marks, target),
+        Some(target) => is_often(mark_at(marks, target)),
         None => false,
     }
 }
 
-// Whether a place jumps to where a mark is, if it jumps.
-pub(super) fn leads_to_marks(marks: &[bool], place: usize, instruction: &Instruction) -> bool
+/// How far forward an instruction jumps, if it does.
+pub(super) fn forward_of(instruction: &Instruction) -> Option<u64>
+    ensures { result ≡ specs.forward_of instruction.now }
+{
+    match instruction {
+        Instruction::Jump { forward } | Instruction::Branch { forward, .. } => Some(*forward),
+        _ => None,
+    }
+}
+
+/// Whether only one jump leads there. None where there is no such place.
+pub(super) fn is_once_ahead(marks: &[Mark], place: usize, distance: u64) -> Option<bool>
+    ensures { IfSome result (λ is. is ≡ specs.is_once (specs.mark_at marks.now (suc place + distance))) }
+{
+    let target = ahead(place, distance)?;
+    Some(is_once(mark_at(marks, target)))
+}
+
+// Whether a place jumps to where a mark allows it, if it jumps.
+pub(super) fn leads_to_marks(marks: &[Mark], place: usize, instruction: &Instruction) -> bool
     ensures { IsTrue result → specs.leads_to_marks marks.now place instruction.now ≡ true }
 {
     match instruction {
         Instruction::Jump { forward } | Instruction::Branch { forward, .. } => {
-            is_marked_ahead(marks, place, *forward)
+            leads_ahead(marks, place, *forward)
         }
         Instruction::JumpBack { back } | Instruction::BranchBack { back, .. } => {
-            is_marked_back(marks, place, *back)
+            leads_back(marks, place, *back)
         }
         _ => true,
     }
 }
 
-fn mark(marks: &mut [bool], target: Option<usize>) {
+fn mark_target(marks: &mut [Mark], target: Option<usize>, with: Mark) {
     if let Some(target) = target
         && target < marks.len()
     {
-        marks[target] = true;
+        marks[target] = match marks[target] {
+            Mark::Clear => with,
+            _ => Mark::Often,
+        };
     }
 }
 
-// The places where jumps lead.
-pub(super) fn marks_of(alloc: Global, body: &[Instruction]) -> Result<Vec<bool>, OutOfMemory> {
-    let mut marks = vec![in alloc; false; body.len()]?;
+// Where what stands before goes on, any may.
+fn mark_falls(marks: &mut [Mark], body: &[Instruction]) {
+    let mut falls = true;
+    for (place, instruction) in body.iter().enumerate() {
+        if falls
+            && place < marks.len()
+            && let Mark::Once(_) = marks[place]
+        {
+            marks[place] = Mark::Often;
+        }
+        falls = goes_on(instruction);
+    }
+}
+
+// How jumps lead to the places of a body.
+pub(super) fn marks_of(alloc: Global, body: &[Instruction]) -> Result<Vec<Mark>, OutOfMemory> {
+    let mut marks = vec![in alloc; Mark::Clear; body.len()]?;
     for (place, instruction) in body.iter().enumerate() {
         match instruction {
             Instruction::Jump { forward } | Instruction::Branch { forward, .. } => {
-                mark(marks.as_mut_slice(), ahead(place, *forward));
+                let target = ahead(place, *forward);
+                mark_target(marks.as_mut_slice(), target, Mark::Once(place));
             }
             Instruction::JumpBack { back: distance }
             | Instruction::BranchBack { back: distance, .. } => {
-                mark(marks.as_mut_slice(), back(place, *distance));
+                mark_target(marks.as_mut_slice(), back(place, *distance), Mark::Often);
             }
             _ => {}
         }
     }
+    mark_falls(marks.as_mut_slice(), body);
     Ok(marks)
 }

@@ -1,6 +1,6 @@
 // Kinds as ranges of integers: what is known of a sum, a difference, a remainder, and of what a relation leaves.
 
-ghost use Rattle.std.specs.Prelude.{◌≡◌, ◌+ℤ◌, ◌-ℤ◌};
+ghost use Rattle.std.specs.Prelude.{◌≡◌, ◌+ℤ◌, ◌-ℤ◌, ◌*ℤ◌};
 ghost use Rattle.tac_code.specs.Numbers.{is_integer};
 ghost use Rattle.tac_known.specs.Kinds as kinds;
 
@@ -116,6 +116,97 @@ fn remainder(right: Kind) -> Kind
     }
 }
 
+// A product of two integers has 63 bits.
+#[tactic(auto, using(crate::proofs::Integers::product_fits))]
+fn product_of(left: i32, right: i32) -> i64
+    ensures { result ≡ left *ℤ right }
+{
+    wide(left) * wide(right)
+}
+
+// Whether neither of two numbers is negative.
+fn are_natural(low: i32, high: i32) -> bool
+    ensures { result ≡ kinds.are_natural low high }
+{
+    low >= 0 && high >= 0
+}
+
+fn are_all_natural(low: i32, high: i32, from: i32, to: i32) -> bool
+    ensures { result ≡ kinds.are_all_natural low high from to }
+{
+    are_natural(low, high) && are_natural(from, to)
+}
+
+fn bounded_product(low: i32, high: i32, from: i32, to: i32) -> Kind
+    ensures { result ≡ kinds.bounded_product low high from to }
+{
+    bounded(product_of(low, from), product_of(high, to))
+}
+
+// Of numbers that are not negative.
+fn product_between(low: i32, high: i32, from: i32, to: i32) -> Kind
+    ensures { result ≡ kinds.product_between low high from to }
+{
+    if are_all_natural(low, high, from, to) {
+        bounded_product(low, high, from, to)
+    } else {
+        all_integers()
+    }
+}
+
+fn product(left: Kind, right: Kind) -> Kind
+    ensures { result ≡ kinds.product left right }
+{
+    match left {
+        Kind::Between(low, high) => match right {
+            Kind::Between(from, to) => product_between(low, high, from, to),
+            _ => all_integers(),
+        },
+        _ => all_integers(),
+    }
+}
+
+// Whether numbers that are not negative are divided by one number that is above 0.
+fn divide(low: i32, high: i32, from: i32, to: i32) -> bool
+    ensures { result ≡ kinds.divide low high from to }
+{
+    are_natural(low, high) && (0 < from && from == to)
+}
+
+// Of a divisor that isn't above 0 nothing is told.
+#[tactic(auto, using(crate::proofs::Integers::quotient_fits))]
+fn quotient_of(number: i32, divisor: i32) -> i32
+    ensures { result ≡ kinds.quotient_of number divisor }
+{
+    if 0 < divisor {
+        number / divisor
+    } else {
+        i32::MIN
+    }
+}
+
+fn quotient_between(low: i32, high: i32, from: i32, to: i32) -> Kind
+    ensures { result ≡ kinds.quotient_between low high from to }
+{
+    if divide(low, high, from, to) {
+        Kind::Between(quotient_of(low, from), quotient_of(high, from))
+    } else {
+        all_integers()
+    }
+}
+
+fn quotient(left: Kind, right: Kind) -> Kind
+    ensures { result ≡ kinds.quotient left right }
+{
+    match left {
+        Kind::Between(low, high) => match right {
+            Kind::Between(from, to) => quotient_between(low, high, from, to),
+            _ => all_integers(),
+        },
+        _ => all_integers(),
+    }
+}
+
 pub(super) fn computed(operator: Operator, left: Kind, right: Kind) -> Kind
     ensures { result ≡ kinds.computed_kind operator left right }
 {
@@ -123,13 +214,13 @@ pub(super) fn computed(operator: Operator, left: Kind, right: Kind) -> Kind
         Operator::Add => sum(left, right),
         Operator::Subtract => difference(left, right),
         Operator::Modulo => remainder(right),
-        Operator::Multiply => all_integers(),
-        Operator::Divide => all_integers(),
+        Operator::Multiply => product(left, right),
+        Operator::Divide => quotient(left, right),
     }
 }
 
 // Whether sums of numbers within bounds go around nowhere.
-fn are_plain(low: i32, high: i32, from: i32, to: i32) -> bool
+pub(crate) fn are_plain(low: i32, high: i32, from: i32, to: i32) -> bool
     ensures { result ≡ kinds.are_plain low high from to }
 {
     are_integers(wide(low), wide(high))
@@ -194,6 +285,24 @@ fn fits_difference(left: Kind, right: Kind) -> bool
     }
 }
 
+fn fits_product_between(low: i32, high: i32, from: i32, to: i32) -> bool
+    ensures { result ≡ kinds.fits_product_between low high from to }
+{
+    are_all_natural(low, high, from, to) && is_integer(product_of(high, to))
+}
+
+fn fits_product(left: Kind, right: Kind) -> bool
+    ensures { result ≡ kinds.fits_product left right }
+{
+    match left {
+        Kind::Between(low, high) => match right {
+            Kind::Between(from, to) => fits_product_between(low, high, from, to),
+            _ => false,
+        },
+        _ => false,
+    }
+}
+
 // Whether no result can be outside the integers.
 pub(super) fn fits(operator: Operator, left: Kind, right: Kind) -> bool
     ensures { result ≡ kinds.fits operator left right }
@@ -201,6 +310,7 @@ pub(super) fn fits(operator: Operator, left: Kind, right: Kind) -> bool
     match operator {
         Operator::Add => fits_sum(left, right),
         Operator::Subtract => fits_difference(left, right),
+        Operator::Multiply => fits_product(left, right),
         _ => false,
     }
 }
@@ -218,7 +328,7 @@ pub(super) fn is_pointer(kind: Kind) -> bool
     ensures { result ≡ kinds.is_pointer kind }
 {
     match kind {
-        Kind::Pointer => true,
+        Kind::NotNil => true,
         _ => false,
     }
 }
@@ -239,7 +349,7 @@ pub(super) fn not_nil(relation: Relation, right: Kind) -> Kind
     match relation {
         Relation::NotEqual => {
             if says_nil(right) {
-                Kind::Pointer
+                Kind::NotNil
             } else {
                 Kind::Unknown
             }

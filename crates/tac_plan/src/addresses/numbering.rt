@@ -5,7 +5,7 @@ use crate::flow::{NONE, Way};
 use crate::sets::CONSIDERED;
 use std::alloc::Global;
 use tac_code::code::{Base, Instruction, Operand, OutOfMemory};
-use tac_known::again::{Component, Fact, Sum, given_by, holder_by};
+use tac_known::again::{Component, Fact, Sum, Word, given_by, holder_by};
 
 // The number of what is given.
 fn number_in(fact: Fact) -> Option<u32> {
@@ -13,7 +13,16 @@ fn number_in(fact: Fact) -> Option<u32> {
         Fact::Empty => None,
         Fact::Pointed(component) => Some(component.holder),
         Fact::Summed(sum) => Some(sum.holder),
+        Fact::Loaded(word) => Some(word.holder),
     }
+}
+
+// Whether memory is written.
+fn is_written(instruction: &Instruction) -> bool {
+    matches!(
+        instruction,
+        Instruction::Store { .. } | Instruction::StoreByte { .. } | Instruction::New { .. }
+    )
 }
 
 impl Numbers {
@@ -54,22 +63,37 @@ impl Numbers {
         self.number(temporary.min(CONSIDERED) as usize)
     }
 
+    fn numbered_base(&mut self, base: Base) -> Base {
+        match base {
+            Base::Temporary(temporary) => Base::Temporary(self.number_of(temporary)),
+            other => other,
+        }
+    }
+
+    // memory is written: what words hold is known no more
+    fn lose_words(&mut self) {
+        for at in 0..self.terms.len() {
+            if let Fact::Loaded(_) = self.terms[at].fact {
+                self.terms[at].fact = Fact::Empty;
+            }
+        }
+    }
+
     // what is given, by numbers of values, and with a new number
     fn numbered(&mut self, fact: Fact) -> Fact {
         match fact {
             Fact::Empty => Fact::Empty,
-            Fact::Pointed(component) => {
-                let base = match component.base {
-                    Base::Temporary(temporary) => Base::Temporary(self.number_of(temporary)),
-                    other => other,
-                };
-                Fact::Pointed(Component {
-                    base,
-                    index: self.number_of(component.index),
-                    holder: self.fresh(),
-                    ..component
-                })
-            }
+            Fact::Pointed(component) => Fact::Pointed(Component {
+                base: self.numbered_base(component.base),
+                index: self.number_of(component.index),
+                holder: self.fresh(),
+                ..component
+            }),
+            Fact::Loaded(word) => Fact::Loaded(Word {
+                base: self.numbered_base(word.base),
+                holder: self.fresh(),
+                ..word
+            }),
             Fact::Summed(sum) => {
                 let right = match sum.right {
                     Operand::Temporary(temporary) => Operand::Temporary(self.number_of(temporary)),
@@ -146,6 +170,9 @@ impl Numbers {
         if word != NONE {
             self.pass_on(way, word);
             return Ok(NONE);
+        }
+        if is_written(instruction) {
+            self.lose_words();
         }
         if way.writes == 0 {
             return Ok(NONE);

@@ -1,5 +1,6 @@
 // What a draft does at an instruction: what is put in before it, and what becomes of it.
 
+use crate::addresses::Chain;
 use crate::draft::{Draft, NOBODY, only};
 use crate::flow::{NONE, Way, is_join, is_turn, lives_at, settles, way_at};
 use crate::sets::{CONSIDERED, has, least, set_of};
@@ -263,7 +264,7 @@ impl<'a> Draft<'a> {
         if number < self.chains.list.len() {
             if self.chains.list[number].start == place {
                 self.begun = number.saturating_add(1);
-                if let Some(holder) = least(self.free_at(place, temporary)) {
+                if let Some(holder) = self.holder_for(place, temporary, self.chains.list[number]) {
                     self.chains.list[number].holder = holder;
                 }
             }
@@ -277,6 +278,18 @@ impl<'a> Draft<'a> {
         } else {
             temporary
         }
+    }
+
+    // the temporary that is to hold what a chain computes
+    fn holder_for(&self, place: usize, temporary: u32, chain: Chain) -> Option<u32> {
+        if chain.fits {
+            let found = least(self.free_at(place, temporary));
+            if found.is_some() {
+                return found;
+            }
+        }
+        let taken = self.taken(place, temporary) | self.chains.reserved(self.begun, place);
+        least(chain.idle & !taken)
     }
 
     // what values may be moved to at a place
