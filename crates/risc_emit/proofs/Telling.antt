@@ -13,7 +13,7 @@ use Rattle.risc_emit_forms.proofs.Shortfalls.{IsLoad, BentLoad, BentRow, bent_is
 use Rattle.risc_emit.specs.Passes.{LoadsNear}
 use Rattle.risc_emit_relation.specs.Context.{Context}
 use Rattle.risc_emit_forms.specs.Told.{jumped, told, told_in, told_at, row, row_bent, bend, load_bent, bent, bent_in}
-use Rattle.risc_emit_forms.specs.Told.{bent_at}
+use Rattle.risc_emit_forms.specs.Told.{bent_at, first_of}
 
 pub told_here : (c : Context) (r k : ℕ) (routine : TacRoutine) (body : List Instruction) (t : Option ℕ) → slice_get
     (routines c.code) r ≡ Some routine → body ≡ routine.body → t ≡ told body k → t ≡ told_at c r k
@@ -132,6 +132,44 @@ row_none c r (suc k) body le = go (get_or (jumped body) (suc k) true) (get_or (j
     go false true = refl
     go false false = sym (ap (λ o. row c r o (slice_get body (suc k)) (slice_get body (suc (suc k))))
         (get_past body k (omega (arith, le))))
+
+-- where the instruction before a place is no index, nothing is short there
+pub bent_first : (c : Context) (r place : ℕ) (body : List Instruction) → place ≡ 0 → None ≡ bent c r body place
+bent_first c r zero body e = refl
+bent_first c r (suc k) body e = absurd (omega (arith, e))
+
+bent_by : (c : Context) (r place : ℕ) (body : List Instruction) → None ≡ row_bent c r body place → None
+    ≡ load_bent c r body place → None ≡ bent c r body place
+bent_by c r place body e f = f ∙ ap (λ o. first_of o (load_bent c r body place)) e
+
+pub bent_past : (c : Context) (r place : ℕ) (body : List Instruction) → length body ≤ place - 1 → None
+    ≡ bent c r body place
+bent_past c r place body le = bent_by c r place body (row_none c r place body le) (load_none c r place body le)
+
+pub bent_other : (c : Context) (r place : ℕ) (body : List Instruction) (i : Instruction) → slice_get body (place - 1)
+    ≡ Some i → ((next third : Option Instruction) → row c r (Some i) next third ≡ None)
+    → ((before : Option (ℕ × ℤ)) (next : Option Instruction) → bend c r before (Some i) next ≡ None) → None
+    ≡ bent c r body place
+bent_other c r zero body i is no_row no_bend = refl
+bent_other c r (suc k) body i is no_row no_bend =
+    bent_by c r (suc k) body (rowless (get_or (jumped body) (suc k) true) (get_or (jumped body) (suc (suc k)) true))
+    (unbent (get_or (jumped body) (suc k) true))
+  where
+    here : slice_get body k ≡ Some i
+    here = ap (slice_get body) (less_one k) ∙ is
+
+    rowless : (a b : Bool) → None ≡ cond a None (cond b None
+        (row c r (slice_get body k) (slice_get body (suc k)) (slice_get body (suc (suc k)))))
+    rowless true b = refl
+    rowless false true = refl
+    rowless false false = sym (ap (λ o. row c r o (slice_get body (suc k)) (slice_get body (suc (suc k)))) here
+        ∙ no_row (slice_get body (suc k)) (slice_get body (suc (suc k))))
+
+    unbent : (b : Bool) → None ≡ cond b None (bend c r (row_bent c r body k) (slice_get body k)
+        (slice_get body (suc k)))
+    unbent true = refl
+    unbent false = sym (ap (λ o. bend c r (row_bent c r body k) o (slice_get body (suc k))) here
+        ∙ no_bend (row_bent c r body k) (slice_get body (suc k)))
 
 pub loads_near : (c : Context) (r k : ℕ) (i : Instruction) (b : Option (ℕ × ℤ)) → fetch c.code r k ≡ Some i → b
     ≡ bent_at c r k → LoadsNear i b

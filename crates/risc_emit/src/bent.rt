@@ -3,10 +3,12 @@
 mod rows;
 
 ghost use Rattle.std.specs.Prelude.{◌≡◌, ◌<◌, ◌≤◌, ◌≤ℤ◌, pos, negsuc, slice_get, get_or, true, Some, IfSome};
-ghost use Rattle.risc_emit_relation.specs.Context.{home};
+ghost use Rattle.std.specs.Prelude.{ℕ, ℤ, false, Option, None};
+ghost use Rattle.tac_code.specs.declared.code.Instruction.{Instruction as Element};
+ghost use Rattle.risc_emit_relation.specs.Context.{Context, home};
 ghost use Rattle.risc_emit_forms.specs.Told.{jumped, block_at, fold_near, fold_by, folded, short_of, back_near, back_by};
 ghost use Rattle.risc_emit_forms.specs.Told.{back, offset_of, bend_near, bend_in};
-ghost use Rattle.risc_emit_forms.specs.Told.{bend_load, row_bent, start, bend, load_bent, bent};
+ghost use Rattle.risc_emit_forms.specs.Told.{bend_load, row, row_bent, start, bend, load_bent, bent};
 ghost use Rattle.risc_emit.specs.Frames.{context_of};
 
 use crate::bent::rows::{both_short, row};
@@ -341,6 +343,32 @@ fn load_bent(
     }
 }
 
+// Whether an instruction is an index. Behind no other is a register short of an offset.
+fn is_index(instruction: &Instruction) -> bool
+    ensures row { result ≡ false → (c : Context) (r : ℕ) (next third : Option Element)
+        → row c r (Some instruction.now) next third ≡ None }
+    ensures bend { result ≡ false → (c : Context) (r : ℕ) (before : Option (ℕ × ℤ)) (next : Option Element)
+        → bend c r before (Some instruction.now) next ≡ None }
+{
+    match instruction {
+        Instruction::Index { .. } => true,
+        _ => false,
+    }
+}
+
+// Whether an index comes before a place.
+fn is_behind_index(body: &[Instruction], place: usize) -> bool
+    ensures { result ≡ false → (c : Context) (r : ℕ) → None ≡ bent c r body.now place }
+{
+    if place == 0 {
+        return false;
+    }
+    match body.get(place - 1) {
+        Some(instruction) => is_index(instruction),
+        None => false,
+    }
+}
+
 /// The register that is short of an offset at a place, if one is.
 pub(crate) fn bent(
     frame: &Frame<'_>,
@@ -351,6 +379,10 @@ pub(crate) fn bent(
     requires { marks.now ≡ jumped body.now }
     ensures { result ≡ bent (context_of frame.now) frame.now.number body.now place }
 {
+    // most places are behind another instruction, and need no look at what follows
+    if !is_behind_index(body, place) {
+        return None;
+    }
     match row_bent(frame, body, marks, place) {
         Some(found) => Some(found),
         None => load_bent(frame, body, marks, place),
