@@ -9,6 +9,10 @@ use ps_scan::Token;
 use ps_syntax::{Expr, Variable};
 use ps_text::Span;
 
+// What is told where a comment stands in the place of an index.
+const COMMENTED: &str =
+    "what stands between `{` and `}` is a comment; an index stands between `[` and `]`";
+
 // The longest string that is filled with spaces.
 const LONGEST: u32 = 100;
 
@@ -35,8 +39,23 @@ impl<'a> Context<'a> {
                 self.unassignable(target, value, why);
                 true
             }
+            (None, Some(given)) => self.wrong_row(variable, given, why),
             _ => false,
         }
+    }
+
+    // A value for a part of an array that has a further index.
+    fn wrong_row(&self, variable: &Variable, given: Type, why: &mut Why) -> bool {
+        let ty = self.outline.type_of_variable(variable);
+        if !matches!(self.outline.form_of(ty), Some(Form::Array { .. })) {
+            return false;
+        }
+        why.form = "@t is not assignable to `@y`, which is an array itself";
+        why.ty = given;
+        why.other = self.variable_span(variable);
+        why.mark = Mark::Declared(variable.name);
+        why.help = Help::Of("a component has a further index: `@a[..]`", why.other);
+        true
     }
 
     fn unassignable(&self, target: Target, value: &Expr, why: &mut Why) {
@@ -143,6 +162,9 @@ impl<'a> Context<'a> {
             (Some(Form::Record(first)), Some(Form::Record(second))) => {
                 self.are_like_fields(first, second)
             }
+            (Some(Form::Pointer(Some(first))), Some(Form::Pointer(Some(second)))) => {
+                self.is_one_type(first, second)
+            }
             _ => false,
         }
     }
@@ -198,6 +220,9 @@ impl<'a> Context<'a> {
             (Some(Form::Boolean), Some(Form::Text(_) | Form::Array { .. })) => {
                 self.truth_text_change(text)
             }
+            (Some(Form::Pointer(_)), _) if matches!(self.outline.bytes(text), b"0") => {
+                Change::For(text, "nil")
+            }
             (Some(Form::Pointer(_)), _) => Change::None,
             (_, Some(Form::Pointer(_))) => Change::Behind(text, "", "^"),
             (
@@ -242,7 +267,9 @@ impl<'a> Context<'a> {
     fn with_structure(&self, target: Target, value: &Expr, why: &mut Why) {
         match self.outline.form(target.wanted) {
             Some(Form::Array { index, .. }) => {
-                if is_text(value) {
+                if self.is_commented(target.text.to) {
+                    why.add_help(Help::Is(COMMENTED));
+                } else if is_text(value) {
                     self.with_packed(target.wanted, why);
                 } else if self.is_set(target.given) {
                     why.add_help(Help::Is("its components are assigned one by one"));
@@ -261,8 +288,18 @@ impl<'a> Context<'a> {
                 why.add_help(Help::Is("what it points to is `@y^`, made by `new(@y)`"));
                 why.add_change(Change::Behind(target.text, "", "^"));
             }
+            Some(Form::Enumeration(denoter)) => why.add_help(self.values_of(denoter)),
             _ => {}
         }
+    }
+
+    // Whether a comment stands between an offset and the place.
+    fn is_commented(&self, from: u32) -> bool {
+        let gap = Span {
+            from,
+            to: self.fault.place.from,
+        };
+        self.outline.bytes(gap).contains(&b'{')
     }
 
     // A string for an array that is no string type.
@@ -322,6 +359,9 @@ impl<'a> Context<'a> {
         why.mark = Mark::Here(formal.name);
         why.change = self.value_change(wanted, given, text);
         why.help = self.value_help(wanted, given, text);
+        if self.is_set(given) && matches!(self.outline.form(wanted), Some(Form::Array { .. })) {
+            why.help = Help::Is("its components are assigned one by one, before it is passed");
+        }
         true
     }
 

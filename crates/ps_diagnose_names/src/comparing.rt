@@ -2,6 +2,7 @@
 
 use crate::context::Context;
 use crate::facts::{factor_in_simple, relation_word};
+use crate::required::Known;
 use crate::why::{Change, Help, Mark, Why};
 use ps_diagnose_outline::{Form, Type};
 use ps_syntax::{Factor, Relation, Simple};
@@ -48,6 +49,8 @@ impl<'a> Context<'a> {
             why.mark = Mark::Declared(pair.right);
             if self.is_simple(pair.second) {
                 why.change = Change::For(pair.right, "[@a]");
+            } else if self.is_string(pair.second) {
+                why.help = Help::Is("a set of characters is written as ['a', 'b']");
             }
             return true;
         }
@@ -146,6 +149,9 @@ impl<'a> Context<'a> {
         if is_helped {
             why.help = self.conversion(pair.first, pair.second, pair.right);
             why.next_help = self.conversion(pair.second, pair.first, pair.left);
+        }
+        if matches!(self.known(pair.right), Known::End) {
+            why.help = Help::Of("`@a` is a condition by itself, as in `not @a`", pair.right);
         }
         true
     }

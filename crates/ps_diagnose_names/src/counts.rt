@@ -57,7 +57,7 @@ impl<'a> Context<'a> {
             && self.outline.routine_of(self.block_here()) == Some(routine.number)
         {
             why.help = Help::Is(
-                "in an expression `@x` calls the function: keep what is computed in a variable, and assign that at the end",
+                "in an expression `@x` calls the function, as `@x(..)`; what was computed is kept in a variable, and assigned at the end",
             );
             return;
         }

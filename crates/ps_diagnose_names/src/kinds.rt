@@ -5,14 +5,34 @@ use crate::facts::{is_text, is_variable, variable_in};
 use crate::required::Known;
 use crate::spot::{Passed, Spot};
 use crate::why::{Change, Help, Mark, Why};
-use ps_diagnose_outline::{Form, Point, PointKind};
+use ps_diagnose_outline::{Form, Part, Point, PointKind, Type, required_names};
 use ps_scan::Kind;
-use ps_syntax::{Constant, Expr, Parameter, Variable};
+use ps_syntax::{Constant, Expr, Parameter, Selector, Variable};
 use ps_text::Span;
 
 impl<'a> Context<'a> {
     /// A name of a kind that cannot stand there.
     pub(crate) fn wrong_kind(&self, why: &mut Why) -> bool {
+        let is_told = self.kind_told(why);
+        if is_told && self.hides_required(why.text) {
+            why.help = Help::Is("it hides the `@x` of the language: give it another name");
+        }
+        is_told
+    }
+
+    // Whether a name is declared that the language requires.
+    fn hides_required(&self, name: Span) -> bool {
+        let written = self.outline.bytes(name);
+        for required in required_names() {
+            if written.eq_ignore_ascii_case(required.name.as_bytes()) {
+                return self.outline.declared(name).is_some();
+            }
+        }
+        false
+    }
+
+    // A name of a kind that cannot stand there, as far as the constructs round it tell.
+    fn kind_told(&self, why: &mut Why) -> bool {
         let is_found = match (self.seen.passed, self.seen.target) {
             (Some(passed), _) => self.wrong_parameter(passed, why),
             (None, Some(name)) => self.wrong_target(name, why),
@@ -32,11 +52,7 @@ impl<'a> Context<'a> {
     // One construct.
     fn wrong_kind_at(&self, spot: Spot<'_>, why: &mut Why) -> bool {
         match spot {
-            Spot::Named(variable) => self.no_value(
-                variable.name,
-                variable.selectors.is_empty(),
-                why,
-            ),
+            Spot::Named(variable) => self.no_value(variable, why),
             Spot::Statement(name, parameters) => self.no_procedure(name, parameters, why),
             Spot::Call(name, parameters) => self.no_function(name, parameters, why),
             Spot::Control(name) => {
@@ -91,7 +107,9 @@ impl<'a> Context<'a> {
     }
 
     // A name in an expression that stands for no value.
-    fn no_value(&self, name: Span, is_alone: bool, why: &mut Why) -> bool {
+    fn no_value(&self, variable: &Variable, why: &mut Why) -> bool {
+        let name = variable.name;
+        let is_alone = variable.selectors.is_empty();
         let Some(kind) = self.kind_of(name) else {
             return false;
         };
@@ -102,6 +120,12 @@ impl<'a> Context<'a> {
             | PointKind::FunctionParameter
                 if !is_alone => {
                 name_of_kind(name, kind, "`@x` is @k, and no variable", Help::None, why);
+                if let (PointKind::Function, Some(Selector::Index(_))) = (
+                    kind,
+                    variable.selectors.as_slice().first(),
+                ) {
+                    why.help = Help::Is("parameters stand between `(` and `)`");
+                }
                 true
             }
             PointKind::Procedure | PointKind::ProcedureParameter => {
@@ -110,10 +134,46 @@ impl<'a> Context<'a> {
             }
             PointKind::Type => {
                 name_of_kind(name, kind, "`@x` is @k, and no value", VARIABLE_OF, why);
+                self.with_values(variable, why);
                 true
             }
             _ => false,
         }
+    }
+
+    // What may be meant by a type: the constant behind its point, or the set of its values behind `in`.
+    fn with_values(&self, variable: &Variable, why: &mut Why) {
+        let ty = self.outline.type_named(variable.name);
+        match (
+            variable.selectors.as_slice().first(),
+            self.outline.form_of(ty),
+        ) {
+            (Some(Selector::Field(field)), Some(Form::Enumeration(_))) => {
+                why.help = Help::Of("a constant of an enumeration stands alone: `@a`", *field);
+                why.change = Change::With(self.variable_span(variable), *field, "@b");
+            }
+            (None, Some(_)) if self.is_behind_in(variable.name) => {
+                why.help = Help::Is("behind `in` stands a set of values, as `[a..b]`");
+                if let Some(at) = self.denoter_of(ty) {
+                    why.change = Change::With(variable.name, at, "[@b]");
+                }
+            }
+            _ => {}
+        }
+    }
+
+    // Whether `in` stands before a name.
+    fn is_behind_in(&self, name: Span) -> bool {
+        match self.outline.token_before(name.from) {
+            Some(token) => matches!(token.kind, Kind::In),
+            None => false,
+        }
+    }
+
+    // The denoter of a type.
+    fn denoter_of(&self, ty: Option<Type>) -> Option<Span> {
+        let from = self.outline.denoter_at(ty?)?;
+        Some(self.outline.extent(from, Part::Denoter))
     }
 
     // What begins a statement and is no procedure.
@@ -168,13 +228,35 @@ impl<'a> Context<'a> {
 
     // A procedure where a value is needed.
     fn valueless(&self, name: Span, kind: PointKind, why: &mut Why) {
-        let help = match self.known(name) {
-            Known::Read | Known::Readln | Known::New => {
-                Help::Is("it gives a variable its value, as a statement: `@x(..)`")
+        name_of_kind(
+            name,
+            kind,
+            WITHOUT_VALUE,
+            Help::Is("a `function` has a value"),
+            why,
+        );
+        if matches!(self.known(name), Known::Read | Known::Readln | Known::New) {
+            why.help = Help::Is("it gives a variable its value, as a statement: `@x(..)`");
+            self.with_statement(name, why);
+        }
+    }
+
+    // Tries a procedure as a statement, with the variable that its value seems to be assigned to.
+    fn with_statement(&self, name: Span, why: &mut Why) {
+        for spot in self.spots.iter() {
+            if let Spot::Value(variable, _) = spot {
+                let text = self.variable_span(variable);
+                let whole = Span {
+                    from: text.from,
+                    to: self.factor_extent(name.from).to,
+                };
+                why.help = Help::Of(
+                    "it gives a variable its value, as a statement: `@x(@a)`",
+                    text,
+                );
+                why.change = Change::With(whole, text, "@x(@b)");
             }
-            _ => Help::Is("a `function` has a value"),
-        };
-        name_of_kind(name, kind, WITHOUT_VALUE, help, why);
+        }
     }
 
     // What stands before parameters in an expression and is no function.

@@ -51,6 +51,8 @@ const INTEGER: &str = "`@w` takes an integer, and `@x` is @t";
 
 const INTEGERS: &str = "`@w` takes integers, and `@x` is @t";
 
+const SETS: &str = "`@w` takes sets here, and `@x` is @t";
+
 impl<'a> Context<'a> {
     /// The operand of `not`.
     pub(crate) fn wrong_not(&self, at: Span, factor: &Factor, why: &mut Why) -> bool {
@@ -64,6 +66,14 @@ impl<'a> Context<'a> {
         match self.token_at(text.to) {
             Some(relation) if is_comparing(relation.kind) => {
                 why.change = self.parenthesized(at.from, text, relation.span.to, "not (@b)");
+            }
+            _ if self.is_integer(ty) => {
+                let whole = Span {
+                    from: at.from,
+                    to: text.to,
+                };
+                why.help = Help::Of("`@a = 0` tells whether it is 0", text);
+                why.change = Change::With(whole, text, "(@b = 0)");
             }
             _ => {}
         }
@@ -94,6 +104,11 @@ impl<'a> Context<'a> {
             return false;
         };
         let operator = multiplying_of(term, number);
+        let text = self.factor_span(factor);
+        let first = self.outline.type_of_factor(&term.first);
+        if matches!(operator, Multiplying::Times) && self.no_set(first, "*", text, ty, why) {
+            return true;
+        }
         let (word, form, is_taken) = match operator {
             Multiplying::And => ("and", BOOLEAN, self.is_boolean(ty)),
             Multiplying::Div => ("div", INTEGER, self.is_integer(ty)),
@@ -103,7 +118,6 @@ impl<'a> Context<'a> {
         if is_taken {
             return false;
         }
-        let text = self.factor_span(factor);
         takes(word, form, text, ty, why);
         why.mark = Mark::Variable(text);
         match operator {
@@ -165,7 +179,7 @@ impl<'a> Context<'a> {
         match adding_of(simple, number) {
             Adding::Or => self.wrong_or(simple, text, ty, why),
             Adding::Plus => self.wrong_plus(simple, number, text, ty, why),
-            Adding::Minus => self.wrong_sum("-", text, ty, why),
+            Adding::Minus => self.wrong_sum(simple, "-", text, ty, why),
         }
     }
 
@@ -194,7 +208,7 @@ impl<'a> Context<'a> {
     ) -> bool {
         let is_text = self.is_string(ty) || self.is_beside_text(simple);
         if !is_text || self.is_added(ty) {
-            return self.wrong_sum("+", text, ty, why);
+            return self.wrong_sum(simple, "+", text, ty, why);
         }
         why.form = "`+` cannot take a string";
         if let Some(added) = simple.more.get(number.saturating_sub(1) as usize) {
@@ -212,14 +226,69 @@ impl<'a> Context<'a> {
         self.is_integer(ty) || self.is_set(ty)
     }
 
-    fn wrong_sum(&self, operator: &'static str, text: Span, ty: Type, why: &mut Why) -> bool {
-        if self.is_added(ty) {
+    // A member of a set where a set is put together with another one.
+    fn no_set(
+        &self,
+        first: Option<Type>,
+        operator: &'static str,
+        text: Span,
+        ty: Type,
+        why: &mut Why,
+    ) -> bool {
+        if !matches!(self.outline.form_of(first), Some(Form::Set(_))) || !self.is_simple(ty) {
+            return false;
+        }
+        takes(operator, SETS, text, ty, why);
+        why.mark = Mark::Variable(text);
+        why.change = Change::For(text, "[@a]");
+        true
+    }
+
+    fn wrong_sum(
+        &self,
+        simple: &Simple,
+        operator: &'static str,
+        text: Span,
+        ty: Type,
+        why: &mut Why,
+    ) -> bool {
+        let first = self.outline.type_of_term(&simple.first);
+        if self.no_set(first, operator, text, ty, why) {
+            return true;
+        }
+        let is_behind_number = matches!(self.outline.form_of(first), Some(Form::Integer));
+        if self.is_added(ty) && !(is_behind_number && self.is_set(ty)) {
             return false;
         }
         takes(operator, INTEGERS, text, ty, why);
         why.mark = Mark::Declared(text);
         why.help = self.conversion(Type::Integer, ty, text);
+        self.with_neighbour(simple, operator, text, ty, why);
         true
+    }
+
+    // Tries the next or the last character where 1 is added to one or taken away.
+    fn with_neighbour(
+        &self,
+        simple: &Simple,
+        operator: &'static str,
+        text: Span,
+        ty: Type,
+        why: &mut Why,
+    ) {
+        let whole = self.simple_span(simple);
+        let Some(added) = simple.more.get(0) else {
+            return;
+        };
+        let is_one = matches!(self.outline.bytes(self.term_span(&added.term)), b"1");
+        if self.is_char(ty) && is_one && text.from == whole.from && simple.more.len() == 1 {
+            let form = if operator == "+" {
+                "succ(@b)"
+            } else {
+                "pred(@b)"
+            };
+            why.change = Change::With(whole, text, form);
+        }
     }
 
     // Whether a string is among the operands.
@@ -284,5 +353,6 @@ fn is_comparing(kind: Kind) -> bool {
             | Kind::Greater
             | Kind::LessEqual
             | Kind::GreaterEqual
+            | Kind::In
     )
 }

@@ -1,11 +1,12 @@
 //! Parameters of another type, and what cannot be read or written (34).
 
 use crate::context::Context;
+use crate::facts::variable_in;
 use crate::required::Known;
 use crate::spot::Passed;
-use crate::why::{Help, Mark, Why};
+use crate::why::{Change, Help, Mark, Why};
 use ps_diagnose_outline::{Form, PointKind, Type};
-use ps_syntax::Expr;
+use ps_syntax::{Expr, Selector};
 use ps_text::Span;
 
 impl<'a> Context<'a> {
@@ -39,8 +40,8 @@ impl<'a> Context<'a> {
         true
     }
 
-    // Whether two types are the same one.
-    fn is_one_type(&self, a: Type, b: Type) -> bool {
+    /// Whether two types are the same one.
+    pub(crate) fn is_one_type(&self, a: Type, b: Type) -> bool {
         match (self.outline.named(a), self.outline.named(b)) {
             (Some(Type::Integer), Some(Type::Integer))
             | (Some(Type::Boolean), Some(Type::Boolean))
@@ -89,6 +90,12 @@ impl<'a> Context<'a> {
         why.text = text;
         why.ty = ty;
         why.mark = Mark::Variable(text);
+        if matches!(known, Known::New) {
+            with_pointer(value, why);
+        } else if why.word == "chr" && self.is_char(ty) {
+            why.help = Help::Is("it is a character already");
+            why.change = Change::With(self.factor_extent(routine.from), text, "@b");
+        }
         true
     }
 
@@ -172,5 +179,17 @@ impl<'a> Context<'a> {
         if is_read && is_text {
             why.add_help(Help::Is("`readln` behind the loop passes over the rest of the line"));
         }
+    }
+}
+
+// What is done in place of `new` of what is no pointer: where it is behind one, that is taken.
+fn with_pointer(value: &Expr, why: &mut Why) {
+    why.help = Help::Is("a variable that is declared needs no `new`");
+    let Some(variable) = variable_in(value) else {
+        return;
+    };
+    if let Some(Selector::Content(caret)) = variable.selectors.as_slice().last() {
+        why.help = Help::Is("`new` takes the pointer itself, without `^`");
+        why.change = Change::Without(*caret);
     }
 }

@@ -28,6 +28,7 @@ impl<'a> Context<'a> {
         } else {
             why.form = form_of_twice(point.kind, first.kind);
             why.change = self.without_declaration(point);
+            why.help = help_of_twice(point.kind, first.kind);
         }
         true
     }
@@ -213,6 +214,16 @@ fn form_of_twice(kind: PointKind, first: PointKind) -> &'static str {
             "`@p` is a parameter already"
         }
         _ => "`@p` is declared twice in this block",
+    }
+}
+
+// What is told of a function and a variable of one name.
+fn help_of_twice(kind: PointKind, first: PointKind) -> Help {
+    match (kind, first) {
+        (PointKind::Function, PointKind::Variable) | (PointKind::Variable, PointKind::Function) => {
+            Help::Is("a function has its result by its name, and needs no variable")
+        }
+        _ => Help::None,
     }
 }
 

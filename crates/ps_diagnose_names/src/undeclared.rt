@@ -7,7 +7,7 @@ use crate::spot::Spot;
 use crate::why::{Change, Help, Why};
 use ps_diagnose_outline::{Form, Part, PointKind, Type};
 use ps_scan::{Kind, Token};
-use ps_syntax::{Adding, Simple};
+use ps_syntax::{Adding, Expr, Member, Simple};
 use ps_text::Span;
 
 impl<'a> Context<'a> {
@@ -32,9 +32,8 @@ impl<'a> Context<'a> {
                     "the types integer, char and Boolean need no declaration; others are declared in the `type` part: type @p = ..;",
                 );
             }
-            Some(Spot::Definition(..) | Spot::Range(..) | Spot::CaseConstant(..)) => {
-                why.help = Help::Is("a constant is declared in the `const` part: const @p = ..;");
-            }
+            Some(Spot::CaseConstant(_, index, _)) => self.no_case_constant(index, why),
+            Some(Spot::Definition(..) | Spot::Range(..)) => why.help = A_CONSTANT,
             _ => {
                 self.with_members(why);
                 self.with_string(why);
@@ -43,14 +42,54 @@ impl<'a> Context<'a> {
         }
     }
 
+    // The constant of a `case` that may be meant: a character without its apostrophes, or one of an enumeration.
+    fn no_case_constant(&self, index: &Expr, why: &mut Why) {
+        why.help = A_CONSTANT;
+        let place = self.fault.place;
+        match self.outline.form_of(self.outline.type_of(index)) {
+            Some(Form::Char) if place.to.saturating_sub(place.from) == 1 => {
+                why.help = Help::Is("a character stands between apostrophes: '@p'");
+                why.change = Change::For(place, "'@p'");
+            }
+            Some(Form::Enumeration(denoter)) => {
+                why.second = Type::Told(denoter);
+                why.help = self.values_of(denoter);
+            }
+            _ => {}
+        }
+    }
+
     // The string that may be meant where a name is written once, and used nowhere else.
     fn with_string(&self, why: &mut Why) {
-        let Some(passed) = self.seen.passed else {
-            return;
+        let is_writing = match self.seen.passed {
+            Some(passed) => self.is_writing(passed.routine),
+            None => false,
         };
-        if self.uses.is_empty() && self.is_writing(passed.routine) {
+        if self.uses.is_empty() && (is_writing || self.is_text_wanted()) {
             why.add_help(Help::Is("a string stands between apostrophes: '@p'"));
             why.change = Change::For(self.fault.place, "'@p'");
+        }
+        if self.uses.is_empty() && is_writing {
+            why.add_help(Help::Is(A_VARIABLE));
+        }
+    }
+
+    // Whether a string or a character is wanted at the place.
+    fn is_text_wanted(&self) -> bool {
+        match self.wanted_type() {
+            Some(ty) => self.is_string(ty) || self.is_char(ty),
+            None => false,
+        }
+    }
+
+    /// The values of an enumeration, which is the second type.
+    pub(crate) fn values_of(&self, denoter: u32) -> Help {
+        match self.outline.denoter_at(Type::Told(denoter)) {
+            Some(from) => Help::Of(
+                "the values of @u are @a",
+                self.outline.extent(from, Part::Denoter),
+            ),
+            None => Help::None,
         }
     }
 
@@ -60,13 +99,8 @@ impl<'a> Context<'a> {
             return;
         };
         if let Some(Form::Enumeration(denoter)) = self.outline.form(ty) {
-            if let Some(from) = self.outline.denoter_at(Type::Told(denoter)) {
-                why.ty = ty;
-                why.add_help(Help::Of(
-                    "the values of @t are @a",
-                    self.outline.extent(from, Part::Denoter),
-                ));
-            }
+            why.second = ty;
+            why.add_help(self.values_of(denoter));
         }
     }
 
@@ -119,7 +153,20 @@ impl<'a> Context<'a> {
             Spot::Multiplied(term, number) => Some(type_of_operand(term, number)),
             Spot::Passed(name, number, _) => self.type_passed(name, number),
             Spot::Compare(left, _, right) => self.type_compared(left, right),
+            Spot::Member(members, _) => self.type_before_in(members),
             _ => None,
+        }
+    }
+
+    // The type of the name before `in`, where members of the set behind it stand.
+    fn type_before_in(&self, members: &[Member]) -> Option<Type> {
+        let bracket = self.outline.token_before(members.first()?.first_token())?;
+        let word = self.outline.token_before(bracket.span.from)?;
+        let name = self.outline.token_before(word.span.from)?;
+        if matches!(word.kind, Kind::In) {
+            self.outline.type_of_name(name.span)
+        } else {
+            None
         }
     }
 
@@ -217,6 +264,8 @@ fn first_behind(tokens: &[Token]) -> Option<Span> {
     }
     None
 }
+
+const A_CONSTANT: Help = Help::Is("a constant is declared in the `const` part: const @p = ..;");
 
 const A_VARIABLE: &str = "a variable is declared before it is used: var @p: ..;";
 

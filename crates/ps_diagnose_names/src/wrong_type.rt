@@ -138,6 +138,11 @@ impl<'a> Context<'a> {
                 why.text = text;
                 why.ty = ty;
                 why.mark = Mark::Variable(text);
+                if self.is_string(ty) {
+                    why.help = Help::Is(
+                        "strings are compared by `=`, one by one with `or` between",
+                    );
+                }
                 true
             }
             (Some(first), Some(ty)) if !self.is_one_simple(first, ty) => {
@@ -177,6 +182,7 @@ impl<'a> Context<'a> {
             ),
             _ => {
                 why.form = "a width stands only in `write` and `writeln`";
+                why.help = Help::Is("what is passed is told by its order, without names");
                 true
             }
         }
@@ -254,6 +260,9 @@ impl<'a> Context<'a> {
                 why.second = wanted;
                 why.mark = Mark::Declared(control);
                 why.change = self.literal_change(wanted, ty, text);
+                if matches!(why.change, Change::None) {
+                    why.help = Help::Is("to count by that, declare `@y` as @t");
+                }
                 true
             }
             None => false,

@@ -207,7 +207,7 @@ const IN_DECLARATIONS: Steps = &[
     Holds(Fact::Declarations),
     InPart(&[Kind::Var]),
     Is(Back(1), &[Kind::Name]),
-    IsNot(Back(2), &[Kind::Colon]),
+    IsNot(Back(2), &[Kind::Colon, Kind::Of]),
     IsNot(Ahead(1), &[Kind::Number, Kind::Text]),
     Or,
     Is(Here, &[Kind::Equal]),
@@ -218,6 +218,9 @@ const IN_DECLARATIONS: Steps = &[
     IsNot(Ahead(1), &[Kind::Number, Kind::Text]),
     Why("between a variable and its type stands `:`"),
     Exchange(One(Here), ":"),
+    Also,
+    Is(Ahead(1), &[Kind::Record, Kind::LeftParen]),
+    Help("a type is declared in the `type` part, before the variables"),
 
     // `var a: integer := 1`
     Rule,

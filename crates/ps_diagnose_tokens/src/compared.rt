@@ -144,7 +144,15 @@ pub(crate) fn propose_parentheses(cx: &Context<'_>, to: &mut Telling) {
     }
     let mut text = empty(cx.alloc);
     put_condition(cx, &mut text, start, end);
-    exchange_text(cx, to, span, text);
+    if cx.piece(span).contains(&b'\n') {
+        let mut words = joined(cx, &["put each comparison from `", cx.told(start), "` at "]);
+        words.put_place(cx, span.from);
+        words.put(" on between parentheses");
+        to.propose(cx, 0, words);
+        to.change(span, text);
+    } else {
+        exchange_text(cx, to, span, text);
+    }
 }
 
 /// The first rule that fits of those of comparisons.

@@ -1,7 +1,7 @@
 //! What is told of declarations by the habits of other languages, and of what beginners take for Pascal.
 
 use crate::context::Context;
-use crate::kinds::{ENDS_PART, PARTS};
+use crate::kinds::{ENDS_PART, PARTS, WORDS};
 use crate::lists::TYPES;
 use crate::rule::Place::{
     Ahead, Back, BeforeTop, BehindNames, Here, Routines, StatementEnd, Top, TopEnd,
@@ -306,6 +306,20 @@ const OF_TYPES: Steps = &[
     Why("the constants of an enumeration are names, without apostrophes"),
     Help("an enumeration is written as `(red, green, blue)`"),
 
+    // `type t = red, green, blue;`
+    Rule,
+    Is(Here, &[Kind::Comma]),
+    Is(Back(1), &[Kind::Name]),
+    Is(Back(2), &[Kind::Equal]),
+    InPart(&[Kind::Type]),
+    Is(BehindNames, &[Kind::Semicolon]),
+    Why("the constants of an enumeration stand between parentheses"),
+    Also,
+    IsShown(UpTo(Back(1), BehindNames)),
+    Exchange(UpTo(Back(1), BehindNames), "("),
+    Tokens(UpTo(Back(1), BehindNames)),
+    Put(")"),
+
     // `(x: integer; y: integer)`
     Rule,
     Is(Here, &[Kind::Colon]),
@@ -362,6 +376,17 @@ const OF_TYPES: Steps = &[
     IsNot(Here, STRUCTURES),
     Help("declare the type in the `type` part, and write its name here"),
 
+    // `function f: integer, integer;`
+    Rule,
+    Is(Here, &[Kind::Comma]),
+    Is(Back(1), &[Kind::Name]),
+    Is(Back(2), &[Kind::Colon]),
+    Holds(Fact::InFunction),
+    Fails(Fact::Headed),
+    No(Top),
+    Why("a function has one result"),
+    Help("several values are given back by `var` parameters"),
+
     // `procedure p(s: set of char)`
     Rule,
     Is(Here, BEGINS_OTHER_TYPE),
@@ -411,6 +436,10 @@ const OF_SPACES: Steps = &[
     Is(Here, &[Kind::Name]),
     Is(Back(1), &[Kind::Name]),
     Is(Back(2), &[Kind::Program, Kind::Procedure]),
+    Or,
+    Is(Here, WORDS),
+    Is(Back(1), &[Kind::Name]),
+    Is(Back(2), &[Kind::Program]),
     Why("a name is one word, without spaces"),
     Exchange(To(Back(1), Here), ""),
     Token(Back(1)),

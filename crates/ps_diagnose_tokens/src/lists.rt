@@ -2,11 +2,13 @@
 
 use crate::context::Context;
 use crate::kinds::OPERATORS;
-use crate::rule::Place::{Back, Closing, Head, Here, Innermost, Start, StatementEnd, Top};
+use crate::rule::Place::{
+    Ahead, Back, Closing, Head, Here, Innermost, NextAssign, Start, StatementEnd, Top,
+};
 use crate::rule::Reach::{Between, One, To, UpTo};
 use crate::rule::Step::{
     Also, Exchange, Fails, Help, Holds, InPart, Is, IsNot, IsShown, Label, No, Or, Put, PutBefore,
-    PutBehind, Rule, Same, Spelled, TakeAway, Token, Tokens, Why,
+    PutBehind, Rule, Same, SeemsDeclared, Spelled, TakeAway, Token, Tokens, Why,
 };
 use crate::rule::{Fact, Steps};
 use crate::tests::first_of;
@@ -15,6 +17,7 @@ use ps_scan::Kind;
 // What stands before a value.
 const BEFORE_VALUE: &[Kind] = &[
     Kind::If,
+    Kind::Case,
     Kind::While,
     Kind::Until,
     Kind::To,
@@ -186,6 +189,11 @@ const OF_HEADINGS: Steps = &[
     Holds(Fact::InFunction),
     Why("the type of the function's result is missing before it"),
     Help("a function is declared as `function f(n: integer): integer;`"),
+    Also,
+    Is(Ahead(1), &[Kind::Name]),
+    Is(Ahead(2), &[Kind::Semicolon]),
+    Exchange(One(Here), ":"),
+    Also,
     PutBehind(0, Back(1), ": integer", ": integer"),
 
     // `procedure p: integer;`
@@ -217,6 +225,15 @@ const OF_HEADINGS: Steps = &[
     Holds(Fact::Statements),
     Is(Here, &[Kind::Text, Kind::Number]),
     Holds(Fact::Procedure),
+    Or,
+    Same(Start, Back(1)),
+    Is(Back(1), &[Kind::Name]),
+    Holds(Fact::Statements),
+    Is(Here, &[Kind::Name]),
+    Holds(Fact::Procedure),
+    Holds(Fact::OneLine),
+    SeemsDeclared(Here),
+    No(NextAssign),
     Why("parameters stand between `(` and `)`"),
     Also,
     IsShown(UpTo(Here, StatementEnd)),

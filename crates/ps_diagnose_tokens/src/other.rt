@@ -17,6 +17,8 @@ pub(crate) fn part_here(cx: &Context<'_>) -> Part {
         Part::Parameters
     } else if !block.is_told && !block.is_routine {
         Part::Program
+    } else if !block.is_told && block.is_function {
+        Part::Result
     } else if !cx.is_in_statements() {
         Part::Declarations
     } else if block.is_function {
@@ -30,6 +32,7 @@ pub(crate) fn part_here(cx: &Context<'_>) -> Part {
 fn part_beside(part: Part) -> Part {
     match part {
         Part::Declarations => Part::Program,
+        Part::Result => Part::Declarations,
         Part::Function => Part::Statements,
         _ => part,
     }

@@ -4,7 +4,8 @@ use crate::context::Context;
 use crate::kinds::{BEGINS_STATEMENT, ENDS_PART, OPERATORS, PARTS, ROUTINES, WORDS};
 use crate::rows::Part;
 use crate::rule::Place::{
-    Ahead, Back, Begun, Here, LastDeclared, LastOfPart, Later, List, Routines, SamePart, Top,
+    Ahead, Back, Begun, Here, LastDeclared, LastOfPart, Later, List, NextAssign, NextEnd, Routines,
+    SamePart, Top,
 };
 use crate::rule::Reach::One;
 use crate::rule::Step::{
@@ -156,6 +157,14 @@ const IN_STATEMENTS: Steps = &[
     Is(Here, &[Kind::Var]),
     Advice(Part::Statements, "var"),
 
+    // `procedure show(3)` for a call
+    Rule,
+    Is(Here, ROUTINES),
+    Holds(Fact::Statements),
+    SeemsDeclared(Ahead(1)),
+    Why("a procedure is called by its name alone"),
+    TakeAway(0, One(Here)),
+
     // `procedure` among the statements of the program
     Rule,
     Is(Here, ROUTINES),
@@ -186,6 +195,23 @@ const BEFORE_START: &[Kind] = &[Kind::Semicolon, Kind::Var, Kind::Type, Kind::Co
 
 // Statements among declarations.
 const AMONG_DECLARATIONS: Steps = &[
+    // `a.b := 1;` among variables, with a `begin` behind it
+    Rule,
+    Holds(Fact::Declarations),
+    No(Top),
+    Is(Back(1), &[Kind::Name]),
+    Is(Back(2), BEFORE_START),
+    Is(
+        Here,
+        &[Kind::Dot, Kind::Caret, Kind::LeftBracket, Kind::Assign],
+    ),
+    InPart(&[Kind::Var]),
+    SeemsDeclared(Back(1)),
+    Has(NextAssign),
+    IsNot(NextEnd, &[Kind::End]),
+    Why("a variable gets its value by a statement"),
+    Help("statements stand behind the `begin` of the block"),
+
     // a statement that begins at the place
     Rule,
     Holds(Fact::Declarations),

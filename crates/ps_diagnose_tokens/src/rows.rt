@@ -10,6 +10,8 @@ pub enum Part {
     Declarations,
     /// A list of formal parameters.
     Parameters,
+    /// The heading of a function behind its parameters.
+    Result,
     Statements,
     /// Statements of a function.
     Function,
@@ -94,8 +96,8 @@ fn row_in_text(text: &'static str, word: &str) -> Option<Row> {
     None
 }
 
-/// The row of a word, or of a sign, in a part of the table, if it has one. Capital and small letters count alike.
-pub fn other_pascal(part: Part, word: &str) -> Option<Row> {
+// The row of a word, or of a sign, in a part of the table alone.
+fn row_in_part(part: Part, word: &str) -> Option<Row> {
     let (first, end) = numbers_of(part);
     for number in first..end {
         if let Some(row) = row_in_text(text_at(number), word) {
@@ -103,4 +105,13 @@ pub fn other_pascal(part: Part, word: &str) -> Option<Row> {
         }
     }
     None
+}
+
+/// The row of a word, or of a sign, in a part of the table, if it has one: for the result of a function in that of
+/// declarations, where its own has none. Capital and small letters count alike.
+pub fn other_pascal(part: Part, word: &str) -> Option<Row> {
+    match row_in_part(part, word) {
+        None if part == Part::Result => row_in_part(Part::Declarations, word),
+        row => row,
+    }
 }

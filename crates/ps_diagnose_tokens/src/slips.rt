@@ -1,12 +1,12 @@
 //! What is told of words, signs and operators among statements that are near the right ones.
 
 use crate::context::Context;
-use crate::kinds::{COMPARES, ENDS_STATEMENT, ENDS_VALUE, JOINS};
+use crate::kinds::{BEGINS_STATEMENT, COMPARES, ENDS_STATEMENT, ENDS_VALUE, JOINS};
 use crate::lists::REQUIRED;
 use crate::rows::Part;
 use crate::rule::Place::{
-    Ahead, Assigned, Back, BeforeTop, ExpressionEnd, ExpressionStart, First, HeadName, Here,
-    Innermost, NextAssign, Start, Top, TopEnd,
+    Ahead, Assigned, Back, BeforeTop, ExpressionEnd, ExpressionStart, First, FirstComparison,
+    HeadName, Here, Innermost, NextAssign, NextExpressionEnd, Start, StatementEnd, Top, TopEnd,
 };
 use crate::rule::Reach::{Between, One, To, UpTo};
 use crate::rule::Step::{
@@ -268,6 +268,13 @@ const FURTHER: Steps = &[
     IsNot(Ahead(1), &[Kind::Semicolon, Kind::End]),
     Exchange(One(Here), ";"),
 
+    // `a :=`, and a statement on the next line
+    Rule,
+    Is(Here, BEGINS_STATEMENT),
+    Is(Back(1), &[Kind::Assign]),
+    Fails(Fact::OneLine),
+    Why("a value is missing before it"),
+
     // `a := if b`
     Rule,
     Is(Here, &[Kind::If]),
@@ -322,6 +329,13 @@ const FURTHER: Steps = &[
     Is(Back(1), &[Kind::LeftBracket]),
     Holds(Fact::Statements),
     Why("an index is missing before it"),
+
+    // `1...3`
+    Rule,
+    Is(Here, &[Kind::Dot]),
+    Is(Back(1), &[Kind::DotDot]),
+    Why("between two bounds stands `..`"),
+    TakeAway(0, One(Here)),
 
     // `.5`
     Rule,
@@ -412,6 +426,18 @@ const FURTHER: Steps = &[
     Why("`,` is missing before it"),
     PutBehind(0, Back(1), ",", ","),
 
+    // `writeln(a dvi 2)`
+    Rule,
+    Is(Here, &[Kind::Name]),
+    Is(Back(1), &[Kind::Name]),
+    Is(Top, &[Kind::LeftParen]),
+    Holds(Fact::Statements),
+    SeemsDeclared(Back(1)),
+    Expects("`"),
+    Token(Here),
+    Put("` cannot stand here"),
+    Tell(More::Words),
+
     // `writeln(hello world)`
     Rule,
     Is(Here, &[Kind::Name]),
@@ -447,6 +473,215 @@ const FURTHER: Steps = &[
     Same(Start, Here),
     Why("an assignment needs no word before it"),
     TakeAway(0, One(Here)),
+
+    // `if n = 1, 2 then`
+    Rule,
+    Is(Here, &[Kind::Comma]),
+    InHead(&[Kind::If, Kind::While]),
+    Is(Back(1), ENDS_VALUE),
+    Why("a condition is one value"),
+    Help("values are compared one by one, with `or` between, or all by `in [1, 2]`"),
+    Also,
+    Is(FirstComparison, &[Kind::Equal]),
+    IsShown(Between(FirstComparison, NextExpressionEnd)),
+    Exchange(UpTo(FirstComparison, NextExpressionEnd), "in ["),
+    Tokens(Between(FirstComparison, NextExpressionEnd)),
+    Put("]"),
+
+    // `if (a then)`
+    Rule,
+    Is(Here, &[Kind::Then, Kind::Do]),
+    Is(Top, &[Kind::LeftParen]),
+    Is(Ahead(1), &[Kind::RightParen]),
+    Is(Back(1), ENDS_VALUE),
+    Why("it stands behind the `)`"),
+    Exchange(To(Here, Ahead(1)), ") "),
+    Token(Here),
+
+    // `n := 10 : 2`
+    Rule,
+    Is(Here, &[Kind::Colon]),
+    Is(Ahead(1), &[Kind::Number]),
+    Is(Back(1), ENDS_VALUE),
+    Holds(Fact::Statements),
+    Fails(Fact::Inside),
+    Has(Assigned),
+    No(NextAssign),
+    Why("a quotient is written with `div`"),
+    Exchange(One(Here), "div"),
+
+    // `n := n x m`
+    Rule,
+    Spelled(Here, "x"),
+    Is(Back(1), ENDS_VALUE),
+    Is(Ahead(1), &[Kind::Name, Kind::Number]),
+    Holds(Fact::Statements),
+    Holds(Fact::OneLine),
+    Has(Assigned),
+    No(NextAssign),
+    Why("a product is written with `*`"),
+    Exchange(One(Here), "*"),
+
+    // `for := 1 to 10`
+    Rule,
+    Is(Here, &[Kind::Assign]),
+    Is(Back(1), &[Kind::For]),
+    Why("the variable that counts is missing before it"),
+
+    // `case c of +: a`, `if c = + then`
+    Rule,
+    InBody(&[Kind::Case]),
+    Same(Start, Back(1)),
+    Is(Here, &[Kind::Colon, Kind::Comma]),
+    Is(Back(1), &[Kind::Plus, Kind::Minus]),
+    Or,
+    Holds(Fact::Statements),
+    Is(Here, &[Kind::Then, Kind::Do, Kind::RightParen]),
+    Is(Back(1), &[Kind::Plus, Kind::Minus]),
+    Is(Back(2), &[Kind::Equal, Kind::NotEqual]),
+    Why("a character stands between apostrophes"),
+    Exchange(One(Back(1)), "'"),
+    Token(Back(1)),
+    Put("'"),
+
+    // `case c of *: a`, `if c = * then`
+    Rule,
+    InBody(&[Kind::Case]),
+    Same(Start, Here),
+    Is(Here, &[Kind::Star, Kind::Slash]),
+    Is(Ahead(1), &[Kind::Colon, Kind::Comma]),
+    Or,
+    Holds(Fact::Statements),
+    Is(Here, &[Kind::Star, Kind::Slash]),
+    Is(Back(1), &[Kind::Equal, Kind::NotEqual]),
+    Is(Ahead(1), &[Kind::Then, Kind::Do, Kind::RightParen]),
+    Why("a character stands between apostrophes"),
+    Exchange(One(Here), "'"),
+    Token(Here),
+    Put("'"),
+
+    // `p(a; b)`
+    Rule,
+    Is(Here, &[Kind::Semicolon]),
+    Is(Top, &[Kind::LeftParen]),
+    Is(BeforeTop, &[Kind::Name]),
+    Is(TopEnd, &[Kind::RightParen]),
+    Is(Back(1), ENDS_VALUE),
+    Holds(Fact::Statements),
+    Holds(Fact::OneLine),
+    Why("between parameters stands `,`"),
+    Exchange(One(Here), ","),
+
+    // `n not = 5`
+    Rule,
+    Is(Here, &[Kind::Not]),
+    Is(Ahead(1), &[Kind::Equal]),
+    Is(Back(1), ENDS_VALUE),
+    Holds(Fact::Statements),
+    Why("what is not equal is compared by `<>`"),
+    Exchange(To(Here, Ahead(1)), "<>"),
+
+    // `n < or = 5`
+    Rule,
+    Is(Here, &[Kind::Or]),
+    Is(Back(1), &[Kind::Less, Kind::Greater]),
+    Is(Ahead(1), &[Kind::Equal]),
+    Holds(Fact::Statements),
+    Why("both are one sign: `"),
+    Token(Back(1)),
+    Put("=`"),
+    Exchange(To(Back(1), Ahead(1)), ""),
+    Token(Back(1)),
+    Put("="),
+
+    // `a[1..3] := 0`
+    Rule,
+    Is(Here, &[Kind::DotDot]),
+    Is(Top, &[Kind::LeftBracket]),
+    Is(BeforeTop, &[Kind::Name]),
+    Holds(Fact::Statements),
+    Why("an index is one value"),
+    Help("the components of an array are reached one by one, in a loop"),
+
+    // `mod(a, b)`
+    Rule,
+    Is(Here, &[Kind::Div, Kind::Mod, Kind::And, Kind::Or]),
+    Is(Ahead(1), &[Kind::LeftParen]),
+    Is(Back(1), BEFORE_OPERAND),
+    Holds(Fact::Statements),
+    Why("it stands between its two operands"),
+    Also,
+    Is(Ahead(3), &[Kind::Comma]),
+    Is(Ahead(5), &[Kind::RightParen]),
+    Exchange(To(Here, Ahead(5)), ""),
+    Token(Ahead(2)),
+    Put(" "),
+    Token(Here),
+    Put(" "),
+    Token(Ahead(4)),
+
+    // `abs n`
+    Rule,
+    Is(Here, &[Kind::Name, Kind::Number, Kind::Text]),
+    Spelled(Back(1), FUNCTIONS),
+    IsNot(Back(2), &[Kind::Dot]),
+    Holds(Fact::Statements),
+    Holds(Fact::OneLine),
+    Why("a parameter stands between `(` and `)`"),
+    Exchange(To(Back(1), Here), ""),
+    Token(Back(1)),
+    Put("("),
+    Token(Here),
+    Put(")"),
+
+    // `'hello';`
+    Rule,
+    Is(Here, &[Kind::Text]),
+    Holds(Fact::Statements),
+    Same(Start, Here),
+    No(NextAssign),
+    Why("a value is no statement"),
+    Help("`writeln` writes it"),
+    Exchange(UpTo(Here, StatementEnd), "writeln("),
+    Tokens(UpTo(Here, StatementEnd)),
+    Put(")"),
+
+    // `5;`
+    Rule,
+    Is(Here, &[Kind::Number]),
+    Holds(Fact::Statements),
+    Same(Start, Here),
+    No(NextAssign),
+    Is(Ahead(1), &[Kind::Semicolon]),
+    Why("a value is no statement"),
+    TakeAway(0, To(Here, Ahead(1))),
+
+    // `n + 1;`
+    Rule,
+    Is(Here, ADDS_OR_MULTIPLIES),
+    Holds(Fact::Statements),
+    Same(Start, Back(1)),
+    SeemsDeclared(Back(1)),
+    No(NextAssign),
+    Is(ExpressionEnd, ENDS_STATEMENT),
+    Why("what is computed is assigned by `:=`"),
+    Also,
+    IsShown(UpTo(Start, StatementEnd)),
+    Exchange(UpTo(Start, StatementEnd), ""),
+    Token(Start),
+    Put(" := "),
+    Tokens(UpTo(Start, StatementEnd)),
+
+    // `n > 5;`
+    Rule,
+    Is(Here, COMPARES),
+    IsNot(Here, &[Kind::Equal]),
+    Holds(Fact::Statements),
+    Holds(Fact::BehindVariable),
+    No(NextAssign),
+    Is(ExpressionEnd, ENDS_STATEMENT),
+    Why("a condition is no statement"),
+    Help("it stands in an `if`, a `while` or an `until`"),
 
     // `a = > b`
     Rule,
@@ -497,7 +732,12 @@ const BEFORE_OPERAND: &[Kind] = &[
     Kind::If,
     Kind::While,
     Kind::Until,
+    Kind::To,
+    Kind::Downto,
 ];
+
+// Required functions with a parameter.
+const FUNCTIONS: &str = "abs sqr odd chr ord succ pred";
 
 // The operators before which a second one stands.
 const ADDS_OR_MULTIPLIES: &[Kind] = &[

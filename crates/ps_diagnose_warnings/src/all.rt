@@ -7,11 +7,12 @@ use crate::finding::{Finding, Warning};
 use crate::hidden::told_of;
 use crate::indented::{indented, misplaced};
 use crate::lost::lost;
+use crate::outside::outside;
 use crate::reading::{body_of, uses_of};
 use crate::tell::Teller;
 use crate::text::Text;
 use crate::unchanged::unchanged;
-use crate::unreached::unreached;
+use crate::unreached::{undone, unreached};
 use crate::uses::{Body, Uses};
 use ps_diagnose_outline::{Construction, Outline, count_of};
 use ps_scan::Token;
@@ -92,6 +93,14 @@ impl Findings {
         self.add(empty(text, uses, part));
         self.add(unchanged(&*text, &*uses, body, part));
         self.add(unreached(text, part));
+        self.add(undone(text, part));
+    }
+
+    // Constants of a block's statements that lie outside of what their places take.
+    fn find_outside(&mut self, text: &Text<'_>, body: Body) {
+        for at in body.first..body.end {
+            self.add(outside(text, at));
+        }
     }
 
     // What is told of the constructions, and of the parameters of the blocks.
@@ -105,6 +114,7 @@ impl Findings {
             if let Some(next) = body_of(text, part) {
                 body = next;
                 self.add(lost(text, uses, body));
+                self.find_outside(text, body);
             } else {
                 self.find_of(text, uses, body, part);
             }

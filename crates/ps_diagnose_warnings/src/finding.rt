@@ -39,6 +39,8 @@ pub(crate) struct Finding {
     pub(crate) names: Names,
     /// The variable of which the first value is told.
     pub(crate) point: u32,
+    /// The least and the greatest value of what is told.
+    pub(crate) range: (i64, i64),
 }
 
 impl Names {
@@ -76,6 +78,7 @@ impl Finding {
             at: place.from,
             names: Names::none(),
             point: 0,
+            range: (0, 0),
         }
     }
 }

@@ -1,7 +1,7 @@
 //! What is told, in words.
 //!
 //! A text has its parts between bars: `@` stands for the word that is told, `%` for names or a value, `#` for a line
-//! and a column.
+//! and a column, `&` for the least and the greatest value of a range.
 
 /// A kind of warnings, and what is told in one case of it; a part that is empty isn't told.
 pub(crate) struct Row {
@@ -57,7 +57,19 @@ pub(crate) const OPERANDS: usize = 18;
 
 pub(crate) const ELSE_INDENTED: usize = 19;
 
-const COUNT: usize = 20;
+pub(crate) const NEVER_UP: usize = 20;
+
+pub(crate) const NEVER_DOWN: usize = 21;
+
+pub(crate) const NO_INDEX: usize = 22;
+
+pub(crate) const NO_VALUE: usize = 23;
+
+pub(crate) const NO_WIDTH: usize = 24;
+
+pub(crate) const BY_ZERO: usize = 25;
+
+const COUNT: usize = 26;
 
 const TAKE_AWAY: &str = "take away `;` at |#";
 
@@ -73,6 +85,9 @@ const BY_VAR: &str = "a parameter that is declared by `var` stands for the varia
 
 const NOT_USED: &str =
     "nothing uses what is assigned to it; without its declaration it is the one of the block around";
+
+const WIDTHS: &str =
+    "`:1` writes a number without spaces before it; a string without a width takes as much room as it is long";
 
 /// All of them.
 pub(crate) static ROWS: [Row; COUNT] = [
@@ -234,6 +249,54 @@ pub(crate) static ROWS: [Row; COUNT] = [
         sentence: "this `|@|` stands as if it were that of another `if`, and belongs to the nearest",
         label: "its `if`",
         help: "it is that of the `if` at |#| where the nearer one stands between `begin` and `end`",
+        trial: "",
+    },
+    Row {
+        number: 87,
+        name: "Unreached",
+        sentence: "the statement of this `|@|` is never done: its first value is above its last one",
+        label: "a `for` that goes down has `downto`",
+        help: "",
+        trial: "",
+    },
+    Row {
+        number: 87,
+        name: "Unreached",
+        sentence: "the statement of this `|@|` is never done: its first value is below its last one",
+        label: "a `for` that goes up has `to`",
+        help: "",
+        trial: "",
+    },
+    Row {
+        number: 89,
+        name: "OutOfRange",
+        sentence: "`|@|` has nothing at this index: its indices are |&",
+        label: "`|@|` is declared here",
+        help: "",
+        trial: "",
+    },
+    Row {
+        number: 89,
+        name: "OutOfRange",
+        sentence: "`|@|` cannot have this value: its values are |&",
+        label: "`|@|` is declared here",
+        help: "",
+        trial: "",
+    },
+    Row {
+        number: 89,
+        name: "OutOfRange",
+        sentence: "a field width is at least 1",
+        label: "",
+        help: WIDTHS,
+        trial: "",
+    },
+    Row {
+        number: 89,
+        name: "OutOfRange",
+        sentence: "the divisor of this `|@|` is 0",
+        label: "",
+        help: "",
         trial: "",
     },
 ];

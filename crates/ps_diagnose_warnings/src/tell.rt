@@ -120,6 +120,14 @@ impl<'a> Teller<'a> {
         self.push_number(out, i64::from(column.saturating_add(1)));
     }
 
+    // Puts the least and the greatest value of a range.
+    fn push_range(&mut self, out: &mut String, range: (i64, i64)) {
+        let (low, high) = range;
+        self.push_number(out, low);
+        self.push(out, " to ");
+        self.push_number(out, high);
+    }
+
     // Puts names as a list in words.
     fn push_names(&mut self, out: &mut String, names: &Names) {
         for (at, token) in names.tokens().iter().enumerate() {
@@ -164,6 +172,7 @@ impl<'a> Teller<'a> {
             "@" => self.push_span(out, "", found.word, ""),
             "%" => self.push_more(out, found),
             "#" => self.push_place(out, found.at),
+            "&" => self.push_range(out, found.range),
             _ => self.push(out, part),
         }
     }

@@ -1,7 +1,7 @@
-//! Statements behind a loop that has no end.
+//! Statements behind a loop that has no end, and loops that are never done.
 
 use crate::finding::Finding;
-use crate::rows::{BEHIND_FALSE, BEHIND_TRUE};
+use crate::rows::{BEHIND_FALSE, BEHIND_TRUE, NEVER_DOWN, NEVER_UP};
 use crate::text::Text;
 use crate::unchanged::condition_of;
 use ps_diagnose_outline::{Construct, Construction};
@@ -49,5 +49,36 @@ pub(crate) fn unreached(text: &Text<'_>, part: &Construction) -> Option<Finding>
     let word = text.span(part.first);
     let mut found = Finding::new(row, word, word);
     found.label = text.span(part.end.saturating_add(1));
+    Some(found)
+}
+
+// The number that a token is.
+fn number_at(text: &Text<'_>, at: usize) -> Option<u32> {
+    if text.is(at, Kind::Number) {
+        text.written(text.span(at)).parse::<u32>().ok()
+    } else {
+        None
+    }
+}
+
+/// A `for` between two numbers of which the first lies behind the last.
+pub(crate) fn undone(text: &Text<'_>, part: &Construction) -> Option<Finding> {
+    let at = part.first;
+    if !matches!(part.construct, Construct::For) || !text.is(at.saturating_add(6), Kind::Do) {
+        return None;
+    }
+    let from = number_at(text, at.saturating_add(3))?;
+    let to = number_at(text, at.saturating_add(5))?;
+    let goes_up = text.is(at.saturating_add(4), Kind::To);
+    let row = if goes_up && from > to {
+        NEVER_UP
+    } else if !goes_up && from < to {
+        NEVER_DOWN
+    } else {
+        return None;
+    };
+    let word = text.span(at);
+    let mut found = Finding::new(row, word, word);
+    found.label = text.span(at.saturating_add(4));
     Some(found)
 }
