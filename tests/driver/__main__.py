@@ -52,7 +52,8 @@ FOLDERS = {
     "others": ("pascal",),
     "scripts": ("pascal",),
 }
-# what is tried of pages of docs/ that are data or show sessions, of messages for editors, of damaged images, and of homes of temporaries
+# what is tried of pages of docs/ that are data or show sessions, of messages for editors, of damaged images, and of
+# homes of temporaries
 TRIALS = {
     "explain": explained.trials, "others": others.trials, "sessions": sessions.trials, "editors": editors.trials, "damaged": damaged.trials,
     "places": placed.trials,

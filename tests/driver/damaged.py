@@ -1,4 +1,5 @@
-"""Images that are damaged: one that is cut is refused, and of one in whose code a bit is turned the run is what the processor of docs/MACHINE.md does.
+"""Images that are damaged: one that is cut is refused, and of one in whose code a bit is turned the run is what the
+processor of docs/MACHINE.md does.
 
 Some hundreds of each; `bench/damaged` tries all.
 """

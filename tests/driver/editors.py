@@ -1,4 +1,5 @@
-"""What editors take of `pascal check`: the places that vim and emacs find in what is shown, and the objects of `--json`; tests/README.md tells of them."""
+"""What editors take of `pascal check`: the places that vim and emacs find in what is shown, and the objects of
+`--json`; tests/README.md tells of them."""
 
 from __future__ import annotations
 
@@ -133,7 +134,8 @@ def faults_of_object(told: Dict, text: bytes, program: str) -> List[str]:
 
 
 def objects_hold(text: bytes, program: str) -> List[str]:
-    """Each line that `check --json` writes of a text is an object whose places and changes hold, and the status tells whether the text is accepted."""
+    """Each line that `check --json` writes of a text is an object whose places and changes hold, and the status tells
+    whether the text is accepted."""
     run = ran(program, ["--json", "-"], text)
     told = [json.loads(line) for line in run.stdout.decode().splitlines()]
     errors = [each for each in told if each["severity"] == "error"]

@@ -194,7 +194,7 @@ def wanted_titles() -> Set[str]:
     (first, names), = re.findall(r"(?m)^\| (\d+) to \d+ \| ([\w, ]+) \|", refusals)
     titles |= {f"{number} {name}" for number, name in enumerate(names.split(", "), int(first))}
     warnings = re.findall(r"(?m)^### (\d+) (\w+)$", messages[messages.index("## Warnings") :])
-    titles |= {f"Warning {number}: {name}" for number, name in warnings}
+    titles |= {f"{number} {name}" for number, name in warnings}
     errors = re.findall(r"(?m)^\| (\d+) \| ([a-z ]+) \|", language[language.index("## Errors") :])
     titles |= {f"{'Stop' if int(number) > 11 else 'Error'} {number}: {words}" for number, words in errors}
     return titles | {f"Machine fault: {fault}" for fault in ("BadWord", "BadAddress", "BadDivisor", "BadJump", "UnknownTrap")}

@@ -1,4 +1,5 @@
-"""Cases made from the sessions that docs/WHY.md, RUNS.md, PLACES.md and NEEDS.md show, of what is told of a run or of an image; tests/README.md tells of them."""
+"""Cases made from the sessions that docs/WHY.md, RUNS.md, PLACES.md and NEEDS.md show, of what is told of a run or of
+an image; tests/README.md tells of them."""
 
 from __future__ import annotations
 
@@ -46,7 +47,8 @@ def file_of(words: str) -> str:
 
 
 def sessions_of(page: str) -> Iterator[Tuple[int, str, str, str]]:
-    """The sessions of a page: the line, the words behind `pascal`, what is shown, and the program: the one of the page whose name begins like the file's."""
+    """The sessions of a page: the line, the words behind `pascal`, what is shown, and the program: the one of the page
+    whose name begins like the file's."""
     content = text_of(page)
     programs = programs_of(content)
     for line, text in blocks_of(content):

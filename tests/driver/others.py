@@ -1,4 +1,5 @@
-"""Cases made from docs/OTHER_PASCALS.md: each row's text is refused at its word, and what stands there for it is accepted."""
+"""Cases made from docs/OTHER_PASCALS.md: each row's text is refused at its word, and what stands there for it is
+accepted."""
 
 from __future__ import annotations
 
@@ -92,7 +93,8 @@ def found_in(row: Row) -> Optional[Match[str]]:
 
 
 def apart(row: Row, found: Match[str]) -> Tuple[str, int, int]:
-    """The program with what is there, its word in a line of its own, and the token behind it too; and these two lines."""
+    """The program with what is there, its word in a line of its own, and the token behind it too; and these two
+    lines."""
     before, behind = row.there[: found.start()], row.there[found.end() :]
     text = row.program(f"{before}\n{found[1]}\n{found[2] or ''}\n{behind}")
     line = row.program(f"{before}\n\0").split("\0")[0].count("\n") + 1

@@ -31,7 +31,8 @@ def examples() -> Iterator[Tuple[str, bytes]]:
 
 
 def programs() -> Iterator[Tuple[str, str, bytes]]:
-    """The name and the place of each example and of each case whose program is accepted, and its text, each text once."""
+    """The name and the place of each example and of each case whose program is accepted, and its text, each text
+    once."""
     seen = set()
     for path, text in examples():
         seen.add(text)

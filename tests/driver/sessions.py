@@ -1,4 +1,5 @@
-"""Cases made from the sessions that README.md and docs/MESSAGES.md show: what `pascal check` shows of a text; and those of observed.py. tests/README.md tells of them."""
+"""Cases made from the sessions that README.md and docs/MESSAGES.md show: what `pascal check` shows of a text; and those
+of observed.py. tests/README.md tells of them."""
 
 from __future__ import annotations
 
@@ -29,7 +30,8 @@ def with_lines(text: str, shown: str) -> str:
 
 
 def sessions_of(page: str) -> Iterator[Tuple[int, str, str, str]]:
-    """The sessions of a page: the line, the words behind `check`, what is shown, and the program that stands last before it, with the lines that are shown."""
+    """The sessions of a page: the line, the words behind `check`, what is shown, and the program that stands last
+    before it, with the lines that are shown."""
     content = text_of(page)
     for session in SESSION.finditer(content):
         programs = PROGRAM.findall(content[: session.start()])

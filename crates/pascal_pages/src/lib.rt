@@ -23,6 +23,8 @@ pub struct Page {
     pub number: &'static str,
     /// The number with its kind, as `refusal 34`; its title, where there is no number.
     pub named: &'static str,
+    /// What messages of it begin with, as `error 34 WrongType`; its title, where none begins so.
+    pub told: &'static str,
     /// What stands below its title.
     pub text: &'static str,
 }
@@ -34,8 +36,8 @@ fn is_spelled(a: &str, b: &str) -> bool
     a.eq_ignore_ascii_case(b)
 }
 
-/// Whether words ask for a page: its title, its words, its number, or that with its kind. Small and capital letters count
-/// alike.
+/// Whether words ask for a page: its title, its words, its number, that with its kind, or what messages of it begin
+/// with. Small and capital letters count alike.
 pub fn asks_for(page: &Page, words: &str) -> bool
     ensures { result ≡ asks (names_of page.now) words.now }
 {
@@ -43,6 +45,7 @@ pub fn asks_for(page: &Page, words: &str) -> bool
         || is_spelled(words, page.words)
         || is_spelled(words, page.number)
         || is_spelled(words, page.named)
+        || is_spelled(words, page.told)
 }
 
 /// The page with a number, counted from 0 in their order; none behind the last.
