@@ -19,7 +19,7 @@ use Rattle.pascal_cli.specs.Certificates.{HasCertificate, KnowsStack, TellsOfSta
 use Rattle.pascal_cli.specs.Certificates.{stack_told}
 use Rattle.pascal_cli.specs.declared.certificates.Beside.{Beside}
 use Rattle.pascal_cli.specs.declared.certificates.Beside.TheVariants.{Other, Refused, Same}
-use Rattle.pascal_cli.proofs.GivenRows.{itself, same_text}
+use Rattle.pascal_command.proofs.GivenRows.{itself, same_text}
 
 -- what was built is the image, or another
 pub is_image : (source built image : List ℕ) → Compiles source built → bytes_eq built image ≡ true

@@ -6,12 +6,12 @@ use Rattle.std.specs.List.{list_any}
 use Rattle.std.specs.Str.{bytes_eq}
 use Rattle.pascal_pages.specs.Asked.{asks, names_of}
 use Rattle.pascal_pages.specs.declared.Page.{Page}
-use Rattle.pascal_cli.specs.Command.{Request, Text, Work, request_of}
+use Rattle.pascal_command.specs.Command.{Request, Text, Work, request_of}
 use Rattle.pascal_cli.specs.Explain.{AreThePages, asked_pages, has_page, shown}
 use Rattle.pascal_cli.specs.Jobs.{AreAccepted, IsAccepted, IsDone, IsStatus}
-use Rattle.pascal_cli.specs.Options.{plain_words}
+use Rattle.pascal_command.specs.Options.{plain_words}
 use Rattle.pascal_cli.specs.Session.{asks_version}
-use Rattle.pascal_cli.proofs.GivenRows.{same_text}
+use Rattle.pascal_command.proofs.GivenRows.{same_text}
 
 -- a job that failed, or did its work
 pub did : (request : Request) (work : Work) (status : ℕ) → request.work ≡ work → (status ≡ 1)

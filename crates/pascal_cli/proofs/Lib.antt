@@ -1,26 +1,12 @@
-pub mod LimitsAgree
-pub mod CommandsAgree
-pub mod Agreement
 pub mod Answered
 pub mod Called
 pub mod Certified
-pub mod Commands
 pub mod Done
-pub mod Entered
 pub mod Failed
-pub mod FileWalk
-pub mod Flags
 pub mod Fronts
-pub mod GivenRows
-pub mod Leaves
-pub mod LineWalk
 pub mod Made
 pub mod NeededLines
-pub mod Numbers
-pub mod OptionWords
 pub mod Ran
-pub mod RowReads
 mod Settled
 pub mod Shown
-pub mod TopicWalk
 pub mod Watches

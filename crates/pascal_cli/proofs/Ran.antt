@@ -6,7 +6,7 @@ use Rattle.ps_build.specs.Headline.{Compiles}
 use Rattle.ps_build.specs.Runs.{IsRunRefused}
 use Rattle.ps_build.specs.declared.outcome.Outcome.{Outcome}
 use Rattle.ps_build.specs.declared.refusal.Refusal.{Refusal}
-use Rattle.pascal_cli.specs.Command.{Limits}
+use Rattle.pascal_command.specs.Command.{Limits}
 use Rattle.pascal_cli.specs.Jobs.{RanImage, RanOf, budget_of}
 use Rattle.pascal_cli.specs.Report.{status_of}
 use Rattle.pascal_cli.specs.Runs.{RunsThrough}

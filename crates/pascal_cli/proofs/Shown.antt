@@ -49,7 +49,7 @@ shown_more topic all page old new so_far added =
     (asked_pages topic all) (asked_pages topic (page ∷ []))))
 
 -- each place before the last has a page
-pub is_there : (k : ℕ) → None ≡ slice_get pages k → k < 74 → ⊥
+pub is_there : (k : ℕ) → None ≡ slice_get pages k → k < length pages → ⊥
 is_there k none within = past_all pages k none within
 
 abbrev title_line : Names → List ℕ
@@ -66,6 +66,6 @@ titles_more k page old new so_far here added =
     ∙ ap (λ rest. flat_map title_line (take k pages) ++ rest) (append-nil (title_line (names_of page))))))
 
 -- all titles are there behind the last
-pub titles_whole : (k : ℕ) (text : List ℕ) → text ≡ flat_map title_line (take k pages) → k ≡ 74 → text
+pub titles_whole : (k : ℕ) (text : List ℕ) → text ≡ flat_map title_line (take k pages) → k ≡ length pages → text
     ≡ flat_map title_line pages
 titles_whole k text so_far e = so_far ∙ ap (λ n. flat_map title_line (take n pages)) e

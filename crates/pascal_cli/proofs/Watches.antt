@@ -5,7 +5,7 @@ use Rattle.std.specs.Prelude.{is_some, nat_eq, if◌then◌else◌}
 use Rattle.risc_machine.specs.Console.{World}
 use Rattle.ps_build.specs.Headline.{Compiles}
 use Rattle.ps_map.specs.declared.map.Map.{Map}
-use Rattle.pascal_cli.specs.Command.{Limits, Text}
+use Rattle.pascal_command.specs.Command.{Limits, Text}
 use Rattle.pascal_cli.specs.Failures.{Keeps}
 use Rattle.pascal_cli.specs.Jobs.{RanBuilt, RanImage}
 use Rattle.pascal_cli.specs.Watched.{Covers, IsRun, IsTraced, IsWatched, IsWatchedFile, first, more}

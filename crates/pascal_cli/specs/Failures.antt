@@ -5,7 +5,7 @@ use Rattle.std.specs.Str.{bytes_eq}
 use Rattle.ps_build.specs.Accepts.{IsRefused}
 use Rattle.ps_build.specs.declared.refusal.Refusal.{Refusal}
 use Rattle.ps_build.specs.declared.refusal.Refusal.TheVariants.{OutOfMemory}
-use Rattle.pascal_cli.specs.Command.{Text}
+use Rattle.pascal_command.specs.Command.{Text}
 use Rattle.pascal_cli.specs.declared.failures.Failures.{Failures}
 
 abbrev pub has_failed : Failures → Bool

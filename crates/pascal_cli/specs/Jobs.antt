@@ -12,14 +12,14 @@ use Rattle.ps_build.specs.declared.refusal.Refusal.{Refusal}
 use Rattle.ps_needs_image.specs.Needed.{IsNeeded}
 use Rattle.ps_needs_image.specs.declared.needed.Needed.{Needed}
 use Rattle.pascal_cli.specs.Certificates.{SomeCertificate, SomeHolding}
-use Rattle.pascal_cli.specs.Command.{Limits, Request, Work, certify, check, compile, explain, go, go_standard_input}
-use Rattle.pascal_cli.specs.Command.{list, needs, request_in, run, verify, watch}
+use Rattle.pascal_command.specs.Command.{Limits, Request, Work, certify, check, compile, explain, go, go_standard_input}
+use Rattle.pascal_command.specs.Command.{list, needs, request_in, run, verify, watch}
 use Rattle.pascal_cli.specs.Explain.{has_page}
 use Rattle.pascal_cli.specs.Report.{status_of}
 use Rattle.pascal_cli.specs.Runs.{GoesThrough, RunsThrough}
 use Rattle.pascal_cli.specs.declared.image_file.Content.{Content}
 use Rattle.pascal_cli.specs.declared.image_file.Content.TheVariants.{Image, Map}
-use Rattle.pascal_cli.specs.declared.job.Job.{Job}
+use Rattle.pascal_command.specs.declared.job.Job.{Job}
 
 abbrev pub limits_in : Job → Limits
 limits_in job = (request_in job).limits

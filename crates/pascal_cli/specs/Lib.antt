@@ -1,6 +1,4 @@
 pub mod Ahead
-pub mod App
-pub mod Command
 pub mod Certificates
 pub mod Console
 pub mod Explain
@@ -8,10 +6,8 @@ pub mod Failures
 pub mod Files
 pub mod Jobs
 pub mod NeedLines
-pub mod Options
 pub mod Report
 pub mod Runs
 pub mod Session
 pub mod Transfers
-pub mod Wanted
 pub mod Watched

@@ -6,7 +6,7 @@ use Rattle.ps_text.specs.declared.Span.{Span}
 use Rattle.ps_needs_image.specs.declared.needed.Needed.{Needed}
 use Rattle.ps_needs_least.specs.declared.least.Need.{Need}
 use Rattle.ps_needs_least.specs.declared.least.Need.TheVariants.{Endless, Least}
-use Rattle.pascal_cli.specs.Command.{Text}
+use Rattle.pascal_command.specs.Command.{Text}
 
 -- ---- routines
 

@@ -5,12 +5,12 @@ use Rattle.std.specs.List.{list_any}
 use Rattle.std.specs.Str.{str_eq_ignore_ascii_case}
 use Rattle.risc_machine.specs.Console.{World}
 use Rattle.ps_map.specs.declared.map.Map.{Map}
-use Rattle.pascal_cli.specs.Command.{Limits, Text}
+use Rattle.pascal_command.specs.Command.{Limits, Text}
 use Rattle.pascal_cli.specs.Failures.{HasRefusal}
 use Rattle.pascal_cli.specs.Jobs.{RanOf}
-use Rattle.pascal_cli.specs.declared.options.Options.{Options}
-use Rattle.pascal_cli.specs.declared.job.Watch.{Watch}
-use Rattle.pascal_cli.specs.declared.job.Watch.TheVariants.{Why, Trace, Cover, Profile}
+use Rattle.pascal_command.specs.declared.options.Options.{Options}
+use Rattle.pascal_command.specs.declared.job.Watch.{Watch}
+use Rattle.pascal_command.specs.declared.job.Watch.TheVariants.{Why, Trace, Cover, Profile}
 
 -- ---- the routine whose statements are told
 

@@ -2,4 +2,4 @@
 
 /// The sum.
 pub(crate) const BELIEVED: &str =
-    "c0475bf99ac2e5284731d19afc3e597f9ad6c8c31badb941ce7b2d97e35e71f7";
+    "631e49a56ec38282bf8d133c2640691550481059162f6575efa6a5b635972b6e";

@@ -6,8 +6,8 @@ ghost use Rattle.std.specs.Prelude.{◌≡◌, ◌⊎◌, IfOk, IfSome, List, ma
 ghost use Rattle.pascal_certificate.specs.Form.{CertifiesWith};
 ghost use Rattle.ps_build.specs.Accepts.{IsRefused};
 ghost use Rattle.ps_build.specs.Headline.{Compiles};
-ghost use Rattle.pascal_cli.specs.Command as work;
-ghost use Rattle.pascal_cli.specs.Command.{request_in, work_of};
+ghost use Rattle.pascal_command.specs.Command as work;
+ghost use Rattle.pascal_command.specs.Command.{request_in, work_of};
 ghost use Rattle.pascal_cli.specs.Certificates.{HasCertificate};
 ghost use Rattle.pascal_cli.specs.Certificates.{IsBeside, IsNotBuilt, KnowsStack};
 ghost use Rattle.pascal_cli.specs.Certificates.{NoCertificate, SomeCertificate};
@@ -17,12 +17,12 @@ ghost use Rattle.pascal_cli.specs.Jobs.{IsStatus};
 
 use crate::believed::BELIEVED;
 use crate::failures::Failures;
-use crate::job::Job;
 use crate::jobs::IMAGE_LIMIT;
 use crate::session::TEXT_LIMIT;
 use crate::transfer::{Counted, read_up_to};
 use crate::version::{KIT, SOURCES, TARGET, VERSION};
 use pascal_certificate::{Fact, NOT_KNOWN, Seal, certificate_of, fits, seal_of};
+use pascal_command::Job;
 use ps_build::{Built, Refusal, build};
 use ps_needs_image::{Needed, needs_of};
 use ps_needs_least::Need;

@@ -1,15 +1,14 @@
 //! Checks of texts: what is told of each, and the status.
 
 ghost use Rattle.std.specs.Prelude.{◌≡◌, ◌&&◌, length, map};
-ghost use Rattle.pascal_cli.specs.Command as work;
-ghost use Rattle.pascal_cli.specs.Command.{request_in, work_of};
+ghost use Rattle.pascal_command.specs.Command as work;
+ghost use Rattle.pascal_command.specs.Command.{request_in, work_of};
 ghost use Rattle.pascal_cli.specs.Failures.{Answers, HasRefusal, Keeps, Tells, has_failed};
 ghost use Rattle.pascal_cli.specs.Jobs.{AreAccepted, IsAccepted, IsStatus, SomeAccepted, SomeRefused};
 
 use crate::failures::Failures;
-use crate::job::Job;
-use crate::options::Telling;
 use crate::session::TEXT_LIMIT;
+use pascal_command::{Job, Telling};
 use ps_advise::{Advice, Wants, advised};
 use ps_diagnostic::{Diagnostic, View, object_of, told};
 use ps_text::Source;

@@ -6,8 +6,8 @@
 mod listing;
 
 ghost use Rattle.std.specs.Prelude.{◌≡◌, ◌≤◌, ◌<◌, ◌⊎◌, ℕ, IfErr, IfOk, List, length, true};
-ghost use Rattle.pascal_cli.specs.Command as work;
-ghost use Rattle.pascal_cli.specs.Command.{request_in, work_of};
+ghost use Rattle.pascal_command.specs.Command as work;
+ghost use Rattle.pascal_command.specs.Command.{request_in, work_of};
 ghost use Rattle.pascal_cli.specs.Console.{console_world, has_failed, held_of};
 ghost use Rattle.pascal_cli.specs.Explain.{has_page};
 ghost use Rattle.pascal_cli.specs.Jobs.{IsBuilt, IsRefusedText, IsStatus, RanImage, RanOf, RanText};
@@ -20,10 +20,8 @@ use crate::console::BlockConsole;
 use crate::explain::{pages_on, titles};
 use crate::failures::Failures;
 use crate::image_file::{WriteFault, write_image, write_map};
-use crate::job::{Job, Task};
 use crate::jobs::listing::list_text;
 use crate::needs::needs;
-use crate::options::Options;
 use crate::runs::{go_through, run_through, usage_through};
 use crate::session::{
     FAILED, TEXT_LIMIT, cannot, is_standard, out_of_memory, read_file, read_standard_input,
@@ -31,8 +29,10 @@ use crate::session::{
 };
 use crate::watched::watch;
 pub(crate) use listing::print_all;
+use pascal_command::{Job, Options, Task};
 use ps_build::{Budget, Built, Mapped, Variables, build, build_and_leave, build_mapped};
-use ps_map::{map_of_text, written};
+use ps_map::written;
+use ps_map_maker::map_of_text;
 use ps_trace::{Usage, usage_told};
 use std::alloc::{AllocError, Global};
 use std::io::{self, BufRead, Write};

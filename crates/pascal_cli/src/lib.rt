@@ -1,4 +1,4 @@
-//! Code: the command `pascal`: its words, what it reads and writes, its statuses and its messages.
+//! Code: the command `pascal`: what it reads and writes for its words, its statuses and its messages.
 #![tactic(auto)]
 
 mod ahead;
@@ -10,11 +10,9 @@ mod counted;
 mod explain;
 mod failures;
 mod image_file;
-mod job;
 mod jobs;
 mod need_lines;
 mod needs;
-mod options;
 mod report;
 mod runs;
 mod session;
@@ -26,8 +24,6 @@ pub use ahead::Ahead;
 pub use console::BlockConsole;
 pub use explain::{pages_on, titles};
 pub use image_file::{FileNumber, Way, WriteFault, way_of, write_image};
-pub use job::{CommandFault, Job, MAX_BUDGET, MAX_STEPS, NumberFault, Task, Watch, command};
-pub use options::{OptionFault, Options, Part, Telling, Traces};
 pub use report::{Lines, OutOfMemory, lines_of, message, status};
 pub use runs::{
     Tracing, counts_through, end_through, go_through, run_through, trace_through, usage_through,

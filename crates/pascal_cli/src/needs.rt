@@ -1,16 +1,16 @@
 //! What stack and heap the image of a text needs, as `pascal needs` tells it.
 
 ghost use Rattle.std.specs.Prelude.{◌≡◌};
-ghost use Rattle.pascal_cli.specs.Command as work;
-ghost use Rattle.pascal_cli.specs.Command.{request_in, work_of};
+ghost use Rattle.pascal_command.specs.Command as work;
+ghost use Rattle.pascal_command.specs.Command.{request_in, work_of};
 ghost use Rattle.pascal_cli.specs.Failures.{Answers, HasRefusal, Keeps, Tells, has_failed};
 ghost use Rattle.pascal_cli.specs.Jobs.{HasNeeds, IsStatus, SomeNeeds, SomeRefused};
 ghost use Rattle.pascal_cli.specs.NeedLines.{needed_lines};
 
 use crate::failures::Failures;
-use crate::job::Job;
 use crate::need_lines::needed_lines;
 use crate::session::TEXT_LIMIT;
+use pascal_command::Job;
 use ps_needs_image::{Needed, needs_of};
 use std::rt::Files;
 

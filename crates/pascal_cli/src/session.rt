@@ -8,20 +8,22 @@ ghost use Rattle.std.specs.Prelude.{vec_len};
 ghost use Rattle.std.specs.Str.{bytes_eq};
 ghost use Rattle.clap.specs.Faults.{fault_of};
 ghost use Rattle.clap.specs.Values.{kind_of};
-ghost use Rattle.pascal_cli.specs.App.{pascal_app};
-ghost use Rattle.pascal_cli.specs.Command.{Request, request_in, request_of};
+ghost use Rattle.pascal_command.specs.App.{pascal_app};
+ghost use Rattle.pascal_command.specs.Command.{Request, request_in, request_of};
 ghost use Rattle.pascal_cli.specs.Jobs.{IsStatus};
-ghost use Rattle.pascal_cli.specs.Options.{plain_words};
+ghost use Rattle.pascal_command.specs.Options.{plain_words};
 ghost use Rattle.pascal_cli.specs.Report.{status_of};
 ghost use Rattle.pascal_cli.specs.Session.{IsFrontOf, IsHelp, asks_version, is_help};
-ghost use Rattle.pascal_cli.specs.Wanted.{wanted_in, wanted_of};
+ghost use Rattle.pascal_command.specs.Wanted.{wanted_in, wanted_of};
 
-use crate::job::{CommandFault, Job, MAX_BUDGET, MAX_STEPS, NumberFault, command};
 use crate::jobs::do_job;
-use crate::options::{OptionFault, Options, options_of, plain_words};
 use crate::report::{lines_of, status};
 use crate::transfer::{Counted, ReadFault, read_up_to};
 use crate::version::print_version;
+use pascal_command::{
+    CommandFault, Job, MAX_BUDGET, MAX_STEPS, NumberFault, OptionFault, Options, command,
+    options_of, plain_words,
+};
 use ps_build::{Outcome, Refusal};
 use std::alloc::{AllocError, Global};
 use std::io::{self, Read};

@@ -6,8 +6,8 @@ mod covered;
 
 ghost use Rattle.std.specs.Prelude.{◌≡◌, IfSome, false, is_some};
 ghost use Rattle.ps_build.specs.Headline.{Compiles};
-ghost use Rattle.pascal_cli.specs.Command as work;
-ghost use Rattle.pascal_cli.specs.Command.{request_in, work_of};
+ghost use Rattle.pascal_command.specs.Command as work;
+ghost use Rattle.pascal_command.specs.Command.{request_in, work_of};
 ghost use Rattle.pascal_cli.specs.Console as block;
 ghost use Rattle.pascal_cli.specs.Console.{console_world, held_of};
 ghost use Rattle.pascal_cli.specs.Failures.{Notes, has_failed};
@@ -17,18 +17,19 @@ ghost use Rattle.pascal_cli.specs.Watched.{has_routine, lacks_routine, names_rou
 
 use crate::console::BlockConsole;
 use crate::failures::Failures;
-use crate::job::{Job, Watch};
 use crate::jobs::{budget_of, console};
-use crate::options::Options;
 use crate::report::status;
 use crate::runs::{Left, Tracing, end_through, trace_through};
 use crate::session::{FAILED, TEXT_LIMIT, out_of_memory, read_file, tell};
 use crate::watched::covered::{count, cover, tell_counts};
+use pascal_command::{Job, Options, Watch};
 use ps_build::{Ended, Mapped, Outcome, Variables, build_mapped};
 use ps_diagnose::nearest;
-use ps_map::{Map, MappedText, map_of_text};
+use ps_map::Map;
+use ps_map_maker::{MappedText, map_of_text};
+use ps_scene::Length;
 use ps_trace::{Choice, Prepared, Teller, no_counts, profile_told};
-use ps_why::{Length, account_of, object_of, told};
+use ps_why::{account_of, object_of, told};
 use std::alloc::{AllocError, Global};
 use std::io::{BufRead, Write};
 use std::rt::Files;

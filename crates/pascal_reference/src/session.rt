@@ -5,8 +5,9 @@ use crate::places::tell_of_standard_input;
 use crate::rows::answer_all;
 use crate::runs::{Fault, Limits, Runner, Shown, run_text};
 use pascal_cli::{
-    Counted, TEXT_LIMIT, Task, asked, put_all, read_file, read_standard_input, tell, texts, words,
+    Counted, TEXT_LIMIT, asked, put_all, read_file, read_standard_input, tell, texts, words,
 };
+use pascal_command::Task;
 use ps_build::Outcome;
 use std::io;
 use std::rt::{Env, Files};

@@ -92,6 +92,19 @@ fn drafted_by_reason(
     Ok(Drafted { draft, mends })
 }
 
+// Tells which token is missing, where one is and no reason is known.
+fn tell_kind(
+    alloc: Global,
+    fault: &Fault<'_>,
+    missing: Option<Kind>,
+    draft: &mut Draft,
+) -> Result<(), AllocError> {
+    match missing {
+        Some(kind) if is_plain(draft) => tell_missing(alloc, fault, kind, draft),
+        _ => Ok(()),
+    }
+}
+
 // The draft of a fault of the grammar, and its mends.
 fn drafted_by_grammar(
     alloc: Global,
@@ -112,11 +125,7 @@ fn drafted_by_grammar(
     let found = nearest_mend(alloc, faulty, around, budget)?;
     let missing = missing_kind(&found, faulty.at);
     take_in(&mut drafted, found)?;
-    if let Some(kind) = missing
-        && is_plain(&drafted.draft)
-    {
-        tell_missing(alloc, fault, kind, &mut drafted.draft)?;
-    }
+    tell_kind(alloc, fault, missing, &mut drafted.draft)?;
     Ok(drafted)
 }
 

@@ -6,14 +6,14 @@ use std::alloc::{AllocError, Global};
 
 /// A block: that of the program or of a routine.
 #[derive(Drop)]
-pub(crate) struct Block {
+pub struct Block {
     /// The name of its program, procedure or function.
-    pub(crate) name: Span,
+    pub name: Span,
     /// Where its `begin` is.
-    pub(crate) begin: u32,
+    pub begin: u32,
     /// Where its statements begin, in the order of the text: those within one behind it, an empty one at the token
     /// behind it.
-    pub(crate) statements: Vec<u32>,
+    pub statements: Vec<u32>,
 }
 
 // What is open, up to its `end` or its `until`.
@@ -56,7 +56,7 @@ struct Pass {
 }
 
 /// The blocks of a text in the order of their `begin`, if its tokens are those of a program.
-pub(crate) fn blocks_of(alloc: Global, tokens: &[Token]) -> Result<Vec<Block>, AllocError> {
+pub fn blocks_of(alloc: Global, tokens: &[Token]) -> Result<Vec<Block>, AllocError> {
     let mut pass = Pass {
         alloc,
         blocks: Vec::new(alloc),

@@ -51,6 +51,6 @@ impl Lines {
 }
 
 /// A count as a number of 32 bits.
-pub(crate) fn small(count: usize) -> u32 {
+pub fn small(count: usize) -> u32 {
     u32::try_from(count).unwrap_or(u32::MAX)
 }

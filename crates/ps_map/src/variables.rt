@@ -124,7 +124,7 @@ fn points_of(
 }
 
 /// Where the denoters that were met stand, by where they begin. (Many variables may have one that is long.)
-pub(crate) type Denoters = IndexMap<u32, Span>;
+pub type Denoters = IndexMap<u32, Span>;
 
 // Where the denoter stands that begins at an offset.
 fn extent_of(
@@ -173,7 +173,7 @@ fn name_of(alloc: Global, outline: &Outline<'_>, point: Point) -> Result<String,
 }
 
 /// The variables of the routine whose block has its `begin` at an offset, if the outline tells as many as the tree.
-pub(crate) fn variables_of(
+pub fn variables_of(
     alloc: Global,
     outline: &Outline<'_>,
     denoters: &mut Denoters,

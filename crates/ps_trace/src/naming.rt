@@ -1,9 +1,9 @@
 //! What stands at addresses of memory, in the words of the text.
 
 use ps_map::{Role, Variable};
+use ps_scene::{Object, Surroundings, ordinal_told, word_at};
 use ps_tree::tree::{Formal, Routine};
 use ps_tree::types::{Fields, Ordinal, Ty};
-use ps_why::{Object, Surroundings, ordinal_told, word_at};
 use risc_machine::Machine;
 use std::alloc::{AllocError, Global};
 

@@ -1,7 +1,7 @@
 //! What is noted of a run while it is followed: the statements that are under way, and what they store, write and take.
 
 use crate::naming::Stretch;
-use ps_why::{Object, word_at};
+use ps_scene::{Object, word_at};
 use risc_machine::Machine;
 use std::alloc::{AllocError, Global};
 

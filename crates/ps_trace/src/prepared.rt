@@ -5,7 +5,7 @@ ghost use Rattle.ps_build.specs.Headline.{Compiles};
 ghost use Rattle.ps_build.specs.Accepts.{IsRefused};
 
 use ps_build::{Refusal, Variables};
-use ps_map::{MappedText, mapped_text};
+use ps_map_maker::{MappedText, mapped_text};
 use std::alloc::Global;
 
 /// A program that was built, with its map, for one or several runs.

@@ -15,8 +15,8 @@ use crate::tracer::{Choice, Teller, Tracer};
 use crate::watch::run_image_watched;
 use ps_build::{Budget, Outcome, Paced, Refusal};
 use ps_scan::{Token, scan};
+use ps_scene::Surroundings;
 use ps_text::Source;
-use ps_why::Surroundings;
 use risc_image::ImageView;
 use std::alloc::{AllocError, Global};
 

@@ -7,8 +7,8 @@ use crate::notes::{Act, Notes};
 use crate::sites::{Site, Sites, Statement};
 use crate::telling::{Change, Done, object_told, told};
 use crate::watch::Watch;
+use ps_scene::{Length, Object, Surroundings, value_at, word_at};
 use ps_tree::types::Ty;
-use ps_why::{Length, Object, Surroundings, value_at, word_at};
 use risc_machine::{Machine, Stop};
 use std::alloc::{AllocError, Global};
 

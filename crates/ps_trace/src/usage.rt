@@ -6,7 +6,7 @@ ghost use Rattle.ps_build.specs.Slices.{IsImageLeft};
 
 use crate::watch::{Watch, run_image_watched};
 use ps_build::{Budget, Ended, Paced, Refusal};
-use ps_why::word_at;
+use ps_scene::word_at;
 use risc_machine::{Machine, Stop};
 use std::alloc::{AllocError, Global};
 

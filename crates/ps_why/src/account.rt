@@ -1,19 +1,17 @@
 //! Accounts of runs.
 
-use crate::filling::{copy_of, put_number};
-use crate::found::{Found, found_at};
+use crate::filling::put_number;
 use crate::loops::{Loop, Loops};
-use crate::memory::word_at;
-use crate::scene::{Scene, Surroundings, scene_of};
 use crate::sentences::{CUT, Sizes, found_told, heap, step_told, words_of};
 use crate::targets::{host_indexed, host_ranged, step_at};
-use crate::values::Length;
 use ps_build::{Ended, Mapped, Outcome};
 use ps_diagnose_outline::Outline;
 use ps_diagnose_warnings::{Warning, warnings};
-use ps_map::{Lines, Map, Place, map_of};
+use ps_map::{Lines, Map, Place};
+use ps_map_maker::map_of;
 use ps_parse::{parse, release};
 use ps_scan::{Token, scan};
+use ps_scene::{Found, Length, Scene, Surroundings, copy_of, found_at, scene_of, word_at};
 use ps_syntax::Program;
 use ps_text::Source;
 use ps_tree::program::Checked;

@@ -2,13 +2,6 @@
 
 use std::alloc::{AllocError, Global};
 
-/// A copy of a text.
-pub(crate) fn copy_of(alloc: Global, words: &str) -> Result<String, AllocError> {
-    let mut text = String::new(alloc);
-    text.push_str(words)?;
-    Ok(text)
-}
-
 /// Adds a number.
 pub(crate) fn put_number(alloc: Global, out: &mut String, number: i64) -> Result<(), AllocError> {
     let digits = format!(in alloc; "{number}")?;

@@ -1,10 +1,10 @@
 //! The loops in which a run stood.
 
 use crate::filling::put_number;
-use crate::scene::Scene;
 use ps_diagnose_outline::{Construct, Outline};
 use ps_diagnose_warnings::Warning;
 use ps_map::{Lines, Place};
+use ps_scene::Scene;
 use std::alloc::{AllocError, Global};
 
 /// A loop of the text.

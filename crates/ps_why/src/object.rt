@@ -1,8 +1,8 @@
 //! An account as an object of JSON for programs.
 
 use crate::account::{Account, Ending};
-use crate::scene::{Activation, Value};
 use ps_map::Place;
+use ps_scene::{Activation, Value};
 use serde::Serialize;
 use serde_json::Error;
 use std::alloc::{AllocError, Global};

@@ -2,9 +2,9 @@
 
 use crate::account::{Account, Ending};
 use crate::filling::{put_count, put_number, put_spaces};
-use crate::scene::{Activation, Scene, Value};
 use crate::shown::marked;
 use ps_map::Place;
+use ps_scene::{Activation, Scene, Value};
 use ps_text::{Source, Span};
 use std::alloc::{AllocError, Global};
 

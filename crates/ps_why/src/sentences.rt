@@ -1,12 +1,9 @@
 //! What is told of an ending in one sentence.
 
 use crate::filling::{put_count, put_number};
-use crate::found::Found;
-use crate::names::Text;
-use crate::scene::Scene;
-use crate::values::ordinal_in;
 use ps_map::Map;
 use ps_scan::Token;
+use ps_scene::{Found, Scene, Text, ordinal_in};
 use ps_text::Source;
 use ps_tree::types::Host;
 use risc_image::ImageView;

@@ -1,7 +1,7 @@
 //! Lines of a text with a mark below a token.
 
-use crate::filling::copy_of;
 use ps_diagnostic::{Diagnostic, Severity, View, told};
+use ps_scene::copy_of;
 use ps_text::{Source, Span};
 use std::alloc::{AllocError, Global};
 

@@ -1,8 +1,8 @@
 //! Whether a certificate says what this program makes of the text again.
 
 ghost use Rattle.std.specs.Prelude.{◌≡◌, IfOk, IfSome, List, map, ℕ};
-ghost use Rattle.pascal_cli.specs.Command as work;
-ghost use Rattle.pascal_cli.specs.Command.{request_in, work_of};
+ghost use Rattle.pascal_command.specs.Command as work;
+ghost use Rattle.pascal_command.specs.Command.{request_in, work_of};
 ghost use Rattle.pascal_cli.specs.Certificates.{AreCertified, AreOthers, CertifiesSome, HoldsNot};
 ghost use Rattle.pascal_cli.specs.Certificates.{IsBuiltOf, IsComparison, IsFound};
 ghost use Rattle.pascal_cli.specs.Certificates.{NoneHolding, SomeCertified, SomeHolding, SomeOthers};
@@ -14,8 +14,8 @@ use crate::certificates::{
     Beside, CERTIFICATE_LIMIT, Pair, built_beside, certificate, known_of, maker, read_pair,
 };
 use crate::failures::Failures;
-use crate::job::Job;
 use pascal_certificate::{Comparison, Damage, Found, Names, compared, damage_of, parse, seal_of};
+use pascal_command::Job;
 use std::alloc::{AllocError, Global};
 use std::rt::{Env, Files};
 use std::str;

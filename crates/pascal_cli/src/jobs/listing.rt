@@ -5,17 +5,18 @@ ghost use Rattle.std.specs.Io.KnownBytes.{Appends};
 ghost use Rattle.std.specs.String.{string_bytes};
 ghost use Rattle.ps_build.specs.Listed.{IsListed};
 ghost use Rattle.ps_map.specs.Shown.{Shows};
-ghost use Rattle.pascal_cli.specs.Command as work;
-ghost use Rattle.pascal_cli.specs.Command.{request_in, work_of};
+ghost use Rattle.pascal_command.specs.Command as work;
+ghost use Rattle.pascal_command.specs.Command.{request_in, work_of};
 ghost use Rattle.pascal_cli.specs.Jobs.{IsBuilt, IsStatus, IsWritten};
 ghost use Rattle.pascal_cli.specs.Transfers.{device_of, faults_of};
 
-use crate::job::Job;
 use crate::jobs::build_text;
 use crate::session::{FAILED, STANDARD_OUTPUT, cannot, out_of_memory, read_text, tell};
 use crate::transfer::{Counted, put_all};
+use pascal_command::Job;
 use ps_build::{Built, Mapped, Variables, build_mapped, list};
-use ps_map::{listing_with_source, map_of_text};
+use ps_map::listing_with_source;
+use ps_map_maker::map_of_text;
 use risc_image::ImageView;
 use std::alloc::{AllocError, Global};
 use std::io::{self, Write};
@@ -112,7 +113,9 @@ fn with_source(
 
 // Writes the listing of an image to standard output.
 fn put_listing<R: Print + Eprint + AllocGlobal>(rt: &R, built: &Built) -> u8
-    ensures { (result ≡ FAILED) ⊎ ((result ≡ 0) × ((text : List ℕ) × IsListed built.now text)) }
+    requires { IsBuilt built.now }
+    ensures { (result ≡ FAILED)
+        ⊎ ((result ≡ 0) × ((bytes : List ℕ) × (text : List ℕ) × IsBuilt bytes × IsListed bytes text)) }
 {
     match list(rt.alloc(), built) {
         Ok(listing) => print_listing(rt, built, listing.as_str()),
@@ -122,8 +125,10 @@ fn put_listing<R: Print + Eprint + AllocGlobal>(rt: &R, built: &Built) -> u8
 
 // Writes the listing of an image, which is made, to standard output.
 fn print_listing<R: Print + Eprint>(rt: &R, built: &Built, listing: &str) -> u8
-    requires { IsListed built.now listing.now }
-    ensures { (result ≡ FAILED) ⊎ ((result ≡ 0) × ((text : List ℕ) × IsListed built.now text)) }
+    requires built { IsBuilt built.now }
+    requires listed { IsListed built.now listing.now }
+    ensures { (result ≡ FAILED)
+        ⊎ ((result ≡ 0) × ((bytes : List ℕ) × (text : List ℕ) × IsBuilt bytes × IsListed bytes text)) }
 {
     let _ = built;
     print_all(rt, listing.as_bytes())

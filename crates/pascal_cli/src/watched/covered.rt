@@ -12,14 +12,13 @@ ghost use Rattle.pascal_cli.specs.Watched.{first_failed};
 
 use crate::console::BlockConsole;
 use crate::failures::Failures;
-use crate::job::Job;
 use crate::jobs::{budget_of, console};
-use crate::options::Options;
 use crate::report::{message, status};
 use crate::runs::counts_through;
 use crate::session::{FAILED, out_of_memory, tell};
 use crate::transfer::{Counted, ReadFault, read_up_to};
 use crate::watched::{COMMENT, INPUT_LIMIT, InputFile, Program, Voice};
+use pascal_command::{Job, Options};
 use ps_build::{Outcome, Refusal};
 use ps_trace::{Counts, coverage_told, lcov_told, no_counts};
 use ps_why::told;

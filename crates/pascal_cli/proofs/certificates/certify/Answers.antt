@@ -1,6 +1,6 @@
 use Rattle.pascal_cli.specs.Certificates.{NoCertificate, SomeCertificate}
-use Rattle.pascal_cli.specs.Command as work
-use Rattle.pascal_cli.specs.Command.{request_in}
+use Rattle.pascal_command.specs.Command as work
+use Rattle.pascal_command.specs.Command.{request_in}
 use Rattle.pascal_cli.proofs.Done.{did}
 use Rattle.pascal_cli.proofs.Failed.{answered_by, done_by}
 use Rattle.pascal_cli.proofs.certificates.certify.Goals as goal

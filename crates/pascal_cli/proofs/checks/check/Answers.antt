@@ -1,7 +1,7 @@
 use Rattle.std.proofs.Common.{sym, subst, map, length}
 use Rattle.std.proofs.lemmas.List.{length-map}
-use Rattle.pascal_cli.specs.Command as work
-use Rattle.pascal_cli.specs.Command.{request_in}
+use Rattle.pascal_command.specs.Command as work
+use Rattle.pascal_command.specs.Command.{request_in}
 use Rattle.pascal_cli.specs.Failures.{Tells, has_failed}
 use Rattle.pascal_cli.specs.Jobs.{AreAccepted, SomeRefused}
 use Rattle.pascal_cli.proofs.Done.{did}

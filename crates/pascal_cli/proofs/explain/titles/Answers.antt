@@ -1,4 +1,5 @@
-use Rattle.std.proofs.Common.{◌≡◌, ◌∙◌, ap, arith, string_bytes}
+use Rattle.std.proofs.Common.{◌≡◌, ◌∙◌, ap, arith, length, string_bytes}
+use Rattle.pascal_pages.specs.Pages.{pages}
 use Rattle.pascal_cli.proofs.Shown.{is_there, titles_more, titles_whole}
 use Rattle.pascal_cli.proofs.explain.titles.Goals.{in-Some+in_ok-add_title, in_default}
 use Rattle.pascal_cli.proofs.explain.titles.Goals as goal
@@ -13,5 +14,5 @@ loop-k-preserved c = elim c.match-page_at.branch [
 
 pub returns : goal.returns
 returns c =
-    let all : c.loop-k.k ≡ 74 = omega (arith, c.loop-k.auto.k-end, c.loop-k-test.false) in
+    let all : c.loop-k.k ≡ length pages = omega (arith, c.loop-k.auto.k-end, c.loop-k-test.false) in
     titles_whole c.loop-k.k (string_bytes c.loop-k.text) c.loop-k.invariant all

@@ -1,6 +1,6 @@
 use Rattle.std.proofs.Common.{◌≡◌, ◌⊎◌, [], true, inr}
-use Rattle.pascal_cli.specs.Command as work
-use Rattle.pascal_cli.specs.Command.{request_in}
+use Rattle.pascal_command.specs.Command as work
+use Rattle.pascal_command.specs.Command.{request_in}
 use Rattle.pascal_cli.specs.Explain.{has_page}
 use Rattle.pascal_cli.proofs.Done.{did, one_of_two}
 use Rattle.pascal_cli.proofs.jobs.explain.Goals as goal

@@ -1,6 +1,6 @@
 use Rattle.std.proofs.Common.{inl}
-use Rattle.pascal_cli.specs.Command as work
-use Rattle.pascal_cli.specs.Command.{request_in}
+use Rattle.pascal_command.specs.Command as work
+use Rattle.pascal_command.specs.Command.{request_in}
 use Rattle.pascal_cli.specs.Failures.{has_failed}
 use Rattle.pascal_cli.specs.Jobs.{limits_in}
 use Rattle.pascal_cli.specs.Watched.{names_routine}

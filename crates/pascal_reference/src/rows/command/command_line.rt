@@ -1,6 +1,6 @@
 //! The words of the command line.
 
-use pascal_cli::{CommandFault, Job, Task, Watch, command};
+use pascal_command::{CommandFault, Job, Task, Watch, command};
 use std::alloc::{AllocError, Global};
 use test_tables::Line;
 

@@ -1,4 +1,0 @@
-use Rattle.pascal_cli.proofs.job.grammar.needs_command.Goals as goal
-
-pub returns : goal.returns
-returns c = c.command_with.ensures _ (c.path-source.ensures.rule, c.path-source.ensures.local)

@@ -1,5 +1,0 @@
-use Rattle.pascal_cli.proofs.job.grammar.run_command.Goals as goal
-
-pub returns : goal.returns
-returns c = c.with_limits.ensures _ (c.command_with-run.ensures _
-    (c.path-image.ensures.rule, c.path-image.ensures.local))

@@ -1,5 +1,0 @@
-use Rattle.pascal_cli.proofs.Commands.{taken}
-use Rattle.pascal_cli.proofs.job.grammar.with_subcommand.Goals as goal
-
-pub returns-in-Ok : goal.returns-in-Ok
-returns-in-Ok c = λ app below made sub. c.add_subcommand.ensures app below (taken app _ _ c.in-Ok.is made) sub

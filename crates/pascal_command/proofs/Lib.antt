@@ -1,0 +1,14 @@
+pub mod LimitsAgree
+pub mod CommandsAgree
+pub mod Agreement
+pub mod Commands
+pub mod Entered
+pub mod FileWalk
+pub mod Flags
+pub mod GivenRows
+pub mod Leaves
+pub mod LineWalk
+pub mod Numbers
+pub mod OptionWords
+pub mod RowReads
+pub mod TopicWalk

@@ -1,0 +1,4 @@
+pub mod App
+pub mod Command
+pub mod Options
+pub mod Wanted

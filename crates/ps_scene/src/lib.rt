@@ -1,0 +1,24 @@
+//! Code: what a machine that stopped shows of its program: the calls that were open, with the values of their variables
+//! in the words of the text, and the value that an error found.
+//!
+//! It is advice: it reads any machine and any map without harm, and no contract depends on it.
+#![tactic(auto)]
+
+mod filling;
+mod found;
+mod frames;
+mod memory;
+mod names;
+mod parts;
+mod scene;
+mod values;
+mod words;
+
+pub use filling::copy_of;
+pub use found::{Bounds, Found, found_at};
+pub use frames::Standing;
+pub use memory::word_at;
+pub use names::Text;
+pub use parts::{ordinal_told, value_at};
+pub use scene::{Activation, Scene, Surroundings, Value, scene_of};
+pub use values::{Length, Object, ordinal_in};

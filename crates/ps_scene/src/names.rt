@@ -1,0 +1,66 @@
+//! Names that the text gives to values and fields.
+
+use ps_scan::{Kind, Token};
+use ps_text::{Source, Span};
+
+/// A text with its tokens.
+#[derive(Clone, Copy)]
+pub struct Text<'a> {
+    pub source: &'a Source<'a>,
+    pub tokens: &'a [Token],
+}
+
+impl<'a> Text<'a> {
+    // The number of the token that begins at an offset or behind it.
+    fn token_at(&self, offset: u32) -> usize {
+        self.tokens
+            .partition_point(|token| token.span.from < offset)
+    }
+
+    fn written(&self, span: Span) -> &'a str {
+        if span.from <= span.to && span.to <= self.source.len() {
+            str::from_utf8(self.source.slice(span)).unwrap_or("?")
+        } else {
+            "?"
+        }
+    }
+
+    /// The constant with a number of the enumerated type whose denoter begins at an offset: each second token behind its
+    /// parenthesis is one.
+    pub(crate) fn constant(&self, denoter: u32, number: u32) -> &'a str {
+        let first = self.token_at(denoter).saturating_add(1);
+        let at = first.saturating_add((number as usize).saturating_mul(2));
+        match self.tokens.get(at) {
+            Some(token) => self.written(token.span),
+            None => "?",
+        }
+    }
+
+    /// The name of the field with a number of the record type whose denoter begins at an offset.
+    pub(crate) fn field(&self, denoter: u32, number: usize) -> &'a str {
+        let mut depth: u32 = 0;
+        let mut names = false;
+        let mut left = number;
+        for token in self.tokens.get(self.token_at(denoter)..).unwrap_or(&[]) {
+            match token.kind {
+                Kind::Record | Kind::LeftParen | Kind::LeftBracket => {
+                    depth = depth.saturating_add(1);
+                    names = depth == 1;
+                }
+                Kind::End | Kind::RightParen | Kind::RightBracket => depth = depth.saturating_sub(
+                    1,
+                ),
+                Kind::Semicolon => names = depth == 1,
+                Kind::Colon => names = false,
+                Kind::Name if names && depth == 1 => {
+                    if left == 0 {
+                        return self.written(token.span);
+                    }
+                    left = left.saturating_sub(1);
+                }
+                _ => {}
+            }
+        }
+        "?"
+    }
+}

@@ -1,0 +1,446 @@
+//! Values in the words of the text.
+
+use crate::filling::copy_of;
+use crate::memory::{byte_at, word_at};
+use crate::names::Text;
+use ps_tree::types::{Fields, Host, Ordinal, Ty};
+use risc_machine::Machine;
+use std::alloc::{AllocError, Global};
+
+/// How much of arrays and records is told.
+#[derive(Clone, Copy, PartialEq, Eq)]
+pub enum Length {
+    /// The first three components and the last one, and no more than three types deep.
+    Short,
+    All,
+}
+
+// How many types within one another are told.
+const DEEP_SHORT: u32 = 3;
+
+const DEEP: u32 = 100;
+
+// The numbers that may be in a set are below it.
+const MEMBERS: u32 = 256;
+
+// So many components are told first.
+const FIRST: u32 = 3;
+
+// So many characters of a long string are told.
+const MOST_CHARACTERS: u32 = 60;
+
+// So many fields of a record are told.
+const FEW_FIELDS: usize = 12;
+
+const MANY_FIELDS: usize = 1_000;
+
+// The contents of so many objects are told.
+const FEW_OBJECTS: usize = 6;
+
+const MANY_OBJECTS: usize = 1_000;
+
+// Objects that are told are numbered up to it.
+const MOST_NUMBERED: i64 = 1_000;
+
+// Behind so many bytes of values, parts of them are left out.
+const MOST_BYTES: usize = 4_000_000;
+
+/// An object that was told.
+#[derive(Clone, Copy)]
+pub struct Object {
+    pub address: u32,
+    /// The number of the pointer type that it is told of.
+    pub pointer: u32,
+}
+
+/// Text to which values are added.
+#[derive(Drop)]
+pub(crate) struct Printer<'a> {
+    pub(crate) alloc: Global,
+    pub(crate) machine: &'a Machine,
+    pub(crate) text: Text<'a>,
+    pub(crate) length: Length,
+    pub(crate) out: String,
+    /// The objects that were told, in the order of their numbers.
+    pub(crate) objects: Vec<Object>,
+    /// The bytes of the values that were told before.
+    pub(crate) told: usize,
+}
+
+// Whether all values of an ordinal type are bytes.
+fn is_byte(ordinal: Ordinal) -> bool {
+    0 <= ordinal.low && ordinal.high <= 255
+}
+
+// The bytes of a component of an array; 1 of one whose components are bytes.
+fn stride(packed: bool, component: &Ty) -> u32 {
+    match component {
+        Ty::Simple(ordinal) if packed && is_byte(*ordinal) => 1,
+        _ => component.bytes(),
+    }
+}
+
+// A character, or `chr` and its number where it isn't shown.
+fn char_told(alloc: Global, value: i64) -> Result<String, AllocError> {
+    match u8::try_from(value) {
+        Ok(b'\'') => copy_of(alloc, "''''"),
+        Ok(shown) if is_shown(shown) => {
+            let bytes = [shown];
+            let letter = str::from_utf8(&bytes).unwrap_or("?");
+            format!(in alloc; "'{letter}'")
+        }
+        _ => format!(in alloc; "chr({value})"),
+    }
+}
+
+/// A value of an ordinal type in the words of a text.
+pub fn ordinal_in(
+    alloc: Global,
+    text: Text<'_>,
+    host: Host,
+    value: i64,
+) -> Result<String, AllocError> {
+    match host {
+        Host::Integer => format!(in alloc; "{value}"),
+        Host::Boolean => copy_of(alloc, if value == 0 { "false" } else { "true" }),
+        Host::Char => char_told(alloc, value),
+        Host::Enumeration { at, .. } => {
+            copy_of(
+                alloc,
+                text.constant(at, u32::try_from(value).unwrap_or(u32::MAX)),
+            )
+        }
+    }
+}
+
+impl<'a> Printer<'a> {
+    fn put(&mut self, words: &str) -> Result<(), AllocError> {
+        self.out.push_str(words)
+    }
+
+    fn put_number(&mut self, number: i64) -> Result<(), AllocError> {
+        let told = format!(in self.alloc; "{number}")?;
+        self.put(told.as_str())
+    }
+
+    // A value that memory doesn't hold.
+    fn put_unknown(&mut self) -> Result<(), AllocError> {
+        self.put("?")
+    }
+
+    // Whether so much is told that parts of values are left out from here on.
+    fn is_full(&self) -> bool {
+        self.told.saturating_add(self.out.len()) >= MOST_BYTES
+    }
+
+    /// Whether so much was told that parts of values were left out.
+    pub(crate) fn was_full(&self) -> bool {
+        self.told >= MOST_BYTES
+    }
+
+    /// Adds the value of a variable of a type at an address.
+    pub(crate) fn put_variable(&mut self, ty: &Ty, at: u32) -> Result<(), AllocError> {
+        if self.is_full() {
+            return self.put_deepest(ty, at);
+        }
+        let left = match self.length {
+            Length::Short => DEEP_SHORT,
+            Length::All => DEEP,
+        };
+        self.put_value(ty, at, left)
+    }
+
+    // The same, of which at most `left` types within one another are told.
+    #[cycle(values)]
+    fn put_value(&mut self, ty: &Ty, at: u32, left: u32) -> Result<(), AllocError> {
+        let Some(left) = left.checked_sub(1) else {
+            return self.put_deepest(ty, at);
+        };
+        match ty {
+            Ty::Simple(ordinal) => self.put_simple(*ordinal, at),
+            Ty::Pointer { number } => self.put_pointer(*number, at),
+            Ty::Nil => self.put("nil"),
+            Ty::Set { base, .. } => self.put_set(*base, at),
+            Ty::EmptySet => self.put("[]"),
+            Ty::Text { length } => self.put_string(at, *length),
+            Ty::Array {
+                packed,
+                index,
+                component,
+                ..
+            } => self.put_array(ty, *packed, *index, component.ty(), at, left),
+            Ty::Record {
+                at: denoter,
+                fields,
+                ..
+            } => self.put_record(*denoter, fields, at, left),
+        }
+    }
+
+    // A value that is within too many others: one that has parts is left out.
+    fn put_deepest(&mut self, ty: &Ty, at: u32) -> Result<(), AllocError> {
+        match ty {
+            Ty::Simple(ordinal) => self.put_simple(*ordinal, at),
+            Ty::Pointer { number } => self.put_pointer(*number, at),
+            _ => self.put("(..)"),
+        }
+    }
+
+    fn put_simple(&mut self, ordinal: Ordinal, at: u32) -> Result<(), AllocError> {
+        match simple_at(self.machine, ordinal, at) {
+            Some(value) => self.put_ordinal(ordinal.host, value),
+            None => self.put_unknown(),
+        }
+    }
+
+    /// Adds a value of an ordinal type.
+    pub(crate) fn put_ordinal(&mut self, host: Host, value: i64) -> Result<(), AllocError> {
+        let told = ordinal_in(self.alloc, self.text, host, value)?;
+        self.put(told.as_str())
+    }
+
+    fn put_byte(&mut self, shown: u8) -> Result<(), AllocError> {
+        self.put(str::from_utf8(&[shown]).unwrap_or("?"))
+    }
+
+    // A pointer of the type with a number.
+    fn put_pointer(&mut self, pointer: u32, at: u32) -> Result<(), AllocError> {
+        match word_at(self.machine, at) {
+            None => self.put_unknown(),
+            Some(0) => self.put("nil"),
+            Some(address) => self.put_object(Object { address, pointer }),
+        }
+    }
+
+    // The number of an object among those that were told, if these are in the order of their addresses.
+    fn number_in_order(&self, object: Object) -> Option<i64> {
+        let place = self
+            .objects
+            .as_slice()
+            .partition_point(|told| told.address < object.address);
+        match self.objects.get(place) {
+            Some(told) if told.address == object.address => i64::try_from(place.saturating_add(
+                1,
+            )).ok(),
+            _ => None,
+        }
+    }
+
+    // The number of an object, from 1 on, in the order in which they are told; none of one that is told behind many
+    // others.
+    fn number_of(&mut self, object: Object) -> Result<Option<i64>, AllocError> {
+        if let Some(number) = self.number_in_order(object) {
+            return Ok(Some(number));
+        }
+        let mut number: i64 = 1;
+        for told in self.objects.iter() {
+            if told.address == object.address {
+                return Ok(Some(number));
+            }
+            if number >= MOST_NUMBERED {
+                return Ok(None);
+            }
+            number = number.saturating_add(1);
+        }
+        self.objects.push(object)?;
+        Ok(Some(number))
+    }
+
+    // An object.
+    fn put_object(&mut self, object: Object) -> Result<(), AllocError> {
+        match self.number_of(object)? {
+            Some(number) => {
+                self.put("object ")?;
+                self.put_number(number)
+            }
+            None => self.put("another object"),
+        }
+    }
+
+    /// Whether the variable of a simple or pointer type at an address has the first value of its type.
+    pub(crate) fn has_first(&self, ty: &Ty, at: u32) -> bool {
+        match ty {
+            Ty::Simple(ordinal) => simple_at(self.machine, *ordinal, at)
+                == Some(first_of(*ordinal)),
+            Ty::Pointer { .. } => word_at(self.machine, at) == Some(0),
+            _ => false,
+        }
+    }
+
+    // How many fields of a record are told.
+    fn most_fields(&self) -> usize {
+        match self.length {
+            Length::Short => FEW_FIELDS,
+            Length::All => MANY_FIELDS,
+        }
+    }
+
+    /// How many objects are told with what they hold.
+    pub(crate) fn most_objects(&self) -> usize {
+        match self.length {
+            Length::Short => FEW_OBJECTS,
+            Length::All => MANY_OBJECTS,
+        }
+    }
+
+    // A character of a string; one that isn't shown as a point.
+    fn put_character(&mut self, at: u32) -> Result<(), AllocError> {
+        match byte_at(self.machine, at) {
+            Some(b'\'') => self.put("''"),
+            Some(shown) if is_shown(shown) => self.put_byte(shown),
+            _ => self.put("."),
+        }
+    }
+
+    // A string of characters, quoted, and behind it `..` where it is longer than what is told.
+    fn put_string(&mut self, at: u32, length: u32) -> Result<(), AllocError> {
+        let is_long = self.length == Length::Short && length > MOST_CHARACTERS;
+        let told = if is_long { MOST_CHARACTERS } else { length };
+        self.put("'")?;
+        for k in 0..told {
+            self.put_character(at.saturating_add(k))?;
+        }
+        self.put(if is_long { "'.." } else { "'" })
+    }
+
+    // Whether a set has a member.
+    fn has_member(&self, at: u32, member: u32) -> bool {
+        match byte_at(self.machine, at.saturating_add(member / 8)) {
+            Some(bits) => (bits >> (member % 8)) & 1 == 1,
+            None => false,
+        }
+    }
+
+    // A set: its members, and from one to another where several stand together.
+    fn put_set(&mut self, base: Ordinal, at: u32) -> Result<(), AllocError> {
+        self.put("[")?;
+        let mut next: u32 = 0;
+        for member in 0..MEMBERS {
+            if member >= next && self.has_member(at, member) {
+                if next > 0 {
+                    self.put(", ")?;
+                }
+                next = self.put_members(base.host, at, member)?;
+            }
+        }
+        self.put("]")
+    }
+
+    // Adds the members that stand together from one on, and gives the number behind them.
+    fn put_members(&mut self, host: Host, at: u32, first: u32) -> Result<u32, AllocError> {
+        let mut last = first;
+        for member in first..MEMBERS {
+            if !self.has_member(at, member) {
+                break;
+            }
+            last = member;
+        }
+        self.put_ordinal(host, i64::from(first))?;
+        if last > first {
+            self.put("..")?;
+            self.put_ordinal(host, i64::from(last))?;
+        }
+        Ok(last.saturating_add(1))
+    }
+
+    // An array: a string as one, else its components.
+    #[cycle(values)]
+    fn put_array(
+        &mut self,
+        ty: &Ty,
+        packed: bool,
+        index: Ordinal,
+        component: &Ty,
+        at: u32,
+        left: u32,
+    ) -> Result<(), AllocError> {
+        if let Some(length) = ty.string_length() {
+            return self.put_string(at, length);
+        }
+        let count = u32::try_from(index.value_count()).unwrap_or(u32::MAX);
+        let bytes = stride(packed, component);
+        self.put("(")?;
+        for k in 0..count {
+            if k > 0 && self.is_full() {
+                self.put(", ..")?;
+                break;
+            }
+            if self.is_told(k, count) {
+                self.put_separator(k)?;
+                self.put_value(component, at.saturating_add(bytes.saturating_mul(k)), left)?;
+            } else if k == FIRST {
+                self.put(", ..")?;
+            }
+        }
+        self.put(")")
+    }
+
+    // Whether a component of an array of so many is told.
+    fn is_told(&self, k: u32, count: u32) -> bool {
+        self.length == Length::All || k < FIRST || k.saturating_add(1) == count
+    }
+
+    fn put_separator(&mut self, k: u32) -> Result<(), AllocError> {
+        if k == 0 {
+            return Ok(());
+        }
+        if k > FIRST && self.length == Length::Short {
+            self.put(" ")
+        } else {
+            self.put(", ")
+        }
+    }
+
+    #[cycle(values)]
+    fn put_record(
+        &mut self,
+        denoter: u32,
+        fields: &Fields,
+        at: u32,
+        left: u32,
+    ) -> Result<(), AllocError> {
+        self.put("(")?;
+        for (number, ty) in fields.types().iter().enumerate() {
+            if number >= self.most_fields() || (number > 0 && self.is_full()) {
+                self.put(", ..")?;
+                break;
+            }
+            if number > 0 {
+                self.put(", ")?;
+            }
+            let name = self.text.field(denoter, number);
+            self.put(name)?;
+            self.put(": ")?;
+            let offset = fields.offset(u32::try_from(number).unwrap_or(u32::MAX));
+            self.put_value(ty, at.saturating_add(offset), left)?;
+        }
+        self.put(")")
+    }
+}
+
+// The first value of a variable of an ordinal type: of integers 0, and else the lowest.
+fn first_of(ordinal: Ordinal) -> i64 {
+    match (ordinal.host, ordinal.subrange) {
+        (Host::Integer, None) => 0,
+        _ => i64::from(ordinal.low),
+    }
+}
+
+// The number of a value of an ordinal type at an address: of a byte, or of a word with its sign.
+fn simple_at(machine: &Machine, ordinal: Ordinal, at: u32) -> Option<i64> {
+    if is_byte(ordinal) {
+        return match byte_at(machine, at) {
+            Some(value) => Some(i64::from(value)),
+            None => None,
+        };
+    }
+    match word_at(machine, at) {
+        Some(value) => Some(i64::from(i32::from_le_bytes(value.to_le_bytes()))),
+        None => None,
+    }
+}
+
+// Whether a byte is a character that is shown as it is.
+fn is_shown(byte: u8) -> bool {
+    b' ' <= byte && byte <= b'~'
+}
