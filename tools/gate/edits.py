@@ -1,9 +1,10 @@
 """The must-fail edits of a crate, tried together where they can stand side by side.
 
-A check tells of each function whether it is proved, so one check can try many edits, each of another function's body. Such an edit is refused where
-its own function is not proved, by an obligation of that function's own code: not because it calls what is not proved, and not because a text cannot be
-read. What a round does not settle is tried in a further round, then alone at its function, and at last alone from nothing, by the rule of `rt ci`: edits of
-clauses and of what stands outside functions, and those that another hides.
+A check tells of each function whether it is proved, so one check can try many edits, each of another function's body.
+Such an edit is refused where its own function is not proved, by an obligation of that function's own code: not because
+it calls what is not proved, and not because a text cannot be read. What a round does not settle is tried in a further
+round, then alone at its function, and at last alone from nothing, by the rule of `rt ci`: edits of clauses and of what
+stands outside functions, and those that another hides.
 """
 
 import os
@@ -32,8 +33,8 @@ PLACE = re.compile(r"(?:(?:note|warning): )?(?:\./)?(src/\S+?\.rt):(\d+):\d+: (.
 
 
 def puts_body(text: str, function: Function, old: str, new: str) -> bool:
-    """Whether a new text for a function's header goes on with the function's own clauses and another body, and then gives what stood behind the header to a
-    function of another name."""
+    """Whether a new text for a function's header goes on with the function's own clauses and another body, and then
+    gives what stood behind the header to a function of another name."""
     lines = text.split("\n")
     clauses = " ".join(" ".join(lines[function.header + 1 : function.body]).split())
     rest = lines[function.header].split(f"fn {function.name}", 1)[1]
@@ -43,8 +44,9 @@ def puts_body(text: str, function: Function, old: str, new: str) -> bool:
 
 
 class Edit:
-    """A must-fail edit: the pairs of texts that it changes, with the file of each; the function at which it must fail, if a line `at:` tells one; the places of the
-    functions whose bodies it changes, if it changes nothing else; and the names of the functions at which it can be tried, if there are any."""
+    """A must-fail edit: the pairs of texts that it changes, with the file of each; the function at which it must fail,
+    if a line `at:` tells one; the places of the functions whose bodies it changes, if it changes nothing else; and the
+    names of the functions at which it can be tried, if there are any."""
 
     def __init__(self, path: str, crate: Any) -> None:
         self.path, self.name = path, os.path.basename(path)
@@ -66,7 +68,8 @@ class Edit:
             self.places, self.names = None, [self.at] if self.at else None
 
     def find(self, crate: Any) -> Optional[Set[Place]]:
-        """The functions whose bodies the edit changes, as (file, name, type), or None where it changes anything else."""
+        """The functions whose bodies the edit changes, as (file, name, type), or None where it changes anything
+        else."""
         places = set()
         for at, old, new in self.pairs:
             try:
@@ -97,8 +100,9 @@ class Edit:
 
 
 def names_of(places: Iterable[Place], functions: List[str]) -> Optional[List[str]]:
-    """The names by which a check tells of functions at these places, or None where one fits no name, or several. A method has its type's module, which may be
-    another than its file's, and, where it is a trait's, the trait's name behind the type's."""
+    """The names by which a check tells of functions at these places, or None where one fits no name, or several. A
+    method has its type's module, which may be another than its file's, and, where it is a trait's, the trait's name
+    behind the type's."""
     found = []
     for at, name, owner in places:
         wanted = "::".join([*module_of(at), *([owner] if owner else []), name])
@@ -114,8 +118,8 @@ def names_of(places: Iterable[Place], functions: List[str]) -> Optional[List[str
 
 
 def side_by_side(edits: Iterable[Edit], crate: Any) -> Tuple[List[Edit], Texts]:
-    """As many of the edits as can stand in one copy, and that copy's texts: none that names the function at which it must fail, no two of one function, none of a
-    function that another's calls, each text still there once."""
+    """As many of the edits as can stand in one copy, and that copy's texts: none that names the function at which it
+    must fail, no two of one function, none of a function that another's calls, each text still there once."""
     group, texts, taken, sources = [], {}, set(), stubs.texts_of(crate)
     for edit in edits:
         if edit.places is None or edit.at or edit.places & taken or any(calls(other, edit, sources) or calls(edit, other, sources) for other in group):
@@ -128,7 +132,8 @@ def side_by_side(edits: Iterable[Edit], crate: Any) -> Tuple[List[Edit], Texts]:
 
 
 def calls(one: Edit, other: Edit, sources: Texts) -> bool:
-    """Whether a function that an edit changes, or one in a cycle of calls with it, seems to call one that another changes, which is in no cycle with it."""
+    """Whether a function that an edit changes, or one in a cycle of calls with it, seems to call one that another
+    changes, which is in no cycle with it."""
     cycles = stubs.cycles_of(sources, one.places) & stubs.cycles_of(sources, other.places)
     return not cycles and any(stubs.names(text, place) for text in stubs.bodies_of(sources, one.places) for place in other.places)
 
@@ -150,8 +155,8 @@ def refused_at(said: str, texts: Texts, crate: Any) -> Dict[Place, str]:
 
 
 def by_proof_files(said: str, spans: Dict[str, List[Function]]) -> Iterator[Tuple[str, Place]]:
-    """The functions whose own answers or lemmas in proofs/ are refused: those of a function lie in a folder of its path, and those of a cycle in a folder
-    of their own, each answer named by its function."""
+    """The functions whose own answers or lemmas in proofs/ are refused: those of a function lie in a folder of its
+    path, and those of a cycle in a folder of their own, each answer named by its function."""
     refused = re.findall(r"(?m)^(?:\./)?proofs/(\S+)/[A-Z]\w+\.antt:\d+:\d+: error: (?!.*(?:is not in scope|has no|was not admitted))(?:`((?:\w+::)*\w+)-)?", said)
     for path, member in dict.fromkeys(refused):
         *above, last = path.split("/")
@@ -161,15 +166,16 @@ def by_proof_files(said: str, spans: Dict[str, List[Function]]) -> Iterator[Tupl
 
 
 def names_match(at: str, function: Function, above: List[str], last: str, member: str) -> bool:
-    """Whether a folder of proofs/ is a function's: by its whole path, or, in a cycle, by that of its member before its answers' names. (A method lies below its
-    type's module, which may be another than its file's.)"""
+    """Whether a folder of proofs/ is a function's: by its whole path, or, in a cycle, by that of its member before its
+    answers' names. (A method lies below its type's module, which may be another than its file's.)"""
     path = [*above, *(member.split("::") if last.startswith("+") else [last])]
     own = [function.owner, function.name] if function.owner else [function.name]
     return path == [*module_of(at), *own] or bool(function.owner) and path[-2:] == own
 
 
 class Work:
-    """What the trials of a crate's edits have proved so far, which those that follow need not prove again, in a folder that is made empty here."""
+    """What the trials of a crate's edits have proved so far, which those that follow need not prove again, in a folder
+    that is made empty here."""
 
     def __init__(self, crate: Any, flags: List[str]) -> None:
         self.crate, self.flags, self.at = crate, flags, f"{crate.folder}/out/tried"
@@ -188,8 +194,9 @@ class Work:
         return f"{self.crate.folder}/out/stubbed"
 
     def checked(self, stubbed: stubs.Stubbed, texts: Texts, names: Iterable[str], keeps: bool = True) -> Ran:
-        """The check of functions of a copy with these texts, which leaves what it proved for later ones, unless it is the only one that is expected. One that is killed,
-        most likely for memory, is made once more, and from nothing, since it may have left something half written."""
+        """The check of functions of a copy with these texts, which leaves what it proved for later ones, unless it is
+        the only one that is expected. One that is killed, most likely for memory, is made once more, and from nothing,
+        since it may have left something half written."""
         words = [*self.flags, *(word for name in names for word in ("--only", name))]
         ran = kit.rt().checked(stubbed.crate, texts, words, self.at if keeps else None)
         if ran.returncode != -signal.SIGKILL:
@@ -199,16 +206,17 @@ class Work:
 
 
 class Beside:
-    """Edits that are tried beside one another, in one copy of a crate. Each is made in a twin of its function, which nothing calls; of a function that can have no
-    twin, as a trait's method, one edit is made in its place, if it has no answers. A member of a cycle of calls has one twin more, as it is, since its answers are
-    cut out of the cycle's, and so has a function whose answers name other proofs. Of all the rest, of which a twin is another by its name alone, one has: the
-    shortest of those with answers, or of all. An edit of few arms of a `match` of many is made in a twin in which the others never return, and that function has a
-    twin more, which has the same arms as they are."""
+    """Edits that are tried beside one another, in one copy of a crate. Each is made in a twin of its function, which
+    nothing calls; of a function that can have no twin, as a trait's method, one edit is made in its place, if it has no
+    answers. A member of a cycle of calls has one twin more, as it is, since its answers are cut out of the cycle's, and
+    so has a function whose answers name other proofs. Of all the rest, of which a twin is another by its name alone,
+    one has: the shortest of those with answers, or of all. An edit of few arms of a `match` of many is made in a twin
+    in which the others never return, and that function has a twin more, which has the same arms as they are."""
 
     def __init__(self, crate: Any, edits: List[Edit], cuts: bool) -> None:
         self.crate, self.sources, self.cuts = crate, stubs.texts_of(crate), cuts
-        # of each edit, and of each function of which a twin is as it is, the place and the name in the copy; of each edit the arms that its twin has, if it has not
-        # all, and the function whose twin holds it, with that one's arms
+        # of each edit, and of each function of which a twin is as it is, the place and the name in the copy; of each
+        # edit the arms that its twin has, if it has not all, and the function whose twin holds it, with that one's arms
         self.at, self.held, self.arms_of, self.twins = {}, {}, {}, []
         self.edited, self.in_place = {}, set()
         beside = [edit for edit in edits if len(edit.places or ()) == 1 and not edit.at]
@@ -245,7 +253,8 @@ class Beside:
                 self.add_twin((place, arms), edit, place, self.sources, f"as_it_is{len(self.at) if arms else ''}", arms)
 
     def arms(self, place: Place, made: Texts) -> Optional[Tuple[int, ...]]:
-        """The arms to which a twin is cut down, by their numbers, if it is: it can't be where answers in files speak of all of them."""
+        """The arms to which a twin is cut down, by their numbers, if it is: it can't be where answers in files speak of
+        all of them."""
         if not self.cuts or stubs.has_answers(self.crate, self.sources, place):
             return None
         return stubs.arms_of_edit(stubs.lines_at(self.sources, place), stubs.lines_at(made, place))
@@ -256,7 +265,8 @@ class Beside:
         self.at[key] = twin.place, re.sub(r"\w+$", twin.name, edit.names[0])
 
     def tried(self, work: Work) -> Optional[Dict[Edit, str]]:
-        """Checks all of them, and returns those that are refused, each with what was said; None where the check tells nothing."""
+        """Checks all of them, and returns those that are refused, each with what was said; None where the check tells
+        nothing."""
         if not self.twins:
             return {}
         stubbed = stubs.Stubbed(self.crate, work.copy_at(), self.in_place, self.twins)
@@ -277,8 +287,8 @@ class Beside:
 
 
 def beside(work: Work, edits: List[Edit]) -> Dict[Edit, str]:
-    """Tries edits beside one another, all in one check, and returns those that are refused, each with what was said. Where that tells nothing and twins were cut down to
-    some arms, they are tried with all arms."""
+    """Tries edits beside one another, all in one check, and returns those that are refused, each with what was said.
+    Where that tells nothing and twins were cut down to some arms, they are tried with all arms."""
     trial = Beside(work.crate, edits, cuts=True)
     done = trial.tried(work)
     if done is None and any(trial.arms_of.values()):
@@ -343,8 +353,8 @@ class Spent:
 
 
 def tried(crate: Any, edit: Edit, flags: List[str]) -> Trial:
-    """Whether `rt ci` refuses an edit, as it must, and what it says: the whole crate is checked, from nothing. One that cannot be applied, compiled or read
-    counts as not refused."""
+    """Whether `rt ci` refuses an edit, as it must, and what it says: the whole crate is checked, from nothing. One that
+    cannot be applied, compiled or read counts as not refused."""
     rt = kit.rt()
     kind, said = rt.must_fail(crate, edit.path, flags, None)
     return kind in (rt.REFUSED, rt.AT_LIMIT), said
@@ -356,8 +366,8 @@ def names_in(edit: Edit) -> List[str]:
 
 
 def named(stubbed: stubs.Stubbed, work: Work, edit: Edit) -> Optional[str]:
-    """Tries an edit at its function, and returns why that, or what it calls, is not proved: then the crate is not, either. None where that is not told, or only
-    because a proof names what the edit took away."""
+    """Tries an edit at its function, and returns why that, or what it calls, is not proved: then the crate is not,
+    either. None where that is not told, or only because a proof names what the edit took away."""
     edited, names = edit.apply({}, work.crate), names_in(edit)
     if not (edited and names):
         return None
@@ -371,8 +381,8 @@ def named(stubbed: stubs.Stubbed, work: Work, edit: Edit) -> Optional[str]:
 
 
 def refused_for(ran: Ran, texts: Texts, otherwise: List[str]) -> Optional[str]:
-    """Why a check refuses these texts, by its errors, or by these lines where it tells none; None where it can't read them, tells nothing, or refuses only what names
-    what an edit took away."""
+    """Why a check refuses these texts, by its errors, or by these lines where it tells none; None where it can't read
+    them, tells nothing, or refuses only what names what an edit took away."""
     lines = ran.stdout.split("\n")
     if ran.returncode != 1 or any(kit.rt().unread(line, texts) for line in lines):
         return None
@@ -385,7 +395,8 @@ def key_of(crate: Any, edit: Edit) -> str:
 
 
 def add_all(tasks: Dict[Any, Any], crate: Any, paths: List[str], *_: Any) -> Any:
-    """Adds the one task that tries a crate's edits, once it and its tests are proved, and returns what gives their results, and those of earlier runs: none."""
+    """Adds the one task that tries a crate's edits, once it and its tests are proved, and returns what gives their
+    results, and those of earlier runs: none."""
     key, rt = (crate.name, "edits"), kit.rt()
     strays = [os.path.relpath(edit, crate.folder) for edit in rt.edits_of(crate)[1]]
 
@@ -444,8 +455,8 @@ def refused(crate: Any, edit: Edit, why: str) -> Trial:
 
 
 def tried_whole(work: Work, edits: List[Edit], spent: Spent) -> Iterator[Tuple[Edit, Trial]]:
-    """Yields edits with what came of each where the whole crate is checked: several over what the crate as it stands left, if that is proved; one alone, and each that
-    is not refused there, from nothing."""
+    """Yields edits with what came of each where the whole crate is checked: several over what the crate as it stands
+    left, if that is proved; one alone, and each that is not refused there, from nothing."""
     is_held = len(edits) > 1 and not work.checked(work, {}, []).returncode
     spent.part("the crate as it stands")
     for edit in edits:
@@ -463,8 +474,8 @@ def refused_whole(work: Work, edit: Edit) -> Optional[str]:
 
 
 def refused_by_name(work: Work, edits: List[Edit], spent: Spent) -> Iterator[Tuple[Edit, str]]:
-    """Yields the edits that are refused at functions, each with what was said: those beside their functions first, then those that are tried in their places, and
-    at last each of those that are left by itself."""
+    """Yields the edits that are refused at functions, each with what was said: those beside their functions first, then
+    those that are tried in their places, and at last each of those that are left by itself."""
     done = beside(work, edits)
     spent.part(f"{len(done)} of {len(edits)} beside their functions")
     yield from done.items()
@@ -488,8 +499,8 @@ def refused_by_name(work: Work, edits: List[Edit], spent: Spent) -> Iterator[Tup
 
 
 def held(stubbed: stubs.Stubbed, work: Work, edits: List[Edit], spent: Spent) -> List[Edit]:
-    """Those of the edits whose functions are proved in a copy without the edits, over what earlier trials left, so that what is refused with them is the edits'
-    doing."""
+    """Those of the edits whose functions are proved in a copy without the edits, over what earlier trials left, so that
+    what is refused with them is the edits' doing."""
     names = sorted({name for edit in edits for name in names_in(edit)})
     if work.is_held or not names:
         return edits

@@ -1,4 +1,5 @@
-"""What follows the proofs: the end-to-end cases over the programs that were built, the released program, and the pages."""
+"""What follows the proofs: the end-to-end cases over the programs that were built, the released program, and the
+pages."""
 
 import filecmp
 import os
@@ -31,7 +32,8 @@ def run_plain(tree: str) -> Tuple[int, int]:
 
 
 def run_cases_over(tree: str, what: str, program: str, env: Dict[str, str]) -> Tuple[int, int]:
-    """Runs all cases that there are for a program over it. A run that ends with a bad status, or has no case, is a failure."""
+    """Runs all cases that there are for a program over it. A run that ends with a bad status, or has no case, is a
+    failure."""
     words = [f"{tree}/test", "--program", program]
     ran = subprocess.run(words, env={**os.environ, **env}, stdout=subprocess.PIPE, stderr=subprocess.STDOUT, text=True, errors="replace")
     well, bad = count_in(ran.stdout)
@@ -82,8 +84,8 @@ def line_of(path: str) -> str:
 
 
 def differs_from_release(tree: str, kept: str) -> Optional[str]:
-    """Why the released program is not what this run has built. Kits differ in the bytes that they build, so where another kit built it, it has to do what
-    the cases want."""
+    """Why the released program is not what this run has built. Kits differ in the bytes that they build, so where
+    another kit built it, it has to do what the cases want."""
     made, kit_of_release = f"{tree}/crates/pascal/out/pascal", line_of(f"{kept}.kit")
     if not os.path.isfile(made):
         return "there is no program to compare the released one with"
@@ -97,7 +99,8 @@ def differs_from_release(tree: str, kept: str) -> Optional[str]:
 
 
 def look_at_release(tree: str) -> Optional[str]:
-    """Whether the released program is the one that this run has built, from sources of the sum beside it, and the launcher runs it."""
+    """Whether the released program is the one that this run has built, from sources of the sum beside it, and the
+    launcher runs it."""
     kept = f"{tree}/released/pascal"
     if not os.path.isfile(kept):
         return "there is no released program: `./gate --release` writes it"

@@ -13,9 +13,11 @@ CYCLE = re.compile(r"^ *#\[cycle\((\w+)\)\]$")
 
 
 class Function:
-    """A function of a source file, and its type, if it is a method, with the trait behind it where only that tells it from another; of its lines, counted from 0:
-    the first of its attributes and comments, its header, the first of its body, and its last; the cycle of calls that it is marked as a member of, if any; whether
-    it is a trait's method; and whether its body, below its header, can be another: not that of a constant function, nor one that a macro or a trait gives."""
+    """A function of a source file, and its type, if it is a method, with the trait behind it where only that tells it
+    from another; of its lines, counted from 0: the first of its attributes and comments, its header, the first of its
+    body, and its last; the cycle of calls that it is marked as a member of, if any; whether it is a trait's method; and
+    whether its body, below its header, can be another: not that of a constant function, nor one that a macro or a trait
+    gives."""
 
     def __init__(self, name: str, owner: Optional[str], lines: List[str], at: int, body: int, last: int) -> None:
         self.name, self.owner, self.header, self.body, self.last = name, owner, at, body, last
@@ -26,7 +28,8 @@ class Function:
 
 @functools.lru_cache(512)
 def functions_of(text: str) -> List[Function]:
-    """The functions of a file in the layout of `rt fmt`, in which a body opens at the end of a header or on a line of its own, and closes below it."""
+    """The functions of a file in the layout of `rt fmt`, in which a body opens at the end of a header or on a line of
+    its own, and closes below it."""
     found, traits, owner, trait, is_held, lines = [], {}, None, "", False, text.split("\n")
     for at, line in enumerate(lines):
         if OWNER.match(line):
@@ -52,7 +55,8 @@ def functions_of(text: str) -> List[Function]:
 
 
 def tell_apart(functions: List[Function], traits: Dict[Function, str]) -> None:
-    """Names behind the type of a trait's method the trait as well, as the kit does, where the file has another of this name and type: `RefusalFromScanRefusal`."""
+    """Names behind the type of a trait's method the trait as well, as the kit does, where the file has another of this
+    name and type: `RefusalFromScanRefusal`."""
     count = collections.Counter((function.name, function.owner) for function in functions)
     for function in functions:
         if function.is_of_trait and count[function.name, function.owner] > 1:
@@ -60,7 +64,8 @@ def tell_apart(functions: List[Function], traits: Dict[Function, str]) -> None:
 
 
 def top_of(lines: List[str], at: int) -> int:
-    """The first line of what stands above a header and belongs to it: a blank line, or the opening of a block, ends it."""
+    """The first line of what stands above a header and belongs to it: a blank line, or the opening of a block, ends
+    it."""
     while at and lines[at - 1].strip() and not lines[at - 1].endswith(("{", "}", ";")):
         at -= 1
     return at

@@ -1,8 +1,9 @@
 """The Rattle kit: its command `rt` as a library, and its sum.
 
-The gate is `rt ci` with some of its parts replaced: who works when (`in_lanes`), what proves a crate (`Crate.ci`), how edits are tried (`add_edits`), and
-what is kept of earlier runs (`Kept`). All else that `rt ci` rules about a tree, a crate, a program and a test is done by `rt` itself. Where a kit's `rt`
-has other parts, the gate runs its `rt ci` as it is, which takes longer and rules the same.
+The gate is `rt ci` with some of its parts replaced: who works when (`in_lanes`), what proves a crate (`Crate.ci`), how
+edits are tried (`add_edits`), and what is kept of earlier runs (`Kept`). All else that `rt ci` rules about a tree, a
+crate, a program and a test is done by `rt` itself. Where a kit's `rt` has other parts, the gate runs its `rt ci` as it
+is, which takes longer and rules the same.
 """
 
 import contextlib
@@ -18,7 +19,8 @@ from typing import Any, Callable, ContextManager, List
 
 # What the gate calls of `rt`, what runs the whole, and what is replaced of it.
 PARTS = ("in_lanes", "must_fail", "checked", "edits_of", "read_edit", "processors", "free", "say", "Crate", "unread", "ci_over", "add_edits", "sweep", "Kept")
-# What decides a verdict: the program that proves, the two scripts that hold it to their rules, and what tells the versions of all the rest.
+# What decides a verdict: the program that proves, the two scripts that hold it to their rules, and what tells the
+# versions of all the rest.
 SUMMED = ("KIT-ID", "WHAT", "bin/rattle", "bin/rattle-link", "bin/rt", "bin/rtlib.py")
 
 

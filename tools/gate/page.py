@@ -168,7 +168,8 @@ def failed(why: str) -> Tuple[int, int]:
 
 
 def look_at_made(tree: str, tops: Iterable[str]) -> Tuple[int, int]:
-    """Makes the page and tries it, writes it into some trees where it passes, and returns how much passed and failed."""
+    """Makes the page and tries it, writes it into some trees where it passes, and returns how much passed and
+    failed."""
     made, why = make(tree)
     if why:
         return failed(why)
@@ -193,7 +194,8 @@ def look_at_kept(tree: str, why: str) -> Tuple[int, int]:
 
 
 def look(tree: str, tops: Iterable[str]) -> Tuple[int, int]:
-    """Looks at the page, writes it into some trees where it can be made, and returns how much passed and failed of it."""
+    """Looks at the page, writes it into some trees where it can be made, and returns how much passed and failed of
+    it."""
     if not has_page(tree):
         return 0, 0
     why = lacks(tree)

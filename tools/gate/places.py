@@ -1,7 +1,8 @@
 """Who works when: each task in a process of its own, as many side by side as there are processors and as memory holds.
 
-Proofs come first, those with the longest chain of others behind them before the rest, and none overtakes one that waits for memory, so none starves.
-Edits take a place only where no proof waits for one, and leave one free as long as there are proofs to come.
+Proofs come first, those with the longest chain of others behind them before the rest, and none overtakes one that waits
+for memory, so none starves. Edits take a place only where no proof waits for one, and leave one free as long as there
+are proofs to come.
 """
 
 import contextlib
@@ -17,7 +18,8 @@ from typing import Any, Callable, Dict, Iterable, List
 import kit
 
 PR_SET_PDEATHSIG = 1
-# (what a kit reckons for a check of a library was measured at 1.1 to 5 times what it takes: what small ones take beyond this share is in what is kept free)
+# (what a kit reckons for a check of a library was measured at 1.1 to 5 times what it takes: what small ones take beyond
+# this share is in what is kept free)
 SHARE_OF_MEMORY = 0.85
 SHARE_OF_RECKONING = 0.6
 # seconds: how often memory that other programs may free is looked for, and how long a task that is alone waits for it
@@ -25,7 +27,8 @@ AGAIN, PATIENCE = 1, 300
 
 
 class Task:
-    """A task of `rt ci`: what it waits for, its size in lines, its memory, and a call that gets what was given and how many jobs it may use."""
+    """A task of `rt ci`: what it waits for, its size in lines, its memory, and a call that gets what was given and how
+    many jobs it may use."""
 
     def __init__(self, key: Any, waits: List[Any], lines: int, memory: int, call: Callable[..., Any]) -> None:
         self.key, self.waits, self.lines, self.memory, self.call = key, waits, lines, SHARE_OF_RECKONING * memory, call
@@ -44,7 +47,8 @@ def chained(tasks: Dict[Any, "Task"]) -> None:
 
 
 def held_below(processes: Iterable[int]) -> Dict[int, int]:
-    """The bytes that the largest of all that each of these processes started holds now. (A check copies itself for a while, and the copies share what they hold.)"""
+    """The bytes that the largest of all that each of these processes started holds now. (A check copies itself for a
+    while, and the copies share what they hold.)"""
     above, held, most = {}, {}, dict.fromkeys(processes, 0)
     for name in filter(str.isdigit, os.listdir("/proc")):
         # (one may end meanwhile)
@@ -83,7 +87,8 @@ class Places:
         return self.given
 
     def start_what_can(self) -> None:
-        """Starts tasks in order until the places or the memory are taken. Those with nothing to do are done here and at once."""
+        """Starts tasks in order until the places or the memory are taken. Those with nothing to do are done here and at
+        once."""
         while True:
             ready = [task for task in self.left if all(below in self.given for below in task.waits)]
             empty = next((task for task in ready if not task.lines), None)
@@ -96,7 +101,8 @@ class Places:
             if not chosen or not self.has_place(chosen[0]):
                 return
             places = 1 if chosen[0].is_edits else max(1, self.idle() // len(ready))
-            # (where only proofs are left and each has a place, they share all places, since some would stand idle when one has ended before another)
+            # (where only proofs are left and each has a place, they share all places, since some would stand idle when
+            # one has ended before another)
             is_end = [task for task in self.left if task.lines] == proofs and len(proofs) <= self.idle()
             self.start(chosen[0], places, self.count if is_end else places)
 
@@ -112,13 +118,15 @@ class Places:
         return self.has_memory(task)
 
     def free(self) -> int:
-        """The memory that a further task may take: what is free now, without what is kept free and what those at work are still to take."""
+        """The memory that a further task may take: what is free now, without what is kept free and what those at work
+        are still to take."""
         held = held_below(self.running)
         to_come = sum(max(0, task.taken - held[process]) for process, task in self.running.items())
         return kit.rt().free() - self.kept_free - to_come
 
     def has_memory(self, task: Task) -> bool:
-        """Whether there is memory for a task. One that is alone waits only for what other programs hold, and not for ever."""
+        """Whether there is memory for a task. One that is alone waits only for what other programs hold, and not for
+        ever."""
         if task.memory <= self.free():
             self.short_since = None
             return True

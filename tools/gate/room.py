@@ -1,4 +1,5 @@
-"""The room: a copy of the tree in which a run works, so that the tree's own folders `out/` are neither read nor changed."""
+"""The room: a copy of the tree in which a run works, so that the tree's own folders `out/` are neither read nor
+changed."""
 
 import contextlib
 import fcntl
@@ -27,7 +28,8 @@ def files_of(top: str) -> List[str]:
 
 @contextlib.contextmanager
 def opened(top: str, at: Optional[str]) -> Iterator[str]:
-    """A room below a folder, or where temporary files go if that is None. It is removed in the end, and so are those of runs that were killed."""
+    """A room below a folder, or where temporary files go if that is None. It is removed in the end, and so are those of
+    runs that were killed."""
     if at:
         os.makedirs(f"{at}/rooms", exist_ok=True)
         clear_left(f"{at}/rooms")

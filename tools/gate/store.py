@@ -1,7 +1,8 @@
 """The store: what this machine has proved, kept by content.
 
-An entry is a folder whose name is its key, the sum of all that decides it. It holds `entry.json`, with what is to be said of it and the sums of its
-files, and `files/`. It is made whole under another name and then renamed, so no reader sees a part of it; one whose sums do not fit is dropped.
+An entry is a folder whose name is its key, the sum of all that decides it. It holds `entry.json`, with what is to be
+said of it and the sums of its files, and `files/`. It is made whole under another name and then renamed, so no reader
+sees a part of it; one whose sums do not fit is dropped.
 """
 
 import json
@@ -71,7 +72,8 @@ class Store:
         shutil.rmtree(away, ignore_errors=True)
 
     def take(self, key: str, to: str) -> Optional[Dict[str, Any]]:
-        """Lays an entry's files below a folder by links, after their sums were compared, and returns what it says, or None."""
+        """Lays an entry's files below a folder by links, after their sums were compared, and returns what it says, or
+        None."""
         entry = self.facts(key)
         if entry is None:
             return None

@@ -1,8 +1,9 @@
 """The copy of a crate in which edits are tried.
 
-What a proof reads of the functions that its function calls is their contracts. So all functions of the copy but those that are asked about have a body that
-never returns: it meets any contract, has next to nothing to prove, and needs no answers. The members of a cycle of calls are proved together, so they keep
-their bodies where one of them is asked about. What is edited is refused for itself only where the copy without the edits is proved.
+What a proof reads of the functions that its function calls is their contracts. So all functions of the copy but those
+that are asked about have a body that never returns: it meets any contract, has next to nothing to prove, and needs no
+answers. The members of a cycle of calls are proved together, so they keep their bodies where one of them is asked
+about. What is edited is refused for itself only where the copy without the edits is proved.
 """
 
 import copy
@@ -19,14 +20,17 @@ Texts = Dict[str, str]
 Place = Tuple[str, str, Optional[str]]
 
 PARTS = ("src", "specs", "proofs")
-# the files in which the goals of a function are answered
+# the files in which the goals of a function are answered, and the folder of the lemmas that answers are in other files
 ANSWERS = ("Answers.antt", "Invariants.antt")
+LEMMAS = "Answers"
 # (what asks for lemmas, which a stub needs not)
 TACTIC = re.compile(r"^ *#\[tactic\(.*\)\]$")
 BODY = "crate::returns_never()"
-# (an answer to what a member must show before it calls another: a pair of what falls, which the search shows, and of the other's `requires`)
+# (an answer to what a member must show before it calls another: a pair of what falls, which the search shows, and of
+# the other's `requires`)
 FALLS = re.compile(r"(?m)( = |^ +)\(search \([^()]*\), (.*)\)$")
-# The function that never returns, by one of C that is said to keep what nothing keeps: nothing of the copy is ever built.
+# The function that never returns, by one of C that is said to keep what nothing keeps: nothing of the copy is ever
+# built.
 NEVER = """
 unsafe extern "C" {
     safe fn keeps_what_nothing_keeps()
@@ -78,7 +82,8 @@ def names(text: str, place: Place) -> bool:
 
 
 def places_of(crate: Any, names: Iterable[str]) -> Set[Place]:
-    """The places of the functions with these names below the crate, or of all that end so where a name has more, as that of a trait's method has."""
+    """The places of the functions with these names below the crate, or of all that end so where a name has more, as
+    that of a trait's method has."""
     functions, found = all_functions(texts_of(crate)), set()
     for name in names:
         own = {place for place, _ in functions if "::".join([*module_of(place[0]), *([place[2]] if place[2] else []), place[1]]) == name}
@@ -96,8 +101,8 @@ def lines_at(sources: Texts, place: Place) -> List[str]:
 
 
 def match_in(lines: List[str]) -> Optional[Match]:
-    """The lines of a function before the first arm of the `match` that is the only one at the outermost level of its body, those of each arm, and those behind the
-    last, in the layout of `rt fmt`; None where there is no such one."""
+    """The lines of a function before the first arm of the `match` that is the only one at the outermost level of its
+    body, those of each arm, and those behind the last, in the layout of `rt fmt`; None where there is no such one."""
     space = re.match(" *", lines[-1])[0] + "    "
     begins = [number for number, line in enumerate(lines) if re.match(rf"{space}\S(?:.* )?match .*\{{$|{space}match .*\{{$", line)]
     if len(begins) != 1:
@@ -110,7 +115,8 @@ def match_in(lines: List[str]) -> Optional[Match]:
 
 
 def arms_of_edit(own: List[str], edited: List[str]) -> Optional[Tuple[int, ...]]:
-    """Of the many arms of a function's `match` the few that an edit changes, by their numbers, if it changes nothing else."""
+    """Of the many arms of a function's `match` the few that an edit changes, by their numbers, if it changes nothing
+    else."""
     was, made = match_in(own), match_in(edited)
     if not was or not made or (was[0], was[2]) != (made[0], made[2]) or len(was[1]) != len(made[1]):
         return None
@@ -120,7 +126,8 @@ def arms_of_edit(own: List[str], edited: List[str]) -> Optional[Tuple[int, ...]]
 
 
 def with_arms(lines: List[str], kept: Iterable[int]) -> List[str]:
-    """A function in which of the arms of its `match` those with these numbers have their own code, and all others never return."""
+    """A function in which of the arms of its `match` those with these numbers have their own code, and all others never
+    return."""
     before, arms, behind = match_in(lines)
     newline = "\n"
     short = [arm if number in kept else f"{newline.join(arm).split(' =>', 1)[0]} => {BODY},".split(newline) for number, arm in enumerate(arms)]
@@ -128,8 +135,8 @@ def with_arms(lines: List[str], kept: Iterable[int]) -> List[str]:
 
 
 class Twin:
-    """A function under a name of its own beside the one that it was made of, with an edit made in it, or as it is; of its `match` with some arms alone, if they are
-    told."""
+    """A function under a name of its own beside the one that it was made of, with an edit made in it, or as it is; of
+    its `match` with some arms alone, if they are told."""
 
     def __init__(self, sources: Texts, place: Place, name: str, kept: Optional[Tuple[int, ...]] = None) -> None:
         at, was, self.owner = place
@@ -167,19 +174,27 @@ def has_answers(crate: Any, sources: Texts, place: Place) -> bool:
 
 
 def names_functions(crate: Any, path: str) -> bool:
-    """Whether a file of a crate's proofs/ seems to name a module of a function's proof or contract, but for the goals of the answers in its own folder."""
-    own = os.path.relpath(os.path.dirname(path), f"{crate.folder}/proofs").replace("/", ".")
+    """Whether a file of a crate's proofs/ seems to name a module of a function's proof or contract, but for the goals
+    of the answers in its own folder, and for lemmas that these are."""
+    folder = os.path.dirname(path)
+    folder = os.path.dirname(folder) if os.path.basename(folder) == LEMMAS else folder
+    own = os.path.relpath(folder, f"{crate.folder}/proofs").replace("/", ".")
     with open(path, encoding="utf-8") as file:
         found = re.findall(rf"\bRattle\.{crate.name}\.(proofs|specs\.contracts)\.([^\s{{}}()]+)", file.read())
     # (the names of lemmas' modules begin with a capital, those of functions and of their cycles do not)
-    others = [name for part, name in found if part != "proofs" or not re.fullmatch(rf"{re.escape(own)}\.(?:Goals|Given)(?:\..*)?", name)]
+    others = [name for part, name in found if part != "proofs" or not re.fullmatch(rf"{re.escape(own)}\.(?:Goals|Given|{LEMMAS})(?:\..*)?", name)]
     return any(not re.match(r"[A-Z]", word) for name in others for word in name.rstrip(".").split(".")[:-1])
 
 
 @functools.lru_cache(None)
 def lemmas_name_functions(crate: Any) -> bool:
     """Whether a file of lemmas seems to name a module of a function's proof, which may be missing in a copy."""
-    return any(names_functions(crate, path) for path in files_below(f"{crate.folder}/proofs") if os.path.basename(path) not in ANSWERS)
+    return any(names_functions(crate, path) for path in files_below(f"{crate.folder}/proofs") if not is_answers(path))
+
+
+def is_answers(path: str) -> bool:
+    """Whether a file answers goals of a function, or has lemmas that such answers are."""
+    return os.path.basename(path) in ANSWERS or os.path.basename(os.path.dirname(path)) == LEMMAS
 
 
 def files_below(folder: str) -> List[str]:
@@ -187,17 +202,53 @@ def files_below(folder: str) -> List[str]:
 
 
 def differs_by_name(crate: Any, sources: Texts, place: Place) -> bool:
-    """Whether a twin of the function at a place is another by its name alone, and so proved where the function is: it is in no cycle of calls, and if it has answers,
-    they rest on lemmas and on no function's proof."""
+    """Whether a twin of the function at a place is another by its name alone, and so proved where the function is: it
+    is in no cycle of calls, and if it has answers, they rest on lemmas and on no function's proof."""
     files = [path for folder in answers_of(f"{crate.folder}/proofs", place) for path in files_below(folder)]
-    own = all(os.path.basename(path) in ANSWERS and not names_functions(crate, path) for path in files)
+    own = all(is_answers(path) and not names_functions(crate, path) for path in files)
     return not cycles_of(sources, [place]) and own and not (files and lemmas_name_functions(crate))
 
 
+def blocks_of(text: str) -> List[str]:
+    """What stands before the first answer or lemma of a file, and each of them."""
+    return re.split(r"(?m)^(?=(?:--.*\n)*(?:abbrev )?pub )", text)
+
+
+def merged(heads: Iterable[str]) -> str:
+    """The imports of some files as those of one, without the comments and modules of their heads."""
+    lists: Dict[str, Dict[str, None]] = {}
+    for line in "\n".join(heads).split("\n"):
+        listed = re.fullmatch(r"(use \S+\.\{)(.*)\}", line)
+        if listed or line.startswith("use "):
+            lists.setdefault(listed[1] if listed else line, {}).update(dict.fromkeys(listed[2].split(", ") if listed else ()))
+    return "\n".join(name + ", ".join(items) + "}" if items else name for name, items in lists.items()) + "\n\n"
+
+
+def with_lemmas(folder: str, text: str) -> str:
+    """Answers in whose place the lemmas stand that they name, of the files in a folder."""
+    lemmas, heads = {}, []
+    for name in sorted(os.listdir(folder)):
+        with open(f"{folder}/{name}", encoding="utf-8") as file:
+            head, *blocks = blocks_of(file.read())
+        heads.append(head)
+        for block in blocks:
+            lemmas[f"{name[: -len('.antt')].lower()}.{block.split()[1]}"] = block
+    head, *blocks = blocks_of(text)
+    made = []
+    for block in blocks:
+        named = re.search(r"(?m)^(\S+) = (\S+)$", block)
+        lemma = lemmas.get(named[2]) if named else None
+        short = re.escape(named[2].split(".", 1)[1]) if lemma else ""
+        made.append(re.sub(rf"(?m)^((?:pub )?){short}(?= |$)", rf"\g<1>{named[1]}", lemma) if lemma else block)
+    own = [line for line in head.split("\n") if not re.fullmatch(rf"use \S+\.{LEMMAS}\.\w+ as \w+", line)]
+    return merged(["\n".join(own), *heads]) + "\n".join(block.rstrip("\n") + "\n" for block in made)
+
+
 def answers_of_member(text: str, member: str) -> Optional[str]:
-    """Of the answers of a cycle of calls those of one member, as if it were in none: its twin calls what stands for the others, and itself. The names of a member's
-    goals begin with its own, and their answers take what is known of the cycle first. In the twin nothing needs to fall from call to call."""
-    head, *blocks = re.split(r"(?m)^(?=(?:--.*\n)*(?:abbrev )?pub )", text)
+    """Of the answers of a cycle of calls those of one member, as if it were in none: its twin calls what stands for the
+    others, and itself. The names of a member's goals begin with its own, and their answers take what is known of the
+    cycle first. In the twin nothing needs to fall from call to call."""
+    head, *blocks = blocks_of(text)
     own = []
     for block in blocks:
         name = re.match(rf"(?:--.*\n)*(?:abbrev )?pub ((invariant-|decreases-|){re.escape(member)}-(\S+)) :", block)
@@ -209,8 +260,8 @@ def answers_of_member(text: str, member: str) -> Optional[str]:
 
 
 class Stubbed:
-    """A copy of a crate, in a folder that is made here, in which only the functions at some places, as (file, name, type), have their own bodies, and twins stand
-    beside their functions."""
+    """A copy of a crate, in a folder that is made here, in which only the functions at some places, as (file, name,
+    type), have their own bodies, and twins stand beside their functions."""
 
     def __init__(self, crate: Any, folder: str, places: Set[Place], twins: Iterable[Twin] = ()) -> None:
         self.places, self.twins, self.proofs = places, twins, f"{folder}/proofs"
@@ -252,13 +303,16 @@ class Stubbed:
             # (the answers of a cycle through several modules name each member with its own)
             beyond = module[len([part for part in above if part != "."]) :] if not twin.owner else []
             to = "/".join([os.path.dirname(at), *beyond, twin.name])
-            for name in os.listdir(at):
+            for name in [name for name in os.listdir(at) if name != LEMMAS]:
                 self.rewrite(f"{at}/{name}", f"{to}/{name}", at, to, "::".join([*beyond, twin.of[1]]))
 
     def rewrite(self, source: str, target: str, folder: str, to: str, member: Optional[str]) -> None:
         """Writes a file of a proof for a twin, whose folder is another; of a cycle's, what is of one member."""
         with open(source, encoding="utf-8") as file:
             text = file.read()
+        lemmas = source[: -len(".antt")]
+        if member and os.path.basename(lemmas) == LEMMAS and os.path.isdir(lemmas):
+            text = with_lemmas(lemmas, text)
         text = answers_of_member(text, member) if member else text
         was, new = (os.path.relpath(path, self.proofs).replace("/", ".") for path in (folder, to))
         if text is not None:

@@ -1,7 +1,7 @@
 """A crate's verdict: taken from the store, or made from nothing and kept there.
 
-What decides a verdict is in its key: the kit, the crate's own files and its row of crates.txt, the key of each library below it with the sum of what was built of
-it, and the handles that the repository allows.
+What decides a verdict is in its key: the kit, the crate's own files and its row of crates.txt, the key of each library
+below it with the sum of what was built of it, and the handles that the repository allows.
 """
 
 import json
@@ -41,7 +41,8 @@ def key_of(crate: Any, tests: bool) -> str:
 
 
 def files_made(crate: Any, tests: bool) -> List[str]:
-    """What a verdict leaves in out/, relative to it: a library, a program as each compiler builds it and its module, or the program of the tests."""
+    """What a verdict leaves in out/, relative to it: a library, a program as each compiler builds it and its module, or
+    the program of the tests."""
     out = f"{crate.folder}/out"
     if tests:
         names = [f"{crate.name}_tests"]

@@ -2,6 +2,7 @@
 use Rattle.ps_lower_constructs.proofs.Calling.{Callable}
 use Rattle.std.proofs.Common.{◌≡◌, ℕ, suc, ◌≤◌, ℤ, pos, Bool, true, false, not, IsTrue, [], ◌∷◌, ◌++◌, Option}
 use Rattle.std.proofs.Common.{Some, refl, sym, ap, ◌∙◌, subst, arith, ◌&&◌, ◌||◌, int_le}
+use Rattle.std.proofs.lemmas.Bool.{and_parts}
 use Rattle.ps_tree.specs.declared.tree.Range.{Range}
 use Rattle.ps_tree.specs.declared.tree.Range.TheVariants.{Any, Within}
 use Rattle.ps_tree.specs.Tree.{Expr, Assign, Place}
@@ -29,7 +30,7 @@ use Rattle.ps_lower_code.proofs.Depths.{even_above, kept_above}
 use Rattle.ps_lower_relation.specs.Here.{Setting, code_in, Work, Activated, IsActive, Alive, state, IsBelow, WordIn}
 use Rattle.ps_lower_relation.specs.Here.{SiteAt}
 use Rattle.ps_lower_relation.specs.Outcomes.{Reached, Runs}
-use Rattle.ps_lower_relation.proofs.Places.{both_parts, le_through}
+use Rattle.ps_lower_relation.proofs.Places.{le_through}
 use Rattle.ps_lower_constructs.specs.Openings.{plain_scope, Opening, scope_in, context_in}
 use Rattle.ps_lower_constructs.proofs.Runs.{runs_bind, runs_told, keeps_refl, keeps_less}
 use Rattle.ps_lower_constructs.proofs.Kept.{opened_kept, site_kept}
@@ -44,8 +45,8 @@ use Rattle.ps_lower_constructs.proofs.Statements.{StatementRuns, place_above}
 byte_range : (low z high : ℤ) → IsTrue (int_le (pos 0) low && int_le high (pos 255)) → is_between low z high ≡ true
     → IsTrue (is_between (pos 0) z (pos 255))
 byte_range low z high h e =
-    let a = both_parts (int_le (pos 0) low) (int_le high (pos 255)) h in
-    let b = both_parts (int_le low z) (int_le z high) e in
+    let a = and_parts (int_le (pos 0) low) (int_le high (pos 255)) h in
+    let b = and_parts (int_le low z) (int_le z high) e in
     ap (λ t. t && int_le z (pos 255)) (le_through (pos 0) low z a.0 b.0) ∙ le_through z high (pos 255) b.1 a.1
 
 module _ (p : Setting) (n : ℕ) (call : Caller) (next : Next) (c : Activated) (active : IsActive p c) (nexts : NextRuns p n next) (does : WritesDo p) (calls : Callable p n call) where

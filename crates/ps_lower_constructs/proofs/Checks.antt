@@ -1,7 +1,8 @@
 -- Tests of ranges, and stores to variables.
-use Rattle.std.proofs.Common.{◌≡◌, ℕ, suc, ◌+◌, ◌≤◌, ◌<◌, ℤ, pos, negsuc, Bool, true, false, ◌&&◌, if◌then◌else◌}
+use Rattle.std.proofs.Common.{◌≡◌, ℕ, suc, ◌+◌, ◌<◌, ℤ, pos, negsuc, Bool, true, false, ◌&&◌, if◌then◌else◌}
 use Rattle.std.proofs.Common.{IsTrue, List, [], ◌∷◌, Option, Some, None, refl, sym, ap, ◌∙◌, subst, append-nil}
-use Rattle.std.proofs.Common.{eqb-true, lt-ltb, ltb-true, nat_lt, not, int_le, arith}
+use Rattle.std.proofs.Common.{eqb-true, lt-ltb, nat_lt, not, int_le, arith}
+use Rattle.std.proofs.lemmas.Bool.{and_parts, le-ltb}
 use Rattle.tac_code.specs.declared.code.Value.TheVariants.{Number, Address}
 use Rattle.tac_code.specs.declared.code.Instruction.TheVariants as i
 use Rattle.tac_code.specs.Numbers.{is_integer}
@@ -42,35 +43,23 @@ equal_is (pos a) (negsuc b) e = absurd (cc)
 equal_is (negsuc a) (pos b) e = absurd (cc)
 equal_is (negsuc a) (negsuc b) e = ap negsuc (eqb-true a b e)
 
-both : (a b : Bool) → (a && b) ≡ true → (a ≡ true) × (b ≡ true)
-both true true e = (refl, refl)
-both true false e = absurd (cc)
-both false b e = absurd (cc)
-
 any_integer : (low high x : ℤ) → is_any low high ≡ true → IsTrue (is_integer x) → is_between low x high ≡ true
 any_integer low high x e h =
-    let r = both (is_equal low least) (is_equal high greatest) e in
+    let r = and_parts (is_equal low least) (is_equal high greatest) e in
     ap (λ l. is_between l x high) (equal_is low least r.0) ∙ ap (λ l. is_between least x l) (equal_is high greatest r.1)
     ∙ between_integers x ∙ h
-
-pub not_less : (a b : ℕ) → b ≤ a → nat_lt a b ≡ false
-not_less a b l = go (nat_lt a b) refl
-  where
-    go : (t : Bool) → nat_lt a b ≡ t → t ≡ false
-    go true e = let x = ltb-true a b e in absurd (omega (arith, l, x))
-    go false e = refl
 
 -- a byte is a number of 0..255
 pub byte_between : (b : ℕ) → b < 256 → IsTrue (is_between (pos 0) (pos b) (pos 255))
 byte_between b l = sym (in_range (pos 0) (pos b) (pos 255)) ∙ ap (λ t. not t && not (nat_lt 255 b))
-    (not_less b 0 (omega arith)) ∙ ap (λ t. not t) (not_less 255 b (omega (arith, l)))
+    (le-ltb b 0 (omega arith)) ∙ ap (λ t. not t) (le-ltb 255 b (omega (arith, l)))
 
 -- and lies in a range that has all bytes
 byte_in : (low high x : ℤ) → has_bytes low high ≡ true → IsTrue (is_between (pos 0) x (pos 255)) → is_between low x high
     ≡ true
 byte_in low high x e h =
-    let a = both (int_le low (pos 0)) (int_le (pos 255) high) e in
-    let b = both (int_le (pos 0) x) (int_le x (pos 255)) h in
+    let a = and_parts (int_le low (pos 0)) (int_le (pos 255) high) e in
+    let b = and_parts (int_le (pos 0) x) (int_le x (pos 255)) h in
     ap (λ t. t && int_le x high) (le_through low (pos 0) x a.0 b.0) ∙ le_through x (pos 255) high b.1 a.1
 
 module _ (p : Setting) (n : ℕ) (c : Activated) (active : IsActive p c) where
@@ -142,7 +131,7 @@ module _ (p : Setting) (n : ℕ) (c : Activated) (active : IsActive p c) where
           (λ u w' k'. (u ≡ v) × WordIn k'.temporaries w'.made t NumberSort v
           × (is_between low (number_of v) high ≡ true))
       go true q h =
-          let e = both byte (has_bytes low high) q in
+          let e = and_parts byte (has_bytes low high) q in
           let inside = byte_in low high (number_of v) e.1 (is_byte e.0) in
           subst (λ b. Runs p n c d x w k pc pc' ((if b then give v else fault 4 line (context_in c o)) w)
           (λ u w' k'. (u ≡ v) × WordIn k'.temporaries w'.made t NumberSort v

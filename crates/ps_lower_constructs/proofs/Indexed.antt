@@ -2,6 +2,7 @@
 use Rattle.std.proofs.Common.{◌≡◌, ℕ, suc, ◌+◌, ◌-◌, ◌*◌, ◌<◌, ◌≤◌, ℤ, pos, negsuc, ◌+ℤ◌, ◌-ℤ◌, unsigned_abs, int_le}
 use Rattle.std.proofs.Common.{Bool, true, false, ◌&&◌, if◌then◌else◌, nat_le, nat_lt, [], ◌∷◌, ◌++◌, Some, refl, sym}
 use Rattle.std.proofs.Common.{ap, ◌∙◌, subst, arith, lt-ltb, ltb-true, ltb-false, le-leb, leb-true}
+use Rattle.std.proofs.lemmas.Bool.{and_parts}
 use Rattle.ps_tree.specs.Types.{DataType}
 use Rattle.ps_tree.specs.Sizes.{value_count}
 use Rattle.tac_code.specs.declared.code.Block.{Block}
@@ -29,7 +30,7 @@ use Rattle.ps_lower_relation.specs.Here.{Setting, machine_of, code_in, Work, Act
 use Rattle.ps_lower_relation.specs.Here.{Keeps}
 use Rattle.ps_lower_relation.specs.Outcomes.{Runs}
 use Rattle.ps_lower_relation.proofs.Numbers.{in_range, same_test}
-use Rattle.ps_lower_relation.proofs.Places.{gap, gap_is, both_parts, place_step, place_below}
+use Rattle.ps_lower_relation.proofs.Places.{gap, gap_is, place_step, place_below}
 use Rattle.ps_lower_constructs.specs.Openings.{Opening, context_in}
 use Rattle.ps_lower_constructs.proofs.Runs.{with_temporary, runs_from, runs_word, gives_word, keeps_refl}
 use Rattle.ps_lower_constructs.proofs.Kept.{place_grows}
@@ -76,7 +77,7 @@ room_same (negsuc a) (negsuc b) m e = go (nat_lt m (suc a)) refl (leb-true b a e
 room_test : (whole part : ℕ) (low z high : ℤ) → part ≤ whole → is_between low z high ≡ true → is_between low z
     (low +ℤ pos (whole - part)) ≡ nat_le (unsigned_abs (z -ℤ low) + part) whole
 room_test whole part low z high l e =
-    let h = both_parts (int_le low z) (int_le z high) e in
+    let h = and_parts (int_le low z) (int_le z high) e in
     let far = gap low z in
     ap (λ b. b && int_le z (low +ℤ pos (whole - part))) h.0
     ∙ room_same low z (whole - part) h.0

@@ -4,6 +4,7 @@ use Rattle.std.proofs.Common.{not, ◌&&◌, nat_eq, nat_lt, if◌then◌else◌
 use Rattle.std.proofs.Common.{arith, lt-ltb, ltb-true, ltb-false}
 use Rattle.std.proofs.lemmas.Grind.{and_numeral}
 use Rattle.std.proofs.lemmas.Int.{ints}
+use Rattle.std.proofs.lemmas.Bool.{le-ltb}
 use Rattle.behavior.specs.Endings.{Stuck}
 use Rattle.ps_tree.specs.Tree.{Place, Expr, In, SetExpr, LoadSet, Constructor, Combine, SetSteps, Members}
 use Rattle.tac_code.specs.declared.code.Base.TheVariants as base
@@ -51,7 +52,6 @@ use Rattle.ps_lower_constructs.proofs.Runs.{with_temporary, outcome_from, reache
 use Rattle.ps_lower_constructs.proofs.Runs.{keeps_less}
 use Rattle.ps_lower_constructs.proofs.Kept.{opened_kept}
 use Rattle.ps_lower_constructs.proofs.Places.{base_is}
-use Rattle.ps_lower_constructs.proofs.Checks.{not_less}
 use Rattle.ps_lower_constructs.proofs.Values.{false_true, FrontIn, FrontRuns, expr_runs_from, plain_front}
 use Rattle.ps_lower_constructs.proofs.Selectors.{PlaceIn, PlaceRuns}
 use Rattle.ps_lower_constructs.proofs.Scratch.{scratch_offset}
@@ -72,8 +72,8 @@ quotient : (n : ℕ) → n < 2147483648 → within 0 (pos n) ≡ Given (pos n)
 quotient n l = ap (λ b. if b then Given (pos n) else Fails 0) (lt-ltb n 2147483648 l)
 
 in_set : (q : ℕ) → q < 8 → is_in_range (pos 0) (pos 7) (pos q) ≡ true
-in_set q l = ap (λ b. not b && not (nat_lt 7 q)) (not_less q 0 (omega arith)) ∙ ap (λ b. not b)
-    (not_less 7 q (omega (arith, l)))
+in_set q l = ap (λ b. not b && not (nat_lt 7 q)) (le-ltb q 0 (omega arith)) ∙ ap (λ b. not b)
+    (le-ltb 7 q (omega (arith, l)))
 
 above_zero : (q : ℕ) → steps_above (pos 0) (pos q) ≡ q
 above_zero q = let e : pos q -ℤ pos 0 ≡ pos q = omega (arith, ints) in ap natural e

@@ -5,6 +5,7 @@ use Rattle.std.proofs.Common.{if◌then◌else◌, int_le, nat_eq, drop, take_wh
 use Rattle.std.proofs.Common.{get_or, slice_get, Some, None, sum_by, refl, sym, ap, ◌∙◌, subst, arith, lt-ltb}
 use Rattle.std.proofs.Common.{append-nil}
 use Rattle.std.specs.List.{All}
+use Rattle.std.proofs.lemmas.Bool.{and_parts}
 use Rattle.behavior.specs.Endings.{failed}
 use Rattle.ps_tree.specs.declared.tree.Range.TheVariants.{Within}
 use Rattle.ps_tree.specs.Tree.{Place, ReadInteger, routine_at}
@@ -171,11 +172,6 @@ none_known e = absurd (cc)
 
 -- ---- ranges
 
-parts : (a b : Bool) → (a && b) ≡ true → (a ≡ true) × (b ≡ true)
-parts true true e = (refl, refl)
-parts true false e = absurd (cc)
-parts false b e = absurd (cc)
-
 -- no number outside the integers is in a range of integers
 outside : (low high x : ℤ) → is_integer low ≡ true → is_integer high ≡ true → is_integer x ≡ false
     → is_between low x high ≡ false
@@ -184,9 +180,9 @@ outside low high x l h e = go (is_between low x high) refl
     go : (b : Bool) → is_between low x high ≡ b → b ≡ false
     go false q = refl
     go true q =
-        let a = parts (int_le low x) (int_le x high) q in
-        let b = parts (int_le least low) (int_le low greatest) (between_integers low ∙ l) in
-        let d = parts (int_le least high) (int_le high greatest) (between_integers high ∙ h) in
+        let a = and_parts (int_le low x) (int_le x high) q in
+        let b = and_parts (int_le least low) (int_le low greatest) (between_integers low ∙ l) in
+        let d = and_parts (int_le least high) (int_le high greatest) (between_integers high ∙ h) in
         let one = le_through least low x b.0 a.0 in
         let two = le_through x high greatest a.1 d.1 in
         let y : true ≡ false = sym (ap (λ t. t && int_le x greatest) one ∙ two) ∙ between_integers x ∙ e in
@@ -205,8 +201,8 @@ range_integers low high Byte sorted ranged x e = go (is_between low x high) refl
     go : (b : Bool) → is_between low x high ≡ b → b ≡ false
     go false q = refl
     go true q =
-        let a = parts (int_le low x) (int_le x high) q in
-        let r = parts (int_le (pos 0) low) (int_le high (pos 255)) ranged in
+        let a = and_parts (int_le low x) (int_le x high) q in
+        let r = and_parts (int_le (pos 0) low) (int_le high (pos 255)) ranged in
         let one = le_through least (pos 0) x refl (le_through (pos 0) low x r.0 a.0) in
         let two = le_through x (pos 255) greatest (le_through x high (pos 255) a.1 r.1) refl in
         let y : true ≡ false = sym (ap (λ t. t && int_le x greatest) one ∙ two) ∙ between_integers x ∙ e in

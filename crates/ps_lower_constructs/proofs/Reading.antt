@@ -4,6 +4,7 @@ use Rattle.std.proofs.Common.{◌≡◌, ℕ, suc, ◌+◌, ◌-◌, ◌<◌, �
 use Rattle.std.proofs.Common.{nat_lt, if◌then◌else◌, List, [], ◌∷◌, ◌++◌, length, replicate, Option, Some, None, refl}
 use Rattle.std.proofs.Common.{sym, ap, ◌∙◌, subst, arith, lt-ltb, append_assoc}
 use Rattle.std.specs.List.{All}
+use Rattle.std.proofs.lemmas.Bool.{le-ltb}
 use Rattle.behavior.specs.Transcripts.{mark}
 use Rattle.behavior.specs.Endings.{failed}
 use Rattle.tac_code.specs.Numbers.{is_in_range}
@@ -45,7 +46,7 @@ use Rattle.ps_lower_constructs.proofs.Runs.{runs_bind, runs_from, here, passes, 
 use Rattle.ps_lower_constructs.proofs.Kept.{opened_kept, site_kept}
 use Rattle.ps_lower_constructs.proofs.Calls.{length_map}
 use Rattle.ps_lower_constructs.proofs.Leaves.{fails_so}
-use Rattle.ps_lower_constructs.proofs.Checks.{not_less, byte_between}
+use Rattle.ps_lower_constructs.proofs.Checks.{byte_between}
 use Rattle.ps_lower_constructs.proofs.Inputs.{input_place, input_is, input_renewed, reader_run}
 use Rattle.ps_lower_constructs.proofs.Selectors.{PlaceIn, is_byte_part, place_byte}
 use Rattle.ps_lower_constructs.proofs.Expressions.{place_run}
@@ -167,8 +168,8 @@ none_marks i e = go i.left i.looked e
     go (b ∷ rest) looked e = some_none (sym e)
 
 byte_there : (a : ℕ) → a < 256 → is_in_range (pos 0) greatest (pos a) ≡ true
-byte_there a l = ap (λ t. not t && not (nat_lt 2147483647 a)) (not_less a 0 (omega arith)) ∙ ap (λ t. not t)
-    (not_less 2147483647 a (omega (arith, l)))
+byte_there a l = ap (λ t. not t && not (nat_lt 2147483647 a)) (le-ltb a 0 (omega arith)) ∙ ap (λ t. not t)
+    (le-ltb 2147483647 a (omega (arith, l)))
 
 none_known : {A : Type 0} {z : ℤ} → None ≡ Some z → A
 none_known e = absurd (cc)

@@ -1,6 +1,7 @@
 -- Two parts of one block that are as deep are the same, or lie apart.
 use Rattle.std.proofs.Common.{◌≡◌, ◌⊎◌, inl, inr, ℕ, zero, suc, ◌+◌, ◌*◌, ◌<◌, ◌≤◌, List, [], ◌∷◌, slice_get, Option}
 use Rattle.std.proofs.Common.{Some, refl, sym, ap, ◌∙◌, subst, arith, mul-le-mul_right}
+use Rattle.std.proofs.lemmas.Bool.{cases_order}
 use Rattle.ps_tree.specs.Tree.{Program, routine_at, domain_at}
 use Rattle.tac_code.specs.declared.code.Block.{Block}
 use Rattle.tac_code.specs.declared.code.Block.TheVariants.{Frame as FrameBlock, Object as ObjectBlock}
@@ -21,17 +22,6 @@ use Rattle.ps_lower_relation.proofs.Memory.{ghost_fits}
 -- stretches of this many bytes
 abbrev pub SameOrApart : (i j count : ℕ) → Type 0
 SameOrApart i j n = (i ≡ j) ⊎ ((i + n ≤ j) ⊎ (j + n ≤ i))
-
-order : (k l : ℕ) → (k ≡ l) ⊎ ((k < l) ⊎ (l < k))
-order zero zero = inl refl
-order zero (suc l) = inr (inl (omega arith))
-order (suc k) zero = inr (inr (omega arith))
-order (suc k) (suc l) = go (order k l)
-  where
-    go : (k ≡ l) ⊎ ((k < l) ⊎ (l < k)) → (suc k ≡ suc l) ⊎ ((suc k < suc l) ⊎ (suc l < suc k))
-    go (inl e) = inl (ap suc e)
-    go (inr (inl a)) = inr (inl (omega arith))
-    go (inr (inr a)) = inr (inr (omega arith))
 
 -- Two parts of one block are the same, or lie apart.
 abbrev pub Beside : (x y : Shape) → (i j : ℕ) → Type 0
@@ -117,7 +107,7 @@ module _ (x y : Shape) (even : depth x ≡ depth y) where
   paths_apart (k ∷ p) (l ∷ q) SetShape i j a b = absurd a
   paths_apart (k ∷ []) (l ∷ q) (ByteShape count first) i j a b = byte_whole a.1
   paths_apart (k ∷ m ∷ p) (l ∷ q) (ByteShape count first) i j a b = absurd a
-  paths_apart (k ∷ p) (l ∷ q) (ArrayShape count shape) i j a b = go (order k l)
+  paths_apart (k ∷ p) (l ∷ q) (ArrayShape count shape) i j a b = go (cases_order k l)
       (paths_apart p q shape a.1.0 b.1.0 a.1.1 b.1.1)
     where
       go : (k ≡ l) ⊎ ((k < l) ⊎ (l < k)) → Beside x y a.1.0 b.1.0 → Beside x y i j
@@ -137,7 +127,7 @@ module _ (x y : Shape) (even : depth x ≡ depth y) where
           let r = path_within q shape (Whole y) b.1.0 b.1.1 in
           let product : suc l * word_count shape ≤ k * word_count shape = mul-le-mul_right (word_count shape) h in
           inr (inr (omega (arith, e, f, r, product)))
-  paths_apart (k ∷ p) (l ∷ q) (RecordShape shapes) i j a b = go (order k l)
+  paths_apart (k ∷ p) (l ∷ q) (RecordShape shapes) i j a b = go (cases_order k l)
       (λ one. paths_apart p q b.0 a.2.0 b.2.0 (subst (λ s. PathIn p s (Whole x) a.2.0) one a.2.1) b.2.1)
     where
       go : (k ≡ l) ⊎ ((k < l) ⊎ (l < k)) → (a.0 ≡ b.0 → Beside x y a.2.0 b.2.0) → Beside x y i j
@@ -200,7 +190,7 @@ object_number _ = 0
 module _ (program : Program) (gs : List Ghost) (w : World) (count : ℕ) (holds : Holds program gs w count) where
   declared_apart : (v u : Shape) → depth v ≡ depth u → (m n : ℕ) (p q : List ℕ) (b : Block) (i j : ℕ)
       → DeclaredAt program gs w.made m p b i (Whole v) → DeclaredAt program gs w.made n q b j (Whole u) → Beside v u i j
-  declared_apart v u even m n p q b i j x y = go (order x.index y.index)
+  declared_apart v u even m n p q b i j x y = go (cases_order x.index y.index)
     where
       g : Ghost
       g = x.ghost

@@ -1,7 +1,8 @@
 -- A memory in which one block has other words.
-use Rattle.std.proofs.Common.{◌≡◌, ◌⊎◌, inl, inr, ℕ, zero, suc, ◌*◌, ◌<◌, arith, Bool, true, false, nat_eq}
+use Rattle.std.proofs.Common.{◌≡◌, ◌⊎◌, inl, inr, ℕ, zero, suc, ◌*◌, ◌<◌, Bool, true, false, nat_eq}
 use Rattle.std.proofs.Common.{if◌then◌else◌, List, [], ◌∷◌, length, slice_get, set, Option, Some, refl, sym, ap, ◌∙◌}
 use Rattle.std.proofs.Common.{eqb-true}
+use Rattle.std.proofs.lemmas.Bool.{cases_eq}
 use Rattle.tac_code.specs.declared.code.Block.{Block}
 use Rattle.tac_code.specs.declared.code.Block.TheVariants.{Frame as FrameBlock, Scratch as ScratchBlock}
 use Rattle.tac_code.specs.declared.code.Block.TheVariants.{Object as ObjectBlock, Constant as ConstantBlock}
@@ -140,17 +141,6 @@ IsOpen (ScratchBlock a) = Unit {0}
 IsOpen (ObjectBlock k) = Unit {0}
 IsOpen (ConstantBlock r place) = ⊥
 
--- two blocks are the same or not
-same_numbers : (k a : ℕ) → (k ≡ a) ⊎ (k ≡ a → ⊥)
-same_numbers zero zero = inl refl
-same_numbers zero (suc a) = inr (λ e. omega (arith, e))
-same_numbers (suc k) zero = inr (λ e. omega (arith, e))
-same_numbers (suc k) (suc a) = go (same_numbers k a)
-  where
-    go : (k ≡ a) ⊎ (k ≡ a → ⊥) → (suc k ≡ suc a) ⊎ (suc k ≡ suc a → ⊥)
-    go (inl e) = inl (ap suc e)
-    go (inr h) = inr (λ e. h (omega (arith, e)))
-
 abbrev block_number : Block → ℕ
 block_number (FrameBlock a) = a
 block_number (ScratchBlock a) = a
@@ -158,17 +148,17 @@ block_number (ObjectBlock a) = a
 block_number (ConstantBlock r a) = a
 
 pub same_or_other : (b c : Block) → IsOpen b → (c ≡ b) ⊎ (c ≡ b → ⊥)
-same_or_other (FrameBlock a) (FrameBlock k) can = go (same_numbers k a)
+same_or_other (FrameBlock a) (FrameBlock k) can = go (cases_eq k a)
   where
     go : (k ≡ a) ⊎ (k ≡ a → ⊥) → (FrameBlock k ≡ FrameBlock a) ⊎ (FrameBlock k ≡ FrameBlock a → ⊥)
     go (inl e) = inl (ap (λ n. FrameBlock n) e)
     go (inr h) = inr (λ e. h (ap block_number e))
-same_or_other (ScratchBlock a) (ScratchBlock k) can = go (same_numbers k a)
+same_or_other (ScratchBlock a) (ScratchBlock k) can = go (cases_eq k a)
   where
     go : (k ≡ a) ⊎ (k ≡ a → ⊥) → (ScratchBlock k ≡ ScratchBlock a) ⊎ (ScratchBlock k ≡ ScratchBlock a → ⊥)
     go (inl e) = inl (ap (λ n. ScratchBlock n) e)
     go (inr h) = inr (λ e. h (ap block_number e))
-same_or_other (ObjectBlock a) (ObjectBlock k) can = go (same_numbers k a)
+same_or_other (ObjectBlock a) (ObjectBlock k) can = go (cases_eq k a)
   where
     go : (k ≡ a) ⊎ (k ≡ a → ⊥) → (ObjectBlock k ≡ ObjectBlock a) ⊎ (ObjectBlock k ≡ ObjectBlock a → ⊥)
     go (inl e) = inl (ap (λ n. ObjectBlock n) e)

@@ -1,13 +1,13 @@
 -- Numbers that go to bytes: into the bytes of a block of which the words are known, from anywhere.
 use Rattle.std.proofs.Common.{◌≡◌, ℕ, zero, suc, ◌+◌, ◌*◌, ◌/◌, ◌%◌, ◌<◌, ◌≤◌, pos, List, [], ◌∷◌, ◌++◌, length}
 use Rattle.std.proofs.Common.{slice_get, slice_set, Some, refl, sym, ap, ◌∙◌, arith, append_assoc, length-append}
+use Rattle.std.proofs.lemmas.Option.{slice_get_within}
 use Rattle.tac_code.specs.declared.code.Block.{Block}
 use Rattle.tac_code.specs.declared.code.Value.TheVariants.{Number}
 use Rattle.tac_code.specs.Numbers.{with_byte}
 use Rattle.tac_code.specs.Memory.{Words, Memory, constant_words, words_in, load, store_byte}
 use Rattle.tac_code.specs.Meaning.{text_at}
 use Rattle.tac_code_steps.specs.Splices.{spliced}
-use Rattle.tac_code_steps.proofs.Pieces.{some_none}
 use Rattle.tac_code_steps.proofs.Splices.{spliced_length, spliced_inside, spliced_within}
 use Rattle.ps_lower_layout.specs.Words.{filled}
 use Rattle.ps_lower_relation.specs.Here.{Setting, code_in}
@@ -54,11 +54,6 @@ set_small (b ∷ bs) zero x h l = one_more x bs l (other_bytes b bs h)
 set_small (b ∷ bs) (suc i) x h l = one_more b (slice_set bs i x) (first_byte b bs h)
     (set_small bs i x (other_bytes b bs h) l)
 
-word_within : {A : Type 0} (ws : List A) (i : ℕ) (w : A) → slice_get ws i ≡ Some w → i < length ws
-word_within [] i w e = some_none e
-word_within (x ∷ ws) zero w e = omega arith
-word_within (x ∷ ws) (suc i) w e = let r = word_within ws i w e in omega (arith, r)
-
 -- ---- memory
 
 module _ (p : Setting) (m : Memory) (b : Block) (words : Words) (can : IsOpen b) (there : words_in (text_at (code_in p)) m b ≡ Some words) (start : ℕ) where
@@ -73,7 +68,7 @@ module _ (p : Setting) (m : Memory) (b : Block) (words : Words) (can : IsOpen b)
       ≡ 4 * start + i → store_byte (having bs) b o x ≡ Some (having (slice_set bs i x))
   byte_put bs i x o small l within is =
       let s = bytes_set bs i x small l in
-      let inside = word_within (coded bs) (i / 4) (Some (Number s.z)) s.there in
+      let inside = slice_get_within (coded bs) (i / 4) (Some (Number s.z)) s.there in
       let wide = spliced_length start (coded bs) words in
       let new = Number (with_byte s.z (i % 4) x) in
       let e : o ≡ 4 * (start + i / 4) + i % 4 = omega (arith, is) in

@@ -4,6 +4,7 @@ use Rattle.std.proofs.Common.{not, ◌&&◌, ◌||◌, nat_lt, ltb-true, ltb-fal
 use Rattle.std.proofs.Common.{le-leb}
 use Rattle.std.specs.Int.{bit_at}
 use Rattle.std.proofs.lemmas.Nat.Bits.{bit_at-zero}
+use Rattle.std.proofs.lemmas.Bool.{and_parts, or_parts}
 use Rattle.ps_tree.specs.declared.tree.SetOperator.TheVariants.{Union, Intersection}
 use Rattle.tac_code.specs.declared.code.BitOperator.TheVariants.{And, Or}
 use Rattle.tac_code.specs.Numbers.{number_of, bits, same_number}
@@ -33,14 +34,6 @@ and_true : (b : Bool) → (b && true) ≡ b
 and_true true = refl
 and_true false = refl
 
-and_cases : (a b : Bool) → (a && b) ≡ true → (a ≡ true) × (b ≡ true)
-and_cases true b e = (refl, e)
-and_cases false b e = absurd (cc e)
-
-or_cases : (a b : Bool) → (a || b) ≡ false → (a ≡ false) × (b ≡ false)
-or_cases true b e = absurd (cc e)
-or_cases false b e = (refl, e)
-
 not_outside : (a b : Bool) → (a && not b) ≡ false → (not a || b) ≡ true
 not_outside true true e = refl
 not_outside true false e = sym e
@@ -64,7 +57,7 @@ each_of zero f h k l = absurd (omega (arith, l))
 each_of (suc n) f h k l = go (each_of n f parts.1 k) (nat_lt k n) refl
   where
     parts : (f n ≡ true) × (all_below n f ≡ true)
-    parts = and_cases (f n) (all_below n f) h
+    parts = and_parts (f n) (all_below n f) h
 
     go : (k < n → f k ≡ true) → (b : Bool) → nat_lt k n ≡ b → f k ≡ true
     go below true e = below (ltb-true k n e)
@@ -150,7 +143,7 @@ module _ (low high : ℤ) where
     each_gathered (suc n) i h q l = go (each_gathered n i parts.0 q) (nat_lt q n) refl
       where
         parts : (gathered n i ≡ false) × (strays (32 * n + i) ≡ false)
-        parts = or_cases (gathered n i) (strays (32 * n + i)) h
+        parts = or_parts (gathered n i) (strays (32 * n + i)) h
 
         go : (q < n → strays (32 * q + i) ≡ false) → (b : Bool) → nat_lt q n ≡ b → strays (32 * q + i) ≡ false
         go below true e = below (ltb-true q n e)
@@ -188,7 +181,7 @@ module _ (low high : ℤ) where
         ∙ below high parts.1 k l) ∙ or_true (not (s k)))
       where
         parts : (int_le low (pos 0) ≡ true) × (int_le (pos 255) high ≡ true)
-        parts = and_cases (int_le low (pos 0)) (int_le (pos 255) high) e
+        parts = and_parts (int_le low (pos 0)) (int_le (pos 255) high) e
 
         above : (low : ℤ) → int_le low (pos 0) ≡ true → (k : ℕ) → int_le low (pos k) ≡ true
         above (pos a) h k = let l = leb-true a 0 h in le-leb a k (omega (arith, l))

@@ -2,6 +2,7 @@
 use Rattle.std.proofs.Common.{◌≡◌, ◌⊎◌, inl, inr, ℕ, zero, suc, ◌+◌, ◌*◌, ◌/◌, ◌%◌, ◌^◌, ◌<◌, ◌≤◌, pos, Bool, true}
 use Rattle.std.proofs.Common.{false, ◌&&◌, ◌||◌, nat_eq, nat_le, [], ◌∷◌, length, slice_get, Some, refl, sym, ap, ◌∙◌}
 use Rattle.std.proofs.Common.{subst, arith, eqb-true, leb-true, le-leb, eq-eqb}
+use Rattle.std.proofs.lemmas.Bool.{or_cases, or_left, or_right, and_from, and_parts}
 use Rattle.ps_tree.specs.declared.tree.SetOperator.{SetOperator}
 use Rattle.tac_code.specs.declared.code.Block.{Block}
 use Rattle.tac_code.specs.declared.code.Value.{Value as Word}
@@ -261,33 +262,15 @@ module _ (p : Setting) (b : Block) (memory : Words → Memory) (holding : Holdin
 
 -- ---- what was added is an interval
 
-or_cases : (a b : Bool) → (a || b) ≡ true → (a ≡ true) ⊎ (b ≡ true)
-or_cases true b e = inl refl
-or_cases false b e = inr e
-
-or_left : (a b : Bool) → a ≡ true → (a || b) ≡ true
-or_left a b e = ap (λ x. x || b) e
-
-or_right : (a b : Bool) → b ≡ true → (a || b) ≡ true
-or_right true b e = refl
-or_right false b e = e
-
-and_both : (a b : Bool) → a ≡ true → b ≡ true → (a && b) ≡ true
-and_both a b e f = ap (λ x. x && b) e ∙ f
-
-and_cases : (a b : Bool) → (a && b) ≡ true → (a ≡ true) × (b ≡ true)
-and_cases true b e = (refl, e)
-and_cases false b e = absurd (cc e)
-
 -- from n to n + m
 between_naturals : (n m k : ℕ) → n ≤ k → k ≤ n + m → (nat_le n k && nat_le k (n + m)) ≡ true
-between_naturals n m k a b = and_both (nat_le n k) (nat_le k (n + m)) (le-leb n k a) (le-leb k (n + m) b)
+between_naturals n m k a b = and_from (nat_le n k) (nat_le k (n + m)) (le-leb n k a) (le-leb k (n + m) b)
 
 pub adding_interval : (m n k : ℕ) (s : ℕ → Bool) → adding s n (suc m) k ≡ (s k || interval (pos n) (pos (n + m)) k)
 adding_interval zero n k s = ap (λ b. s k || b)
     (same_test (nat_eq k n) (nat_le n k && nat_le k (n + 0))
     (λ e. let q = eqb-true k n e in between_naturals n 0 k (omega (arith, q)) (omega (arith, q)))
-    (λ e. let c = and_cases (nat_le n k) (nat_le k (n + 0)) e in let a = leb-true n k c.0 in let b = leb-true k
+    (λ e. let c = and_parts (nat_le n k) (nat_le k (n + 0)) e in let a = leb-true n k c.0 in let b = leb-true k
     (n + 0) c.1 in eq-eqb k n (omega (arith, a, b))))
 adding_interval (suc m) n k s =
     adding_interval m (suc n) k (λ j. s j || nat_eq j n)
@@ -308,7 +291,7 @@ adding_interval (suc m) n k s =
         → (s k || (nat_le n k && nat_le k (n + suc m))) ≡ true
     to (inl e) = later (or_cases (s k) (nat_eq k n) e)
     to (inr e) =
-        let c = and_cases (nat_le (suc n) k) (nat_le k (suc n + m)) e in
+        let c = and_parts (nat_le (suc n) k) (nat_le k (suc n + m)) e in
         let a = leb-true (suc n) k c.0 in
         let b = leb-true k (suc n + m) c.1 in
         or_right (s k) inside (between_naturals n (suc m) k (omega (arith, a)) (omega (arith, b)))
@@ -324,11 +307,11 @@ adding_interval (suc m) n k s =
         go : (t : Bool) → nat_eq k n ≡ t → ((s k || nat_eq k n) || (nat_le (suc n) k && nat_le k (suc n + m))) ≡ true
         go true q = or_left (s k || nat_eq k n) all (or_right (s k) (nat_eq k n) q)
         go false q =
-            let c = and_cases (nat_le n k) (nat_le k (n + suc m)) e in
+            let c = and_parts (nat_le n k) (nat_le k (n + suc m)) e in
             let a = leb-true n k c.0 in
             let b = leb-true k (n + suc m) c.1 in
             let ne : k ≡ n → ⊥ = λ u. no (sym (eq-eqb k n u) ∙ q) in
-            or_right (s k || nat_eq k n) all (and_both (nat_le (suc n) k) (nat_le k (suc n + m))
+            or_right (s k || nat_eq k n) all (and_from (nat_le (suc n) k) (nat_le k (suc n + m))
             (le-leb (suc n) k (above (order k n ne) a)) (le-leb k (suc n + m) (omega (arith, b))))
           where
             no : true ≡ false → ⊥

@@ -2,6 +2,7 @@
 use Rattle.std.proofs.Common.{◌≡◌, ℕ, zero, suc, ◌+◌, ◌<◌, ◌≤◌, ◌⊎◌, inl, inr, true, false, nat_eq, nat_lt, List, []}
 use Rattle.std.proofs.Common.{◌∷◌, ◌++◌, length, Option, Some, None, slice_get, refl, sym, subst, arith}
 use Rattle.std.specs.Prelude.{option_map, All}
+use Rattle.std.proofs.lemmas.Bool.{eqb-true}
 use Rattle.tac_code.specs.declared.code.Instruction.{Instruction}
 use Rattle.tac_code.specs.declared.code.Instruction.TheVariants.{Call, CallValue}
 use Rattle.tac_code.specs.declared.code.TacRoutine.{TacRoutine}
@@ -32,9 +33,6 @@ not_at n m lt = grind (arith, lt)
 
 is_program_first : (n : ℕ) → 0 < n → nat_lt 0 n ≡ true
 is_program_first n lt = grind (arith, lt)
-
-same_number : (t u : ℕ) → nat_eq t u ≡ true → t ≡ u
-same_number t u e = grind (arith, e)
 
 -- no call comes back to 0
 no_call : (end : ℕ) (rows : List CallRow) → All (IsCall end) rows → option_map (λ row. row.line) (call_at 0 rows) ≡ None
@@ -109,9 +107,9 @@ module _ (code : Code) (homes : List Home) (image : Image) (sound : IsSound code
           (accept c r (home c r t)) (c.site r (suc j))
       go None here e = absurd (cc e)
       go (Some (Call u q us line)) here e =
-          moved t u (sym (same_number t u e)) (resumed r j u (offer c r us) _ (stand.body r j (Call u q us line) here))
+          moved t u (sym (eqb-true t u e)) (resumed r j u (offer c r us) _ (stand.body r j (Call u q us line) here))
       go (Some (CallValue u a us line)) here e =
-          moved t u (sym (same_number t u e)) (resumed r j u (offer_by c r a us) _
+          moved t u (sym (eqb-true t u e)) (resumed r j u (offer_by c r a us) _
           (stand.body r j (CallValue u a us line) here))
       go (Some _) here e = absurd (cc e)
 

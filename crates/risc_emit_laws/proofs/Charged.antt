@@ -1,14 +1,12 @@
 -- What an image's tables say of frames and objects is what the layout charges for.
 use Rattle.std.proofs.Common.{◌≡◌, ℕ, zero, suc, ◌+◌, ◌<◌, ◌≤◌, ◌⊎◌, inl, inr, List, [], ◌∷◌, length, map, get_or}
 use Rattle.std.proofs.Common.{refl, sym, ap, ◌∙◌, arith}
+use Rattle.std.proofs.lemmas.Bool.{cases_lt}
 use Rattle.tac_code.specs.declared.code.TacRoutine.{TacRoutine}
 use Rattle.risc_image.specs.Image.{Image}
 use Rattle.risc_emit_relation.specs.Context.{Context}
 use Rattle.risc_emit_laws.specs.Plan.{frame_cost, object_cost}
 use Rattle.risc_emit_laws.specs.Drawn.{frame_rows_of, object_rows_of, IsTabled}
-
-below_or_not : (j n : ℕ) → (j < n) ⊎ (n ≤ j)
-below_or_not j n = grind arith
 
 module _ (c : Context) where
   frames_get : (r : ℕ) (xs : List TacRoutine) (j : ℕ) → j < length xs → get_or
@@ -43,7 +41,7 @@ module _ (c : Context) where
   pub frames_charged : (image : Image) → IsTabled c image → ((r : ℕ) → length c.code.program ≤ r → c.costs r ≡ 0)
       → (r : ℕ) → frame_cost image r ≡ c.costs r
   frames_charged image t none r =
-      ap (λ rows. get_or (map (λ row. row.bytes) rows) r 0) t.frames ∙ go (below_or_not r (length c.code.program))
+      ap (λ rows. get_or (map (λ row. row.bytes) rows) r 0) t.frames ∙ go (cases_lt r (length c.code.program))
     where
       go : (r < length c.code.program) ⊎ (length c.code.program ≤ r) → get_or
           (map (λ row. row.bytes) (frame_rows_of c 0 c.code.program)) r 0 ≡ c.costs r
@@ -54,7 +52,7 @@ module _ (c : Context) where
   pub objects_charged : (image : Image) → IsTabled c image → ((t : ℕ) → length c.code.objects ≤ t → c.sizes t ≡ 0)
       → (t : ℕ) → object_cost image t ≡ c.sizes t
   objects_charged image t none q =
-      ap (λ rows. get_or (map (λ row. row.bytes) rows) q 0) t.objects ∙ go (below_or_not q (length c.code.objects))
+      ap (λ rows. get_or (map (λ row. row.bytes) rows) q 0) t.objects ∙ go (cases_lt q (length c.code.objects))
     where
       go : (q < length c.code.objects) ⊎ (length c.code.objects ≤ q) → get_or
           (map (λ row. row.bytes) (object_rows_of c 0 c.code.objects)) q 0 ≡ c.sizes q

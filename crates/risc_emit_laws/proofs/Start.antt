@@ -3,7 +3,7 @@ use Rattle.std.proofs.Common.{◌≡◌, ◌≢◌, ℕ, suc, ◌+◌, ◌-◌, 
 use Rattle.std.proofs.Common.{nat_lt, List, [], ◌∷◌, ◌++◌, length, Some, slice_get, pos, negsuc, ◌-ℤ◌, refl, sym, ap}
 use Rattle.std.proofs.Common.{◌∙◌, subst, arith}
 use Rattle.std.proofs.lemmas.Int.{ints}
-use Rattle.std.proofs.lemmas.Bool.{ltb-true}
+use Rattle.std.proofs.lemmas.Bool.{ltb-true, ltb-false}
 use Rattle.behavior.specs.Endings.{Ending, Stack}
 use Rattle.behavior.specs.Transcripts.{AreBytes}
 use Rattle.risc_word.specs.declared.instr.Operation.TheVariants as op
@@ -53,9 +53,6 @@ use Rattle.risc_emit_laws.specs.Emits.{IsLaidOut, Stand}
 use Rattle.risc_emit_laws.proofs.Built.{stood_is, built_is}
 
 -- ---- numbers
-
-not_below : (x y : ℕ) → nat_lt x y ≡ false → y ≤ x
-not_below x y e = grind arith
 
 same_test : (a b x y : ℕ) → (a < b → x < y) → (x < y → a < b) → nat_lt a b ≡ nat_lt x y
 same_test a b x y f g = grind (arith, f, g)
@@ -357,7 +354,7 @@ module _ (code : Code) (homes : List Home) (image : Image) (sound : IsSound code
   branched m v sh lt l e12 e0 e1 e14 e15 true ef less =
       stack_stop c words stood (before input) on.Less block.line m v sh l.stands.0 l.stands.1 less
   branched m v sh lt l e12 e0 e1 e14 e15 false ef less =
-      let room : c.base + n ≤ c.size = let le = not_below stack n ef in omega (arith, le) in
+      let room : c.base + n ≤ c.size = let le = ltb-false stack n ef in omega (arith, le) in
       let t1 = branch_passed words c.size stood.fits on.Less true (Relative (distance v.place 1)) m v sh l.stands.0 less
       in
       let v1 = at_view (v.place + 1) v in
@@ -412,7 +409,7 @@ module _ (code : Code) (homes : List Home) (image : Image) (sound : IsSound code
       (Fails on.Always 12 block.line ∷ []) → (full : Bool) → nat_lt stack n ≡ full → Starts full m
   refused m sh le st true ef = stack_stop c words stood (before input) on.Always block.line m v1 sh st.0 st.1 refl
   refused m sh le st false ef =
-      let room = not_below stack n ef in
+      let room = ltb-false stack n ef in
       let h = low_size in
       absurd (omega (arith, room, h, le))
 
@@ -427,4 +424,4 @@ module _ (code : Code) (homes : List Home) (image : Image) (sound : IsSound code
           → Stands c words 3 (cond small (frame_below c 0 n ++ behind_frame) (Fails on.Always 12 block.line ∷ []))
           → Starts (nat_lt stack n) m
       by_size m sh true e st = tested m sh (ltb-true n 16777153 e) st (nat_lt stack n) refl
-      by_size m sh false e st = refused m sh (not_below n 16777153 e) st (nat_lt stack n) refl
+      by_size m sh false e st = refused m sh (ltb-false n 16777153 e) st (nat_lt stack n) refl
