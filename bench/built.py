@@ -10,7 +10,8 @@ top = os.path.dirname(os.path.dirname(os.path.abspath(__file__)))
 
 
 def current_program() -> str:
-    """The launcher builds it where it has to. As with the launcher, PASCAL_BUILT=FOLDER takes FOLDER/pascal/out/pascal as it is."""
+    """The launcher builds it where it has to. As with the launcher, PASCAL_BUILT=FOLDER takes FOLDER/pascal/out/pascal
+    as it is."""
     if os.environ.get("PASCAL_BUILT"):
         return f"{os.environ['PASCAL_BUILT']}/pascal/out/pascal"
     subprocess.run([f"{top}/pascal", "--help"], stdout=subprocess.DEVNULL, check=True)

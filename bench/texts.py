@@ -1,8 +1,9 @@
 #!/usr/bin/env python3
-"""Writes Pascal texts of 1,048,576 bytes, the longest that there are, into a folder, one for each way in which a text can be long or deep.
+"""Writes Pascal texts of 1,048,576 bytes, the longest that there are, into a folder, one for each way in which a text
+can be long or deep.
 
-TEXTS are those that are written. SHAPES are texts of any length, each with as much of one thing as there is room for: bench/phases --growth measures how the time
-of the lowering grows with them.
+TEXTS are those that are written. SHAPES are texts of any length, each with as much of one thing as there is room for:
+bench/phases --growth measures how the time of the lowering grows with them.
 """
 
 from __future__ import annotations
@@ -103,7 +104,8 @@ def structured(k: int) -> str:
 
 
 def mixed(k: int) -> str:
-    """Statements of several kinds, with names of some length: Free Pascal has 65,535 registers for a routine, before it places them."""
+    """Statements of several kinds, with names of some length: Free Pascal has 65,535 registers for a routine, before it
+    places them."""
     return (
         f"counter := counter + {k % 97}; if greatest < total then greatest := total else begin total := counter; position := 1 end;\n"
         f"while (position < {k % 31}) and y do begin position := position + 1; y := odd(counter) end;\n"
@@ -112,7 +114,8 @@ def mixed(k: int) -> str:
 
 
 def named(length: int, declare: str, use: str) -> str:
-    """Names that are declared together in four fifths of the text, and uses of them in an order that is none of theirs."""
+    """Names that are declared together in four fifths of the text, and uses of them in an order that is none of
+    theirs."""
     room = room_in(length)
     names = parts_of(lambda k: f"v{k}", room * 4 // 5)[:MOST_NAMES]
     declared = declare.format(", ".join(names))

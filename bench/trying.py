@@ -1,4 +1,5 @@
-"""Programs of this folder that no check has proved: `rt try` compiles each with the proved crates that it stands on, in a copy of the tree in which it is a crate."""
+"""Programs of this folder that no check has proved: `rt try` compiles each with the proved crates that it stands on, in
+a copy of the tree in which it is a crate."""
 
 from __future__ import annotations
 

@@ -1,9 +1,10 @@
 """Three-address code that is drawn, whose runs are never stuck.
 
-Each temporary of a routine holds values of one kind all through, and is read only where it was surely written: numbers, bytes (0 to 255), addresses behind
-which some words hold numbers, addresses of bytes, of constants, pointers (nil or an object), and a routine's number. The first words of each block, and some
-at its end, get numbers at the routine's begin, and other words none. Recursion ends by a count that each routine of the program has as its first parameter;
-each loop counts its turns down.
+Each temporary of a routine holds values of one kind all through, and is read only where it was surely written: numbers,
+bytes (0 to 255), addresses behind which some words hold numbers, addresses of bytes, of constants, pointers (nil or an
+object), and a routine's number. The first words of each block, and some at its end, get numbers at the routine's begin,
+and other words none. Recursion ends by a count that each routine of the program has as its first parameter; each loop
+counts its turns down.
 """
 
 from __future__ import annotations
@@ -363,7 +364,8 @@ class Body:
         return self.numbered() if t is None else t
 
     def operands(self, callee: Routine) -> Optional[List[int]]:
-        """What is passed to a routine; None where a parameter can be given nothing. The count of calls is kept as it is up to the call."""
+        """What is passed to a routine; None where a parameter can be given nothing. The count of calls is kept as it is
+        up to the call."""
         operands = []
         if not callee.leaf:
             operands.append(self.turns())
@@ -372,7 +374,8 @@ class Body:
         return None if None in operands else operands
 
     def call(self) -> None:
-        """A call with fewer calls left: of a routine of the program by its number or its value, or of a run-time routine."""
+        """A call with fewer calls left: of a routine of the program by its number or its value, or of a run-time
+        routine."""
         if self.routine.leaf or len(self.code.routines) == 1:
             return
         callee = self.draw.choice(self.code.routines[1:])

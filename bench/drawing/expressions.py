@@ -121,8 +121,8 @@ class Expressions(Types):
         return Value(f"{left.at(TERM)} * {right.at(FACTOR)}", TERM, min(corners), max(corners))
 
     def hosted(self, value: Value, host: str = "integer") -> Value:
-        """Free Pascal takes what stands beside a value of a subrange to be of the subrange, and `ord` of a Boolean to be a byte, so a function makes
-        it one of the host type."""
+        """Free Pascal takes what stands beside a value of a subrange to be of the subrange, and `ord` of a Boolean to
+        be a byte, so a function makes it one of the host type."""
         return Value(f"host{host}({value.text})", FACTOR, value.low, value.high) if value.bare else value
 
     def mixed(self, left: Value, right: Value) -> bool:

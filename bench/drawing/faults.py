@@ -1,8 +1,8 @@
 """Draws texts with one fault each, at a token that is known, or with two.
 
-A part of a text is written as a string in which `@` stands before the token that breaks the rule. Where that is told later than it stands, `!` is before the
-token at which it is told. Each way to break a rule takes the drawing and a block, and adds its parts to that block; all else in the text keeps the rules.
-Names that a fault adds are new ones.
+A part of a text is written as a string in which `@` stands before the token that breaks the rule. Where that is told
+later than it stands, `!` is before the token at which it is told. Each way to break a rule takes the drawing and a
+block, and adds its parts to that block; all else in the text keeps the rules. Names that a fault adds are new ones.
 """
 
 from __future__ import annotations
@@ -44,8 +44,9 @@ class Text(NamedTuple):
 
 
 class Block:
-    """The parts of a block. `head` is what stands before it, without the semicolon. The marks are those of faults that are told when its type part ends, when
-    its routine part ends, and when the first `for` on its control variable is met."""
+    """The parts of a block. `head` is what stands before it, without the semicolon. The marks are those of faults that
+    are told when its type part ends, when its routine part ends, and when the first `for` on its control variable is
+    met."""
 
     def __init__(self, head: str, depth: int, control: str) -> None:
         self.head, self.depth, self.control = head, depth, control
@@ -740,7 +741,8 @@ def nested(d: Drawing, b: Block) -> None:
 
 # ---- the text
 
-# ways that change the program's parameters, of which a text has one; and those that read, which isn't done without input
+# ways that change the program's parameters, of which a text has one; and those that read, which isn't done without
+# input
 HEADINGS = {"files", "no_output", "no_input"}
 READING = {"a_read_in_the_loop", "a_routine_of_the_block", "a_constant_for_a_variable"}
 
@@ -807,7 +809,8 @@ def drawn(draw: Random, faults: int) -> Text:
 
 
 def drawn_apart(draw: Random, faults: int) -> Tuple[str, List[Tuple[int, int, str]]]:
-    """A text with so many faults, at most five, each in a routine of its own; and of each its number, its line and its way."""
+    """A text with so many faults, at most five, each in a routine of its own; and of each its number, its line and its
+    way."""
     drawing = Drawing(draw)
     known = [(number, way) for number, ways in WAYS.items() for way in ways if way.__name__ not in HEADINGS]
     ways = [draw.choice([each for each in known if each[0] == number]) for number in draw.sample(sorted({number for number, _ in known}), faults)]

@@ -1,4 +1,5 @@
-"""Reads three-address code in its printed form, as numbers: of each instruction its place among all, and its fields in the order of their declaration."""
+"""Reads three-address code in its printed form, as numbers: of each instruction its place among all, and its fields in
+the order of their declaration."""
 
 from __future__ import annotations
 
@@ -11,7 +12,8 @@ SIGNS = {
     "bits": ["and", "or", "and not", "shift left", "plus"],
     "relation": ["=", "<>", "<", "<=", ">", ">="],
 }
-# of each kind of instruction its fields, and its printed form, in which words of capitals are numbers, `t` before one is a temporary, and small words in braces are other fields
+# of each kind of instruction its fields, and its printed form, in which words of capitals are numbers, `t` before one
+# is a temporary, and small words in braces are other fields
 FORMS = (
     ("TO VALUE", "VALUE -> tTO"),
     ("TO FROM", "tFROM -> tTO"),
@@ -88,7 +90,8 @@ def routine(lines: Any) -> Any:
 
 
 def code(lines: Any) -> Any:
-    """A printed code as numbers. The head of a run-time routine is `run-time routine`, where the printed form has `routine` alone."""
+    """A printed code as numbers. The head of a run-time routine is `run-time routine`, where the printed form has
+    `routine` alone."""
     lists, objects = {"routine": [], "run-time routine": []}, []
     for line in lines:
         if found := re.fullmatch(r"(.*routine) \d+", line):

@@ -1,11 +1,13 @@
 """Draws programs of the language with their inputs, whose meaning the standard leaves in no doubt.
 
-Each program ends: its loops are bounded, and a routine that can call itself, or be called by one that it calls, first lessens a
-parameter of its own. It meets no error: expressions are drawn with the bounds of their values, and `mod`, a set's product or a test brings
-them into the range that their place needs; variables are assigned before they are used, and pointers are tested before `^`. The order of
-evaluation does not matter: where a statement calls a function that changes anything, nothing else that it evaluates can change.
+Each program ends: its loops are bounded, and a routine that can call itself, or be called by one that it calls, first
+lessens a parameter of its own. It meets no error: expressions are drawn with the bounds of their values, and `mod`, a
+set's product or a test brings them into the range that their place needs; variables are assigned before they are used,
+and pointers are tested before `^`. The order of evaluation does not matter: where a statement calls a function that
+changes anything, nothing else that it evaluates can change.
 
-What Free Pascal 3.2.2 refuses, or does otherwise than the standard says, is left out, and a comment tells of it at its place.
+What Free Pascal 3.2.2 refuses, or does otherwise than the standard says, is left out, and a comment tells of it at its
+place.
 """
 
 from __future__ import annotations
@@ -136,7 +138,8 @@ class Programs(Statements):
         return [f"{heading};", *indented(lines[:-1]), f"  {lines[-1]};"]
 
     def block(self, names: List[str], level: int, count: int, last: List[Callable[..., Any]], first: Callable[..., Any] = lambda: []) -> List[str]:
-        """The parts of a block, whose innermost scope is complete but for its variables. `last` makes its last statements."""
+        """The parts of a block, whose innermost scope is complete but for its variables. `last` makes its last
+        statements."""
         block = self.blocks[-1]
         types = [self.draw.choice(self.types) for _ in range(self.draw.randint(2, 4))]
         if block.level == 0:

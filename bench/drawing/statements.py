@@ -115,7 +115,8 @@ class Statements(Expressions):
         return called and [called.text]
 
     def recursion(self, _: int) -> Optional[List[str]]:
-        """A call of a routine that is being drawn, or of the one that is drawn with it, where the parameter still can be lessened."""
+        """A call of a routine that is being drawn, or of the one that is drawn with it, where the parameter still can
+        be lessened."""
         pairs = [(routine, name) for group, name in self.open for block in self.blocks for routine in block.routines if routine.group is group]
         if not pairs:
             return None
@@ -235,8 +236,8 @@ class Statements(Expressions):
 
     def make(self, _: int) -> Optional[List[str]]:
         found = self.assigned(Pointer)
-        # An index that looks at pointers may be another one behind `new`, and Free Pascal has no first value for what is not filled then.
-        # Pointers behind an index are left out with them.
+        # An index that looks at pointers may be another one behind `new`, and Free Pascal has no first value for what
+        # is not filled then. Pointers behind an index are left out with them.
         if not found or any(mark in found.text.partition("[")[2] for mark in "=<>^"):
             return None
         node = found.type.node

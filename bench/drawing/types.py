@@ -13,7 +13,8 @@ NAMES = "a b c d f g h m q r s u v w x y z".split()  # of variables, parameters 
 
 
 class Value(NamedTuple):
-    """An expression, with the bounds of its ordinal, or of its members. Free Pascal doesn't take a bare one to be of its host type."""
+    """An expression, with the bounds of its ordinal, or of its members. Free Pascal doesn't take a bare one to be of
+    its host type."""
 
     text: str
     binding: int

@@ -1,12 +1,15 @@
 #!/usr/bin/env python3
-"""Compares what `pascal why` tells of drawn programs that end with an error with what the reference interpreter has there.
+"""Compares what `pascal why` tells of drawn programs that end with an error with what the reference interpreter has
+there.
 
 usage: ends.py [SEED [COUNT]] [--program PATH] [--reference PATH] [--keep FOLDER]
 
-Draws programs with their inputs as `bench/programs --changed` does, changes each in several ways, until COUNT of them ended with an error. Of each are the same: the number and the
-line of the error; the lines, the routines and the count of the open calls; the value of each variable of each open call, and of the objects that they
-lead to. Values are read off the words that `why` tells. PATH of --program has the words of `pascal`; that of --reference is the program of runs_ends/,
-compiled with the changed interpreter (reference.py); without it `rt try` compiles it, and runs it on the programs drawn.
+Draws programs with their inputs as `bench/programs --changed` does, changes each in several ways, until COUNT of them
+ended with an error. Of each are the same: the number and the line of the error; the lines, the routines and the count
+of the open calls; the value of each variable of each open call, and of the objects that they lead to. Values are read
+off the words that `why` tells. PATH of --program has the words of `pascal`; that of --reference is the program of
+runs_ends/, compiled with the changed interpreter (reference.py); without it `rt try` compiles it, and runs it on the
+programs drawn.
 """
 
 from __future__ import annotations
@@ -39,7 +42,8 @@ def changed(draw, text):
 
 
 def constants_of(text):
-    """The ordinals of the constants of enumerated types, by their names in small letters; several where a name stands for several."""
+    """The ordinals of the constants of enumerated types, by their names in small letters; several where a name stands
+    for several."""
     found = {"false": {0}, "true": {1}}
     for match in re.finditer(r"(?:[=:\[]|\bof|,)\s*\(\s*([A-Za-z]\w*(?:\s*,\s*[A-Za-z]\w*)*)\s*\)", re.sub(r":=", "  ", text)):
         for number, name in enumerate(re.split(r"\s*,\s*", match[1])):

@@ -3,8 +3,8 @@
 
 usage: mapped.py [--program PATH] FILE.pas ..
 
-The program at PATH, or the launcher `pascal`, writes the map (`compile --map`) and the listing (`list`) of each text. The
-texts are read anew here, by a parser that shares nothing with the compiler: it finds each block with its name, its
+The program at PATH, or the launcher `pascal`, writes the map (`compile --map`) and the listing (`list`) of each text.
+The texts are read anew here, by a parser that shares nothing with the compiler: it finds each block with its name, its
 parameters, its variables and its `begin`, and each statement with its extent. Then of each map:
 - its routines are the blocks, by the places of their `begin`, with their names;
 - their variables are the result, the parameters and the variables of the block, with their kinds and types, and their
@@ -120,7 +120,8 @@ class Reader:
 
 
 class Declared:
-    """What is declared of a routine: its name, and its result, parameters and variables as (role, name, words of the type)."""
+    """What is declared of a routine: its name, and its result, parameters and variables as (role, name, words of the
+    type)."""
 
     def __init__(self, name, entries):
         self.name, self.entries = name, entries

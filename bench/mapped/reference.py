@@ -1,7 +1,9 @@
-"""The reference interpreter, changed so that it tells what is in the variables of all open calls where a run ends with an error.
+"""The reference interpreter, changed so that it tells what is in the variables of all open calls where a run ends with
+an error.
 
-It has none of that by itself: its calls and their environments are gone by the time that the end is told. So a copy of it is changed here, each change a
-text that stands once in a file and what takes its place, and `rt try` compiles it with the program of runs_ends/.
+It has none of that by itself: its calls and their environments are gone by the time that the end is told. So a copy of
+it is changed here, each change a text that stands once in a file and what takes its place, and `rt try` compiles it
+with the program of runs_ends/.
 """
 
 import os, shutil, subprocess, sys

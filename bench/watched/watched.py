@@ -224,7 +224,8 @@ def telling(text, ones):
 
 
 def ordinal_names(text):
-    """Names that are declared only with the types that any value of can be told as a number: `integer`, `char`, `Boolean`."""
+    """Names that are declared only with the types that any value of can be told as a number: `integer`, `char`,
+    `Boolean`."""
     kinds = collections.defaultdict(set)
     words = [word for word, _ in text.tokens]
     for k, word in enumerate(words):

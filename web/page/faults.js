@@ -86,7 +86,7 @@ function faultOf(told, text, units) {
   return fault(told.text, {
     ...placeOf(told, text, units),
     kind: told.severity,
-    explains: refuses ? told.name : '', // (warnings have no pages)
+    explains: told.name,
     refuses,
     more: [...expected, ...told.helps],
     places: told.notes.map((note) => ({ ...placeOf(note, text, units), kind: 'place', message: note.text })),
