@@ -1,6 +1,6 @@
 -- The routines of a program, taken one by one.
-use Rattle.std.proofs.Common.{◌≡◌, ℕ, List, [], ◌∷◌, ◌++◌, length, map, Option, Some, None, option_map, Bool, true}
-use Rattle.std.proofs.Common.{false, IsTrue, IsSome, IfSome, ◌↔◌, refl, sym, ap, ◌∙◌, append_assoc, append-nil, arith}
+use Rattle.std.proofs.Common.{◌≡◌, ℕ, List, [], ◌∷◌, ◌++◌, map, Option, Some, None, option_map, Bool, true}
+use Rattle.std.proofs.Common.{false, IsTrue, IsSome, IfSome, ◌↔◌, refl, sym, ap, ◌∙◌, append_assoc, append-nil}
 use Rattle.std.proofs.Common.{slice_set, Vec, Global}
 use Rattle.std.proofs.lemmas.List.{map_push}
 use Rattle.ps_tree.specs.declared.tree.Routine.{Routine}
@@ -61,10 +61,6 @@ pub collected_end : (at : ℕ) (all rest : List (Option Finished)) (done : List 
     → Collected at all rest done → whole at all ≡ Yes (map routine_of done)
 collected_end at all rest done e c = c.rest_is ∙ ap (λ l. behind (map routine_of done) (whole at l)) e ∙ ap Yes
     (append-nil (map routine_of done))
-
-pub nothing_left : {X : Type 0} (l : List X) → length l ≡ 0 → l ≡ []
-nothing_left [] h = refl
-nothing_left (x ∷ xs) h = absurd (omega arith)
 
 -- the program within the limits, or the refusal
 not_within : (b : Bool) → (IsTrue b → ⊥) → b ≡ false

@@ -17,8 +17,8 @@ use Rattle.ps_check_names.specs.declared.sections.Section.TheVariants as kind
 use Rattle.ps_check_names.specs.declared.meaning.Meaning as RustMeaning
 use Rattle.ps_check_names.specs.declared.meaning.Meaning.TheVariants as m
 use Rattle.ps_check_names.proofs.ViewLemmas.{section_of_Routine}
-use Rattle.ps_check_judgement.specs.declared.refusal.Fault.{Fault}
-use Rattle.ps_check_judgement.specs.declared.refusal.Fault.TheVariants.{OutOfMemory, Broken}
+use Rattle.ps_check_judgement.specs.declared.refusal.CheckFault.{CheckFault}
+use Rattle.ps_check_judgement.specs.declared.refusal.CheckFault.TheVariants.{OutOfMemory, Broken}
 use Rattle.ps_check_judgement.specs.declared.refusal.Rule.TheVariants.{Limit}
 use Rattle.ps_check_judgement.specs.Judged.{Judged, Yes, No, Told, some_or, ◌>>=◌}
 use Rattle.ps_check_names.specs.Regions.{Section, ValueSection, VariableSection, RoutineSection, Sections, no_section}
@@ -137,7 +137,7 @@ module _ (whence : ℕ) (type : DataType) (count : ℕ) (start : Entries) (i : �
       (λ i. ParameterMeaning i type) now ≡ Yes new → Repeated whence type count start (i + 1) new
   repeated_next new lt r e = record { rest = repeated_here (Yes new) lt r e }
 
-  pub repeated_fault : (fault : Fault) → i < count → Repeated whence type count start i now → Told fault
+  pub repeated_fault : (fault : CheckFault) → i < count → Repeated whence type count start i now → Told fault
       (add_entry whence (λ i. ParameterMeaning i type) now) → Told fault (add_parameters whence type count start)
   repeated_fault OutOfMemory lt r told = told
   repeated_fault (Broken rule where_) lt r told = repeated_here (No rule where_) lt r told
@@ -182,7 +182,7 @@ module _ (whence : ℕ) (start : Entries) (xs : List Rust.Section) (i : ℕ) (no
         ∙ (let s : suc i ≡ i + 1 = omega arith in ap (λ k. add_sections whence new (sections_of (drop k xs))) s);
   }
 
-  pub entered_fault : (x : Rust.Section) (fault : Fault) → i < length xs → x ≡ get_or xs i x
+  pub entered_fault : (x : Rust.Section) (fault : CheckFault) → i < length xs → x ≡ get_or xs i x
       → Entered whence start xs i now → Told fault (add_section whence now (section_of x)) → Told fault
       (add_sections whence start (sections_of xs))
   entered_fault x OutOfMemory lt at r told = told

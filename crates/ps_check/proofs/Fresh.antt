@@ -3,7 +3,7 @@ use Rattle.std.proofs.Common.{◌≡◌, ℕ, ◌+◌, Bool, true, false, ◌&&�
 use Rattle.std.proofs.Common.{◌⊎◌, inl, inr, refl, sym, ap, ◌∙◌, subst, append_assoc, append-nil, length-append}
 use Rattle.std.proofs.Common.{eq-eqb, arith, nat_eq}
 use Rattle.std.specs.Prelude.{if◌then◌else◌}
-use Rattle.std.proofs.lemmas.Bool.{ne_eqb}
+use Rattle.std.proofs.lemmas.Bool.{ne_eqb, not-true, and_parts, or_from, or_parts}
 use Rattle.std.proofs.lemmas.Bool.Decides.{eqb_tells}
 use Rattle.std.proofs.lemmas.List.Folds.{list_any-append}
 use Rattle.ps_check_names.specs.Spelling.{spelled, same, has}
@@ -12,22 +12,6 @@ use Rattle.ps_check.specs.Entries.{add_names}
 use Rattle.ps_check.specs.RegionNames.{Each}
 
 -- ---- tests
-
-pub not_true : (b : Bool) → not b ≡ true → b ≡ false
-not_true true h = absurd (cc)
-not_true false h = refl
-
-pub and_true : (a b : Bool) → (a && b) ≡ true → (a ≡ true) × (b ≡ true)
-and_true true b h = (refl, h)
-and_true false b h = absurd (cc)
-
-or_false : (a b : Bool) → a ≡ false → b ≡ false → (a || b) ≡ false
-or_false true b h k = h
-or_false false b h k = k
-
-or_parts : (a b : Bool) → (a || b) ≡ false → (a ≡ false) × (b ≡ false)
-or_parts true b h = absurd (cc)
-or_parts false b h = (refl, h)
 
 pub or_true : (b : Bool) → (b || true) ≡ true
 or_true true = refl
@@ -60,7 +44,7 @@ has_last xs s = list_any-append (same s) xs (s ∷ []) ∙ ap (λ b. has xs s ||
     (has xs s)
 
 pub has_neither : (xs ys : List (List ℕ)) (s : List ℕ) → has xs s ≡ false → has ys s ≡ false → has (xs ++ ys) s ≡ false
-has_neither xs ys s h k = list_any-append (same s) xs ys ∙ or_false (has xs s) (has ys s) h k
+has_neither xs ys s h k = list_any-append (same s) xs ys ∙ or_from (has xs s) (has ys s) h k
 
 -- no name of one list is in the other
 abbrev pub NoneOf : List (List ℕ) → List (List ℕ) → Type 0
@@ -68,7 +52,7 @@ NoneOf xs ys = Each (λ x. has ys x ≡ false) xs
 
 first_none : (xs : List (List ℕ)) (y : List ℕ) (ys : List (List ℕ)) → NoneOf xs (y ∷ ys) → has xs y ≡ false
 first_none [] y ys h = refl
-first_none (x ∷ xs) y ys h = or_false (same y x) (has xs y) (same_swap y x ∙ (or_parts (same x y) (has ys x) h.0).0)
+first_none (x ∷ xs) y ys h = or_from (same y x) (has xs y) (same_swap y x ∙ (or_parts (same x y) (has ys x) h.0).0)
     (first_none xs y ys h.1)
 
 rest_none : (xs : List (List ℕ)) (y : List ℕ) (ys : List (List ℕ)) → NoneOf xs (y ∷ ys) → NoneOf xs ys
@@ -161,8 +145,8 @@ ahead_take all from rest a =
 pub later_fresh : (all from : List (List ℕ)) (count : ℕ) (s : List ℕ) → take (length from) all ≡ from → count
     ≡ length from → is_later all count s ≡ true → has from s ≡ false
 later_fresh all from count s t e later =
-    let b = and_true (has all s) (not (has (take count all) s)) later in
-    sym (ap (λ l. has l s) (ap (λ k. take k all) e ∙ t)) ∙ not_true (has (take count all) s) b.1
+    let b = and_parts (has all s) (not (has (take count all) s)) later in
+    sym (ap (λ l. has l s) (ap (λ k. take k all) e ∙ t)) ∙ not-true (has (take count all) s) b.1
 
 -- ---- names that are new in their definitions
 
@@ -179,7 +163,7 @@ module _ (all begun : List (List ℕ)) where
   pub new_apart : (count : ℕ) (ss : List (List ℕ)) → AreNew all begun count ss → NoneOf ss begun
   new_apart count [] a = tt
   new_apart count (s ∷ ss) a = (
-    let b = and_true (is_later all count s) (not (has begun s)) a.0 in not_true
+    let b = and_parts (is_later all count s) (not (has begun s)) a.0 in not-true
         (has begun s) b.1,
     new_apart (count + 1) ss a.1,
   )
@@ -188,7 +172,7 @@ module _ (all begun : List (List ℕ)) where
       → Ahead all from (ss ++ more) → Fresh from ss
   new_fresh [] more from count e a h = tt
   new_fresh (s ∷ ss) more from count e a h =
-      let b = and_true (is_later all count s) (not (has begun s)) a.0 in
+      let b = and_parts (is_later all count s) (not (has begun s)) a.0 in
       let here : has from s ≡ false = later_fresh all from count s (ahead_take all from (s ∷ (ss ++ more)) h) e b.0 in
       let next : count + 1 ≡ length (from ++ s ∷ []) = omega (arith, e, length-append from (s ∷ [])) in (
         here,

@@ -10,3 +10,4 @@ pub mod NewParts
 pub mod NameLemmas
 pub mod HeadingNames
 pub mod PathLemmas
+pub mod AlikeMore

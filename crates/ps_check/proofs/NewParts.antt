@@ -2,6 +2,7 @@
 use Rattle.std.proofs.Common.{◌≡◌, ℕ, ◌+◌, Bool, true, false, not, List, [], ◌∷◌, ◌++◌, length, map, take, refl, sym}
 use Rattle.std.proofs.Common.{ap, ◌∙◌, subst, append_assoc, append-nil, length-append, arith}
 use Rattle.std.proofs.lemmas.List.{map-append, length-map}
+use Rattle.std.proofs.lemmas.Bool.{and_parts}
 use Rattle.ps_text.specs.declared.Span.{Span}
 use Rattle.ps_syntax.specs.First.{first_of_type}
 use Rattle.ps_syntax.specs.declared.program.ConstantDefinition.{ConstantDefinition}
@@ -20,7 +21,7 @@ use Rattle.ps_check_declarations.specs.Denoters.{Frame, Declared, begin, within,
 use Rattle.ps_check_declarations.specs.Declarations.{meaning_of_constant, told_at_name, domain_at, define_constant}
 use Rattle.ps_check_declarations.specs.Declarations.{define_type, resolve_domain, resolve_domains, declare_variable}
 use Rattle.ps_check_declarations.specs.Declarations.{declare_variables, declarations}
-use Rattle.ps_check.proofs.Fresh.{and_true, NoneOf, none_swap, Fresh, fresh_both, Ahead, ahead_more, ahead_take}
+use Rattle.ps_check.proofs.Fresh.{NoneOf, none_swap, Fresh, fresh_both, Ahead, ahead_more, ahead_take}
 use Rattle.ps_check.proofs.Fresh.{later_fresh, new_apart, new_fresh, has_neither}
 use Rattle.ps_check.proofs.NewPoints.{IsPlain, Grows, grows_none, grows_both, grows_length, Adds, type_adds}
 
@@ -63,7 +64,7 @@ module _ (f : Frame) where
 
   later_of : (begun : List (List ℕ)) (count : ℕ) (s : List ℕ) → is_new f.names begun count s ≡ true
       → is_later f.names count s ≡ true
-  later_of begun count s e = (and_true (is_later f.names count s) (not (has begun s)) e).0
+  later_of begun count s e = (and_parts (is_later f.names count s) (not (has begun s)) e).0
 
   constant_plain : (v : ConstantValue) → IsPlain (meaning_of_constant v)
   unfolding meaning_of_constant
@@ -189,7 +190,7 @@ module _ (f : Frame) where
       → (ss begun : List (List ℕ)) → Begun count begun ss → NoneOf ss m → Fresh ((from ++ m) ++ begun) ss
   begun_fresh from m count t l [] begun b none = tt
   begun_fresh from m count t l (s ∷ ss) begun b none =
-      let new = and_true (is_later f.names count s) (not (has begun s)) b.0 in
+      let new = and_parts (is_later f.names count s) (not (has begun s)) b.0 in
       let apart : has begun s ≡ false = not_has (has begun s) new.1 in (
         has_neither (from ++ m) begun s (has_neither from m s (later_fresh f.names from count s t l new.0) none.0)
             apart,

@@ -7,7 +7,7 @@ use Rattle.ps_syntax.specs.declared.program.Heading.{Heading}
 use Rattle.ps_syntax.specs.declared.program.Routine.{Routine}
 use Rattle.ps_syntax.specs.declared.program.Routine.TheVariants as v
 use Rattle.ps_syntax.specs.declared.program.Block.{Block}
-use Rattle.ps_check_judgement.specs.declared.refusal.Fault.{Fault}
+use Rattle.ps_check_judgement.specs.declared.refusal.CheckFault.{CheckFault}
 use Rattle.ps_check_judgement.specs.declared.refusal.Rule.TheVariants.{Twice, Limit}
 use Rattle.ps_check_judgement.specs.Judged.{Judged, Yes, No, Told, Answers, provided, both, ◌>>=◌}
 use Rattle.ps_check_judgement.proofs.Lists.{told_bind}
@@ -27,11 +27,11 @@ use Rattle.ps_check.proofs.Equations.{routine_Whole, routine_Forward, routine_Co
 
 -- ---- answers of equal judgements
 
-pub answered : {X A : Type 0} (result : Result X Fault) (view : X → A) (i j : Judged A) → i ≡ j → Answers result view j
-    → Answers result view i
+pub answered : {X A : Type 0} (result : Result X CheckFault) (view : X → A) (i j : Judged A) → i ≡ j
+    → Answers result view j → Answers result view i
 answered result view i j e h = subst (λ k. Answers result view k) (sym e) h
 
-pub told_as : {A : Type 0} (fault : Fault) (i j : Judged A) → i ≡ j → Told fault j → Told fault i
+pub told_as : {A : Type 0} (fault : CheckFault) (i j : Judged A) → i ≡ j → Told fault j → Told fault i
 told_as fault i j e h = subst (λ k. Told fault k) (sym e) h
 
 -- ---- headings
@@ -99,7 +99,7 @@ module _ (f : Frame) (x : RoutineReading) (r : Routines) where
 -- ---- a routine that has its block
 
 module _ (f : Frame) (chain : List ℕ) (c : Context) (x : Routine) (b : Block) (r s : Routines) where
-  pub whole_answers : {X : Type 0} (result : Result X Fault) (view : X → Routines) (name : Span) → introduced f
+  pub whole_answers : {X : Type 0} (result : Result X CheckFault) (view : X → Routines) (name : Span) → introduced f
       (routine c x) r ≡ Yes s → name ≡ (routine c x).name → (routine c x).block ≡ Some (block c b)
       → ((y : RoutineReading) → y.name ≡ name → Answers result view (read_block f chain y s (Some (block c b))))
       → Answers result view (one_routine f chain r (routine c x))
@@ -125,8 +125,8 @@ last h inner e = Yes (with_names inner (add_names [] h.names) e)
 abbrev next : ℕ → regions.Heading → List ℕ → Judged Start
 next whence h inner = add_sections whence (entries_of (first_entry h.result) []) h.sections >>= last h inner
 
-module _ (whence : ℕ) (chain : List ℕ) (h : regions.Heading) (result : Result (Chain × Rust.Start) Fault) where
-  pub start_answers : (x : Result Chain Fault) (y : Result Rust.Start Fault) → result ≡ both x y
+module _ (whence : ℕ) (chain : List ℕ) (h : regions.Heading) (result : Result (Chain × Rust.Start) CheckFault) where
+  pub start_answers : (x : Result Chain CheckFault) (y : Result Rust.Start CheckFault) → result ≡ both x y
       → Answers x (λ c. c) (provided (nat_lt (length chain) 16) Limit whence (h.number ∷ chain))
       → IfOk y (λ s. s.names ≡ add_names [] h.names)
       → Answers y (λ s. entries_of s.first s.known.items)
@@ -134,13 +134,13 @@ module _ (whence : ℕ) (chain : List ℕ) (h : regions.Heading) (result : Resul
       → Answers result (λ s. start_of s.0 s.1) (start whence chain h)
   unfolding start
   start_answers (Err e) y is first names second = subst
-      (λ (r : Result (Chain × Rust.Start) Fault). Answers r (λ s. start_of s.0 s.1) (start whence chain h)) (sym is)
-      (told_bind e _ _ first)
+      (λ (r : Result (Chain × Rust.Start) CheckFault). Answers r (λ s. start_of s.0 s.1) (start whence chain h))
+      (sym is) (told_bind e _ _ first)
   start_answers (Ok c) (Err e) is first names second = subst
-      (λ (r : Result (Chain × Rust.Start) Fault). Answers r (λ s. start_of s.0 s.1) (start whence chain h)) (sym is)
-      (subst (λ j. Told e (j >>= next whence h)) (sym first) (told_bind e _ _ second))
+      (λ (r : Result (Chain × Rust.Start) CheckFault). Answers r (λ s. start_of s.0 s.1) (start whence chain h))
+      (sym is) (subst (λ j. Told e (j >>= next whence h)) (sym first) (told_bind e _ _ second))
   start_answers (Ok c) (Ok s) is first names second =
-      subst (λ (r : Result (Chain × Rust.Start) Fault). Answers r (λ s. start_of s.0 s.1) (start whence chain h))
+      subst (λ (r : Result (Chain × Rust.Start) CheckFault). Answers r (λ s. start_of s.0 s.1) (start whence chain h))
       (sym is)
       (ap (λ j. j >>= next whence h) first
       ∙ ap (λ j. j >>= last h c) second

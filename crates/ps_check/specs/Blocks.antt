@@ -7,6 +7,7 @@ use Rattle.ps_syntax.specs.declared.program.Block as syntax_block
 use Rattle.ps_syntax.specs.declared.program.Block.{out-Block}
 use Rattle.ps_syntax.specs.declared.program.Routine.TheOpen.{Routine-F}
 use Rattle.ps_syntax.specs.declared.program.Routine.TheFolds.{fold-Block, fold-Routine}
+use Rattle.ps_tree.specs.declared.limits.TheConstants.{MAX_CELLS, MAX_NODES, MAX_ROUTINES}
 use Rattle.ps_tree.specs.Types.{DataType}
 use Rattle.ps_tree.specs.Tree as Tree
 use Rattle.ps_tree.specs.Counts.{routine_cells, routine_nodes}
@@ -39,9 +40,9 @@ routine_tree chain h b = record {
   line = b.line;
 }
 
--- at most 100,000 cells and 4,194,304 nodes (this project's limits)
+-- the limits on cells and nodes (this project's)
 unfoldable pub is_small_routine : Tree.Routine → Bool
-is_small_routine r = nat_le (routine_cells r) 100000 && nat_le (routine_nodes r) 4194304
+is_small_routine r = nat_le (routine_cells r) MAX_CELLS && nat_le (routine_nodes r) MAX_NODES
 
 -- A routine is complete if a function's result is assigned in its block. Its name is at `at`.
 unfoldable pub finished : (at : ℕ) → Heading → List ℕ → Done → Judged Gathered
@@ -73,10 +74,11 @@ known_as f known s = option_and_then (slice_get known) (place f.names s)
 abbrev pub hidden_in_heading : Frame → syntax.Heading → Hidden
 hidden_in_heading f h = (spelled f.text (heading_name h) ∷ [], 1) ∷ []
 
--- A new heading, with the next number, of at most 1,048,576 (this project's limit).
+-- A new heading, with the next number (this project's limit).
 unfoldable pub new_heading : Frame → Bool → Routines → syntax.Heading → Judged Routines
 new_heading f is_forward r h = do
-  n ← provided (nat_lt (length r.gathered.routines) 1048576) Limit (heading_name h).from (length r.gathered.routines)
+  n ← provided (nat_lt (length r.gathered.routines) MAX_ROUTINES) Limit (heading_name h).from
+      (length r.gathered.routines)
   s ← (heading f r.known h).1 (hidden_in_heading f h)
   let new : Heading = record {
     number = n;

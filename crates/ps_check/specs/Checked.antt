@@ -4,15 +4,15 @@ use Rattle.std.specs.Result.{MatchResult}
 use Rattle.ps_tree.specs.declared.program.Checked as Rust
 use Rattle.ps_tree.specs.Checked.{program_in}
 use Rattle.ps_tree.specs.Tree as Tree
-use Rattle.ps_check_judgement.specs.declared.refusal.Fault.{Fault}
-use Rattle.ps_check_judgement.specs.declared.refusal.Fault.TheVariants as fault
+use Rattle.ps_check_judgement.specs.declared.refusal.CheckFault.{CheckFault}
+use Rattle.ps_check_judgement.specs.declared.refusal.CheckFault.TheVariants as fault
 use Rattle.ps_check_judgement.specs.declared.refusal.CheckRefusal.{CheckRefusal}
 use Rattle.ps_check_judgement.specs.declared.refusal.CheckRefusal.TheVariants as refusal
 use Rattle.ps_check_judgement.specs.Judged.{Judged, Yes, No}
 use Rattle.ps_check_names.specs.Spelling.{line_in}
 
 -- a fault with the line of its token
-abbrev pub refusal_of : List ℕ → Fault → CheckRefusal
+abbrev pub refusal_of : List ℕ → CheckFault → CheckRefusal
 refusal_of text fault.OutOfMemory = refusal.OutOfMemory
 refusal_of text (fault.Broken rule at) = refusal.Broken rule at (line_in text at)
 

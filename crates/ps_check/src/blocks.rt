@@ -1,9 +1,10 @@
 //! Blocks and the routines in them.
 
-ghost use Rattle.std.specs.Prelude.{◌≡◌, ◌++◌, ◌∷◌, [], Some, OnOk, map};
+ghost use Rattle.std.specs.Prelude.{◌≡◌, ◌++◌, ◌∷◌, [], Some, IfOk, OnOk, map};
 ghost use Rattle.ps_syntax.specs.declared.program.Block.{out-Block};
 ghost use Rattle.ps_tree.specs.View.{type_of, statements_of};
 ghost use Rattle.ps_check_judgement.specs.Judged.{Answers, steps};
+ghost use Rattle.ps_check_names.specs.Alike.{AreAlike};
 ghost use Rattle.ps_check_names.specs.Regions.{BlockRegion};
 ghost use Rattle.ps_check_names.specs.Views.{meaning_of, context_of, scope_of};
 ghost use Rattle.ps_check_declarations.specs.Views.{frame_of};
@@ -27,8 +28,9 @@ use ps_check_expressions::changed::Controls;
 use ps_check_expressions::inner::Inner;
 use ps_check_expressions::site::Site;
 use ps_check_judgement::change::Change;
-use ps_check_judgement::refusal::Fault;
+use ps_check_judgement::refusal::CheckFault;
 use ps_check_names::meaning::Meaning;
+use ps_check_names::meanings::{Meanings, alike_of_all};
 use ps_check_names::reading::Reading;
 use ps_check_names::scope::Scope;
 use ps_check_names::wides::Wides;
@@ -56,16 +58,17 @@ fn reading_with<'a>(reading: &Reading<'a>, domains: &'a [Ty], wides: &'a Wides) 
     }
 }
 
-/// The regions that enclose a place of a block whose names have these meanings so far.
+/// The regions that enclose a place of a block whose names have these meanings so far, with places of ones that are alike.
 #[tactic(auto, unfolding(ps_check_names::specs::Views::scope_of))]
-fn scope_within<'a>(frame: &'a Frame<'a>, known: &'a [Meaning]) -> Scope<'a>
+fn scope_within<'a>(frame: &'a Frame<'a>, known: &'a [Meaning], alike: &'a [usize]) -> Scope<'a>
+    requires { AreAlike (map meaning_of known.now) alike.now }
     ensures { scope_of result ≡ BlockRegion frame.now.routine frame.now.names.now (map meaning_of known.now)
         ∷ scope_of frame.now.outer.now }
 {
     Scope::Block {
         routine: frame.routine,
         names: frame.names,
-        known,
+        known: Meanings::with_alike(known, alike),
         outer: frame.outer,
     }
 }
@@ -80,14 +83,14 @@ fn read_statements(
     local: &Local,
     domains: &[Ty],
     wides: &Wides,
-) -> Result<(Vec<StatementTree>, Vec<Change>), Fault>
+) -> Result<(Vec<StatementTree>, Vec<Change>), CheckFault>
     ensures { Answers result (λ read. (statements_of read.0.items, read.1.items))
         (statements (of_statements (context_of frame.now.reading.now) (map type_of domains.now) local.now.changes.items)
         (BlockRegion frame.now.routine frame.now.names.now (map meaning_of local.now.known.items)
         ∷ scope_of frame.now.outer.now) list.now []) }
 {
     let reading = reading_with(frame.reading, domains, wides);
-    let scope = scope_within(frame, &local.known);
+    let scope = scope_within(frame, &local.known, &local.alike);
     let inner = Inner::new(alloc, &local.changes)?;
     let site = Site {
         alloc,
@@ -128,6 +131,20 @@ fn add_block_names(
     add_routines(reading, alloc, names, written.routines.as_slice())
 }
 
+/// What is known of a block whose names have these meanings, before its routines are read.
+fn local_of(frame: &Frame, alloc: Global, known: Vec<Meaning>) -> Result<Local, AllocError>
+    ensures known { IfOk result (λ local. local.known.items ≡ known.items) }
+    ensures changes { IfOk result (λ local. local.changes.items ≡ []) }
+{
+    let alike = alike_of_all(alloc, frame.names, known.as_slice())?;
+    let changes = Vec::new(alloc);
+    Ok(Local {
+        known,
+        alike,
+        changes,
+    })
+}
+
 /// The declarations of a block: the meanings of its names, after those that are there, and the types of its variables.
 fn declare(
     written: &Block,
@@ -135,7 +152,7 @@ fn declare(
     alloc: Global,
     start: (Vec<Meaning>, u32),
     gathered: &mut Gathered,
-) -> Result<(Local, Vec<Ty>), Fault>
+) -> Result<(Local, Vec<Ty>), CheckFault>
     ensures { Answers result (λ made. (routines_of made.0 gathered.new, map type_of made.1.items))
         (declared (frame_of frame.now) (layer (context_of frame.now.reading.now) written.now) start.1
         (map meaning_of start.0.items) (gathered_of gathered.old)) }
@@ -158,8 +175,8 @@ fn declare(
     } = declared;
     gathered.domains = domains;
     gathered.wides = wides;
-    let changes = Vec::new(alloc);
-    Ok((Local { known, changes }, variables))
+    let local = local_of(frame, alloc, known)?;
+    Ok((local, variables))
 }
 
 /// The statements of a block whose routines have their blocks, and what they change.
@@ -170,7 +187,7 @@ fn read_body(
     alloc: Global,
     local: &Local,
     gathered: &Gathered,
-) -> Result<(Vec<StatementTree>, Vec<Change>), Fault>
+) -> Result<(Vec<StatementTree>, Vec<Change>), CheckFault>
     ensures { Answers result (λ read. (statements_of read.0.items, read.1.items))
         (block_body (context_of frame.now.reading.now) (frame_of frame.now)
         (layer (context_of frame.now.reading.now) written.now) (routines_of local.now gathered.now)) }
@@ -193,7 +210,7 @@ pub fn block(
     chain: &Chain,
     start: &mut Start,
     gathered: &mut Gathered,
-) -> Result<Done, Fault>
+) -> Result<Done, CheckFault>
     ensures { Answers result (λ done. done_of done gathered.new)
         (block (context_of reading.now) written.now (scope_of outer.now) (start_of chain.now start.old)
         (gathered_of gathered.old)) }
@@ -239,7 +256,7 @@ fn read_routines(
     chain: &Chain,
     local: &mut Local,
     gathered: &mut Gathered,
-) -> Result<(), Fault>
+) -> Result<(), CheckFault>
     ensures { Answers result (λ _. routines_of local.new gathered.new)
         (steps (one_routine (frame_of frame.now) chain.now) (routines_of local.old gathered.old)
         (map (routine (context_of frame.now.reading.now)) list.now)) }
@@ -260,7 +277,7 @@ fn read_routine(
     chain: &Chain,
     local: &mut Local,
     gathered: &mut Gathered,
-) -> Result<(), Fault>
+) -> Result<(), CheckFault>
     ensures { Answers result (λ _. routines_of local.new gathered.new)
         (one_routine (frame_of frame.now) chain.now (routines_of local.old gathered.old)
         (routine (context_of frame.now.reading.now) written.now)) }
@@ -286,14 +303,14 @@ fn read_block(
     local: &mut Local,
     name: Span,
     gathered: &mut Gathered,
-) -> Result<(), Fault>
+) -> Result<(), CheckFault>
     ensures { (x : RoutineReading) → x.name ≡ name → Answers result (λ _. routines_of local.new gathered.new)
         (read_block (frame_of frame.now) chain.now x (routines_of local.old gathered.old)
         (Some (block (context_of frame.now.reading.now) written.now))) }
 {
     let heading = heading_of_routine(frame, alloc, &local.known, name)?;
     let (inner, mut start) = start(heading, chain, frame.reading.seed, alloc, name.from)?;
-    let outer = scope_within(&*frame, &local.known);
+    let outer = scope_within(&*frame, &local.known, &local.alike);
     let done = block(
         written,
         frame.reading,

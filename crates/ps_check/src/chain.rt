@@ -3,7 +3,7 @@
 ghost use Rattle.std.specs.Prelude.{◌≤◌, length};
 
 use ps_check_judgement::answer::broken;
-use ps_check_judgement::refusal::{Fault, Rule};
+use ps_check_judgement::refusal::{CheckFault, Rule};
 use ps_tree::tree::Routine;
 use std::alloc::{AllocError, Global};
 use std::marker::Model;
@@ -41,7 +41,7 @@ impl Chain {
     }
 
     /// That of a routine of the block, which must not be too deep. `at` is where a fault is reported.
-    pub fn inner(&self, alloc: Global, number: u32, at: u32) -> Result<Chain, Fault>
+    pub fn inner(&self, alloc: Global, number: u32, at: u32) -> Result<Chain, CheckFault>
         ensures { Answers result (λ inner. inner)
             (provided (nat_lt (length self.now) 16) Limit at (number ∷ self.now)) }
     {

@@ -15,7 +15,8 @@ use crate::chain::Chain;
 use crate::program::{Files, list_files, program_of, required};
 use crate::state::{Done, Gathered, Start};
 use ps_check_judgement::answer::paired;
-use ps_check_judgement::refusal::{CheckRefusal, Fault};
+use ps_check_judgement::refusal::{CheckFault, CheckRefusal};
+use ps_check_names::meanings::Meanings;
 use ps_check_names::reading::Reading;
 use ps_check_names::scope::Scope;
 use ps_check_names::wides::Wides;
@@ -32,7 +33,7 @@ fn read_program(
     outer: &Scope,
     start: &mut Start,
     written: &Program,
-) -> Result<(Done, Gathered), Fault>
+) -> Result<(Done, Gathered), CheckFault>
     ensures { Answers result (λ read. done_of read.0 read.1)
         (block (context_of reading.now) written.now.block (scope_of outer.now)
         (start_of program_chain start.old) nothing_gathered) }
@@ -60,7 +61,7 @@ fn check_block(
     reading: &Reading,
     files: Files,
     written: &Program,
-) -> Result<Checked, Fault>
+) -> Result<Checked, CheckFault>
     requires input { reading.now.has_input ≡ has files.names (codes "input") }
     requires output { reading.now.has_output ≡ has files.names (codes "output") }
     requires domains { reading.now.domains.now ≡ [] }
@@ -71,7 +72,7 @@ fn check_block(
     let outer = Scope::Block {
         routine: 0,
         names: &around.names,
-        known: &around.known,
+        known: Meanings::new(&around.known),
         outer: &Scope::Outside,
     };
     let mut start = Start {
@@ -102,7 +103,7 @@ fn nothing_gathered(alloc: Global, seed: Seed) -> Result<Gathered, AllocError>
 
 /// The checked tree of a program, given a reading of the text in which its heading lists no file.
 #[tactic(auto, unfolding(crate::specs::Programs::program))]
-fn check_text(alloc: Global, heading: &Reading, written: &Program) -> Result<Checked, Fault>
+fn check_text(alloc: Global, heading: &Reading, written: &Program) -> Result<Checked, CheckFault>
     ensures { Answers result (λ checked. program_in checked) (program heading.now.source.now written.now) }
 {
     let files = list_files(heading, alloc, written.parameters.as_slice())?;
@@ -147,12 +148,12 @@ pub fn check(alloc: Global, source: &Source, written: &Program) -> Result<Checke
 }
 
 /// The refusal of a fault, with the line of its token.
-fn refusal(reading: &Reading, fault: Fault) -> CheckRefusal
+fn refusal(reading: &Reading, fault: CheckFault) -> CheckRefusal
     ensures { result ≡ refusal_of reading.now.source.now fault }
 {
     match fault {
-        Fault::OutOfMemory => CheckRefusal::OutOfMemory,
-        Fault::Broken { rule, at } => CheckRefusal::Broken {
+        CheckFault::OutOfMemory => CheckRefusal::OutOfMemory,
+        CheckFault::Broken { rule, at } => CheckRefusal::Broken {
             rule,
             at,
             line: u32::from(reading.line(at).number),

@@ -13,7 +13,7 @@ ghost use Rattle.ps_check.specs.Formals.{section_formals};
 ghost use Rattle.ps_check.specs.Views.{entries_of};
 
 use ps_check_judgement::answer::{broken, paired};
-use ps_check_judgement::refusal::{Fault, Rule};
+use ps_check_judgement::refusal::{CheckFault, Rule};
 use ps_check_names::meaning::Meaning;
 use ps_check_names::scope::one_more;
 use ps_check_names::sections::Section;
@@ -92,7 +92,7 @@ pub fn formals_of(sections: &[Section], alloc: Global) -> Result<Vec<Formal>, Al
 }
 
 /// The number of the entry after this one, if there may be one.
-fn entry_behind(entry: u32, at: u32) -> Result<u32, Fault>
+fn entry_behind(entry: u32, at: u32) -> Result<u32, CheckFault>
     ensures { Answers result (λ next. next) (some_or Limit at (one_more entry)) }
 {
     match one_more(entry) {
@@ -103,7 +103,7 @@ fn entry_behind(entry: u32, at: u32) -> Result<u32, Fault>
 
 /// One more value or variable parameter.
 #[tactic(auto, unfolding(ps_check_names::specs::Views::meaning_of))]
-fn add_parameter(ty: &Ty, entry: u32, known: &mut Vec<Meaning>, at: u32) -> Result<u32, Fault>
+fn add_parameter(ty: &Ty, entry: u32, known: &mut Vec<Meaning>, at: u32) -> Result<u32, CheckFault>
     ensures { Answers result (λ next. entries_of next known.new.items)
         (add_entry at (λ i. ParameterMeaning i (type_of ty.now)) (entries_of entry known.old.items)) }
 {
@@ -122,7 +122,7 @@ fn add_parameters(
     entry: u32,
     known: &mut Vec<Meaning>,
     at: u32,
-) -> Result<u32, Fault>
+) -> Result<u32, CheckFault>
     ensures { Answers result (λ next. entries_of next known.new.items)
         (add_parameters at (type_of ty.now) count (entries_of entry known.old.items)) }
 {
@@ -140,7 +140,7 @@ fn add_section(
     entry: u32,
     known: &mut Vec<Meaning>,
     at: u32,
-) -> Result<u32, Fault>
+) -> Result<u32, CheckFault>
     ensures { Answers result (λ next. entries_of next known.new.items)
         (add_section at (entries_of entry known.old.items) (section_of section.now)) }
 {
@@ -168,7 +168,7 @@ pub fn add_sections(
     entry: u32,
     known: &mut Vec<Meaning>,
     at: u32,
-) -> Result<u32, Fault>
+) -> Result<u32, CheckFault>
     ensures { Answers result (λ next. entries_of next known.new.items)
         (add_sections at (entries_of entry known.old.items) (sections_of sections.now)) }
 {

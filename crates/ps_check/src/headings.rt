@@ -17,12 +17,13 @@ use crate::state::{Gathered, Local};
 use ps_check_declarations::frame::{Frame, Hidden, Place};
 use ps_check_declarations::headings::{Signature, heading};
 use ps_check_judgement::answer::broken;
-use ps_check_judgement::refusal::{Fault, Rule};
+use ps_check_judgement::refusal::{CheckFault, Rule};
 use ps_check_names::meaning::{Heading, Meaning};
 use ps_check_names::reading::Reading;
 use ps_check_names::sections::SectionList;
 use ps_syntax::{Heading as HeadingDenoter, Section};
 use ps_text::Span;
+use ps_tree::limits::MAX_ROUTINES;
 use ps_tree::names::Names;
 use std::alloc::{AllocError, Global};
 
@@ -119,12 +120,13 @@ fn parameter_names(
     Ok(names)
 }
 
-/// The number of the next routine, of at most 1,048,576.
-fn next_number(gathered: &Gathered, at: u32) -> Result<u32, Fault>
+/// The number of the next routine, of at most `MAX_ROUTINES`.
+fn next_number(gathered: &Gathered, at: u32) -> Result<u32, CheckFault>
     ensures { Answers result (λ number. number)
-        (provided (nat_lt (length gathered.now.routines.items) 1048576) Limit at (length gathered.now.routines.items)) }
+        (provided (nat_lt (length gathered.now.routines.items) MAX_ROUTINES) Limit at
+        (length gathered.now.routines.items)) }
 {
-    if gathered.routines.len() < 1_048_576 {
+    if gathered.routines.len() < MAX_ROUTINES {
         Ok(gathered.routines.len() as u32)
     } else {
         Err(broken(Rule::Limit, at))
@@ -183,7 +185,7 @@ fn own_signature(
     frame: &Frame,
     alloc: Global,
     known: &[Meaning],
-) -> Result<Signature, Fault>
+) -> Result<Signature, CheckFault>
     ensures { Answers result (λ s. signature_of s)
         ((heading (frame_of frame.now) (map meaning_of known.now) written.now).1
         (hidden_in_heading (frame_of frame.now) written.now)) }
@@ -210,7 +212,7 @@ pub fn new_heading(
     alloc: Global,
     local: &mut Local,
     gathered: &mut Gathered,
-) -> Result<(), Fault>
+) -> Result<(), CheckFault>
     ensures { Answers result (λ _. routines_of local.new gathered.new)
         (new_heading (frame_of frame.now) is_forward (routines_of local.old gathered.old) written.now) }
 {

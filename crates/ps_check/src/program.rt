@@ -17,7 +17,7 @@ use crate::chain::{Chain, Finished};
 use crate::routines::put;
 use crate::state::{Done, Gathered};
 use ps_check_judgement::answer::{broken, paired};
-use ps_check_judgement::refusal::{Fault, Rule};
+use ps_check_judgement::refusal::{CheckFault, Rule};
 use ps_check_names::constants::{BOOLEAN, CHAR, INTEGER};
 use ps_check_names::meaning::{File, Meaning, Required};
 use ps_check_names::reading::Reading;
@@ -146,7 +146,7 @@ pub fn required(alloc: Global, seed: Seed) -> Result<Files, AllocError>
 }
 
 /// The file that a program parameter at an offset is.
-fn file_named(name: &[u8], at: u32) -> Result<File, Fault>
+fn file_named(name: &[u8], at: u32) -> Result<File, CheckFault>
     ensures { Answers result (λ file. FileMeaning file) (file_named at name.now) }
 {
     if name == b"input".as_slice() {
@@ -160,7 +160,7 @@ fn file_named(name: &[u8], at: u32) -> Result<File, Fault>
 
 /// One more file, whose name, at an offset, is new.
 #[tactic(auto, unfolding(ps_check_names::specs::Views::meaning_of))]
-fn add_file(files: &mut Files, name: Vec<u8>, file: File, at: u32) -> Result<(), Fault>
+fn add_file(files: &mut Files, name: Vec<u8>, file: File, at: u32) -> Result<(), CheckFault>
     ensures { Answers result (λ _. files_of files.new)
         (provided (not (has files.old.names name.items)) Twice at
         (record {
@@ -178,7 +178,12 @@ fn add_file(files: &mut Files, name: Vec<u8>, file: File, at: u32) -> Result<(),
 
 /// One more program parameter.
 #[tactic(auto, unfolding(crate::specs::Programs::list_file))]
-fn list_file(reading: &Reading, alloc: Global, files: &mut Files, at: Span) -> Result<(), Fault>
+fn list_file(
+    reading: &Reading,
+    alloc: Global,
+    files: &mut Files,
+    at: Span,
+) -> Result<(), CheckFault>
     ensures { Answers result (λ _. files_of files.new) (list_file reading.now.source.now (files_of files.old) at) }
 {
     let name = reading.name(alloc, at)?;
@@ -188,7 +193,11 @@ fn list_file(reading: &Reading, alloc: Global, files: &mut Files, at: Span) -> R
 
 /// The files that a program heading lists.
 #[tactic(auto, using(ps_check_judgement::proofs::Lists::stepped_start, ps_check_judgement::proofs::Lists::stepped_next, ps_check_judgement::proofs::Lists::stepped_fault, ps_check_judgement::proofs::Lists::stepped_end))]
-pub fn list_files(reading: &Reading, alloc: Global, parameters: &[Span]) -> Result<Files, Fault>
+pub fn list_files(
+    reading: &Reading,
+    alloc: Global,
+    parameters: &[Span],
+) -> Result<Files, CheckFault>
     ensures { Answers result (λ files. files_of files)
         (steps (list_file reading.now.source.now) no_files parameters.now) }
 {
@@ -207,7 +216,7 @@ fn all_routines(
     alloc: Global,
     gathered: Vec<Option<Finished>>,
     at: u32,
-) -> Result<Vec<Routine>, Fault>
+) -> Result<Vec<Routine>, CheckFault>
     ensures { Answers result (λ routines. map routine_of routines.items)
         (traverse (some_or Limit at) (map finished_of gathered.items)) }
 {
@@ -223,7 +232,7 @@ fn all_routines(
 
 /// The program of these parts, if each routine has its block and it keeps the limits. The program's name is at `at`.
 #[tactic(auto, using(crate::proofs::Collected::limited_is), unfolding(crate::specs::Programs::assembled))]
-fn assembled(alloc: Global, gathered: Gathered, at: u32) -> Result<Checked, Fault>
+fn assembled(alloc: Global, gathered: Gathered, at: u32) -> Result<Checked, CheckFault>
     ensures { Answers result (λ checked. program_in checked) (assembled at (gathered_of gathered)) }
 {
     let Gathered {
@@ -261,7 +270,7 @@ pub fn program_of(
     block: Done,
     mut gathered: Gathered,
     at: u32,
-) -> Result<Checked, Fault>
+) -> Result<Checked, CheckFault>
     ensures { Answers result (λ checked. program_in checked) (program_of at (done_of block gathered)) }
 {
     let finished = program_routine(alloc, block)?;

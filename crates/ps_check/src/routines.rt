@@ -23,11 +23,12 @@ use crate::headings::{heading_name, is_bare, new_heading};
 use crate::state::{Done, Gathered, Local, Start};
 use ps_check_declarations::frame::Frame;
 use ps_check_judgement::answer::{broken, paired};
-use ps_check_judgement::refusal::{Fault, Rule};
+use ps_check_judgement::refusal::{CheckFault, Rule};
 use ps_check_names::meaning::{Heading, Meaning};
 use ps_check_names::reading::Reading;
 use ps_syntax::Routine;
 use ps_text::Span;
+use ps_tree::limits::{MAX_CELLS, MAX_NODES};
 use ps_tree::names::{Names, Seed};
 use ps_tree::tree::Routine as RoutineTree;
 use std::alloc::{AllocError, Global};
@@ -136,7 +137,7 @@ fn is_waiting(gathered: &Gathered, written: &Routine, meaning: &Meaning) -> bool
 
 /// A routine of the block has its block.
 #[tactic(auto, unfolding(crate::specs::Forwards::one_complete, ps_check_names::specs::Views::meaning_of))]
-fn one_complete(gathered: &Gathered, meaning: &Meaning) -> Result<(), Fault>
+fn one_complete(gathered: &Gathered, meaning: &Meaning) -> Result<(), CheckFault>
     ensures { Answers result (λ _. tt) (one_complete (gathered_of gathered.now) tt (meaning_of meaning.now)) }
 {
     match meaning {
@@ -160,7 +161,7 @@ fn one_complete(gathered: &Gathered, meaning: &Meaning) -> Result<(), Fault>
 
 /// All routines of the block have their blocks.
 #[tactic(auto, using(ps_check_declarations::proofs::Steps::mapped_start, ps_check_declarations::proofs::Steps::mapped_next, ps_check_declarations::proofs::Steps::mapped_fault, ps_check_declarations::proofs::Steps::mapped_end), unfolding(crate::specs::Forwards::all_complete))]
-pub fn all_complete(gathered: &Gathered, known: &[Meaning]) -> Result<(), Fault>
+pub fn all_complete(gathered: &Gathered, known: &[Meaning]) -> Result<(), CheckFault>
     ensures { Answers result (λ _. tt) (all_complete (gathered_of gathered.now) (map meaning_of known.now)) }
 {
     for meaning in known {
@@ -190,7 +191,7 @@ fn add_heading(
     alloc: Global,
     local: &mut Local,
     gathered: &mut Gathered,
-) -> Result<(), Fault>
+) -> Result<(), CheckFault>
     ensures { Answers result (λ _. routines_of local.new gathered.new)
         (introduce (frame_of frame.now) (routine (context_of frame.now.reading.now) written.now)
         (routines_of local.old gathered.old) None) }
@@ -231,7 +232,7 @@ pub fn introduce(
     alloc: Global,
     local: &mut Local,
     gathered: &mut Gathered,
-) -> Result<(), Fault>
+) -> Result<(), CheckFault>
     ensures { Answers result (λ _. routines_of local.new gathered.new)
         (introduced (frame_of frame.now) (routine (context_of frame.now.reading.now) written.now)
         (routines_of local.old gathered.old)) }
@@ -250,7 +251,7 @@ pub fn heading_of_routine<'k>(
     alloc: Global,
     known: &'k [Meaning],
     name: Span,
-) -> Result<&'k Heading, Fault>
+) -> Result<&'k Heading, CheckFault>
     ensures { Answers result (λ heading. heading_of heading.now)
         (heading_at name.from (known_as (frame_of frame.now) (map meaning_of known.now)
         (spelled frame.now.reading.now.source.now name))) }
@@ -283,7 +284,7 @@ fn names_of(list: &[Vec<u8>], seed: Seed, alloc: Global) -> Result<Names, AllocE
 
 /// The names of a heading's formal parameters with what they denote, and the entry after theirs. The routine's name is
 /// at `at`.
-fn parameters(heading: &Heading, seed: Seed, alloc: Global, at: u32) -> Result<Start, Fault>
+fn parameters(heading: &Heading, seed: Seed, alloc: Global, at: u32) -> Result<Start, CheckFault>
     ensures names { IfOk result (λ s. s.names ≡ add_names [] (heading_of heading.now).names) }
     ensures entries { Answers result (λ s. entries_of s.first s.known.items)
         (add_sections at (entries_of (first_entry (heading_of heading.now).result) [])
@@ -308,7 +309,7 @@ pub fn start(
     seed: Seed,
     alloc: Global,
     at: u32,
-) -> Result<(Chain, Start), Fault>
+) -> Result<(Chain, Start), CheckFault>
     ensures { Answers result (λ s. start_of s.0 s.1) (start at chain.now (heading_of heading.now)) }
 {
     let inner = chain.inner(alloc, heading.number, at);
@@ -365,11 +366,16 @@ fn routine_tree(
 fn is_small(routine: &RoutineTree) -> bool
     ensures { result ≡ is_small_routine (routine_of routine.now) }
 {
-    routine.cells() <= 100_000 && routine.nodes() <= 4_194_304
+    routine.cells() <= MAX_CELLS && routine.nodes() <= MAX_NODES
 }
 
 /// Puts a routine at its number, if it keeps the limits. Its name is at `at`.
-fn put_small(gathered: &mut Gathered, number: u32, routine: Finished, at: u32) -> Result<(), Fault>
+fn put_small(
+    gathered: &mut Gathered,
+    number: u32,
+    routine: Finished,
+    at: u32,
+) -> Result<(), CheckFault>
     ensures { Answers result (λ _. gathered_of gathered.new)
         (provided (is_small_routine (routine_of routine.routine)) Limit at
         (record {
@@ -396,7 +402,7 @@ pub fn finish(
     gathered: &mut Gathered,
     alloc: Global,
     at: u32,
-) -> Result<(), Fault>
+) -> Result<(), CheckFault>
     ensures { Answers result (λ _. gathered_of gathered.new)
         (finished at (heading_of heading.now) chain (done_of block gathered.old)) }
 {

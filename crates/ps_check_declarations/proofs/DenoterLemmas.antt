@@ -7,8 +7,8 @@ use Rattle.ps_text.specs.declared.Span.{Span}
 use Rattle.ps_syntax.specs.declared.program.Fields.{Fields}
 use Rattle.ps_tree.specs.declared.types.Ordinal.{Ordinal}
 use Rattle.ps_tree.specs.Types.{DataType, ArrayType}
-use Rattle.ps_check_judgement.specs.declared.refusal.Fault.{Fault}
-use Rattle.ps_check_judgement.specs.declared.refusal.Fault.TheVariants.{OutOfMemory, Broken}
+use Rattle.ps_check_judgement.specs.declared.refusal.CheckFault.{CheckFault}
+use Rattle.ps_check_judgement.specs.declared.refusal.CheckFault.TheVariants.{OutOfMemory, Broken}
 use Rattle.ps_check_judgement.specs.Judged.{Judged, Yes, No, Told, ◌>>=◌}
 use Rattle.ps_check_names.specs.Regions.{Meaning, ConstantMeaning}
 use Rattle.ps_check_declarations.specs.Points.{Points, all, add_points}
@@ -97,7 +97,8 @@ module _ (packed : Bool) (all : Indices) (component : DataType) (before xs : Ind
         ∙ ap (λ o. o >>= array_of packed xs) e;
   }
 
-  pub arrays_fault : (fault : Fault) → before ≡ xs ++ (at, o) ∷ [] → Told fault (small at (ArrayType at packed o type))
+  pub arrays_fault : (fault : CheckFault) → before ≡ xs ++ (at, o) ∷ []
+      → Told fault (small at (ArrayType at packed o type))
       → Inside packed all component before type → Told fault (array_of packed all component)
   arrays_fault OutOfMemory is e r = e
   arrays_fault (Broken rule where_) is e r = r.rest ∙ ap (λ l. array_of packed l type) is ∙ then_arrays packed

@@ -2,7 +2,7 @@
 use Rattle.std.proofs.Common.{◌≡◌, ℕ, ◌+◌, ◌<◌, ◌≤◌, List, length, get_or, map, sym, ap, ◌∙◌, arith}
 use Rattle.std.proofs.Math.ListN.{get_or-map}
 use Rattle.std.proofs.lemmas.List.{length-map}
-use Rattle.ps_check_judgement.specs.declared.refusal.Fault.{Fault}
+use Rattle.ps_check_judgement.specs.declared.refusal.CheckFault.{CheckFault}
 use Rattle.ps_check_judgement.specs.Judged.{Judged, Yes, Told, steps}
 use Rattle.ps_check_judgement.proofs.Lists.{Stepped, stepped_start, stepped_next, stepped_fault, stepped_end}
 
@@ -20,8 +20,8 @@ module _ {S A B : Type 0} (f : S → B → Judged S) (g : A → B) (s : S) (xs :
         let n : i < length (map g xs) = omega (arith, length-map xs g) in
         stepped_next f s (map g xs) i t (g x) u n (mapped_at x at) r e
 
-    pub mapped_fault : (x : A) (e : Fault) → i < length xs → x ≡ get_or xs i x → Stepped f s (map g xs) i t → Told e
-        (f t (g x)) → Told e (steps f s (map g xs))
+    pub mapped_fault : (x : A) (e : CheckFault) → i < length xs → x ≡ get_or xs i x → Stepped f s (map g xs) i t
+        → Told e (f t (g x)) → Told e (steps f s (map g xs))
     mapped_fault x e lt at r told =
         let n : i < length (map g xs) = omega (arith, length-map xs g) in
         stepped_fault f s (map g xs) i t (g x) e n (mapped_at x at) r told

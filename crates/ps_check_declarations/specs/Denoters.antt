@@ -2,6 +2,7 @@
 use Rattle.std.specs.Prelude.{ℕ, ◌+◌, ◌-◌, pos, int_le, Bool, true, false, ◌&&◌, List, [], ◌∷◌, ◌++◌, length, map}
 use Rattle.std.specs.Prelude.{Option, Some, None, nat_lt, if◌then◌else◌}
 use Rattle.ps_text.specs.declared.Span.{Span}
+use Rattle.ps_tree.specs.declared.limits.TheConstants.{MAX_ROUTINES}
 use Rattle.ps_syntax.specs.First.{first_of_ordinal}
 use Rattle.ps_syntax.specs.declared.program.Ordinal as syntax
 use Rattle.ps_syntax.specs.declared.program.Ordinal.TheVariants as o
@@ -146,7 +147,7 @@ waiting d domain = (
 abbrev pub pointer : Frame → Hidden → Declared → Span → Judged (DataType × Declared)
 pointer f hidden d domain = do
   free ← passes hidden (spelled f.text domain) domain.from
-  provided (nat_lt (length d.domains + length d.pending) 1048576) Limit domain.from (waiting d domain)
+  provided (nat_lt (length d.domains + length d.pending) MAX_ROUTINES) Limit domain.from (waiting d domain)
 
 -- ---- structured types (6.4.3)
 

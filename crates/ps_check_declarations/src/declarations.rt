@@ -18,9 +18,10 @@ use crate::denoters::{constant_in, denoter};
 use crate::frame::{Declared, Frame, Hidden, Parts, Place};
 use crate::points::is_later;
 use ps_check_judgement::answer::broken;
-use ps_check_judgement::refusal::{Fault, Rule};
+use ps_check_judgement::refusal::{CheckFault, Rule};
 use ps_check_names::constants::{ConstantValue, misplacement};
 use ps_check_names::meaning::Meaning;
+use ps_check_names::meanings::Meanings;
 use ps_check_names::scope::{Found, Scope};
 use ps_syntax::{ConstantDefinition, TypeDefinition, Variables};
 use ps_text::Span;
@@ -46,7 +47,7 @@ fn begin(
     known: &[Meaning],
     begun: &mut Names,
     name: Span,
-) -> Result<(), Fault>
+) -> Result<(), CheckFault>
     ensures { Answers result (λ _. begun.new) (begin (frame_of frame.now) (map meaning_of known.now) begun.old name) }
 {
     let spelling = frame.reading.name(alloc, name)?;
@@ -66,7 +67,7 @@ fn begin_all(
     alloc: Global,
     known: &[Meaning],
     names: &[Span],
-) -> Result<Names, Fault>
+) -> Result<Names, CheckFault>
     ensures { Answers result (λ begun. begun)
         (steps (begin (frame_of frame.now) (map meaning_of known.now)) [] names.now) }
 {
@@ -78,7 +79,12 @@ fn begin_all(
 }
 
 /// One definition in progress.
-fn begin_one(frame: &Frame, alloc: Global, known: &[Meaning], name: Span) -> Result<Names, Fault>
+fn begin_one(
+    frame: &Frame,
+    alloc: Global,
+    known: &[Meaning],
+    name: Span,
+) -> Result<Names, CheckFault>
     ensures { Answers result (λ begun. begun) (begin (frame_of frame.now) (map meaning_of known.now) [] name) }
 {
     let mut begun = Names::new(alloc, frame.reading.seed);
@@ -93,7 +99,7 @@ fn define_constant(
     alloc: Global,
     declared: &mut Declared,
     definition: &ConstantDefinition,
-) -> Result<(), Fault>
+) -> Result<(), CheckFault>
     ensures { Answers result (λ _. declared_of declared.new)
         (define_constant (frame_of frame.now) (declared_of declared.old) definition.now) }
 {
@@ -112,11 +118,11 @@ fn define_constant(
 /// What is reported of a type definition whose denoter's first token is at `first`: a limit that is exceeded there is
 /// reported at the name that is defined.
 #[tactic(auto, unfolding(crate::specs::Declarations::is_limit, crate::specs::Declarations::told_at_name))]
-fn told_at_name(fault: Fault, first: u32, name: u32) -> Fault
+fn told_at_name(fault: CheckFault, first: u32, name: u32) -> CheckFault
     ensures { (j : Judged (DataType × DeclaredSpec)) → Told fault j → Told result (told_at_name first name j) }
 {
     match fault {
-        Fault::Broken {
+        CheckFault::Broken {
             rule: Rule::Limit,
             at,
         } if at == first => broken(Rule::Limit, name),
@@ -130,7 +136,7 @@ fn defined_type(
     place: &Place,
     declared: &mut Declared,
     definition: &TypeDefinition,
-) -> Result<Ty, Fault>
+) -> Result<Ty, CheckFault>
     ensures { Answers result (λ ty. (type_of ty, declared_of declared.new))
         (told_at_name (first_of_type definition.now.ty) definition.now.name.from
         (denoter (frame_of place.now.frame) definition.now.ty (hidden_of place.now.hidden) (declared_of declared.old))) }
@@ -151,7 +157,7 @@ fn define_type(
     alloc: Global,
     declared: &mut Declared,
     definition: &TypeDefinition,
-) -> Result<(), Fault>
+) -> Result<(), CheckFault>
     ensures { Answers result (λ _. declared_of declared.new)
         (define_type (frame_of frame.now) (declared_of declared.old) definition.now) }
 {
@@ -175,7 +181,7 @@ fn define_type(
 
 /// The domain type denoted by what a name was found to be.
 #[tactic(auto, unfolding(crate::specs::Declarations::domain_at, crate::specs::Denoters::type_at, ps_check_names::specs::Views::meaning_of))]
-fn domain_at(found: &Found, later: bool, at: u32) -> Result<Ty, Fault>
+fn domain_at(found: &Found, later: bool, at: u32) -> Result<Ty, CheckFault>
     ensures { Answers result (λ ty. type_of ty) (domain_at later at (point_of found.now)) }
 {
     match found {
@@ -202,14 +208,14 @@ fn resolve_domain(
     declared: &mut Declared,
     name: Span,
     count: usize,
-) -> Result<(), Fault>
+) -> Result<(), CheckFault>
     ensures { Answers result (λ _. declared_of declared.new)
         (resolve_domain (frame_of frame.now) (declared_of declared.old) (name, count)) }
 {
     let scope = Scope::Block {
         routine: frame.routine,
         names: frame.names,
-        known: declared.known.as_slice(),
+        known: Meanings::new(declared.known.as_slice()),
         outer: frame.outer,
     };
     let found = frame.reading.denoted(alloc, &scope, name)?;
@@ -222,7 +228,7 @@ fn resolve_domain(
 
 /// The end of a part: each pending domain type is the type that its name denotes there.
 #[tactic(auto, using(ps_check_judgement::proofs::Lists::stepped_start, ps_check_judgement::proofs::Lists::stepped_next, ps_check_judgement::proofs::Lists::stepped_fault, ps_check_judgement::proofs::Lists::stepped_end), unfolding(crate::specs::Declarations::resolve_domains))]
-fn resolve_domains(frame: &Frame, alloc: Global, declared: &mut Declared) -> Result<(), Fault>
+fn resolve_domains(frame: &Frame, alloc: Global, declared: &mut Declared) -> Result<(), CheckFault>
     ensures { Answers result (λ _. declared_of declared.new)
         (resolve_domains (frame_of frame.now) (declared_of declared.old)) }
 {
@@ -236,7 +242,12 @@ fn resolve_domains(frame: &Frame, alloc: Global, declared: &mut Declared) -> Res
 
 /// One more variable of a type, after `first` entries and the variables before it.
 #[tactic(auto, unfolding(ps_check_names::specs::Views::meaning_of))]
-fn declare_variable(first: u32, ty: &Ty, declared: &mut Declared, name: Span) -> Result<(), Fault>
+fn declare_variable(
+    first: u32,
+    ty: &Ty,
+    declared: &mut Declared,
+    name: Span,
+) -> Result<(), CheckFault>
     ensures { Answers result (λ _. declared_of declared.new)
         (declare_variable first (type_of ty.now) (declared_of declared.old) name) }
 {
@@ -266,7 +277,12 @@ fn entry_behind(first: u32, variables: usize) -> Option<u32>
 
 /// The variables of one declaration.
 #[tactic(auto, using(ps_check_judgement::proofs::Lists::stepped_start, ps_check_judgement::proofs::Lists::stepped_next, ps_check_judgement::proofs::Lists::stepped_fault, ps_check_judgement::proofs::Lists::stepped_end))]
-fn declare_names(first: u32, ty: &Ty, declared: &mut Declared, names: &[Span]) -> Result<(), Fault>
+fn declare_names(
+    first: u32,
+    ty: &Ty,
+    declared: &mut Declared,
+    names: &[Span],
+) -> Result<(), CheckFault>
     ensures { Answers result (λ _. declared_of declared.new)
         (steps (declare_variable first (type_of ty.now)) (declared_of declared.old) names.now) }
 {
@@ -284,7 +300,7 @@ fn declare_variables(
     first: u32,
     declared: &mut Declared,
     declaration: &Variables,
-) -> Result<(), Fault>
+) -> Result<(), CheckFault>
     ensures { Answers result (λ _. declared_of declared.new)
         (declare_variables (frame_of frame.now) first (declared_of declared.old) declaration.now) }
 {
@@ -315,7 +331,7 @@ fn define_constants(
     alloc: Global,
     declared: &mut Declared,
     definitions: &[ConstantDefinition],
-) -> Result<(), Fault>
+) -> Result<(), CheckFault>
     ensures { Answers result (λ _. declared_of declared.new)
         (steps (define_constant (frame_of frame.now)) (declared_of declared.old) definitions.now) }
 {
@@ -331,7 +347,7 @@ fn define_types(
     alloc: Global,
     declared: &mut Declared,
     definitions: &[TypeDefinition],
-) -> Result<(), Fault>
+) -> Result<(), CheckFault>
     ensures { Answers result (λ _. declared_of declared.new)
         (steps (define_type (frame_of frame.now)) (declared_of declared.old) definitions.now) }
 {
@@ -348,7 +364,7 @@ fn declare_all(
     first: u32,
     declared: &mut Declared,
     declarations: &[Variables],
-) -> Result<(), Fault>
+) -> Result<(), CheckFault>
     ensures { Answers result (λ _. declared_of declared.new)
         (steps (declare_variables (frame_of frame.now) first) (declared_of declared.old) declarations.now) }
 {
@@ -366,7 +382,7 @@ pub fn declarations(
     first: u32,
     declared: &mut Declared,
     parts: &Parts,
-) -> Result<(), Fault>
+) -> Result<(), CheckFault>
     ensures { Answers result (λ _. declared_of declared.new)
         (declarations (frame_of frame.now) first
         (declared_of declared.old) parts.now.constants.now parts.now.types.now parts.now.variables.now) }

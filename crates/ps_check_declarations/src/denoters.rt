@@ -20,10 +20,11 @@ use crate::frame::{Declared, Frame, Hidden, Place};
 use crate::points::{add_points, new_points};
 pub(crate) use named::{constant_in, type_in};
 use ps_check_judgement::answer::broken;
-use ps_check_judgement::refusal::{Fault, Rule};
+use ps_check_judgement::refusal::{CheckFault, Rule};
 use ps_check_names::wides::Wides;
 use ps_syntax::{Fields, Ordinal as OrdinalDenoter, Structure, TypeDenoter};
 use ps_text::Span;
+use ps_tree::limits::{MAX_CELLS, MAX_ROUTINES};
 use ps_tree::names::{Names, Seed};
 use ps_tree::types::{Component, Fields as RecordFields, Ordinal, Packing, Ty};
 use std::alloc::{AllocError, Global};
@@ -32,14 +33,14 @@ use std::rc::Rc;
 
 /// A pointer type, whose domain type is resolved later.
 #[tactic(auto, unfolding(ps_tree::specs::View::type_of))]
-fn pointer(place: &Place, declared: &mut Declared, domain: Span) -> Result<Ty, Fault>
+fn pointer(place: &Place, declared: &mut Declared, domain: Span) -> Result<Ty, CheckFault>
     ensures { Answers result (λ ty. (type_of ty, declared_of declared.new))
         (pointer (frame_of place.now.frame) (hidden_of place.now.hidden) (declared_of declared.old) domain) }
 {
     pass_hidden(place.frame.reading, place.alloc, &place.hidden, domain)?;
     let settled = declared.domains.len();
     let pending = declared.pending.len();
-    if settled >= 1_048_576 || pending >= 1_048_576 - settled {
+    if settled >= MAX_ROUTINES || pending >= MAX_ROUTINES - settled {
         return Err(broken(Rule::Limit, domain.from));
     }
     declared.pending.push((domain, declared.known.len()))?;
@@ -49,10 +50,10 @@ fn pointer(place: &Place, declared: &mut Declared, domain: Span) -> Result<Ty, F
 }
 
 /// A structured type of at most 100,000 cells.
-fn small(ty: Ty, at: u32) -> Result<Ty, Fault>
+fn small(ty: Ty, at: u32) -> Result<Ty, CheckFault>
     ensures { Answers result (λ same. type_of same) (small at (type_of ty)) }
 {
-    if ty.cells() <= 100_000 {
+    if ty.cells() <= MAX_CELLS {
         Ok(ty)
     } else {
         Err(broken(Rule::Limit, at))
@@ -81,7 +82,7 @@ fn index_type(
     at: u32,
     done: &mut Vec<(u32, Ordinal)>,
     index: &OrdinalDenoter,
-) -> Result<(), Fault>
+) -> Result<(), CheckFault>
     ensures { Answers result (λ _. (done.new.items, declared_of declared.new))
         (index_type (frame_of place.now.frame) (hidden_of place.now.hidden) at
         (done.old.items, declared_of declared.old) index.now) }
@@ -109,7 +110,7 @@ fn index_types(
     declared: &mut Declared,
     at: u32,
     indices: &[OrdinalDenoter],
-) -> Result<Vec<(u32, Ordinal)>, Fault>
+) -> Result<Vec<(u32, Ordinal)>, CheckFault>
     ensures { Answers result (λ done. (done.items, declared_of declared.new))
         (steps (index_type (frame_of place.now.frame) (hidden_of place.now.hidden) at)
         ([], declared_of declared.old) indices.now) }
@@ -129,7 +130,7 @@ fn one_array(
     at: u32,
     index: Ordinal,
     component: Ty,
-) -> Result<Ty, Fault>
+) -> Result<Ty, CheckFault>
     ensures { Answers result (λ ty. type_of ty) (small at (ArrayType at packed index (type_of component))) }
 {
     let component = Rc::new(alloc, Component::new(component))?;
@@ -151,7 +152,7 @@ fn array_of(
     packed: bool,
     indices: &mut Vec<(u32, Ordinal)>,
     component: Ty,
-) -> Result<Ty, Fault>
+) -> Result<Ty, CheckFault>
     ensures { Answers result (λ ty. type_of ty) (array_of packed indices.old.items (type_of component)) }
 {
     let mut ty = component;
@@ -163,7 +164,7 @@ fn array_of(
 
 /// The base of a set type, whose word `set` is at `word`; its ordinals are within 0..255.
 #[tactic(auto, unfolding(ps_tree::specs::View::type_of))]
-fn set_of(word: u32, at: u32, packed: bool, base: Ordinal) -> Result<Ty, Fault>
+fn set_of(word: u32, at: u32, packed: bool, base: Ordinal) -> Result<Ty, CheckFault>
     ensures { Answers result (λ ty. type_of ty) (set_of word at packed base) }
 {
     if 0 <= base.low && base.high <= 255 {
@@ -188,7 +189,7 @@ fn set_type(
     packed: Option<u32>,
     at: u32,
     base: &OrdinalDenoter,
-) -> Result<Ty, Fault>
+) -> Result<Ty, CheckFault>
     ensures { Answers result (λ ty. (type_of ty, declared_of declared.new))
         (set_type (frame_of place.now.frame) packed (hidden_of place.now.hidden) (declared_of declared.old) at base.now) }
 {
@@ -199,7 +200,11 @@ fn set_type(
 /// The type of a denoter.
 #[cycle(denoter)]
 #[tactic(auto, using(crate::proofs::FoldLemmas::denoter_Ordinal, crate::proofs::FoldLemmas::denoter_Pointer, crate::proofs::FoldLemmas::denoter_Structure, crate::proofs::FoldLemmas::denoter_Packed))]
-pub(crate) fn denoter(ty: &TypeDenoter, place: &Place, declared: &mut Declared) -> Result<Ty, Fault>
+pub(crate) fn denoter(
+    ty: &TypeDenoter,
+    place: &Place,
+    declared: &mut Declared,
+) -> Result<Ty, CheckFault>
     ensures { Answers result (λ made. (type_of made, declared_of declared.new))
         (denoter (frame_of place.now.frame) ty.now (hidden_of place.now.hidden) (declared_of declared.old)) }
 {
@@ -218,7 +223,7 @@ fn structure(
     place: &Place,
     declared: &mut Declared,
     packed: Option<u32>,
-) -> Result<Ty, Fault>
+) -> Result<Ty, CheckFault>
     ensures { Answers result (λ ty. (type_of ty, declared_of declared.new))
         (structure (frame_of place.now.frame) made.now packed (hidden_of place.now.hidden) (declared_of declared.old)) }
 {
@@ -247,7 +252,7 @@ fn array_type(
     declared: &mut Declared,
     packed: Option<u32>,
     at: u32,
-) -> Result<Ty, Fault>
+) -> Result<Ty, CheckFault>
     ensures { Answers result (λ ty. (type_of ty, declared_of declared.new))
         (array_type (frame_of place.now.frame) packed (hidden_of place.now.hidden)
         (declared_of declared.old) at indices.now (denoter (frame_of place.now.frame) component.now)) }
@@ -310,7 +315,7 @@ pub(crate) fn own_points(
     names: &Names,
     count: usize,
     points: &[Span],
-) -> Result<usize, Fault>
+) -> Result<usize, CheckFault>
     ensures { Answers result (λ n. n) (new_points place.now.frame.reading.now.source.now names.now [] count points.now) }
 {
     let none = Names::new(place.alloc, place.frame.reading.seed);
@@ -333,7 +338,7 @@ fn add_fields(
     declared: &mut Declared,
     names: &Names,
     done: &mut Vec<Ty>,
-) -> Result<(), Fault>
+) -> Result<(), CheckFault>
     ensures { Answers result (λ _. (map type_of done.new.items, declared_of declared.new))
         (add_fields (frame_of place.now.frame) names.now (hidden_of place.now.hidden)
         (map type_of done.old.items, declared_of declared.old) (fields (frame_of place.now.frame) section.now)) }
@@ -362,7 +367,7 @@ fn all_fields(
     place: &Place,
     declared: &mut Declared,
     names: &Names,
-) -> Result<Vec<Ty>, Fault>
+) -> Result<Vec<Ty>, CheckFault>
     ensures { Answers result (λ done. (map type_of done.items, declared_of declared.new))
         (steps (add_fields (frame_of place.now.frame) names.now (hidden_of place.now.hidden))
         ([], declared_of declared.old) (map (fields (frame_of place.now.frame)) sections.now)) }
@@ -382,7 +387,7 @@ fn one_record(
     at: u32,
     names: Names,
     types: Vec<Ty>,
-) -> Result<Ty, Fault>
+) -> Result<Ty, CheckFault>
     ensures { Answers result (λ ty. type_of ty)
         (small at (RecordType at packed (field_list names (types_of types.items)))) }
 {
@@ -407,7 +412,7 @@ fn record_type(
     declared: &mut Declared,
     packed: Option<u32>,
     at: u32,
-) -> Result<Ty, Fault>
+) -> Result<Ty, CheckFault>
     ensures { Answers result (λ ty. (type_of ty, declared_of declared.new))
         (record_type (frame_of place.now.frame) packed (hidden_of place.now.hidden) (declared_of declared.old) at
         (map (fields (frame_of place.now.frame)) sections.now)) }

@@ -14,7 +14,7 @@ use crate::denoters::{own_points, type_in};
 use crate::frame::{Hidden, Place};
 use crate::points::add_points;
 use ps_check_judgement::answer::broken;
-use ps_check_judgement::refusal::{Fault, Rule};
+use ps_check_judgement::refusal::{CheckFault, Rule};
 use ps_check_names::meaning::Meaning;
 use ps_check_names::sections::{Section, SectionList};
 use ps_syntax::{Heading, Section as SectionDenoter};
@@ -31,7 +31,7 @@ pub struct Signature {
 }
 
 /// A heading has at most 32 formal parameters.
-fn few(count: usize, at: u32) -> Result<u32, Fault>
+fn few(count: usize, at: u32) -> Result<u32, CheckFault>
     ensures { Answers result (λ same. same) (few at count) }
 {
     if count <= 32 {
@@ -57,7 +57,7 @@ fn is_result(ty: &Ty) -> bool
 }
 
 /// The type of a function's result, which is the name of an ordinal or pointer type.
-fn result_type(place: &Place, known: &[Meaning], name: Span) -> Result<Ty, Fault>
+fn result_type(place: &Place, known: &[Meaning], name: Span) -> Result<Ty, CheckFault>
     ensures { Answers result (λ ty. type_of ty)
         (result_type (frame_of place.now.frame) (map meaning_of known.now) (hidden_of place.now.hidden) name) }
 {
@@ -72,7 +72,7 @@ fn result_type(place: &Place, known: &[Meaning], name: Span) -> Result<Ty, Fault
 /// The content of a heading.
 #[cycle(heading)]
 #[tactic(auto, using(crate::proofs::HeadingLemmas::heading_Procedure, crate::proofs::HeadingLemmas::heading_Function))]
-pub fn heading(written: &Heading, place: &Place, known: &[Meaning]) -> Result<Signature, Fault>
+pub fn heading(written: &Heading, place: &Place, known: &[Meaning]) -> Result<Signature, CheckFault>
     ensures { Answers result (λ s. signature_of s)
         ((heading (frame_of place.now.frame) (map meaning_of known.now) written.now).1 (hidden_of place.now.hidden)) }
 {
@@ -103,7 +103,7 @@ fn sections(
     place: &Place,
     known: &[Meaning],
     at: u32,
-) -> Result<Vec<Section>, Fault>
+) -> Result<Vec<Section>, CheckFault>
     ensures { Answers result (λ done. map section_of done.items)
         (sections_of (frame_of place.now.frame) (map meaning_of known.now)
         (map (section (frame_of place.now.frame) (map meaning_of known.now)) list.now) at (hidden_of place.now.hidden)) }
@@ -122,7 +122,7 @@ fn all_sections(
     place: &Place,
     known: &[Meaning],
     names: &Names,
-) -> Result<(Vec<Section>, usize), Fault>
+) -> Result<(Vec<Section>, usize), CheckFault>
     ensures { Answers result (λ done. (map section_of done.0.items, done.1))
         (steps (add_section (frame_of place.now.frame) (map meaning_of known.now) names.now
         (hidden_of place.now.hidden)) ([], 0) (map
@@ -147,7 +147,7 @@ fn add_section(
     names: &Names,
     count: usize,
     done: &mut Vec<Section>,
-) -> Result<usize, Fault>
+) -> Result<usize, CheckFault>
     ensures { Answers result (λ n. (map section_of done.new.items, n))
         (add_section (frame_of place.now.frame) (map meaning_of known.now) names.now (hidden_of place.now.hidden)
         (map section_of done.old.items, count) (section (frame_of place.now.frame)
@@ -170,7 +170,11 @@ fn add_section(
 
 #[cycle(heading)]
 #[tactic(auto, using(crate::proofs::HeadingLemmas::section_Value, crate::proofs::HeadingLemmas::section_Variable, crate::proofs::HeadingLemmas::section_Routine, crate::proofs::HeadingLemmas::routine_made), unfolding(ps_check_names::specs::SectionViews::section_of))]
-fn section(written: &SectionDenoter, place: &Place, known: &[Meaning]) -> Result<Section, Fault>
+fn section(
+    written: &SectionDenoter,
+    place: &Place,
+    known: &[Meaning],
+) -> Result<Section, CheckFault>
     ensures { Answers result (λ s. section_of s)
         ((section (frame_of place.now.frame) (map meaning_of known.now) written.now).1 (hidden_of place.now.hidden)) }
 {
@@ -204,7 +208,7 @@ fn section_points(
     known: &[Meaning],
     names: &Names,
     count: usize,
-) -> Result<usize, Fault>
+) -> Result<usize, CheckFault>
     ensures { Answers result (λ n. n) (new_points place.now.frame.reading.now.source.now names.now [] count
         (section_points (frame_of place.now.frame) (map meaning_of known.now) written.now)) }
 {

@@ -9,7 +9,7 @@ ghost use Rattle.ps_check_declarations.specs.Points.{new_points};
 
 use crate::frame::Parts;
 use ps_check_judgement::answer::broken;
-use ps_check_judgement::refusal::{Fault, Rule};
+use ps_check_judgement::refusal::{CheckFault, Rule};
 use ps_check_names::reading::Reading;
 use ps_syntax::{
     ConstantDefinition, Fields, Ordinal, Structure, TypeDefinition, TypeDenoter, Variables,
@@ -69,7 +69,7 @@ fn new_point(
     begun: &Names,
     count: usize,
     at: Span,
-) -> Result<usize, Fault>
+) -> Result<usize, CheckFault>
     ensures { Answers result (λ n. n) (new_point reading.now.source.now names.now begun.now count at) }
 {
     let spelling = reading.spelling(alloc, at)?;
@@ -91,7 +91,7 @@ pub(crate) fn new_points(
     begun: &Names,
     count: usize,
     points: &[Span],
-) -> Result<usize, Fault>
+) -> Result<usize, CheckFault>
     ensures { Answers result (λ n. n) (new_points reading.now.source.now names.now begun.now count points.now) }
 {
     let mut defined = count;

@@ -15,8 +15,8 @@ use Rattle.ps_tree.specs.declared.tree.Member.{Member}
 use Rattle.ps_tree.specs.Tree as Tree
 use Rattle.ps_tree.specs.View.{member_of}
 use Rattle.ps_check_judgement.specs.declared.change.Change.{Change}
-use Rattle.ps_check_judgement.specs.declared.refusal.Fault.{Fault}
-use Rattle.ps_check_judgement.specs.declared.refusal.Fault.TheVariants.{OutOfMemory, Broken}
+use Rattle.ps_check_judgement.specs.declared.refusal.CheckFault.{CheckFault}
+use Rattle.ps_check_judgement.specs.declared.refusal.CheckFault.TheVariants.{OutOfMemory, Broken}
 use Rattle.ps_check_judgement.specs.declared.refusal.Rule.TheVariants.{NotCongruous}
 use Rattle.ps_check_judgement.specs.Refusal.{IsFault}
 use Rattle.ps_check_judgement.specs.Judged.{Judged, Yes, No, ◌>>=◌, holds, Told, Answers, steps}
@@ -45,7 +45,7 @@ module _ {S A B : Type 0} (f : S → A → Judged S) (g : B → A) (s : S) (xs :
       let n : i < length (map g xs) = omega (arith, length-map xs g) in stepped_next f s (map g xs) i t (g x) u n
       (image_at g xs i x at) r e
 
-  pub fault_map : (x : B) (e : Fault) → i < length xs → x ≡ get_or xs i x → Stepped f s (map g xs) i t → Told e
+  pub fault_map : (x : B) (e : CheckFault) → i < length xs → x ≡ get_or xs i x → Stepped f s (map g xs) i t → Told e
       (f t (g x)) → Told e (steps f s (map g xs))
   fault_map x e lt at r h =
       let n : i < length (map g xs) = omega (arith, length-map xs g) in stepped_fault f s (map g xs) i t (g x) e n
@@ -92,7 +92,7 @@ module _ {A B C P Q Z : Type 0} (f : A → B → Changing C) (g : P → A) (h : 
   within : (i : ℕ) → length ps ≡ length qs → i < length ps → i < length (pairs (map g ps) (map h qs))
   within i e lt = omega (arith, lt, length-map ps g, length_pairs (map g ps) (map h qs) (even e))
 
-  pub passed_next : (i : ℕ) (done new : List Z) (now later : List Change) (p : P) (q : Q) (answer : Result Z Fault)
+  pub passed_next : (i : ℕ) (done new : List Z) (now later : List Change) (p : P) (q : Q) (answer : Result Z CheckFault)
       → length ps ≡ length qs → i < length ps → p ≡ get_or ps i p → q ≡ get_or qs i q → Passed i done now
       → Answers answer (λ z. (k z, later)) (f (g p) (h q) now) → IsOkAnd answer (λ z. new ≡ done ++ z ∷ []) → Passed
       (i + 1) new later
@@ -104,14 +104,14 @@ module _ {A B C P Q Z : Type 0} (f : A → B → Changing C) (g : P → A) (h : 
       (ap (λ j. j >>= (λ p. Yes (map k done ++ p.0 ∷ [], p.1))) a))
   passed_next i done new now later p q (Err fault) e lt atp atq r a n = absurd n
 
-  pub passed_fault : (i : ℕ) (done : List Z) (now later : List Change) (p : P) (q : Q) (answer : Result Z Fault)
-      (fault : Fault) → length ps ≡ length qs → i < length ps → p ≡ get_or ps i p → q ≡ get_or qs i q
+  pub passed_fault : (i : ℕ) (done : List Z) (now later : List Change) (p : P) (q : Q) (answer : Result Z CheckFault)
+      (fault : CheckFault) → length ps ≡ length qs → i < length ps → p ≡ get_or ps i p → q ≡ get_or qs i q
       → Passed i done now → Answers answer (λ z. (k z, later)) (f (g p) (h q) now)
       → (IsFault fault → answer ≡ Err fault) → Told fault (each_both f (map g ps) (map h qs) cs)
   passed_fault i done now later p q answer OutOfMemory e lt atp atq r a n = tt
   passed_fault i done now later p q answer (Broken rule at) e lt atp atq r a n =
       let told : Told (Broken rule at) (f (g p) (h q) now) = subst
-      (λ (w : Result Z Fault). Answers w (λ z. (k z, later)) (f (g p) (h q) now)) (n tt) a in
+      (λ (w : Result Z CheckFault). Answers w (λ z. (k z, later)) (f (g p) (h q) now)) (n tt) a in
       stepped_fault (one_more (λ p. f p.0 p.1)) ([], cs) (pairs (map g ps) (map h qs)) i (map k done, now) (g p, h q)
       (Broken rule at) (within i e lt) (here i p q e lt atp atq) r
       (ap (λ j. j >>= (λ p. Yes (map k done ++ p.0 ∷ [], p.1))) told)
@@ -182,14 +182,14 @@ module _ (c : Context) (Γ : List Region) (ms : List syntax.Member) (cs : List C
 
   -- a step that is refused
   not_gathered : (i : ℕ) (list : List Member) (base : Option Ordinal) (now : List Change) (x : syntax.Member)
-      (e : Fault) → i < length ms → x ≡ get_or ms i x → Gathering i list base now → Told e
+      (e : CheckFault) → i < length ms → x ≡ get_or ms i x → Gathering i list base now → Told e
       (gather (map member_of list, base) (member_at c Γ x) now) → Told e (set_value (map (member_at c Γ) ms) cs)
   not_gathered i list base now x e lt at r h =
       told_bind e (steps gather_step (([], None), cs) (map (member_at c Γ) ms)) (λ p. Yes (constructed p.0, p.1))
       (fault_map gather_step (member_at c Γ) (([], None), cs) ms i ((map member_of list, base), now) x e lt at r h)
 
   pub member_told : (i : ℕ) (list : List Member) (base : Option Ordinal) (now : List Change) (x : syntax.Member)
-      (e : Fault) → i < length ms → x ≡ get_or ms i x → Gathering i list base now → Told e
+      (e : CheckFault) → i < length ms → x ≡ get_or ms i x → Gathering i list base now → Told e
       ((member_at c Γ x).member now) → Told e (set_value (map (member_at c Γ) ms) cs)
   member_told i list base now x e lt at r h =
       not_gathered i list base now x e lt at r
@@ -197,7 +197,7 @@ module _ (c : Context) (Γ : List Region) (ms : List syntax.Member) (cs : List C
       (λ p. gathered (member_at c Γ x).first (map member_of list, base) p.0 >>= (λ g. Yes (g, p.1))) h)
 
   pub unlike_told : (i : ℕ) (list : List Member) (base : Option Ordinal) (now later : List Change) (x : syntax.Member)
-      (m : Tree.Member) (o : Ordinal) (e : Fault) → i < length ms → x ≡ get_or ms i x → Gathering i list base now
+      (m : Tree.Member) (o : Ordinal) (e : CheckFault) → i < length ms → x ≡ get_or ms i x → Gathering i list base now
       → (member_at c Γ x).member now ≡ Yes ((m, o), later) → Told e
       (gathered (first.first_of_member x) (map member_of list, base) (m, o)) → Told e
       (set_value (map (member_at c Γ) ms) cs)

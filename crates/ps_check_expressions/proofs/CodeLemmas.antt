@@ -3,7 +3,7 @@ use Rattle.std.proofs.Common.{◌≡◌, ℕ, ◌+◌, ◌-◌, ◌*◌, ◌<◌
 use Rattle.std.proofs.Common.{if◌then◌else◌, List, [], ◌∷◌, ◌++◌, nat_lt, nat_le, nat_eq, length, Option, Some, None}
 use Rattle.std.proofs.Common.{is_none}
 use Rattle.std.proofs.Common.{refl, sym, ap, ◌∙◌, append_assoc, arith}
-use Rattle.std.proofs.lemmas.Bool.{eq-eqb, eqb-true, ltb-true, leb-true}
+use Rattle.std.proofs.lemmas.Bool.{eq-eqb, eqb-true, ltb-true, leb-true, and_from, and_parts}
 use Rattle.ps_tree.specs.declared.types.Host.{Host}
 use Rattle.ps_tree.specs.declared.types.Host.TheVariants.{Integer, Char, Boolean, Enumeration}
 use Rattle.ps_tree.specs.Names.{same}
@@ -20,17 +20,6 @@ use Rattle.ps_check_expressions.specs.Calls.{are_one_type, congruous, are_alike}
 
 never : {A : Type 0} → false ≡ true → A
 never e = absurd (let z : false ≡ true = e in cc)
-
-both_left : (a b : Bool) → (a && b) ≡ true → a ≡ true
-both_left true b e = refl
-both_left false b e = never e
-
-both_right : (a b : Bool) → (a && b) ≡ true → b ≡ true
-both_right true b e = e
-both_right false b e = never e
-
-both_true : (a b : Bool) → a ≡ true → b ≡ true → (a && b) ≡ true
-both_true a b p q = ap (λ x. x && b) p ∙ q
 
 abbrev head : List ℕ → ℕ
 head [] = 0
@@ -120,7 +109,7 @@ ordinals_alike (Some a) (Some b) Integer Integer r q c d e = (ap (λ x. x || fal
 ordinals_alike (Some a) (Some b) Char Char r q c d e = (ap (λ x. x || false) (eq-eqb a b d), e)
 ordinals_alike (Some a) (Some b) Boolean Boolean r q c d e = (ap (λ x. x || false) (eq-eqb a b d), e)
 ordinals_alike (Some a) (Some b) (Enumeration x m) (Enumeration y n) r q c d e = (
-  both_true (x == y) ((a == b) || false) (eq-eqb x y (heads x y r q e)) (ap (λ z. z || false) (eq-eqb a b d)),
+  and_from (x == y) ((a == b) || false) (eq-eqb x y (heads x y r q e)) (ap (λ z. z || false) (eq-eqb a b d)),
   tails x y r q e,
 )
 ordinals_alike None None Integer Integer r q c d e = (refl, e)
@@ -156,11 +145,11 @@ types_alike s t r q f n h k e = never f
 
 fits_parts : (n : ℕ) (t : DataType) → fits_type n t ≡ true → (0 < n) × (n ≤ 32) × (has_number t ≡ true)
 fits_parts n t f =
-    let few = both_left (nat_lt 0 n && nat_le n 32) (has_number t && nat_lt (number t) 8388608) f in
-    let rest = both_right (nat_lt 0 n && nat_le n 32) (has_number t && nat_lt (number t) 8388608) f in (
-      ltb-true 0 n (both_left (nat_lt 0 n) (nat_le n 32) few),
-      leb-true n 32 (both_right (nat_lt 0 n) (nat_le n 32) few),
-      both_left (has_number t) (nat_lt (number t) 8388608) rest,
+    let few = (and_parts (nat_lt 0 n && nat_le n 32) (has_number t && nat_lt (number t) 8388608) f).0 in
+    let rest = (and_parts (nat_lt 0 n && nat_le n 32) (has_number t && nat_lt (number t) 8388608) f).1 in (
+      ltb-true 0 n (and_parts (nat_lt 0 n) (nat_le n 32) few).0,
+      leb-true n 32 (and_parts (nat_lt 0 n) (nat_le n 32) few).1,
+      (and_parts (has_number t) (nat_lt (number t) 8388608) rest).0,
     )
 
 -- parameters of a type: as many, of the same type
@@ -183,7 +172,7 @@ module _ (x n m : ℕ) (s t : DataType) (r q : List ℕ) where
       let type = types_alike s t r q (eq-eqb (form s) (form t) form_is)
       (same_number (number s) (number t) n m above f.0 f.1 g.0 g.1) f.2 g.2
       (tails (first_word n x s) (first_word m x t) (hosts s ++ r) (hosts t ++ q) e) in (
-        both_true (n == m) (is_same_type s t)
+        and_from (n == m) (is_same_type s t)
             (eq-eqb n m (same_count (number s) (number t) n m above f.0 f.1 g.0 g.1)) type.0,
         type.1,
       )
@@ -194,7 +183,7 @@ results_alike None None r q f g e = (refl, tails 15 15 r q e)
 results_alike (Some s) (Some t) r q f g e =
     let one = counted_alike 0 1 1 s t r q (omega arith) f g
     (tails 14 14 (type_words 1 0 s ++ r) (type_words 1 0 t ++ q) e)
-    in (both_right (1 == 1) (is_same_type s t) one.0, one.1)
+    in ((and_parts (1 == 1) (is_same_type s t) one.0).1, one.1)
 results_alike None (Some t) r q f g e = absurd
     (let w : 15 ≡ 14 = heads 15 14 r (type_words 1 0 t ++ q) e in omega (arith, w))
 results_alike (Some s) None r q f g e = absurd
@@ -257,12 +246,12 @@ mutual
   alike (ValueSection n s) (ValueSection m t) r q f g e = counted_alike 0 n m s t r q (omega arith) f g e
   alike (VariableSection n s) (VariableSection m t) r q f g e = counted_alike 8 n m s t r q (omega arith) f g e
   alike (RoutineSection ss s) (RoutineSection us t) r q f g e =
-      let result = results_alike s t (words ss ++ r) (words us ++ q) (both_right (fits ss) (fits_result s) f)
-      (both_right (fits us) (fits_result t) g) (sym (append_assoc (result_words s) (words ss) r) ∙ e
+      let result = results_alike s t (words ss ++ r) (words us ++ q) (and_parts (fits ss) (fits_result s) f).1
+      (and_parts (fits us) (fits_result t) g).1 (sym (append_assoc (result_words s) (words ss) r) ∙ e
       ∙ append_assoc (result_words t) (words us) q) in
-      let lists = all_alike ss us r q (both_left (fits ss) (fits_result s) f) (both_left (fits us) (fits_result t) g)
+      let lists = all_alike ss us r q (and_parts (fits ss) (fits_result s) f).0 (and_parts (fits us) (fits_result t) g).0
       result.1 in
-      (both_true (congruous ss us) (are_one_type s t) lists.0 result.0, lists.1)
+      (and_from (congruous ss us) (are_one_type s t) lists.0 result.0, lists.1)
   alike (ValueSection n s) (VariableSection m t) r q f g e = absurd (unlike_value n m s t
       (tags_agree (ValueSection n s) (VariableSection m t) r q e))
   alike (VariableSection n s) (ValueSection m t) r q f g e = absurd (unlike_value m n t s
@@ -280,12 +269,12 @@ mutual
       → (congruous ss us ≡ true) × (r ≡ q)
   all_alike no_section no_section r q f g e = (refl, tails 7 7 r q e)
   all_alike (section_before s ss) (section_before t us) r q f g e =
-      let first = alike s t (words ss ++ r) (words us ++ q) (both_left (fits_section s) (fits ss) f)
-      (both_left (fits_section t) (fits us) g) (sym (append_assoc (section_words s) (words ss) r) ∙ e
+      let first = alike s t (words ss ++ r) (words us ++ q) (and_parts (fits_section s) (fits ss) f).0
+      (and_parts (fits_section t) (fits us) g).0 (sym (append_assoc (section_words s) (words ss) r) ∙ e
       ∙ append_assoc (section_words t) (words us) q) in
-      let rest = all_alike ss us r q (both_right (fits_section s) (fits ss) f) (both_right (fits_section t) (fits us) g)
+      let rest = all_alike ss us r q (and_parts (fits_section s) (fits ss) f).1 (and_parts (fits_section t) (fits us) g).1
       first.1 in
-      (both_true (are_alike s t) (congruous ss us) first.0 rest.0, rest.1)
+      (and_from (are_alike s t) (congruous ss us) first.0 rest.0, rest.1)
   all_alike no_section (section_before t us) r q f g e = absurd (unended t (words us ++ q) r
       (sym (append_assoc (section_words t) (words us) q) ∙ sym e))
   all_alike (section_before s ss) no_section r q f g e = absurd (unended s (words ss ++ r) q
@@ -297,10 +286,10 @@ one_code : (a b : Sections) (x y : Bool) → fits a ≡ x → fits b ≡ y
     → (not (length (if x then words a else []) == 0) && same (if x then words a else []) (if y then words b else []))
     ≡ true → congruous a b ≡ true
 one_code a b true true f g e = (all_alike a b [] [] f g (ap (λ l. l ++ [])
-    (same_equal (words a) (words b) (both_right (not (length (words a) == 0)) (same (words a) (words b)) e)))).0
+    (same_equal (words a) (words b) (and_parts (not (length (words a) == 0)) (same (words a) (words b)) e).1))).0
 one_code a b true false f g e = never (ap (λ l. not (length l == 0)) (sym
-    (same_equal (words a) [] (both_right (not (length (words a) == 0)) (same (words a) []) e)))
-    ∙ both_left (not (length (words a) == 0)) (same (words a) []) e)
+    (same_equal (words a) [] (and_parts (not (length (words a) == 0)) (same (words a) []) e).1))
+    ∙ (and_parts (not (length (words a) == 0)) (same (words a) []) e).0)
 one_code a b false y f g e = never e
 
 pub one_code_congruous : (a b : Sections) → have_one_code a b ≡ true → congruous a b ≡ true

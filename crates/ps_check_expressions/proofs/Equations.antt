@@ -1,7 +1,7 @@
 -- The equations of the judgement, one for each construct.
 use Rattle.std.proofs.Common.{◌≡◌, ℕ, List, [], ◌∷◌, map, refl, sym, ap, ◌∙◌}
 use Rattle.ps_text.specs.declared.Span.{Span}
-use Rattle.ps_syntax.specs.declared.expression.Relation.{Relation}
+use Rattle.ps_syntax.specs.declared.expression.Relational.{Relational}
 use Rattle.ps_syntax.specs.First as first
 use Rattle.ps_syntax.specs.declared.expression.Expr.{Expr, roll-Expr, out-Expr, roll-out-Expr}
 use Rattle.ps_syntax.specs.declared.expression.Factor.{Factor, roll-Factor, out-Factor, roll-out-Factor}
@@ -46,7 +46,8 @@ module _ (c : Context) (Γ : List Region) where
       (member_step c Γ) (selector_step c Γ) (added_step c Γ) (multiplied_step c Γ) (simple_step c Γ) (term_step c Γ)
       (variable_step c Γ) (Expr-F.Simple x)
 
-  pub operand_compare : (x : Simple) (r : Relation) (at : Span) (y : Simple) → operand c Γ (e.Compare x r at y) ≡ plain
+  pub operand_compare : (x : Simple) (r : Relational) (at : Span) (y : Simple)
+      → operand c Γ (e.Compare x r at y) ≡ plain
       (simple_operand c Γ x).first (comparison c Γ (simple_operand c Γ x) r (simple_operand c Γ y))
   unfolding operand factor_operand member_at select add_term multiply_factor simple_operand term_operand
       variable_operand expr_step

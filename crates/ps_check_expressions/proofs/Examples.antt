@@ -12,7 +12,7 @@ use Rattle.ps_syntax.specs.declared.expression.Term.{Term, roll-Term, out-roll-T
 use Rattle.ps_syntax.specs.declared.expression.AddedTerm.{AddedTerm, roll-AddedTerm, out-roll-AddedTerm}
 use Rattle.ps_syntax.specs.declared.expression.Variable as v
 use Rattle.ps_syntax.specs.declared.expression.Adding.TheVariants.{Plus}
-use Rattle.ps_syntax.specs.declared.expression.Relation.TheVariants.{Equal, Less}
+use Rattle.ps_syntax.specs.declared.expression.Relational.TheVariants.{Equal, Less}
 use Rattle.ps_syntax.specs.declared.expression.Expr.TheOpen.{Simple-F, Term-F, AddedTerm-F}
 use Rattle.ps_syntax.specs.declared.expression.Expr.TheVariants as e
 use Rattle.ps_syntax.specs.declared.expression.Factor.TheVariants as f

@@ -3,7 +3,7 @@ use Rattle.std.proofs.Common.{◌≡◌, List, [], Some, sym, ap, ◌∙◌}
 use Rattle.ps_text.specs.declared.Span.{Span}
 use Rattle.ps_syntax.specs.First as first
 use Rattle.ps_syntax.specs.declared.expression.Sign.{Sign}
-use Rattle.ps_syntax.specs.declared.expression.Relation.{Relation}
+use Rattle.ps_syntax.specs.declared.expression.Relational.{Relational}
 use Rattle.ps_syntax.specs.declared.expression.Expr.{Expr}
 use Rattle.ps_syntax.specs.declared.expression.Simple.{Simple, out-Simple}
 use Rattle.ps_syntax.specs.declared.expression.Expr.TheVariants as e
@@ -17,7 +17,7 @@ module _ (c : Context) (Γ : List Region) where
   starts z s is = sym (simple_first c Γ s) ∙ ap (λ o. o.first) (sym (operand_simple c Γ s))
       ∙ ap (λ y. (operand c Γ y).first) (sym is) ∙ operand_first c Γ z
 
-  pub comparison_is_none : (z : Expr) (x : Simple) (r : Relation) (at : Span) (y : Simple) → z ≡ e.Compare x r at y
+  pub comparison_is_none : (z : Expr) (x : Simple) (r : Relational) (at : Span) (y : Simple) → z ≡ e.Compare x r at y
       → (operand c Γ z).variable ≡ none_at c Γ (first.first_of_expr z)
   comparison_is_none z x r at y is =
       ap (λ w. (operand c Γ w).variable) is

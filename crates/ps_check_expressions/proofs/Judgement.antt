@@ -3,7 +3,7 @@ use Rattle.std.proofs.Common.{◌≡◌, ℕ, List, [], ◌∷◌, Option, Some,
 use Rattle.ps_text.specs.declared.Span.{Span}
 use Rattle.ps_syntax.specs.First as first
 use Rattle.ps_syntax.specs.declared.expression.Sign.{Sign}
-use Rattle.ps_syntax.specs.declared.expression.Relation.{Relation}
+use Rattle.ps_syntax.specs.declared.expression.Relational.{Relational}
 use Rattle.ps_syntax.specs.declared.expression.Factor.{Factor}
 use Rattle.ps_syntax.specs.declared.expression.Expr.TheVariants as e
 use Rattle.ps_syntax.specs.declared.expression.AddedTerm.{AddedTerm, out-AddedTerm}
@@ -183,7 +183,7 @@ module _ (c : Context) (Γ : List Region) where
 
   -- ---- each construct by the first tokens of its parts
 
-  pub compare_value : (x : Simple) (r : Relation) (at : Span) (y : Simple) → (operand c Γ (e.Compare x r at y)).value
+  pub compare_value : (x : Simple) (r : Relational) (at : Span) (y : Simple) → (operand c Γ (e.Compare x r at y)).value
       ≡ ((simple_operand c Γ x).value >>= (λ a. (simple_operand c Γ y).value
       >>= (λ b. still (compared (operands (first.first_of_simple x) (first.first_of_simple y)) r a b))))
   compare_value x r at y =

@@ -4,7 +4,7 @@ use Rattle.std.specs.Prelude.{ℕ, nat_le, List, [], ◌∷◌, ◌++◌, length
 use Rattle.ps_text.specs.declared.Span.{Span}
 use Rattle.ps_scan.specs.Values.{characters}
 use Rattle.ps_syntax.specs.First.{sign_or}
-use Rattle.ps_syntax.specs.declared.expression.Relation.{Relation}
+use Rattle.ps_syntax.specs.declared.expression.Relational.{Relational}
 use Rattle.ps_syntax.specs.declared.expression.Sign.{Sign}
 use Rattle.ps_syntax.specs.declared.expression.Expr.{Expr}
 use Rattle.ps_syntax.specs.declared.expression.Factor.{Factor}
@@ -168,7 +168,7 @@ module _ (c : Context) (Γ : List Region) where
   abbrev pub call_value : Span → List Operand → Changing Value
   call_value name xs = still (denoted c Γ name) >>= (λ p. called c Γ name.from p xs)
 
-  abbrev pub comparison : Operand → Relation → Operand → Changing Value
+  abbrev pub comparison : Operand → Relational → Operand → Changing Value
   comparison x relation y = do
     a ← x.value
     b ← y.value

@@ -6,16 +6,16 @@ use Rattle.ps_syntax.specs.declared.expression.Adding.{Adding}
 use Rattle.ps_syntax.specs.declared.expression.Adding.TheVariants as adding
 use Rattle.ps_syntax.specs.declared.expression.Multiplying.{Multiplying}
 use Rattle.ps_syntax.specs.declared.expression.Multiplying.TheVariants as multiplying
-use Rattle.ps_syntax.specs.declared.expression.Relation.{Relation}
-use Rattle.ps_syntax.specs.declared.expression.Relation.TheVariants as relation
+use Rattle.ps_syntax.specs.declared.expression.Relational.{Relational}
+use Rattle.ps_syntax.specs.declared.expression.Relational.TheVariants as relation
 use Rattle.ps_tree.specs.declared.tree.ArithmeticOperator.{ArithmeticOperator}
 use Rattle.ps_tree.specs.declared.tree.ArithmeticOperator.TheVariants.{Add, Subtract, Multiply, Div, Mod}
 use Rattle.ps_tree.specs.declared.tree.BooleanOperator.{BooleanOperator}
 use Rattle.ps_tree.specs.declared.tree.BooleanOperator.TheVariants.{And, Or}
 use Rattle.ps_tree.specs.declared.tree.SetOperator.{SetOperator}
 use Rattle.ps_tree.specs.declared.tree.SetOperator.TheVariants.{Union, Difference, Intersection}
-use Rattle.ps_tree.specs.declared.tree.Relation as tree
-use Rattle.ps_tree.specs.declared.tree.Relation.TheVariants as r
+use Rattle.ps_tree.specs.declared.tree.OrderRelation as tree
+use Rattle.ps_tree.specs.declared.tree.OrderRelation.TheVariants as r
 use Rattle.ps_tree.specs.declared.tree.PointerRelation.{PointerRelation}
 use Rattle.ps_tree.specs.declared.tree.PointerRelation.TheVariants as pointers
 use Rattle.ps_tree.specs.declared.tree.SetRelation.{SetRelation}
@@ -88,7 +88,7 @@ multiplied at multiplying.And line a b = logic at And a b
 -- ---- relational operators (6.7.2.5)
 
 -- on ordinals and strings: all six
-abbrev pub ordered : Relation → Option tree.Relation
+abbrev pub ordered : Relational → Option tree.OrderRelation
 ordered relation.Equal = Some r.Equal
 ordered relation.NotEqual = Some r.Different
 ordered relation.Less = Some r.Less
@@ -98,13 +98,13 @@ ordered relation.GreaterEqual = Some r.AtLeast
 ordered relation.In = None
 
 -- on pointers and nil: `=` and `<>`
-abbrev pub of_pointers : Relation → Option PointerRelation
+abbrev pub of_pointers : Relational → Option PointerRelation
 of_pointers relation.Equal = Some pointers.Same
 of_pointers relation.NotEqual = Some pointers.Other
 of_pointers _ = None
 
 -- on sets: these and inclusion
-abbrev pub of_sets : Relation → Option SetRelation
+abbrev pub of_sets : Relational → Option SetRelation
 of_sets relation.Equal = Some sets.Same
 of_sets relation.NotEqual = Some sets.Other
 of_sets relation.LessEqual = Some sets.Included
@@ -112,7 +112,7 @@ of_sets relation.GreaterEqual = Some sets.Includes
 of_sets _ = None
 
 -- a value of the type may be the first operand of the relation by itself
-unfoldable pub may_be_first : Relation → DataType → Bool
+unfoldable pub may_be_first : Relational → DataType → Bool
 may_be_first relation (OrdinalType o) = true
 may_be_first relation (PointerType n) = is_some (of_pointers relation)
 may_be_first relation NilType = is_some (of_pointers relation)
@@ -121,7 +121,7 @@ may_be_first relation EmptySetType = is_some (of_sets relation)
 may_be_first relation type = is_some (ordered relation) && is_some (string_length type)
 
 -- Operands that don't go together: the second is reported, unless the first isn't allowed there by itself.
-abbrev pub unlike : {A : Type 0} → Operands → Relation → DataType → Judged A
+abbrev pub unlike : {A : Type 0} → Operands → Relational → DataType → Judged A
 unlike at relation first = No WrongType (if may_be_first relation first then at.second else at.first)
 
 -- what a relation makes, if it is one of these operands
@@ -130,7 +130,7 @@ related at None make = No WrongType at
 related at (Some s) make = Yes (truth (make s))
 
 -- two ordinals, or two pointers or nil, of types that are compatible
-unfoldable pub simple_comparison : Operands → Relation → Tree.Expr → Tree.Expr → DataType → Judged Value
+unfoldable pub simple_comparison : Operands → Relational → Tree.Expr → Tree.Expr → DataType → Judged Value
 simple_comparison at relation a b (OrdinalType o) = related at.second (ordered relation) (λ s. Tree.Compare s a b)
 simple_comparison at relation a b _ = related at.first (of_pointers relation) (λ s. Tree.ComparePointers s a b)
 
@@ -140,16 +140,16 @@ may_be_member (OrdinalType o) (SetType a k p) = is_same_host o.host p.host
 may_be_member (OrdinalType o) EmptySetType = true
 may_be_member _ _ = false
 
-abbrev pub is_in : Relation → Bool
+abbrev pub is_in : Relational → Bool
 is_in relation.In = true
 is_in _ = false
 
 -- for operands that go together, and a relation that is one of theirs
-abbrev pub together : {R : Type 0} → Operands → Relation → DataType → Bool → Option R → (R → Tree.Expr) → Judged Value
+abbrev pub together : {R : Type 0} → Operands → Relational → DataType → Bool → Option R → (R → Tree.Expr) → Judged Value
 together at relation first fit None make = unlike at relation first
 together at relation first fit (Some s) make = if fit then Yes (truth (make s)) else unlike at relation first
 
-unfoldable pub compared : Operands → Relation → Value → Value → Judged Value
+unfoldable pub compared : Operands → Relational → Value → Value → Judged Value
 compared at relation (SimpleValue a s) (SimpleValue b t) = if is_compatible s t then simple_comparison at relation a b s
     else unlike at relation s
 compared at relation (SimpleValue a s) (SetValue b t) = if is_in relation then provided

@@ -25,7 +25,7 @@ use crate::site::Site;
 use crate::value::{TypedValue, loaded};
 use ps_check_judgement::answer::{broken, paired};
 use ps_check_judgement::change::Change;
-use ps_check_judgement::refusal::{Fault, Rule};
+use ps_check_judgement::refusal::{CheckFault, Rule};
 use ps_check_names::constants::{ConstantValue, misplacement};
 use ps_check_names::meaning::{Meaning, Required};
 use ps_check_names::scope::Found;
@@ -39,7 +39,7 @@ use std::alloc::AllocError;
 
 /// The type of a function's result; its name is at `at`.
 #[inline(never)]
-pub(crate) fn result_type(ty: &Option<Ty>, at: u32) -> Result<Ty, Fault>
+pub(crate) fn result_type(ty: &Option<Ty>, at: u32) -> Result<Ty, CheckFault>
     ensures { Answers result (λ t. type_of t) (some_or WrongKind at (option_map type_of ty.now)) }
 {
     match ty {
@@ -106,8 +106,8 @@ pub(crate) fn is_the_input(site: Site<'_>, x: &Syntax) -> Result<bool, AllocErro
         Some(name) => match site.denoted(name) {
             Ok(found) => Ok(is_input(found)),
             Err(fault) => match fault {
-                Fault::OutOfMemory => Err(AllocError),
-                Fault::Broken { .. } => Ok(false),
+                CheckFault::OutOfMemory => Err(AllocError),
+                CheckFault::Broken { .. } => Ok(false),
             },
         },
     }
@@ -159,7 +159,11 @@ pub(crate) fn formal_call(
 
 /// No actual parameters, if there are no formal ones. The called name is at `at`.
 #[inline(never)]
-fn no_arguments(site: Site<'_>, sections: &SectionList, at: u32) -> Result<Vec<Argument>, Fault>
+fn no_arguments(
+    site: Site<'_>,
+    sections: &SectionList,
+    at: u32,
+) -> Result<Vec<Argument>, CheckFault>
     ensures { (changes : List Change) → Answers result (λ list. (map argument_of list.items, changes))
         (actuals (context_at site.entry) (regions_at site.entry) at sections.now [] changes) }
 {
@@ -172,7 +176,11 @@ fn no_arguments(site: Site<'_>, sections: &SectionList, at: u32) -> Result<Vec<A
 
 /// A required function of the input, whose name is at `at`: only eof and eoln look at it.
 #[inline(never)]
-pub(crate) fn look_at_name(required: Required, line: Line, at: u32) -> Result<TypedValue, Fault>
+pub(crate) fn look_at_name(
+    required: Required,
+    line: Line,
+    at: u32,
+) -> Result<TypedValue, CheckFault>
     ensures { Answers result (λ v. value_of v) (some_or NotInProfile at (look required line.number)) }
 {
     match look(required, line) {
@@ -187,7 +195,7 @@ pub(crate) fn look_at_input(
     site: Site<'_>,
     required: Required,
     at: u32,
-) -> Result<TypedValue, Fault>
+) -> Result<TypedValue, CheckFault>
     ensures { Answers result (λ v. value_of v)
         (standing_alone at (context_at site.entry).has_input (look required (line_in (context_at site.entry).text at))) }
 {
@@ -206,7 +214,7 @@ pub(crate) fn look_at_input(
 /// A required routine whose name is used alone; a procedure has no value.
 #[inline(never)]
 #[tactic(auto, unfolding(crate::specs::Calls::required_call, crate::specs::Calls::function_call))]
-fn required_alone(site: Site<'_>, required: Required, at: u32) -> Result<TypedValue, Fault>
+fn required_alone(site: Site<'_>, required: Required, at: u32) -> Result<TypedValue, CheckFault>
     ensures { (changes : List Change) → Answers result (λ v. (value_of v, changes))
         (required_call (context_at site.entry) (regions_at site.entry) at required [] changes) }
 {
@@ -219,7 +227,7 @@ fn required_alone(site: Site<'_>, required: Required, at: u32) -> Result<TypedVa
 /// The value of a function that a name denotes, without actual parameters.
 #[inline(never)]
 #[tactic(auto, unfolding(crate::specs::Calls::called, ps_check_names::specs::Views::meaning_of))]
-fn call_alone(site: Site<'_>, found: Found<'_>, name: Span) -> Result<TypedValue, Fault>
+fn call_alone(site: Site<'_>, found: Found<'_>, name: Span) -> Result<TypedValue, CheckFault>
     ensures { (changes : List Change) → Answers result (λ v. (value_of v, changes))
         (called (context_at site.entry) (regions_at site.entry) name.from (point_of found.entry) [] changes) }
 {
@@ -258,7 +266,11 @@ fn call_alone(site: Site<'_>, found: Found<'_>, name: Span) -> Result<TypedValue
 /// What a name alone denotes: a constant, the contents of a variable, or a function's value.
 #[inline(never)]
 #[tactic(auto, unfolding(crate::specs::Expressions::standing, ps_check_names::specs::Views::constant_of, ps_check_names::specs::Views::meaning_of))]
-pub(crate) fn standing(site: Site<'_>, found: Found<'_>, name: Span) -> Result<TypedValue, Fault>
+pub(crate) fn standing(
+    site: Site<'_>,
+    found: Found<'_>,
+    name: Span,
+) -> Result<TypedValue, CheckFault>
     ensures { (changes : List Change) → Answers result (λ v. (value_of v, changes))
         (standing (context_at site.entry) (regions_at site.entry) name.from (point_of found.entry) changes) }
 {

@@ -11,7 +11,7 @@ ghost use Rattle.ps_check_expressions.specs.View.{context_at, controls_of};
 use crate::site::Site;
 use ps_check_judgement::answer::broken;
 use ps_check_judgement::change::Change;
-use ps_check_judgement::refusal::{Fault, Rule};
+use ps_check_judgement::refusal::{CheckFault, Rule};
 use ps_tree::tree::{Place, PlaceBase};
 
 /// The control variables of the `for` statements around a place, by their entries, innermost first.
@@ -45,7 +45,11 @@ fn has_entry(controls: &Controls, entry: u32) -> bool
 
 /// Adds the change of an entry that is not the control variable of an enclosing `for` statement.
 #[tactic(auto, unfolding(crate::specs::Changed::changed_entry))]
-pub fn changed_entry(site: Site<'_>, changes: &mut Vec<Change>, change: Change) -> Result<(), Fault>
+pub fn changed_entry(
+    site: Site<'_>,
+    changes: &mut Vec<Change>,
+    change: Change,
+) -> Result<(), CheckFault>
     ensures { Answers result (λ _. (tt, changes.new.items))
         (changed_entry (context_at site.entry) change.up change.entry change.at changes.old.items) }
 {
@@ -63,7 +67,7 @@ pub fn changed(
     changes: &mut Vec<Change>,
     place: &Place,
     at: u32,
-) -> Result<(), Fault>
+) -> Result<(), CheckFault>
     ensures { Answers result (λ _. (tt, changes.new.items))
         (changed (context_at site.entry) (place_of place.now) at changes.old.items) }
 {

@@ -42,7 +42,7 @@ use crate::site::Site;
 use crate::value::{TypedPlace, TypedValue, loaded};
 use ps_check_judgement::answer::{broken, paired, push_answer};
 use ps_check_judgement::change::Change;
-use ps_check_judgement::refusal::{Fault, Rule};
+use ps_check_judgement::refusal::{CheckFault, Rule};
 use ps_check_names::constants::{INTEGER, misplacement, number_at};
 use ps_check_names::meaning::{Meaning, Required};
 use ps_check_names::scope::Found;
@@ -63,7 +63,7 @@ fn first_term(
     sign: &Option<(Sign, Span)>,
     term: TypedValue,
     at: u32,
-) -> Result<TypedValue, Fault>
+) -> Result<TypedValue, CheckFault>
     ensures { Answers result (λ v. value_of v)
         (first_term (context_at site.entry) (regions_at site.entry) at sign.now (value_of term)) }
 {
@@ -78,7 +78,7 @@ fn first_term(
 
 /// The type of a set's members so far, the last of which begins at `at`.
 #[tactic(auto, unfolding(crate::specs::Expressions::gathered))]
-fn joined(base: Option<Ordinal>, ordinal: Ordinal, at: u32) -> Result<Ordinal, Fault>
+fn joined(base: Option<Ordinal>, ordinal: Ordinal, at: u32) -> Result<Ordinal, CheckFault>
     ensures { (ms : List Tree.Member) (m : Tree.Member) → Answers result (λ o. (ms ++ m ∷ [], Some o))
         (gathered at (ms, base) (m, ordinal)) }
 {
@@ -118,7 +118,7 @@ fn range(
     from: (Expr, Ordinal),
     to: (Expr, Ordinal),
     at: Operands,
-) -> Result<(Member, Ordinal), Fault>
+) -> Result<(Member, Ordinal), CheckFault>
     ensures { Answers result (λ m. (member_of m.0, m.1))
         (spec.both at.second (expr_of from.0, from.1) (expr_of to.0, to.1)
         (line_in (context_at site.entry).text at.first)) }
@@ -163,7 +163,7 @@ pub fn expr_value(
     x: &Syntax,
     site: Site<'_>,
     changes: &mut Vec<Change>,
-) -> Result<TypedValue, Fault>
+) -> Result<TypedValue, CheckFault>
     ensures { Answers result (λ v. (value_of v, changes.new.items))
         ((operand (context_at site.entry) (regions_at site.entry) x.now).value changes.old.items) }
 {
@@ -187,7 +187,7 @@ fn compared_value(
     x: &Syntax,
     site: Site<'_>,
     changes: &mut Vec<Change>,
-) -> Result<TypedValue, Fault>
+) -> Result<TypedValue, CheckFault>
     ensures { Answers result (λ v. (value_of v, changes.new.items))
         ((operand (context_at site.entry) (regions_at site.entry) x.now).value changes.old.items) }
 {
@@ -209,7 +209,11 @@ fn compared_value(
 #[cycle(expression)]
 #[inline(never)]
 #[tactic(auto, using(crate::proofs::Judgement::simple_value))]
-fn simple_value(x: &Simple, site: Site<'_>, changes: &mut Vec<Change>) -> Result<TypedValue, Fault>
+fn simple_value(
+    x: &Simple,
+    site: Site<'_>,
+    changes: &mut Vec<Change>,
+) -> Result<TypedValue, CheckFault>
     ensures { Answers result (λ v. (value_of v, changes.new.items))
         ((simple_operand (context_at site.entry) (regions_at site.entry) x.now).value changes.old.items) }
 {
@@ -228,7 +232,7 @@ fn add_terms(
     changes: &mut Vec<Change>,
     first: TypedValue,
     at: u32,
-) -> Result<TypedValue, Fault>
+) -> Result<TypedValue, CheckFault>
     ensures { Answers result (λ v. (value_of v, changes.new.items))
         (through (λ v t. add_term (context_at site.entry) (regions_at site.entry) t at v)
         (value_of first) terms.now changes.old.items) }
@@ -249,7 +253,7 @@ fn add_term(
     changes: &mut Vec<Change>,
     value: TypedValue,
     at: u32,
-) -> Result<TypedValue, Fault>
+) -> Result<TypedValue, CheckFault>
     ensures { Answers result (λ v. (value_of v, changes.new.items))
         (add_term (context_at site.entry) (regions_at site.entry) added_term.now at (value_of value) changes.old.items) }
 {
@@ -265,7 +269,7 @@ fn add_term(
 #[cycle(expression)]
 #[inline(never)]
 #[tactic(auto, using(crate::proofs::Judgement::term_value))]
-fn term_value(x: &Term, site: Site<'_>, changes: &mut Vec<Change>) -> Result<TypedValue, Fault>
+fn term_value(x: &Term, site: Site<'_>, changes: &mut Vec<Change>) -> Result<TypedValue, CheckFault>
     ensures { Answers result (λ v. (value_of v, changes.new.items))
         ((term_operand (context_at site.entry) (regions_at site.entry) x.now).value changes.old.items) }
 {
@@ -283,7 +287,7 @@ fn multiply_factors(
     changes: &mut Vec<Change>,
     first: TypedValue,
     at: u32,
-) -> Result<TypedValue, Fault>
+) -> Result<TypedValue, CheckFault>
     ensures { Answers result (λ v. (value_of v, changes.new.items))
         (through (λ v f. multiply_factor (context_at site.entry) (regions_at site.entry) f at v)
         (value_of first) factors.now changes.old.items) }
@@ -304,7 +308,7 @@ fn multiply_factor(
     changes: &mut Vec<Change>,
     value: TypedValue,
     at: u32,
-) -> Result<TypedValue, Fault>
+) -> Result<TypedValue, CheckFault>
     ensures { Answers result (λ v. (value_of v, changes.new.items))
         (multiply_factor (context_at site.entry) (regions_at site.entry) by.now at (value_of value) changes.old.items) }
 {
@@ -320,7 +324,11 @@ fn multiply_factor(
 #[cycle(expression)]
 #[inline(never)]
 #[tactic(auto, using(crate::proofs::Equations::factor_variable, crate::proofs::Equations::factor_call, crate::proofs::Equations::factor_number, crate::proofs::Equations::factor_text, crate::proofs::Equations::factor_nil, crate::proofs::Equations::factor_set, crate::proofs::Equations::factor_group, crate::proofs::Equations::factor_not))]
-fn factor_value(x: &Factor, site: Site<'_>, changes: &mut Vec<Change>) -> Result<TypedValue, Fault>
+fn factor_value(
+    x: &Factor,
+    site: Site<'_>,
+    changes: &mut Vec<Change>,
+) -> Result<TypedValue, CheckFault>
     ensures { Answers result (λ v. (value_of v, changes.new.items))
         ((factor_operand (context_at site.entry) (regions_at site.entry) x.now).value changes.old.items) }
 {
@@ -343,7 +351,11 @@ fn factor_value(x: &Factor, site: Site<'_>, changes: &mut Vec<Change>) -> Result
 #[cycle(expression)]
 #[inline(never)]
 #[tactic(auto, using(crate::proofs::Judgement::negation_value))]
-fn negated_value(x: &Factor, site: Site<'_>, changes: &mut Vec<Change>) -> Result<TypedValue, Fault>
+fn negated_value(
+    x: &Factor,
+    site: Site<'_>,
+    changes: &mut Vec<Change>,
+) -> Result<TypedValue, CheckFault>
     ensures { Answers result (λ v. (value_of v, changes.new.items))
         (negation (factor_operand (context_at site.entry) (regions_at site.entry) x.now) changes.old.items) }
 {
@@ -360,7 +372,7 @@ fn set_value(
     members: &[SyntaxMember],
     site: Site<'_>,
     changes: &mut Vec<Change>,
-) -> Result<TypedValue, Fault>
+) -> Result<TypedValue, CheckFault>
     ensures { Answers result (λ v. (value_of v, changes.new.items))
         (set_value (map (member_at (context_at site.entry) (regions_at site.entry)) members.now) changes.old.items) }
 {
@@ -381,7 +393,7 @@ fn member_value(
     x: &SyntaxMember,
     site: Site<'_>,
     changes: &mut Vec<Change>,
-) -> Result<(Member, Ordinal), Fault>
+) -> Result<(Member, Ordinal), CheckFault>
     ensures { Answers result (λ m. ((member_of m.0, m.1), changes.new.items))
         ((member_at (context_at site.entry) (regions_at site.entry) x.now).member changes.old.items) }
 {
@@ -414,7 +426,7 @@ fn variable_value(
     x: &Variable,
     site: Site<'_>,
     changes: &mut Vec<Change>,
-) -> Result<TypedValue, Fault>
+) -> Result<TypedValue, CheckFault>
     ensures { Answers result (λ v. (value_of v, changes.new.items))
         ((variable_operand (context_at site.entry) (regions_at site.entry) x.now).value changes.old.items) }
 {
@@ -435,7 +447,7 @@ pub fn variable_place(
     x: &Variable,
     site: Site<'_>,
     changes: &mut Vec<Change>,
-) -> Result<TypedPlace, Fault>
+) -> Result<TypedPlace, CheckFault>
     ensures { Answers result (λ v. (variable_of v, changes.new.items))
         ((variable_operand (context_at site.entry) (regions_at site.entry) x.now).variable changes.old.items) }
 {
@@ -454,7 +466,7 @@ fn select_all(
     changes: &mut Vec<Change>,
     variable: TypedPlace,
     at: u32,
-) -> Result<TypedPlace, Fault>
+) -> Result<TypedPlace, CheckFault>
     ensures { Answers result (λ v. (variable_of v, changes.new.items))
         (through (λ v s. select (context_at site.entry) (regions_at site.entry) s at v)
         (variable_of variable) selectors.now changes.old.items) }
@@ -475,7 +487,7 @@ fn select(
     changes: &mut Vec<Change>,
     variable: TypedPlace,
     at: u32,
-) -> Result<TypedPlace, Fault>
+) -> Result<TypedPlace, CheckFault>
     ensures { Answers result (λ v. (variable_of v, changes.new.items))
         (select (context_at site.entry) (regions_at site.entry) selector.now at
         (variable_of variable) changes.old.items) }
@@ -503,7 +515,7 @@ fn index_all(
     changes: &mut Vec<Change>,
     variable: TypedPlace,
     at: u32,
-) -> Result<TypedPlace, Fault>
+) -> Result<TypedPlace, CheckFault>
     ensures { Answers result (λ v. (variable_of v, changes.new.items))
         (through (indexed (context_at site.entry) (regions_at site.entry) at) (variable_of variable)
         (map (operand (context_at site.entry) (regions_at site.entry)) indices.now) changes.old.items) }
@@ -524,7 +536,7 @@ fn index_one(
     changes: &mut Vec<Change>,
     variable: TypedPlace,
     at: u32,
-) -> Result<TypedPlace, Fault>
+) -> Result<TypedPlace, CheckFault>
     ensures { Answers result (λ v. (variable_of v, changes.new.items))
         (indexed (context_at site.entry) (regions_at site.entry) at (variable_of variable)
         (operand (context_at site.entry) (regions_at site.entry) index.now) changes.old.items) }
@@ -549,7 +561,7 @@ fn call_value(
     changes: &mut Vec<Change>,
     found: Found<'_>,
     name: Span,
-) -> Result<TypedValue, Fault>
+) -> Result<TypedValue, CheckFault>
     ensures { Answers result (λ v. (value_of v, changes.new.items))
         (called (context_at site.entry) (regions_at site.entry) name.from (point_of found.entry)
         (map (operand (context_at site.entry) (regions_at site.entry)) operands.now) changes.old.items) }
@@ -597,7 +609,7 @@ fn required_call(
     changes: &mut Vec<Change>,
     required: Required,
     name: Span,
-) -> Result<TypedValue, Fault>
+) -> Result<TypedValue, CheckFault>
     ensures { Answers result (λ v. (value_of v, changes.new.items))
         (required_call (context_at site.entry) (regions_at site.entry) name.from required
         (map (operand (context_at site.entry) (regions_at site.entry)) operands.now) changes.old.items) }
@@ -630,7 +642,7 @@ pub(crate) fn argument_all(
     changes: &mut Vec<Change>,
     sections: &SectionList,
     at: u32,
-) -> Result<Vec<Argument>, Fault>
+) -> Result<Vec<Argument>, CheckFault>
     ensures { Answers result (λ list. (map argument_of list.items, changes.new.items))
         (actuals (context_at site.entry) (regions_at site.entry) at sections.now
         (map (operand (context_at site.entry) (regions_at site.entry)) operands.now) changes.old.items) }
@@ -654,7 +666,7 @@ fn passed(
     ty: &Ty,
     variable: TypedPlace,
     at: u32,
-) -> Result<Argument, Fault>
+) -> Result<Argument, CheckFault>
     ensures { Answers result (λ a. (argument_of a, changes.new.items))
         (passed_variable (context_at site.entry) (regions_at site.entry) at (type_of ty.now)
         (variable_of variable) changes.old.items) }
@@ -671,7 +683,7 @@ pub fn argument(
     site: Site<'_>,
     changes: &mut Vec<Change>,
     section: &Section,
-) -> Result<Argument, Fault>
+) -> Result<Argument, CheckFault>
     ensures { Answers result (λ a. (argument_of a, changes.new.items))
         (actual (context_at site.entry) (regions_at site.entry) (section_of section.now)
         (operand (context_at site.entry) (regions_at site.entry) x.now) changes.old.items) }
@@ -702,7 +714,11 @@ pub fn argument(
 /// An expression that is a variable alone.
 #[cycle(expression)]
 #[inline(never)]
-pub fn referent(x: &Syntax, site: Site<'_>, changes: &mut Vec<Change>) -> Result<TypedPlace, Fault>
+pub fn referent(
+    x: &Syntax,
+    site: Site<'_>,
+    changes: &mut Vec<Change>,
+) -> Result<TypedPlace, CheckFault>
     ensures { Answers result (λ v. (variable_of v, changes.new.items))
         ((operand (context_at site.entry) (regions_at site.entry) x.now).variable changes.old.items) }
 {
@@ -725,7 +741,11 @@ pub fn referent(x: &Syntax, site: Site<'_>, changes: &mut Vec<Change>) -> Result
 #[cycle(expression)]
 #[inline(never)]
 #[tactic(auto, using(crate::proofs::Judgement::term_variable, crate::proofs::Equations::factor_call, crate::proofs::Equations::factor_number, crate::proofs::Equations::factor_text, crate::proofs::Equations::factor_nil, crate::proofs::Equations::factor_set, crate::proofs::Equations::factor_group, crate::proofs::Equations::factor_not))]
-fn term_referent(x: &Term, site: Site<'_>, changes: &mut Vec<Change>) -> Result<TypedPlace, Fault>
+fn term_referent(
+    x: &Term,
+    site: Site<'_>,
+    changes: &mut Vec<Change>,
+) -> Result<TypedPlace, CheckFault>
     ensures { Answers result (λ v. (variable_of v, changes.new.items))
         ((term_operand (context_at site.entry) (regions_at site.entry) x.now).variable changes.old.items) }
 {

@@ -19,7 +19,7 @@ ghost use Rattle.ps_check_names.specs.Views.{constant_of};
 use crate::operators::wrong_type;
 use crate::site::Site;
 use crate::value::{TypedValue, host_type};
-use ps_check_judgement::refusal::Fault;
+use ps_check_judgement::refusal::CheckFault;
 use ps_check_names::constants::{BOOLEAN, CHAR, ConstantValue, INTEGER, text_constant};
 use ps_check_names::meaning::{File, Meaning, Required};
 use ps_check_names::scope::Found;
@@ -42,7 +42,7 @@ pub(crate) fn text_at(site: Site<'_>, at: Span) -> Result<ConstantValue, AllocEr
 /// The value of a constant, whose first token is at `at`.
 #[inline(never)]
 #[tactic(auto, unfolding(crate::specs::Expressions::constant_value, ps_check_names::specs::Views::constant_of, crate::specs::View::value_of, ps_tree::specs::View::type_of, ps_tree::specs::View::expr_of, ps_tree::specs::View::structure_of))]
-pub(crate) fn of_constant(constant: ConstantValue, at: u32) -> Result<TypedValue, Fault>
+pub(crate) fn of_constant(constant: ConstantValue, at: u32) -> Result<TypedValue, CheckFault>
     ensures { Answers result (λ v. value_of v) (constant_value at (constant_of constant)) }
 {
     match constant {
@@ -66,7 +66,7 @@ pub(crate) fn of_constant(constant: ConstantValue, at: u32) -> Result<TypedValue
 /// An expression of an ordinal type, which begins at `at`.
 #[inline(never)]
 #[tactic(auto, unfolding(crate::specs::Values::ordinal_of, crate::specs::View::value_of, ps_tree::specs::View::type_of))]
-pub fn ordinal_of(value: TypedValue, at: u32) -> Result<(Expr, Ordinal), Fault>
+pub fn ordinal_of(value: TypedValue, at: u32) -> Result<(Expr, Ordinal), CheckFault>
     ensures { Answers result (λ v. (expr_of v.0, v.1)) (ordinal_of at (value_of value)) }
 {
     match value {
@@ -179,7 +179,7 @@ pub(crate) fn required_value(
     line: Line,
     operand: TypedValue,
     at: u32,
-) -> Result<TypedValue, Fault>
+) -> Result<TypedValue, CheckFault>
     ensures { Answers result (λ v. value_of v) (required_value at required line.number (value_of operand)) }
 {
     let (operand, ordinal) = ordinal_of(operand, at)?;

@@ -7,7 +7,7 @@ ghost use Rattle.ps_tree.specs.View.{type_of, expr_of, set_of};
 ghost use Rattle.ps_tree.specs.Types.{is_compatible};
 ghost use Rattle.ps_tree.specs.Chains.{combined};
 ghost use Rattle.ps_check_judgement.specs.Judged.{Answers, provided};
-ghost use Rattle.ps_check_judgement.specs.declared.refusal.Fault.TheVariants.{Broken};
+ghost use Rattle.ps_check_judgement.specs.declared.refusal.CheckFault.TheVariants.{Broken};
 ghost use Rattle.ps_check_judgement.specs.declared.refusal.Rule.TheVariants.{WrongType};
 ghost use Rattle.ps_check_expressions.specs.Values.{SetValue, set_type_of_both};
 ghost use Rattle.ps_check_expressions.specs.Operators.{operand_of, number, with_sign, negated, arithmetic};
@@ -20,9 +20,9 @@ use crate::operators::comparison::may_be_first;
 use crate::value::{TypedValue, has_host, set_type_of_both};
 pub(crate) use comparison::compared;
 use ps_check_judgement::answer::{boxed_answer, broken, paired};
-use ps_check_judgement::refusal::{Fault, Rule};
+use ps_check_judgement::refusal::{CheckFault, Rule};
 use ps_check_names::constants::{BOOLEAN, INTEGER};
-use ps_syntax::{Adding, Multiplying, Relation, Sign};
+use ps_syntax::{Adding, Multiplying, Relational, Sign};
 use ps_tree::line::Line;
 use ps_tree::tree::{ArithmeticOperator, BooleanOperator, Expr, SetExpr, SetOperator, Structure};
 use ps_tree::types::{Host, Ty, compatible};
@@ -36,7 +36,7 @@ pub struct Operands {
 }
 
 /// An operand of a wrong type, whose first token is at `at`.
-pub fn wrong_type(at: u32) -> Fault
+pub fn wrong_type(at: u32) -> CheckFault
     ensures { result ≡ Broken WrongType at }
 {
     broken(Rule::WrongType, at)
@@ -44,7 +44,7 @@ pub fn wrong_type(at: u32) -> Fault
 
 /// Operands that don't go together: the second is reported, unless the first, of this type, isn't allowed there by
 /// itself.
-fn unlike(relation: Relation, first: &Ty, at: Operands) -> Fault
+fn unlike(relation: Relational, first: &Ty, at: Operands) -> CheckFault
     ensures { result ≡ Broken WrongType (if may_be_first relation (type_of first.now) then at.second else at.first) }
 {
     wrong_type(if may_be_first(relation, first) {
@@ -68,7 +68,7 @@ fn boxed_pair<A: Drop, B: Drop>(
 
 /// An operand that must be of the host type or of a subrange of it; `at` is where it begins.
 #[tactic(auto, unfolding(crate::specs::Operators::operand_of, crate::specs::View::value_of))]
-fn operand_of(host: Host, operand: TypedValue, at: u32) -> Result<Expr, Fault>
+fn operand_of(host: Host, operand: TypedValue, at: u32) -> Result<Expr, CheckFault>
     ensures { Answers result (λ e. expr_of e) (operand_of host at (value_of operand)) }
 {
     match operand {
@@ -110,7 +110,7 @@ pub(crate) fn with_sign(
     line: Line,
     operand: TypedValue,
     at: u32,
-) -> Result<TypedValue, Fault>
+) -> Result<TypedValue, CheckFault>
     ensures { Answers result (λ v. value_of v) (with_sign at sign line.number (value_of operand)) }
 {
     let operand = boxed_answer(alloc, operand_of(Host::Integer, operand, at))?;
@@ -123,7 +123,7 @@ pub(crate) fn with_sign(
 /// `not` before an operand, which begins at `at`.
 #[inline(never)]
 #[tactic(auto, unfolding(crate::specs::Operators::negated, ps_tree::specs::View::expr_of))]
-pub(crate) fn negated(alloc: Global, operand: TypedValue, at: u32) -> Result<TypedValue, Fault>
+pub(crate) fn negated(alloc: Global, operand: TypedValue, at: u32) -> Result<TypedValue, CheckFault>
     ensures { Answers result (λ v. value_of v) (negated at (value_of operand)) }
 {
     let operand = boxed_answer(alloc, operand_of(Host::Boolean, operand, at))?;
@@ -139,7 +139,7 @@ fn arithmetic(
     left: TypedValue,
     right: TypedValue,
     at: Operands,
-) -> Result<TypedValue, Fault>
+) -> Result<TypedValue, CheckFault>
     ensures { Answers result (λ v. value_of v) (arithmetic at operator line.number (value_of left) (value_of right)) }
 {
     let left = operand_of(Host::Integer, left, at.first);
@@ -156,7 +156,7 @@ fn set_operation(
     left: (SetExpr, Ty),
     right: (SetExpr, Ty),
     at: Operands,
-) -> Result<TypedValue, Fault>
+) -> Result<TypedValue, CheckFault>
     ensures { Answers result (λ v. value_of v)
         (provided (is_compatible (type_of left.1) (type_of right.1)) WrongType at.second
         (SetValue (combined operator (set_of left.0) (set_of right.0))
@@ -180,7 +180,7 @@ fn arithmetic_or_set(
     left: TypedValue,
     right: TypedValue,
     at: Operands,
-) -> Result<TypedValue, Fault>
+) -> Result<TypedValue, CheckFault>
     ensures { Answers result (λ v. value_of v)
         (arithmetic_or_set at operators.0 operators.1 line.number (value_of left) (value_of right)) }
 {
@@ -207,7 +207,7 @@ fn logic(
     left: TypedValue,
     right: TypedValue,
     at: Operands,
-) -> Result<TypedValue, Fault>
+) -> Result<TypedValue, CheckFault>
     ensures { Answers result (λ v. value_of v) (logic at operator (value_of left) (value_of right)) }
 {
     let left = operand_of(Host::Boolean, left, at.first);
@@ -226,7 +226,7 @@ pub(crate) fn added(
     left: TypedValue,
     right: TypedValue,
     at: Operands,
-) -> Result<TypedValue, Fault>
+) -> Result<TypedValue, CheckFault>
     ensures { Answers result (λ v. value_of v) (added at operator line.number (value_of left) (value_of right)) }
 {
     match operator {
@@ -252,7 +252,7 @@ pub(crate) fn multiplied(
     left: TypedValue,
     right: TypedValue,
     at: Operands,
-) -> Result<TypedValue, Fault>
+) -> Result<TypedValue, CheckFault>
     ensures { Answers result (λ v. value_of v) (multiplied at operator line.number (value_of left) (value_of right)) }
 {
     match operator {

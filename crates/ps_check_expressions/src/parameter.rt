@@ -14,7 +14,7 @@ ghost use Rattle.ps_check_expressions.specs.View.{value_of, variable_of};
 use crate::operators::wrong_type;
 use crate::value::{TypedPlace, TypedValue, range_of};
 use ps_check_judgement::answer::broken;
-use ps_check_judgement::refusal::{Fault, Rule};
+use ps_check_judgement::refusal::{CheckFault, Rule};
 use ps_check_names::constants::misplacement;
 use ps_check_names::meaning::Meaning;
 use ps_check_names::scope::Found;
@@ -87,7 +87,13 @@ fn are_alike(a: &Section, b: &Section) -> bool
 
 /// An actual parameter by value that is a set, which begins at `at`.
 #[tactic(auto, unfolding(crate::specs::Calls::by_value, ps_tree::specs::View::type_of, ps_tree::specs::View::argument_of))]
-fn set_by_value(ty: &Ty, value: SetExpr, from: Ty, line: Line, at: u32) -> Result<Argument, Fault>
+fn set_by_value(
+    ty: &Ty,
+    value: SetExpr,
+    from: Ty,
+    line: Line,
+    at: u32,
+) -> Result<Argument, CheckFault>
     ensures { Answers result (λ a. argument_of a)
         (by_value at (type_of ty.now) (SetValue (set_of value) (type_of from)) line.number) }
 {
@@ -120,7 +126,7 @@ fn set_by_value(ty: &Ty, value: SetExpr, from: Ty, line: Line, at: u32) -> Resul
 /// An actual parameter by value, for a formal one of type `ty`.
 #[inline(never)]
 #[tactic(auto, unfolding(crate::specs::Calls::by_value, crate::specs::View::value_of, ps_tree::specs::View::type_of, ps_tree::specs::View::argument_of))]
-pub fn by_value(ty: &Ty, value: TypedValue, line: Line, at: u32) -> Result<Argument, Fault>
+pub fn by_value(ty: &Ty, value: TypedValue, line: Line, at: u32) -> Result<Argument, CheckFault>
     ensures { Answers result (λ a. argument_of a) (by_value at (type_of ty.now) (value_of value) line.number) }
 {
     match value {
@@ -147,7 +153,7 @@ pub fn by_value(ty: &Ty, value: TypedValue, line: Line, at: u32) -> Result<Argum
 /// An actual variable parameter, for a formal one of type `ty`.
 #[inline(never)]
 #[tactic(auto, using(ps_tree::proofs::TreeLemmas::argument_of_Variable), unfolding(crate::specs::Calls::by_variable))]
-pub fn by_variable(ty: &Ty, variable: TypedPlace, at: u32) -> Result<Argument, Fault>
+pub fn by_variable(ty: &Ty, variable: TypedPlace, at: u32) -> Result<Argument, CheckFault>
     ensures { Answers result (λ a. argument_of a) (by_variable at (type_of ty.now) (variable_of variable)) }
 {
     let TypedPlace {
@@ -204,7 +210,7 @@ pub fn by_routine(
     result_type: &Option<Ty>,
     found: Found<'_>,
     at: u32,
-) -> Result<Argument, Fault>
+) -> Result<Argument, CheckFault>
     ensures { Answers result (λ a. argument_of a)
         (by_routine at sections.now (option_map type_of result_type.now) (point_of found.entry)) }
 {

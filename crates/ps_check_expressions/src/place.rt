@@ -4,7 +4,7 @@ ghost use Rattle.std.specs.Prelude.{◌≡◌, ℕ, false, IfOk, IfErr};
 ghost use Rattle.ps_tree.specs.Tree as Tree;
 ghost use Rattle.ps_tree.specs.View.{type_of, expr_of, place_of, base_of};
 ghost use Rattle.ps_check_judgement.specs.Judged.{Answers};
-ghost use Rattle.ps_check_judgement.specs.declared.refusal.Fault.TheVariants.{OutOfMemory};
+ghost use Rattle.ps_check_judgement.specs.declared.refusal.CheckFault.TheVariants.{OutOfMemory};
 ghost use Rattle.ps_check_names.specs.Views.{point_of};
 ghost use Rattle.ps_tree.specs.Chains.{selected};
 ghost use Rattle.ps_check_expressions.specs.Values.{is_packed};
@@ -15,7 +15,7 @@ use crate::operators::{Operands, wrong_type};
 use crate::site::Site;
 use crate::value::{TypedPlace, TypedValue, is_packed};
 use ps_check_judgement::answer::{broken, paired};
-use ps_check_judgement::refusal::{Fault, Rule};
+use ps_check_judgement::refusal::{CheckFault, Rule};
 use ps_check_names::constants::misplacement;
 use ps_check_names::meaning::Meaning;
 use ps_check_names::scope::Found;
@@ -47,7 +47,7 @@ fn opened_field(alloc: Global, which: u32, whole: &Ty, number: u32) -> Result<Pl
 /// The variable that a name denotes; the name is at `at`.
 #[inline(never)]
 #[tactic(auto, unfolding(crate::specs::Places::variable_at, ps_check_names::specs::Views::meaning_of))]
-pub fn variable_found(alloc: Global, found: Found<'_>, at: u32) -> Result<TypedPlace, Fault>
+pub fn variable_found(alloc: Global, found: Found<'_>, at: u32) -> Result<TypedPlace, CheckFault>
     ensures { Answers result (λ v. variable_of v) (variable_at at (point_of found.entry)) }
 {
     match found {
@@ -89,7 +89,7 @@ pub fn variable_found(alloc: Global, found: Found<'_>, at: u32) -> Result<TypedP
 
 /// An index of a type that is compatible with an array's; it begins at `at`.
 #[tactic(auto, unfolding(crate::specs::Places::index_operand, crate::specs::View::value_of, ps_tree::specs::View::type_of))]
-fn index_operand(index: TypedValue, array: Ordinal, at: u32) -> Result<Expr, Fault>
+fn index_operand(index: TypedValue, array: Ordinal, at: u32) -> Result<Expr, CheckFault>
     ensures { Answers result (λ e. expr_of e) (index_operand at array (value_of index)) }
 {
     match index {
@@ -108,7 +108,7 @@ fn index_operand(index: TypedValue, array: Ordinal, at: u32) -> Result<Expr, Fau
     }
 }
 
-fn copy_of(ty: &Ty) -> Result<Ty, Fault>
+fn copy_of(ty: &Ty) -> Result<Ty, CheckFault>
     ensures ok { IfOk result (λ copy. type_of copy ≡ type_of ty.now) }
     ensures err { IfErr result (λ fault. fault ≡ OutOfMemory) }
 {
@@ -118,7 +118,7 @@ fn copy_of(ty: &Ty) -> Result<Ty, Fault>
 /// The index of an element of an array of type `ty`, which begins at `at.first`, and the element's type. The index
 /// begins at `at.second`.
 #[tactic(auto, unfolding(crate::specs::Places::element, ps_tree::specs::View::type_of))]
-fn index_of(ty: &Ty, index: TypedValue, at: Operands) -> Result<(Expr, Ty), Fault>
+fn index_of(ty: &Ty, index: TypedValue, at: Operands) -> Result<(Expr, Ty), CheckFault>
     ensures { (place : Tree.Place) (line : ℕ) → Answers result
         (λ e. record {
           place = selected place (Tree.Element (type_of ty.now) (expr_of e.0) line);
@@ -156,7 +156,7 @@ pub(crate) fn element(
     index: TypedValue,
     line: Line,
     at: Operands,
-) -> Result<TypedPlace, Fault>
+) -> Result<TypedPlace, CheckFault>
     ensures { Answers result (λ v. variable_of v)
         (element at (place_of array.place) (type_of array.ty) (value_of index) line.number) }
 {
@@ -173,7 +173,7 @@ pub(crate) fn element(
 
 /// The place and the type of a field of a record of type `ty`, which begins at `first`; the field's name is at `at`.
 #[tactic(auto, unfolding(crate::specs::Places::component, ps_tree::specs::View::type_of))]
-fn field_of(ty: &Ty, name: &[u8], first: u32, at: u32) -> Result<(u32, Ty), Fault>
+fn field_of(ty: &Ty, name: &[u8], first: u32, at: u32) -> Result<(u32, Ty), CheckFault>
     ensures { (place : Tree.Place) → Answers result
         (λ f. record {
           place = selected place (Tree.Field (type_of ty.now) f.0);
@@ -205,7 +205,7 @@ pub(crate) fn component(
     name: &[u8],
     first: u32,
     at: u32,
-) -> Result<TypedPlace, Fault>
+) -> Result<TypedPlace, CheckFault>
     ensures { Answers result (λ v. variable_of v)
         (component first at (place_of base.place) (type_of base.ty) name.now) }
 {
@@ -222,7 +222,7 @@ pub(crate) fn component(
 
 /// The number of a pointer's type, and the type of what a pointer of type `ty`, which begins at `first`, identifies.
 #[tactic(auto, unfolding(crate::specs::Places::target, ps_tree::specs::View::type_of))]
-fn domain_of(site: Site<'_>, ty: &Ty, first: u32) -> Result<(u32, Ty), Fault>
+fn domain_of(site: Site<'_>, ty: &Ty, first: u32) -> Result<(u32, Ty), CheckFault>
     ensures { (place : Tree.Place) (line : ℕ) → Answers result
         (λ d. record { place = selected place (Tree.Target d.0 line); type = type_of d.1; in_packed = false })
         (target first (context_at site.entry).domains place (type_of ty.now) line) }
@@ -250,7 +250,7 @@ pub(crate) fn target(
     variable: TypedPlace,
     line: Line,
     first: u32,
-) -> Result<TypedPlace, Fault>
+) -> Result<TypedPlace, CheckFault>
     ensures { Answers result (λ v. variable_of v)
         (target first (context_at site.entry).domains (place_of variable.place) (type_of variable.ty) line.number) }
 {

@@ -8,7 +8,7 @@ ghost use Rattle.ps_check_expressions.specs.View.{context_at, regions_at, with_c
 
 use crate::changed::Controls;
 use crate::inner::Inner;
-use ps_check_judgement::refusal::Fault;
+use ps_check_judgement::refusal::CheckFault;
 use ps_check_names::reading::Reading;
 use ps_check_names::scope::{Found, Scope};
 use ps_text::Span;
@@ -27,7 +27,7 @@ pub struct Site<'a> {
 
 impl<'a> Site<'a> {
     /// The defining point that a name denotes there.
-    pub fn denoted(self, name: Span) -> Result<Found<'a>, Fault>
+    pub fn denoted(self, name: Span) -> Result<Found<'a>, CheckFault>
         ensures { Answers result (λ found. point_of found)
             (denoted (context_at self.entry) (regions_at self.entry) name) }
     {

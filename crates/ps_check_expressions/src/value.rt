@@ -9,7 +9,7 @@ ghost use Rattle.ps_check_names.specs.Constants.{integer, char, boolean};
 ghost use Rattle.ps_check_expressions.specs.View.{value_of, variable_of};
 
 use ps_check_judgement::answer::broken;
-use ps_check_judgement::refusal::{Fault, Rule};
+use ps_check_judgement::refusal::{CheckFault, Rule};
 use ps_check_names::constants::{BOOLEAN, CHAR, INTEGER};
 use ps_tree::tree::{Expr, Place, Range, SetExpr, Structure};
 use ps_tree::types::{Host, Ordinal, Packing, Ty, same_host};
@@ -165,7 +165,7 @@ pub(crate) fn set_type_of_both(a: &Ty, b: &Ty) -> Ty
 /// The contents of a variable, whose first token is at `at`.
 #[inline(never)]
 #[tactic(auto, using(ps_tree::proofs::TreeLemmas::expr_of_Load, ps_tree::proofs::TreeLemmas::set_of_Load, ps_tree::proofs::TreeLemmas::structure_of_Contents), unfolding(crate::specs::Values::contents, crate::specs::View::value_of, ps_tree::specs::View::type_of))]
-pub(crate) fn loaded(alloc: Global, variable: TypedPlace, at: u32) -> Result<TypedValue, Fault>
+pub(crate) fn loaded(alloc: Global, variable: TypedPlace, at: u32) -> Result<TypedValue, CheckFault>
     ensures { Answers result (λ v. value_of v) (loaded at (variable_of variable)) }
 {
     let TypedPlace { place, ty, .. } = variable;

@@ -5,19 +5,19 @@ use Rattle.std.specs.Prelude.{IsErrAnd, IfErr}
 use Rattle.std.proofs.Math.Seq.{drop-cons}
 use Rattle.std.proofs.lemmas.List.{drop_all, append-nil, map_push, length-map}
 use Rattle.std.proofs.Math.ListN.{get_or-map}
-use Rattle.ps_check_judgement.specs.declared.refusal.Fault.{Fault}
-use Rattle.ps_check_judgement.specs.declared.refusal.Fault.TheVariants.{OutOfMemory, Broken}
+use Rattle.ps_check_judgement.specs.declared.refusal.CheckFault.{CheckFault}
+use Rattle.ps_check_judgement.specs.declared.refusal.CheckFault.TheVariants.{OutOfMemory, Broken}
 use Rattle.ps_check_judgement.specs.Judged.{Judged, Yes, No, Told, ◌>>=◌, traverse, traverse_both, steps, Answers}
 
 -- a refusal that is passed on
-pub told_bind : {A B : Type 0} (e : Fault) (j : Judged A) (f : A → Judged B) → Told e j → Told e (j >>= f)
+pub told_bind : {A B : Type 0} (e : CheckFault) (j : Judged A) (f : A → Judged B) → Told e j → Told e (j >>= f)
 told_bind OutOfMemory j f h = h
 told_bind (Broken rule at) j f h = ap (λ j. j >>= f) h
 
-pub handed_on : {X A : Type 0} (answer : Result X Fault) (view : X → A) (j : Judged A) (e : Fault) → IsErrAnd answer
-    (λ y. y ≡ e) → Told e j → Answers answer view j
+pub handed_on : {X A : Type 0} (answer : Result X CheckFault) (view : X → A) (j : Judged A) (e : CheckFault)
+    → IsErrAnd answer (λ y. y ≡ e) → Told e j → Answers answer view j
 handed_on (Ok x) view j e h told = absurd h
-handed_on (Err y) view j e h told = subst (λ (e : Fault). Told e j) (sym h) told
+handed_on (Err y) view j e h told = subst (λ (e : CheckFault). Told e j) (sym h) told
 
 -- steps that have reached index i, and left the state t
 pub record Stepped {S A : Type 0} (f : S → A → Judged S) (s : S) (xs : List A) (i : ℕ) (t : S) : Type 0 where
@@ -40,7 +40,7 @@ module _ {S A : Type 0} (f : S → A → Judged S) (s : S) (xs : List A) (i : �
         stepped_here x (Yes u) lt at r e ∙ (let n : suc i ≡ i + 1 = omega arith in ap (λ k. steps f u (drop k xs)) n);
   }
 
-  pub stepped_fault : (x : A) (e : Fault) → i < length xs → x ≡ get_or xs i x → Stepped f s xs i t → Told e (f t x)
+  pub stepped_fault : (x : A) (e : CheckFault) → i < length xs → x ≡ get_or xs i x → Stepped f s xs i t → Told e (f t x)
       → Told e (steps f s xs)
   stepped_fault x OutOfMemory lt at r h = h
   stepped_fault x (Broken rule where_) lt at r h = stepped_here x (No rule where_) lt at r h
@@ -76,7 +76,7 @@ module _ {A B : Type 0} (f : A → Judged B) (xs : List A) (i : ℕ) (done : Lis
       ∙ ap (λ l. prefixed done (traverse f l)) (drop-cons xs i x lt)
       ∙ ap (λ o. prefixed done (o >>= (λ z. traverse f (drop (suc i) xs) >>= (λ zs. Yes (z ∷ zs))))) (ap f (sym at) ∙ e)
 
-  pub reached_fault : (x : A) (e : Fault) → i < length xs → x ≡ get_or xs i x → Reached f xs i done → Told e (f x)
+  pub reached_fault : (x : A) (e : CheckFault) → i < length xs → x ≡ get_or xs i x → Reached f xs i done → Told e (f x)
       → Told e (traverse f xs)
   reached_fault x OutOfMemory lt at r h = h
   reached_fault x (Broken rule where_) lt at r h = reached_here x (No rule where_) lt at r h
@@ -116,7 +116,8 @@ module _ {A B D C : Type 0} (f : A → B → Judged C) (g : D → B) (xs : List 
       >>= (λ zs. Yes (z ∷ zs))))) (ap (λ a. f a (get_or (map g ds) i (g y))) (sym atx) ∙ ap (f x)
       (get_or-map g ds i y ∙ ap g (sym aty)) ∙ h)
 
-  pub both_fault : (d x : A) (y : D) (e : Fault) → i < length xs → i < length ds → x ≡ get_or xs i d → y ≡ get_or ds i y
+  pub both_fault : (d x : A) (y : D) (e : CheckFault) → i < length xs → i < length ds → x ≡ get_or xs i d
+      → y ≡ get_or ds i y
       → ReachedBoth f xs (map g ds) i done → Told e (f x (g y)) → Told e (traverse_both f xs (map g ds))
   both_fault d x y OutOfMemory ltx lty atx aty r h = h
   both_fault d x y (Broken rule where_) ltx lty atx aty r h = both_here d x y (No rule where_) ltx lty atx aty r h

@@ -3,8 +3,8 @@
 use Rattle.std.specs.Prelude.{◌≡◌, ℕ, List, [], ◌∷◌, ◌++◌, Option, Some, None, Bool, if◌then◌else◌, Result, Ok, Err}
 use Rattle.std.specs.Result.{MatchResult}
 use Rattle.ps_check_judgement.specs.declared.refusal.Rule.{Rule}
-use Rattle.ps_check_judgement.specs.declared.refusal.Fault.{Fault}
-use Rattle.ps_check_judgement.specs.declared.refusal.Fault.TheVariants.{OutOfMemory, Broken}
+use Rattle.ps_check_judgement.specs.declared.refusal.CheckFault.{CheckFault}
+use Rattle.ps_check_judgement.specs.declared.refusal.CheckFault.TheVariants.{OutOfMemory, Broken}
 
 pub data Judged (A : Type 0) : Type 0 where
   Yes : A → Judged A
@@ -58,12 +58,12 @@ steps f s [] = Yes s
 steps f s (x ∷ xs) = f s x >>= (λ t. steps f t xs)
 
 -- the refusal that is reported; running out of memory reports nothing
-abbrev pub Told : {A : Type 0} → Fault → Judged A → Type 0
+abbrev pub Told : {A : Type 0} → CheckFault → Judged A → Type 0
 Told OutOfMemory j = Unit {0}
 Told (Broken rule at) j = j ≡ No rule at
 
 -- an answer that says what is judged: the value, or that very refusal, or that memory ran out
-abbrev pub Answers : {X A : Type 0} → Result X Fault → (X → A) → Judged A → Type 0
+abbrev pub Answers : {X A : Type 0} → Result X CheckFault → (X → A) → Judged A → Type 0
 Answers answer view j = MatchResult answer (λ v. j ≡ Yes (view v)) (λ fault. Told fault j)
 
 -- two answers as one, with the first refusal reported

@@ -7,8 +7,8 @@ use Rattle.ps_check_judgement.specs.declared.refusal.Rule.TheVariants.{BadSubran
 use Rattle.ps_check_judgement.specs.declared.refusal.Rule.TheVariants.{ControlVariable, PackedVariable, NotCongruous}
 use Rattle.ps_check_judgement.specs.declared.refusal.Rule.TheVariants.{ForwardOpen, NoResultAssigned, NoInputOutput}
 use Rattle.ps_check_judgement.specs.declared.refusal.Rule.TheVariants.{Limit}
-use Rattle.ps_check_judgement.specs.declared.refusal.Fault.{Fault}
-use Rattle.ps_check_judgement.specs.declared.refusal.Fault.TheVariants as fault
+use Rattle.ps_check_judgement.specs.declared.refusal.CheckFault.{CheckFault}
+use Rattle.ps_check_judgement.specs.declared.refusal.CheckFault.TheVariants as fault
 use Rattle.ps_check_judgement.specs.declared.refusal.CheckRefusal.{CheckRefusal}
 use Rattle.ps_check_judgement.specs.declared.refusal.CheckRefusal.TheVariants as refusal
 
@@ -40,7 +40,7 @@ line_of refusal.OutOfMemory = None
 line_of (refusal.Broken rule at line) = Some line
 
 -- a fault of the program, and not lack of memory
-abbrev pub IsFault : Fault → Type 0
+abbrev pub IsFault : CheckFault → Type 0
 IsFault fault.OutOfMemory = ⊥
 IsFault (fault.Broken rule at) = Unit {0}
 

@@ -4,16 +4,16 @@ ghost use Rattle.std.specs.Prelude.{◌≡◌, ◌++◌, ◌∷◌, [], IfOk, If
 ghost use Rattle.std.specs.Result.{IsOkAnd};
 ghost use Rattle.ps_check_judgement.specs.Judged.{both};
 ghost use Rattle.ps_check_judgement.specs.Refusal.{IsFault};
-ghost use Rattle.ps_check_judgement.specs.declared.refusal.Fault.TheVariants.{Broken};
+ghost use Rattle.ps_check_judgement.specs.declared.refusal.CheckFault.TheVariants.{Broken};
 
-use crate::refusal::{Fault, Rule};
+use crate::refusal::{CheckFault, Rule};
 use std::alloc::Global;
 
 /// The fault of a broken rule, with the offset of the token at which it is reported.
-pub fn broken(rule: Rule, at: u32) -> Fault
+pub fn broken(rule: Rule, at: u32) -> CheckFault
     ensures { result ≡ Broken rule at }
 {
-    Fault::Broken { rule, at }
+    CheckFault::Broken { rule, at }
 }
 
 /// Two answers as one: both values, or else the first error.
@@ -30,7 +30,10 @@ pub fn paired<A: Drop, B: Drop, E: Drop>(
 }
 
 /// What an answer holds, on the heap.
-pub fn boxed_answer<A: Drop>(alloc: Global, answer: Result<A, Fault>) -> Result<Box<A>, Fault>
+pub fn boxed_answer<A: Drop>(
+    alloc: Global,
+    answer: Result<A, CheckFault>,
+) -> Result<Box<A>, CheckFault>
     ensures ok { IfOk result (λ part. answer ≡ Ok part.value) }
     ensures err { IfErr result (λ fault. IsFault fault → answer ≡ Err fault) }
 {
@@ -38,7 +41,10 @@ pub fn boxed_answer<A: Drop>(alloc: Global, answer: Result<A, Fault>) -> Result<
 }
 
 /// Adds what an answer holds to a list, which stays as it was if that fails.
-pub fn push_answer<A: Drop>(list: &mut Vec<A>, answer: Result<A, Fault>) -> Result<(), Fault>
+pub fn push_answer<A: Drop>(
+    list: &mut Vec<A>,
+    answer: Result<A, CheckFault>,
+) -> Result<(), CheckFault>
     ensures ok { IfOk result (λ _. IsOkAnd answer (λ part. list.new.items ≡ list.old.items ++ part ∷ [])) }
     ensures err { IfErr result (λ fault. IsFault fault → answer ≡ Err fault) }
     ensures kept { IfErr result (λ _. list.new.items ≡ list.old.items) }

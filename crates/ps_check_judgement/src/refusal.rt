@@ -114,29 +114,29 @@ impl CheckRefusal {
 
 /// The same, with the offset `at` of the token at which it is reported.
 #[derive(Clone, Copy)]
-pub enum Fault {
+pub enum CheckFault {
     OutOfMemory,
     Broken { rule: Rule, at: u32 },
 }
 
-impl From<AllocError> for Fault {
+impl From<AllocError> for CheckFault {
     ghost use Rattle.std.specs.Prelude.{◌≡◌};
-    ghost use Rattle.ps_check_judgement.specs.declared.refusal.Fault.TheVariants.{OutOfMemory};
+    ghost use Rattle.ps_check_judgement.specs.declared.refusal.CheckFault.TheVariants.{OutOfMemory};
 
     ghost from_gives = { λ _ e. e ≡ OutOfMemory };
 
-    fn from(_: AllocError) -> Fault {
-        Fault::OutOfMemory
+    fn from(_: AllocError) -> CheckFault {
+        CheckFault::OutOfMemory
     }
 }
 
-impl<T: Drop> From<AllocFailed<T>> for Fault {
+impl<T: Drop> From<AllocFailed<T>> for CheckFault {
     ghost use Rattle.std.specs.Prelude.{◌≡◌};
-    ghost use Rattle.ps_check_judgement.specs.declared.refusal.Fault.TheVariants.{OutOfMemory};
+    ghost use Rattle.ps_check_judgement.specs.declared.refusal.CheckFault.TheVariants.{OutOfMemory};
 
     ghost from_gives = { λ _ e. e ≡ OutOfMemory };
 
-    fn from(_: AllocFailed<T>) -> Fault {
-        Fault::OutOfMemory
+    fn from(_: AllocFailed<T>) -> CheckFault {
+        CheckFault::OutOfMemory
     }
 }

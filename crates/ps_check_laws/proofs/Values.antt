@@ -9,7 +9,7 @@ use Rattle.ps_syntax.specs.declared.expression.Adding.{Adding}
 use Rattle.ps_syntax.specs.declared.expression.Adding.TheVariants as adding
 use Rattle.ps_syntax.specs.declared.expression.Multiplying.{Multiplying}
 use Rattle.ps_syntax.specs.declared.expression.Multiplying.TheVariants as multiplying
-use Rattle.ps_syntax.specs.declared.expression.Relation.{Relation}
+use Rattle.ps_syntax.specs.declared.expression.Relational.{Relational}
 use Rattle.ps_tree.specs.declared.tree.ArithmeticOperator.{ArithmeticOperator}
 use Rattle.ps_tree.specs.declared.tree.ArithmeticOperator.TheVariants.{Add, Subtract, Multiply, Div, Mod}
 use Rattle.ps_tree.specs.declared.tree.BooleanOperator.{BooleanOperator}
@@ -239,20 +239,20 @@ related_so : {R : Type 0} (at : ℕ) (o : Option R) (make : R → Tree.Expr) (x 
 related_so at None make x b same h = absurd (no_yes h)
 related_so at (Some r) make x b same h = ap value_threatens (sym (inside_yes _ x h)) ∙ same r
 
-together_so : {R : Type 0} (at : Operands) (relation : Relation) (first : DataType) (fit : Bool) (o : Option R)
+together_so : {R : Type 0} (at : Operands) (relation : Relational) (first : DataType) (fit : Bool) (o : Option R)
     (make : R → Tree.Expr) (x : Value) (b : Threatened) → ((r : R) → expr_threatens (make r) ≡ b)
     → together at relation first fit o make ≡ Yes x → value_threatens x ≡ b
 together_so at relation first fit None make x b same h = absurd (no_yes h)
 together_so at relation first true (Some r) make x b same h = ap value_threatens (sym (inside_yes _ x h)) ∙ same r
 together_so at relation first false (Some r) make x b same h = absurd (no_yes h)
 
-simple_both : (at : Operands) (relation : Relation) (a b : Tree.Expr) (type : DataType) (x : Value)
+simple_both : (at : Operands) (relation : Relational) (a b : Tree.Expr) (type : DataType) (x : Value)
     → simple_comparison at relation a b type ≡ Yes x → value_threatens x ≡ expr_threatens a ++ expr_threatens b
 unfolding simple_comparison expr_threatens
 simple_both at relation a b (OrdinalType o) x h = related_so at.second (ordered relation) _ x _ (λ r. refl) h
 simple_both at relation a b type x h = related_so at.first (of_pointers relation) _ x _ (λ r. refl) h
 
-pub compared_both : (at : Operands) (relation : Relation) (v w x : Value) → compared at relation v w ≡ Yes x
+pub compared_both : (at : Operands) (relation : Relational) (v w x : Value) → compared at relation v w ≡ Yes x
     → both_of v w x
 unfolding compared expr_threatens
 compared_both at relation (SimpleValue a s) (SimpleValue b t) x h = by (is_compatible s t) h

@@ -1,15 +1,10 @@
 -- How many characters names take together, each with a comma.
 use Rattle.std.proofs.Common.{◌≡◌, ◌+◌, ◌-◌, ◌<◌, ◌≤◌, ℕ, suc, true, false, nat_lt, List, ◌∷◌, length, map, drop, get_or}
-use Rattle.std.proofs.Common.{sym, ap, ◌∙◌, arith, rules}
+use Rattle.std.proofs.Common.{sym, ap, ◌∙◌, arith}
 use Rattle.std.proofs.Math.Seq.{drop-cons}
 use Rattle.std.proofs.lemmas.List.{drop_all}
+use Rattle.std.proofs.lemmas.Bool.{lt-ltb, le-ltb}
 use Rattle.ps_check_names.specs.Opened.{written_length}
-
-is_less : (a b : ℕ) → a < b → nat_lt a b ≡ true
-is_less a b l = grind (arith, rules)
-
-is_no_less : (a b : ℕ) → b ≤ a → nat_lt a b ≡ false
-is_no_less a b l = grind (arith, rules)
 
 module _ {X : Type 0} (f : X → List ℕ) where
   -- so many are left behind the first i names
@@ -35,11 +30,11 @@ module _ {X : Type 0} (f : X → List ℕ) where
   are_long_here names i left x lt at over so_far =
       let z = next_written names i x lt at in
       let more : 192 < written_length (map f names) = omega (arith, z, over, so_far) in
-      is_less 192 (written_length (map f names)) more
+      lt-ltb 192 (written_length (map f names)) more
 
   pub are_short : (names : List X) (i left : ℕ) → length names ≤ i → Left names i left → nat_lt 192
       (written_length (map f names)) ≡ false
   are_short names i left end so_far =
       let z = ap (λ l. written_length (map f l)) (drop_all i names end) in
       let most : written_length (map f names) ≤ 192 = omega (arith, z, so_far) in
-      is_no_less 192 (written_length (map f names)) most
+      le-ltb 192 (written_length (map f names)) most

@@ -7,3 +7,4 @@ pub mod PlaceLemmas
 pub mod WideLemmas
 pub mod MarkLemmas
 pub mod LengthLemmas
+pub mod AlikeLemmas

@@ -1,7 +1,7 @@
 -- Marks of the names of fields.
 use Rattle.std.proofs.Common.{◌≡◌, ◌+◌, ◌<◌, ◌≤◌, ◌⊎◌, inl, inr, ℕ, Bool, true, false, arith}
 use Rattle.std.proofs.Common.{List, [], ◌∷◌, ◌++◌, length, Option, Some, None, refl, sym, ap, subst, ◌∙◌, slice_get, get_or}
-use Rattle.std.specs.Prelude.{IsTrue, nat_lt}
+use Rattle.std.specs.Prelude.{IsTrue, nat_lt, is_some}
 use Rattle.std.proofs.lemmas.Bool.{ltb-true}
 use Rattle.std.proofs.Math.Nat.{eq-or-lt_of_le}
 use Rattle.std.proofs.Math.Seq.{get_or-append_seam}
@@ -10,7 +10,7 @@ use Rattle.std.proofs.lemmas.Option.{slice_get_within}
 use Rattle.std.specs.Hash.FoldHasher as folding
 use Rattle.std.specs.declared.hash.FoldHasher.{FoldHasher}
 use Rattle.ps_tree.specs.declared.types.Ty.{Ty}
-use Rattle.ps_tree.specs.Types.{DataType, field_in}
+use Rattle.ps_tree.specs.Types.{DataType, field_in, outline}
 use Rattle.ps_tree.specs.Names.{place}
 use Rattle.ps_tree.specs.View.{type_of}
 use Rattle.ps_check_names.specs.Regions.{fields_of}
@@ -18,7 +18,7 @@ use Rattle.ps_check_names.specs.Opened.{HasField, StandsIn, NoneBehind}
 use Rattle.ps_check_names.specs.Sets.{Holds}
 use Rattle.ps_check_names.specs.Marks.{mark_of, IsMark, MarkedFor, Marked, MarkedTypes}
 use Rattle.ps_check_names.proofs.NoteLemmas.{none_some, inside, last_or, placed}
-use Rattle.ps_check_names.proofs.PlaceLemmas.{got_or, stands_there}
+use Rattle.ps_check_names.proofs.PlaceLemmas.{got_or, has_some, same_outline, stands_there}
 
 -- ---- marks
 
@@ -78,13 +78,13 @@ pub marked_more : (records : List Ty) (ty : Ty) (start : FoldHasher) (marks mark
 marked_more records ty start marks marks' marked kept there = λ k t is s h. last_or records ty k t _ is
     (λ e. kept (mark_of start s) (marked k t e s h)) (λ e f. there s (subst (λ u. HasField u s) (sym f) h))
 
--- one of the type of another
+-- one with the fields of another
 pub marked_like : (records : List Ty) (another : Ty) (start : FoldHasher) (marks : List ℕ) (like : ℕ)
     → Marked records start marks → like < length records
-    → ((other : Ty) → slice_get records like ≡ Some other → type_of another ≡ type_of other) → MarkedFor another start
-    marks
+    → ((other : Ty) → slice_get records like ≡ Some other → outline (type_of another) ≡ outline (type_of other))
+    → MarkedFor another start marks
 marked_like records another start marks like marked l same = λ s h. let o = got_or records like l in
-    marked like o.0 o.1 s (h.0, ap (λ t. field_in (fields_of t) s) (sym (same o.0 o.1)) ∙ h.1)
+    marked like o.0 o.1 s (has_some o.0 s (sym (same_outline another o.0 (same o.0 o.1) s) ∙ ap is_some h.1))
 
 -- one of a wide type, whose set is joined
 pub marked_type : (ty : Ty) (types : List Ty) (start : FoldHasher) (sets : List (List ℕ)) (marks : List ℕ) (number : ℕ)
@@ -139,10 +139,10 @@ unmarked records start marks state number s b marked is own there off = λ k ty 
     by k ty e (Some f) q = absurd
         (off_true (sym off ∙ there (subst (λ n. Holds marks n) (sym (is start (sym own))) (marked (0 + k) ty e s (f, q)))))
 
--- one of the type of a record with this number, if there is one
+-- one with the fields of a record with this number, if there is one
 pub marked_if_there : (records : List Ty) (another : Ty) (start : FoldHasher) (marks : List ℕ) (like : ℕ) (all : List Ty)
     → Marked records start marks → all ≡ records
-    → ((other : Ty) → slice_get records like ≡ Some other → type_of another ≡ type_of other)
+    → ((other : Ty) → slice_get records like ≡ Some other → outline (type_of another) ≡ outline (type_of other))
     → IsTrue (nat_lt like (length all)) → MarkedFor another start marks
 marked_if_there records another start marks like all marked e same t = marked_like records another start marks like marked
     (let n = ap length e in let l : like < length all = ltb-true _ _ t in omega (arith, l, n)) same

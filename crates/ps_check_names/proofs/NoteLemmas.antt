@@ -9,7 +9,7 @@ use Rattle.std.proofs.Math.Nat.{eq-or-lt_of_le}
 use Rattle.std.proofs.Math.Seq.{get_or-append_seam}
 use Rattle.std.proofs.lemmas.Option.{slice_get_within}
 use Rattle.ps_tree.specs.declared.types.Ty.{Ty}
-use Rattle.std.proofs.lemmas.Bool.{leb-true, leb-false}
+use Rattle.std.proofs.lemmas.Bool.{leb-true, leb-false, cases_lt}
 use Rattle.ps_tree.specs.Types.{DataType, DataTypes, no_type, type_before, FieldList, field_list, field_in, field_at}
 use Rattle.ps_tree.specs.Types.{type_at, type_count, HaveSameNames}
 use Rattle.ps_tree.specs.Names.{same, has, place}
@@ -40,13 +40,6 @@ eq-or-not i j = by (nat_eq i j) refl
     by : (b : Bool) → nat_eq i j ≡ b → (i ≡ j) ⊎ (i ≢ j)
     by true q = inl (eqb-true i j q)
     by false q = inr (λ e. never (sym q ∙ eq-eqb i j e))
-
-pub lt-or-le : (i j : ℕ) → (i < j) ⊎ (j ≤ i)
-lt-or-le i j = by (nat_le j i) refl
-  where
-    by : (b : Bool) → nat_le j i ≡ b → (i < j) ⊎ (j ≤ i)
-    by true q = inr (leb-true j i q)
-    by false q = inl (leb-false j i q)
 
 pub le-or-lt : (i j : ℕ) → (i ≤ j) ⊎ (j < i)
 le-or-lt i j = by (nat_le i j) refl
@@ -381,7 +374,7 @@ module _ (records : List Ty) (asked : ℕ) (names : List (List ℕ)) (reaches : 
           (fields_of (type_of ty)) s ≡ o → field_in (fields_of (type_of ty)) s ≡ None
       by k ty e None q = q
       by k ty e (Some f) q = absurd
-          (before (n + k) ty e (f, q) (lt-or-le (n + k) asked) (omega arith))
+          (before (n + k) ty e (f, q) (cases_lt (n + k) asked) (omega arith))
 
 -- what is noted of one record more
 pub record_noted : (ty : Ty) (fields names : List (List ℕ)) (reaches : List ℕ) (reach asked : ℕ)

@@ -5,7 +5,9 @@ use Rattle.std.specs.Prelude.{is_some, option_and_then}
 use Rattle.std.proofs.lemmas.List.{length-append}
 use Rattle.std.proofs.lemmas.Option.{slice_get_within}
 use Rattle.ps_tree.specs.declared.types.Ty.{Ty}
-use Rattle.ps_tree.specs.Types.{DataType, field_in, FieldList, HaveSameNames}
+use Rattle.ps_tree.specs.Types.{DataType, OrdinalType, PointerType, NilType, SetType, EmptySetType, TextType, ArrayType}
+use Rattle.ps_tree.specs.Types.{RecordType, field_in, field_names, field_types, type_count, FieldList, HaveSameNames}
+use Rattle.ps_tree.specs.Types.{outline}
 use Rattle.ps_tree.specs.View.{type_of}
 use Rattle.ps_check_names.specs.Regions.{fields_of}
 use Rattle.ps_check_names.specs.Opened.{HasField, has_field, IsLike, has_field_at, StandsIn, Placed}
@@ -13,7 +15,7 @@ use Rattle.ps_check_names.proofs.NoteLemmas.{none_some, inside, never, last_or, 
 
 -- ---- records that are like one another
 
-has_some : (ty : Ty) (s : List ℕ) → has_field ty s ≡ true → HasField ty s
+pub has_some : (ty : Ty) (s : List ℕ) → has_field ty s ≡ true → HasField ty s
 has_some ty s e = by (field_in (fields_of (type_of ty)) s) refl e
   where
     by : (o : Option (ℕ × DataType)) → field_in (fields_of (type_of ty)) s ≡ o → is_some o ≡ true → HasField ty s
@@ -35,6 +37,25 @@ alike ty other a b is is' same = λ s. say_one (has_field ty s) (has_field other
   (λ e. ap is_some (has_fields other ty b a is' is (sym same.0, sym same.1) s (has_some ty s e)).1),
   (λ e. ap is_some (has_fields ty other a b is is' same s (has_some other s e)).1),
 )
+
+-- of one outline
+pub same_outline : (ty other : Ty) → outline (type_of ty) ≡ outline (type_of other) → IsLike ty other
+unfolding fields_of
+same_outline ty other e = alike ty other (fields_of (type_of ty)) (fields_of (type_of other)) refl refl
+    (by (type_of ty) (type_of other) e)
+  where
+    told : (t : DataType) → outline t ≡ (field_names (fields_of t), type_count (field_types (fields_of t)))
+    told (RecordType at packed fields) = refl
+    told (OrdinalType o) = refl
+    told (PointerType number) = refl
+    told NilType = refl
+    told (SetType at packing base) = refl
+    told EmptySetType = refl
+    told (TextType length) = refl
+    told (ArrayType at packed index component) = refl
+
+    by : (t u : DataType) → outline t ≡ outline u → HaveSameNames (fields_of t) (fields_of u)
+    by t u e = let both = sym (told t) ∙ e ∙ told u in (ap (λ p. p.0) both, ap (λ p. p.1) both)
 
 abbrev asks : List ℕ → Option Ty → Bool
 asks s o = is_some (option_and_then (λ ty. field_in (fields_of (type_of ty)) s) o)
@@ -118,14 +139,15 @@ module _ (records : List Ty) (ty : Ty) (places : List (Option ℕ)) (types : Lis
         (λ s. last_has k e s ∙ like.1 s ∙ ap (λ n. has_field_at types n s) same),
       )
 
-  -- it is of the type of a record that has a place
+  -- it has the fields of a record that has a place
   pub stands_of_one : (number place : ℕ) → slice_get places number ≡ Some (Some place)
-      → ((other : Ty) → slice_get records number ≡ Some other → type_of ty ≡ type_of other) → StandsIn ty types place
+      → ((other : Ty) → slice_get records number ≡ Some other → outline (type_of ty) ≡ outline (type_of other))
+      → StandsIn ty types place
   stands_of_one number place is one =
       let h = placed.1 number place is in
       let o = got_or records number (among number place is) in (
         h.0,
-        (λ s. ap (λ t. is_some (field_in (fields_of t) s)) (one o.0 o.1) ∙ sym (ap (asks s) o.1) ∙ h.1 s),
+        (λ s. same_outline ty o.0 (one o.0 o.1) s ∙ sym (ap (asks s) o.1) ∙ h.1 s),
       )
 
 -- a field of a record is one of the type that stands for it

@@ -6,8 +6,10 @@ pub mod SectionViews
 pub mod SectionCode
 pub mod SectionDepth
 pub mod Codes
+pub mod MeaningViews
 pub mod Views
 pub mod Opened
+pub mod Alike
 pub mod Sets
 pub mod Wides
 pub mod Marks

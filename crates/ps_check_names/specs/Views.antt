@@ -1,11 +1,10 @@
 -- What the values of the program denote in the definitions.
 pub use Rattle.ps_check_names.specs.SectionViews.{section_of, sections_of}
-use Rattle.std.specs.Prelude.{ℕ, List, [], ◌∷◌, option_map, map}
+pub use Rattle.ps_check_names.specs.MeaningViews.{heading_of}
+unfoldable pub use Rattle.ps_check_names.specs.MeaningViews.{meaning_of}
+use Rattle.std.specs.Prelude.{ℕ, List, [], ◌∷◌, map}
 use Rattle.ps_tree.specs.declared.types.Ty.{Ty}
 use Rattle.ps_tree.specs.View.{type_of}
-use Rattle.ps_check_names.specs.declared.meaning.Heading as RustHeading
-use Rattle.ps_check_names.specs.declared.meaning.Meaning as RustMeaning
-use Rattle.ps_check_names.specs.declared.meaning.Meaning.TheVariants as m
 use Rattle.ps_check_names.specs.declared.scope.Scope.{Scope, Outside, Block', Opened', Own'}
 use Rattle.ps_check_names.specs.declared.scope.Lookup.{Lookup}
 use Rattle.ps_check_names.specs.declared.scope.Lookup.TheVariants as l
@@ -16,33 +15,8 @@ use Rattle.ps_check_names.specs.declared.constants.ConstantValue as RustConstant
 use Rattle.ps_check_names.specs.declared.constants.ConstantValue.TheVariants as c
 use Rattle.ps_check_judgement.specs.Judged.{Judged, Yes, No}
 use Rattle.ps_check_names.specs.Constants.{ConstantValue, OrdinalConstant, TextConstant}
-use Rattle.ps_check_names.specs.Regions.{Heading, Meaning, ConstantMeaning, TextMeaning, TypeMeaning}
-use Rattle.ps_check_names.specs.Regions.{VariableMeaning, ParameterMeaning, RoutineParameterMeaning, RoutineMeaning}
-use Rattle.ps_check_names.specs.Regions.{FileMeaning, RequiredMeaning, LeftOutMeaning, Region, BlockRegion}
-use Rattle.ps_check_names.specs.Regions.{RecordRegion, OwnNames, fields_of, Point, BlockPoint, FieldPoint, Context}
-
-abbrev pub heading_of : RustHeading.Heading → Heading
-heading_of h = record {
-  number = h.number;
-  at = h.at;
-  sections = h.sections.value;
-  result = option_map type_of h.result;
-  names = map (λ name. name.items) h.names.items;
-  is_forward = h.is_forward;
-}
-
-unfoldable pub meaning_of : RustMeaning.Meaning → Meaning
-meaning_of (m.Constant ordinal value) = ConstantMeaning ordinal value
-meaning_of (m.Text characters) = TextMeaning characters
-meaning_of (m.«Type» ty) = TypeMeaning (type_of ty)
-meaning_of (m.Variable entry ty) = VariableMeaning entry (type_of ty)
-meaning_of (m.Parameter entry ty) = ParameterMeaning entry (type_of ty)
-meaning_of (m.RoutineParameter entry sections result) = RoutineParameterMeaning entry sections.value
-    (option_map type_of result)
-meaning_of (m.Routine heading) = RoutineMeaning (heading_of heading)
-meaning_of (m.File file) = FileMeaning file
-meaning_of (m.Required routine) = RequiredMeaning routine
-meaning_of m.LeftOut = LeftOutMeaning
+use Rattle.ps_check_names.specs.Regions.{Region, BlockRegion, RecordRegion, OwnNames, fields_of, Point, BlockPoint}
+use Rattle.ps_check_names.specs.Regions.{FieldPoint, Context}
 
 -- the regions after records of these types were opened one after the other
 unfoldable pub opened_in : List Region → List Ty → List Region
@@ -51,7 +25,7 @@ opened_in Γ (ty ∷ types) = opened_in (RecordRegion (type_of ty) (fields_of (t
 
 unfoldable pub scope_of : Scope → List Region
 scope_of Outside = []
-scope_of (Block' routine names known p outer) = BlockRegion routine names.now (map meaning_of known.now)
+scope_of (Block' routine names known p outer) = BlockRegion routine names.now (map meaning_of known.all.now)
     ∷ scope_of outer
 scope_of (Opened' records p outer) = opened_in (scope_of outer) records.now.records.items
 scope_of (Own' names defined p outer) = OwnNames names.now defined ∷ scope_of outer

@@ -11,7 +11,7 @@ use crate::meaning::Meaning;
 use crate::reading::Reading;
 use crate::scope::{Found, Scope};
 use ps_check_judgement::answer::broken;
-use ps_check_judgement::refusal::{Fault, Rule};
+use ps_check_judgement::refusal::{CheckFault, Rule};
 use ps_scan::{number_value, string_value};
 use ps_syntax::{Constant, Sign};
 use ps_text::Span;
@@ -92,7 +92,7 @@ pub fn misplacement(found: &Found) -> Rule
 
 /// The value of a name that denotes a constant.
 #[tactic(auto, unfolding(crate::specs::Views::constant_of, crate::specs::Views::meaning_of, crate::specs::Constants::constant_at))]
-fn constant_at(found: &Found, at: u32) -> Result<ConstantValue, Fault>
+fn constant_at(found: &Found, at: u32) -> Result<ConstantValue, CheckFault>
     ensures { Answers result (λ value. constant_of value) (constant_at at (point_of found.now)) }
 {
     match found {
@@ -113,7 +113,7 @@ fn constant_at(found: &Found, at: u32) -> Result<ConstantValue, Fault>
 }
 
 /// A number after a sign.
-fn integer_with_sign(sign: Sign, value: i32, at: u32) -> Result<i32, Fault>
+fn integer_with_sign(sign: Sign, value: i32, at: u32) -> Result<i32, CheckFault>
     ensures { Answers result (λ n. n) (integer_with_sign at sign value) }
 {
     match sign {
@@ -134,7 +134,7 @@ fn signed_constant(
     sign: Option<(Sign, Span)>,
     value: ConstantValue,
     at: u32,
-) -> Result<ConstantValue, Fault>
+) -> Result<ConstantValue, CheckFault>
     ensures { Answers result (λ signed. constant_of signed) (signed_constant at sign (constant_of value)) }
 {
     match (sign, value) {
@@ -156,7 +156,7 @@ fn constant_named(
     alloc: Global,
     scope: &Scope,
     name: Span,
-) -> Result<ConstantValue, Fault>
+) -> Result<ConstantValue, CheckFault>
     ensures { Answers result (λ value. constant_of value)
         (constant_named reading.now.source.now (scope_of scope.now) name) }
 {
@@ -171,7 +171,7 @@ pub fn constant(
     alloc: Global,
     scope: &Scope,
     written: Constant,
-) -> Result<ConstantValue, Fault>
+) -> Result<ConstantValue, CheckFault>
     ensures { Answers result (λ value. constant_of value)
         (constant reading.now.source.now (scope_of scope.now) written) }
 {

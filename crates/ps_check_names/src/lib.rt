@@ -4,6 +4,7 @@
 pub mod constants;
 pub mod marks;
 pub mod meaning;
+pub mod meanings;
 pub mod opened;
 pub mod reading;
 pub mod scope;

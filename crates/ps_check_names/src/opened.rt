@@ -3,7 +3,7 @@
 ghost use Rattle.std.specs.Prelude.{◌≡◌, ◌≤◌, ◌<◌, ◌++◌, [], ◌∷◌, ℕ, List, length, map, set, get_or, slice_get, IfOk};
 ghost use Rattle.std.specs.Prelude.{OnOk, IfSome, IsTrue, Option, Some, None, option_map};
 ghost use Rattle.ps_tree.specs.Names.{place};
-ghost use Rattle.ps_tree.specs.Types.{DataType, field_in};
+ghost use Rattle.ps_tree.specs.Types.{DataType, field_in, outline};
 ghost use Rattle.ps_tree.specs.View.{type_of};
 ghost use Rattle.ps_check_names.specs.Regions.{fields_of};
 ghost use Rattle.ps_check_names.specs.Opened.{HasField, reach_of, Covers, Keeps, NoneBehind, StandsIn, Placed};
@@ -303,14 +303,16 @@ impl<'a> Opened<'a> {
         })
     }
 
-    /// One record more, of the type of the record with this number, within these. It takes no longer where that is wide.
+    /// One record more, whose type has the fields of that of the record with this number, within these. It takes no longer
+    /// where that is wide.
     pub fn with_like(
         self,
         alloc: Global,
         another: Ty,
         like: usize,
     ) -> Result<Opened<'a>, AllocError>
-        requires { (other : Ty) → slice_get self.records.items like ≡ Some other → type_of another ≡ type_of other }
+        requires { (other : Ty) → slice_get self.records.items like ≡ Some other
+            → outline (type_of another) ≡ outline (type_of other) }
         ensures { IfOk result (λ opened. opened.records.items ≡ self.entry.records.items ++ another ∷ []) }
     {
         match place_at(self.places.as_slice(), like) {

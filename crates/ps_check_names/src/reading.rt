@@ -4,7 +4,7 @@ ghost use Rattle.std.specs.Prelude.{◌≡◌};
 
 use crate::scope::{Found, Scope, denoted_at};
 use crate::wides::Wides;
-use ps_check_judgement::refusal::Fault;
+use ps_check_judgement::refusal::CheckFault;
 use ps_scan::name_spelling;
 use ps_text::{LineTable, Source, Span};
 use ps_tree::line::Line;
@@ -84,7 +84,7 @@ impl<'a> Reading<'a> {
         alloc: Global,
         scope: &'s Scope<'s>,
         name: Span,
-    ) -> Result<Found<'s>, Fault>
+    ) -> Result<Found<'s>, CheckFault>
         ensures { Answers result (λ found. point_of found) (denoted self.now.source.now (scope_of scope.now) name) }
     {
         let spelling = self.spelling(alloc, name)?;

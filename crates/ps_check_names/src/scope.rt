@@ -7,14 +7,16 @@ ghost use Rattle.ps_check_judgement.specs.declared.refusal.Rule.TheVariants.{Wro
 ghost use Rattle.ps_check_names.specs.Regions.{Region, BlockRegion, one_more, missing, find_past, find};
 ghost use Rattle.ps_check_names.specs.Views.{meaning_of, opened_in, scope_of, point_of, found};
 ghost use Rattle.ps_check_names.specs.Denotes.{FindsWhatIsDenoted};
+ghost use Rattle.ps_check_names.specs.Alike.{IsPlace, block_at};
 ghost use Rattle.ps_check_names.specs.Marks.{IsMark};
 ghost use Rattle.std.specs.Hash.FoldHasher.{finish};
 
 use crate::marks::Mark;
 use crate::meaning::Meaning;
+use crate::meanings::Meanings;
 use crate::opened::{Opened, field_of};
 use ps_check_judgement::answer::broken;
-use ps_check_judgement::refusal::{Fault, Rule};
+use ps_check_judgement::refusal::{CheckFault, Rule};
 use ps_tree::names::Names;
 use ps_tree::types::Ty;
 
@@ -27,7 +29,7 @@ pub enum Scope<'a> {
     Block {
         routine: u32,
         names: &'a Names,
-        known: &'a [Meaning],
+        known: Meanings<'a>,
         outer: &'a Scope<'a>,
     },
     /// The records that a `with` opens one after the other, each within those before it. A type that is not a record
@@ -186,7 +188,7 @@ pub fn find<'a>(scope: &'a Scope<'a>, name: &[u8]) -> Lookup<'a>
                 outer,
                 ..
             } => {
-                match past_block(names, known, up, name) {
+                match past_block(names, known.all, up, name) {
                     Ok(further) => up = further,
                     Err(end) => return end,
                 }
@@ -226,8 +228,47 @@ pub fn within_own(index: usize, defined: usize) -> Rule
     }
 }
 
+/// The place of a name of a block, or of one that is alike.
+fn place_alike(names: &Names, known: Meanings<'_>, name: &[u8]) -> Option<usize>
+    ensures { IfSome result (λ n. IsPlace (Some (names.now, map meaning_of known.entry.all.now)) name.now n) }
+{
+    let place = names.find(name)?;
+    Some(known.alike(place))
+}
+
+/// The place of a name, or of one that is alike, in the block that is so many blocks out.
+pub fn place_in_block(scope: &Scope, up: u32, name: &[u8]) -> Option<usize>
+    ensures { IfSome result (λ n. IsPlace (block_at up (scope_of scope.now)) name.now n) }
+{
+    let mut here = scope;
+    let mut left = up;
+    loop {
+        match here {
+            Scope::Outside => return None,
+            Scope::Block {
+                names,
+                known,
+                outer,
+                ..
+            } => {
+                if left == 0 {
+                    return place_alike(names, *known, name);
+                }
+                left -= 1;
+                here = outer;
+            }
+            Scope::Opened { outer, .. } => here = outer,
+            Scope::Own { outer, .. } => here = outer,
+        }
+    }
+}
+
 /// The defining point denoted by a name whose use begins at an offset.
-pub(crate) fn denoted_at<'s>(scope: &'s Scope<'s>, name: &[u8], at: u32) -> Result<Found<'s>, Fault>
+pub(crate) fn denoted_at<'s>(
+    scope: &'s Scope<'s>,
+    name: &[u8],
+    at: u32,
+) -> Result<Found<'s>, CheckFault>
     ensures { Answers result (λ found. point_of found) (find (scope_of scope.now) name.now at) }
 {
     match find(scope, name) {

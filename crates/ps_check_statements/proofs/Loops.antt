@@ -7,8 +7,8 @@ use Rattle.ps_syntax.specs.declared.statement.Element.{Element}
 use Rattle.ps_tree.specs.declared.types.Ordinal.{Ordinal}
 use Rattle.ps_tree.specs.declared.tree.CaseElement.{CaseElement}
 use Rattle.ps_check_judgement.specs.declared.change.Change.{Change}
-use Rattle.ps_check_judgement.specs.declared.refusal.Fault.{Fault}
-use Rattle.ps_check_judgement.specs.declared.refusal.Fault.TheVariants.{OutOfMemory, Broken}
+use Rattle.ps_check_judgement.specs.declared.refusal.CheckFault.{CheckFault}
+use Rattle.ps_check_judgement.specs.declared.refusal.CheckFault.TheVariants.{OutOfMemory, Broken}
 use Rattle.ps_check_judgement.specs.declared.refusal.Rule.TheVariants.{NotCongruous}
 use Rattle.ps_check_judgement.specs.Refusal.{IsFault}
 use Rattle.ps_check_judgement.specs.Judged.{Judged, Yes, No, ◌>>=◌, Told, Answers, steps}
@@ -30,7 +30,7 @@ module _ {A B Z : Type 0} (f : A → Changing B) (h : Z → B) (xs : List A) (cs
   pub added_start : Added 0 [] cs
   added_start = record { rest = refl }
 
-  pub added_next : (i : ℕ) (done new : List Z) (now later : List Change) (x : A) (answer : Result Z Fault)
+  pub added_next : (i : ℕ) (done new : List Z) (now later : List Change) (x : A) (answer : Result Z CheckFault)
       → i < length xs → x ≡ get_or xs i x → Added i done now → Answers {A = B × List Change} answer (λ z. (h z, later))
       (f x now) → IsOkAnd answer (λ z. new ≡ done ++ z ∷ []) → Added (i + 1) new later
   added_next i done new now later x (Ok z) lt at r a n =
@@ -40,13 +40,14 @@ module _ {A B Z : Type 0} (f : A → Changing B) (h : Z → B) (xs : List A) (cs
       (ap (λ j. j >>= (λ p. Yes (map h done ++ p.0 ∷ [], p.1))) a))
   added_next i done new now later x (Err fault) lt at r a n = absurd n
 
-  pub added_fault : (i : ℕ) (done : List Z) (now later : List Change) (x : A) (answer : Result Z Fault) (fault : Fault)
+  pub added_fault : (i : ℕ) (done : List Z) (now later : List Change) (x : A) (answer : Result Z CheckFault)
+      (fault : CheckFault)
       → i < length xs → x ≡ get_or xs i x → Added i done now → Answers {A = B × List Change} answer (λ z. (h z, later))
       (f x now) → (IsFault fault → answer ≡ Err fault) → Told fault (each f xs cs)
   added_fault i done now later x answer OutOfMemory lt at r a n = tt
   added_fault i done now later x answer (Broken rule place) lt at r a n =
       let told : Told (Broken rule place) (f x now) = subst
-      (λ (w : Result Z Fault). Answers {A = B × List Change} w (λ z. (h z, later)) (f x now)) (n tt) a in
+      (λ (w : Result Z CheckFault). Answers {A = B × List Change} w (λ z. (h z, later)) (f x now)) (n tt) a in
       stepped_fault (one_more f) ([], cs) xs i (map h done, now) x (Broken rule place) lt at r
       (ap (λ j. j >>= (λ p. Yes (map h done ++ p.0 ∷ [], p.1))) told)
 
@@ -60,7 +61,8 @@ module _ {S A : Type 0} (f : S → A → Judged S) (s : S) (xs : List A) (i : �
   pub next_at : (u : S) → i < length xs → Stepped f s xs i t → f t (get_or xs i d) ≡ Yes u → Stepped f s xs (i + 1) u
   next_at u lt r h = stepped_next f s xs i t (get_or xs i d) u lt (get_or_default xs i d (get_or xs i d) lt) r h
 
-  pub fault_at : (e : Fault) → i < length xs → Stepped f s xs i t → Told e (f t (get_or xs i d)) → Told e (steps f s xs)
+  pub fault_at : (e : CheckFault) → i < length xs → Stepped f s xs i t → Told e (f t (get_or xs i d))
+      → Told e (steps f s xs)
   fault_at e lt r h = stepped_fault f s xs i t (get_or xs i d) e lt (get_or_default xs i d (get_or xs i d) lt) r h
 
 -- ---- case elements: the constants seen are passed along too
@@ -79,8 +81,8 @@ module _ (c : Context) (Γ : List Region) (o : Ordinal) (es : List Element) (cs 
   collected_start = record { rest = refl }
 
   pub collected_next : (i : ℕ) (seen further : List ℤ) (done new : List CaseElement) (now later : List Change)
-      (x : Element) (answer : Result CaseElement Fault) → i < length es → x ≡ get_or es i x → Collected i seen done now
-      → Answers answer (λ z. (element_of z, later)) (element x c Γ o seen now) → IfOk answer
+      (x : Element) (answer : Result CaseElement CheckFault) → i < length es → x ≡ get_or es i x
+      → Collected i seen done now → Answers answer (λ z. (element_of z, later)) (element x c Γ o seen now) → IfOk answer
       (λ z. further ≡ seen ++ (element_of z).0) → IsOkAnd answer (λ z. new ≡ done ++ z ∷ []) → Collected
       (i + 1) further new later
   collected_next i seen further done new now later x (Ok z) lt at r a s n =
@@ -95,14 +97,14 @@ module _ (c : Context) (Γ : List Region) (o : Ordinal) (es : List Element) (cs 
   collected_next i seen further done new now later x (Err fault) lt at r a s n = absurd n
 
   pub collected_fault : (i : ℕ) (seen : List ℤ) (done : List CaseElement) (now later : List Change) (x : Element)
-      (answer : Result CaseElement Fault) (fault : Fault) → i < length es → x ≡ get_or es i x
+      (answer : Result CaseElement CheckFault) (fault : CheckFault) → i < length es → x ≡ get_or es i x
       → Collected i seen done now → Answers answer (λ z. (element_of z, later)) (element x c Γ o seen now)
       → (IsFault fault → answer ≡ Err fault) → Told fault (elements c Γ o (map element es) cs)
   collected_fault i seen done now later x answer OutOfMemory lt at r a n = tt
   collected_fault i seen done now later x answer (Broken rule place) lt at r a n =
       let told : Told (Broken rule place) (element x c Γ o seen now) = subst
-      (λ (w : Result CaseElement Fault). Answers w (λ z. (element_of z, later)) (element x c Γ o seen now)) (n tt) a
-      in
+      (λ (w : Result CaseElement CheckFault). Answers w (λ z. (element_of z, later)) (element x c Γ o seen now)) (n tt)
+      a in
       let step : Told (Broken rule place) (one_step c Γ o ((seen, map element_of done), now) (element x)) =
       ap (λ j. j >>= (λ p. Yes ((seen ++ p.0.0, map element_of done ++ p.0 ∷ []), p.1))) told in
       told_bind (Broken rule place) (steps (one_step c Γ o) (([], []), cs) (map element es)) (λ p. Yes (p.0.1, p.1))
@@ -123,7 +125,7 @@ module _ {A B C P Z : Type 0} (at : ℕ) (f : A → B → Changing C) (g : P →
   pub actuals_uneven : map g ps ≡ xs → (length ps ≡ length qs → ⊥) → congruent at f xs qs cs ≡ No NotCongruous at
   actuals_uneven l unlike = sym as_listed ∙ congruent_uneven at f g (λ q. q) xs ps qs cs l unlike
 
-  pub actuals_told : (fault : Fault) → map g ps ≡ xs → length ps ≡ length qs → Told fault
+  pub actuals_told : (fault : CheckFault) → map g ps ≡ xs → length ps ≡ length qs → Told fault
       (each_both f (map g ps) (map (λ q. q) qs) cs) → Told fault (congruent at f xs qs cs)
   actuals_told fault l e t = subst (Told fault) (sym (congruent_even at f g (λ q. q) xs ps qs cs l e) ∙ as_listed) t
 

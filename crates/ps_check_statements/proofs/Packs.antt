@@ -5,7 +5,7 @@ use Rattle.ps_tree.specs.declared.tree.Expr.{Expr}
 use Rattle.ps_tree.specs.declared.types.Ordinal.{Ordinal}
 use Rattle.ps_tree.specs.View.{expr_of}
 use Rattle.ps_check_judgement.specs.declared.change.Change.{Change}
-use Rattle.ps_check_judgement.specs.declared.refusal.Fault.{Fault}
+use Rattle.ps_check_judgement.specs.declared.refusal.CheckFault.{CheckFault}
 use Rattle.ps_check_judgement.specs.Judged.{Told, Answers, both}
 use Rattle.ps_check_judgement.specs.Changing.{still}
 use Rattle.ps_check_names.specs.Spelling.{line_in}
@@ -18,8 +18,9 @@ use Rattle.ps_check_statements.specs.Procedures.{unpack_statement}
 use Rattle.ps_check_statements.proofs.Paired.{three_told, three_yes}
 
 module _ (c : Context) (Γ : List Region) (at : ℕ) (ps : List Parameter) (cs d1 d2 d3 : List Change) where
-  module _ (a i z : Parameter) (x : Result TypedPlace Fault) (y : Result (Expr × Ordinal) Fault) (w : Result TypedPlace Fault) where
-    pub pack_told : (e : Fault) → ps ≡ a ∷ i ∷ z ∷ [] → Answers x (λ v. (variable_of v, d1))
+  module _ (a i z : Parameter) (x : Result TypedPlace CheckFault) (y : Result (Expr × Ordinal) CheckFault)
+      (w : Result TypedPlace CheckFault) where
+    pub pack_told : (e : CheckFault) → ps ≡ a ∷ i ∷ z ∷ [] → Answers x (λ v. (variable_of v, d1))
         (parameter_variable c Γ a cs) → Answers y (λ v. ((expr_of v.0, v.1), d2)) (parameter_index c Γ i d1) → Answers w
         (λ v. (variable_of v, d3)) (parameter_variable c Γ z d2) → Err e ≡ both x (both y w) → Told e
         (pack_statement c Γ at ps cs)
@@ -45,8 +46,8 @@ module _ (c : Context) (Γ : List Region) (at : ℕ) (ps : List Parameter) (cs d
         (λ p q r. still (packed_from (places_of a z i) p.0 r.0 (line_in c.text (first_of_parameter i)) q.0) r.1) v j
         u hx hy hw q
 
-  module _ (z a i : Parameter) (x y : Result TypedPlace Fault) (w : Result (Expr × Ordinal) Fault) where
-    pub unpack_told : (e : Fault) → ps ≡ z ∷ a ∷ i ∷ [] → Answers x (λ v. (variable_of v, d1))
+  module _ (z a i : Parameter) (x y : Result TypedPlace CheckFault) (w : Result (Expr × Ordinal) CheckFault) where
+    pub unpack_told : (e : CheckFault) → ps ≡ z ∷ a ∷ i ∷ [] → Answers x (λ v. (variable_of v, d1))
         (parameter_variable c Γ z cs) → Answers y (λ v. (variable_of v, d2)) (parameter_variable c Γ a d1) → Answers w
         (λ v. ((expr_of v.0, v.1), d3)) (parameter_index c Γ i d2) → Err e ≡ both x (both y w) → Told e
         (unpack_statement c Γ at ps cs)

@@ -1,9 +1,10 @@
--- One name within one number of opened records denotes a variable of one type.
-use Rattle.std.proofs.Common.{◌≡◌, ◌≢◌, ◌+◌, ◌-◌, ◌≤◌, ◌⊎◌, inl, inr, ℕ, Bool, false, List, [], ◌∷◌, ◌++◌, length, take}
-use Rattle.std.proofs.Common.{set, Option, Some, None, refl, sym, ap, ◌∙◌, arith, slice_get, not}
-use Rattle.std.specs.Prelude.{if◌then◌else◌}
-use Rattle.std.proofs.lemmas.List.{length-append, take-append-le}
-use Rattle.std.proofs.lemmas.Option.{slice_get_within}
+-- What one source gives is alike.
+use Rattle.std.proofs.Common.{◌≡◌, ◌≢◌, ◌⊎◌, inl, inr, ℕ, Bool, true, false, List, [], ◌∷◌, ◌++◌, length, set, Option}
+use Rattle.std.proofs.Common.{Some, None, option_map, refl, sym, ap, ◌∙◌, arith, slice_get, not, subst}
+use Rattle.std.proofs.Common.{Result, Ok, Err, IfOk, IfSome}
+use Rattle.std.specs.Prelude.{if◌then◌else◌, option_and_then}
+use Rattle.std.proofs.lemmas.List.{length-append}
+use Rattle.std.proofs.lemmas.Option.{same_Some}
 use Rattle.ps_text.specs.declared.Span.{Span}
 use Rattle.ps_syntax.specs.declared.expression.Variable as syntax
 use Rattle.ps_syntax.specs.declared.expression.Selector.{Selector}
@@ -12,7 +13,7 @@ use Rattle.ps_tree.specs.declared.line.Line.{Line}
 use Rattle.ps_tree.specs.declared.tree.Selector as Steps
 use Rattle.ps_tree.specs.declared.types.Ty.{Ty}
 use Rattle.ps_tree.specs.Types.{DataType, OrdinalType, PointerType, NilType, SetType, EmptySetType, TextType, ArrayType}
-use Rattle.ps_tree.specs.Types.{RecordType}
+use Rattle.ps_tree.specs.Types.{RecordType, outline}
 use Rattle.ps_tree.specs.Tree as Tree
 use Rattle.ps_tree.specs.Chains.{selected, selector_after}
 use Rattle.ps_tree.specs.View.{type_of, selector_of, selectors_of}
@@ -27,6 +28,9 @@ use Rattle.ps_check_names.specs.Regions.{VariableMeaning, ParameterMeaning, Rout
 use Rattle.ps_check_names.specs.Regions.{FileMeaning, RequiredMeaning, LeftOutMeaning, BlockPoint, FieldPoint, find}
 use Rattle.ps_check_names.specs.Spelling.{place, has, spelled, line_in}
 use Rattle.ps_check_names.specs.Views.{opened_in}
+use Rattle.ps_check_names.specs.Alike.{block_at, record_at, outline_of, outline_in, outline_in_block, outline_in_record}
+use Rattle.ps_check_names.specs.Alike.{IsPlace}
+use Rattle.ps_check_names.proofs.AlikeLemmas.{block_past}
 use Rattle.ps_check_names.proofs.NoteLemmas.{none_some, some_none, none_any, eq-or-not, last_or, placed}
 use Rattle.ps_check_expressions.specs.Values.{Variable}
 use Rattle.ps_check_expressions.specs.Places.{variable_at, target}
@@ -35,11 +39,12 @@ use Rattle.ps_check_expressions.proofs.Equations.{select_content}
 use Rattle.ps_check_expressions.proofs.Judgement.{variable_variable}
 use Rattle.ps_check_statements.specs.declared.known.Known.{Known}
 use Rattle.ps_check_statements.specs.declared.known.Source.{Source}
-use Rattle.ps_check_statements.specs.declared.known.Source.TheVariants.{Named, Pointed}
-use Rattle.ps_check_statements.specs.Known.{type_at, type_named, IsGiven, Gives, KnownBy, Knows, IsVariable, base_in}
-use Rattle.ps_check_statements.specs.Known.{Targets, IsSource}
-use Rattle.ps_check_statements.proofs.Closest.{base_at, closest, end_there, kept_there, no_yes, put_apart, put_there}
-use Rattle.ps_check_statements.proofs.Closest.{some_inside, still_there, yes_inside}
+use Rattle.ps_check_statements.specs.declared.known.Source.TheVariants as src
+use Rattle.ps_check_statements.specs.Known.{given, IsGiven, Gives, KnownBy, Knows, IsVariable, Targets, IsLikeField}
+use Rattle.ps_check_statements.specs.Known.{IsBase, IsSource}
+use Rattle.ps_check_statements.proofs.Closest.{Formed, formed_opened, block_found, field_found, record_inside}
+use Rattle.ps_check_statements.proofs.Closest.{record_outside, end_there, kept_there, no_yes, put_apart, put_there}
+use Rattle.ps_check_statements.proofs.Closest.{yes_inside}
 
 -- ---- the variable of a `with`
 
@@ -76,54 +81,35 @@ module _ (c : Context) (Γ : List Region) (x : syntax.Variable) (cs ds : List Ch
       (ap (λ f. f cs) (variable_variable c Γ x))
       ∙ e)
 
-abbrev base_in_place : ℕ → Tree.Place → ℕ
-base_in_place count (Tree.Variable base selectors) = base_in count base
+-- ---- a variable that is denoted, by its point
 
--- a variable that is denoted, by its point
+abbrev PointIs : Point → Variable → Type 0
+PointIs (BlockPoint up m) v = (entry : ℕ) × (outline_of m ≡ Some (outline v.type))
+    × (v.place ≡ Tree.Variable (Tree.Entry up entry) Tree.no_selector)
+PointIs (FieldPoint which record_type number type) v = (type ≡ v.type)
+    × (v.place ≡ Tree.Variable (Tree.Opened which record_type number) Tree.no_selector)
+
 module _ (at : ℕ) (v : Variable) where
-  variable_is : (count : ℕ) (p : Point) → variable_at at p ≡ Yes v → (type_at p ≡ Some v.type)
-      × (base_at count p ≡ base_in_place count v.place)
+  variable_is : (p : Point) → variable_at at p ≡ Yes v → PointIs p v
   unfolding variable_at misplacement
-  variable_is count (BlockPoint up (VariableMeaning entry type)) e = let z = yes_inside _ v e in
-      (ap (λ v. Some v.type) z, ap (λ v. base_in_place count v.place) z)
-  variable_is count (BlockPoint up (ParameterMeaning entry type)) e = let z = yes_inside _ v e in
-      (ap (λ v. Some v.type) z, ap (λ v. base_in_place count v.place) z)
-  variable_is count (BlockPoint up (ConstantMeaning o n)) e = no_yes _ _ v e
-  variable_is count (BlockPoint up (TextMeaning w)) e = no_yes _ _ v e
-  variable_is count (BlockPoint up (TypeMeaning type)) e = no_yes _ _ v e
-  variable_is count (BlockPoint up (RoutineParameterMeaning entry sections result)) e = no_yes _ _ v e
-  variable_is count (BlockPoint up (RoutineMeaning heading)) e = no_yes _ _ v e
-  variable_is count (BlockPoint up (FileMeaning file)) e = no_yes _ _ v e
-  variable_is count (BlockPoint up (RequiredMeaning routine)) e = no_yes _ _ v e
-  variable_is count (BlockPoint up LeftOutMeaning) e = no_yes _ _ v e
-  variable_is count (FieldPoint which record_type number type) e = let z = yes_inside _ v e in
-      (ap (λ v. Some v.type) z, ap (λ v. base_in_place count v.place) z)
+  variable_is (BlockPoint up (VariableMeaning entry type)) e = let z = yes_inside _ v e in
+      (entry, ap (λ v. Some (outline v.type)) z, ap (λ v. v.place) (sym z))
+  variable_is (BlockPoint up (ParameterMeaning entry type)) e = let z = yes_inside _ v e in
+      (entry, ap (λ v. Some (outline v.type)) z, ap (λ v. v.place) (sym z))
+  variable_is (BlockPoint up (ConstantMeaning o n)) e = no_yes _ _ v e
+  variable_is (BlockPoint up (TextMeaning w)) e = no_yes _ _ v e
+  variable_is (BlockPoint up (TypeMeaning type)) e = no_yes _ _ v e
+  variable_is (BlockPoint up (RoutineParameterMeaning entry sections result)) e = no_yes _ _ v e
+  variable_is (BlockPoint up (RoutineMeaning heading)) e = no_yes _ _ v e
+  variable_is (BlockPoint up (FileMeaning file)) e = no_yes _ _ v e
+  variable_is (BlockPoint up (RequiredMeaning routine)) e = no_yes _ _ v e
+  variable_is (BlockPoint up LeftOutMeaning) e = no_yes _ _ v e
+  variable_is (FieldPoint which record_type number type) e = let z = yes_inside _ v e in
+      (ap (λ v. v.type) z, ap (λ v. v.place) (sym z))
 
-  variable_bare : (p : Point) → variable_at at p ≡ Yes v → (base : Tree.PlaceBase)
-      × (v.place ≡ Tree.Variable base Tree.no_selector)
-  unfolding variable_at misplacement
-  variable_bare (BlockPoint up (VariableMeaning entry type)) e = (
-    Tree.Entry up entry,
-    ap (λ v. v.place)
-        (sym (yes_inside _ v e)),
-  )
-  variable_bare (BlockPoint up (ParameterMeaning entry type)) e = (
-    Tree.Entry up entry,
-    ap (λ v. v.place)
-        (sym (yes_inside _ v e)),
-  )
-  variable_bare (BlockPoint up (ConstantMeaning o n)) e = no_yes _ _ v e
-  variable_bare (BlockPoint up (TextMeaning w)) e = no_yes _ _ v e
-  variable_bare (BlockPoint up (TypeMeaning type)) e = no_yes _ _ v e
-  variable_bare (BlockPoint up (RoutineParameterMeaning entry sections result)) e = no_yes _ _ v e
-  variable_bare (BlockPoint up (RoutineMeaning heading)) e = no_yes _ _ v e
-  variable_bare (BlockPoint up (FileMeaning file)) e = no_yes _ _ v e
-  variable_bare (BlockPoint up (RequiredMeaning routine)) e = no_yes _ _ v e
-  variable_bare (BlockPoint up LeftOutMeaning) e = no_yes _ _ v e
-  variable_bare (FieldPoint which record_type number type) e = (
-    Tree.Opened which record_type number,
-    ap (λ v. v.place) (sym (yes_inside _ v e)),
-  )
+  variable_bare : (p : Point) → PointIs p v → (base : Tree.PlaceBase) × (v.place ≡ Tree.Variable base Tree.no_selector)
+  variable_bare (BlockPoint up m) is = (Tree.Entry up is.0, is.2)
+  variable_bare (FieldPoint which record_type number type) is = (Tree.Opened which record_type number, is.1)
 
 -- what a pointer identifies is of its type's domain
 targeted : (first : ℕ) (domains : List DataType) (w : Tree.Place) (base : Tree.PlaceBase) (type : DataType)
@@ -164,41 +150,114 @@ targeted first domains w base type line pointer v selectors of bare e placed tar
     by (ArrayType at packed index component) e = no_yes _ _ v e
     by (RecordType at packed fields) e = no_yes _ _ v e
 
--- the source of a variable's type gives it
+-- ---- the source of a variable's type gives it
+
+abbrev base_of_place : Tree.Place → Tree.PlaceBase
+base_of_place (Tree.Variable base selectors) = base
+
+abbrev up_in : Tree.PlaceBase → ℕ
+up_in (Tree.Entry up index) = up
+up_in (Tree.Opened which type number) = 0
+
+abbrev which_in : Tree.PlaceBase → ℕ
+which_in (Tree.Entry up index) = 0
+which_in (Tree.Opened which type number) = which
+
+abbrev type_in : DataType → Tree.PlaceBase → DataType
+type_in d (Tree.Entry up index) = d
+type_in d (Tree.Opened which type number) = type
+
+abbrev number_in : Tree.PlaceBase → ℕ
+number_in (Tree.Entry up index) = 0
+number_in (Tree.Opened which type number) = number
+
+abbrev is_entry : Tree.PlaceBase → Bool
+is_entry (Tree.Entry up index) = true
+is_entry (Tree.Opened which type number) = false
+
+other_base : {A : Type 0} → true ≡ false → A
+other_base e = absurd (cc)
+
 module _ (c : Context) (Γ : List Region) (types : List Ty) (x : syntax.Variable) (type : DataType) where
-  given_by_name : (base : Tree.PlaceBase) (selectors : Tree.Selectors) (n : ℕ)
-      → IsVariable c (opened_in Γ types) x (Tree.Variable base selectors) type → x.selectors ≡ [] → n
-      ≡ base_in (length types) base → IsGiven c.domains Γ types (spelled c.text x.name) (Named n) type
-  given_by_name base selectors n is none at =
+  -- the point of the variable's name
+  abbrev Denoted : Tree.PlaceBase → Type 0
+  Denoted base = (p : Point) × (v : Variable) × (find (opened_in Γ types) (spelled c.text x.name) x.name.from ≡ Yes p)
+      × PointIs p v × (v.type ≡ type) × (base_of_place v.place ≡ base)
+
+  denoted : (base : Tree.PlaceBase) (selectors : Tree.Selectors)
+      → IsVariable c (opened_in Γ types) x (Tree.Variable base selectors) type → x.selectors ≡ [] → Denoted base
+  denoted base selectors is none =
       let f = found_of c (opened_in Γ types) x is.before is.behind is.variable [] none is.denoted in
-      let w : f.2.0 ≡ is.variable = ap (λ p. p.0) (yes_inside (f.2.0, is.before) (is.variable, is.behind) f.2.2) in
-      let p = variable_is x.name.from f.2.0 (length types) f.0 f.2.1 in
-      let b : base_at (length types) f.0 ≡ n = p.1 ∙ ap (λ v. base_in_place (length types) v.place) w
-      ∙ ap (base_in_place (length types)) is.placed ∙ sym at in
-      let t : type_at f.0 ≡ Some type = p.0 ∙ ap (λ v. Some v.type) w ∙ ap (λ t. Some t) is.typed in (
-        few base n at,
-        ap (λ n. type_named (opened_in Γ (take n types)) (spelled c.text x.name)) (sym b)
-            ∙ closest (spelled c.text x.name) x.name.from f.0 type t types Γ f.1,
+      let w : f.2.0 ≡ is.variable = ap (λ p. p.0) (yes_inside (f.2.0, is.before) (is.variable, is.behind) f.2.2) in (
+        f.0,
+        f.2.0,
+        f.1,
+        variable_is x.name.from f.2.0 f.0 f.2.1,
+        ap (λ v. v.type) w ∙ is.typed,
+        ap (λ v. base_of_place v.place) w ∙ ap base_of_place is.placed,
       )
+
+  given_in_block : (up index place : ℕ) → Denoted (Tree.Entry up index)
+      → IsPlace (block_at up Γ) (spelled c.text x.name) place → outline_in_block (block_at up Γ) place
+      ≡ Some (outline type)
+  given_in_block up index at d is = by d.0 d.2 d.3
     where
-      few : (base : Tree.PlaceBase) (n : ℕ) → n ≡ base_in (length types) base → n ≤ length types
-      few (Tree.Entry up index) n e = omega (arith, e)
-      few (Tree.Opened which record_type number) n e = omega (arith, e)
+      v : Variable
+      v = d.1
+
+      by : (p : Point) → find (opened_in Γ types) (spelled c.text x.name) x.name.from ≡ Yes p → PointIs p v
+          → outline_in_block (block_at up Γ) at ≡ Some (outline type)
+      by (FieldPoint which record_type number t) e q = other_base
+          (sym (ap is_entry (sym (ap base_of_place q.1) ∙ d.5)))
+      by (BlockPoint u m) e q =
+          let h = block_found (spelled c.text x.name) x.name.from (opened_in Γ types) 0 0 u m e in
+          let same : u ≡ up = ap up_in (sym (ap base_of_place q.2) ∙ d.5) in
+          let here : h.0 ≡ up = (let z = h.3 in omega (arith, z, same)) in
+          let block : block_at up Γ ≡ Some h.1 = sym (block_past up types Γ)
+          ∙ ap (λ n. block_at n (opened_in Γ types)) (sym here) ∙ h.4 in
+          let other : is.0 ≡ h.1 = same_Some is.0 h.1 (sym is.2 ∙ block) in
+          let there : is.1 ≡ h.2 = same_Some is.1 h.2
+          (sym is.3 ∙ ap (λ b. place b.0 (spelled c.text x.name)) other ∙ h.5) in
+          ap (λ b. outline_in_block b at) is.2 ∙ is.4
+          ∙ ap (λ b. outline_in b.1 is.1) other ∙ ap (outline_in h.1.1) there
+          ∙ ap (option_and_then outline_of) h.6 ∙ q.1
+          ∙ ap (λ t. Some (outline t)) d.4
+
+  given_in_record : (which number field : ℕ) (record_type : DataType) → Formed Γ
+      → Denoted (Tree.Opened which record_type number) → IsLikeField record_type number field
+      → outline_in_record (record_at which (opened_in Γ types)) field ≡ Some (outline type)
+  given_in_record which number field record_type formed d like = by d.0 d.2 d.3
+    where
+      v : Variable
+      v = d.1
+
+      by : (p : Point) → find (opened_in Γ types) (spelled c.text x.name) x.name.from ≡ Yes p → PointIs p v
+          → outline_in_record (record_at which (opened_in Γ types)) field ≡ Some (outline type)
+      by (BlockPoint u m) e q = other_base (ap is_entry (sym (ap base_of_place q.2) ∙ d.5))
+      by (FieldPoint w r n t) e q =
+          let h = field_found (spelled c.text x.name) x.name.from (opened_in Γ types) 0 0 w r n t
+          (formed_opened types Γ formed) e in
+          let base = sym (ap base_of_place q.1) ∙ d.5 in
+          let place : h.0 ≡ which = (let z = h.1 in let y : w ≡ which = ap which_in base in omega (arith, z, y)) in
+          let one : r ≡ record_type = ap (type_in r) base in
+          let same : n ≡ number = ap number_in base in
+          ap (λ n. outline_in_record (record_at n (opened_in Γ types)) field) (sym place)
+          ∙ ap (λ o. outline_in_record o field) h.2 ∙ ap (λ r. outline_in_record (Some r) field) one ∙ like
+          ∙ ap (outline_in_record (Some record_type)) (sym same)
+          ∙ ap (λ r. outline_in_record (Some r) n) (sym one)
+          ∙ h.3 ∙ ap (λ t. Some (outline t)) (q.0 ∙ d.4)
 
   given_by_pointer : (base : Tree.PlaceBase) (selectors : Tree.Selectors) (pointer : ℕ) (at : Span)
       → IsVariable c (opened_in Γ types) x (Tree.Variable base selectors) type → x.selectors ≡ Content at ∷ []
-      → Targets selectors pointer → IsGiven c.domains Γ types (spelled c.text x.name) (Pointed pointer) type
+      → Targets selectors pointer → IsGiven c.domains Γ types (src.Pointed pointer) type
   given_by_pointer base selectors pointer at is one targets =
       let f = found_of c (opened_in Γ types) x is.before is.behind is.variable (Content at ∷ []) one is.denoted in
-      let bare = variable_bare x.name.from f.2.0 f.0 f.2.1 in
+      let bare = variable_bare x.name.from f.2.0 f.0 (variable_is x.name.from f.2.0 f.0 f.2.1) in
       let e = last (target x.name.from c.domains f.2.0.place f.2.0.type (line_in c.text at.from))
       (sym (ap (λ (g : Step Variable). j.◌>>=◌ {A = Variable × List Change} {B = Variable × List Change}
-      (g x.name.from f.2.0 is.before) (λ q. Yes q)) (select_content c (opened_in Γ types) at)) ∙ f.2.2) in (
-        tt,
-        targeted x.name.from c.domains f.2.0.place bare.0 f.2.0.type (line_in c.text at.from) pointer is.variable
-            selectors base bare.1 e is.placed targets
-            ∙ ap (λ t. Some t) is.typed,
-      )
+      (g x.name.from f.2.0 is.before) (λ q. Yes q)) (select_content c (opened_in Γ types) at)) ∙ f.2.2) in
+      ap (option_map outline) (targeted x.name.from c.domains f.2.0.place bare.0 f.2.0.type (line_in c.text at.from)
+      pointer is.variable selectors base bare.1 e is.placed targets) ∙ ap (λ t. Some (outline t)) is.typed
     where
       last : (o : Judged Variable) → j.◌>>=◌ {A = Variable × List Change} {B = Variable × List Change}
           (still o is.before) (λ q. Yes q) ≡ Yes (is.variable, is.behind) → o ≡ Yes is.variable
@@ -206,14 +265,57 @@ module _ (c : Context) (Γ : List Region) (types : List Ty) (x : syntax.Variable
       last (Yes w) e = ap (λ w. Yes w) (ap (λ p. p.0) (yes_inside (w, is.before) (is.variable, is.behind) e))
 
 pub source_given : (c : Context) (Γ : List Region) (types : List Ty) (x : syntax.Variable) (base : Tree.PlaceBase)
-    (selectors : Tree.Selectors) (source : Source) (type : DataType)
+    (selectors : Tree.Selectors) (source : Source) (type : DataType) → Formed Γ
     → IsVariable c (opened_in Γ types) x (Tree.Variable base selectors) type
-    → IsSource x (Tree.Variable base selectors) (length types) source
-    → IsGiven c.domains Γ types (spelled c.text x.name) source type
-source_given c Γ types x base selectors (Named n) type is source =
-    given_by_name c Γ types x type base selectors n is source.0 source.1
-source_given c Γ types x base selectors (Pointed pointer) type is source =
+    → IsSource (spelled c.text x.name) Γ x (Tree.Variable base selectors) (length types) source
+    → IsGiven c.domains Γ types source type
+source_given c Γ types x base selectors (src.Pointed pointer) type formed is source =
     given_by_pointer c Γ types x type base selectors pointer source.0 is source.1 source.2
+source_given c Γ types x (Tree.Entry up index) selectors (src.Variable v at) type formed is source =
+    ap (λ n. outline_in_block (block_at n Γ) at) source.1.0
+    ∙ given_in_block c Γ types x type up index at (denoted c Γ types x type (Tree.Entry up index) selectors is source.0)
+    source.1.1
+source_given c Γ types x (Tree.Entry up index) selectors (src.Own r field) type formed is source = absurd (source.1)
+source_given c Γ types x (Tree.Entry up index) selectors (src.Outer w field) type formed is source = absurd (source.1)
+source_given c Γ types x (Tree.Opened which u number) selectors (src.Variable v at) type formed is source =
+    absurd (source.1)
+source_given c Γ types x (Tree.Opened which u number) selectors (src.Own r field) type formed is source =
+    ap (λ o. outline_in_record o field) (sym (record_inside types Γ which r source.1.0))
+    ∙ given_in_record c Γ types x type which number field u formed
+    (denoted c Γ types x type (Tree.Opened which u number) selectors is source.0) source.1.1
+source_given c Γ types x (Tree.Opened which u number) selectors (src.Outer w field) type formed is source =
+    ap (λ o. outline_in_record o field) (sym (record_outside types Γ w))
+    ∙ ap (λ n. outline_in_record (record_at n (opened_in Γ types)) field) source.1.0
+    ∙ given_in_record c Γ types x type which number field u formed
+    (denoted c Γ types x type (Tree.Opened which u number) selectors is source.0) source.1.1
+
+-- a source of a name alone, or of what a pointer identifies
+pub source_by_name : (spelling : List ℕ) (Γ : List Region) (x : syntax.Variable) (base : Tree.PlaceBase)
+    (selectors : Tree.Selectors) (count : ℕ) (source : Source) → x.selectors ≡ [] → IsBase spelling Γ base count source
+    → IsSource spelling Γ x (Tree.Variable base selectors) count source
+source_by_name spelling Γ x base selectors count (src.Variable up at) none is = (none, is)
+source_by_name spelling Γ x base selectors count (src.Own r field) none is = (none, is)
+source_by_name spelling Γ x base selectors count (src.Outer w field) none is = (none, is)
+source_by_name spelling Γ x (Tree.Entry up index) selectors count (src.Pointed number) none is = absurd is
+source_by_name spelling Γ x (Tree.Opened which type n) selectors count (src.Pointed number) none is = absurd is
+
+pub source_by_target : (spelling : List ℕ) (Γ : List Region) (x : syntax.Variable) (base : Tree.PlaceBase)
+    (selectors : Tree.Selectors) (count : ℕ) (source : Source) (number : ℕ) (at : Span) → source ≡ src.Pointed number
+    → x.selectors ≡ Content at ∷ [] → Targets selectors number
+    → IsSource spelling Γ x (Tree.Variable base selectors) count source
+source_by_target spelling Γ x base selectors count source number at e one targets =
+    subst (IsSource spelling Γ x (Tree.Variable base selectors) count) (sym e) (at, one, targets)
+
+pub some_one : {A : Type 0} (o : Option A) (P Q : A → Type 0) → ((x : A) → P x → Q x) → IfSome o P → IfSome o Q
+some_one (Some x) P Q h e = h x e
+some_one None P Q h e = tt
+
+-- what is known of an answer that may be none
+pub some_too : {A E : Type 0} (r : Result (Option A) E) (P Q : A → Type 0) → ((x : A) → P x → Q x)
+    → IfOk r (λ o. IfSome o P) → IfOk r (λ o. IfSome o Q)
+some_too (Ok (Some x)) P Q h e = h x e
+some_too (Ok None) P Q h e = tt
+some_too (Err x) P Q h e = tt
 
 -- ---- selectors
 
@@ -223,113 +325,94 @@ empty_of (x ∷ xs) e = absurd (some_none e)
 
 pub single_of : {A : Type 0} (xs : List A) (x : A) → slice_get xs 0 ≡ Some x → length xs ≡ 1 → xs ≡ x ∷ []
 single_of [] x e l = absurd (none_some e)
-single_of (y ∷ []) x e l = ap (λ y. y ∷ []) (some_inside y x e)
+single_of (y ∷ []) x e l = ap (λ y. y ∷ []) (same_Some y x e)
 single_of (y ∷ z ∷ xs) x e l = absurd (omega (arith, l))
 
 pub targets_of : (xs : List Steps.Selector) (x : Steps.Selector) (pointer : ℕ) (line : Line) → slice_get xs 0 ≡ Some x
     → x ≡ Steps.Target pointer line → Targets (selectors_of xs) pointer
 unfolding selectors_of selector_of
 targets_of [] x pointer line e is = absurd (none_some e)
-targets_of (y ∷ xs) x pointer line e is = by y (some_inside y x e ∙ is)
+targets_of (y ∷ xs) x pointer line e is = by y (same_Some y x e ∙ is)
   where
     by : (y : Steps.Selector) → y ≡ Steps.Target pointer line → Targets (selectors_of (y ∷ xs)) pointer
     by y q = rw q refl
 
 -- ---- the records that are known
 
-module _ (domains : List DataType) (Γ : List Region) (records : List Ty) (s : List ℕ) where
-  given_more : (ty : Ty) (source : Source) (type : DataType) → IsGiven domains Γ records s source type
-      → IsGiven domains Γ (records ++ ty ∷ []) s source type
-  given_more ty (Named n) type h =
-      let l = h.0 in
-      let e = length-append records (ty ∷ []) in (
-        omega (arith, l, e),
-        ap (λ l. type_named (opened_in Γ l) s) (take-append-le n records (ty ∷ []) l) ∙ h.1,
-      )
-  given_more ty (Pointed n) type h = h
+module _ (domains : List DataType) (Γ : List Region) (records : List Ty) where
+  given_more : (ty : Ty) (source : Source) (o : List (List ℕ) × ℕ) → given domains Γ records source ≡ Some o
+      → given domains Γ (records ++ ty ∷ []) source ≡ Some o
+  given_more ty (src.Variable up at) o h = h
+  given_more ty (src.Outer which field) o h = h
+  given_more ty (src.Pointed number) o h = h
+  given_more ty (src.Own r field) o h = by (slice_get records r) refl h
+    where
+      by : (k : Option Ty) → slice_get records r ≡ k → outline_in_record (option_map type_of k) field ≡ Some o
+          → outline_in_record (option_map type_of (slice_get (records ++ ty ∷ []) r)) field ≡ Some o
+      by None e h = absurd (none_some h)
+      by (Some u) e h = ap (λ k. outline_in_record (option_map type_of k) field) (kept_there records ty r u e) ∙ h
 
-  gives_more : (ty : Ty) (source : Source) (number : ℕ) → Gives domains Γ records s source number
-      → Gives domains Γ (records ++ ty ∷ []) s source number
+  gives_more : (ty : Ty) (source : Source) (number : ℕ) → Gives domains Γ records source number
+      → Gives domains Γ (records ++ ty ∷ []) source number
   gives_more ty source number h = (
     h.0,
     kept_there records ty number h.0 h.1,
-    given_more ty source (type_of h.0) h.2,
+    given_more ty source (outline (type_of h.0)) h.2,
   )
 
-  -- the last record is of the type that the source gives
+  -- the last record is alike what the source gives
   pub gives_last : (ty : Ty) (source : Source) (number : ℕ) → number ≡ length records
-      → IsGiven domains Γ records s source (type_of ty) → Gives domains Γ (records ++ ty ∷ []) s source number
+      → IsGiven domains Γ records source (type_of ty) → Gives domains Γ (records ++ ty ∷ []) source number
   gives_last ty source number last h = (
     ty,
     ap (slice_get (records ++ ty ∷ [])) last ∙ end_there records ty,
-    given_more ty source (type_of ty) h,
+    given_more ty source (outline (type_of ty)) h,
   )
 
-  -- what it gives is one type
-  pub gives_one : (source : Source) (number : ℕ) (type : DataType) (other : Ty)
-      → Gives domains Γ records s source number
-      → IsGiven domains Γ records s source type → slice_get records number ≡ Some other → type ≡ type_of other
+  -- all that it gives is alike
+  pub gives_one : (source : Source) (number : ℕ) (type : DataType) (other : Ty) → Gives domains Γ records source number
+      → IsGiven domains Γ records source type → slice_get records number ≡ Some other → outline type
+      ≡ outline (type_of other)
   gives_one source number type other h g is =
-      some_inside type (type_of other) (sym g.1 ∙ h.2.1 ∙ ap (λ t. Some (type_of t))
-      (some_inside h.0 other (sym h.1 ∙ is)))
+      same_Some (outline type) (outline (type_of other)) (sym g ∙ h.2 ∙ ap (λ t. Some (outline (type_of t)))
+      (same_Some h.0 other (sym h.1 ∙ is)))
 
 pub knows_more : (domains : List DataType) (Γ : List Region) (records : List Ty) (known : Known) (ty : Ty)
     → Knows domains Γ records known → Knows domains Γ (records ++ ty ∷ []) known
-knows_more domains Γ records known ty h = λ i s e there is. gives_more domains Γ records s ty e.0 e.1 (h i s e there is)
+knows_more domains Γ records known ty h = λ i e is. gives_more domains Γ records ty e.0 e.1 (h i e is)
 
-pub knows_none : (domains : List DataType) (Γ : List Region) (records : List Ty) (known : Known) → known.names ≡ []
-    → Knows domains Γ records known
-knows_none domains Γ records known none = λ i s e there is. absurd
-    (none_some (ap (λ l. slice_get l i) (sym none) ∙ there))
+pub knows_none : (domains : List DataType) (Γ : List Region) (records : List Ty) (entries : List (Source × ℕ)) → entries
+    ≡ [] → KnownBy domains Γ records entries
+knows_none domains Γ records entries none = λ i e is. absurd (none_some (ap (λ l. slice_get l i) (sym none) ∙ is))
 
 module _ (domains : List DataType) (Γ : List Region) (records : List Ty) (known : Known) where
-  -- what is known of a name that has a place
-  pub found_gives : (s : List ℕ) (index : ℕ) (e : Source × ℕ) (source : Source) → place known.names s ≡ Some index
-      → slice_get known.entries.items index ≡ Some e → e.0 ≡ source → Knows domains Γ records known
-      → Gives domains Γ records s source e.1
-  found_gives s index e source there is same h =
-      let p = placed s 0 known.names index there in
-      let z : p.0 ≡ index = (let q = p.1 in omega (arith, q)) in
-      by source same (h index s e (ap (slice_get known.names) (sym z) ∙ p.2) is)
+  -- what is known of a source
+  pub found_gives : (index : ℕ) (e : Source × ℕ) (source : Source) → slice_get known.entries.items index ≡ Some e → e.0
+      ≡ source → Knows domains Γ records known → Gives domains Γ records source e.1
+  found_gives index e source is same h = by source same (h index e is)
     where
-      by : (b : Source) → e.0 ≡ b → Gives domains Γ records s e.0 e.1 → Gives domains Γ records s b e.1
+      by : (b : Source) → e.0 ≡ b → Gives domains Γ records e.0 e.1 → Gives domains Γ records b e.1
       by b q g = rw (sym q) g
 
-  -- of a name that is known something else becomes known
-  pub knows_instead : (entries : List (Source × ℕ)) (s : List ℕ) (index : ℕ) (e : Source × ℕ) → place known.names s
-      ≡ Some index → entries ≡ set known.entries.items index e → Knows domains Γ records known
-      → Gives domains Γ records s e.0 e.1 → KnownBy domains Γ records known.names entries
-  knows_instead entries s index e at new h g = λ i t f there is. by i t f there (ap (λ l. slice_get l i) (sym new) ∙ is)
-      (eq-or-not i index)
+  -- something else becomes known
+  pub knows_instead : (entries : List (Source × ℕ)) (index : ℕ) (e : Source × ℕ) → entries ≡ set known.entries.items index
+      e → Knows domains Γ records known → Gives domains Γ records e.0 e.1 → KnownBy domains Γ records entries
+  knows_instead entries index e new h g = λ i f is. by i f (ap (λ l. slice_get l i) (sym new) ∙ is) (eq-or-not i index)
     where
-      p : (m : ℕ) × (index ≡ 0 + m) × (slice_get known.names m ≡ Some s)
-      p = placed s 0 known.names index at
-
-      by : (i : ℕ) (t : List ℕ) (f : Source × ℕ) → slice_get known.names i ≡ Some t
-          → slice_get (set known.entries.items index e) i ≡ Some f → (i ≡ index) ⊎ (i ≢ index)
-          → Gives domains Γ records t f.0 f.1
-      by i t f there is (inr n) = h i t f there (sym (put_apart known.entries.items index i e n) ∙ is)
-      by i t f there is (inl q) =
-          let z : p.0 ≡ i = (let r = p.1 in omega (arith, r, q)) in
-          let a : s ≡ t = some_inside s t (sym p.2 ∙ ap (slice_get known.names) z ∙ there) in
-          let b : e ≡ f = some_inside e f (sym (put_there known.entries.items index e f
+      by : (i : ℕ) (f : Source × ℕ) → slice_get (set known.entries.items index e) i ≡ Some f
+          → (i ≡ index) ⊎ (i ≢ index) → Gives domains Γ records f.0 f.1
+      by i f is (inr n) = h i f (sym (put_apart known.entries.items index i e n) ∙ is)
+      by i f is (inl q) =
+          let b : e ≡ f = same_Some e f (sym (put_there known.entries.items index e f
           (ap (slice_get (set known.entries.items index e)) (sym q) ∙ is))) in
-          rw (sym a, sym b) g
+          rw (sym b) g
 
-  -- one more name
-  pub knows_new : (names : List (List ℕ)) (entries : List (Source × ℕ)) (s : List ℕ) (e : Source × ℕ)
-      → length known.entries.items ≡ length known.names → names ≡ known.names ++ s ∷ [] → entries ≡ known.entries.items
-      ++ e ∷ [] → Knows domains Γ records known → Gives domains Γ records s e.0 e.1
-      → KnownBy domains Γ records names entries
-  knows_new names entries s e even named entered h g = λ i t f there is. last_or known.names s i t
-      (Gives domains Γ records t f.0 f.1) (ap (λ l. slice_get l i) (sym named) ∙ there)
-      (λ there. h i t f there
-      (sym (still_there known.entries.items e i
-      (let l = slice_get_within known.names i t there in omega (arith, l, even)))
-      ∙ ap (λ l. slice_get l i) (sym entered) ∙ is))
-      (λ q a. let b : e ≡ f = some_inside e f (sym (end_there known.entries.items e)
-      ∙ ap (slice_get (known.entries.items ++ e ∷ [])) (even ∙ sym q) ∙ ap (λ l. slice_get l i) (sym entered) ∙ is) in
-      rw (sym a, sym b) g)
+  -- one more
+  pub knows_new : (entries : List (Source × ℕ)) (e : Source × ℕ) → entries ≡ known.entries.items ++ e ∷ []
+      → Knows domains Γ records known → Gives domains Γ records e.0 e.1 → KnownBy domains Γ records entries
+  knows_new entries e entered h g = λ i f is. last_or known.entries.items e i f (Gives domains Γ records f.0 f.1)
+      (ap (λ l. slice_get l i) (sym entered) ∙ is) (λ is. h i f is)
+      (λ q b. rw (sym b) g)
 
 pub one_name : (names names' : List (List ℕ)) (s : List ℕ) (added : Bool) → place names s ≡ None → added
     ≡ not (has names s) → names' ≡ (if added then names ++ s ∷ [] else names) → names' ≡ names ++ s ∷ []

@@ -14,7 +14,7 @@ use ps_check_expressions::site::Site;
 use ps_check_expressions::value::TypedPlace;
 use ps_check_judgement::answer::{broken, push_answer};
 use ps_check_judgement::change::Change;
-use ps_check_judgement::refusal::{Fault, Rule};
+use ps_check_judgement::refusal::{CheckFault, Rule};
 use ps_check_names::sections::{Section, SectionList};
 use ps_syntax::Parameter;
 use ps_tree::tree::Argument;
@@ -36,7 +36,7 @@ pub(crate) fn parameter_variable(
     parameter: &Parameter,
     site: Site<'_>,
     changes: &mut Vec<Change>,
-) -> Result<TypedPlace, Fault>
+) -> Result<TypedPlace, CheckFault>
     ensures { Answers result (λ v. (variable_of v, changes.new.items))
         (parameter_variable (context_at site.entry) (regions_at site.entry) parameter.now changes.old.items) }
 {
@@ -53,7 +53,7 @@ fn actual_parameter(
     site: Site<'_>,
     changes: &mut Vec<Change>,
     section: &Section,
-) -> Result<Argument, Fault>
+) -> Result<Argument, CheckFault>
     ensures { Answers result (λ a. (argument_of a, changes.new.items))
         (actual_parameter (context_at site.entry) (regions_at site.entry)
         (section_of section.now) parameter.now changes.old.items) }
@@ -72,7 +72,7 @@ pub(crate) fn actual_parameters(
     sections: &SectionList,
     outcome: &Option<Ty>,
     at: u32,
-) -> Result<Vec<Argument>, Fault>
+) -> Result<Vec<Argument>, CheckFault>
     ensures { Answers result (λ arguments. (map argument_of arguments.items, changes.new.items))
         (procedure_parameters (context_at site.entry) (regions_at site.entry) at (option_map type_of outcome.now)
         sections.now list.now changes.old.items) }

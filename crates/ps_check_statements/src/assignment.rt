@@ -17,7 +17,7 @@ use ps_check_expressions::site::Site;
 use ps_check_expressions::value::{TypedPlace, TypedValue, range_of};
 use ps_check_judgement::answer::broken;
 use ps_check_judgement::change::Change;
-use ps_check_judgement::refusal::{Fault, Rule};
+use ps_check_judgement::refusal::{CheckFault, Rule};
 use ps_check_names::meaning::{Heading, Meaning};
 use ps_check_names::scope::{Found, Scope};
 use ps_syntax::{Expr, Variable};
@@ -29,7 +29,12 @@ use std::alloc::Global;
 
 /// The result of a function as a variable of the block that is `levels` blocks out. Its name is at `at`.
 #[tactic(auto, unfolding(ps_tree::specs::View::selectors_of))]
-fn result_of(alloc: Global, heading: &Heading, levels: u32, at: u32) -> Result<TypedPlace, Fault>
+fn result_of(
+    alloc: Global,
+    heading: &Heading,
+    levels: u32,
+    at: u32,
+) -> Result<TypedPlace, CheckFault>
     ensures { Answers result (λ v. variable_of v) (some_or WrongKind at (result_of (heading_of heading.now) levels)) }
 {
     match &heading.result {
@@ -85,7 +90,7 @@ fn result_in(
     heading: &Heading,
     levels: u32,
     at: u32,
-) -> Result<TypedPlace, Fault>
+) -> Result<TypedPlace, CheckFault>
     ensures { Answers result (λ v. variable_of v)
         (some_or WrongKind at (result_in (scope_of scope.now) further (heading_of heading.now) levels)) }
 {
@@ -102,7 +107,7 @@ fn result_in(
 
 /// What a name alone denotes on the left of `:=`. A function is declared in the block around its own.
 #[tactic(auto, unfolding(crate::specs::Assignments::target_at, ps_check_expressions::specs::Places::variable_at, ps_check_names::specs::Views::meaning_of))]
-fn target_found(site: Site<'_>, found: Found<'_>, at: u32) -> Result<TypedPlace, Fault>
+fn target_found(site: Site<'_>, found: Found<'_>, at: u32) -> Result<TypedPlace, CheckFault>
     ensures { Answers result (λ v. variable_of v) (target_at (regions_at site.entry) at (point_of found.entry)) }
 {
     match found {
@@ -121,7 +126,7 @@ fn target_found(site: Site<'_>, found: Found<'_>, at: u32) -> Result<TypedPlace,
 
 /// The variable or the function's result that is assigned.
 #[tactic(auto, using(ps_check_expressions::proofs::Judgement::name_alone, ps_check_expressions::proofs::Judgement::name_selected))]
-fn target(x: &Variable, site: Site<'_>, changes: &mut Vec<Change>) -> Result<TypedPlace, Fault>
+fn target(x: &Variable, site: Site<'_>, changes: &mut Vec<Change>) -> Result<TypedPlace, CheckFault>
     ensures { Answers result (λ v. (variable_of v, changes.new.items))
         (target (context_at site.entry) (regions_at site.entry) x.now changes.old.items) }
 {
@@ -134,7 +139,7 @@ fn target(x: &Variable, site: Site<'_>, changes: &mut Vec<Change>) -> Result<Typ
 }
 
 /// An assignment whose `:=` is at `at`, provided that the value fits the variable's type.
-fn fitting(fits: bool, statement: Statement, at: u32) -> Result<Statement, Fault>
+fn fitting(fits: bool, statement: Statement, at: u32) -> Result<Statement, CheckFault>
     ensures { Answers result (λ s. statement_of s) (provided fits NotAssignable at (statement_of statement)) }
 {
     if fits {
@@ -151,7 +156,7 @@ fn set_assigned(
     value: (SetExpr, &Ty),
     line: Line,
     at: u32,
-) -> Result<Statement, Fault>
+) -> Result<Statement, CheckFault>
     ensures { Answers result (λ s. statement_of s)
         (set_assigned at (place_of target.entry.0) (type_of target.entry.1.now) (set_of value.entry.0)
         (type_of value.entry.1.now) line.number) }
@@ -176,7 +181,7 @@ fn assigned(
     value: TypedValue,
     line: Line,
     at: u32,
-) -> Result<Statement, Fault>
+) -> Result<Statement, CheckFault>
     ensures { Answers result (λ s. statement_of s) (assigned at (variable_of variable) (value_of value) line.number) }
 {
     let TypedPlace {
@@ -211,7 +216,7 @@ pub(crate) fn assignment(
     changes: &mut Vec<Change>,
     at: Span,
     y: &Expr,
-) -> Result<Statement, Fault>
+) -> Result<Statement, CheckFault>
     ensures { Answers result (λ s. (statement_of s, changes.new.items))
         (assignment (context_at site.entry) (regions_at site.entry) x.now at y.now changes.old.items) }
 {

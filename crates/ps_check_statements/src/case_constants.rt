@@ -9,7 +9,7 @@ ghost use Rattle.ps_check_statements.specs.Structured.{case_label, next_label, l
 use indexmap::IndexSet;
 use ps_check_expressions::site::Site;
 use ps_check_judgement::answer::broken;
-use ps_check_judgement::refusal::{Fault, Rule};
+use ps_check_judgement::refusal::{CheckFault, Rule};
 use ps_check_names::constants::{ConstantValue, constant};
 use ps_syntax::Constant;
 use ps_tree::names::Seed;
@@ -17,7 +17,7 @@ use ps_tree::types::{Ordinal, same_host};
 
 /// The value of a case constant; the index is of an ordinal type.
 #[tactic(auto, unfolding(crate::specs::Structured::case_constant, ps_check_names::specs::Views::constant_of))]
-fn case_label(site: Site<'_>, index: Ordinal, label: Constant) -> Result<i32, Fault>
+fn case_label(site: Site<'_>, index: Ordinal, label: Constant) -> Result<i32, CheckFault>
     ensures { Answers result (λ n. n) (case_label (context_at site.entry) (regions_at site.entry) index label) }
 {
     match constant(site.reading, site.alloc, site.scope, label)? {
@@ -40,7 +40,7 @@ fn next_label(
     seen: &mut IndexSet<i32, Seed>,
     own: &mut Vec<i32>,
     label: Constant,
-) -> Result<(), Fault>
+) -> Result<(), CheckFault>
     ensures label { (before : List ℤ) → seen.old.keys ≡ before ++ own.old.items → Answers result (λ _. own.new.items)
         (next_label (context_at site.entry) (regions_at site.entry) index before own.old.items label) }
     ensures seen { (before : List ℤ) → seen.old.keys ≡ before ++ own.old.items → OnOk result
@@ -63,7 +63,7 @@ pub(crate) fn case_labels(
     index: Ordinal,
     seen: &mut IndexSet<i32, Seed>,
     constants: &[Constant],
-) -> Result<Vec<i32>, Fault>
+) -> Result<Vec<i32>, CheckFault>
     ensures labels { Answers result (λ own. own.items)
         (labels (context_at site.entry) (regions_at site.entry) index seen.old.keys constants.now) }
     ensures seen { IfOk result (λ own. seen.new.keys ≡ seen.old.keys ++ own.items) }

@@ -11,7 +11,7 @@ ghost use Rattle.ps_check_statements.specs.Procedures.{unlisted_name, behind_fil
 use ps_check_expressions::alone::name_alone;
 use ps_check_expressions::site::Site;
 use ps_check_judgement::answer::broken;
-use ps_check_judgement::refusal::{Fault, Rule};
+use ps_check_judgement::refusal::{CheckFault, Rule};
 use ps_check_names::meaning::{File, Meaning};
 use ps_check_names::scope::Found;
 use ps_syntax::Parameter;
@@ -61,8 +61,8 @@ fn names_file(site: Site<'_>, file: File, parameter: &Parameter) -> Result<bool,
         Some(name) => match site.denoted(name) {
             Ok(found) => Ok(is_file(file, found)),
             Err(fault) => match fault {
-                Fault::OutOfMemory => Err(AllocError),
-                Fault::Broken { .. } => Ok(false),
+                CheckFault::OutOfMemory => Err(AllocError),
+                CheckFault::Broken { .. } => Ok(false),
             },
         },
     }
@@ -77,8 +77,8 @@ fn unlisted_name(site: Site<'_>, name: Option<Span>, at: u32) -> Result<u32, All
         Some(name) => match site.denoted(name) {
             Ok(_) => Ok(at),
             Err(fault) => match fault {
-                Fault::OutOfMemory => Err(AllocError),
-                Fault::Broken { rule, at: place } => Ok(told_unlisted(rule, place, at)),
+                CheckFault::OutOfMemory => Err(AllocError),
+                CheckFault::Broken { rule, at: place } => Ok(told_unlisted(rule, place, at)),
             },
         },
     }
@@ -102,7 +102,7 @@ pub(crate) fn behind_file<'p>(
     is_listed: bool,
     parameters: &'p [Parameter],
     at: u32,
-) -> Result<&'p [Parameter], Fault>
+) -> Result<&'p [Parameter], CheckFault>
     ensures { Answers result (λ rest. rest.now)
         (behind_file (context_at site.entry) (regions_at site.entry) at file is_listed parameters.entry.now) }
 {

@@ -15,7 +15,7 @@ use ps_check_expressions::site::Site;
 use ps_check_expressions::value::TypedValue;
 use ps_check_judgement::answer::{boxed_answer, broken, paired};
 use ps_check_judgement::change::Change;
-use ps_check_judgement::refusal::{Fault, Rule};
+use ps_check_judgement::refusal::{CheckFault, Rule};
 use ps_check_names::constants::misplacement;
 use ps_check_names::meaning::Meaning;
 use ps_check_names::scope::Found;
@@ -39,7 +39,7 @@ pub struct Head {
 
 /// The control variable that a name denotes; the name is at `at`.
 #[tactic(auto, unfolding(crate::specs::Structured::control_at, ps_check_names::specs::Views::meaning_of, ps_tree::specs::View::type_of))]
-fn control_found(found: Found<'_>, at: u32) -> Result<(u32, Ordinal), Fault>
+fn control_found(found: Found<'_>, at: u32) -> Result<(u32, Ordinal), CheckFault>
     ensures { Answers result (λ control. control) (control_at at (point_of found.entry)) }
 {
     match found {
@@ -74,7 +74,7 @@ fn bound_at(
     site: Site<'_>,
     changes: &mut Vec<Change>,
     ordinal: Ordinal,
-) -> Result<Expr, Fault>
+) -> Result<Expr, CheckFault>
     ensures { Answers result (λ e. (expr_of e, changes.new.items))
         (bound_at (context_at site.entry) (regions_at site.entry) ordinal x.now changes.old.items) }
 {
@@ -102,7 +102,7 @@ fn boxed_bound(
     site: Site<'_>,
     changes: &mut Vec<Change>,
     ordinal: Ordinal,
-) -> Result<Box<Expr>, Fault>
+) -> Result<Box<Expr>, CheckFault>
     ensures { Answers result (λ e. (expr_of e.value, changes.new.items))
         (bound_at (context_at site.entry) (regions_at site.entry) ordinal x.now changes.old.items) }
 {
@@ -125,7 +125,7 @@ fn control_of(
     site: Site<'_>,
     changes: &mut Vec<Change>,
     name: Span,
-) -> Result<(u32, Ordinal), Fault>
+) -> Result<(u32, Ordinal), CheckFault>
     ensures { Answers result (λ control. (control, changes.new.items))
         (control_of (context_at site.entry) (regions_at site.entry) name changes.old.items) }
 {
@@ -143,7 +143,7 @@ fn control_of(
 
 /// No routine of the block changes the control variable; the first change is reported.
 #[tactic(auto, unfolding(crate::specs::Structured::unthreatened))]
-fn unthreatened(site: Site<'_>, variable: u32) -> Result<(), Fault>
+fn unthreatened(site: Site<'_>, variable: u32) -> Result<(), CheckFault>
     ensures { Answers result (λ _. tt) (unthreatened (context_at site.entry) variable) }
 {
     match site.inner.first_of(variable) {
@@ -160,7 +160,7 @@ pub(crate) fn for_head(
     x: &Syntax,
     way: Way,
     y: &Syntax,
-) -> Result<Head, Fault>
+) -> Result<Head, CheckFault>
     ensures { Answers result (λ h. (head_of h, changes.new.items))
         (for_head (context_at site.entry) (regions_at site.entry) name x.now way y.now changes.old.items) }
 {

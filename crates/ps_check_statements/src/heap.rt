@@ -14,7 +14,7 @@ use ps_check_expressions::site::Site;
 use ps_check_expressions::value::TypedPlace;
 use ps_check_judgement::answer::{boxed_answer, broken, paired};
 use ps_check_judgement::change::Change;
-use ps_check_judgement::refusal::{Fault, Rule};
+use ps_check_judgement::refusal::{CheckFault, Rule};
 use ps_syntax::Parameter;
 use ps_text::Span;
 use ps_tree::tree::{Expr, Place, Statement};
@@ -28,7 +28,7 @@ pub(crate) fn new_statement(
     site: Site<'_>,
     changes: &mut Vec<Change>,
     name: Span,
-) -> Result<Statement, Fault>
+) -> Result<Statement, CheckFault>
     ensures { Answers result (λ s. (statement_of s, changes.new.items))
         (spec.new_statement (context_at site.entry) (regions_at site.entry) name.from parameters.now changes.old.items) }
 {
@@ -57,7 +57,7 @@ struct Places {
 
 /// Checks that an array that is not packed, a packed one and an index go together.
 #[tactic(auto, unfolding(crate::specs::Procedures::goes_with_pack, ps_tree::specs::View::type_of))]
-fn goes_with_pack(unpacked: &Ty, packed: &Ty, index: Ordinal, at: Places) -> Result<(), Fault>
+fn goes_with_pack(unpacked: &Ty, packed: &Ty, index: Ordinal, at: Places) -> Result<(), CheckFault>
     ensures { Answers result (λ _. tt) (spec.goes_with_pack (places_of at) (type_of unpacked.now)
         (type_of packed.now) index) }
 {
@@ -96,7 +96,7 @@ fn parameter_index(
     parameter: &Parameter,
     site: Site<'_>,
     changes: &mut Vec<Change>,
-) -> Result<(Expr, Ordinal), Fault>
+) -> Result<(Expr, Ordinal), CheckFault>
     ensures { Answers result (λ v. ((expr_of v.0, v.1), changes.new.items))
         (spec.parameter_index (context_at site.entry) (regions_at site.entry) parameter.now changes.old.items) }
 {
@@ -107,7 +107,7 @@ fn parameter_index(
 }
 
 /// A variable's place and its type, each on the heap.
-fn boxed_place(alloc: Global, variable: TypedPlace) -> Result<(Box<Place>, Box<Ty>), Fault>
+fn boxed_place(alloc: Global, variable: TypedPlace) -> Result<(Box<Place>, Box<Ty>), CheckFault>
     ensures place { IfOk result (λ pair. variable.place ≡ pair.0.value) }
     ensures ty { IfOk result (λ pair. variable.ty ≡ pair.1.value) }
     ensures err { IfErr result (λ fault. IsFault fault → ⊥) }
@@ -123,7 +123,7 @@ fn transferred(
     packed: TypedPlace,
     index: Ordinal,
     at: Places,
-) -> Result<((Box<Place>, Box<Ty>), (Box<Place>, Box<Ty>)), Fault>
+) -> Result<((Box<Place>, Box<Ty>), (Box<Place>, Box<Ty>)), CheckFault>
     ensures ok { IfOk result (λ pair. (spec.goes_with_pack (places_of at) (type_of unpacked.ty)
         (type_of packed.ty) index ≡ Yes tt) × (unpacked.place ≡ pair.0.0.value) × (unpacked.ty ≡ pair.0.1.value)
         × (packed.place ≡ pair.1.0.value) × (packed.ty ≡ pair.1.1.value)) }
@@ -141,7 +141,7 @@ pub(crate) fn pack_statement(
     site: Site<'_>,
     changes: &mut Vec<Change>,
     name: u32,
-) -> Result<Statement, Fault>
+) -> Result<Statement, CheckFault>
     ensures { Answers result (λ s. (statement_of s, changes.new.items))
         (spec.pack_statement (context_at site.entry) (regions_at site.entry) name parameters.now changes.old.items) }
 {
@@ -178,7 +178,7 @@ pub(crate) fn unpack_statement(
     site: Site<'_>,
     changes: &mut Vec<Change>,
     name: u32,
-) -> Result<Statement, Fault>
+) -> Result<Statement, CheckFault>
     ensures { Answers result (λ s. (statement_of s, changes.new.items))
         (spec.unpack_statement (context_at site.entry) (regions_at site.entry) name parameters.now changes.old.items) }
 {

@@ -1,21 +1,25 @@
-//! The records of a `with` list that are of wide types, by the names that opened them.
+//! The records of a `with` list that are of wide types, by what gives them their types.
 
 ghost use Rattle.std.specs.Prelude.{◌≡◌, ◌<◌, length, set, IsTrue};
 
 use ps_tree::names::{Names, Seed};
 use std::alloc::{AllocError, Global};
 
-/// What gives a record that a variable opens its type.
+/// What gives a record that a variable opens the fields of its type.
 #[derive(Clone, Copy)]
 pub(crate) enum Source {
-    /// A name, by what it denotes within so many records.
-    Named(usize),
+    /// A variable of the block that is so many blocks out: the place there of its name, or of one that is alike.
+    Variable { up: u32, place: usize },
+    /// A field of the record of the list with this number: its own number, or that of one that is alike.
+    Own { record: usize, field: usize },
+    /// The same of a record so many records outside of the list.
+    Outer { which: usize, field: usize },
     /// The pointer type with this number, whose domain it is.
     Pointed(u32),
 }
 
-/// The records of wide types in a list, by their numbers. A record that the same source gives its type needs not be
-/// compared with those before it.
+/// The records of wide types in a list, by their numbers, and the bytes by which each is found. A record that the same
+/// source gives its type needs not be compared with those before it.
 #[derive(Drop)]
 pub(crate) struct Known {
     names: Names,
@@ -28,10 +32,39 @@ fn same_source(a: Source, b: Source) -> bool
     ensures { IsTrue result → a ≡ b }
 {
     match (a, b) {
-        (Source::Named(x), Source::Named(y)) => x == y,
+        (Source::Variable { up: x, place: m }, Source::Variable { up: y, place: n }) => {
+            x == y && m == n
+        }
+        (
+            Source::Own {
+                record: x,
+                field: m,
+            },
+            Source::Own {
+                record: y,
+                field: n,
+            },
+        ) => x == y && m == n,
+        (Source::Outer { which: x, field: m }, Source::Outer { which: y, field: n }) => {
+            x == y && m == n
+        }
         (Source::Pointed(x), Source::Pointed(y)) => x == y,
-        (Source::Named(_), Source::Pointed(_)) | (Source::Pointed(_), Source::Named(_)) => false,
+        _ => false,
     }
+}
+
+/// The bytes by which a source is found.
+pub(crate) fn key_of(alloc: Global, source: Source) -> Result<Vec<u8>, AllocError> {
+    let (kind, first, second) = match source {
+        Source::Variable { up, place } => (0, up as usize, place),
+        Source::Own { record, field } => (1, record, field),
+        Source::Outer { which, field } => (2, which, field),
+        Source::Pointed(number) => (3, number as usize, 0),
+    };
+    let mut key = Vec::from_slice(alloc, first.to_le_bytes().as_slice())?;
+    key.extend_from_slice(second.to_le_bytes().as_slice())?;
+    key.push(kind)?;
+    Ok(key)
 }
 
 /// Puts a source and the number of a record in the place of others.
@@ -59,12 +92,12 @@ impl Known {
         }
     }
 
-    /// The number of a record whose type the source gives the name too, if one is known.
-    pub(crate) fn find(&self, name: &[u8], source: Source) -> Option<usize>
+    /// The number of a record whose type has the fields that the source gives, if one is known.
+    pub(crate) fn find(&self, key: &[u8], source: Source) -> Option<usize>
         ensures { IfSome result (λ number. (domains : List DataType) (Γ : List Region) (records : List Ty)
-            → Knows domains Γ records self.now → Gives domains Γ records name.now source number) }
+            → Knows domains Γ records self.now → Gives domains Γ records source number) }
     {
-        let index = self.names.find(name)?;
+        let index = self.names.find(key)?;
         let (known, number) = self.entries.get(index)?;
         if same_source(*known, source) {
             Some(*number)
@@ -73,29 +106,28 @@ impl Known {
         }
     }
 
-    /// One record more, whose type the source gives the name.
+    /// One record more, whose type has the fields that the source gives.
     pub(crate) fn with(
         self,
         alloc: Global,
-        name: &[u8],
+        key: &[u8],
         source: Source,
         number: usize,
     ) -> Result<Known, AllocError>
         ensures { IfOk result (λ known. (domains : List DataType) (Γ : List Region) (records : List Ty)
-            → Knows domains Γ records self → Gives domains Γ records name.now source number
-            → Knows domains Γ records known) }
+            → Knows domains Γ records self → Gives domains Γ records source number → Knows domains Γ records known) }
     {
         let Known {
             mut names,
             mut entries,
         } = self;
-        match names.find(name) {
+        match names.find(key) {
             Some(index) => {
                 put(&mut entries, index, source, number);
                 Ok(Known { names, entries })
             }
             None => {
-                let _added = names.add(Vec::from_slice(alloc, name)?)?;
+                let _added = names.add(Vec::from_slice(alloc, key)?)?;
                 entries.push((source, number))?;
                 Ok(Known { names, entries })
             }

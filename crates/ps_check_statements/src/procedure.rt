@@ -11,7 +11,7 @@ use crate::text::{read, read_parameters, write, write_parameters};
 use ps_check_expressions::site::Site;
 use ps_check_judgement::answer::broken;
 use ps_check_judgement::change::Change;
-use ps_check_judgement::refusal::{Fault, Rule};
+use ps_check_judgement::refusal::{CheckFault, Rule};
 use ps_check_names::constants::misplacement;
 use ps_check_names::meaning::{Meaning, Required};
 use ps_check_names::scope::Found;
@@ -27,7 +27,7 @@ fn required_procedure(
     changes: &mut Vec<Change>,
     required: Required,
     name: Span,
-) -> Result<Statement, Fault>
+) -> Result<Statement, CheckFault>
     ensures { Answers result (λ s. (statement_of s, changes.new.items))
         (spec.required_procedure (context_at site.entry)
         (regions_at site.entry) name.from required parameters.now changes.old.items) }
@@ -72,7 +72,7 @@ pub(crate) fn procedure_statement(
     site: Site<'_>,
     changes: &mut Vec<Change>,
     name: Span,
-) -> Result<Statement, Fault>
+) -> Result<Statement, CheckFault>
     ensures { Answers result (λ s. (statement_of s, changes.new.items))
         (spec.procedure_statement (context_at site.entry) (regions_at site.entry) name list.now changes.old.items) }
 {

@@ -20,7 +20,7 @@ use ps_check_expressions::site::Site;
 use ps_check_expressions::value::{TypedValue, is_boolean};
 use ps_check_judgement::answer::{boxed_answer, broken, paired, push_answer};
 use ps_check_judgement::change::Change;
-use ps_check_judgement::refusal::{Fault, Rule};
+use ps_check_judgement::refusal::{CheckFault, Rule};
 use ps_check_names::scope::Scope;
 use ps_syntax::{Direction as Way, Element, Expr as SyntaxExpr, Statement as Syntax, Variable};
 use ps_text::Span;
@@ -30,7 +30,11 @@ use ps_tree::types::Ordinal;
 
 /// A condition, which is Boolean (6.8.3.3).
 #[tactic(auto, unfolding(crate::specs::Structured::condition, ps_check_expressions::specs::View::value_of))]
-fn condition_at(x: &SyntaxExpr, site: Site<'_>, changes: &mut Vec<Change>) -> Result<Expr, Fault>
+fn condition_at(
+    x: &SyntaxExpr,
+    site: Site<'_>,
+    changes: &mut Vec<Change>,
+) -> Result<Expr, CheckFault>
     ensures { Answers result (λ e. (expr_of e, changes.new.items))
         (spec.condition_at (context_at site.entry) (regions_at site.entry) x.now changes.old.items) }
 {
@@ -57,7 +61,7 @@ pub(crate) fn index_at(
     x: &SyntaxExpr,
     site: Site<'_>,
     changes: &mut Vec<Change>,
-) -> Result<(Expr, Ordinal), Fault>
+) -> Result<(Expr, Ordinal), CheckFault>
     ensures { Answers result (λ v. ((expr_of v.0, v.1), changes.new.items))
         (spec.index_at (context_at site.entry) (regions_at site.entry) x.now changes.old.items) }
 {
@@ -68,7 +72,7 @@ pub(crate) fn index_at(
 /// A statement.
 #[cycle(statement)]
 #[tactic(auto, using(crate::proofs::Equations::at_empty, crate::proofs::Equations::at_assign, crate::proofs::Equations::at_call, crate::proofs::Equations::at_compound, crate::proofs::Equations::at_if, crate::proofs::Equations::at_if_else, crate::proofs::Equations::at_case, crate::proofs::Equations::at_while, crate::proofs::Equations::at_repeat, crate::proofs::Equations::at_for, crate::proofs::Equations::at_with), unfolding(ps_tree::specs::View::statement_of))]
-fn statement(x: &Syntax, site: Site<'_>, changes: &mut Vec<Change>) -> Result<Statement, Fault>
+fn statement(x: &Syntax, site: Site<'_>, changes: &mut Vec<Change>) -> Result<Statement, CheckFault>
     ensures { Answers result (λ s. (statement_of s, changes.new.items))
         (spec.statement x.now (context_at site.entry) (regions_at site.entry) changes.old.items) }
 {
@@ -136,7 +140,11 @@ fn statement(x: &Syntax, site: Site<'_>, changes: &mut Vec<Change>) -> Result<St
 }
 
 #[cycle(statement)]
-fn boxed(x: &Syntax, site: Site<'_>, changes: &mut Vec<Change>) -> Result<Box<Statement>, Fault>
+fn boxed(
+    x: &Syntax,
+    site: Site<'_>,
+    changes: &mut Vec<Change>,
+) -> Result<Box<Statement>, CheckFault>
     ensures { Answers result (λ s. (statement_of s.value, changes.new.items))
         (spec.statement x.now (context_at site.entry) (regions_at site.entry) changes.old.items) }
 {
@@ -149,7 +157,7 @@ pub fn statements(
     list: &[Syntax],
     site: Site<'_>,
     changes: &mut Vec<Change>,
-) -> Result<Vec<Statement>, Fault>
+) -> Result<Vec<Statement>, CheckFault>
     ensures { Answers result (λ s. (statements_of s.items, changes.new.items))
         (spec.statements (context_at site.entry) (regions_at site.entry) list.now changes.old.items) }
 {
@@ -167,7 +175,7 @@ fn governed(
     site: Site<'_>,
     changes: &mut Vec<Change>,
     x: &SyntaxExpr,
-) -> Result<(Expr, Box<Statement>), Fault>
+) -> Result<(Expr, Box<Statement>), CheckFault>
     ensures { Answers result (λ p. ((expr_of p.0, statement_of p.1.value), changes.new.items))
         (spec.governed (context_at site.entry) (regions_at site.entry) x.now
         (spec.statement body.now) changes.old.items) }
@@ -185,7 +193,7 @@ fn if_else_statement(
     site: Site<'_>,
     changes: &mut Vec<Change>,
     x: &SyntaxExpr,
-) -> Result<Statement, Fault>
+) -> Result<Statement, CheckFault>
     ensures { Answers result (λ s. (statement_of s, changes.new.items))
         (spec.if_else_statement (context_at site.entry) (regions_at site.entry) x.now (spec.statement body.now)
         (spec.statement otherwise.now) changes.old.items) }
@@ -207,7 +215,7 @@ fn repeat_statement(
     site: Site<'_>,
     changes: &mut Vec<Change>,
     x: &SyntaxExpr,
-) -> Result<Statement, Fault>
+) -> Result<Statement, CheckFault>
     ensures { Answers result (λ s. (statement_of s, changes.new.items))
         (spec.repeat_statement (context_at site.entry) (regions_at site.entry)
         (spec.statements (context_at site.entry) (regions_at site.entry) list.now) x.now changes.old.items) }
@@ -227,7 +235,7 @@ fn case_statement(
     changes: &mut Vec<Change>,
     at: Span,
     x: &SyntaxExpr,
-) -> Result<Statement, Fault>
+) -> Result<Statement, CheckFault>
     ensures { Answers result (λ s. (statement_of s, changes.new.items))
         (spec.case_statement (context_at site.entry) (regions_at site.entry) at x.now
         (map spec.element list.now) changes.old.items) }
@@ -249,7 +257,7 @@ fn elements(
     site: Site<'_>,
     changes: &mut Vec<Change>,
     index: Ordinal,
-) -> Result<Vec<CaseElement>, Fault>
+) -> Result<Vec<CaseElement>, CheckFault>
     ensures { Answers result (λ es. (map element_of es.items, changes.new.items))
         (spec.elements (context_at site.entry) (regions_at site.entry) index
         (map spec.element list.now) changes.old.items) }
@@ -271,7 +279,7 @@ fn element(
     changes: &mut Vec<Change>,
     index: Ordinal,
     seen: &mut IndexSet<i32, Seed>,
-) -> Result<CaseElement, Fault>
+) -> Result<CaseElement, CheckFault>
     ensures element { Answers result (λ e. (element_of e, changes.new.items))
         (spec.element x.now (context_at site.entry) (regions_at site.entry) index seen.old.keys changes.old.items) }
     ensures seen { IfOk result (λ e. seen.new.keys ≡ seen.old.keys ++ (element_of e).0) }
@@ -292,7 +300,7 @@ fn for_statement(
     first: &SyntaxExpr,
     way: Way,
     last: &SyntaxExpr,
-) -> Result<Statement, Fault>
+) -> Result<Statement, CheckFault>
     ensures { Answers result (λ s. (statement_of s, changes.new.items))
         (spec.for_statement (context_at site.entry) (regions_at site.entry) name first.now way last.now
         (spec.statement x.now) changes.old.items) }
@@ -315,7 +323,7 @@ fn with_statement(
     site: Site<'_>,
     changes: &mut Vec<Change>,
     records: &[Variable],
-) -> Result<Statement, Fault>
+) -> Result<Statement, CheckFault>
     ensures { Answers result (λ s. (statement_of s, changes.new.items))
         (spec.with_behind (context_at site.entry) ([], regions_at site.entry) records.now
         (spec.statement x.now) changes.old.items) }

@@ -14,7 +14,7 @@ use ps_check_expressions::site::Site;
 use ps_check_expressions::value::{TypedPlace, TypedValue, is_integer};
 use ps_check_judgement::answer::{broken, paired, push_answer};
 use ps_check_judgement::change::Change;
-use ps_check_judgement::refusal::{Fault, Rule};
+use ps_check_judgement::refusal::{CheckFault, Rule};
 use ps_check_names::meaning::File;
 use ps_syntax::{Expr as Syntax, Parameter};
 use ps_tree::line::Line;
@@ -23,7 +23,7 @@ use ps_tree::types::{Host, Ordinal, Ty};
 
 /// A variable that is read, which begins at `at`.
 #[tactic(auto, unfolding(crate::specs::Procedures::read_variable, ps_tree::specs::View::type_of, ps_tree::specs::View::read_of))]
-fn read_variable(variable: TypedPlace, line: Line, at: u32) -> Result<ReadVariable, Fault>
+fn read_variable(variable: TypedPlace, line: Line, at: u32) -> Result<ReadVariable, CheckFault>
     ensures { Answers result (λ v. read_of v)
         (spec.read_variable at (place_of variable.place) (type_of variable.ty) line.number) }
 {
@@ -60,7 +60,7 @@ fn read_parameter(
     parameter: &Parameter,
     site: Site<'_>,
     changes: &mut Vec<Change>,
-) -> Result<ReadVariable, Fault>
+) -> Result<ReadVariable, CheckFault>
     ensures { Answers result (λ v. (read_of v, changes.new.items))
         (spec.read_parameter (context_at site.entry) (regions_at site.entry) parameter.now changes.old.items) }
 {
@@ -76,7 +76,7 @@ pub(crate) fn read_parameters(
     site: Site<'_>,
     changes: &mut Vec<Change>,
     at: u32,
-) -> Result<Vec<ReadVariable>, Fault>
+) -> Result<Vec<ReadVariable>, CheckFault>
     ensures { Answers result (λ list. (map read_of list.items, changes.new.items))
         (spec.read_parameters (context_at site.entry) (regions_at site.entry) at parameters.now changes.old.items) }
 {
@@ -90,7 +90,7 @@ pub(crate) fn read_parameters(
 
 /// read, which has at least one variable. Its name is at `at`.
 #[tactic(auto, unfolding(crate::specs::Procedures::read_of, ps_tree::specs::View::statement_of))]
-pub(crate) fn read(variables: Vec<ReadVariable>, at: u32) -> Result<Statement, Fault>
+pub(crate) fn read(variables: Vec<ReadVariable>, at: u32) -> Result<Statement, CheckFault>
     ensures { Answers result (λ s. statement_of s) (spec.read_of at (map read_of variables.items)) }
 {
     if variables.is_empty() {
@@ -106,7 +106,7 @@ fn ordinal_written(
     ordinal: Ordinal,
     width: Width,
     at: u32,
-) -> Result<WriteParameter, Fault>
+) -> Result<WriteParameter, CheckFault>
     ensures { Answers result (λ p. write_of p) (spec.ordinal_written at (expr_of value) ordinal (width_of width)) }
 {
     match ordinal.host {
@@ -119,7 +119,7 @@ fn ordinal_written(
 
 /// A value that is written, which begins at `at`.
 #[tactic(auto, unfolding(crate::specs::Procedures::written, ps_check_expressions::specs::View::value_of, ps_tree::specs::View::type_of, ps_tree::specs::View::write_of))]
-fn written(value: TypedValue, width: Width, at: u32) -> Result<WriteParameter, Fault>
+fn written(value: TypedValue, width: Width, at: u32) -> Result<WriteParameter, CheckFault>
     ensures { Answers result (λ p. write_of p) (spec.written at (value_of value) (width_of width)) }
 {
     match value {
@@ -145,7 +145,7 @@ fn written(value: TypedValue, width: Width, at: u32) -> Result<WriteParameter, F
 
 /// A width, which is an integer.
 #[tactic(auto, unfolding(crate::specs::Procedures::width_of, ps_check_expressions::specs::View::value_of, ps_tree::specs::View::width_of))]
-fn width_at(x: &Syntax, site: Site<'_>, changes: &mut Vec<Change>) -> Result<Width, Fault>
+fn width_at(x: &Syntax, site: Site<'_>, changes: &mut Vec<Change>) -> Result<Width, CheckFault>
     ensures { Answers result (λ w. (width_of w, changes.new.items))
         (spec.width_at (context_at site.entry) (regions_at site.entry) x.now changes.old.items) }
 {
@@ -174,7 +174,7 @@ fn write_parameter(
     parameter: &Parameter,
     site: Site<'_>,
     changes: &mut Vec<Change>,
-) -> Result<WriteParameter, Fault>
+) -> Result<WriteParameter, CheckFault>
     ensures { Answers result (λ p. (write_of p, changes.new.items))
         (spec.write_parameter (context_at site.entry) (regions_at site.entry) parameter.now changes.old.items) }
 {
@@ -197,7 +197,7 @@ pub(crate) fn write_parameters(
     site: Site<'_>,
     changes: &mut Vec<Change>,
     at: u32,
-) -> Result<Vec<WriteParameter>, Fault>
+) -> Result<Vec<WriteParameter>, CheckFault>
     ensures { Answers result (λ list. (map write_of list.items, changes.new.items))
         (spec.write_parameters (context_at site.entry) (regions_at site.entry) at parameters.now changes.old.items) }
 {
@@ -211,7 +211,7 @@ pub(crate) fn write_parameters(
 
 /// write, which has at least one parameter. Its name is at `at`.
 #[tactic(auto, unfolding(crate::specs::Procedures::write_of, ps_tree::specs::View::statement_of))]
-pub(crate) fn write(parameters: Vec<WriteParameter>, at: u32) -> Result<Statement, Fault>
+pub(crate) fn write(parameters: Vec<WriteParameter>, at: u32) -> Result<Statement, CheckFault>
     ensures { Answers result (λ s. statement_of s) (spec.write_of at (map write_of parameters.items)) }
 {
     if parameters.is_empty() {

@@ -1,6 +1,6 @@
 //! The records that a `with` statement opens (ISO 7185, 6.8.3.10).
 
-ghost use Rattle.std.specs.Prelude.{◌≡◌, ◌++◌, [], ◌∷◌, List, length, map, IfOk, IfErr, IfSome, Some, None};
+ghost use Rattle.std.specs.Prelude.{◌≡◌, ◌++◌, [], ◌∷◌, ℕ, List, length, map, IfOk, IfErr, IfSome, Some, None};
 ghost use Rattle.ps_tree.specs.View.{type_of, place_of, base_of, selectors_of};
 ghost use Rattle.ps_tree.specs.Tree as Tree;
 ghost use Rattle.ps_tree.specs.Types.{DataType};
@@ -12,20 +12,22 @@ ghost use Rattle.ps_check_names.specs.Views.{opened_in};
 ghost use Rattle.ps_check_expressions.specs.View.{context_at, regions_at};
 ghost use Rattle.ps_check_names.specs.Spelling.{spelled};
 ghost use Rattle.ps_check_statements.specs.Structured.{Opening, open_next};
-ghost use Rattle.ps_check_statements.specs.Known.{IsVariable, base_in, Targets, IsSource, IsGiven, Knows};
+ghost use Rattle.ps_check_statements.specs.Known.{IsVariable, Targets, IsLikeField, IsBase, IsSource, IsGiven, Knows};
+ghost use Rattle.ps_check_statements.specs.declared.known.Source.TheVariants.{Pointed};
 
-use crate::known::{Known, Source};
+use crate::known::{Known, Source, key_of};
 use ps_check_expressions::expression::variable_place;
 use ps_check_expressions::site::Site;
 use ps_check_expressions::value::TypedPlace;
 use ps_check_judgement::answer::broken;
 use ps_check_judgement::change::Change;
-use ps_check_judgement::refusal::{Fault, Rule};
+use ps_check_judgement::refusal::{CheckFault, Rule};
 use ps_check_names::opened::Opened;
-use ps_check_names::scope::Scope;
+use ps_check_names::scope::{Scope, place_in_block};
 use ps_check_names::wides::is_wide;
 use ps_syntax::{Selector as Syntax, Variable};
-use ps_tree::tree::{Place, PlaceBase, Selector};
+use ps_text::Span;
+use ps_tree::tree::{OpenedField, Place, PlaceBase, Selector};
 use ps_tree::types::Ty;
 use std::alloc::AllocError;
 
@@ -35,7 +37,7 @@ fn opened_record(
     x: &Variable,
     site: Site<'_>,
     changes: &mut Vec<Change>,
-) -> Result<(Place, Ty), Fault>
+) -> Result<(Place, Ty), CheckFault>
     ensures opened { (places : List Tree.Place) → Answers {A = Opening × List Change} result
         (λ p. (
           (
@@ -56,13 +58,55 @@ fn opened_record(
     Ok((place, ty))
 }
 
-/// How many of so many records there are up to the one that a place is in by its name.
-fn base_in(base: &PlaceBase, count: usize) -> usize
-    ensures { result ≡ base_in count (base_of base.now) }
+/// The number of a field of this record type that is alike the one with this number.
+#[tactic(auto, unfolding(ps_check_names::specs::Regions::fields_of, ps_tree::specs::View::type_of))]
+fn alike_field(ty: &Ty, number: u32) -> usize
+    ensures { IsLikeField (type_of ty.now) number result }
+{
+    match ty {
+        Ty::Record { fields, .. } => fields.alike(number as usize),
+        _ => number as usize,
+    }
+}
+
+/// What gives a field of an opened record its type, within so many records.
+fn source_of_field(field: &OpenedField, count: usize) -> Source
+    ensures { (name : List ℕ) (Γ : List Region) → IsBase name Γ
+        (Tree.Opened field.now.which (type_of field.now.ty) field.now.number) count result }
+{
+    let like = alike_field(&field.ty, field.number);
+    let which = field.which as usize;
+    if which < count {
+        return Source::Own {
+            record: count - 1 - which,
+            field: like,
+        };
+    }
+    Source::Outer {
+        which: which - count,
+        field: like,
+    }
+}
+
+/// What gives a variable its type that a name denotes by itself, within so many records.
+fn source_of_name(
+    name: Span,
+    base: &PlaceBase,
+    site: Site<'_>,
+    count: usize,
+) -> Result<Option<Source>, AllocError>
+    ensures { IfOk result (λ found. IfSome found (λ source. IsBase (spelled (context_at site.entry).text name)
+        (regions_at site.entry) (base_of base.now) count source)) }
 {
     match base {
-        PlaceBase::Entry { .. } => 0,
-        PlaceBase::Opened(field) => count.saturating_sub(field.which as usize),
+        PlaceBase::Opened(field) => Ok(Some(source_of_field(field, count))),
+        PlaceBase::Entry { up, .. } => {
+            let spelling = site.reading.spelling(site.alloc, name)?;
+            match place_in_block(site.scope, *up, spelling.as_slice()) {
+                None => Ok(None),
+                Some(place) => Ok(Some(Source::Variable { up: *up, place })),
+            }
+        }
     }
 }
 
@@ -76,49 +120,47 @@ fn pointer_in(selectors: &[Selector]) -> Option<u32>
     }
 }
 
-/// What gives a record its type, within so many others: a name alone, or what the pointer that it denotes identifies.
-fn source_of(x: &Variable, place: &Place, count: usize) -> Option<Source>
-    ensures { IfSome result (λ source. IsSource x.now (place_of place.now) count source) }
+/// What gives a record its type that a pointer identifies.
+fn source_of_target(place: &Place) -> Option<Source>
+    ensures { IfSome result (λ source. (number : ℕ) × (source ≡ Pointed number)
+        × Targets (selectors_of place.now.selectors.items) number) }
 {
-    match x.selectors.get(0) {
-        None => Some(Source::Named(base_in(&place.base, count))),
-        Some(Syntax::Content(_)) if x.selectors.len() == 1 => {
-            let pointer = pointer_in(place.selectors.as_slice())?;
-            Some(Source::Pointed(pointer))
-        }
-        Some(_) => None,
-    }
+    let pointer = pointer_in(place.selectors.as_slice())?;
+    Some(Source::Pointed(pointer))
 }
 
-/// The bytes by which a source is known: the name that it gives a type, or the number of the pointer's type.
-fn key_of(x: &Variable, source: Source, site: Site<'_>) -> Result<Vec<u8>, AllocError>
-    ensures { IfOk result (λ key. (domains : List DataType) (Γ : List Region) (records : List Ty) (type : DataType)
-        → IsGiven domains Γ records (spelled (context_at site.entry).text x.now.name) source type
-        → IsGiven domains Γ records key.items source type) }
+/// What gives a record its type, within so many others: a name alone, or what the pointer that it denotes identifies.
+fn source_of(
+    x: &Variable,
+    place: &Place,
+    site: Site<'_>,
+    count: usize,
+) -> Result<Option<Source>, AllocError>
+    ensures { IfOk result (λ found. IfSome found (λ source. IsSource (spelled (context_at site.entry).text x.now.name)
+        (regions_at site.entry) x.now (place_of place.now) count source)) }
 {
-    match source {
-        Source::Named(_) => site.reading.name(site.alloc, x.name),
-        Source::Pointed(pointer) => Vec::from_slice(site.alloc, pointer.to_le_bytes().as_slice()),
+    match x.selectors.get(0) {
+        None => source_of_name(x.name, &place.base, site, count),
+        Some(Syntax::Content(_)) if x.selectors.len() == 1 => Ok(source_of_target(place)),
+        Some(_) => Ok(None),
     }
 }
 
 /// Opens a record of a wide type within those before it, where a source gives it its type.
 fn open_again<'a>(
-    x: &Variable,
     source: Source,
     site: Site<'a>,
     ty: Ty,
     opened: Opened<'a>,
     known: Known,
 ) -> Result<(Opened<'a>, Known), AllocError>
-    requires given { IsGiven (context_at site).domains (regions_at site) opened.records.items
-        (spelled (context_at site).text x.now.name) source (type_of ty) }
+    requires given { IsGiven (context_at site).domains (regions_at site) opened.records.items source (type_of ty) }
     requires known { Knows (context_at site).domains (regions_at site) opened.records.items known }
     ensures records { IfOk result (λ all. all.0.records.items ≡ opened.entry.records.items ++ ty ∷ []) }
     ensures known { IfOk result (λ all. Knows (context_at site.entry).domains (regions_at site.entry)
         all.0.records.items all.1) }
 {
-    let key = key_of(x, source, site)?;
+    let key = key_of(site.alloc, source)?;
     match known.find(key.as_slice(), source) {
         Some(like) => Ok((opened.with_like(site.alloc, ty, like)?, known)),
         None => {
@@ -147,8 +189,9 @@ fn open_within<'a>(
 {
     if is_wide(&ty) {
         let count = opened.records.as_slice().len();
-        if let Some(source) = source_of(x, place, count) {
-            return open_again(x, source, site, ty, opened, known);
+        let found = source_of(x, place, site, count)?;
+        if let Some(source) = found {
+            return open_again(source, site, ty, opened, known);
         }
     }
     Ok((opened.with(site.alloc, ty)?, known))
@@ -163,7 +206,7 @@ fn open_next<'a>(
     places: &mut Vec<Place>,
     opened: Opened<'a>,
     known: Known,
-) -> Result<(Opened<'a>, Known), Fault>
+) -> Result<(Opened<'a>, Known), CheckFault>
     requires { Knows (context_at site).domains (regions_at site) opened.records.items known }
     ensures opened { Answers result (λ all. (
       (
@@ -196,7 +239,7 @@ pub(crate) fn open_all<'a>(
     records: &[Variable],
     site: Site<'a>,
     changes: &mut Vec<Change>,
-) -> Result<(Vec<Place>, Opened<'a>), Fault>
+) -> Result<(Vec<Place>, Opened<'a>), CheckFault>
     ensures { Answers result (λ p. (
       (map place_of p.0.items, opened_in (regions_at site.entry) p.1.records.items),
       changes.new.items,

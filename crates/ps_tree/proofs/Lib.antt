@@ -2,6 +2,7 @@ pub mod NameLemmas
 pub mod CodeLemmas
 pub mod CharacterLemmas
 pub mod FieldLemmas
+pub mod AlikeLemmas
 pub mod TreeLemmas
 pub mod StatementLemmas
 pub mod Compatibility

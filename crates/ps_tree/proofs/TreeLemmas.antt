@@ -10,7 +10,7 @@ use Rattle.ps_tree.specs.declared.tree.Selector.{Selector}
 use Rattle.ps_tree.specs.declared.tree.ArithmeticStep.{ArithmeticStep}
 use Rattle.ps_tree.specs.declared.tree.SetStep.{SetStep}
 use Rattle.ps_tree.specs.declared.tree.Structure.{Structure, Contents}
-use Rattle.ps_tree.specs.declared.tree.Relation.{Relation}
+use Rattle.ps_tree.specs.declared.tree.OrderRelation.{OrderRelation}
 use Rattle.ps_tree.specs.declared.tree.PointerRelation.{PointerRelation}
 use Rattle.ps_tree.specs.declared.tree.Expr.{Expr, Load, Arithmetic, Logic, Call, CallFormal, Row_of-Argument}
 use Rattle.ps_tree.specs.declared.tree.Expr.{end_of-Argument, more_of-Argument, items-the_row-Argument}
@@ -164,7 +164,7 @@ one_operand e b (inl f) = sym (ap (λ x. expr_extent (expr_of x)) f)
 one_operand e b (inr (inl f)) = sym (ap (λ x. expr_extent (expr_of x)) f.1)
 one_operand e b (inr (inr f)) = sym (ap (λ x. expr_extent (expr_of x)) f)
 
-pub two_operands : (e : Expr) (a b : Box Expr Global) → ((relation : Relation) × (e ≡ Compare relation a b))
+pub two_operands : (e : Expr) (a b : Box Expr Global) → ((relation : OrderRelation) × (e ≡ Compare relation a b))
     ⊎ ((relation : PointerRelation) × (e ≡ ComparePointers relation a b)) → expr_extent (expr_of a.value) ⊕ node
     ⊕ expr_extent (expr_of b.value) ≡ expr_extent (expr_of e)
 unfolding expr_extent expr_of

@@ -2,6 +2,7 @@
 use Rattle.std.specs.Prelude.{ℕ, ◌+◌, ◌-◌, ◌^◌, min, Bool, true, ◌&&◌, nat_le, List, [], ◌∷◌, length, Option, Some}
 use Rattle.std.specs.Prelude.{None}
 use Rattle.ps_tree.specs.declared.count.Extent.{Extent}
+use Rattle.ps_tree.specs.declared.limits.TheConstants.{MAX_CELLS, MAX_DEPTH, MAX_FORMALS, MAX_NODES, MAX_ROUTINES}
 use Rattle.ps_tree.specs.Types.{DataType}
 use Rattle.ps_tree.specs.Sizes.{cells}
 use Rattle.ps_tree.specs.Tree.{Place, Variable, Selector, Element, Field, Target, Selectors, no_selector}
@@ -212,7 +213,7 @@ routine_cells r = (routine_extent r).taken
 
 -- at most 100,000 cells
 abbrev pub is_small : DataType → Bool
-is_small type = nat_le (cells type) 100000
+is_small type = nat_le (cells type) MAX_CELLS
 
 unfoldable pub is_small_result : Option DataType → Bool
 is_small_result None = true
@@ -220,7 +221,7 @@ is_small_result (Some type) = is_small type
 
 -- a heading, and each one of a procedural parameter within it: at most 32 parameters, and every type in it is small
 abbrev pub is_short : Formals → Bool
-is_short formals = nat_le (formals_extent formals).nodes 32
+is_short formals = nat_le (formals_extent formals).nodes MAX_FORMALS
 
 unfoldable mutual
   pub is_small_formal : Formal → Bool
@@ -240,9 +241,9 @@ are_small (type ∷ rest) = is_small type && are_small rest
 -- nested at most 15 deep within the program block, its heading and its variables as above, at most 100,000 cells and
 -- 4,194,304 nodes
 unfoldable pub is_routine_within_limits : Routine → Bool
-is_routine_within_limits r = nat_le (length r.chain) 16 && is_short r.formals && are_small_formals r.formals
-    && is_small_result r.result && are_small r.variables && nat_le (routine_cells r) 100000 && nat_le
-    (routine_nodes r) 4194304
+is_routine_within_limits r = nat_le (length r.chain) MAX_DEPTH && is_short r.formals && are_small_formals r.formals
+    && is_small_result r.result && are_small r.variables && nat_le (routine_cells r) MAX_CELLS && nat_le
+    (routine_nodes r) MAX_NODES
 
 unfoldable pub are_routines_within_limits : List Routine → Bool
 are_routines_within_limits [] = true
@@ -250,5 +251,5 @@ are_routines_within_limits (r ∷ rest) = is_routine_within_limits r && are_rout
 
 -- with at most 1,048,576 routines and pointer types
 unfoldable pub is_within_limits : Program → Bool
-is_within_limits p = nat_le (length p.routines) 1048576 && nat_le (length p.domains) 1048576 && are_small p.domains
-    && are_routines_within_limits p.routines
+is_within_limits p = nat_le (length p.routines) MAX_ROUTINES && nat_le (length p.domains) MAX_ROUTINES
+    && are_small p.domains && are_routines_within_limits p.routines

@@ -3,7 +3,7 @@ use Rattle.std.specs.Prelude.{ℕ, ℤ, List, [], get_or, Option, None}
 use Rattle.ps_tree.specs.declared.tree.ArithmeticOperator.{ArithmeticOperator}
 use Rattle.ps_tree.specs.declared.tree.BooleanOperator.{BooleanOperator}
 use Rattle.ps_tree.specs.declared.tree.SetOperator.{SetOperator}
-use Rattle.ps_tree.specs.declared.tree.Relation.{Relation}
+use Rattle.ps_tree.specs.declared.tree.OrderRelation.{OrderRelation}
 use Rattle.ps_tree.specs.declared.tree.PointerRelation.{PointerRelation}
 use Rattle.ps_tree.specs.declared.tree.SetRelation.{SetRelation}
 use Rattle.ps_tree.specs.declared.tree.RequiredFunction.{RequiredFunction}
@@ -50,10 +50,10 @@ mutual
     Arithmetic : Expr → ArithmeticSteps → Expr
     -- operands with the same operator between each two
     Logic : BooleanOperator → Expr → Operands → Expr
-    Compare : Relation → Expr → Expr → Expr
+    Compare : OrderRelation → Expr → Expr → Expr
     ComparePointers : PointerRelation → Expr → Expr → Expr
     CompareSets : SetRelation → SetExpr → SetExpr → Expr
-    CompareStrings : Relation → Structure → Structure → Expr
+    CompareStrings : OrderRelation → Structure → Structure → Expr
     In : Expr → SetExpr → Expr
     -- a required function of one ordinal, with the line of its name
     Apply : RequiredFunction → Expr → (line : ℕ) → Expr

@@ -3,6 +3,7 @@
 
 pub mod characters;
 mod count;
+pub mod limits;
 pub mod line;
 pub mod names;
 pub mod program;

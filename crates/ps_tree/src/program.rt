@@ -10,6 +10,7 @@ ghost use Rattle.ps_tree.specs.Counts.{is_routine_within_limits, are_routines_wi
 ghost use Rattle.ps_tree.specs.View.{type_of, formal_of, formals_of, routine_of, program_of};
 
 use crate::count::{Extent, NOTHING, both, copy, count_statements};
+use crate::limits::{MAX_CELLS, MAX_DEPTH, MAX_FORMALS, MAX_NODES, MAX_ROUTINES};
 use crate::tree::{Formal, Routine};
 use crate::types::Ty;
 use std::marker::Model;
@@ -98,13 +99,13 @@ impl Routine {
         ensures { result ≡ is_routine_within_limits (routine_of self.now) }
     {
         let extent = self.extent();
-        self.chain.len() <= 16
+        self.chain.len() <= MAX_DEPTH
             && is_short(&self.formals)
             && are_small_formals(&self.formals)
             && is_small_result(&self.result)
             && are_small(&self.variables)
-            && extent.taken <= 100_000
-            && extent.nodes <= 4_194_304
+            && extent.taken <= MAX_CELLS
+            && extent.nodes <= MAX_NODES
     }
 }
 
@@ -112,7 +113,7 @@ impl Routine {
 fn is_small(ty: &Ty) -> bool
     ensures { result ≡ is_small (type_of ty.now) }
 {
-    ty.cells() <= 100_000
+    ty.cells() <= MAX_CELLS
 }
 
 /// The types have at most 100,000 cells each.
@@ -142,7 +143,7 @@ fn is_small_result(result_type: &Option<Ty>) -> bool
 fn is_short(formals: &[Formal]) -> bool
     ensures { result ≡ is_short (formals_of formals.now) }
 {
-    count_formals(formals).nodes <= 32
+    count_formals(formals).nodes <= MAX_FORMALS
 }
 
 /// Whether a procedural parameter's heading keeps the limits, given whether its formal parameters do.
@@ -195,8 +196,8 @@ fn are_routines_within_limits(routines: &[Routine]) -> bool
 fn are_within_limits(routines: &[Routine], domains: &[Ty]) -> bool
     ensures { result ≡ is_within_limits (program_of routines.now domains.now) }
 {
-    routines.len() <= 1_048_576
-        && domains.len() <= 1_048_576
+    routines.len() <= MAX_ROUTINES
+        && domains.len() <= MAX_ROUTINES
         && are_small(domains)
         && are_routines_within_limits(routines)
 }

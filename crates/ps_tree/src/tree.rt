@@ -33,7 +33,7 @@ pub enum SetOperator {
 
 /// A relational operator on ordinals or strings (6.7.2.5).
 #[derive(Clone, Copy)]
-pub enum Relation {
+pub enum OrderRelation {
     Equal,
     Different,
     Less,
@@ -144,7 +144,7 @@ pub enum Expr {
         rest: Vec<Expr>,
     },
     Compare {
-        relation: Relation,
+        relation: OrderRelation,
         left: Box<Expr>,
         right: Box<Expr>,
     },
@@ -159,7 +159,7 @@ pub enum Expr {
         right: Box<SetExpr>,
     },
     CompareStrings {
-        relation: Relation,
+        relation: OrderRelation,
         left: Box<Structure>,
         right: Box<Structure>,
     },

@@ -1,10 +1,11 @@
 // Types: what they are, and the components of arrays and records.
 
 mod agreement;
+mod alike;
 mod sizes;
 
 ghost use Rattle.std.specs.Prelude.{◌≡◌, ◌↔◌, ◌+◌, ◌*◌, ◌-◌, ◌^◌, ◌<◌, ◌≤◌, min, IfOk, IfSome, IsTrue, option_map};
-ghost use Rattle.ps_tree.specs.Types.{field_list, field_types, field_in, HaveSameNames};
+ghost use Rattle.ps_tree.specs.Types.{field_list, field_types, field_in, HaveSameNames, outline_at, AreAlike};
 ghost use Rattle.ps_tree.specs.Sizes.{depth, depth_of_fields, cells, record_cells};
 ghost use Rattle.ps_tree.specs.Sizes.{bytes, record_bytes, bytes_before, beginnings};
 ghost use Rattle.ps_tree.specs.TypeDepth.{deepest};
@@ -12,8 +13,10 @@ ghost use Rattle.ps_tree.specs.TypeView.{type_of, types_of};
 ghost use Rattle.ps_tree.specs.declared.types.Component.TheDeep.{size-Ty};
 
 use crate::names::Names;
+use crate::types::alike::alike_of_all;
 use crate::types::sizes::{bytes_of_all, cells_of_all, field_at, offsets_of_all, take_largest};
 pub use agreement::{assignable, compatible, same_host, same_type};
+pub use alike::have_same_fields;
 use std::alloc::{AllocError, Global};
 use std::marker::Model;
 use std::rc::Rc;
@@ -91,14 +94,15 @@ pub struct Component {
     byte_count: u32,
 }
 
-/// The fields of a record type: their names, in lower case, their types, and where they begin, in the same order; with
-/// a code of the names, and the sizes of a record.
+/// The fields of a record type: their names, in lower case, their types, where they begin, and for each the number of
+/// one whose type has the same fields, in the same order; with a code of the names, and the sizes of a record.
 #[cycle(types)]
 pub struct Fields {
     names: Names,
     code: Vec<u16>,
     types: Vec<Ty>,
     offsets: Vec<u32>,
+    alike: Vec<usize>,
     cell_count: u64,
     byte_count: u32,
 }
@@ -193,12 +197,14 @@ impl Drop for Fields {
             code,
             types,
             offsets,
+            alike,
             cell_count: _,
             byte_count: _,
         } = self;
         drop(names);
         drop(code);
         drop(offsets);
+        drop(alike);
         release_all(types);
     }
 }
@@ -256,12 +262,13 @@ impl Model for Fields {
 
     ghost use Rattle.std.specs.Prelude.{◌≡◌, ◌^◌, ◌-◌, min};
     ghost use Rattle.ps_tree.specs.NameCode.{names_code};
+    ghost use Rattle.ps_tree.specs.Types.{AreAlike};
     ghost use Rattle.ps_tree.specs.Sizes.{record_cells, record_bytes, beginnings, depth_of_fields};
     ghost use Rattle.ps_tree.specs.TypeView.{types_of};
 
     ghost view = { λ f. field_list f.names (types_of f.types.items) };
 
-    ghost invariant = { λ f. (f.cell_count ≡ min (record_cells (field_list f.names (types_of f.types.items))) (2 ^ 64 - 1)) × (f.byte_count ≡ min (record_bytes (field_list f.names (types_of f.types.items))) (2 ^ 32 - 1)) × (f.offsets.items ≡ beginnings (2 ^ 32 - 1) 0 (types_of f.types.items)) × (f.code.items ≡ names_code f.names) };
+    ghost invariant = { λ f. (f.cell_count ≡ min (record_cells (field_list f.names (types_of f.types.items))) (2 ^ 64 - 1)) × (f.byte_count ≡ min (record_bytes (field_list f.names (types_of f.types.items))) (2 ^ 32 - 1)) × (f.offsets.items ≡ beginnings (2 ^ 32 - 1) 0 (types_of f.types.items)) × (f.code.items ≡ names_code f.names) × AreAlike (types_of f.types.items) f.alike.items };
 
     ghost size = { depth_of_fields };
 
@@ -365,11 +372,13 @@ impl Fields {
         let offsets = offsets_of_all(alloc, types.as_slice())?;
         let cell_count = cells_of_all(types.as_slice());
         let byte_count = bytes_of_all(types.as_slice());
+        let alike = alike_of_all(alloc, names.as_slice(), types.as_slice())?;
         Ok(Fields {
             names,
             code,
             types,
             offsets,
+            alike,
             cell_count,
             byte_count,
         })
@@ -393,12 +402,14 @@ impl Fields {
             code,
             types,
             offsets,
+            alike,
             cell_count: _,
             byte_count: _,
         } = self;
         drop(names);
         drop(code);
         drop(offsets);
+        drop(alike);
         types
     }
 
@@ -415,6 +426,17 @@ impl Fields {
         ensures { IsTrue result ↔ HaveSameNames self.now other.now }
     {
         self.types.len() == other.types.len() && self.code.as_slice() == other.code.as_slice()
+    }
+
+    /// The number of a field whose type has the same fields as that of the field with this number. It is one number for
+    /// many fields of one type, where their names have one letter.
+    pub fn alike(&self, number: usize) -> usize
+        ensures { outline_at (field_types self.now) result ≡ outline_at (field_types self.now) number }
+    {
+        match self.alike.get(number) {
+            Some(like) => *like,
+            None => number,
+        }
     }
 
     /// The types of the fields, in their order.

@@ -11,9 +11,10 @@ ghost use Rattle.ps_check_declarations.specs.Views.{frame_of, hidden_of};
 
 use crate::frame::{Frame, Hidden, Place};
 use ps_check_judgement::answer::broken;
-use ps_check_judgement::refusal::Fault;
+use ps_check_judgement::refusal::CheckFault;
 use ps_check_names::constants::{ConstantValue, constant, misplacement};
 use ps_check_names::meaning::Meaning;
+use ps_check_names::meanings::Meanings;
 use ps_check_names::reading::Reading;
 use ps_check_names::scope::{Found, Scope, within_own};
 use ps_syntax::Constant;
@@ -23,7 +24,7 @@ use std::alloc::Global;
 
 /// A name that begins at an offset, and is hidden by no definition within which the place lies.
 #[tactic(auto, unfolding(crate::specs::Denoters::passes, crate::specs::Views::hidden_of))]
-fn passes(hidden: &Hidden, name: &[u8], at: u32) -> Result<(), Fault>
+fn passes(hidden: &Hidden, name: &[u8], at: u32) -> Result<(), CheckFault>
     ensures { Answers result (λ _. tt) (passes (hidden_of hidden.now) name.now at) }
 {
     match hidden {
@@ -46,7 +47,7 @@ pub(super) fn pass_hidden(
     alloc: Global,
     hidden: &Hidden,
     name: Span,
-) -> Result<(), Fault>
+) -> Result<(), CheckFault>
     ensures { Answers result (λ _. tt) (passes (hidden_of hidden.now) (spelled reading.now.source.now name) name.from) }
 {
     match hidden {
@@ -60,7 +61,7 @@ pub(super) fn pass_hidden(
 
 /// The type denoted by what a name was found to be.
 #[tactic(auto, unfolding(crate::specs::Denoters::type_at, ps_check_names::specs::Views::meaning_of))]
-fn type_at(found: &Found, at: u32) -> Result<Ty, Fault>
+fn type_at(found: &Found, at: u32) -> Result<Ty, CheckFault>
     ensures { Answers result (λ ty. type_of ty) (type_at at (point_of found.now)) }
 {
     match found {
@@ -81,7 +82,7 @@ fn type_at(found: &Found, at: u32) -> Result<Ty, Fault>
 }
 
 /// The type that a name denotes.
-fn type_named(reading: &Reading, alloc: Global, scope: &Scope, name: Span) -> Result<Ty, Fault>
+fn type_named(reading: &Reading, alloc: Global, scope: &Scope, name: Span) -> Result<Ty, CheckFault>
     ensures { Answers result (λ ty. type_of ty) (type_named reading.now.source.now (scope_of scope.now) name) }
 {
     let found = reading.denoted(alloc, scope, name)?;
@@ -90,7 +91,7 @@ fn type_named(reading: &Reading, alloc: Global, scope: &Scope, name: Span) -> Re
 
 /// The type that a name denotes at a place of a block.
 #[tactic(auto, using(crate::proofs::HiddenLemmas::type_named_past), unfolding(ps_check_names::specs::Views::scope_of))]
-pub(crate) fn type_in(place: &Place, known: &[Meaning], name: Span) -> Result<Ty, Fault>
+pub(crate) fn type_in(place: &Place, known: &[Meaning], name: Span) -> Result<Ty, CheckFault>
     ensures { Answers result (λ ty. type_of ty)
         (type_named place.now.frame.reading.now.source.now
         (regions (frame_of place.now.frame) (hidden_of place.now.hidden) (map meaning_of known.now)) name) }
@@ -106,7 +107,7 @@ pub(crate) fn type_in(place: &Place, known: &[Meaning], name: Span) -> Result<Ty
     let scope = Scope::Block {
         routine,
         names,
-        known,
+        known: Meanings::new(known),
         outer,
     };
     type_named(reading, place.alloc, &scope, name)
@@ -119,7 +120,7 @@ fn pass_hidden_in(
     alloc: Global,
     hidden: &Hidden,
     written: Constant,
-) -> Result<(), Fault>
+) -> Result<(), CheckFault>
     ensures { Answers result (λ _. tt) (passes_in reading.now.source.now (hidden_of hidden.now) written) }
 {
     match written {
@@ -134,7 +135,7 @@ pub(crate) fn constant_in(
     place: &Place,
     known: &[Meaning],
     written: Constant,
-) -> Result<ConstantValue, Fault>
+) -> Result<ConstantValue, CheckFault>
     ensures { Answers result (λ value. constant_of value)
         (constant place.now.frame.reading.now.source.now
         (regions (frame_of place.now.frame) (hidden_of place.now.hidden) (map meaning_of known.now)) written) }
@@ -150,7 +151,7 @@ pub(crate) fn constant_in(
     let scope = Scope::Block {
         routine,
         names,
-        known,
+        known: Meanings::new(known),
         outer,
     };
     constant(reading, place.alloc, &scope, written)

@@ -14,7 +14,7 @@ use crate::denoters::named::{constant_in, type_in};
 use crate::frame::{Declared, Frame, Place};
 use crate::points::new_points;
 use ps_check_judgement::answer::broken;
-use ps_check_judgement::refusal::{Fault, Rule};
+use ps_check_judgement::refusal::{CheckFault, Rule};
 use ps_check_names::constants::ConstantValue;
 use ps_check_names::meaning::Meaning;
 use ps_syntax::{Constant, Ordinal as OrdinalDenoter};
@@ -24,7 +24,7 @@ use std::alloc::AllocError;
 
 /// The ordinal type that a type is.
 #[tactic(auto, unfolding(crate::specs::Denoters::ordinal_at, ps_tree::specs::View::type_of))]
-fn ordinal_at(ty: &Ty, at: u32) -> Result<Ordinal, Fault>
+fn ordinal_at(ty: &Ty, at: u32) -> Result<Ordinal, CheckFault>
     ensures { Answers result (λ ordinal. ordinal) (ordinal_at at (type_of ty.now)) }
 {
     match ty {
@@ -41,7 +41,7 @@ fn ordinal_at(ty: &Ty, at: u32) -> Result<Ordinal, Fault>
 
 /// A subrange of these constants, which begins at this place.
 #[tactic(auto, unfolding(crate::specs::Denoters::subrange, ps_check_names::specs::Views::constant_of))]
-fn subrange(at: u32, low: &ConstantValue, high: &ConstantValue) -> Result<Ordinal, Fault>
+fn subrange(at: u32, low: &ConstantValue, high: &ConstantValue) -> Result<Ordinal, CheckFault>
     ensures { Answers result (λ ordinal. ordinal) (subrange at (constant_of low.now) (constant_of high.now)) }
 {
     match (low, high) {
@@ -98,7 +98,7 @@ fn enumeration(
     declared: &mut Declared,
     at: u32,
     constants: &[Span],
-) -> Result<Ordinal, Fault>
+) -> Result<Ordinal, CheckFault>
     ensures { Answers result (λ ordinal. (ordinal, declared_of declared.new))
         (enumeration (frame_of place.now.frame) at constants.now (declared_of declared.old)) }
 {
@@ -131,7 +131,7 @@ fn subrange_of(
     at: u32,
     low: Constant,
     high: Constant,
-) -> Result<Ordinal, Fault>
+) -> Result<Ordinal, CheckFault>
     ensures { Answers result (λ o. o) (subrange_of (frame_of place.now.frame) (hidden_of place.now.hidden)
         (map meaning_of known.now) at low high) }
 {
@@ -146,7 +146,7 @@ pub(super) fn ordinal(
     place: &Place,
     declared: &mut Declared,
     denoter: &OrdinalDenoter,
-) -> Result<Ordinal, Fault>
+) -> Result<Ordinal, CheckFault>
     ensures { Answers result (λ o. (o, declared_of declared.new))
         (ordinal (frame_of place.now.frame) (hidden_of place.now.hidden) (declared_of declared.old) denoter.now) }
 {
@@ -171,7 +171,7 @@ pub(super) fn simple_type(
     place: &Place,
     declared: &mut Declared,
     denoter: &OrdinalDenoter,
-) -> Result<Ty, Fault>
+) -> Result<Ty, CheckFault>
     ensures { Answers result (λ ty. (type_of ty, declared_of declared.new))
         (simple_type (frame_of place.now.frame) (hidden_of place.now.hidden) (declared_of declared.old) denoter.now) }
 {

@@ -4,7 +4,7 @@ ghost use Rattle.std.specs.Prelude.{◌≡◌, if◌then◌else◌};
 ghost use Rattle.ps_tree.specs.View.{type_of, expr_of, set_of, structure_of};
 ghost use Rattle.ps_tree.specs.Types.{are_same, string_length};
 ghost use Rattle.ps_check_judgement.specs.Judged.{Answers};
-ghost use Rattle.ps_check_judgement.specs.declared.refusal.Fault.TheVariants.{Broken};
+ghost use Rattle.ps_check_judgement.specs.declared.refusal.CheckFault.TheVariants.{Broken};
 ghost use Rattle.ps_check_judgement.specs.declared.refusal.Rule.TheVariants.{WrongType};
 ghost use Rattle.ps_check_expressions.specs.Values.{SimpleValue, SetValue, StructureValue};
 ghost use Rattle.ps_check_expressions.specs.Values.{type_of_value};
@@ -15,60 +15,58 @@ ghost use Rattle.ps_check_expressions.specs.View.{value_of};
 
 use crate::operators::{Operands, boxed_pair, truth, unlike, wrong_type};
 use crate::value::TypedValue;
-use ps_check_judgement::refusal::Fault;
-use ps_syntax::Relation;
-use ps_tree::tree::{
-    Expr, PointerRelation, Relation as TreeRelation, SetExpr, SetRelation, Structure,
-};
+use ps_check_judgement::refusal::CheckFault;
+use ps_syntax::Relational;
+use ps_tree::tree::{Expr, OrderRelation, PointerRelation, SetExpr, SetRelation, Structure};
 use ps_tree::types::{Ty, compatible, same_host};
 use std::alloc::Global;
 
 /// The relation on ordinals or strings.
-fn ordered(relation: Relation) -> Option<TreeRelation>
+fn ordered(relation: Relational) -> Option<OrderRelation>
     ensures { result ≡ ordered relation }
 {
     match relation {
-        Relation::Equal => Some(TreeRelation::Equal),
-        Relation::NotEqual => Some(TreeRelation::Different),
-        Relation::Less => Some(TreeRelation::Less),
-        Relation::Greater => Some(TreeRelation::Greater),
-        Relation::LessEqual => Some(TreeRelation::AtMost),
-        Relation::GreaterEqual => Some(TreeRelation::AtLeast),
-        Relation::In => None,
+        Relational::Equal => Some(OrderRelation::Equal),
+        Relational::NotEqual => Some(OrderRelation::Different),
+        Relational::Less => Some(OrderRelation::Less),
+        Relational::Greater => Some(OrderRelation::Greater),
+        Relational::LessEqual => Some(OrderRelation::AtMost),
+        Relational::GreaterEqual => Some(OrderRelation::AtLeast),
+        Relational::In => None,
     }
 }
 
 /// The relation on pointers.
-fn of_pointers(relation: Relation) -> Option<PointerRelation>
+fn of_pointers(relation: Relational) -> Option<PointerRelation>
     ensures { result ≡ of_pointers relation }
 {
     match relation {
-        Relation::Equal => Some(PointerRelation::Same),
-        Relation::NotEqual => Some(PointerRelation::Other),
-        Relation::Less
-        | Relation::Greater
-        | Relation::LessEqual
-        | Relation::GreaterEqual
-        | Relation::In => None,
+        Relational::Equal => Some(PointerRelation::Same),
+        Relational::NotEqual => Some(PointerRelation::Other),
+        Relational::Less
+        | Relational::Greater
+        | Relational::LessEqual
+        | Relational::GreaterEqual
+        | Relational::In => None,
     }
 }
 
 /// The relation on sets.
-fn of_sets(relation: Relation) -> Option<SetRelation>
+fn of_sets(relation: Relational) -> Option<SetRelation>
     ensures { result ≡ of_sets relation }
 {
     match relation {
-        Relation::Equal => Some(SetRelation::Same),
-        Relation::NotEqual => Some(SetRelation::Other),
-        Relation::LessEqual => Some(SetRelation::Included),
-        Relation::GreaterEqual => Some(SetRelation::Includes),
-        Relation::Less | Relation::Greater | Relation::In => None,
+        Relational::Equal => Some(SetRelation::Same),
+        Relational::NotEqual => Some(SetRelation::Other),
+        Relational::LessEqual => Some(SetRelation::Included),
+        Relational::GreaterEqual => Some(SetRelation::Includes),
+        Relational::Less | Relational::Greater | Relational::In => None,
     }
 }
 
 /// Whether a value of the type may by itself be the first operand of the relation.
 #[tactic(auto, unfolding(crate::specs::Operators::may_be_first, ps_tree::specs::View::type_of))]
-pub(super) fn may_be_first(relation: Relation, ty: &Ty) -> bool
+pub(super) fn may_be_first(relation: Relational, ty: &Ty) -> bool
     ensures { result ≡ may_be_first relation (type_of ty.now) }
 {
     match ty {
@@ -85,11 +83,11 @@ pub(super) fn may_be_first(relation: Relation, ty: &Ty) -> bool
 #[tactic(auto, unfolding(crate::specs::Operators::simple_comparison, crate::specs::Operators::compared, crate::specs::View::value_of, ps_tree::specs::View::type_of, ps_tree::specs::View::expr_of))]
 fn simple_comparison(
     alloc: Global,
-    relation: Relation,
+    relation: Relational,
     left: (Expr, &Ty),
     right: (Expr, &Ty),
     at: Operands,
-) -> Result<TypedValue, Fault>
+) -> Result<TypedValue, CheckFault>
     ensures { Answers result (λ v. value_of v)
         (compared at relation (SimpleValue (expr_of left.entry.0) (type_of left.entry.1.now))
         (SimpleValue (expr_of right.entry.0) (type_of right.entry.1.now))) }
@@ -161,11 +159,11 @@ fn are_equally_long(a: &Ty, b: &Ty) -> bool
 #[tactic(auto, unfolding(ps_tree::specs::View::expr_of, crate::specs::Operators::compared, crate::specs::View::value_of))]
 fn set_comparison(
     alloc: Global,
-    relation: Relation,
+    relation: Relational,
     left: (SetExpr, &Ty),
     right: (SetExpr, &Ty),
     at: Operands,
-) -> Result<TypedValue, Fault>
+) -> Result<TypedValue, CheckFault>
     ensures { Answers result (λ v. value_of v)
         (compared at relation (SetValue (set_of left.entry.0) (type_of left.entry.1.now))
         (SetValue (set_of right.entry.0) (type_of right.entry.1.now))) }
@@ -186,11 +184,11 @@ fn set_comparison(
 #[tactic(auto, unfolding(ps_tree::specs::View::expr_of, crate::specs::Operators::compared, crate::specs::View::value_of))]
 fn string_comparison(
     alloc: Global,
-    relation: Relation,
+    relation: Relational,
     left: (Structure, &Ty),
     right: (Structure, &Ty),
     at: Operands,
-) -> Result<TypedValue, Fault>
+) -> Result<TypedValue, CheckFault>
     ensures { Answers result (λ v. value_of v)
         (compared at relation (StructureValue (structure_of left.entry.0) (type_of left.entry.1.now))
         (StructureValue (structure_of right.entry.0) (type_of right.entry.1.now))) }
@@ -211,11 +209,11 @@ fn string_comparison(
 #[tactic(auto, unfolding(ps_tree::specs::View::expr_of, crate::specs::Operators::compared, crate::specs::View::value_of))]
 fn membership(
     alloc: Global,
-    relation: Relation,
+    relation: Relational,
     left: (Expr, &Ty),
     right: (SetExpr, &Ty),
     at: Operands,
-) -> Result<TypedValue, Fault>
+) -> Result<TypedValue, CheckFault>
     ensures { Answers result (λ v. value_of v)
         (compared at relation (SimpleValue (expr_of left.entry.0) (type_of left.entry.1.now))
         (SetValue (set_of right.entry.0) (type_of right.entry.1.now))) }
@@ -223,25 +221,25 @@ fn membership(
     let ((left, s), (right, t)) = (left, right);
     let (left, right) = boxed_pair(alloc, left, right)?;
     match relation {
-        Relation::In => {
+        Relational::In => {
             if may_be_member(s, t) {
                 Ok(truth(Expr::In { left, right }))
             } else {
                 Err(wrong_type(at.first))
             }
         }
-        Relation::Equal
-        | Relation::NotEqual
-        | Relation::Less
-        | Relation::Greater
-        | Relation::LessEqual
-        | Relation::GreaterEqual => Err(unlike(relation, s, at)),
+        Relational::Equal
+        | Relational::NotEqual
+        | Relational::Less
+        | Relational::Greater
+        | Relational::LessEqual
+        | Relational::GreaterEqual => Err(unlike(relation, s, at)),
     }
 }
 
 /// Why no relation compares two operands, the first of which is `left`.
 #[tactic(auto, unfolding(crate::specs::View::value_of))]
-fn unlike_values(relation: Relation, left: &TypedValue, at: Operands) -> Fault
+fn unlike_values(relation: Relational, left: &TypedValue, at: Operands) -> CheckFault
     ensures { result ≡ Broken WrongType (if may_be_first relation (type_of_value (value_of left.now)) then at.second
         else at.first) }
 {
@@ -257,11 +255,11 @@ fn unlike_values(relation: Relation, left: &TypedValue, at: Operands) -> Fault
 #[tactic(auto, unfolding(crate::specs::Operators::compared, crate::specs::View::value_of))]
 pub(crate) fn compared(
     alloc: Global,
-    relation: Relation,
+    relation: Relational,
     left: TypedValue,
     right: TypedValue,
     at: Operands,
-) -> Result<TypedValue, Fault>
+) -> Result<TypedValue, CheckFault>
     ensures { Answers result (λ v. value_of v) (compared at relation (value_of left) (value_of right)) }
 {
     match (left, right) {

@@ -27,4 +27,4 @@ returns c =
       c.parts_of.ensures.types,
       c.parts_of.ensures.variables,
     ) at c.in_ok-declarations.ensures in
-    rw (read, c.new-changes.ensures.items) refl
+    rw (read, c.in_ok-local.ensures.known, c.in_ok-local.ensures.changes) refl

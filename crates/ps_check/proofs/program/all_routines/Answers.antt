@@ -1,6 +1,7 @@
 use Rattle.std.proofs.Common.{rules, ◌≡◌, [], ◌∷◌, length, sym, ap, ◌∙◌, arith}
 use Rattle.std.specs.Vec.Iter.{into_iter_items}
-use Rattle.ps_check.proofs.Collected.{collected_start, collected_next, collected_none, collected_end, nothing_left}
+use Rattle.std.proofs.lemmas.List.{nil_from_length}
+use Rattle.ps_check.proofs.Collected.{collected_start, collected_next, collected_none, collected_end}
 use Rattle.ps_check.proofs.program.all_routines.Goals as goal
 
 pub loop-finished-init : goal.loop-finished-init
@@ -28,6 +29,6 @@ returns-in-None-finished c =
 pub returns : goal.returns
 returns c =
     let none = c.in-None.ensures.steps in
-    let empty : into_iter_items c.loop-finished.finished-iterator ≡ [] = nothing_left _
+    let empty : into_iter_items c.loop-finished.finished-iterator ≡ [] = nil_from_length _
     (sym c.loop-finished.invariant.1 ∙ none.0) in
     search (rules, collected_end, empty)

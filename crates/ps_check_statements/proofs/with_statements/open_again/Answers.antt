@@ -1,6 +1,6 @@
 use Rattle.std.proofs.Common.{◌++◌, [], ◌∷◌, length, ap}
-use Rattle.ps_tree.specs.View.{type_of}
 use Rattle.ps_check_expressions.specs.View.{context_at, regions_at}
+use Rattle.ps_tree.specs.View.{type_of}
 use Rattle.ps_check_statements.proofs.Sources.{gives_one, gives_last, knows_more}
 use Rattle.ps_check_statements.proofs.with_statements.open_again.Goals as goal
 
@@ -9,9 +9,8 @@ with_like-requires c =
     let domains = (context_at c.args.site).domains in
     let Γ = regions_at c.args.site in
     let records = c.args.opened.records.items in
-    λ other is. gives_one domains Γ records c.in_ok-key.key.items c.args.source c.in-Some.like (type_of c.args.ty) other
-    (rw c.as_slice.ensures.value at (c.in-Some.ensures domains Γ records c.requires.known))
-    (c.in_ok-key.ensures domains Γ records (type_of c.args.ty) c.requires.given) is
+    λ other is. gives_one domains Γ records c.args.source c.in-Some.like (type_of c.args.ty) other
+    (c.in-Some.ensures domains Γ records c.requires.known) c.requires.given is
 
 pub returns-in-Some-clause-known : goal.returns-in-Some-clause-known
 returns-in-Some-clause-known c = rw c.in_ok-with_like-in-Some.ensures (knows_more (context_at c.args.site).domains
@@ -23,8 +22,6 @@ returns-clause-known c =
     let Γ = regions_at c.args.site in
     let records = c.args.opened.records.items in
     let before = knows_more domains Γ records c.args.known c.args.ty c.requires.known in
-    let last = gives_last domains Γ records c.in_ok-key.key.items c.args.ty c.args.source _
-    (ap length c.as_slice-number.ensures.value) (c.in_ok-key.ensures domains Γ records (type_of c.args.ty)
-    c.requires.given) in
-    rw c.in_ok-with-in-None.ensures (c.in_ok-known-in-None.ensures domains Γ (records ++ c.args.ty ∷ []) before
-    (rw c.as_slice-in-None.ensures.value last))
+    let last = gives_last domains Γ records c.args.ty c.args.source _ (ap length c.as_slice-number.ensures.value)
+    c.requires.given in
+    rw c.in_ok-with-in-None.ensures (c.in_ok-known-in-None.ensures domains Γ (records ++ c.args.ty ∷ []) before last)

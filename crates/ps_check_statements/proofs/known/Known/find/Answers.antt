@@ -9,5 +9,5 @@ returns-then-same_source c = λ domains Γ records known.
     let there = ap (λ l. slice_get l c.in_ok-index.index) (sym c.deref.ensures.value)
     ∙ got c.deref.result.now c.in_ok-index.index e c.in_ok-known.ensures.lookup.3.0
     (c.in_ok-known.ensures.lookup.3.1 e) in
-    found_gives domains Γ records c.args.self.now c.args.name.now c.in_ok-index.index e c.args.source
-    (sym c.in_ok-index.ensures) there (c.same_source.ensures c.if-same_source.true) known
+    found_gives domains Γ records c.args.self.now c.in_ok-index.index e c.args.source there
+    (c.same_source.ensures c.if-same_source.true) known

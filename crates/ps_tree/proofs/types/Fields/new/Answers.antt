@@ -1,5 +1,5 @@
-use Rattle.std.proofs.Common.{◌∙◌, ap, min}
-use Rattle.ps_tree.specs.Types.{field_list}
+use Rattle.std.proofs.Common.{◌∙◌, ap, min, subst}
+use Rattle.ps_tree.specs.Types.{field_list, AreAlike}
 use Rattle.ps_tree.specs.Sizes.{record_cells, field_bytes, beginnings}
 use Rattle.ps_tree.specs.TypeView.{types_of}
 use Rattle.ps_tree.proofs.SizeLemmas.{record_bytes_are}
@@ -15,4 +15,5 @@ invariant_of-result c = (
       (record_bytes_are c.args.names (types_of c.args.types.items)),
   c.in_ok-offsets.ensures ∙ ap (λ items. beginnings 4294967295 0 (types_of items)) c.as_slice.ensures.value,
   c.in_ok-code.ensures,
+  subst (λ items. AreAlike (types_of items) c.in_ok-alike.alike.items) c.as_slice-5.ensures.value c.in_ok-alike.ensures,
 )

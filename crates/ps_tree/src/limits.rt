@@ -1,0 +1,16 @@
+//! The limits of programs, which are this project's own.
+
+/// The most blocks that a routine may lie in, the program block among them.
+pub const MAX_DEPTH: usize = 16;
+
+/// The most formal parameters of a heading, those of its procedural and functional parameters counted.
+pub const MAX_FORMALS: u64 = 32;
+
+/// The most cells of a type, of a routine, or of the program block.
+pub const MAX_CELLS: u64 = 100_000;
+
+/// The most nodes of a routine, or of the program block.
+pub const MAX_NODES: u64 = 4_194_304;
+
+/// The most routines of a program, and the most of its pointer types.
+pub const MAX_ROUTINES: usize = 1_048_576;
