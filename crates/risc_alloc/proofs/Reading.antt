@@ -2,7 +2,7 @@
 use Rattle.std.proofs.Common.{◌≡◌, ℕ, suc, ◌+◌, ◌-◌, ◌<◌, ◌⊎◌, inl, inr, ⊎_elim, Bool, true, false, ◌||◌, nat_eq, List}
 use Rattle.std.proofs.Common.{[], ◌∷◌, ◌++◌, length, slice_index, Option, Some, None, refl, sym, ap, ◌∙◌, arith}
 use Rattle.std.specs.Option.{option_to_list}
-use Rattle.std.proofs.lemmas.Bool.{eqb-true, or_cases}
+use Rattle.std.proofs.lemmas.Bool.{eqb-true, or_cases, or_right}
 use Rattle.tac_code.specs.declared.code.Operand.{Operand}
 use Rattle.tac_code.specs.declared.code.Operand.TheVariants as operand
 use Rattle.tac_code.specs.declared.code.Base.{Base}
@@ -44,10 +44,6 @@ parts_are (LoadByte t a n) = in_base_is a
 parts_are (StoreByte a n b) = ap (λ (l : List ℕ). b ∷ l) (in_base_is a)
 parts_are _ = refl
 
-or_second : (a b : Bool) → b ≡ true → (a || b) ≡ true
-or_second true b e = refl
-or_second false b e = e
-
 among_append : (u : ℕ) (xs ys : List ℕ) → is_among u (xs ++ ys) ≡ true → (is_among u xs ≡ true) ⊎ (is_among u ys ≡ true)
 among_append u [] ys e = inr e
 among_append u (x ∷ xs) ys e =
@@ -55,7 +51,7 @@ among_append u (x ∷ xs) ys e =
     (λ (same : nat_eq u x ≡ true). inl (ap (λ (b : Bool). b || is_among u xs) same))
     (λ (rest : is_among u (xs ++ ys) ≡ true).
     ⊎_elim
-    (λ (l : is_among u xs ≡ true). inl (or_second (nat_eq u x) (is_among u xs) l))
+    (λ (l : is_among u xs ≡ true). inl (or_right (nat_eq u x) (is_among u xs) l))
     (λ (r : is_among u ys ≡ true). inr r)
     (among_append u xs ys rest))
     (or_cases (nat_eq u x) (is_among u (xs ++ ys)) e)

@@ -17,7 +17,7 @@ pub(crate) struct Table {
 
 /// The seat of a temporary, and the number that stands for the temporary there.
 #[derive(Clone, Copy)]
-struct Seat {
+struct Entry {
     number: usize,
     holder: u32,
 }
@@ -37,7 +37,7 @@ impl Table {
     }
 
     // None of what sits elsewhere.
-    fn find(&self, window: &Window, temporary: u32) -> Option<Seat>
+    fn find(&self, window: &Window, temporary: u32) -> Option<Entry>
         ensures there { IfSome result (λ s. temporary < length window.now.seats.items) }
         ensures number { IfSome result (λ s. s.number ≡ slice_index window.now.seats.items temporary) }
         ensures here { IfSome result (λ s. s.number < 12) }
@@ -49,7 +49,7 @@ impl Table {
             return None;
         }
         let holder = temporary.checked_add(1)?;
-        Some(Seat { number, holder })
+        Some(Entry { number, holder })
     }
 
     /// A temporary of the window takes its seat; false where another holds it.

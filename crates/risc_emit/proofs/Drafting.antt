@@ -3,12 +3,12 @@ use Rattle.std.proofs.Common.{◌≡◌, ℕ, zero, suc, ◌+◌, ◌<◌, ◌�
 use Rattle.std.proofs.Common.{length-append, take, append_assoc, Some, slice_get, refl, sym, ap, ◌∙◌, subst, arith}
 use Rattle.std.proofs.lemmas.List.{append-nil}
 use Rattle.std.proofs.lemmas.Bool.{cases_lt}
+use Rattle.std.proofs.lemmas.Option.{slice_get_within}
 use Rattle.tac_code.specs.declared.code.Instruction.{Instruction}
 use Rattle.tac_code.specs.declared.code.TacRoutine.{TacRoutine}
 use Rattle.tac_code.specs.Meaning.{Code, routines}
 use Rattle.risc_alloc.specs.declared.homes.Home.{Home}
 use Rattle.risc_emit_relation.specs.Context.{Context}
-use Rattle.risc_emit_relation.proofs.Basics.{get_within}
 use Rattle.risc_emit_forms.specs.Pieces.{Piece}
 use Rattle.risc_emit_forms.specs.Forms.{form, entry_form}
 use Rattle.risc_emit_laws.specs.Drawn.{body_pieces, routine_pieces, routines_pieces, start_pieces, program_pieces}
@@ -244,7 +244,7 @@ module _ (c : Context) where
         record {
           count = d.count ∙ end;
           each = λ r routine at. d.each r routine
-              (let lt = get_within (routines c.code) r routine at in omega (arith, lt, end)) at;
+              (let lt = slice_get_within (routines c.code) r routine at in omega (arith, lt, end)) at;
         }
 
 -- ---- the loop over all routines: each is written in a frame of its own

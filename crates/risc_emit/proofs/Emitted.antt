@@ -1,6 +1,7 @@
 -- What is left for the program to show of the image that it writes, and that it is the code's then.
 use Rattle.std.proofs.Common.{◌≡◌, ℕ, zero, suc, ◌+◌, ◌*◌, ◌%◌, ◌<◌, ◌≤◌, Bool, true, false, cond, nat_lt, List, []}
 use Rattle.std.proofs.Common.{◌∷◌, length, Some, slice_get, refl, ap, ◌∙◌, arith}
+use Rattle.std.proofs.lemmas.Bool.{le-ltb}
 use Rattle.tac_code.specs.declared.code.TacRoutine.{TacRoutine}
 use Rattle.tac_code.specs.Meaning.{Code, routines, size}
 use Rattle.tac_code.specs.Sound.{IsSound}
@@ -21,9 +22,6 @@ use Rattle.risc_emit_laws.proofs.Charged.{frames_charged, objects_charged}
 use Rattle.risc_emit_laws.proofs.Texts.{texts_placed}
 use Rattle.risc_emit.specs.Layout.{frame_in, scratch_in, frame_cost, object_cost, object_cost_in, used, laid_out}
 use Rattle.risc_emit.proofs.Laid.{plan_of, alike_laid, is_laid, parameters_first, cost_program, offsets_program}
-
-not_below : (a b : ℕ) → b ≤ a → nat_lt a b ≡ false
-not_below a b le = grind (arith, le)
 
 -- an object is charged for its bytes, but for at least 4
 charged : (bytes : ℕ) → (bytes ≤ object_cost bytes) × (4 ≤ object_cost bytes) × (object_cost bytes ≤ bytes + 4)
@@ -65,7 +63,7 @@ module _ (code : Code) (homes : List Home) (sound : IsSound code) (valid : Valid
   costs : (r : ℕ) → plan.frame_cost image r ≡ frame_cost code r
   costs =
       frames_charged (laid_out code homes) image w.tabled
-      (λ r le. ap (λ b. cond b (used code r) 0) (not_below r (length code.program) le))
+      (λ r le. ap (λ b. cond b (used code r) 0) (le-ltb r (length code.program) le))
 
   none_past : (xs : List ℕ) (t : ℕ) → length xs ≤ t → object_cost_in (slice_get xs t) ≡ 0
   none_past [] t le = refl

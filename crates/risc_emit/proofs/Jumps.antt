@@ -2,7 +2,7 @@
 use Rattle.std.proofs.Common.{◌≡◌, ℕ, suc, ◌+◌, ◌≤◌, Bool, List, length, drop, Some, slice_get, sym, ap, ◌∙◌, subst}
 use Rattle.std.proofs.Common.{arith}
 use Rattle.tac_code.specs.declared.code.Instruction.{Instruction}
-use Rattle.risc_emit_forms.specs.Told.{jump_of, set_in, marked}
+use Rattle.risc_emit_forms.specs.Peephole.{jump_of, set_in, marked}
 use Rattle.risc_emit.proofs.Rows.{drop_get, drop_past}
 
 pub marked_more : (body : List Instruction) (place : ℕ) (i : Instruction) (marks more all : List Bool)

@@ -1,6 +1,7 @@
 -- The layout keeps what the law of emission requires of it.
-use Rattle.std.proofs.Common.{◌≡◌, ℕ, zero, suc, ◌+◌, ◌*◌, ◌%◌, ◌≤◌, ◌⊎◌, inl, inr, Bool, true, false, cond, nat_lt}
+use Rattle.std.proofs.Common.{◌≡◌, ℕ, zero, suc, ◌+◌, ◌*◌, ◌%◌, ◌≤◌, ◌⊎◌, inl, inr, true, false, cond, nat_lt}
 use Rattle.std.proofs.Common.{List, [], ◌∷◌, ◌++◌, length, Option, Some, None, slice_get, refl, ap, ◌∙◌, arith}
+use Rattle.std.proofs.lemmas.Bool.{cases_Bool}
 use Rattle.tac_code.specs.declared.code.TacRoutine.{TacRoutine}
 use Rattle.tac_code.specs.Meaning.{Code, routines}
 use Rattle.tac_code.specs.Sound.{IsSound}
@@ -34,10 +35,6 @@ plan_of code site entry constant =
 some_of : (o : Option TacRoutine) → (o ≡ None) ⊎ ((x : TacRoutine) × (o ≡ Some x))
 some_of None = inl refl
 some_of (Some x) = inr (x, refl)
-
-bool_of : (b : Bool) → (b ≡ true) ⊎ (b ≡ false)
-bool_of true = inl refl
-bool_of false = inr refl
 
 -- a routine that is not the program's is one of the run-time library
 leaf_get : (xs ys : List TacRoutine) (r : ℕ) (x : TacRoutine) → nat_lt r (length xs) ≡ false → slice_get (xs ++ ys) r
@@ -96,7 +93,7 @@ module _ (code : Code) (homes : List Home) (sound : IsSound code) (valid : Valid
 
   offsets : (r : ℕ) → ((link_at code r ≡ 0) × (slots_at code r ≡ 276))
       ⊎ ((link_at code r ≡ 40) × (slots_at code r ≡ 44))
-  offsets r = go (bool_of (nat_lt r (length code.program)))
+  offsets r = go (cases_Bool (nat_lt r (length code.program)))
     where
       go : (nat_lt r (length code.program) ≡ true) ⊎ (nat_lt r (length code.program) ≡ false)
           → ((link_at code r ≡ 0) × (slots_at code r ≡ 276)) ⊎ ((link_at code r ≡ 40) × (slots_at code r ≡ 44))
@@ -136,7 +133,7 @@ module _ (code : Code) (homes : List Home) (sound : IsSound code) (valid : Valid
   cost_program r e = ap (λ b. cond b (used code r) 0) e
 
   pub cost_whole : (r : ℕ) → frame_cost code r % 4 ≡ 0
-  cost_whole r = go (bool_of (nat_lt r (length code.program)))
+  cost_whole r = go (cases_Bool (nat_lt r (length code.program)))
     where
       go : (nat_lt r (length code.program) ≡ true) ⊎ (nat_lt r (length code.program) ≡ false) → frame_cost code r % 4
           ≡ 0

@@ -8,10 +8,9 @@ mod Written
 mod Passing
 mod Joined
 mod Parts
-mod Ranged
 mod Homes
 mod Texts
 mod Few
 mod Drafting
-mod Telling
+mod Peephole
 mod Limits

@@ -1,6 +1,7 @@
 -- A draft that has too many words already is part of a code that has.
-use Rattle.std.proofs.Common.{◌≡◌, ℕ, ◌+◌, ◌<◌, Bool, true, nat_lt, List, ◌++◌, length, length-append, take, Some}
+use Rattle.std.proofs.Common.{◌≡◌, ℕ, ◌+◌, ◌<◌, true, nat_lt, List, ◌++◌, length, length-append, take, Some}
 use Rattle.std.proofs.Common.{slice_get, ap, arith}
+use Rattle.std.proofs.lemmas.Bool.{ltb-true}
 use Rattle.tac_code.specs.declared.code.TacRoutine.{TacRoutine}
 use Rattle.tac_code.specs.Meaning.{routines}
 use Rattle.risc_emit_relation.specs.Context.{Context}
@@ -11,16 +12,13 @@ use Rattle.risc_emit.specs.declared.marks.Mark.{Mark}
 use Rattle.risc_emit.proofs.Places.{site_low, text_low}
 use Rattle.risc_emit.proofs.Drafting.{Drafted}
 
-more : (a b : ℕ) → nat_lt a b ≡ true → a < b
-more a b e = grind (arith, e)
-
 pub drafted_past : (c : Context) (r : ℕ) (routine : TacRoutine) (front : List Piece) (behind : List ℕ) (k n : ℕ)
     (ps : List Piece) (ts : List ℕ) (ms : List Mark) → slice_get (routines c.code) r ≡ Some routine → length front
     ≡ entry_place c r → length behind ≡ length (routines_texts (take r (routines c.code)))
     → Drafted c r routine front behind k ps ts ms → nat_lt n (length ps + length ts) ≡ true → n < length
     (program_pieces c) + length (routines_texts (routines c.code))
 drafted_past c r routine front behind k n ps ts ms own entry first d past =
-    let lt = more n (length ps + length ts) past in
+    let lt = ltb-true n (length ps + length ts) past in
     let site = site_low c r k routine own in
     let text = text_low c.code r k routine own in
     let pieces = ap length d.pieces in

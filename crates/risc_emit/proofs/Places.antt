@@ -1,12 +1,12 @@
 -- The places of the marks are those of the pieces, and are within them.
 use Rattle.std.proofs.Common.{◌≡◌, ℕ, zero, suc, ◌+◌, ◌<◌, ◌≤◌, ◌⊎◌, inl, inr, List, [], ◌∷◌, length, length-append}
 use Rattle.std.proofs.Common.{take, Option, Some, None, slice_get, refl, sym, ap, ◌∙◌, arith}
+use Rattle.std.proofs.lemmas.Option.{slice_get_within}
 use Rattle.tac_code.specs.declared.code.Instruction.{Instruction}
 use Rattle.tac_code.specs.declared.code.TacRoutine.{TacRoutine}
 use Rattle.tac_code.specs.Meaning.{Code, routines}
 use Rattle.risc_alloc.specs.declared.homes.Home.{Home}
 use Rattle.risc_emit_relation.specs.Context.{Context}
-use Rattle.risc_emit_relation.proofs.Basics.{get_within}
 use Rattle.risc_emit_forms.specs.Pieces.{AtPlace, AtEntry, AtText}
 use Rattle.risc_emit_forms.specs.Forms.{form, entry_form}
 use Rattle.risc_emit_laws.specs.Drawn.{body_pieces, routine_pieces, routines_pieces, start_pieces, program_pieces}
@@ -110,7 +110,7 @@ module _ (code : Code) (homes : List Home) (marks : List Marks) (marked : AreMar
   routine_of : (r : ℕ) (m : Marks) → slice_get marks r ≡ Some m → (routine : TacRoutine)
       × (slice_get (routines code) r ≡ Some routine)
   routine_of r m is =
-      let lt = get_within marks r m is in
+      let lt = slice_get_within marks r m is in
       let n = marked.count in
       get_there (routines code) r (omega (arith, lt, n))
 
@@ -123,7 +123,7 @@ module _ (code : Code) (homes : List Home) (marks : List Marks) (marked : AreMar
       let same : own.0 ≡ m = some_same own.0 m (sym own.1 ∙ is) in
       let count = own.2.count in
       let long = ap (λ x. length x.places.items) same in
-      let lt = get_within m.places.items k mark here in
+      let lt = slice_get_within m.places.items k mark here in
       (found.0, found.1, omega (arith, count, long, lt))
     where
       some_same : {X : Type 0} (x y : X) → Some x ≡ Some y → x ≡ y

@@ -3,6 +3,8 @@ use Rattle.std.proofs.Common.{◌≡◌, ℕ, zero, suc, ◌+◌, ◌%◌, ◌<�
 use Rattle.std.proofs.Common.{◌++◌, length, length-append, map, Option, Some, None, is_some, slice_get, refl, sym, ap}
 use Rattle.std.proofs.Common.{◌∙◌, subst, arith}
 use Rattle.std.proofs.lemmas.List.{length-map}
+use Rattle.std.proofs.lemmas.Bool.{lt-ltb}
+use Rattle.std.proofs.lemmas.Option.{slice_get_within}
 use Rattle.tac_code.specs.declared.code.TacRoutine.{TacRoutine}
 use Rattle.tac_code.specs.Meaning.{Code, routines}
 use Rattle.tac_code.specs.Sound.{IsSound}
@@ -11,7 +13,6 @@ use Rattle.risc_alloc.specs.Valid.{Valid}
 use Rattle.risc_machine_laws.specs.View.{IsAt}
 use Rattle.risc_image.specs.Image.{Image, IsWellFormed}
 use Rattle.risc_emit_relation.specs.Context.{Context}
-use Rattle.risc_emit_relation.proofs.Basics.{get_within}
 use Rattle.risc_emit_forms.specs.Pieces as piece
 use Rattle.risc_emit_forms.specs.Pieces.{AtPlace, AtEntry, AtText, Plain, Goes, Fails, Enters, Joins, EntersAt, High}
 use Rattle.risc_emit_forms.specs.Pieces.{Low, instr_at}
@@ -46,9 +47,6 @@ get_meant (x ∷ ps) zero p e = (x, refl, some_same (meant x) p e)
     some_same : {X : Type 0} (x y : X) → Some x ≡ Some y → x ≡ y
     some_same x y e = cc e
 get_meant (x ∷ ps) (suc i) p e = get_meant ps i p e
-
-below : (a b : ℕ) → a < b → nat_lt a b ≡ true
-below a b lt = grind (arith, lt)
 
 -- ---- pieces are the same instructions by the marks and in the image
 
@@ -152,7 +150,7 @@ module _ (code : Code) (homes : List Home) (sound : IsSound code) (valid : Valid
       (plan_of code (site_at marks) (entry_at marks) (constant_at marks (length pieces))) image heap stack) at p)
   word_at heap stack at p e =
       let q = get_meant pieces at p (ap (λ ps. slice_get ps at) m.meant ∙ e) in
-      let lt = get_within pieces at q.0 q.1 in
+      let lt = slice_get_within pieces at q.0 q.1 in
       let here = m.code_words.words.each at q.0 lt q.1 in
       let d = context code homes (plan_of code (site_at marks) (entry_at marks) (constant_at marks (length pieces)))
       image heap stack in
@@ -191,7 +189,7 @@ module _ (code : Code) (homes : List Home) (sound : IsSound code) (valid : Valid
         routines = routines_counted code homes sound valid image _ _ _ _ is_written;
         types = types_counted code homes sound valid image _ _ _ _ is_written;
         frames = λ r routine is. frame_charged code homes sound valid image _ _ _ _ is_written r routine
-            (below r (length code.program) (get_within code.program r routine is))
+            (lt-ltb r (length code.program) (slice_get_within code.program r routine is))
             (get_first code.program code.run_time r routine is);
         objects = object_charged code homes sound valid image _ _ _ _ is_written;
       }

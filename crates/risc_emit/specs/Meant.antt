@@ -8,8 +8,8 @@ use Rattle.risc_emit.specs.declared.pieces.Label.{Label}
 use Rattle.risc_emit.specs.declared.pieces.Label.TheVariants.{Forward, Back, Entry, Text}
 use Rattle.risc_emit.specs.declared.pieces.Piece.{Piece}
 use Rattle.risc_emit.specs.declared.pieces.Piece.TheVariants.{Plain, Goes, Fails, Enters, Joins, EntersAt, High, Low}
-use Rattle.risc_emit.specs.declared.seat.Seat.{Seat}
-use Rattle.risc_emit.specs.declared.seat.Seat.TheVariants.{Slot, Register}
+use Rattle.risc_emit.specs.declared.location.Location.{Location}
+use Rattle.risc_emit.specs.declared.location.Location.TheVariants.{Slot, Register}
 
 -- a jump is counted from its own place
 abbrev pub label_of : Label → piece.Label
@@ -31,6 +31,6 @@ meant (Low q label) = piece.Low q (label_of label)
 abbrev pub all_meant : List Piece → List piece.Piece
 all_meant pieces = map meant pieces
 
-abbrev pub home_of_seat : Seat → Home
-home_of_seat (Slot k) = home.Slot k
-home_of_seat (Register q) = home.Reg q
+abbrev pub home_of_location : Location → Home
+home_of_location (Slot k) = home.Slot k
+home_of_location (Register q) = home.Reg q

@@ -11,8 +11,8 @@ PassesFew _ = Unit {0}
 
 abbrev pub IsNear : Option (ℕ × ℤ) → ℕ → Type 0
 IsNear None n = Unit {0}
-IsNear (Some bent) n = (negsuc 524287 ≤ℤ (bent.1 +ℤ pos n)) × ((bent.1 +ℤ pos n) ≤ℤ pos 524287)
+IsNear (Some deferred) n = (negsuc 524287 ≤ℤ (deferred.1 +ℤ pos n)) × ((deferred.1 +ℤ pos n) ≤ℤ pos 524287)
 
 abbrev pub LoadsNear : Instruction → Option (ℕ × ℤ) → Type 0
-LoadsNear (Load t a n) bent = IsNear bent n
-LoadsNear _ bent = Unit {0}
+LoadsNear (Load t a n) deferred = IsNear deferred n
+LoadsNear _ deferred = Unit {0}

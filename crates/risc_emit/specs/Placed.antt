@@ -1,5 +1,6 @@
 -- Where labels lead, by the marks of a draft. A label that leads nowhere has place 0.
 use Rattle.std.specs.Prelude.{◌≡◌, ℕ, ◌+◌, ◌<◌, ◌≤◌, List, [], ◌++◌, length, slice_get, Option, Some, None}
+use Rattle.risc_image.specs.declared.header.TheConstants.{MAX_COUNT}
 use Rattle.risc_machine_laws.specs.View.{IsAt}
 use Rattle.risc_emit_relation.specs.Context.{Context}
 use Rattle.risc_emit_forms.specs.Pieces.{Label, label_place, instr_at}
@@ -52,7 +53,7 @@ placed marks constants =
 
 -- every label leads to a word of the greatest code, or to its end
 abbrev pub AreNear : List Marks → ℕ → Type 0
-AreNear marks constants = (label : Label) → label_place (placed marks constants) label ≤ 1048576
+AreNear marks constants = (label : Label) → label_place (placed marks constants) label ≤ MAX_COUNT
 
 -- the words of the first n pieces
 pub record AreWordsTo (c : Context) (pieces : List Piece) (n : ℕ) (words : List ℕ) : Type 0 where

@@ -13,11 +13,19 @@ ghost use Rattle.risc_emit.specs.Meant.{all_meant};
 
 use crate::arithmetic::division::{put_divide, put_modulo};
 use crate::frame::Frame;
-use crate::operands::{finish, is_told, put_operation, save, target};
+use crate::operands::{finish, is_flagged, put_operation, save, target};
 use crate::pieces::{Piece, Pieces};
 use crate::words::{computed, constant, r12, r15, set, skip};
 use risc_word::{Condition, Instr, Operation};
 use tac_code::code::{BitOperator, Operand, Operator, OutOfMemory, Relation};
+
+/// What an operation takes, and the temporary that it gives to.
+#[derive(Clone, Copy)]
+pub(crate) struct Operands {
+    pub(crate) to: u32,
+    pub(crate) left: u32,
+    pub(crate) right: Operand,
+}
 
 fn is_divisor(operand: Operand) -> bool
     ensures { result ≡ form.is_divisor operand }
@@ -81,39 +89,44 @@ fn put_operate(
     frame: &Frame<'_>,
     pieces: &mut Pieces,
     operation: Operation,
-    to: u32,
-    left: u32,
-    operand: Operand,
+    operands: Operands,
 ) -> Result<(), OutOfMemory>
-    ensures { OnOk result (pieces.new ≡ pieces.old ++ form.both (context_of frame.now) frame.now.number left operand
-        (form.operate (context_of frame.now) frame.now.number operation
-        (home (context_of frame.now) frame.now.number to) left operand ∷ [])) }
+    ensures { OnOk result (pieces.new ≡ pieces.old ++ form.both (context_of frame.now) frame.now.number operands.left
+        operands.right (form.operate (context_of frame.now) frame.now.number operation
+        (home (context_of frame.now) frame.now.number operands.to) operands.left operands.right ∷ [])) }
 {
-    put_operation(frame, pieces, operation, target(frame, to), left, operand)
+    put_operation(
+        frame,
+        pieces,
+        operation,
+        target(frame, operands.to),
+        operands.left,
+        operands.right,
+    )
 }
 
 pub(crate) fn put_bits(
     frame: &Frame<'_>,
     pieces: &mut Pieces,
     operator: BitOperator,
-    to: u32,
-    left: u32,
-    operand: Operand,
+    operands: Operands,
 ) -> Result<(), OutOfMemory>
-    ensures { OnOk result (pieces.new ≡ pieces.old ++ form.both (context_of frame.now) frame.now.number left operand
-        (form.operate (context_of frame.now) frame.now.number (form.bit_operation operator)
-        (home (context_of frame.now) frame.now.number to) left operand ∷ form.save
-        (context_of frame.now) frame.now.number (home (context_of frame.now) frame.now.number to))) }
+    ensures { OnOk result (pieces.new ≡ pieces.old ++ form.both (context_of frame.now) frame.now.number operands.left
+        operands.right (form.operate (context_of frame.now) frame.now.number (form.bit_operation operator)
+        (home (context_of frame.now) frame.now.number operands.to) operands.left operands.right ∷ form.save
+        (context_of frame.now) frame.now.number (home (context_of frame.now) frame.now.number operands.to))) }
 {
-    put_operate(frame, pieces, bit_operation(operator), to, left, operand)?;
-    save(frame, pieces, to)
+    put_operate(frame, pieces, bit_operation(operator), operands)?;
+    save(frame, pieces, operands.to)
 }
 
 // Whether a temporary's register already holds its difference from 0, with N and Z.
-fn is_own(frame: &Frame<'_>, told: Option<u32>, to: u32, left: u32, operand: Operand) -> bool
-    ensures { result ≡ form.is_own (context_of frame.now) frame.now.number told to left operand }
+fn is_own(frame: &Frame<'_>, flagged: Option<u32>, operands: Operands) -> bool
+    ensures { result ≡ form.is_own (context_of frame.now) frame.now.number flagged operands.to operands.left
+        operands.right }
 {
-    is_told(frame, told, left) && (to == left && is_null(operand))
+    let Operands { to, left, right } = operands;
+    is_flagged(frame, flagged, left) && (to == left && is_null(right))
 }
 
 // A difference that is not 0 becomes 1.
@@ -131,18 +144,16 @@ fn put_one(frame: &Frame<'_>, pieces: &mut Pieces, to: u32) -> Result<(), OutOfM
 fn put_unlike(
     frame: &Frame<'_>,
     pieces: &mut Pieces,
-    told: Option<u32>,
-    to: u32,
-    left: u32,
-    operand: Operand,
+    flagged: Option<u32>,
+    operands: Operands,
 ) -> Result<(), OutOfMemory>
     ensures { OnOk result (pieces.new ≡ pieces.old ++ form.unlike_form
-        (context_of frame.now) frame.now.number told to left operand) }
+        (context_of frame.now) frame.now.number flagged operands.to operands.left operands.right) }
 {
-    if !is_own(frame, told, to, left, operand) {
-        put_operate(frame, pieces, Operation::Sub, to, left, operand)?;
+    if !is_own(frame, flagged, operands) {
+        put_operate(frame, pieces, Operation::Sub, operands)?;
     }
-    put_one(frame, pieces, to)
+    put_one(frame, pieces, operands.to)
 }
 
 // Whether a relation holds.
@@ -150,43 +161,39 @@ fn put_truth(
     frame: &Frame<'_>,
     pieces: &mut Pieces,
     relation: Relation,
-    to: u32,
-    left: u32,
-    operand: Operand,
+    operands: Operands,
 ) -> Result<(), OutOfMemory>
     ensures { OnOk result (pieces.new ≡ pieces.old ++ form.truth_form
-        (context_of frame.now) frame.now.number relation to left operand) }
+        (context_of frame.now) frame.now.number relation operands.to operands.left operands.right) }
 {
-    let register = target(frame, to);
-    put_difference(frame, pieces, left, operand)?;
+    let register = target(frame, operands.to);
+    put_difference(frame, pieces, operands.left, operands.right)?;
     let truth = [
         Piece::Plain(skip(condition_of(relation), 2)),
         Piece::Plain(set(register, 0)),
         Piece::Plain(skip(Condition::Always, 1)),
         Piece::Plain(set(register, 1)),
     ];
-    finish(frame, pieces, &truth, to)
+    finish(frame, pieces, &truth, operands.to)
 }
 
 pub(crate) fn put_compare(
     frame: &Frame<'_>,
     pieces: &mut Pieces,
-    told: Option<u32>,
+    flagged: Option<u32>,
     relation: Relation,
-    to: u32,
-    left: u32,
-    operand: Operand,
+    operands: Operands,
 ) -> Result<(), OutOfMemory>
     ensures { OnOk result (pieces.new ≡ pieces.old ++ form.compare_form
-        (context_of frame.now) frame.now.number told relation to left operand) }
+        (context_of frame.now) frame.now.number flagged relation operands.to operands.left operands.right) }
 {
     match relation {
-        Relation::NotEqual => put_unlike(frame, pieces, told, to, left, operand),
+        Relation::NotEqual => put_unlike(frame, pieces, flagged, operands),
         Relation::Equal
         | Relation::Less
         | Relation::LessEqual
         | Relation::Greater
-        | Relation::GreaterEqual => put_truth(frame, pieces, relation, to, left, operand),
+        | Relation::GreaterEqual => put_truth(frame, pieces, relation, operands),
     }
 }
 
@@ -212,37 +219,33 @@ fn put_sum(
     frame: &Frame<'_>,
     pieces: &mut Pieces,
     operation: Operation,
-    to: u32,
-    left: u32,
-    operand: Operand,
+    operands: Operands,
     error: u8,
     line: u16,
 ) -> Result<(), OutOfMemory>
-    ensures { OnOk result (pieces.new ≡ pieces.old ++ form.both (context_of frame.now) frame.now.number left operand
-        (form.operate (context_of frame.now) frame.now.number operation
-        (home (context_of frame.now) frame.now.number to) left operand ∷ form.tested error
+    ensures { OnOk result (pieces.new ≡ pieces.old ++ form.both (context_of frame.now) frame.now.number operands.left
+        operands.right (form.operate (context_of frame.now) frame.now.number operation
+        (home (context_of frame.now) frame.now.number operands.to) operands.left operands.right ∷ form.tested error
         (piece.Fails on.OverflowSet error line ∷ []) (form.save (context_of frame.now) frame.now.number
-        (home (context_of frame.now) frame.now.number to)))) }
+        (home (context_of frame.now) frame.now.number operands.to)))) }
 {
-    put_operate(frame, pieces, operation, to, left, operand)?;
+    put_operate(frame, pieces, operation, operands)?;
     let fails = Piece::Fails(Condition::OverflowSet, error, line);
-    finish_tested(frame, pieces, &[fails], error, to)
+    finish_tested(frame, pieces, &[fails], error, operands.to)
 }
 
 // The product in its home, after a test that it has 32 bits.
 fn put_product(
     frame: &Frame<'_>,
     pieces: &mut Pieces,
-    to: u32,
-    left: u32,
-    operand: Operand,
+    operands: Operands,
     error: u8,
     line: u16,
 ) -> Result<(), OutOfMemory>
     ensures { OnOk result (pieces.new ≡ pieces.old ++ form.multiply_form
-        (context_of frame.now) frame.now.number to left operand error line) }
+        (context_of frame.now) frame.now.number operands.to operands.left operands.right error line) }
 {
-    put_operate(frame, pieces, Operation::Mul, to, left, operand)?;
+    put_operate(frame, pieces, Operation::Mul, operands)?;
     // R15 takes 0 where the product has 32 bits: H is 0, or all ones above a negative low word.
     let beyond = [
         Piece::Plain(skip(Condition::Plus, 3)),
@@ -252,45 +255,25 @@ fn put_product(
         Piece::Plain(Instr::MoveHigh { to: r15() }),
         Piece::Fails(Condition::NotEqual, error, line),
     ];
-    finish_tested(frame, pieces, &beyond, error, to)
+    finish_tested(frame, pieces, &beyond, error, operands.to)
 }
 
 pub(crate) fn put_arithmetic(
     frame: &Frame<'_>,
     pieces: &mut Pieces,
     operator: Operator,
-    to: u32,
-    left: u32,
-    operand: Operand,
+    operands: Operands,
     error: u8,
     line: u16,
 ) -> Result<(), OutOfMemory>
     ensures { OnOk result (pieces.new ≡ pieces.old ++ form.arithmetic_form
-        (context_of frame.now) frame.now.number operator to left operand error line) }
+        (context_of frame.now) frame.now.number operator operands.to operands.left operands.right error line) }
 {
     match operator {
-        Operator::Add => put_sum(
-            frame,
-            pieces,
-            Operation::Add,
-            to,
-            left,
-            operand,
-            error,
-            line,
-        ),
-        Operator::Subtract => put_sum(
-            frame,
-            pieces,
-            Operation::Sub,
-            to,
-            left,
-            operand,
-            error,
-            line,
-        ),
-        Operator::Multiply => put_product(frame, pieces, to, left, operand, error, line),
-        Operator::Divide => put_divide(frame, pieces, to, left, operand, error, line),
-        Operator::Modulo => put_modulo(frame, pieces, to, left, operand, line),
+        Operator::Add => put_sum(frame, pieces, Operation::Add, operands, error, line),
+        Operator::Subtract => put_sum(frame, pieces, Operation::Sub, operands, error, line),
+        Operator::Multiply => put_product(frame, pieces, operands, error, line),
+        Operator::Divide => put_divide(frame, pieces, operands, error, line),
+        Operator::Modulo => put_modulo(frame, pieces, operands, line),
     }
 }

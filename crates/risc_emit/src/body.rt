@@ -2,21 +2,21 @@
 
 ghost use Rattle.std.specs.Prelude.{◌≡◌, suc, ◌++◌, OnOk};
 ghost use Rattle.risc_emit_relation.specs.Context.{home};
-ghost use Rattle.risc_emit_forms.specs.Told.{told_at, bent_at};
+ghost use Rattle.risc_emit_forms.specs.Peephole.{flagged_at, deferred_at};
 ghost use Rattle.risc_emit_forms.specs.Forms as form;
 ghost use Rattle.risc_emit.specs.Frames.{context_of};
 ghost use Rattle.risc_emit.specs.Meant.{label_of};
 ghost use Rattle.risc_emit.specs.Passes.{PassesFew, LoadsNear};
 
 use crate::arithmetic::{
-    condition_of, is_null, put_arithmetic, put_bits, put_compare, put_difference,
+    Operands, condition_of, is_null, put_arithmetic, put_bits, put_compare, put_difference,
 };
 use crate::calls::{put_call, put_call_value, put_end, put_new, put_put, put_return, put_take};
-use crate::checks::{put_check, put_index, put_pointer_check};
+use crate::checks::{Component, Destination, Test, put_check, put_index, put_pointer_check};
 use crate::frame::Frame;
 use crate::memory::{put_label, put_load_form, put_offset, put_store_form, put_word_form};
 use crate::numbers::put_number;
-use crate::operands::{is_told, put_copy, save, target};
+use crate::operands::{is_flagged, put_copy, save, target};
 use crate::pieces::{Label, Piece, Pieces};
 use risc_word::{Condition, Register, Width};
 use tac_code::code::{Instruction, Operand, OutOfMemory, Relation};
@@ -52,14 +52,14 @@ fn brief(relation: Relation) -> Option<Condition>
 // The condition by which a branch goes where no difference is needed.
 fn branch_choice(
     frame: &Frame<'_>,
-    told: Option<u32>,
+    flagged: Option<u32>,
     relation: Relation,
     left: u32,
     right: Operand,
 ) -> Option<Condition>
-    ensures { result ≡ form.branch_choice (context_of frame.now) frame.now.number told relation left right }
+    ensures { result ≡ form.branch_choice (context_of frame.now) frame.now.number flagged relation left right }
 {
-    if is_told(frame, told, left) && is_null(right) {
+    if is_flagged(frame, flagged, left) && is_null(right) {
         brief(relation)
     } else {
         None
@@ -69,20 +69,30 @@ fn branch_choice(
 fn put_branch(
     frame: &Frame<'_>,
     pieces: &mut Pieces,
-    told: Option<u32>,
+    flagged: Option<u32>,
     relation: Relation,
     left: u32,
     right: Operand,
     label: Label,
 ) -> Result<(), OutOfMemory>
     ensures { OnOk result (pieces.new ≡ pieces.old ++ form.branch_form
-        (context_of frame.now) frame.now.number told relation left right (label_of label)) }
+        (context_of frame.now) frame.now.number flagged relation left right (label_of label)) }
 {
-    if let Some(condition) = branch_choice(frame, told, relation, left, right) {
+    if let Some(condition) = branch_choice(frame, flagged, relation, left, right) {
         return pieces.push(Piece::Goes(condition, label));
     }
     put_difference(frame, pieces, left, right)?;
     pieces.push(Piece::Goes(condition_of(relation), label))
+}
+
+/// What is known where an instruction stands: its place, the temporary whose sign N and Z tell, and the register that
+/// is short of an offset, there and at the next place.
+#[derive(Clone, Copy)]
+pub(crate) struct Known {
+    pub(crate) place: usize,
+    pub(crate) flagged: Option<u32>,
+    pub(crate) deferred: Option<(Register, i64)>,
+    pub(crate) next: Option<(Register, i64)>,
 }
 
 /// The words of the instruction at a place, where N and Z may be those of a temporary's register, and a register may be
@@ -90,20 +100,23 @@ fn put_branch(
 pub(crate) fn put_instruction(
     frame: &Frame<'_>,
     pieces: &mut Pieces,
-    place: usize,
-    told: Option<u32>,
-    bent: Option<(Register, i64)>,
-    next: Option<(Register, i64)>,
+    known: Known,
     instruction: &Instruction,
 ) -> Result<(), OutOfMemory>
     requires few { PassesFew instruction.now }
-    requires told { told ≡ told_at (context_of frame.now) frame.now.number place }
-    requires bent { bent ≡ bent_at (context_of frame.now) frame.now.number place }
-    requires next { next ≡ bent_at (context_of frame.now) frame.now.number (suc place) }
-    requires near { LoadsNear instruction.now bent }
+    requires flagged { known.flagged ≡ flagged_at (context_of frame.now) frame.now.number known.place }
+    requires deferred { known.deferred ≡ deferred_at (context_of frame.now) frame.now.number known.place }
+    requires next { known.next ≡ deferred_at (context_of frame.now) frame.now.number (suc known.place) }
+    requires near { LoadsNear instruction.now known.deferred }
     ensures { OnOk result (pieces.new ≡ pieces.old ++ form.form
-        (context_of frame.now) frame.now.number place instruction.now) }
+        (context_of frame.now) frame.now.number known.place instruction.now) }
 {
+    let Known {
+        place,
+        flagged,
+        deferred,
+        next,
+    } = known;
     let r = frame.number();
     match instruction {
         Instruction::Literal { to, value } => put_literal(frame, pieces, *to, *value),
@@ -115,31 +128,71 @@ pub(crate) fn put_instruction(
             right,
             error,
             line,
-        } => put_arithmetic(frame, pieces, *operator, *to, *left, *right, *error, *line),
+        } => put_arithmetic(
+            frame,
+            pieces,
+            *operator,
+            Operands {
+                to: *to,
+                left: *left,
+                right: *right,
+            },
+            *error,
+            *line,
+        ),
         Instruction::Bits {
             operator,
             to,
             left,
             right,
-        } => put_bits(frame, pieces, *operator, *to, *left, *right),
+        } => put_bits(
+            frame,
+            pieces,
+            *operator,
+            Operands {
+                to: *to,
+                left: *left,
+                right: *right,
+            },
+        ),
         Instruction::Compare {
             relation,
             to,
             left,
             right,
-        } => put_compare(frame, pieces, told, *relation, *to, *left, *right),
+        } => put_compare(
+            frame,
+            pieces,
+            flagged,
+            *relation,
+            Operands {
+                to: *to,
+                left: *left,
+                right: *right,
+            },
+        ),
         Instruction::CheckRange {
             value,
             low,
             high,
             error,
             line,
-        } => put_check(frame, pieces, *value, *low, *high, *error, *line),
+        } => put_check(
+            frame,
+            pieces,
+            *value,
+            Test {
+                low: *low,
+                high: *high,
+                error: *error,
+                line: *line,
+            },
+        ),
         Instruction::CheckPointer {
             pointer,
             error,
             line,
-        } => put_pointer_check(frame, pieces, told, *pointer, *error, *line),
+        } => put_pointer_check(frame, pieces, flagged, *pointer, *error, *line),
         Instruction::Text { to, .. } => put_label(frame, pieces, *to, Label::Text(r, place)),
         Instruction::Offset {
             to,
@@ -157,7 +210,23 @@ pub(crate) fn put_instruction(
             error,
             line,
         } => put_index(
-            frame, pieces, next, *to, *base, *index, *low, *high, *width, *error, *line,
+            frame,
+            pieces,
+            Destination {
+                deferred: next,
+                to: *to,
+            },
+            Component {
+                base: *base,
+                index: *index,
+                test: Test {
+                    low: *low,
+                    high: *high,
+                    error: *error,
+                    line: *line,
+                },
+                width: *width,
+            },
         ),
         Instruction::RoutineValue { to, routine } => put_label(
             frame,
@@ -166,7 +235,7 @@ pub(crate) fn put_instruction(
             Label::Entry(*routine),
         ),
         Instruction::Load { to, base, offset } => put_word_form(
-            frame, pieces, bent, *to, *base, *offset,
+            frame, pieces, deferred, *to, *base, *offset,
         ),
         Instruction::Store { base, offset, from } => put_store_form(
             frame,
@@ -208,7 +277,7 @@ pub(crate) fn put_instruction(
         } => put_branch(
             frame,
             pieces,
-            told,
+            flagged,
             *relation,
             *left,
             *right,
@@ -222,7 +291,7 @@ pub(crate) fn put_instruction(
         } => put_branch(
             frame,
             pieces,
-            told,
+            flagged,
             *relation,
             *left,
             *right,

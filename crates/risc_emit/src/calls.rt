@@ -11,10 +11,10 @@ ghost use Rattle.risc_emit_forms.specs.Forms as form;
 ghost use Rattle.risc_emit.specs.Frames.{context_of};
 
 use crate::frame::Frame;
+use crate::location::Location;
 use crate::numbers::put_natural;
 use crate::operands::{accept, bring, fetch, finish, put_into, receive, target};
 use crate::pieces::{Piece, Pieces};
-use crate::seat::Seat;
 use crate::words::{computed, copied, goes_to, loaded, r0, r12, r13, r14, r15, set, stored};
 use risc_word::{Condition, Operand as Right, Operation, Register, Width};
 use tac_code::code::OutOfMemory;
@@ -51,12 +51,12 @@ fn carried(count: usize) -> usize
 fn is_taken(frame: &Frame<'_>, n: usize, j: usize, operand: u32) -> bool
     ensures { result ≡ form.is_taken n j (home (context_of frame.now) frame.now.number operand) }
 {
-    match frame.seat(operand) {
-        Seat::Register(register) => {
+    match frame.location(operand) {
+        Location::Register(register) => {
             let home = register.number() as usize;
             j < home && home < n
         }
-        Seat::Slot(_) => false,
+        Location::Slot(_) => false,
     }
 }
 

@@ -4,19 +4,44 @@ ghost use Rattle.std.specs.Prelude.{◌≡◌, ◌++◌, [], ◌∷◌, None, On
 ghost use Rattle.risc_word.specs.declared.instr.Condition.TheVariants as on;
 ghost use Rattle.risc_emit_relation.specs.Context.{home};
 ghost use Rattle.risc_emit_forms.specs.Pieces as piece;
-ghost use Rattle.risc_emit_forms.specs.Told.{near_of};
+ghost use Rattle.risc_emit_forms.specs.Peephole.{near_of};
 ghost use Rattle.risc_emit_forms.specs.Forms as form;
 ghost use Rattle.risc_emit.specs.Frames.{context_of};
 
-use crate::bent::folded;
+use crate::deferred::folded;
 use crate::frame::Frame;
 use crate::memory::{base_register, put_base_address, put_near_base, put_sum};
 use crate::numbers::put_exact;
-use crate::operands::{bring, fetch, finish, is_told, natural_right, number_right, target};
+use crate::operands::{bring, fetch, finish, is_flagged, natural_right, number_right, target};
 use crate::pieces::{Piece, Pieces};
 use crate::words::{computed, constant, idle, r12, r15};
 use risc_word::{Condition, Operand as Right, Operation, Register};
 use tac_code::code::{Base, OutOfMemory};
+
+/// The numbers that a test lets through, the error that it reports and its line. Error 0 says that it can't fail.
+#[derive(Clone, Copy)]
+pub(crate) struct Test {
+    pub(crate) low: i32,
+    pub(crate) high: i32,
+    pub(crate) error: u8,
+    pub(crate) line: u16,
+}
+
+/// What an index chooses: one of the components at a base, each of `width` bytes.
+#[derive(Clone, Copy)]
+pub(crate) struct Component {
+    pub(crate) base: Base,
+    pub(crate) index: u32,
+    pub(crate) test: Test,
+    pub(crate) width: u32,
+}
+
+/// Where the address of a component goes: to the home of a temporary, unless a register takes it short of an offset.
+#[derive(Clone, Copy)]
+pub(crate) struct Destination {
+    pub(crate) deferred: Option<(Register, i64)>,
+    pub(crate) to: u32,
+}
 
 // How far what a register holds is above the lowest number of a range, modulo 2^32: gives the register.
 fn put_above(
@@ -68,21 +93,20 @@ fn put_range(
     frame: &Frame<'_>,
     pieces: &mut Pieces,
     register: Register,
-    low: i32,
-    high: i32,
-    error: u8,
-    line: u16,
+    test: Test,
 ) -> Result<Register, OutOfMemory>
     ensures words { OnOk result (pieces.new ≡ pieces.old ++ form.range_code
-        (context_of frame.now) frame.now.number register low high error line) }
-    ensures register { IfOk result (λ q. q ≡ form.above_register (context_of frame.now) frame.now.number register low) }
+        (context_of frame.now) frame.now.number register test.low test.high test.error test.line) }
+    ensures register { IfOk result (λ q. q ≡ form.above_register
+        (context_of frame.now) frame.now.number register test.low) }
 {
-    if high < low {
-        pieces.push(Piece::Fails(Condition::Always, error, line))?;
-        return Ok(if low == 0 { register } else { r12() });
+    if test.high < test.low {
+        pieces.push(Piece::Fails(Condition::Always, test.error, test.line))?;
+        return Ok(if test.low == 0 { register } else { r12() });
     }
-    let above = put_above(frame, pieces, register, low)?;
-    put_at_most(frame, pieces, above, high.abs_diff(low), error, line)?;
+    let above = put_above(frame, pieces, register, test.low)?;
+    let most = test.high.abs_diff(test.low);
+    put_at_most(frame, pieces, above, most, test.error, test.line)?;
     Ok(above)
 }
 
@@ -91,19 +115,16 @@ pub(crate) fn put_check(
     frame: &Frame<'_>,
     pieces: &mut Pieces,
     value: u32,
-    low: i32,
-    high: i32,
-    error: u8,
-    line: u16,
+    test: Test,
 ) -> Result<(), OutOfMemory>
     ensures { OnOk result (pieces.new ≡ pieces.old ++ form.check_form
-        (context_of frame.now) frame.now.number value low high error line) }
+        (context_of frame.now) frame.now.number value test.low test.high test.error test.line) }
 {
-    if error == 0 {
+    if test.error == 0 {
         return pieces.plain(idle());
     }
     let register = fetch(frame, pieces, r12(), value)?;
-    put_range(frame, pieces, register, low, high, error, line)?;
+    put_range(frame, pieces, register, test)?;
     Ok(())
 }
 
@@ -111,18 +132,18 @@ pub(crate) fn put_check(
 pub(crate) fn put_pointer_check(
     frame: &Frame<'_>,
     pieces: &mut Pieces,
-    told: Option<u32>,
+    flagged: Option<u32>,
     pointer: u32,
     error: u8,
     line: u16,
 ) -> Result<(), OutOfMemory>
     ensures { OnOk result (pieces.new ≡ pieces.old ++ form.pointer_form
-        (context_of frame.now) frame.now.number told pointer error line) }
+        (context_of frame.now) frame.now.number flagged pointer error line) }
 {
     if error == 0 {
         return pieces.plain(idle());
     }
-    if !is_told(frame, told, pointer) {
+    if !is_flagged(frame, flagged, pointer) {
         bring(frame, pieces, r12(), pointer)?;
     }
     pieces.push(Piece::Fails(Condition::Equal, error, line))
@@ -151,15 +172,14 @@ fn put_scaled(
 fn put_component(
     frame: &Frame<'_>,
     pieces: &mut Pieces,
-    bent: Option<(Register, i64)>,
-    to: u32,
+    destination: Destination,
     base: Base,
     distance: Register,
 ) -> Result<(), OutOfMemory>
     ensures { OnOk result (pieces.new ≡ pieces.old ++ form.component
-        (context_of frame.now) frame.now.number bent to base distance) }
+        (context_of frame.now) frame.now.number destination.deferred destination.to base distance) }
 {
-    if let Some((register, _)) = bent {
+    if let Some((register, _)) = destination.deferred {
         let near = base_register(frame, base);
         let sum = computed(Operation::Add, register, near, Right::Content(distance));
         return pieces.plain(sum);
@@ -167,28 +187,27 @@ fn put_component(
     let address = put_base_address(frame, pieces, base)?;
     let sum = computed(
         Operation::Add,
-        target(frame, to),
+        target(frame, destination.to),
         address,
         Right::Content(distance),
     );
-    finish(frame, pieces, &[Piece::Plain(sum)], to)
+    finish(frame, pieces, &[Piece::Plain(sum)], destination.to)
 }
 
 // The address at the number of steps in a register from a base.
 fn put_steps(
     frame: &Frame<'_>,
     pieces: &mut Pieces,
-    bent: Option<(Register, i64)>,
-    to: u32,
+    destination: Destination,
     base: Base,
     steps: Register,
     width: u32,
 ) -> Result<(), OutOfMemory>
     ensures { OnOk result (pieces.new ≡ pieces.old ++ form.steps_form
-        (context_of frame.now) frame.now.number bent to base steps width) }
+        (context_of frame.now) frame.now.number destination.deferred destination.to base steps width) }
 {
     let distance = put_scaled(frame, pieces, steps, width)?;
-    put_component(frame, pieces, bent, to, base, distance)
+    put_component(frame, pieces, destination, base, distance)
 }
 
 // How far an index is above the lowest one, after a test where that can fail: gives the register.
@@ -196,19 +215,17 @@ fn put_index_steps(
     frame: &Frame<'_>,
     pieces: &mut Pieces,
     register: Register,
-    low: i32,
-    high: i32,
-    error: u8,
-    line: u16,
+    test: Test,
 ) -> Result<Register, OutOfMemory>
     ensures words { OnOk result (pieces.new ≡ pieces.old ++ form.index_code
-        (context_of frame.now) frame.now.number register low high error line) }
-    ensures register { IfOk result (λ q. q ≡ form.above_register (context_of frame.now) frame.now.number register low) }
+        (context_of frame.now) frame.now.number register test.low test.high test.error test.line) }
+    ensures register { IfOk result (λ q. q ≡ form.above_register
+        (context_of frame.now) frame.now.number register test.low) }
 {
-    if error != 0 {
-        return put_range(frame, pieces, register, low, high, error, line);
+    if test.error != 0 {
+        return put_range(frame, pieces, register, test);
     }
-    put_above(frame, pieces, register, low)
+    put_above(frame, pieces, register, test.low)
 }
 
 // The address at the distance in a register from an offset that takes the lowest index in.
@@ -216,15 +233,14 @@ fn put_near_component(
     frame: &Frame<'_>,
     pieces: &mut Pieces,
     rest: u64,
-    bent: Option<(Register, i64)>,
-    to: u32,
+    destination: Destination,
     base: Base,
     distance: Register,
 ) -> Result<(), OutOfMemory>
     ensures { OnOk result (pieces.new ≡ pieces.old ++ form.near_component
-        (context_of frame.now) frame.now.number rest bent to base distance) }
+        (context_of frame.now) frame.now.number rest destination.deferred destination.to base distance) }
 {
-    if let Some((register, _)) = bent {
+    if let Some((register, _)) = destination.deferred {
         let near = put_near_base(frame, pieces, base)?;
         let sum = computed(Operation::Add, register, near, Right::Content(distance));
         return pieces.plain(sum);
@@ -232,11 +248,11 @@ fn put_near_component(
     put_sum(frame, pieces, base_register(frame, base), rest)?;
     let sum = computed(
         Operation::Add,
-        target(frame, to),
+        target(frame, destination.to),
         r15(),
         Right::Content(distance),
     );
-    finish(frame, pieces, &[Piece::Plain(sum)], to)
+    finish(frame, pieces, &[Piece::Plain(sum)], destination.to)
 }
 
 // The address of a component by the index itself.
@@ -244,61 +260,67 @@ fn put_near(
     frame: &Frame<'_>,
     pieces: &mut Pieces,
     rest: u64,
-    bent: Option<(Register, i64)>,
-    to: u32,
+    destination: Destination,
     base: Base,
     index: Register,
     width: u32,
 ) -> Result<(), OutOfMemory>
     ensures { OnOk result (pieces.new ≡ pieces.old ++ (form.scaled (context_of frame.now) frame.now.number index width
-        ++ form.near_component (context_of frame.now) frame.now.number rest bent to base
+        ++ form.near_component (context_of frame.now) frame.now.number rest destination.deferred destination.to base
         (form.scaled_register (context_of frame.now) frame.now.number index width))) }
 {
     let distance = put_scaled(frame, pieces, index, width)?;
-    put_near_component(frame, pieces, rest, bent, to, base, distance)
+    put_near_component(frame, pieces, rest, destination, base, distance)
 }
 
 // The same by how far it is above the lowest one.
 fn put_far(
     frame: &Frame<'_>,
     pieces: &mut Pieces,
-    bent: Option<(Register, i64)>,
-    to: u32,
-    base: Base,
-    index: u32,
-    low: i32,
-    high: i32,
-    width: u32,
-    error: u8,
-    line: u16,
+    destination: Destination,
+    component: Component,
 ) -> Result<(), OutOfMemory>
     ensures { OnOk result (pieces.new ≡ pieces.old ++ form.index_by
-        (context_of frame.now) frame.now.number None bent to base index low high width error line) }
+        (context_of frame.now) frame.now.number None destination.deferred destination.to component.base component.index
+        component.test.low component.test.high component.width component.test.error component.test.line) }
 {
-    let register = fetch(frame, pieces, r12(), index)?;
-    let steps = put_index_steps(frame, pieces, register, low, high, error, line)?;
-    put_steps(frame, pieces, bent, to, base, steps, width)
+    let register = fetch(frame, pieces, r12(), component.index)?;
+    let steps = put_index_steps(frame, pieces, register, component.test)?;
+    put_steps(
+        frame,
+        pieces,
+        destination,
+        component.base,
+        steps,
+        component.width,
+    )
 }
 
 fn put_folded(
     frame: &Frame<'_>,
     pieces: &mut Pieces,
     rest: u64,
-    bent: Option<(Register, i64)>,
-    to: u32,
-    base: Base,
-    index: u32,
-    width: u32,
+    destination: Destination,
+    component: Component,
 ) -> Result<(), OutOfMemory>
     ensures { OnOk result (pieces.new ≡ pieces.old ++ (form.fetch (context_of frame.now) frame.now.number 12
-        (home (context_of frame.now) frame.now.number index) ++ (form.scaled (context_of frame.now) frame.now.number
-        (form.fetched (context_of frame.now) frame.now.number 12 (home (context_of frame.now) frame.now.number index))
-        width ++ form.near_component (context_of frame.now) frame.now.number rest bent to base
+        (home (context_of frame.now) frame.now.number component.index) ++ (form.scaled
+        (context_of frame.now) frame.now.number (form.fetched (context_of frame.now) frame.now.number 12
+        (home (context_of frame.now) frame.now.number component.index)) component.width ++ form.near_component
+        (context_of frame.now) frame.now.number rest destination.deferred destination.to component.base
         (form.scaled_register (context_of frame.now) frame.now.number (form.fetched (context_of frame.now)
-        frame.now.number 12 (home (context_of frame.now) frame.now.number index)) width)))) }
+        frame.now.number 12 (home (context_of frame.now) frame.now.number component.index)) component.width)))) }
 {
-    let register = fetch(frame, pieces, r12(), index)?;
-    put_near(frame, pieces, rest, bent, to, base, register, width)
+    let register = fetch(frame, pieces, r12(), component.index)?;
+    put_near(
+        frame,
+        pieces,
+        rest,
+        destination,
+        component.base,
+        register,
+        component.width,
+    )
 }
 
 // Into a base in a temporary, where a load takes the lowest index, by the index itself from the base's address; else by
@@ -306,26 +328,23 @@ fn put_folded(
 fn put_unfolded(
     frame: &Frame<'_>,
     pieces: &mut Pieces,
-    bent: Option<(Register, i64)>,
-    to: u32,
-    base: Base,
-    index: u32,
-    low: i32,
-    high: i32,
-    width: u32,
-    error: u8,
-    line: u16,
+    destination: Destination,
+    component: Component,
 ) -> Result<(), OutOfMemory>
     ensures { OnOk result (pieces.new ≡ pieces.old ++ form.index_by
-        (context_of frame.now) frame.now.number (near_of bent base) bent to base index low high width error line) }
+        (context_of frame.now) frame.now.number (near_of destination.deferred component.base) destination.deferred
+        destination.to component.base component.index component.test.low component.test.high component.width
+        component.test.error component.test.line) }
 {
-    match base {
-        Base::Temporary(_) if bent.is_some() => put_folded(
-            frame, pieces, 0, bent, to, base, index, width,
+    match component.base {
+        Base::Temporary(_) if destination.deferred.is_some() => put_folded(
+            frame,
+            pieces,
+            0,
+            destination,
+            component,
         ),
-        _ => put_far(
-            frame, pieces, bent, to, base, index, low, high, width, error, line,
-        ),
+        _ => put_far(frame, pieces, destination, component),
     }
 }
 
@@ -333,23 +352,23 @@ fn put_unfolded(
 pub(crate) fn put_index(
     frame: &Frame<'_>,
     pieces: &mut Pieces,
-    bent: Option<(Register, i64)>,
-    to: u32,
-    base: Base,
-    index: u32,
-    low: i32,
-    high: i32,
-    width: u32,
-    error: u8,
-    line: u16,
+    destination: Destination,
+    component: Component,
 ) -> Result<(), OutOfMemory>
     ensures { OnOk result (pieces.new ≡ pieces.old ++ form.index_form
-        (context_of frame.now) frame.now.number bent to base index low high width error line) }
+        (context_of frame.now) frame.now.number destination.deferred destination.to component.base component.index
+        component.test.low component.test.high component.width component.test.error component.test.line) }
 {
-    match folded(frame, base, low, high, width, error) {
-        Some(rest) => put_folded(frame, pieces, rest, bent, to, base, index, width),
-        None => put_unfolded(
-            frame, pieces, bent, to, base, index, low, high, width, error, line,
-        ),
+    let test = component.test;
+    match folded(
+        frame,
+        component.base,
+        test.low,
+        test.high,
+        component.width,
+        test.error,
+    ) {
+        Some(rest) => put_folded(frame, pieces, rest, destination, component),
+        None => put_unfolded(frame, pieces, destination, component),
     }
 }

@@ -5,7 +5,7 @@ ghost use Rattle.std.specs.Prelude.{nat_lt, Some, OnOk, IfOk, IfErr};
 ghost use Rattle.std.specs.Int.{w32, from_le_bytes};
 ghost use Rattle.tac_code.specs.Meaning.{routines};
 ghost use Rattle.risc_alloc.specs.Valid.{Valid};
-ghost use Rattle.risc_emit_forms.specs.Told.{told_at, bent_at};
+ghost use Rattle.risc_emit_forms.specs.Peephole.{flagged_at, deferred_at};
 ghost use Rattle.risc_emit_forms.specs.Forms as form;
 ghost use Rattle.risc_emit_laws.specs.Drawn.{program_pieces, routine_pieces, entry_place, text_words};
 ghost use Rattle.risc_emit_laws.specs.Drawn.{instruction_texts, body_texts, routines_texts};
@@ -16,22 +16,22 @@ ghost use Rattle.risc_emit.specs.Marked.{mark_of, AreMarksOf, AreMarked};
 ghost use Rattle.risc_emit.specs.Emitted.{code_words};
 ghost use Rattle.risc_emit.specs.declared.emit.EmitRefusal.TheVariants.{CodeTooLarge};
 
-use crate::bent::bent;
-use crate::body::put_instruction;
+use crate::body::{Known, put_instruction};
+use crate::deferred::deferred;
 use crate::emit::EmitRefusal;
 use crate::entry::{put_entry, put_start};
+use crate::flagged::{flagged, jumped_places};
 use crate::frame::Frame;
 use crate::marks::{Mark, Marks};
 use crate::pieces::Pieces;
-use crate::told::{jumped_places, told};
 use risc_alloc::homes::Home;
-use risc_word::Register;
+use risc_image::MAX_COUNT;
 use std::alloc::Global;
 use tac_code::code::{Instruction, OutOfMemory, TacRoutine};
 use tac_code::tac::Tac;
 
 /// The most words of an image's code, constants included.
-const LIMIT: usize = 1048576;
+const LIMIT: usize = MAX_COUNT as usize;
 
 /// What is written before it is known where words go: the pieces, the words of all constants, and the marks of each
 /// routine.
@@ -44,7 +44,7 @@ pub(crate) struct Draft {
 
 /// Whether these pieces and these words of constants are more than an image holds.
 pub(crate) fn is_too_large(pieces: &Pieces, texts: &[u32]) -> bool
-    ensures { result ≡ nat_lt 1048576 (length pieces.now + length texts.now) }
+    ensures { result ≡ nat_lt MAX_COUNT (length pieces.now + length texts.now) }
 {
     pieces.len() > LIMIT || texts.len() > LIMIT - pieces.len()
 }
@@ -84,19 +84,16 @@ fn put_place(
     pieces: &mut Pieces,
     texts: &mut Vec<u32>,
     places: &mut Vec<Mark>,
-    place: usize,
-    told: Option<u32>,
-    bent: Option<(Register, i64)>,
-    next: Option<(Register, i64)>,
+    known: Known,
     instruction: &Instruction,
 ) -> Result<(), OutOfMemory>
     requires few { PassesFew instruction.now }
-    requires told { told ≡ told_at (context_of frame.now) frame.now.number place }
-    requires bent { bent ≡ bent_at (context_of frame.now) frame.now.number place }
-    requires next { next ≡ bent_at (context_of frame.now) frame.now.number (suc place) }
-    requires near { LoadsNear instruction.now bent }
+    requires flagged { known.flagged ≡ flagged_at (context_of frame.now) frame.now.number known.place }
+    requires deferred { known.deferred ≡ deferred_at (context_of frame.now) frame.now.number known.place }
+    requires next { known.next ≡ deferred_at (context_of frame.now) frame.now.number (suc known.place) }
+    requires near { LoadsNear instruction.now known.deferred }
     ensures pieces { OnOk result (pieces.new ≡ pieces.old ++ form.form
-        (context_of frame.now) frame.now.number place instruction.now) }
+        (context_of frame.now) frame.now.number known.place instruction.now) }
     ensures texts { OnOk result (texts.new.items ≡ texts.old.items ++ instruction_texts instruction.now) }
     ensures mark { OnOk result (places.new.items ≡ places.old.items ++ mark_of (length pieces.old)
         (length texts.old.items) ∷ []) }
@@ -105,7 +102,7 @@ fn put_place(
         site: pieces.len(),
         text: texts.len(),
     })?;
-    put_instruction(frame, pieces, place, told, bent, next, instruction)?;
+    put_instruction(frame, pieces, known, instruction)?;
     put_text(texts, instruction)
 }
 
@@ -127,7 +124,7 @@ fn put_routine(
         (context_of frame.now) frame.now.number routine.now) }
     ensures texts { OnOk result (texts.new.items ≡ texts.old.items ++ body_texts routine.now.body) }
     ensures marks { IfOk result (λ marks. AreMarksOf (context_of frame.now) frame.now.number routine.now marks) }
-    ensures too_large { IfErr result (λ refusal. refusal ≡ CodeTooLarge → 1048576 < length
+    ensures too_large { IfErr result (λ refusal. refusal ≡ CodeTooLarge → MAX_COUNT < length
         (program_pieces (context_of frame.now)) + length (routines_texts (routines frame.now.code))) }
 {
     frame.keeps_invariant();
@@ -140,18 +137,20 @@ fn put_routine(
         if is_too_large(pieces, texts.as_slice()) {
             return Err(EmitRefusal::CodeTooLarge);
         }
-        let told = told(body, jumped.as_slice(), place);
-        let here = bent(frame, body, jumped.as_slice(), place);
-        let next = bent(frame, body, jumped.as_slice(), place + 1);
+        let flagged = flagged(body, jumped.as_slice(), place);
+        let here = deferred(frame, body, jumped.as_slice(), place);
+        let next = deferred(frame, body, jumped.as_slice(), place + 1);
         put_place(
             frame,
             pieces,
             texts,
             &mut places,
-            place,
-            told,
-            here,
-            next,
+            Known {
+                place,
+                flagged,
+                deferred: here,
+                next,
+            },
             &body[place],
         )?;
     }
@@ -169,7 +168,7 @@ pub(crate) fn draft_of(alloc: Global, tac: &Tac, homes: &[Home]) -> Result<Draft
     ensures pieces { IfOk result (λ draft. draft.pieces ≡ program_pieces (laid_out tac.now homes.now)) }
     ensures texts { IfOk result (λ draft. draft.texts.items ≡ routines_texts (routines tac.now)) }
     ensures marks { IfOk result (λ draft. AreMarked (laid_out tac.now homes.now) draft.marks.items) }
-    ensures too_large { IfErr result (λ refusal. refusal ≡ CodeTooLarge → 1048576 < code_words tac.now homes.now) }
+    ensures too_large { IfErr result (λ refusal. refusal ≡ CodeTooLarge → MAX_COUNT < code_words tac.now homes.now) }
 {
     tac.keeps_invariant();
     let mut pieces = Pieces::new(alloc);

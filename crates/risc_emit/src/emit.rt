@@ -20,7 +20,7 @@ use crate::pieces::Piece;
 use crate::resolve::{call_rows, trap_rows, words_of};
 use risc_alloc::homes::Home;
 use risc_alloc::placement::Placement;
-use risc_image::{FrameRow, ObjectRow, Parts};
+use risc_image::{FrameRow, MAX_COUNT, ObjectRow, Parts};
 use std::alloc::{AllocError, AllocFailed, Global};
 use tac_code::code::OutOfMemory;
 use tac_code::tac::Tac;
@@ -57,7 +57,7 @@ impl<T: Drop> From<AllocFailed<T>> for EmitRefusal {
 
 // The address of a routine's first word.
 fn address_of(marks: &[Marks], number: usize) -> u32
-    requires { entry_at marks.now number ≤ 1048576 }
+    requires { entry_at marks.now number ≤ MAX_COUNT }
     ensures { result ≡ 4 * entry_at marks.now number }
 {
     4 * entry_at(marks, number) as u32
@@ -76,7 +76,7 @@ fn bytes_of(tac: &Tac, number: usize) -> u32
 fn frame_row(tac: &Tac, homes: &[Home], marks: &[Marks], number: usize) -> FrameRow
     requires exists { number < length tac.now.program }
     requires marks { AreMarked (laid_out tac.now homes.now) marks.now }
-    requires few { code_words tac.now homes.now ≤ 1048576 }
+    requires few { code_words tac.now homes.now ≤ MAX_COUNT }
     ensures entry { result.entry ≡ 4 * entry_place (laid_out tac.now homes.now) number }
     ensures bytes { result.bytes ≡ frame_cost tac.now number }
 {
@@ -96,7 +96,7 @@ fn frame_rows(
     marks: &[Marks],
 ) -> Result<Vec<FrameRow>, OutOfMemory>
     requires marks { AreMarked (laid_out tac.now homes.now) marks.now }
-    requires few { code_words tac.now homes.now ≤ 1048576 }
+    requires few { code_words tac.now homes.now ≤ MAX_COUNT }
     ensures { IfOk result (λ rows. rows.items ≡ frame_rows_of (laid_out tac.now homes.now) 0 tac.now.program) }
 {
     let mut rows = Vec::new(alloc);
@@ -139,7 +139,7 @@ fn code_of(
     pieces: &[Piece],
     texts: &[u32],
 ) -> Result<Vec<u32>, OutOfMemory>
-    requires short { length pieces.now ≤ 1048576 }
+    requires short { length pieces.now ≤ MAX_COUNT }
     requires near { AreNear marks.now (length pieces.now) }
     ensures { IfOk result (λ code. AreWordsOf (placed marks.now (length pieces.now)) pieces.now texts.now code.items) }
 {
@@ -154,7 +154,7 @@ fn parts_of(alloc: Global, tac: &Tac, homes: &[Home], draft: &Draft) -> Result<P
     requires pieces { draft.now.pieces ≡ program_pieces (laid_out tac.now homes.now) }
     requires texts { draft.now.texts.items ≡ routines_texts (routines tac.now) }
     requires marks { AreMarked (laid_out tac.now homes.now) draft.now.marks.items }
-    requires few { code_words tac.now homes.now ≤ 1048576 }
+    requires few { code_words tac.now homes.now ≤ MAX_COUNT }
     ensures emits { IfOk result (λ parts. Emits tac.now homes.now parts) }
     ensures bounds { IfOk result (λ parts. HasBounds tac.now parts) }
 {
@@ -199,8 +199,9 @@ pub fn emit_marked(alloc: Global, tac: &Tac, placement: &Placement) -> Result<Em
     requires { Valid tac.now placement.now }
     ensures emits { IfOk result (λ emitted. Emits tac.now placement.now emitted.parts) }
     ensures bounds { IfOk result (λ emitted. HasBounds tac.now emitted.parts) }
-    ensures fits { OnOk result (code_words tac.now placement.now ≤ 1048576) }
-    ensures too_large { IfErr result (λ refusal. refusal ≡ CodeTooLarge → 1048576 < code_words tac.now placement.now) }
+    ensures fits { OnOk result (code_words tac.now placement.now ≤ MAX_COUNT) }
+    ensures too_large { IfErr result (λ refusal. refusal ≡ CodeTooLarge → MAX_COUNT
+        < code_words tac.now placement.now) }
 {
     let homes = placement.raw().homes.as_slice();
     let draft = draft_of(alloc, tac, homes)?;
@@ -222,8 +223,9 @@ pub fn emit(alloc: Global, tac: &Tac, placement: &Placement) -> Result<Parts, Em
     requires { Valid tac.now placement.now }
     ensures emits { IfOk result (λ parts. Emits tac.now placement.now parts) }
     ensures bounds { IfOk result (λ parts. HasBounds tac.now parts) }
-    ensures fits { OnOk result (code_words tac.now placement.now ≤ 1048576) }
-    ensures too_large { IfErr result (λ refusal. refusal ≡ CodeTooLarge → 1048576 < code_words tac.now placement.now) }
+    ensures fits { OnOk result (code_words tac.now placement.now ≤ MAX_COUNT) }
+    ensures too_large { IfErr result (λ refusal. refusal ≡ CodeTooLarge → MAX_COUNT
+        < code_words tac.now placement.now) }
 {
     let emitted = emit_marked(alloc, tac, placement)?;
     Ok(emitted.parts)

@@ -13,10 +13,10 @@ ghost use Rattle.risc_emit.specs.Frames.{context_of};
 
 use crate::calls::{CARRIED, LIMIT_AT, NEXT_AT};
 use crate::frame::Frame;
+use crate::location::Location;
 use crate::numbers::{put_constant, put_load, put_store};
 use crate::operands::{save, target};
 use crate::pieces::{Label, Piece, Pieces};
-use crate::seat::Seat;
 use crate::words::{
     computed, constant, copied, loaded, r0, r1, r2, r11, r12, r13, r14, r15, set, skip, stored,
 };
@@ -33,9 +33,9 @@ const PARAMETERS: u32 = 65;
 fn stands(frame: &Frame<'_>, j: u32) -> bool
     ensures { result ≡ form.stands j (home (context_of frame.now) frame.now.number j) }
 {
-    match frame.seat(j) {
-        Seat::Register(register) => u32::from(register.number()) == j && j < CARRIED,
-        Seat::Slot(_) => false,
+    match frame.location(j) {
+        Location::Register(register) => u32::from(register.number()) == j && j < CARRIED,
+        Location::Slot(_) => false,
     }
 }
 
@@ -50,9 +50,9 @@ fn carried(count: u32) -> u32
 fn is_clear(frame: &Frame<'_>, carried: u32, j: u32) -> bool
     ensures { result ≡ form.is_clear carried j (home (context_of frame.now) frame.now.number j) }
 {
-    match frame.seat(j) {
-        Seat::Register(register) => j < CARRIED && u32::from(register.number()) >= carried,
-        Seat::Slot(_) => j < CARRIED,
+    match frame.location(j) {
+        Location::Register(register) => j < CARRIED && u32::from(register.number()) >= carried,
+        Location::Slot(_) => j < CARRIED,
     }
 }
 
@@ -69,9 +69,9 @@ fn put_taken(frame: &Frame<'_>, pieces: &mut Pieces, j: u32) -> Result<(), OutOf
         (home (context_of frame.now) frame.now.number j)) }
 {
     let from = Register::new(j as u8);
-    match frame.seat(j) {
-        Seat::Register(register) => pieces.plain(copied(register, from)),
-        Seat::Slot(slot) => put_store(pieces, from, r14(), frame.slot_at(slot)),
+    match frame.location(j) {
+        Location::Register(register) => pieces.plain(copied(register, from)),
+        Location::Slot(slot) => put_store(pieces, from, r14(), frame.slot_at(slot)),
     }
 }
 

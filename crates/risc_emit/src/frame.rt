@@ -1,7 +1,7 @@
 // A routine that is being written.
 
 use crate::layout::offsets_of;
-use crate::seat::Seat;
+use crate::location::Location;
 use risc_alloc::homes::Home;
 use risc_word::Register;
 use std::marker::Model;
@@ -42,7 +42,7 @@ impl<'a> Model for Frame<'a> {
 
 ghost use Rattle.std.specs.Prelude.{◌≡◌, ℕ, ◌+◌, ◌<◌, ◌≤◌, length, take, drop, slice_get, Some, pos, ◌≤ℤ◌};
 ghost use Rattle.risc_emit_relation.specs.Context.{home, slot_at, is_program};
-ghost use Rattle.risc_emit.specs.Meant.{home_of_seat};
+ghost use Rattle.risc_emit.specs.Meant.{home_of_location};
 ghost use Rattle.risc_emit.specs.Layout.{object_cost};
 ghost use Rattle.risc_emit.specs.Frames.{place_of, context_of};
 ghost use Rattle.tac_code.specs.Meaning.{routines};
@@ -71,13 +71,13 @@ fn home_in(homes: &[Home], temporary: u32) -> Home
 }
 
 // A home whose register is known to exist.
-fn seat_of(home: Home) -> Seat
+fn location_of(home: Home) -> Location
     requires { (q : ℕ) → home ≡ Reg q → q < 12 }
-    ensures { home_of_seat result ≡ home }
+    ensures { home_of_location result ≡ home }
 {
     match home {
-        Home::Slot(slot) => Seat::Slot(slot),
-        Home::Reg(number) => Seat::Register(Register::new(number)),
+        Home::Slot(slot) => Location::Slot(slot),
+        Home::Reg(number) => Location::Register(Register::new(number)),
     }
 }
 
@@ -119,10 +119,10 @@ impl Frame<'_> {
     }
 
     /// Where a temporary lives.
-    pub(crate) fn seat(&self, temporary: u32) -> Seat
-        ensures { home_of_seat result ≡ home (context_of self.now) self.now.number temporary }
+    pub(crate) fn location(&self, temporary: u32) -> Location
+        ensures { home_of_location result ≡ home (context_of self.now) self.now.number temporary }
     {
-        seat_of(home_in(self.own, temporary))
+        location_of(home_in(self.own, temporary))
     }
 
     /// The offset of a slot.

@@ -6,21 +6,21 @@
 #![tactic(auto)]
 
 mod arithmetic;
-mod bent;
 mod body;
 mod calls;
 mod checks;
+mod deferred;
 mod draft;
 pub mod emit;
 mod entry;
+mod flagged;
 mod frame;
 mod layout;
+mod location;
 pub mod marks;
 mod memory;
 mod numbers;
 mod operands;
 mod pieces;
 mod resolve;
-mod seat;
-mod told;
 mod words;

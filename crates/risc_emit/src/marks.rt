@@ -6,6 +6,7 @@ ghost use Rattle.risc_emit.specs.Meant.{label_of};
 ghost use Rattle.risc_emit.specs.Placed.{site_of, text_of, site_at, text_at, entry_at, constant_at, placed, AreNear};
 
 use crate::pieces::Label;
+use risc_image::MAX_COUNT;
 
 /// The first word of an instruction, and of its constant among the words of all constants.
 #[derive(Clone, Copy)]
@@ -104,7 +105,7 @@ fn back(marks: &[Marks], routine: usize, place: usize, distance: u64) -> usize
 
 // The first word of a constant, where the constants' words begin with one.
 fn constant_at(marks: &[Marks], constants: usize, routine: usize, place: usize) -> usize
-    requires { constant_at marks.now constants routine place ≤ 1048576 }
+    requires { constant_at marks.now constants routine place ≤ MAX_COUNT }
     ensures { result ≡ constant_at marks.now constants routine place }
 {
     constants + text_at(marks, routine, place)

@@ -94,16 +94,16 @@ fn put_reach(
 pub(crate) fn put_word_form(
     frame: &Frame<'_>,
     pieces: &mut Pieces,
-    bent: Option<(Register, i64)>,
+    deferred: Option<(Register, i64)>,
     to: u32,
     base: Base,
     bytes: u32,
 ) -> Result<(), OutOfMemory>
-    requires near { IsNear bent bytes }
+    requires near { IsNear deferred bytes }
     ensures { OnOk result (pieces.new ≡ pieces.old ++ form.word_form
-        (context_of frame.now) frame.now.number bent to base bytes) }
+        (context_of frame.now) frame.now.number deferred to base bytes) }
 {
-    match bent {
+    match deferred {
         Some((register, offset)) => {
             let whole = (offset + i64::from(bytes)) as i32;
             pieces.plain(loaded(Width::Word, register, register, whole))

@@ -7,12 +7,12 @@ ghost use Rattle.risc_emit_relation.specs.Context.{home};
 ghost use Rattle.risc_emit_forms.specs.Pieces as piece;
 ghost use Rattle.risc_emit_forms.specs.Forms as form;
 ghost use Rattle.risc_emit.specs.Frames.{context_of};
-ghost use Rattle.risc_emit.specs.Meant.{all_meant, home_of_seat};
+ghost use Rattle.risc_emit.specs.Meant.{all_meant, home_of_location};
 
 use crate::frame::Frame;
+use crate::location::Location;
 use crate::numbers::{is_near, is_small, put_exact, put_load, put_number, put_store};
 use crate::pieces::{Piece, Pieces};
-use crate::seat::Seat;
 use crate::words::{computed, constant, copied, r0, r12, r14, r15};
 use risc_word::{Operand as Right, Operation, Register};
 use tac_code::code::{Operand, OutOfMemory};
@@ -29,9 +29,9 @@ pub(crate) fn fetch(
     ensures register { IfOk result (λ q. q ≡ form.fetched (context_of frame.now) frame.now.number to
         (home (context_of frame.now) frame.now.number temporary)) }
 {
-    match frame.seat(temporary) {
-        Seat::Register(register) => Ok(register),
-        Seat::Slot(slot) => {
+    match frame.location(temporary) {
+        Location::Register(register) => Ok(register),
+        Location::Slot(slot) => {
             put_load(pieces, to, r14(), frame.slot_at(slot))?;
             Ok(to)
         }
@@ -45,24 +45,24 @@ pub(crate) fn fetch_length(frame: &Frame<'_>, temporary: u32) -> i32
     ensures low { pos 0 ≤ℤ result }
     ensures high { result ≤ℤ pos 4 }
 {
-    match frame.seat(temporary) {
-        Seat::Register(_) => 0,
-        Seat::Slot(slot) => if is_near(frame.slot_at(slot)) { 1 } else { 4 },
+    match frame.location(temporary) {
+        Location::Register(_) => 0,
+        Location::Slot(slot) => if is_near(frame.slot_at(slot)) { 1 } else { 4 },
     }
 }
 
-fn bring_seat(
+fn bring_location(
     frame: &Frame<'_>,
     pieces: &mut Pieces,
     to: Register,
-    seat: Seat,
+    location: Location,
 ) -> Result<(), OutOfMemory>
     ensures { OnOk result (pieces.new ≡ pieces.old ++ form.bring (context_of frame.now) frame.now.number to
-        (home_of_seat seat)) }
+        (home_of_location location)) }
 {
-    match seat {
-        Seat::Register(register) => pieces.plain(copied(to, register)),
-        Seat::Slot(slot) => put_load(pieces, to, r14(), frame.slot_at(slot)),
+    match location {
+        Location::Register(register) => pieces.plain(copied(to, register)),
+        Location::Slot(slot) => put_load(pieces, to, r14(), frame.slot_at(slot)),
     }
 }
 
@@ -76,7 +76,7 @@ pub(crate) fn bring(
     ensures { OnOk result (pieces.new ≡ pieces.old ++ form.bring (context_of frame.now) frame.now.number to
         (home (context_of frame.now) frame.now.number temporary)) }
 {
-    bring_seat(frame, pieces, to, frame.seat(temporary))
+    bring_location(frame, pieces, to, frame.location(temporary))
 }
 
 /// The register in which a result is made.
@@ -84,9 +84,9 @@ pub(crate) fn target(frame: &Frame<'_>, temporary: u32) -> Register
     ensures { result ≡ form.target (context_of frame.now) frame.now.number
         (home (context_of frame.now) frame.now.number temporary) }
 {
-    match frame.seat(temporary) {
-        Seat::Register(register) => register,
-        Seat::Slot(_) => r12(),
+    match frame.location(temporary) {
+        Location::Register(register) => register,
+        Location::Slot(_) => r12(),
     }
 }
 
@@ -99,9 +99,9 @@ pub(crate) fn save(
     ensures { OnOk result (pieces.new ≡ pieces.old ++ form.save (context_of frame.now) frame.now.number
         (home (context_of frame.now) frame.now.number temporary)) }
 {
-    match frame.seat(temporary) {
-        Seat::Register(_) => Ok(()),
-        Seat::Slot(slot) => put_store(pieces, r12(), r14(), frame.slot_at(slot)),
+    match frame.location(temporary) {
+        Location::Register(_) => Ok(()),
+        Location::Slot(slot) => put_store(pieces, r12(), r14(), frame.slot_at(slot)),
     }
 }
 
@@ -129,9 +129,9 @@ pub(crate) fn receive(
     ensures { OnOk result (pieces.new ≡ pieces.old ++ form.receive (context_of frame.now) frame.now.number
         (home (context_of frame.now) frame.now.number temporary)) }
 {
-    match frame.seat(temporary) {
-        Seat::Register(register) => pieces.plain(copied(register, r12())),
-        Seat::Slot(slot) => put_store(pieces, r12(), r14(), frame.slot_at(slot)),
+    match frame.location(temporary) {
+        Location::Register(register) => pieces.plain(copied(register, r12())),
+        Location::Slot(slot) => put_store(pieces, r12(), r14(), frame.slot_at(slot)),
     }
 }
 
@@ -145,14 +145,14 @@ pub(crate) fn put_into(
     ensures { OnOk result (pieces.new ≡ pieces.old ++ form.into (context_of frame.now) frame.now.number to
         (home (context_of frame.now) frame.now.number temporary)) }
 {
-    match frame.seat(temporary) {
-        Seat::Register(register) => {
+    match frame.location(temporary) {
+        Location::Register(register) => {
             if register.number() == to.number() {
                 return Ok(());
             }
             pieces.plain(copied(to, register))
         }
-        Seat::Slot(slot) => put_load(pieces, to, r14(), frame.slot_at(slot)),
+        Location::Slot(slot) => put_load(pieces, to, r14(), frame.slot_at(slot)),
     }
 }
 
@@ -165,14 +165,14 @@ pub(crate) fn accept(
     ensures { OnOk result (pieces.new ≡ pieces.old ++ form.accept (context_of frame.now) frame.now.number
         (home (context_of frame.now) frame.now.number temporary)) }
 {
-    match frame.seat(temporary) {
-        Seat::Register(register) => {
+    match frame.location(temporary) {
+        Location::Register(register) => {
             if register.number() == 0 {
                 return Ok(());
             }
             pieces.plain(copied(register, r0()))
         }
-        Seat::Slot(slot) => put_store(pieces, r0(), r14(), frame.slot_at(slot)),
+        Location::Slot(slot) => put_store(pieces, r0(), r14(), frame.slot_at(slot)),
     }
 }
 
@@ -263,9 +263,9 @@ pub(crate) fn put_copy(
     ensures { OnOk result (pieces.new ≡ pieces.old ++ form.copy (context_of frame.now) frame.now.number
         (home (context_of frame.now) frame.now.number to) (home (context_of frame.now) frame.now.number from)) }
 {
-    match frame.seat(to) {
-        Seat::Register(register) => bring(frame, pieces, register, from),
-        Seat::Slot(slot) => {
+    match frame.location(to) {
+        Location::Register(register) => bring(frame, pieces, register, from),
+        Location::Slot(slot) => {
             let register = fetch(frame, pieces, r12(), from)?;
             put_store(pieces, register, r14(), frame.slot_at(slot))
         }
@@ -306,11 +306,11 @@ pub(crate) fn put_modulus(
 }
 
 /// Whether N and Z are known to be those of a temporary's register.
-pub(crate) fn is_told(frame: &Frame<'_>, told: Option<u32>, temporary: u32) -> bool
-    ensures { result ≡ form.is_told (context_of frame.now) frame.now.number told temporary }
+pub(crate) fn is_flagged(frame: &Frame<'_>, flagged: Option<u32>, temporary: u32) -> bool
+    ensures { result ≡ form.is_flagged (context_of frame.now) frame.now.number flagged temporary }
 {
-    match told {
-        Some(it) => it == temporary && matches!(frame.seat(temporary), Seat::Register(_)),
+    match flagged {
+        Some(it) => it == temporary && matches!(frame.location(temporary), Location::Register(_)),
         None => false,
     }
 }

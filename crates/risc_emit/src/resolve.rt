@@ -14,7 +14,7 @@ ghost use Rattle.risc_emit.specs.Placed.{placed, AreNear, AreWordsTo};
 use crate::marks::{Marks, entry_at, label_place};
 use crate::pieces::Piece;
 use crate::words::{computed, constant};
-use risc_image::{CallRow, TrapRow};
+use risc_image::{CallRow, MAX_COUNT, TrapRow};
 use risc_word::{Condition, Displacement, Instr, Operation, Register, Target, encode};
 use std::alloc::Global;
 use tac_code::code::OutOfMemory;
@@ -24,8 +24,8 @@ const STUB: usize = 1;
 
 // A branch from a place to another.
 fn near(at: usize, place: usize, condition: Condition, link: bool) -> Instr
-    requires at { at < 1048576 }
-    requires place { place ≤ 1048576 }
+    requires at { at < MAX_COUNT }
+    requires place { place ≤ MAX_COUNT }
     ensures { result ≡ word.Branch condition link (Relative (distance at place)) }
 {
     Instr::Branch {
@@ -36,7 +36,7 @@ fn near(at: usize, place: usize, condition: Condition, link: bool) -> Instr
 }
 
 fn high(register: Register, place: usize) -> Instr
-    requires { place ≤ 1048576 }
+    requires { place ≤ MAX_COUNT }
     ensures { result ≡ word.MoveTop register (4 * place / 65536) }
 {
     Instr::MoveTop {
@@ -46,7 +46,7 @@ fn high(register: Register, place: usize) -> Instr
 }
 
 fn low(register: Register, place: usize) -> Instr
-    requires { place ≤ 1048576 }
+    requires { place ≤ MAX_COUNT }
     ensures { result ≡ word.Operate Add register register (Constant (pos (4 * place % 65536))) }
 {
     computed(
@@ -59,7 +59,7 @@ fn low(register: Register, place: usize) -> Instr
 
 // The instruction that a piece is at a place.
 fn instr_at(marks: &[Marks], constants: usize, at: usize, piece: Piece) -> Instr
-    requires at { at < 1048576 }
+    requires at { at < MAX_COUNT }
     requires near { AreNear marks.now constants }
     ensures { result ≡ instr_at (placed marks.now constants) at (meant piece) }
 {
@@ -90,7 +90,7 @@ fn instr_at(marks: &[Marks], constants: usize, at: usize, piece: Piece) -> Instr
 
 // The address after a word.
 fn link_of(at: usize) -> u32
-    requires { at < 1048576 }
+    requires { at < MAX_COUNT }
     ensures { result ≡ 4 * (at + 1) }
 {
     4 * (at as u32 + 1)
@@ -102,7 +102,7 @@ pub(crate) fn words_of(
     marks: &[Marks],
     pieces: &[Piece],
 ) -> Result<Vec<u32>, OutOfMemory>
-    requires short { length pieces.now ≤ 1048576 }
+    requires short { length pieces.now ≤ MAX_COUNT }
     requires near { AreNear marks.now (length pieces.now) }
     ensures { IfOk result (λ code. AreWordsTo (placed marks.now (length pieces.now)) pieces.now
         (length pieces.now) code.items) }
@@ -115,7 +115,7 @@ pub(crate) fn words_of(
 }
 
 fn push_trap(rows: &mut Vec<TrapRow>, at: usize, piece: Piece) -> Result<(), OutOfMemory>
-    requires { at < 1048576 }
+    requires { at < MAX_COUNT }
     ensures { OnOk result (rows.new.items ≡ rows.old.items ++ trap_row_of at (meant piece)) }
 {
     if let Piece::Fails(_, error, line) = piece {
@@ -130,7 +130,7 @@ fn push_trap(rows: &mut Vec<TrapRow>, at: usize, piece: Piece) -> Result<(), Out
 
 /// The rows of the words that may stop.
 pub(crate) fn trap_rows(alloc: Global, pieces: &[Piece]) -> Result<Vec<TrapRow>, OutOfMemory>
-    requires { length pieces.now ≤ 1048576 }
+    requires { length pieces.now ≤ MAX_COUNT }
     ensures { IfOk result (λ rows. rows.items ≡ trap_rows_of 0 (all_meant pieces.now)) }
 {
     let mut rows = Vec::new(alloc);
@@ -141,7 +141,7 @@ pub(crate) fn trap_rows(alloc: Global, pieces: &[Piece]) -> Result<Vec<TrapRow>,
 }
 
 fn push_call(rows: &mut Vec<CallRow>, at: usize, piece: Piece) -> Result<(), OutOfMemory>
-    requires { at < 1048576 }
+    requires { at < MAX_COUNT }
     ensures { OnOk result (rows.new.items ≡ rows.old.items ++ call_row_of at (meant piece)) }
 {
     if let Piece::Enters(_, line) | Piece::EntersAt(_, line) = piece {
@@ -155,7 +155,7 @@ fn push_call(rows: &mut Vec<CallRow>, at: usize, piece: Piece) -> Result<(), Out
 
 /// The rows of the calls of the program's routines.
 pub(crate) fn call_rows(alloc: Global, pieces: &[Piece]) -> Result<Vec<CallRow>, OutOfMemory>
-    requires { length pieces.now ≤ 1048576 }
+    requires { length pieces.now ≤ MAX_COUNT }
     ensures { IfOk result (λ rows. rows.items ≡ call_rows_of 0 (all_meant pieces.now)) }
 {
     let mut rows = Vec::new(alloc);

@@ -25,7 +25,7 @@ use Rattle.risc_emit_relation.proofs.Steps.{home_read, value_near}
 use Rattle.risc_emit_forms.specs.Pieces.{Piece, Plain, Left}
 use Rattle.risc_emit_forms.specs.Forms as form
 use Rattle.risc_emit_forms.specs.Forms.{constant, base_register, base_address, address_register}
-use Rattle.risc_emit_forms.specs.Told.{block_at}
+use Rattle.risc_emit_forms.specs.Peephole.{block_at}
 use Rattle.risc_emit_forms.specs.Follows.{machine_of, Built, Belongs}
 use Rattle.risc_emit_forms.proofs.Basics.{left_after, left_next, among_first}
 use Rattle.risc_emit_forms.proofs.Runs.{Moved, step_to, constant_run}

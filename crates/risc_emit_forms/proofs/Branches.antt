@@ -4,6 +4,8 @@ use Rattle.std.proofs.lemmas.Int.{ints}
 use Rattle.std.proofs.Common.{◌≡◌, ℕ, zero, suc, ◌+◌, ◌-◌, ◌<◌, ◌≤◌, Bool, true, false, cond, ◌&&◌, not, nat_eq, nat_le}
 use Rattle.std.proofs.Common.{List, [], ◌∷◌, ◌++◌, Option, Some, None, pos, negsuc, refl, sym, ap, ◌∙◌, subst, arith}
 use Rattle.std.proofs.Common.{length-append, append_assoc}
+use Rattle.std.proofs.lemmas.Bool.{eqb-true}
+use Rattle.std.proofs.lemmas.Option.{slice_get_within}
 use Rattle.risc_word.specs.declared.instr.Operation.TheVariants as op
 use Rattle.risc_word.specs.declared.instr.Operand.TheVariants as instr_operand
 use Rattle.risc_word.specs.declared.instr.Condition.TheVariants as on
@@ -32,10 +34,10 @@ use Rattle.risc_emit_relation.specs.Context.{Context, home, reads, Places, Passe
 use Rattle.risc_emit_relation.specs.Context as ctx
 use Rattle.risc_emit_relation.specs.Changes.{Near}
 use Rattle.risc_emit_relation.specs.Related.{value_of}
-use Rattle.risc_emit_relation.proofs.Basics.{get_within, eq_of, update_other}
+use Rattle.risc_emit_relation.proofs.Basics.{update_other}
 use Rattle.risc_emit_forms.specs.Pieces.{AtPlace, Piece, Plain, Goes, Left}
 use Rattle.risc_emit_forms.specs.Forms as form
-use Rattle.risc_emit_forms.specs.Told.{told_at}
+use Rattle.risc_emit_forms.specs.Peephole.{flagged_at}
 use Rattle.risc_emit_forms.specs.Forms.{fetched, right, right_operand, both, condition, brief, is_null, is_register}
 use Rattle.risc_emit_forms.specs.Forms.{difference}
 use Rattle.risc_emit_forms.specs.Follows.{machine_of, Built, Belongs, Comes}
@@ -86,14 +88,15 @@ module _ (c : Context) (words : List ℕ) (b : Built c words) (p : Places) (s : 
   right_sound n (operand.Number z) h = integer_is z h
 
   -- the register that N and Z are known to be of
-  pub told_stands : (a : ℕ) → form.is_told c s.current.routine (told_at c s.current.routine s.current.place) a ≡ true
-      → (q : ℕ) × (home c s.current.routine a ≡ Reg q) × (v.equal ≡ nat_eq (v.registers q) 0)
+  pub told_stands : (a : ℕ) → form.is_flagged c s.current.routine (flagged_at c s.current.routine s.current.place) a
+      ≡ true → (q : ℕ) × (home c s.current.routine a ≡ Reg q) × (v.equal ≡ nat_eq (v.registers q) 0)
       × (v.negative ≡ nat_le 2147483648 (v.registers q))
   told_stands a e =
-      let k = each (is_it a (told_at c s.current.routine s.current.place)) (is_register (home c s.current.routine a)) e
+      let k = each (is_it a (flagged_at c s.current.routine s.current.place)) (is_register (home c s.current.routine a))
+      e
       in
       let h = register_is (home c s.current.routine a) k.1 in
-      let flags = be.flags.0 a h.0 (it_is (told_at c s.current.routine s.current.place) k.0) h.1 in
+      let flags = be.flags.0 a h.0 (it_is (flagged_at c s.current.routine s.current.place) k.0) h.1 in
       (h.0, h.1, flags.0, flags.1)
     where
       each : (t u : Bool) → t && u ≡ true → (t ≡ true) × (u ≡ true)
@@ -102,7 +105,7 @@ module _ (c : Context) (words : List ℕ) (b : Built c words) (p : Places) (s : 
 
       it_is : (o : Option ℕ) → is_it a o ≡ true → o ≡ Some a
       it_is None e = absurd (cc e)
-      it_is (Some t) e = ap Some (sym (eq_of a t e))
+      it_is (Some t) e = ap Some (sym (eqb-true a t e))
 
       register_is : (h : Home) → is_register h ≡ true → (q : ℕ) × (h ≡ Reg q)
       register_is (Reg q) e = (q, refl)
@@ -212,12 +215,12 @@ module _ (c : Context) (words : List ℕ) (b : Built c words) (p : Places) (s : 
 
   -- where a branch is by those flags, they show its relation
   pub brief_flag : (relation : Relation) (a : ℕ) (o : Operand) (holds : Bool) (told : Condition) → cond
-      (form.is_told c s.current.routine (told_at c s.current.routine s.current.place) a && is_null o)
+      (form.is_flagged c s.current.routine (flagged_at c s.current.routine s.current.place) a && is_null o)
       (brief relation) None ≡ Some told → reads c s.current.routine s.current.place a ≡ true → related relation
       (s.current.temporaries a) (operand_value s.current.temporaries o) ≡ Some holds → holds_view v told ≡ holds
   brief_flag relation a o holds told is ra e =
       let r = s.current.routine in
-      let k = chosen (form.is_told c r (told_at c r s.current.place) a) (is_null o) (brief relation) is in
+      let k = chosen (form.is_flagged c r (flagged_at c r s.current.place) a) (is_null o) (brief relation) is in
       let stood = told_stands a k.0 in
       let q = stood.0 in
       let xs = both_there relation (s.current.temporaries a) (operand_value s.current.temporaries o) holds e in
@@ -249,11 +252,11 @@ module _ (c : Context) (words : List ℕ) (b : Built c words) (p : Places) (s : 
       ≡ true → ((t : ℕ) → is_among t (in_operand o) ≡ true → reads c s.current.routine s.current.place t ≡ true)
       → related relation (s.current.temporaries a) (operand_value s.current.temporaries o) ≡ Some holds
       → Left c words v.place (form.branch_form c s.current.routine
-      (told_at c s.current.routine s.current.place) relation a o (AtPlace s.current.routine k'))
+      (flagged_at c s.current.routine s.current.place) relation a o (AtPlace s.current.routine k'))
       (c.site s.current.routine (suc s.current.place)) → Comes c words s
       (record s { current = record s.current { place = cond holds k' (suc s.current.place) } }) m
   branch_follows i relation a o k' temporaries holds there next low so ra ro e l = by
-      (cond (form.is_told c s.current.routine (told_at c s.current.routine s.current.place) a && is_null o)
+      (cond (form.is_flagged c s.current.routine (flagged_at c s.current.routine s.current.place) a && is_null o)
       (brief relation) None) refl l
     where
       brief_goes : (told : Condition) (h : Bool) → holds_view v told ≡ h → Left c words v.place
@@ -308,9 +311,9 @@ module _ (c : Context) (words : List ℕ) (b : Built c words) (p : Places) (s : 
             words = d.near.words;
           }) (sym d.left.ends)))
 
-      by : (q : Option Condition) → cond (form.is_told c s.current.routine
-          (told_at c s.current.routine s.current.place) a && is_null o) (brief relation) None ≡ q → Left c words v.place
-          (form.branch_by c s.current.routine q relation a o (AtPlace s.current.routine k'))
+      by : (q : Option Condition) → cond (form.is_flagged c s.current.routine
+          (flagged_at c s.current.routine s.current.place) a && is_null o) (brief relation) None ≡ q
+          → Left c words v.place (form.branch_by c s.current.routine q relation a o (AtPlace s.current.routine k'))
           (c.site s.current.routine (suc s.current.place)) → Comes c words s
           (record s { current = record s.current { place = cond holds k' (suc s.current.place) } }) m
       by (Some told) is l = brief_goes told holds (brief_flag relation a o holds told is ra e) l
@@ -342,7 +345,7 @@ module _ (c : Context) (words : List ℕ) (b : Built c words) (p : Places) (s : 
       let k = s.current.place in
       let i = BranchBack relation a o n in
       let so = fetched_is c words b r k i here in
-      let lt = get_within so.routine.body k i so.body in
+      let lt = slice_get_within so.routine.body k i so.body in
       branch_follows i relation a o (k - n) _ holds
       (passes c r k i here (k - n) refl (among_rest (k - n) (suc k) ((k - n) ∷ []) (among_first (k - n) [])))
       (passes c r k i here (suc k) refl (among_first (suc k) ((k - n) ∷ [])))

@@ -3,12 +3,13 @@ use Rattle.std.proofs.Common.{◌≡◌, ◌≢◌, ℕ, zero, suc, ◌+◌, ◌
 use Rattle.std.proofs.Common.{cond, if◌then◌else◌, not, ◌||◌, nat_eq, nat_lt, List, [], ◌∷◌, ◌++◌, length, Option}
 use Rattle.std.proofs.Common.{Some, None, slice_get, slice_index, refl, sym, ap, ◌∙◌, subst, arith, length-append}
 use Rattle.std.proofs.Common.{append_assoc}
+use Rattle.std.proofs.lemmas.Bool.{ltb-true, eqb-true}
+use Rattle.std.proofs.lemmas.Option.{slice_get_within}
 use Rattle.behavior.specs.Endings.{Stuck, Stack}
 use Rattle.risc_word.specs.declared.instr.Condition.TheVariants as on
 use Rattle.risc_word.specs.declared.instr.Target.TheVariants.{Relative, Absolute}
 use Rattle.risc_word.specs.declared.instr.Instr.TheVariants as word
 use Rattle.risc_machine.specs.Step as machine
-use Rattle.risc_machine.specs.Step.{word_of_int}
 use Rattle.risc_machine_laws.specs.View.{View, IsAt, Shows, at_view, link_view}
 use Rattle.risc_machine_laws.specs.Runs.{To, Way, same_tape}
 use Rattle.risc_machine_laws.specs.Numbers.{distance}
@@ -24,10 +25,10 @@ use Rattle.tac_code.specs.Meaning.{fetch, routines, State, Step, Goes, Over, onw
 use Rattle.tac_code.specs.Meaning.{Temporaries, values_of, with_some}
 use Rattle.risc_alloc.specs.declared.homes.Home.{Home}
 use Rattle.risc_alloc.specs.Flow.{is_among, gives_to}
-use Rattle.risc_emit_relation.specs.Context.{Context, home, reads, called, is_program, cost, Places, IsValue}
+use Rattle.risc_emit_relation.specs.Context.{Context, home, reads, called, is_program, Places, IsValue}
 use Rattle.risc_emit_relation.specs.Context as ctx
 use Rattle.risc_emit_relation.specs.Related.{value_of, owner_of}
-use Rattle.risc_emit_relation.proofs.Basics.{eqb_same, eq_of, get_within, update_other}
+use Rattle.risc_emit_relation.proofs.Basics.{eqb_same, update_other}
 use Rattle.risc_emit_relation.proofs.Frames.{open_room}
 use Rattle.risc_emit_relation.proofs.Walk.{stack_free}
 use Rattle.risc_emit_forms.specs.Pieces.{Piece, Enters, Joins, EntersAt, Left}
@@ -51,14 +52,11 @@ among_at (t ∷ us) zero u e =
     let same : t ≡ u = cc e in subst (λ x. is_among u (x ∷ us) ≡ true) (sym same) (among_first u us)
 among_at (t ∷ us) (suc j) u e = among_rest u t us (among_at us j u e)
 
-less : (x y : ℕ) → nat_lt x y ≡ true → x < y
-less x y e = grind arith
-
 carried_few : (n : ℕ) → carried n ≤ 8
 carried_few n = go (nat_lt n 8) refl
   where
     go : (t : Bool) → nat_lt n 8 ≡ t → cond t n 8 ≤ 8
-    go true e = let lt = less n 8 e in omega (arith, lt)
+    go true e = let lt = ltb-true n 8 e in omega (arith, lt)
     go false e = omega arith
 
 -- an operand of a low number is carried
@@ -104,7 +102,7 @@ module _ (c : Context) (words : List ℕ) (b : Built c words) where
 
       go : (routine : TacRoutine) → slice_get routine.body k ≡ Some i → (slice_get c.code.program r ≡ Some routine)
           ⊎ ((n : ℕ) × (slice_get c.code.run_time n ≡ Some routine)) → is_program c r ≡ true
-      go routine body (inl e) = is_lt _ _ (get_within c.code.program r routine e)
+      go routine body (inl e) = is_lt _ _ (slice_get_within c.code.program r routine e)
       go routine body (inr e) = absurd (none ((b.sound.leaves e.0 routine e.1).body k i body))
 
   pub follows_way : (s : State) (m : machine.State) (v : View) (a : Way words c.size m same_tape v) (step : Step)
@@ -179,7 +177,7 @@ module _ (c : Context) (words : List ℕ) (b : Built c words) (p : Places) (S H 
       }
     where
       within : (j : ℕ) (x : Value) → slice_get vs j ≡ Some x → j < length us
-      within j x e = let lt = get_within vs j x e in let same = values_length s.current.temporaries us vs ev in omega
+      within j x e = let lt = slice_get_within vs j x e in let same = values_length s.current.temporaries us vs ev in omega
           (arith, lt, same)
 
       wide : (a : ℕ) → (a < f + 8) ⊎ (f + 268 ≤ a) → (a < f + 8 + 4 * 0) ⊎ (f + 268 ≤ a)
@@ -268,7 +266,7 @@ module _ (c : Context) (words : List ℕ) (b : Built c words) (p : Places) (S H 
           (Over (Stack routine.line)) (Goes (entered c.code c.costs c.sizes S H routine q vs t line
           (onward s.current ∷ s.callers) s)))) s n
       counted routine is true e =
-          made routine is (eq_of (length vs) routine.parameters e)
+          made routine is (eqb-true (length vs) routine.parameters e)
           (is_full c.code c.costs c.sizes S H q (onward s.current ∷ s.callers)) refl (is_program c q) refl
       counted routine is false e = inl refl
 

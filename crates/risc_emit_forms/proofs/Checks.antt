@@ -19,7 +19,7 @@ use Rattle.risc_emit_relation.specs.Changes.{Near}
 use Rattle.risc_emit_relation.proofs.Basics.{update_other}
 use Rattle.risc_emit_forms.specs.Pieces as piece
 use Rattle.risc_emit_forms.specs.Pieces.{Left}
-use Rattle.risc_emit_forms.specs.Told.{told_at}
+use Rattle.risc_emit_forms.specs.Peephole.{flagged_at}
 use Rattle.risc_emit_forms.specs.Forms as form
 use Rattle.risc_emit_forms.specs.Forms.{fetched, bring, idle, range_code}
 use Rattle.risc_emit_forms.specs.Follows.{machine_of, Built, Belongs, Follows}
@@ -145,7 +145,7 @@ module _ (c : Context) (words : List ℕ) (b : Built c words) (p : Places) (s : 
           (passes c s.current.routine s.current.place (CheckPointer a error line) here (suc s.current.place) refl
           (among_first (suc s.current.place) [])) t2.shows near (sym ends))
 
-      by : (told : Bool) → form.is_told c s.current.routine (told_at c s.current.routine s.current.place) a ≡ told
+      by : (told : Bool) → form.is_flagged c s.current.routine (flagged_at c s.current.routine s.current.place) a ≡ told
           → Left c words v.place (cond told (piece.Fails on.Equal error line ∷ [])
           (bring c s.current.routine 12 (home c s.current.routine a) ++ piece.Fails on.Equal error line ∷ []))
           (c.site s.current.routine (suc s.current.place)) → Follows c words
@@ -177,12 +177,13 @@ module _ (c : Context) (words : List ℕ) (b : Built c words) (p : Places) (s : 
           (go v1 g.to.to g.to.shows near l1 nil (is_nil q) refl)
 
       number : (none : Bool) → nat_eq error 0 ≡ none → Left c words v.place
-          (cond none (idle ∷ []) (cond (form.is_told c s.current.routine
-          (told_at c s.current.routine s.current.place) a) (piece.Fails on.Equal error line ∷ [])
+          (cond none (idle ∷ []) (cond (form.is_flagged c s.current.routine
+          (flagged_at c s.current.routine s.current.place) a) (piece.Fails on.Equal error line ∷ [])
           (bring c s.current.routine 12 (home c s.current.routine a) ++ piece.Fails on.Equal error line ∷ [])))
           (c.site s.current.routine (suc s.current.place)) → Follows c words
           (checks c.code (not (is_nil q)) error line s) s m
       number true e l = idle_follows error line (not (is_nil q)) e
           (passes c s.current.routine s.current.place (CheckPointer a error line) here (suc s.current.place) refl
           (among_first (suc s.current.place) [])) l
-      number false e l = by (form.is_told c s.current.routine (told_at c s.current.routine s.current.place) a) refl l
+      number false e l = by (form.is_flagged c s.current.routine (flagged_at c s.current.routine s.current.place) a)
+          refl l

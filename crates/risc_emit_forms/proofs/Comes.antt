@@ -3,6 +3,7 @@ use Rattle.std.proofs.Common.{◌≡◌, ◌≢◌, ℕ, zero, suc, ◌+◌, ◌
 use Rattle.std.proofs.Common.{nat_eq, nat_le, List, [], ◌∷◌, length, take, Some, pos, negsuc, ℤ, refl, sym, ap, ◌∙◌}
 use Rattle.std.proofs.Common.{subst, arith}
 use Rattle.std.proofs.lemmas.Int.{ints}
+use Rattle.std.proofs.lemmas.Option.{slice_get_within}
 use Rattle.behavior.specs.Endings.{Ending, Stack, Heap, Error, Stuck, ending_by}
 use Rattle.behavior.specs.Transcripts.{AreBytes}
 use Rattle.risc_word.specs.declared.instr.Condition.{Condition}
@@ -25,14 +26,15 @@ use Rattle.risc_emit_relation.specs.Context.{Context, home, Places, word, IsValu
 use Rattle.risc_emit_relation.specs.Related.{Machine, Related, value_of, owner_of}
 use Rattle.risc_emit_relation.specs.Changes.{update, Near, Settled}
 use Rattle.risc_emit_relation.specs.Walk.{walk}
-use Rattle.risc_emit_relation.proofs.Basics.{get_within, update_same, update_other}
+use Rattle.risc_emit_relation.proofs.Basics.{update_same, update_other}
 use Rattle.risc_emit_relation.proofs.Frames.{open_room}
 use Rattle.risc_emit_relation.proofs.Steps.{related_goes, related_gives}
 use Rattle.risc_emit_relation.proofs.Walk.{walk_is, walk_same}
 use Rattle.risc_emit_forms.specs.Pieces.{Label, label_place, Piece, Goes, Fails, Left}
 use Rattle.risc_emit_forms.specs.Forms.{target, save, receive, skip}
-use Rattle.risc_emit_forms.specs.Told.{flagged_by, bent_at}
-use Rattle.risc_emit_forms.specs.Follows.{machine_of, stub, Built, tape_of, Flags, Straight, unbent, Meets, Stops}
+use Rattle.risc_emit_forms.specs.Peephole.{flagged_by, deferred_at}
+use Rattle.risc_emit_forms.specs.Follows.{machine_of, stub, Built, tape_of, Flags, Straight, with_deferred, Meets}
+use Rattle.risc_emit_forms.specs.Follows.{Stops}
 use Rattle.risc_emit_forms.specs.Follows.{Follows, trapped, told}
 use Rattle.risc_emit_forms.proofs.Flags.{told_behind, flagged_straight, passed_silent}
 use Rattle.risc_emit_forms.proofs.Runs.{Aside, Framed}
@@ -111,7 +113,7 @@ module _ (c : Context) (words : List ℕ) (b : Built c words) where
   -- ---- branches
 
   pub place_low : (at : ℕ) (i : _) → IsAt words at i → at < 1048576
-  place_low at i h = let lt = get_within words at _ h.word in omega (arith, lt, b.stood.short)
+  place_low at i h = let lt = slice_get_within words at _ h.word in omega (arith, lt, b.stood.short)
 
   pub goes_run : (condition : Condition) (label : Label) (ps : List Piece) (next : ℕ) (m : machine.State) (v : View)
       → Shows words c.size m v → Left c words v.place (Goes condition label ∷ ps) next → holds_view v condition ≡ true
@@ -315,30 +317,31 @@ module _ (c : Context) (words : List ℕ) (b : Built c words) where
       })
 
   -- the register of its home took its word, less what it is short of
-  pub bends_end : (p : Places) (s : State) (m0 : Machine) (f t : ℕ) (x : Value) (bent : ℕ × ℤ) (m : machine.State)
+  pub defers_end : (p : Places) (s : State) (m0 : Machine) (f t : ℕ) (x : Value) (deferred : ℕ × ℤ) (m : machine.State)
       (v : View) → Related c p s m0 f → AreBytes s.tape.input → Writes c s.current.routine s.current.place t
-      → Flags c s.current.routine (suc s.current.place) v → bent_at c s.current.routine (suc s.current.place)
-      ≡ Some bent → home c s.current.routine t ≡ Reg bent.0 → IsValue c p x → Shows words c.size m v
-      → reached (v.registers bent.0) bent.1 ≡ word c p x
-      → ((q : ℕ) → q ≢ 12 → q ≢ 15 → q ≢ bent.0 → v.registers q ≡ m0.registers q) → ((a : ℕ) → v.words a ≡ m0.words a)
-      → v.place ≡ c.site s.current.routine (suc s.current.place) → Arrives c words
+      → Flags c s.current.routine (suc s.current.place) v → deferred_at c s.current.routine (suc s.current.place)
+      ≡ Some deferred → home c s.current.routine t ≡ Reg deferred.0 → IsValue c p x → Shows words c.size m v
+      → reached (v.registers deferred.0) deferred.1 ≡ word c p x
+      → ((q : ℕ) → q ≢ 12 → q ≢ 15 → q ≢ deferred.0 → v.registers q ≡ m0.registers q)
+      → ((a : ℕ) → v.words a ≡ m0.words a) → v.place ≡ c.site s.current.routine (suc s.current.place) → Arrives c words
       (record s { current = giving t x s.current }) m
-  bends_end p s m0 f t x bent m v h bytes g flags is home_is good sh here regs same e =
+  defers_end p s m0 f t x deferred m v h bytes g flags is home_is good sh here regs same e =
       let r = s.current.routine in
-      let v' = record v { registers = update bent.0 (reached (v.registers bent.0) bent.1) v.registers } in
-      let lt = b.placed.register r t bent.0 home_is in
-      let a : Aside bent.0 (word c p x) m0 v' = record {
-        here = update_same v.registers bent.0 _ ∙ here;
-        registers = λ q n12 n15 nq. update_other v.registers bent.0 _ q nq ∙ regs q n12 n15 nq;
+      let v' = record v { registers = update deferred.0 (reached (v.registers deferred.0) deferred.1) v.registers } in
+      let lt = b.placed.register r t deferred.0 home_is in
+      let a : Aside deferred.0 (word c p x) m0 v' = record {
+        here = update_same v.registers deferred.0 _ ∙ here;
+        registers = λ q n12 n15 nq. update_other v.registers deferred.0 _ q nq ∙ regs q n12 n15 nq;
         words = same;
       } in
-      let settled = in_register c words b.stood b.laid b.placed r f (framed p s m0 f h) bent.0 (word c p x) m0 v' lt a
+      let settled = in_register c words b.stood b.laid b.placed r f (framed p s m0 f h) deferred.0 (word c p x) m0 v' lt
+      a
       in
       let s' = record s { current = giving t x s.current } in
       let rel = related_gives c b.laid b.placed p s m0 (machine_of v') f t x h g good
       (subst (λ y. Settled c r f y (word c p x) m0 (machine_of v')) (sym home_is) settled) in
       let meets : Meets c words p s' v f = record {
-        related = subst (λ o. Related c p s' (unbent o (machine_of v)) f) (sym is) rel;
+        related = subst (λ o. Related c p s' (with_deferred o (machine_of v)) f) (sym is) rel;
         place = e;
         input = bytes;
         flags = flags;

@@ -4,7 +4,7 @@ use Rattle.std.proofs.Common.{nat_eq, nat_lt, nat_le, List, [], ◌∷◌, lengt
 use Rattle.std.proofs.Common.{negsuc, ◌-ℤ◌, refl, sym, ap, ◌∙◌, subst, arith}
 use Rattle.std.specs.Prelude.{int_lt}
 use Rattle.std.proofs.lemmas.Int.{ints}
-use Rattle.std.proofs.lemmas.Bool.{cases_eq}
+use Rattle.std.proofs.lemmas.Bool.{cases_eq, eqb-true}
 use Rattle.risc_word.specs.declared.instr.Operation.TheVariants as op
 use Rattle.risc_word.specs.declared.instr.Operand as instr
 use Rattle.risc_word.specs.declared.instr.Instr.TheVariants as word
@@ -23,7 +23,6 @@ use Rattle.tac_code.specs.Meaning.{State, pointer_of, same_pointer, pointers_rel
 use Rattle.risc_emit_relation.specs.Context.{Context, Places, IsNumber, IsValue, IsLaid}
 use Rattle.risc_emit_relation.specs.Context as ctx
 use Rattle.risc_emit_relation.specs.Related.{Held}
-use Rattle.risc_emit_relation.proofs.Basics.{eq_of}
 use Rattle.risc_emit_forms.specs.Forms.{condition}
 
 -- ---- numbers
@@ -165,7 +164,7 @@ module _ (c : Context) (laid : IsLaid c) (p : Places) (s : State) (w : ℕ → �
       go : (t : Bool) → nat_eq o 0 ≡ t → cond t (Some (Some k)) None ≡ Some q → Points (Address (blocks.Object k) o) q
       go true is e =
           let n : Some k ≡ q = cc e in
-          let z = eq_of o 0 is in
+          let z = eqb-true o 0 is in
           let at : p.object k + o ≡ p.object k = omega (arith, z) in
           record {
             is = at ∙ ap pointer_word n;

@@ -27,15 +27,15 @@ use Rattle.risc_emit_forms.specs.Forms as form
 use Rattle.risc_emit_forms.specs.Forms.{fetched, target, save, base_register, above_register, index_code, scaled}
 use Rattle.risc_emit_forms.specs.Forms.{scaled_register, base_address, address_register, steps_form, near_code}
 use Rattle.risc_emit_forms.specs.Forms.{near_component, index_by}
-use Rattle.risc_emit_forms.specs.Told.{block_at, short_of, back, short_by, near_of, folded, bent_at}
+use Rattle.risc_emit_forms.specs.Peephole.{block_at, short_of, back, short_by, near_of, folded, deferred_at}
 use Rattle.risc_emit_forms.specs.Follows.{machine_of, Built, Belongs, Comes, Follows}
 use Rattle.risc_emit_forms.proofs.Basics.{left_after, left_next, is_read, writes_it, among_first, among_rest}
 use Rattle.risc_emit_forms.proofs.Basics.{integer_is}
 use Rattle.risc_emit_forms.proofs.Flags.{unflagged}
-use Rattle.risc_emit_forms.proofs.Shortfalls.{bent_index_is}
+use Rattle.risc_emit_forms.proofs.Shortfalls.{deferred_index_is}
 use Rattle.risc_emit_forms.proofs.Runs.{step_to}
 use Rattle.risc_emit_forms.proofs.Fetches.{fetched_not}
-use Rattle.risc_emit_forms.proofs.Comes.{framed, gives_end, bends_end, untested}
+use Rattle.risc_emit_forms.proofs.Comes.{framed, gives_end, defers_end, untested}
 use Rattle.risc_emit_forms.proofs.Joins.{fetched_is, come_to, come_way}
 use Rattle.risc_emit_forms.proofs.Operands.{one_run}
 use Rattle.risc_emit_forms.proofs.Offsets.{named_low}
@@ -53,9 +53,9 @@ module _ (c : Context) (words : List ℕ) (b : Built c words) (p : Places) (s : 
       (x : ℤ) → fetch c.code s.current.routine s.current.place ≡ Some (Index t a i low high width error line)
       → base_value s.current a ≡ Some (Address block offset) → s.current.temporaries i ≡ Some (Number x)
       → folded c s.current.routine a low high width error ≡ None
-      → near_of (bent_at c s.current.routine (suc s.current.place)) a ≡ None → Left c words v.place
-      (index_by c s.current.routine None (bent_at c s.current.routine (suc s.current.place)) t a i low high width error
-      line) (c.site s.current.routine (suc s.current.place)) → Follows c words
+      → near_of (deferred_at c s.current.routine (suc s.current.place)) a ≡ None → Left c words v.place
+      (index_by c s.current.routine None (deferred_at c s.current.routine (suc s.current.place)) t a i low high width
+      error line) (c.site s.current.routine (suc s.current.place)) → Follows c words
       (gives_component c.code (is_in_range low high x) t block (offset + steps_above low x * width) error line s) s m
   steps_follow t a i low high width error line block offset x here ea ei whole_offset no_near l =
       let r = s.current.routine in
@@ -65,7 +65,7 @@ module _ (c : Context) (words : List ℕ) (b : Built c words) (p : Places) (s : 
       let fi = form.fetch c r 12 (home c r i) in
       let d = fetched c r 12 (home c r i) in
       let ic = index_code c r d low high error line in
-      let rest = steps_form c r (bent_at c r (suc k)) t a (above_register c r d low) width in
+      let rest = steps_form c r (deferred_at c r (suc k)) t a (above_register c r d low) width in
       let g = one_run c words b p s f m v sh be 12 i (Number x) (ic ++ rest) _ (omega arith)
       (is_read c r k ins here i (among_first i (in_base a))) ei l in
       let v1 = g.view in
@@ -93,7 +93,7 @@ module _ (c : Context) (words : List ℕ) (b : Built c words) (p : Places) (s : 
           (fetched c s.current.routine 12 (home c s.current.routine i)) low ≢ 15 → IsNumber low → IsNumber x
           → Indexed c words b p s f (machine_of v) be.related
           (fetched c s.current.routine 12 (home c s.current.routine i)) low x error line
-          (steps_form c s.current.routine (bent_at c s.current.routine (suc s.current.place)) t a
+          (steps_form c s.current.routine (deferred_at c s.current.routine (suc s.current.place)) t a
           (above_register c s.current.routine (fetched c s.current.routine 12 (home c s.current.routine i)) low) width)
           (c.site s.current.routine (suc s.current.place)) (is_in_range low high x) n v1 → (inside : Bool)
           → is_in_range low high x ≡ inside → Follows c words
@@ -122,7 +122,7 @@ module _ (c : Context) (words : List ℕ) (b : Built c words) (p : Places) (s : 
                 current = giving t
                     (Address block (offset + steps_above low x * width)) s.current;
               }) n v2 t2
-              (ends (bent_at c r (suc s.current.place)) refl v2 t2.to t2.shows (record {
+              (ends (deferred_at c r (suc s.current.place)) refl v2 t2.to t2.shows (record {
                 registers = λ j n12 n15'. z.2.registers j n12 n15' ∙ near.registers j n12 n15';
                 words = λ j. z.2.words j ∙ near.words j;
               }) is narrow lt z.4)
@@ -136,11 +136,12 @@ module _ (c : Context) (words : List ℕ) (b : Built c words) (p : Places) (s : 
                   → (g + z + 0) % 2 ^ 32 + o ≡ place c p block + (offset + n)
               short g o z n e e' lt = let h = named_low c words b p s f m v sh be block in omega (arith, e, e', lt, h)
 
-              ends : (bent : Option (ℕ × ℤ)) → bent_at c s.current.routine (suc s.current.place) ≡ bent → (v2 : View)
+              ends : (deferred : Option (ℕ × ℤ)) → deferred_at c s.current.routine (suc s.current.place) ≡ deferred
+                  → (v2 : View)
                   (n2 : machine.State) → Shows words c.size n2 v2 → Near (machine_of v) (machine_of v2) → v2.registers
                   (above_register c s.current.routine (fetched c s.current.routine 12 (home c s.current.routine i)) low)
                   ≡ steps_above low x → steps_above low x < 4294967296 → offset + steps_above low x * width < 2147483648
-                  → Left c words v2.place (steps_form c s.current.routine bent t a
+                  → Left c words v2.place (steps_form c s.current.routine deferred t a
                   (above_register c s.current.routine (fetched c s.current.routine 12 (home c s.current.routine i)) low)
                   width) (c.site s.current.routine (suc s.current.place)) → Comes c words s
                   (record s { current = giving t (Address block (offset + steps_above low x * width)) s.current }) n2
@@ -187,11 +188,11 @@ module _ (c : Context) (words : List ℕ) (b : Built c words) (p : Places) (s : 
                     words = λ j. g4.moved.words j ∙ near3.words j;
                   }) (left_next c words v4.place _ (Plain i5) (save c r h) g4.left)) in
                   come_way c words b s s' n2 v3 g3.way (come_way c words b s s' g3.way.to v4 g4.way done)
-              ends (Some bent) bends v2 n2 sh2 near2 is narrow lt l2 =
+              ends (Some deferred) defers v2 n2 sh2 near2 is narrow lt l2 =
                   let r = s.current.routine in
                   let q = above_register c r (fetched c r 12 (home c r i)) low in
                   let y = scaled_register c r q width in
-                  let i5 = word.Operate op.Add bent.0 (base_register c r a) (Content y) in
+                  let i5 = word.Operate op.Add deferred.0 (base_register c r a) (Content y) in
                   let g3 = scaled_run c words b s.current.routine q (steps_above low x) width (Plain i5 ∷ []) _ n2 v2 sh2 n15 is narrow
                   (omega (arith, lt)) l2 in
                   let v3 = g3.view in
@@ -200,17 +201,18 @@ module _ (c : Context) (words : List ℕ) (b : Built c words) (p : Places) (s : 
                     words = λ j. g3.near.words j ∙ near2.words j;
                   } in
                   let ins = Index t a i low high width error line in
-                  let k = bent_index_is c r s.current.place t a i low high width error line bent here be.flags.1 bends in
-                  let at = in_frame c r a bent low high width error bent.1 (short_of None (block_at c r a))
-                  (ap (λ o. near_of o a) (sym bends) ∙ no_near)
+                  let k = deferred_index_is c r s.current.place t a i low high width error line deferred here be.flags.1
+                  defers in
+                  let at = in_frame c r a deferred low high width error deferred.1 (short_of None (block_at c r a))
+                  (ap (λ o. near_of o a) (sym defers) ∙ no_near)
                   (ap (λ o. short_by (back a low high width error) (short_of o (block_at c r a))) (sym whole_offset)
                   ∙ k.offset) in
                   let base = short_base c words b p s f m v sh be a block offset at.offset v3 near3 at.there ea in
                   let t5 = step_to c words b.stood i5 g3.way.to v3 g3.way.shows g3.left.stands.0 tt in
                   let v5 = after i5 v3 in
-                  let whole : reached (v5.registers bent.0) bent.1 ≡ place c p block
-                  + (offset + steps_above low x * width) = ap (reached (v5.registers bent.0)) at.is
-                  ∙ ap (λ z. z + at.offset) (update_same v3.registers bent.0 _)
+                  let whole : reached (v5.registers deferred.0) deferred.1 ≡ place c p block
+                  + (offset + steps_above low x * width) = ap (reached (v5.registers deferred.0)) at.is
+                  ∙ ap (λ z. z + at.offset) (update_same v3.registers deferred.0 _)
                   ∙ short (v3.registers (base_register c r a)) at.offset (v3.registers y)
                   (steps_above low x * width) base.0 g3.value lt in
                   let l5 = left_next c words v3.place _ (Plain i5) [] g3.left in
@@ -220,11 +222,11 @@ module _ (c : Context) (words : List ℕ) (b : Built c words) (p : Places) (s : 
                   } in
                   come_way c words b s s' n2 v3 g3.way
                   (come_to c words b s s' g3.way.to same_tape v5 t5 refl
-                  (bends_end c words b p s (machine_of v) f t
-                  (Address block (offset + steps_above low x * width)) bent t5.to v5 be.related be.input
+                  (defers_end c words b p s (machine_of v) f t
+                  (Address block (offset + steps_above low x * width)) deferred t5.to v5 be.related be.input
                   (writes_it c r s.current.place ins here t refl refl)
-                  (unflagged c r s.current.place ins here refl v5) bends k.home (base.1.0, lt) t5.shows whole
-                  (λ j n12 n15' nd. update_other v3.registers bent.0 _ j nd ∙ near3.registers j n12 n15')
+                  (unflagged c r s.current.place ins here refl v5) defers k.home (base.1.0, lt) t5.shows whole
+                  (λ j n12 n15' nd. update_other v3.registers deferred.0 _ j nd ∙ near3.registers j n12 n15')
                   (λ j. near3.words j) (omega (arith, l5.ends))))
 
   -- ---- by the index itself
@@ -234,8 +236,8 @@ module _ (c : Context) (words : List ℕ) (b : Built c words) (p : Places) (s : 
       (n : ℕ) → fetch c.code s.current.routine s.current.place ≡ Some (Index t a i low high width error line)
       → base_value s.current a ≡ Some (Address block offset) → s.current.temporaries i ≡ Some (Number x)
       → folded c s.current.routine a low high width error ≡ Some n → Left c words v.place
-      (index_by c s.current.routine (Some n) (bent_at c s.current.routine (suc s.current.place)) t a i low high width
-      error line) (c.site s.current.routine (suc s.current.place)) → Follows c words
+      (index_by c s.current.routine (Some n) (deferred_at c s.current.routine (suc s.current.place)) t a i low high
+      width error line) (c.site s.current.routine (suc s.current.place)) → Follows c words
       (gives_component c.code (is_in_range low high x) t block (offset + steps_above low x * width) error line s) s m
   fold_follows t a i low high width error line block offset x n here ea ei ef l = go (is_in_range low high x) refl
     where
@@ -263,7 +265,7 @@ module _ (c : Context) (words : List ℕ) (b : Built c words) (p : Places) (s : 
               let j = between.number in
               let d = fetched c r 12 (home c r i) in
               let y = scaled_register c r d width in
-              let rest = near_component c r n (bent_at c r (suc k)) t a y in
+              let rest = near_component c r n (deferred_at c r (suc k)) t a y in
               let lt = ltb-true (offset + steps_above low x * width) 2147483648 es in
               let g = one_run c words b p s f m v sh be 12 i (Number x) (scaled c r d width ++ rest) _ (omega arith)
               (is_read c r k ins here i (among_first i (in_base a))) ei l in
@@ -291,7 +293,7 @@ module _ (c : Context) (words : List ℕ) (b : Built c words) (p : Places) (s : 
                 current = giving t
                     (Address block (offset + steps_above low x * width)) s.current;
               }) g.way.to g2.view g2.way
-              (ends (bent_at c r (suc k)) refl g2.view g2.way.to g2.way.shows near2 y y15 (j * width) g2.value
+              (ends (deferred_at c r (suc k)) refl g2.view g2.way.to g2.way.shows near2 y y15 (j * width) g2.value
               product lt g2.left))
             where
               number_narrow : (j : ℕ) → IsNumber (pos j) → j < 4294967296
@@ -315,11 +317,12 @@ module _ (c : Context) (words : List ℕ) (b : Built c words) (p : Places) (s : 
                   → g + n < 4294967296
               room g w kw d e e' lt = let h = named_low c words b p s f m v sh be block in omega (arith, e, e', lt, h)
 
-              ends : (bent : Option (ℕ × ℤ)) → bent_at c s.current.routine (suc s.current.place) ≡ bent → (v2 : View)
+              ends : (deferred : Option (ℕ × ℤ)) → deferred_at c s.current.routine (suc s.current.place) ≡ deferred
+                  → (v2 : View)
                   (n2 : machine.State) → Shows words c.size n2 v2 → Near (machine_of v) (machine_of v2) → (y : ℕ) → y
                   ≢ 15 → (far : ℕ) → v2.registers y ≡ far → far ≡ fold.first * width + steps_above low x * width
                   → offset + steps_above low x * width < 2147483648 → Left c words v2.place
-                  (near_component c s.current.routine n bent t a y) (c.site s.current.routine (suc s.current.place))
+                  (near_component c s.current.routine n deferred t a y) (c.site s.current.routine (suc s.current.place))
                   → Comes c words s
                   (record s { current = giving t (Address block (offset + steps_above low x * width)) s.current }) n2
               ends None straight v2 n2 sh2 near2 y y15 far there far_is lt l2 =
@@ -358,27 +361,28 @@ module _ (c : Context) (words : List ℕ) (b : Built c words) (p : Places) (s : 
                         ∙ near2.registers j n12 n15';
                     words = λ j. g4.moved.words j ∙ near2.words j;
                   }) (left_next c words v4.place _ (Plain i5) (save c r h) g4.left)))
-              ends (Some bent) bends v2 n2 sh2 near2 y y15 far there far_is lt l2 =
+              ends (Some deferred) defers v2 n2 sh2 near2 y y15 far there far_is lt l2 =
                   let r = s.current.routine in
                   let q = base_register c r a in
-                  let i5 = word.Operate op.Add bent.0 q (Content y) in
+                  let i5 = word.Operate op.Add deferred.0 q (Content y) in
                   let ins = Index t a i low high width error line in
                   let fb = framed_base c r a fold.whole fold.block in
-                  let k = bent_index_is c r s.current.place t a i low high width error line bent here be.flags.1 bends in
-                  let at = in_frame c r a bent low high width error bent.1 (Some n) (fb.near bent)
+                  let k = deferred_index_is c r s.current.place t a i low high width error line deferred here be.flags.1
+                  defers in
+                  let at = in_frame c r a deferred low high width error deferred.1 (Some n) (fb.near deferred)
                   (ap (λ o. short_by (back a low high width error) (short_of o (block_at c r a))) (sym ef) ∙ k.offset)
                   in
                   let left : at.offset ≡ n = sym (cc at.there) in
                   let base = short_base c words b p s f m v sh be a block offset fold.whole v2 near2 fold.block ea in
                   let l3 = subst (λ ps. Left c words v2.place (ps ++ (Plain i5 ∷ [])) (c.site r (suc s.current.place)))
                   fb.code (subst (λ j. Left c words v2.place
-                  (near_code c r a ++ (Plain (word.Operate op.Add bent.0 j (Content y)) ∷ []))
+                  (near_code c r a ++ (Plain (word.Operate op.Add deferred.0 j (Content y)) ∷ []))
                   (c.site r (suc s.current.place))) fb.register l2) in
                   let t5 = step_to c words b.stood i5 n2 v2 sh2 l3.stands.0 tt in
                   let v5 = after i5 v2 in
-                  let whole : reached (v5.registers bent.0) bent.1 ≡ place c p block
-                  + (offset + steps_above low x * width) = ap (reached (v5.registers bent.0)) at.is
-                  ∙ ap (λ z. z + at.offset) (update_same v2.registers bent.0 _)
+                  let whole : reached (v5.registers deferred.0) deferred.1 ≡ place c p block
+                  + (offset + steps_above low x * width) = ap (reached (v5.registers deferred.0)) at.is
+                  ∙ ap (λ z. z + at.offset) (update_same v2.registers deferred.0 _)
                   ∙ short (v2.registers q) fold.whole (fold.first * width) (steps_above low x * width)
                   (v2.registers y) far at.offset base.0 fold.rest there far_is lt left in
                   let l5 = left_next c words v2.place _ (Plain i5) [] l3 in
@@ -387,9 +391,9 @@ module _ (c : Context) (words : List ℕ) (b : Built c words) (p : Places) (s : 
                         (Address block (offset + steps_above low x * width)) s.current;
                   } in
                   come_to c words b s s' n2 same_tape v5 t5 refl
-                  (bends_end c words b p s (machine_of v) f t
-                  (Address block (offset + steps_above low x * width)) bent t5.to v5 be.related be.input
+                  (defers_end c words b p s (machine_of v) f t
+                  (Address block (offset + steps_above low x * width)) deferred t5.to v5 be.related be.input
                   (writes_it c r s.current.place ins here t refl refl)
-                  (unflagged c r s.current.place ins here refl v5) bends k.home (base.1.0, lt) t5.shows whole
-                  (λ j n12 n15' nd. update_other v2.registers bent.0 _ j nd ∙ near2.registers j n12 n15')
+                  (unflagged c r s.current.place ins here refl v5) defers k.home (base.1.0, lt) t5.shows whole
+                  (λ j n12 n15' nd. update_other v2.registers deferred.0 _ j nd ∙ near2.registers j n12 n15')
                   (λ j. near2.words j) (omega (arith, l5.ends)))

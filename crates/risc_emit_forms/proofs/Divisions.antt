@@ -33,7 +33,7 @@ use Rattle.risc_emit_relation.proofs.Basics.{update_same, update_other}
 use Rattle.risc_emit_relation.proofs.Steps.{value_near}
 use Rattle.risc_emit_forms.specs.Pieces as piece
 use Rattle.risc_emit_forms.specs.Pieces.{Piece, Plain, Left}
-use Rattle.risc_emit_forms.specs.Told.{flagged_by}
+use Rattle.risc_emit_forms.specs.Peephole.{flagged_by}
 use Rattle.risc_emit_forms.specs.Forms as form
 use Rattle.risc_emit_forms.specs.Forms.{fetched, right_operand, target, save, receive, number, bring, divisor, modulus}
 use Rattle.risc_emit_forms.specs.Forms.{modulus_register, is_divisor, skip, rounded, quotient, quotient_by_least}

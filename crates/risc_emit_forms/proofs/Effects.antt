@@ -1,6 +1,7 @@
 -- After which instructions flags belong to a temporary, or a register is short of an address.
 use Rattle.std.proofs.Common.{◌≡◌, ◌≢◌, ℕ, suc, ◌+◌, ◌⊎◌, inl, inr, Bool, true, false, not, ◌||◌, ℤ, nat_eq, [], ◌∷◌}
 use Rattle.std.proofs.Common.{Option, Some, None, refl, sym, ap}
+use Rattle.std.proofs.lemmas.Bool.{eqb-true}
 use Rattle.tac_code.specs.declared.code.Operator.TheVariants.{Add, Subtract, Multiply, Divide, Modulo}
 use Rattle.tac_code.specs.declared.code.Instruction.{Instruction}
 use Rattle.tac_code.specs.declared.code.Instruction.TheVariants.{Literal, Copy, Arithmetic, Bits, Compare, CheckRange}
@@ -10,8 +11,7 @@ use Rattle.tac_code.specs.declared.code.Instruction.TheVariants.{BranchBack, Cal
 use Rattle.tac_code.specs.declared.code.Instruction.TheVariants.{New, End}
 use Rattle.risc_alloc.specs.Flow.{is_among, next_of, written_by, result_of}
 use Rattle.risc_emit_relation.specs.Context.{Context}
-use Rattle.risc_emit_relation.proofs.Basics.{eq_of}
-use Rattle.risc_emit_forms.specs.Told.{sets_flags, flagged_by, jump_of, row, bend}
+use Rattle.risc_emit_forms.specs.Peephole.{sets_flags, flagged_by, jump_of, row, defer}
 
 -- ---- instructions
 
@@ -24,13 +24,13 @@ either true b e = inl refl
 either false b e = inr e
 
 only : (u t : ℕ) → is_among u (t ∷ []) ≡ true → u ≡ t
-only u t e = eq_of u t (or_none (nat_eq u t) e)
+only u t e = eqb-true u t (or_none (nat_eq u t) e)
 
 second : (u t w : ℕ) → is_among u (t ∷ w ∷ []) ≡ true → u ≢ t → u ≡ w
 second u t w e ne = go (either (nat_eq u t) (nat_eq u w || false) e)
   where
     go : (nat_eq u t ≡ true) ⊎ (nat_eq u w || false ≡ true) → u ≡ w
-    go (inl h) = absurd (ne (eq_of u t h))
+    go (inl h) = absurd (ne (eqb-true u t h))
     go (inr h) = only u w h
 
 -- where an instruction leads, but to the next place, it jumps
@@ -144,53 +144,53 @@ silent_none End e = refl
 silent_none (Index t a i low high width error line) e = absurd (cc e)
 
 -- an instruction after which one may be
-pub record Bends (i : Instruction) : Type 0 where
+pub record Defers (i : Instruction) : Type 0 where
   pub to : ℕ
   pub written : written_by i ≡ Some to
   pub result : result_of i ≡ None
   pub none : flagged_by i ≡ None
   pub loud : is_silent i ≡ false
 
-pub bends : (c : Context) (r : ℕ) (before : Option (ℕ × ℤ)) (i : Instruction) (next : Option Instruction) (x : ℕ × ℤ)
-    → bend c r
-    before (Some i) next ≡ Some x → Bends i
-bends c r before (Index t a i low high width error line) next x e = record {
+pub defers : (c : Context) (r : ℕ) (before : Option (ℕ × ℤ)) (i : Instruction) (next : Option Instruction) (x : ℕ × ℤ)
+    → defer c r
+    before (Some i) next ≡ Some x → Defers i
+defers c r before (Index t a i low high width error line) next x e = record {
   to = t;
   written = refl;
   result = refl;
   none = refl;
   loud = refl;
 }
-bends c r before (Literal t z) next x e = absurd (cc e)
-bends c r before (Copy t a) next x e = absurd (cc e)
-bends c r before (Arithmetic operator t a b error line) next x e = absurd (cc e)
-bends c r before (Bits operator t a b) next x e = absurd (cc e)
-bends c r before (Compare relation t a b) next x e = absurd (cc e)
-bends c r before (CheckRange a low high error line) next x e = absurd (cc e)
-bends c r before (CheckPointer a error line) next x e = absurd (cc e)
-bends c r before (Text t bytes) next x e = absurd (cc e)
-bends c r before (Offset t a n extent) next x e = absurd (cc e)
-bends c r before (RoutineValue t q) next x e = absurd (cc e)
-bends c r before (Load t a n) next x e = absurd (cc e)
-bends c r before (Store a n u) next x e = absurd (cc e)
-bends c r before (LoadByte t a n) next x e = absurd (cc e)
-bends c r before (StoreByte a n u) next x e = absurd (cc e)
-bends c r before (Jump n) next x e = absurd (cc e)
-bends c r before (JumpBack n) next x e = absurd (cc e)
-bends c r before (Branch relation a b n) next x e = absurd (cc e)
-bends c r before (BranchBack relation a b n) next x e = absurd (cc e)
-bends c r before (Call t q us line) next x e = absurd (cc e)
-bends c r before (CallValue t a us line) next x e = absurd (cc e)
-bends c r before (Return a) next x e = absurd (cc e)
-bends c r before (Trap error line) next x e = absurd (cc e)
-bends c r before (Take t) next x e = absurd (cc e)
-bends c r before (Put a) next x e = absurd (cc e)
-bends c r before (New t type line) next x e = absurd (cc e)
-bends c r before End next x e = absurd (cc e)
+defers c r before (Literal t z) next x e = absurd (cc e)
+defers c r before (Copy t a) next x e = absurd (cc e)
+defers c r before (Arithmetic operator t a b error line) next x e = absurd (cc e)
+defers c r before (Bits operator t a b) next x e = absurd (cc e)
+defers c r before (Compare relation t a b) next x e = absurd (cc e)
+defers c r before (CheckRange a low high error line) next x e = absurd (cc e)
+defers c r before (CheckPointer a error line) next x e = absurd (cc e)
+defers c r before (Text t bytes) next x e = absurd (cc e)
+defers c r before (Offset t a n extent) next x e = absurd (cc e)
+defers c r before (RoutineValue t q) next x e = absurd (cc e)
+defers c r before (Load t a n) next x e = absurd (cc e)
+defers c r before (Store a n u) next x e = absurd (cc e)
+defers c r before (LoadByte t a n) next x e = absurd (cc e)
+defers c r before (StoreByte a n u) next x e = absurd (cc e)
+defers c r before (Jump n) next x e = absurd (cc e)
+defers c r before (JumpBack n) next x e = absurd (cc e)
+defers c r before (Branch relation a b n) next x e = absurd (cc e)
+defers c r before (BranchBack relation a b n) next x e = absurd (cc e)
+defers c r before (Call t q us line) next x e = absurd (cc e)
+defers c r before (CallValue t a us line) next x e = absurd (cc e)
+defers c r before (Return a) next x e = absurd (cc e)
+defers c r before (Trap error line) next x e = absurd (cc e)
+defers c r before (Take t) next x e = absurd (cc e)
+defers c r before (Put a) next x e = absurd (cc e)
+defers c r before (New t type line) next x e = absurd (cc e)
+defers c r before End next x e = absurd (cc e)
 
 pub rows : (c : Context) (r : ℕ) (i : Instruction) (next third : Option Instruction) (x : ℕ × ℤ) → row c r
     (Some i) next third
-    ≡ Some x → Bends i
+    ≡ Some x → Defers i
 rows c r (Index t a i low high width error line) next third x e = record {
   to = t;
   written = refl;

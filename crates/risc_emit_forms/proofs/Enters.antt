@@ -3,7 +3,8 @@ use Rattle.std.proofs.Common.{◌≡◌, ◌≢◌, ℕ, suc, ◌+◌, ◌-◌, 
 use Rattle.std.proofs.Common.{cond, ◌&&◌, nat_lt, List, [], ◌∷◌, length, Some, slice_get, pos, ◌-ℤ◌, refl, sym, ap}
 use Rattle.std.proofs.Common.{◌∙◌, subst, arith}
 use Rattle.std.proofs.lemmas.Int.{ints}
-use Rattle.std.proofs.lemmas.Bool.{ltb-true}
+use Rattle.std.proofs.lemmas.Bool.{ltb-true, lt-ltb}
+use Rattle.std.proofs.lemmas.Option.{slice_get_within}
 use Rattle.behavior.specs.Endings.{Stack}
 use Rattle.risc_word.specs.declared.instr.Operand.TheVariants.{Content}
 use Rattle.risc_word.specs.declared.instr.Width.TheVariants.{Word}
@@ -22,7 +23,7 @@ use Rattle.risc_emit_relation.specs.Context.{Context, leads, writes, called, is_
 use Rattle.risc_emit_relation.specs.Context as ctx
 use Rattle.risc_emit_relation.specs.Related.{Machine, Related, owner_of}
 use Rattle.risc_emit_relation.specs.Changes.{entered_places, Entering}
-use Rattle.risc_emit_relation.proofs.Basics.{get_within, update_same, update_other}
+use Rattle.risc_emit_relation.proofs.Basics.{update_same, update_other}
 use Rattle.risc_emit_relation.proofs.Frames.{program_room, leaf_room, cost_program, open_room, open_bottom}
 use Rattle.risc_emit_relation.proofs.Calls.{related_enters}
 use Rattle.risc_emit_relation.proofs.Walk.{stack_exact}
@@ -40,7 +41,7 @@ use Rattle.risc_emit_forms.proofs.Passing.{related_passed}
 use Rattle.risc_emit_forms.proofs.Spills.{Offered}
 use Rattle.risc_emit_forms.proofs.Parameters.{arrive_run}
 use Rattle.risc_emit_forms.proofs.Returns.{framed_at}
-use Rattle.risc_emit_forms.proofs.StackTests.{Tested, is_lt, test_run}
+use Rattle.risc_emit_forms.proofs.StackTests.{Tested, test_run}
 
 -- ---- entries
 
@@ -190,7 +191,7 @@ module _ (c : Context) (words : List ℕ) (b : Built c words) (p : Places) (S H 
             (inl (omega (arith, low, below)));
         stack = rc.stack ∙ e14;
         globals = rc.globals ∙ regs 13 (omega arith) (omega arith) ∙ k.globals;
-        homes = λ j x live e. let lt = get_within vs j x e
+        homes = λ j x live e. let lt = slice_get_within vs j x e
             in (k.good j x e, rc.homes j x (omega (arith, lt, k.count)) live e);
       } in
       let p' = entered_places c p s.count g q in
@@ -233,7 +234,7 @@ module _ (c : Context) (words : List ℕ) (b : Built c words) (p : Places) (S H 
       both false y e = absurd (cc e)
 
       few_is : nat_lt routine.parameters 66 ≡ true
-      few_is = is_lt _ _ (let h = k.few in omega (arith, h))
+      few_is = lt-ltb _ _ (let h = k.few in omega (arith, h))
 
       large : is_entered c q routine ≡ false → 16777153 ≤ c.costs q
       large e = go (nat_lt (c.costs q) 16777153) refl (nat_lt routine.parameters 66) few_is e
@@ -291,7 +292,7 @@ module _ (c : Context) (words : List ℕ) (b : Built c words) (p : Places) (S H 
               frame_is x y le lt = omega (arith, ints, le, lt)
 
       refused : 16777153 ≤ c.costs q → nat_lt f (c.base + c.costs q) ≡ true
-      refused le = let kr = program_room c b.laid p s.current.routine k.caller in let t = top in is_lt _ _
+      refused le = let kr = program_room c b.laid p s.current.routine k.caller in let t = top in lt-ltb _ _
           (omega (arith, le, t, b.laid.order.3))
 
       go : (t : Bool) → is_entered c q routine ≡ t → Left c words w.place
@@ -343,7 +344,7 @@ module _ (c : Context) (words : List ℕ) (b : Built c words) (p : Places) (S H 
       let other : (a : ℕ) → a ≢ f + c.link_at q → v1.words a ≡ w.words a = λ a ne. let ne' : a ≢ w.registers 14
       + c.link_at q = omega (arith, e14, ne) in update_other w.words _ _ a ne' in
       let rc = arrive_run c words b p q f 0 (f + 8) fr routine k.is vs begins offered _ t1.to v1 t1.shows l1 e14
-      (λ j x few e. k.carried j x few e) (λ j x ge e. let lt = get_within vs j x e in let ne : f + 8 + 4 * j ≢ f
+      (λ j x few e. k.carried j x few e) (λ j x ge e. let lt = slice_get_within vs j x e in let ne : f + 8 + 4 * j ≢ f
       + c.link_at q = omega (arith, lt, k.count, before) in other (f + 8 + 4 * j) ne ∙ k.stored j x ge e) in
       let at_link : v1.words (f + c.link_at q) ≡ l = ap (λ z. v1.words (z + c.link_at q)) (sym e14)
       ∙ update_same w.words _ _ ∙ k.link in
@@ -364,7 +365,7 @@ module _ (c : Context) (words : List ℕ) (b : Built c words) (p : Places) (S H 
             (inl (omega (arith, le, low))) ∙ other a ne ∙ k.same a (inl (omega (arith, le, low)));
         stack = rc.stack ∙ e14;
         globals = rc.globals ∙ k.globals;
-        homes = λ j x live e. let lt = get_within vs j x e
+        homes = λ j x live e. let lt = slice_get_within vs j x e
             in (k.good j x e, rc.homes j x (omega (arith, lt, k.count)) live e);
       } in
       let p' = entered_places c p s.count f q in

@@ -1,7 +1,8 @@
 -- The placed program meets what the law of steps requires of a code.
-use Rattle.std.proofs.Common.{◌≡◌, ℕ, zero, suc, ◌+◌, ◌*◌, ◌<◌, ◌≤◌, true, false, nat_eq, [], ◌∷◌, Some, slice_get}
+use Rattle.std.proofs.Common.{◌≡◌, ℕ, zero, suc, ◌+◌, ◌*◌, ◌<◌, ◌≤◌, true, false, [], ◌∷◌, Some, slice_get}
 use Rattle.std.proofs.Common.{get_or, pos, refl, sym, ap, subst, arith}
 use Rattle.std.proofs.lemmas.Int.{ints}
+use Rattle.std.proofs.lemmas.Bool.{eqb-true}
 use Rattle.tac_code.specs.declared.code.Instruction.{Instruction}
 use Rattle.tac_code.specs.declared.code.Instruction.TheVariants.{Literal, Call, Arithmetic, Store, Load, Return, End}
 use Rattle.tac_code.specs.declared.code.Operator.TheVariants.{Add}
@@ -55,9 +56,6 @@ no_texts (suc zero) (suc (suc zero)) ws e = cc e
 no_texts (suc zero) (suc (suc (suc k))) ws e = cc e
 no_texts (suc (suc r)) k ws e = cc e
 
-same_number : (u t : ℕ) → nat_eq u t ≡ true → u ≡ t
-same_number u t e = grind arith
-
 left_accepted : Left placed words 14 (accept placed 0 (home placed 0 1)) 14
 left_accepted =
     record { stands = tt; ends = refl }
@@ -67,7 +65,7 @@ accepted : (r k t : ℕ) → called placed r k t ≡ true → Left placed words 
 accepted r zero t e = absurd (cc e)
 accepted zero (suc zero) t e = absurd (cc e)
 accepted zero (suc (suc zero)) t e =
-    subst (λ x. Left placed words 14 (accept placed 0 (home placed 0 x)) 14) (sym (same_number t 1 e)) left_accepted
+    subst (λ x. Left placed words 14 (accept placed 0 (home placed 0 x)) 14) (sym (eqb-true t 1 e)) left_accepted
 accepted zero (suc (suc (suc zero))) t e = absurd (cc e)
 accepted zero (suc (suc (suc (suc zero)))) t e = absurd (cc e)
 accepted zero (suc (suc (suc (suc (suc zero))))) t e = absurd (cc e)

@@ -12,10 +12,12 @@ use Rattle.risc_alloc.specs.Flow as flow
 use Rattle.risc_emit_relation.specs.Context.{Context, home, called, Passes}
 use Rattle.risc_alloc.specs.declared.homes.Home.TheVariants.{Reg}
 use Rattle.risc_emit_relation.proofs.Basics.{eqb_same}
-use Rattle.risc_emit_forms.specs.Told.{flagged_by, flagged_in, jump_of, set_in, marked, jumped, told_in, told_at}
-use Rattle.risc_emit_forms.specs.Told.{first_of, row, row_bent, bend, load_bent, bent, bent_in, bent_at}
+use Rattle.risc_emit_forms.specs.Peephole.{flagged_by, flagged_in, jump_of, set_in, marked, jumped, flagged_within}
+use Rattle.risc_emit_forms.specs.Peephole.{flagged_at}
+use Rattle.risc_emit_forms.specs.Peephole.{first_of, row, row_deferred, defer, load_deferred, deferred, deferred_in}
+use Rattle.risc_emit_forms.specs.Peephole.{deferred_at}
 use Rattle.risc_emit_forms.specs.Follows.{Flags, Straight}
-use Rattle.risc_emit_forms.proofs.Effects.{Bends, bends, is_silent, jumps_there, plainly, rows, silent_none}
+use Rattle.risc_emit_forms.proofs.Effects.{Defers, defers, is_silent, jumps_there, plainly, rows, silent_none}
 
 -- ---- marks
 
@@ -59,7 +61,7 @@ marked_there (x ∷ xs) place bs (suc k) i t is j =
 
 -- ---- what is known
 
-told_next : (o : Option TacRoutine) (k : ℕ) (i : Instruction) (t : ℕ) → body_at o k ≡ Some i → told_in o (suc k)
+told_next : (o : Option TacRoutine) (k : ℕ) (i : Instruction) (t : ℕ) → body_at o k ≡ Some i → flagged_within o (suc k)
     ≡ Some t → flagged_by i ≡ Some t
 told_next None k i t here e = absurd (cc e)
 told_next (Some routine) k i t here e = go (get_or (jumped routine.body) (suc k) true) e
@@ -70,7 +72,7 @@ told_next (Some routine) k i t here e = go (get_or (jumped routine.body) (suc k)
 
 -- nothing is known where a jump leads
 told_no_jump : (o : Option TacRoutine) (k k' : ℕ) (i : Instruction) (t : ℕ) → body_at o k ≡ Some i → jump_of i k
-    ≡ Some k' → told_in o k' ≡ Some t → ⊥
+    ≡ Some k' → flagged_within o k' ≡ Some t → ⊥
 told_no_jump None k k' i t here j e = cc e
 told_no_jump (Some routine) k zero i t here j e = cc e
 told_no_jump (Some routine) k (suc k') i t here j e = go (get_or (jumped routine.body) (suc k') true)
@@ -96,63 +98,64 @@ sides_of None o' x e = inr (refl, e)
 
 module _ (c : Context) (r : ℕ) (body : List Instruction) (k : ℕ) where
   -- of the instructions before a place, and at it
-  pub record RowBent (x : ℕ × ℤ) : Type 0 where
+  pub record RowDeferred (x : ℕ × ℤ) : Type 0 where
     pub free : get_or (jumped body) (suc k) true ≡ false
     pub clear : get_or (jumped body) (suc (suc k)) true ≡ false
     pub is : row c r (slice_get body k) (slice_get body (suc k)) (slice_get body (suc (suc k))) ≡ Some x
 
-  pub row_is : (x : ℕ × ℤ) → row_bent c r body (suc k) ≡ Some x → RowBent x
+  pub row_is : (x : ℕ × ℤ) → row_deferred c r body (suc k) ≡ Some x → RowDeferred x
   row_is x e = go (get_or (jumped body) (suc k) true) (get_or (jumped body) (suc (suc k)) true) refl refl e
     where
       go : (a b : Bool) → get_or (jumped body) (suc k) true ≡ a → get_or (jumped body) (suc (suc k)) true ≡ b → cond a None
           (cond b None (row c r (slice_get body k) (slice_get body (suc k)) (slice_get body (suc (suc k))))) ≡ Some x
-          → RowBent x
+          → RowDeferred x
       go true b ea eb e = absurd (cc e)
       go false true ea eb e = absurd (cc e)
       go false false ea eb e = record { free = ea; clear = eb; is = e }
 
-  pub record LoadBent (x : ℕ × ℤ) : Type 0 where
+  pub record LoadDeferred (x : ℕ × ℤ) : Type 0 where
     pub free : get_or (jumped body) (suc k) true ≡ false
-    pub is : bend c r (row_bent c r body k) (slice_get body k) (slice_get body (suc k)) ≡ Some x
+    pub is : defer c r (row_deferred c r body k) (slice_get body k) (slice_get body (suc k)) ≡ Some x
 
-  pub load_is : (x : ℕ × ℤ) → load_bent c r body (suc k) ≡ Some x → LoadBent x
+  pub load_is : (x : ℕ × ℤ) → load_deferred c r body (suc k) ≡ Some x → LoadDeferred x
   load_is x e = go (get_or (jumped body) (suc k) true) refl e
     where
       go : (a : Bool) → get_or (jumped body) (suc k) true ≡ a → cond a None
-          (bend c r (row_bent c r body k) (slice_get body k) (slice_get body (suc k))) ≡ Some x → LoadBent x
+          (defer c r (row_deferred c r body k) (slice_get body k) (slice_get body (suc k))) ≡ Some x → LoadDeferred x
       go true ea e = absurd (cc e)
       go false ea e = record { free = ea; is = e }
 
   -- none where a jump leads
-  none_jumped : (x : ℕ × ℤ) → IsMarked (jumped body) (suc k) → bent c r body (suc k) ≡ Some x → ⊥
-  none_jumped x marked e = go (sides_of (row_bent c r body (suc k)) (load_bent c r body (suc k)) x e)
+  none_jumped : (x : ℕ × ℤ) → IsMarked (jumped body) (suc k) → deferred c r body (suc k) ≡ Some x → ⊥
+  none_jumped x marked e = go (sides_of (row_deferred c r body (suc k)) (load_deferred c r body (suc k)) x e)
     where
-      go : (row_bent c r body (suc k) ≡ Some x) ⊎ ((row_bent c r body (suc k) ≡ None)
-          × (load_bent c r body (suc k) ≡ Some x)) → ⊥
+      go : (row_deferred c r body (suc k) ≡ Some x) ⊎ ((row_deferred c r body (suc k) ≡ None)
+          × (load_deferred c r body (suc k) ≡ Some x)) → ⊥
       go (inl a) = cc (sym (row_is x a).free ∙ marked)
       go (inr a) = cc (sym (load_is x a.1).free ∙ marked)
 
-  after_index : (i : Instruction) (x : ℕ × ℤ) → slice_get body k ≡ Some i → bent c r body (suc k) ≡ Some x → Bends i
-  after_index i x here e = go (sides_of (row_bent c r body (suc k)) (load_bent c r body (suc k)) x e)
+  after_index : (i : Instruction) (x : ℕ × ℤ) → slice_get body k ≡ Some i → deferred c r body (suc k) ≡ Some x
+      → Defers i
+  after_index i x here e = go (sides_of (row_deferred c r body (suc k)) (load_deferred c r body (suc k)) x e)
     where
-      go : (row_bent c r body (suc k) ≡ Some x) ⊎ ((row_bent c r body (suc k) ≡ None)
-          × (load_bent c r body (suc k) ≡ Some x)) → Bends i
+      go : (row_deferred c r body (suc k) ≡ Some x) ⊎ ((row_deferred c r body (suc k) ≡ None)
+          × (load_deferred c r body (suc k) ≡ Some x)) → Defers i
       go (inl a) = rows c r i (slice_get body (suc k)) (slice_get body (suc (suc k))) x
           (ap (λ o. row c r o (slice_get body (suc k)) (slice_get body (suc (suc k)))) (sym here) ∙ (row_is x a).is)
-      go (inr a) = bends c r (row_bent c r body k) i (slice_get body (suc k)) x
-          (ap (λ o. bend c r (row_bent c r body k) o (slice_get body (suc k))) (sym here) ∙ (load_is x a.1).is)
+      go (inr a) = defers c r (row_deferred c r body k) i (slice_get body (suc k)) x
+          (ap (λ o. defer c r (row_deferred c r body k) o (slice_get body (suc k))) (sym here) ∙ (load_is x a.1).is)
 
 -- no register is short of an offset but after an index, and none where a jump leads
-bent_next : (c : Context) (r : ℕ) (o : Option TacRoutine) (k : ℕ) (i : Instruction) (x : ℕ × ℤ) → body_at o k ≡ Some i
-    → bent_in c r o (suc k) ≡ Some x → Bends i
-bent_next c r None k i x here e = absurd (cc e)
-bent_next c r (Some routine) k i x here e = after_index c r routine.body k i x here e
+deferred_next : (c : Context) (r : ℕ) (o : Option TacRoutine) (k : ℕ) (i : Instruction) (x : ℕ × ℤ)
+    → body_at o k ≡ Some i → deferred_in c r o (suc k) ≡ Some x → Defers i
+deferred_next c r None k i x here e = absurd (cc e)
+deferred_next c r (Some routine) k i x here e = after_index c r routine.body k i x here e
 
-bent_no_jump : (c : Context) (r : ℕ) (o : Option TacRoutine) (k k' : ℕ) (i : Instruction) (x : ℕ × ℤ) → body_at o k
-    ≡ Some i → jump_of i k ≡ Some k' → bent_in c r o k' ≡ Some x → ⊥
-bent_no_jump c r None k k' i x here j e = cc e
-bent_no_jump c r (Some routine) k zero i x here j e = cc e
-bent_no_jump c r (Some routine) k (suc k') i x here j e =
+deferred_no_jump : (c : Context) (r : ℕ) (o : Option TacRoutine) (k k' : ℕ) (i : Instruction) (x : ℕ × ℤ) → body_at o k
+    ≡ Some i → jump_of i k ≡ Some k' → deferred_in c r o k' ≡ Some x → ⊥
+deferred_no_jump c r None k k' i x here j e = cc e
+deferred_no_jump c r (Some routine) k zero i x here j e = cc e
+deferred_no_jump c r (Some routine) k (suc k') i x here j e =
     none_jumped c r routine.body k' x (marked_there routine.body 0 (replicate (length routine.body) false) k i (suc k')
     here (ap (jump_of i) (from_none k) ∙ j)) e
   where
@@ -161,12 +164,13 @@ bent_no_jump c r (Some routine) k (suc k') i x here j e =
 
 module _ (c : Context) (r k : ℕ) where
   -- the flags at the place after an instruction belong only to its own temporary
-  pub told_behind : (i : Instruction) (t : ℕ) → fetch c.code r k ≡ Some i → told_at c r (suc k) ≡ Some t → flagged_by i
-      ≡ Some t
+  pub told_behind : (i : Instruction) (t : ℕ) → fetch c.code r k ≡ Some i → flagged_at c r (suc k) ≡ Some t
+      → flagged_by i ≡ Some t
   told_behind i t here e = told_next (slice_get (routines c.code) r) k i t here e
 
-  bent_behind : (i : Instruction) (x : ℕ × ℤ) → fetch c.code r k ≡ Some i → bent_at c r (suc k) ≡ Some x → Bends i
-  bent_behind i x here e = bent_next c r (slice_get (routines c.code) r) k i x here e
+  deferred_behind : (i : Instruction) (x : ℕ × ℤ) → fetch c.code r k ≡ Some i → deferred_at c r (suc k) ≡ Some x
+      → Defers i
+  deferred_behind i x here e = deferred_next c r (slice_get (routines c.code) r) k i x here e
 
   -- to none after most
   pub unflagged : (i : Instruction) → fetch c.code r k ≡ Some i → flagged_by i ≡ None → (v : View) → Flags c r (suc k) v
@@ -175,18 +179,19 @@ module _ (c : Context) (r k : ℕ) where
   pub silent : (i : Instruction) → fetch c.code r k ≡ Some i → is_silent i ≡ true → (v : View) → Straight c r (suc k) v
   silent i here quiet v = (
     unflagged i here (silent_none i quiet) v,
-    none_of (bent_at c r (suc k))
-        (λ x e. cc (sym quiet ∙ (bent_behind i x here e).loud)),
+    none_of (deferred_at c r (suc k))
+        (λ x e. cc (sym quiet ∙ (deferred_behind i x here e).loud)),
   )
 
   -- nor is a register short of an offset where they belong to one
-  pub flagged_straight : (i : Instruction) (t : ℕ) → fetch c.code r k ≡ Some i → flagged_by i ≡ Some t → bent_at c r
+  pub flagged_straight : (i : Instruction) (t : ℕ) → fetch c.code r k ≡ Some i → flagged_by i ≡ Some t → deferred_at c r
       (suc k) ≡ None
-  flagged_straight i t here f = none_of (bent_at c r (suc k)) (λ x e. cc (sym (bent_behind i x here e).none ∙ f))
+  flagged_straight i t here f = none_of (deferred_at c r (suc k))
+      (λ x e. cc (sym (deferred_behind i x here e).none ∙ f))
 
   -- nor where an instruction leads that writes none
   pub passed_silent : (k' : ℕ) → Passes c r k k' → (v : View) → Straight c r k' v
-  passed_silent k' g v = (flags, none_of (bent_at c r k') bent)
+  passed_silent k' g v = (flags, none_of (deferred_at c r k') deferred)
     where
       writes_none : (i : Instruction) (t : ℕ) → fetch c.code r k ≡ Some i → written_by i ≡ Some t → ⊥
       writes_none i t is w = cc (sym (ap (λ o. flow.writes o t) is ∙ ap (is_it t) w ∙ eqb_same t) ∙ g.none t)
@@ -194,7 +199,7 @@ module _ (c : Context) (r k : ℕ) where
       leads_there : (i : Instruction) → fetch c.code r k ≡ Some i → is_among k' (next_of i k) ≡ true
       leads_there i is = sym (ap (λ o. flow.leads o k k') is) ∙ g.there
 
-      flags : (t q : ℕ) → told_at c r k' ≡ Some t → home c r t ≡ Reg q → (v.equal ≡ nat_eq (v.registers q) 0)
+      flags : (t q : ℕ) → flagged_at c r k' ≡ Some t → home c r t ≡ Reg q → (v.equal ≡ nat_eq (v.registers q) 0)
           × (v.negative ≡ nat_le 2147483648 (v.registers q))
       flags t q e h = go (fetch c.code r k) refl
         where
@@ -206,33 +211,33 @@ module _ (c : Context) (r k : ℕ) where
               sides : (k' ≡ suc k) ⊎ (k' ≢ suc k) → (v.equal ≡ nat_eq (v.registers q) 0)
                   × (v.negative ≡ nat_le 2147483648 (v.registers q))
               sides (inl same) = absurd (writes_none i t is
-                  (plainly i t (told_behind i t is (ap (told_at c r) (sym same) ∙ e))).written)
+                  (plainly i t (told_behind i t is (ap (flagged_at c r) (sym same) ∙ e))).written)
               sides (inr ne) =
                   absurd (told_no_jump (slice_get (routines c.code) r) k k' i t is
                   (jumps_there i k k' (leads_there i is) ne) e)
 
-      bent : (x : ℕ × ℤ) → bent_at c r k' ≡ Some x → ⊥
-      bent x e = go (fetch c.code r k) refl
+      deferred : (x : ℕ × ℤ) → deferred_at c r k' ≡ Some x → ⊥
+      deferred x e = go (fetch c.code r k) refl
         where
           go : (o : Option Instruction) → fetch c.code r k ≡ o → ⊥
           go None is = cc (sym (ap (λ o. flow.leads o k k') is) ∙ g.there)
           go (Some i) is = sides (cases_eq k' (suc k))
             where
               sides : (k' ≡ suc k) ⊎ (k' ≢ suc k) → ⊥
-              sides (inl same) = let w = bent_behind i x is (ap (bent_at c r) (sym same) ∙ e)
+              sides (inl same) = let w = deferred_behind i x is (ap (deferred_at c r) (sym same) ∙ e)
                   in writes_none i w.to is w.written
-              sides (inr ne) = bent_no_jump c r (slice_get (routines c.code) r) k k' i x is
+              sides (inr ne) = deferred_no_jump c r (slice_get (routines c.code) r) k k' i x is
                   (jumps_there i k k' (leads_there i is) ne) e
 
 -- nor where a call comes back to
 pub called_silent : (c : Context) (r k u : ℕ) → called c r k u ≡ true → (v : View) → Straight c r k v
 called_silent c r zero u g v = absurd (cc g)
-called_silent c r (suc k) u g v = (flags, none_of (bent_at c r (suc k)) bent)
+called_silent c r (suc k) u g v = (flags, none_of (deferred_at c r (suc k)) deferred)
   where
     no_result : (i : Instruction) → fetch c.code r k ≡ Some i → result_of i ≡ None → ⊥
     no_result i is none = cc (sym (ap (λ o. gives_to o u) is ∙ ap (is_it u) none) ∙ g)
 
-    flags : (t q : ℕ) → told_at c r (suc k) ≡ Some t → home c r t ≡ Reg q → (v.equal ≡ nat_eq (v.registers q) 0)
+    flags : (t q : ℕ) → flagged_at c r (suc k) ≡ Some t → home c r t ≡ Reg q → (v.equal ≡ nat_eq (v.registers q) 0)
         × (v.negative ≡ nat_le 2147483648 (v.registers q))
     flags t q e h = go (fetch c.code r k) refl
       where
@@ -241,12 +246,12 @@ called_silent c r (suc k) u g v = (flags, none_of (bent_at c r (suc k)) bent)
         go None is = absurd (cc (sym (ap (λ o. gives_to o u) is) ∙ g))
         go (Some i) is = absurd (no_result i is (plainly i t (told_behind c r k i t is e)).result)
 
-    bent : (x : ℕ × ℤ) → bent_at c r (suc k) ≡ Some x → ⊥
-    bent x e = go (fetch c.code r k) refl
+    deferred : (x : ℕ × ℤ) → deferred_at c r (suc k) ≡ Some x → ⊥
+    deferred x e = go (fetch c.code r k) refl
       where
         go : (o : Option Instruction) → fetch c.code r k ≡ o → ⊥
         go None is = cc (sym (ap (λ o. gives_to o u) is) ∙ g)
-        go (Some i) is = no_result i is (bent_behind c r k i x is e).result
+        go (Some i) is = no_result i is (deferred_behind c r k i x is e).result
 
 -- nor at the beginning of a routine
 pub entered_silent : (c : Context) (r : ℕ) (v : View) → Straight c r 0 v
@@ -256,10 +261,10 @@ entered_silent c r v = (
       (slice_get (routines c.code) r),
 )
   where
-    none : (t : ℕ) (o : Option TacRoutine) → told_in o 0 ≡ Some t → ⊥
+    none : (t : ℕ) (o : Option TacRoutine) → flagged_within o 0 ≡ Some t → ⊥
     none t None e = cc e
     none t (Some routine) e = cc e
 
-    straight : (o : Option TacRoutine) → bent_in c r o 0 ≡ None
+    straight : (o : Option TacRoutine) → deferred_in c r o 0 ≡ None
     straight None = refl
     straight (Some routine) = refl

@@ -11,7 +11,8 @@ use Rattle.tac_code.specs.declared.code.Base.TheVariants as base
 use Rattle.tac_code.specs.Numbers.{steps_above, is_in_range}
 use Rattle.risc_emit_relation.specs.Context.{Context}
 use Rattle.risc_emit_forms.specs.Forms.{base_register, near_code, near_register}
-use Rattle.risc_emit_forms.specs.Told.{block_at, fold_near, fold_by, fold_in, back_by, back, short_by, near_of, folded}
+use Rattle.risc_emit_forms.specs.Peephole.{block_at, fold_near, fold_by, fold_in, back_by, back, short_by, near_of}
+use Rattle.risc_emit_forms.specs.Peephole.{folded}
 use Rattle.risc_emit_forms.proofs.Ranges.{steps_are, not_below}
 
 -- ---- the lowest index in an offset
@@ -80,20 +81,21 @@ pub record InFrame (c : Context) (r : ℕ) (a : Base) (z : ℤ) (o : Option ℕ)
   pub is : z ≡ pos offset
   pub there : o ≡ Some offset
 
-pub in_frame : (c : Context) (r : ℕ) (a : Base) (bent : ℕ × ℤ) (low high : ℤ) (width error : ℕ) (z : ℤ) (o : Option ℕ)
-    → near_of (Some bent) a ≡ None → short_by (back a low high width error) o ≡ Some z → InFrame c r a z o
-in_frame c r (base.Temporary u) bent low high width error z o none e = absurd (cc none)
-in_frame c r base.Frame bent low high width error z o none e = of_offset o e
+pub in_frame : (c : Context) (r : ℕ) (a : Base) (deferred : ℕ × ℤ) (low high : ℤ) (width error : ℕ) (z : ℤ)
+    (o : Option ℕ)
+    → near_of (Some deferred) a ≡ None → short_by (back a low high width error) o ≡ Some z → InFrame c r a z o
+in_frame c r (base.Temporary u) deferred low high width error z o none e = absurd (cc none)
+in_frame c r base.Frame deferred low high width error z o none e = of_offset o e
   where
     of_offset : (o : Option ℕ) → short_by None o ≡ Some z → InFrame c r base.Frame z o
     of_offset None e = absurd (cc e)
     of_offset (Some n) e = record { offset = n; is = cc e; there = refl }
-in_frame c r base.Scratch bent low high width error z o none e = of_offset o e
+in_frame c r base.Scratch deferred low high width error z o none e = of_offset o e
   where
     of_offset : (o : Option ℕ) → short_by None o ≡ Some z → InFrame c r base.Scratch z o
     of_offset None e = absurd (cc e)
     of_offset (Some n) e = record { offset = n; is = cc e; there = refl }
-in_frame c r base.Program bent low high width error z o none e = of_offset o e
+in_frame c r base.Program deferred low high width error z o none e = of_offset o e
   where
     of_offset : (o : Option ℕ) → short_by None o ≡ Some z → InFrame c r base.Program z o
     of_offset None e = absurd (cc e)
@@ -103,12 +105,12 @@ in_frame c r base.Program bent low high width error z o none e = of_offset o e
 pub record Framed (c : Context) (r : ℕ) (a : Base) : Type 0 where
   pub code : near_code c r a ≡ []
   pub register : near_register c r a ≡ base_register c r a
-  pub near : (bent : ℕ × ℤ) → near_of (Some bent) a ≡ None
+  pub near : (deferred : ℕ × ℤ) → near_of (Some deferred) a ≡ None
 
 pub framed_base : (c : Context) (r : ℕ) (a : Base) (n : ℕ) → block_at c r a ≡ Some n → Framed c r a
-framed_base c r base.Frame n e = record { code = refl; register = refl; near = λ bent. refl }
-framed_base c r base.Scratch n e = record { code = refl; register = refl; near = λ bent. refl }
-framed_base c r base.Program n e = record { code = refl; register = refl; near = λ bent. refl }
+framed_base c r base.Frame n e = record { code = refl; register = refl; near = λ deferred. refl }
+framed_base c r base.Scratch n e = record { code = refl; register = refl; near = λ deferred. refl }
+framed_base c r base.Program n e = record { code = refl; register = refl; near = λ deferred. refl }
 framed_base c r (base.Temporary t) n e = absurd (cc e)
 
 -- how far a register is ahead of an address in a temporary

@@ -13,7 +13,7 @@ use Rattle.tac_code.specs.Sound.{IsSoundAt, IsSoundRoutine, limits_of}
 use Rattle.risc_emit_relation.specs.Context.{Context, Places}
 use Rattle.risc_emit_relation.specs.Related.{Related}
 use Rattle.risc_emit_forms.specs.Pieces.{Piece, Left}
-use Rattle.risc_emit_forms.specs.Follows.{machine_of, Built, tape_of, unbent, Meets, Belongs, Comes, Stops}
+use Rattle.risc_emit_forms.specs.Follows.{machine_of, Built, tape_of, with_deferred, Meets, Belongs, Comes, Stops}
 
 pub append_nil : (ps : List Piece) → ps ++ [] ≡ ps
 append_nil [] = refl
@@ -141,7 +141,7 @@ module _ (c : Context) (words : List ℕ) (b : Built c words) where
       → Belongs c words p t v f → Arrives c words t m
   arrive_here p t m v f sh be =
       let meets : Meets c words p t v f = record {
-        related = subst (λ o. Related c p t (unbent o (machine_of v)) f) (sym be.flags.1) be.related;
+        related = subst (λ o. Related c p t (with_deferred o (machine_of v)) f) (sym be.flags.1) be.related;
         place = be.place;
         input = be.input;
         flags = be.flags.0;

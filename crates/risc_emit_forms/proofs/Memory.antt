@@ -35,8 +35,8 @@ use Rattle.risc_emit_forms.specs.Pieces.{Piece, Plain, Left}
 use Rattle.risc_emit_forms.specs.Forms as form
 use Rattle.risc_emit_forms.specs.Forms.{constant, fetched, target, save, word_form, reach, reach_register, reach_offset}
 use Rattle.risc_alloc.specs.declared.homes.Home.TheVariants.{Reg}
-use Rattle.risc_emit_forms.specs.Told.{bent_at}
-use Rattle.risc_emit_forms.specs.Follows.{machine_of, unbent, Stood, Built, Meets, Belongs, Comes}
+use Rattle.risc_emit_forms.specs.Peephole.{deferred_at}
+use Rattle.risc_emit_forms.specs.Follows.{machine_of, with_deferred, Stood, Built, Meets, Belongs, Comes}
 use Rattle.risc_emit_forms.proofs.Basics.{left_after, left_at, left_next, is_read, passes, writes_it, among_first}
 use Rattle.risc_emit_forms.proofs.Basics.{among_rest}
 use Rattle.risc_emit_forms.proofs.Flags.{silent}
@@ -389,43 +389,46 @@ reached_on x (negsuc k) n y narrow near low e = by (negsuc k +ℤ pos n) refl
         omega (arith, e, sum, narrow, low, least)
 
 module _ (c : Context) (words : List ℕ) (b : Built c words) (p : Places) (s : State) (f : ℕ) (m : machine.State) (v : View) (sh : Shows words c.size m v) (me : Meets c words p s v f) where
-  pub bent_load_follows : (bent : ℕ × ℤ) (t n : ℕ) (block : Block) (offset : ℕ) (x : Value)
-      → bent_at c s.current.routine s.current.place ≡ Some bent → home c s.current.routine t ≡ Reg bent.0
-      → IsLoad bent.1 n → fetch c.code s.current.routine s.current.place ≡ Some (Load t (base.Temporary t) n)
+  pub deferred_load_follows : (deferred : ℕ × ℤ) (t n : ℕ) (block : Block) (offset : ℕ) (x : Value)
+      → deferred_at c s.current.routine s.current.place ≡ Some deferred → home c s.current.routine t ≡ Reg deferred.0
+      → IsLoad deferred.1 n → fetch c.code s.current.routine s.current.place ≡ Some (Load t (base.Temporary t) n)
       → s.current.temporaries t ≡ Some (Address block offset) → load (text_at c.code) s.memory block (offset + n) ≡ Some x → Comes c words s
       (record s { current = giving t x s.current }) m
-  bent_load_follows bent t n block offset x is home_is near here et el =
+  deferred_load_follows deferred t n block offset x is home_is near here et el =
       let r = s.current.routine in
       let k = s.current.place in
       let ins = Load t (base.Temporary t) n in
-      let m0 = unbent (Some bent) (machine_of v) in
-      let rel : Related c p s m0 f = subst (λ o. Related c p s (unbent o (machine_of v)) f) is me.related in
-      let i = word.Load Word bent.0 bent.0 (bent.1 +ℤ pos n) in
+      let m0 = with_deferred (Some deferred) (machine_of v) in
+      let rel : Related c p s m0 f = subst (λ o. Related c p s (with_deferred o (machine_of v)) f) is me.related in
+      let i = word.Load Word deferred.0 deferred.0 (deferred.1 +ℤ pos n) in
       let l = subst (λ y. Left c words v.place (word_form c r y t (base.Temporary t) n) (c.site r (suc k))) is
       (left_at c words (c.site r k) v.place _ (form.form c r k ins) (b.stood.body r k ins here) me.place) in
       let found = load_found c b.laid p s v.words f block (offset + n) x rel.held
       (constants_stand c words b.stood p m v sh) el in
       let there = home_read c b.laid b.placed p s m0 f t (Address block offset) rel
       (is_read c r k ins here t (among_first t [])) et in
-      let whole : reached (v.registers bent.0) bent.1 ≡ place c p block + offset = sym (update_same v.registers bent.0 _)
+      let whole : reached (v.registers deferred.0) deferred.1
+      ≡ place c p block + offset = sym (update_same v.registers deferred.0 _)
       ∙ ap (value_of c r f m0) (sym home_is) ∙ there.1 in
-      let lt = b.placed.register r t bent.0 home_is in
+      let lt = b.placed.register r t deferred.0 home_is in
       let end = b.stood.fits.top in
-      let at : reached (v.registers bent.0) (bent.1 +ℤ pos n) ≡ place c p block + (offset + n) =
-      reached_on (v.registers bent.0) bent.1 n (place c p block + offset) (sh.narrow bent.0 (omega (arith, lt))) near
-      (omega (arith, found.high, end)) whole ∙ sums (place c p block) in
-      let ok : IsReadable c.size (reached (v.registers bent.0) (bent.1 +ℤ pos n)) = subst (IsReadable c.size) (sym at) (record {
+      let at : reached (v.registers deferred.0) (deferred.1 +ℤ pos n) ≡ place c p block + (offset + n) =
+      reached_on (v.registers deferred.0) deferred.1 n (place c p block + offset)
+      (sh.narrow deferred.0 (omega (arith, lt))) near (omega (arith, found.high, end)) whole ∙ sums (place c p block) in
+      let ok : IsReadable c.size (reached (v.registers deferred.0) (deferred.1 +ℤ pos n)) = subst (IsReadable c.size)
+      (sym at) (record {
         aligned = found.aligned;
         high = found.high;
       }) in
-      let t2 = step_to c words b.stood i m v sh l.stands.0 (word_offset (bent.1 +ℤ pos n) near.0, ok) in
+      let t2 = step_to c words b.stood i m v sh l.stands.0 (word_offset (deferred.1 +ℤ pos n) near.0, ok) in
       let v2 = after i v in
-      let loaded : v.words (reached (v.registers bent.0) (bent.1 +ℤ pos n)) ≡ related.word c p x = ap v.words at ∙ found.is in
-      let target_is : target c r (home c r t) ≡ bent.0 = ap (target c r) home_is in
-      let aside : Aside bent.0 (related.word c p x) m0 v2 = record {
-        here = update_same v.registers bent.0 _ ∙ loaded;
-        registers = λ q n12 n15 nd. update_other v.registers bent.0 _ q nd ∙ sym
-            (update_other v.registers bent.0 _ q nd);
+      let loaded : v.words (reached (v.registers deferred.0) (deferred.1 +ℤ pos n)) ≡ related.word c p x = ap v.words at
+      ∙ found.is in
+      let target_is : target c r (home c r t) ≡ deferred.0 = ap (target c r) home_is in
+      let aside : Aside deferred.0 (related.word c p x) m0 v2 = record {
+        here = update_same v.registers deferred.0 _ ∙ loaded;
+        registers = λ q n12 n15 nd. update_other v.registers deferred.0 _ q nd ∙ sym
+            (update_other v.registers deferred.0 _ q nd);
         words = λ a. refl;
       } in
       let s' = record s { current = giving t x s.current } in

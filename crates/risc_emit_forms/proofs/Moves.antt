@@ -2,6 +2,7 @@
 use Rattle.std.proofs.Common.{◌≡◌, ℕ, suc, ◌+◌, ◌-◌, ◌*◌, ◌/◌, ◌%◌, ◌^◌, ◌<◌, ◌≤◌, List, [], ◌∷◌, length, Some, ℤ, pos}
 use Rattle.std.proofs.Common.{refl, sym, ap, ◌∙◌, subst, arith, length-append}
 use Rattle.std.proofs.lemmas.Int.{ints}
+use Rattle.std.proofs.lemmas.Option.{slice_get_within}
 use Rattle.risc_word.specs.declared.instr.Operation.TheVariants as op
 use Rattle.risc_word.specs.declared.instr.Operand.TheVariants as instr
 use Rattle.risc_word.specs.declared.instr.Condition.TheVariants as on
@@ -21,8 +22,8 @@ use Rattle.risc_alloc.specs.declared.homes.Home.TheVariants.{Slot, Reg}
 use Rattle.risc_emit_relation.specs.Context.{Context, home, slot_at, Places, IsValue}
 use Rattle.risc_emit_relation.specs.Context as related
 use Rattle.risc_emit_relation.specs.Changes.{Near, Settled}
-use Rattle.risc_emit_relation.proofs.Basics.{get_within, update_same, update_other}
-use Rattle.risc_emit_forms.specs.Pieces.{Label, AtPlace, AtEntry, AtText, label_place, Piece, Left}
+use Rattle.risc_emit_relation.proofs.Basics.{update_same, update_other}
+use Rattle.risc_emit_forms.specs.Pieces.{Label, AtPlace, AtEntry, AtText, label_place, Left}
 use Rattle.risc_emit_forms.specs.Pieces as piece
 use Rattle.risc_emit_forms.specs.Forms.{number, store, fetched, bring, target, save, copy, label_form}
 use Rattle.risc_emit_forms.specs.Forms as form
@@ -204,7 +205,7 @@ module _ (c : Context) (words : List ℕ) (b : Built c words) (p : Places) (s : 
       let r = s.current.routine in
       let k = s.current.place in
       let so = fetched_is c words b r k (JumpBack n) here in
-      let lt = get_within so.routine.body k (JumpBack n) so.body in
+      let lt = slice_get_within so.routine.body k (JumpBack n) so.body in
       jump_follows (k - n) (passes c r k (JumpBack n) here (k - n) refl (among_first (k - n) []))
       (code c words b p s f m v sh be (JumpBack n) here)
       (b.stood.within r (k - n) so.routine so.is (omega (arith, lt)))

@@ -4,6 +4,7 @@ use Rattle.std.proofs.Common.{nat_lt, List, ◌∷◌, ◌++◌, length, Some, �
 use Rattle.std.proofs.Common.{arith, append_assoc}
 use Rattle.std.specs.Prelude.{int_div, neg_ℤ, ◌<ℤ◌}
 use Rattle.std.proofs.lemmas.Int.{ints}
+use Rattle.std.proofs.lemmas.Bool.{ltb-false}
 use Rattle.risc_word.specs.declared.instr.Operation.TheVariants as op
 use Rattle.risc_word.specs.declared.instr.Operand as instr
 use Rattle.risc_word.specs.declared.instr.Operand.TheVariants.{Content, Constant}
@@ -38,9 +39,6 @@ use Rattle.risc_emit_forms.proofs.Quotients.{quotient_is, remainder_pos}
 use Rattle.risc_emit_forms.proofs.Calls.{follows_to}
 use Rattle.risc_emit_forms.proofs.DivideRuns.{Made, fetch_short, least_length, made_end, quotient_length, quotient_run}
 use Rattle.risc_emit_forms.proofs.LeastDivisor.{least_quotient, least_run}
-
-not_less : (x y : ℕ) → nat_lt x y ≡ false → y ≤ x
-not_less x y e = grind arith
 
 module _ (c : Context) (words : List ℕ) (b : Built c words) (p : Places) (s : State) (f : ℕ) (m : machine.State) (v : View) (sh : Shows words c.size m v) (be : Belongs c words p s v f) where
   -- ---- by a divisor below 0
@@ -324,7 +322,7 @@ module _ (c : Context) (words : List ℕ) (b : Built c words) (p : Places) (s : 
               up k = omega (arith, ints)
 
               small : (k : ℕ) → nat_lt (suc k) 2147483648 ≡ false → k ≤ 2147483647 → k ≡ 2147483647
-              small k e le = let g = not_less (suc k) 2147483648 e in omega (arith, g, le)
+              small k e le = let g = ltb-false (suc k) 2147483648 e in omega (arith, g, le)
 
           one_or_none : (q : Bool) → is_integer (pos (cond q 1 0)) ≡ true
           one_or_none true = refl

@@ -33,7 +33,7 @@ use Rattle.risc_emit_forms.specs.Pieces as piece
 use Rattle.risc_emit_forms.specs.Pieces.{Piece, Plain, Left}
 use Rattle.risc_emit_forms.specs.Forms as form
 use Rattle.risc_emit_forms.specs.Forms.{fetched, right, right_operand, both, target, save, bit_operation}
-use Rattle.risc_emit_forms.specs.Told.{flagged_by}
+use Rattle.risc_emit_forms.specs.Peephole.{flagged_by}
 use Rattle.risc_emit_forms.specs.Follows.{machine_of, Built, Belongs, Comes, Follows}
 use Rattle.risc_emit_forms.proofs.Basics.{left_after, left_next, left_at, is_read, writes_it, among_first, among_rest}
 use Rattle.risc_emit_forms.proofs.Runs.{step_to}

@@ -2,7 +2,7 @@
 use Rattle.std.proofs.Common.{◌≡◌, ◌≢◌, ℕ, zero, suc, ◌+◌, ◌*◌, ◌<◌, ◌≤◌, ◌⊎◌, inl, inr, ⊎_elim, Bool, true, false}
 use Rattle.std.proofs.Common.{cond, ◌&&◌, ◌||◌, not, nat_eq, nat_lt, List, [], ◌++◌, length, Some, slice_get, refl, sym}
 use Rattle.std.proofs.Common.{ap, ◌∙◌, subst, arith, length-append, append_assoc}
-use Rattle.std.proofs.lemmas.Bool.{cases_eq}
+use Rattle.std.proofs.lemmas.Bool.{cases_eq, eqb-true}
 use Rattle.risc_machine.specs.Step as machine
 use Rattle.risc_machine_laws.specs.View.{View, Shows, IsReadable}
 use Rattle.risc_machine_laws.specs.Runs.{To, Way, same_tape}
@@ -15,7 +15,6 @@ use Rattle.risc_alloc.specs.declared.homes.Home.TheVariants.{Slot, Reg}
 use Rattle.risc_emit_relation.specs.Context.{Context, home, IsAlive, Places}
 use Rattle.risc_emit_relation.specs.Context as ctx
 use Rattle.risc_emit_relation.specs.Related.{value_of}
-use Rattle.risc_emit_relation.proofs.Basics.{eq_of}
 use Rattle.risc_emit_forms.specs.Pieces.{Piece, Left}
 use Rattle.risc_emit_forms.specs.Forms.{carried, stands, is_clear, is_direct, target, save, load, spill, parameter}
 use Rattle.risc_emit_forms.specs.Forms.{parameters}
@@ -186,7 +185,7 @@ module _ (c : Context) (words : List ℕ) (b : Built c words) (p : Places) (q g 
       less x y e = grind arith
 
       go : (s t : Bool) → nat_eq z j ≡ s → nat_lt j 8 ≡ t → s && t ≡ true → (Reg z ≡ Reg j) × (j < 8)
-      go true true es et e = (ap Reg (eq_of z j es), less j 8 et)
+      go true true es et e = (ap Reg (eqb-true z j es), less j 8 et)
       go true false es et e = absurd (cc e)
       go false t es et e = absurd (cc e)
 

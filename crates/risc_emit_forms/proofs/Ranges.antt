@@ -4,7 +4,7 @@ use Rattle.std.proofs.Common.{List, [], ◌∷◌, ◌++◌, length, take, ℤ, 
 use Rattle.std.proofs.Common.{append_assoc}
 use Rattle.std.specs.Prelude.{int_lt, ◌≤ℤ◌, ◌<ℤ◌}
 use Rattle.std.proofs.lemmas.Int.{ints}
-use Rattle.std.proofs.lemmas.Bool.{ltb-true}
+use Rattle.std.proofs.lemmas.Bool.{ltb-true, lt-ltb, le-ltb}
 use Rattle.risc_word.specs.declared.instr.Operation.TheVariants as op
 use Rattle.risc_word.specs.declared.instr.Operand.TheVariants as instr_operand
 use Rattle.risc_word.specs.declared.instr.Condition.TheVariants as on
@@ -35,12 +35,6 @@ use Rattle.risc_emit_forms.proofs.Comes.{test_failing, framed, fails_not, test_w
 use Rattle.risc_emit_forms.proofs.Compares.{not_not}
 use Rattle.risc_emit_forms.proofs.Calls.{follows_way, follows_to}
 
-is_less : (x y : ℕ) → x < y → nat_lt x y ≡ true
-is_less x y h = grind arith
-
-is_not_less : (x y : ℕ) → y ≤ x → nat_lt x y ≡ false
-is_not_less x y h = grind arith
-
 -- how far a number is above another one
 natural_is : (z : ℤ) → pos 0 ≤ℤ z → pos (natural z) ≡ z
 natural_is (pos n) h = refl
@@ -63,15 +57,15 @@ span_test low high x hl hh hx e = go (steps_above low high) (steps_are low high 
   where
     go : (n : ℕ) → pos n ≡ high -ℤ low → (a b : Bool) → int_lt x low ≡ a → int_lt high x ≡ b → nat_lt n
         (difference_of (word_of x) (word_of low)) ≡ not (not a && not b)
-    go n is true b ea eb = let h = below low x ea in is_less n _ (omega (arith, ints, is, h, hl, hh, hx))
+    go n is true b ea eb = let h = below low x ea in lt-ltb n _ (omega (arith, ints, is, h, hl, hh, hx))
     go n is false true ea eb =
         let g = not_below low x ea in
         let h = below x high eb in
-        is_less n _ (omega (arith, ints, is, g, h, hl, hh, hx))
+        lt-ltb n _ (omega (arith, ints, is, g, h, hl, hh, hx))
     go n is false false ea eb =
         let g = not_below low x ea in
         let h = not_below x high eb in
-        is_not_less n _ (omega (arith, ints, is, g, h, hl, hh, hx))
+        le-ltb n _ (omega (arith, ints, is, g, h, hl, hh, hx))
 
 -- an empty range
 none_within : (low high x : ℤ) → int_lt high low ≡ true → is_in_range low high x ≡ false
@@ -88,14 +82,6 @@ none_within low high x e = go (int_lt x low) (int_lt high x) refl refl
 
 pub narrow_difference : (x y : ℕ) → difference_of x y < 4294967296
 narrow_difference x y = omega arith
-
-not_true : (x : Bool) → not x ≡ true → x ≡ false
-not_true true e = absurd (cc e)
-not_true false e = refl
-
-not_false : (x : Bool) → not x ≡ false → x ≡ true
-not_false true e = refl
-not_false false e = absurd (cc e)
 
 module _ (c : Context) (words : List ℕ) (b : Built c words) (p : Places) (s : State) (f : ℕ) (m0 : Machine) (related : Related c p s m0 f) where
   e14_of : (v : View) → Near m0 (machine_of v) → v.registers 14 ≡ f

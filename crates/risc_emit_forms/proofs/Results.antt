@@ -1,6 +1,7 @@
 -- Runs of the idioms: results kept.
 use Rattle.std.proofs.Common.{◌≡◌, ◌≢◌, ℕ, ◌+◌, ◌<◌, ◌≤◌, ◌⊎◌, inl, inr, Bool, true, false, cond, nat_eq, List, [], ◌∷◌}
 use Rattle.std.proofs.Common.{◌++◌, length, refl, sym, ap, ◌∙◌, subst, arith}
+use Rattle.std.proofs.lemmas.Bool.{eqb-true}
 use Rattle.risc_word.specs.declared.instr.Operand.TheVariants.{Content}
 use Rattle.risc_word.specs.declared.instr.Instr.TheVariants as word
 use Rattle.risc_machine.specs.Step as machine
@@ -12,7 +13,7 @@ use Rattle.risc_alloc.specs.declared.homes.Home.TheVariants.{Slot, Reg}
 use Rattle.risc_emit_relation.specs.Context.{Context, home, slot_at, IsLaid, IsPlaced}
 use Rattle.risc_emit_relation.specs.Related.{Machine, value_of}
 use Rattle.risc_emit_relation.specs.Changes.{update, Near, Settled}
-use Rattle.risc_emit_relation.proofs.Basics.{eq_of, update_same, update_other}
+use Rattle.risc_emit_relation.proofs.Basics.{update_same, update_other}
 use Rattle.risc_emit_forms.specs.Pieces.{Piece, Plain, Left}
 use Rattle.risc_emit_forms.specs.Forms.{target, save, receive, into, accept}
 use Rattle.risc_emit_forms.specs.Follows.{machine_of, Stood}
@@ -181,7 +182,7 @@ module _ (c : Context) (words : List ℕ) (stood : Stood c words) (laid : IsLaid
           record {
             view = v;
             way = way_here words c.size m v sh;
-            value = ap v.registers (sym (eq_of q d e));
+            value = ap v.registers (sym (eqb-true q d e));
             moved = record { registers = λ q ne. refl; words = λ a. refl; high = refl };
             place = omega arith;
           }
@@ -230,7 +231,7 @@ module _ (c : Context) (words : List ℕ) (stood : Stood c words) (laid : IsLaid
             view = v;
             way = way_here words c.size m v sh;
             settled = in_register q n (machine_of v) v lt (record {
-              here = ap v.registers (eq_of q 0 e) ∙ e0;
+              here = ap v.registers (eqb-true q 0 e) ∙ e0;
               registers = λ x n12 n15 far. refl;
               words = λ a. refl;
             });

@@ -1,6 +1,7 @@
 -- Returns followed by their words, up to the caller's next instruction.
 use Rattle.std.proofs.Common.{◌≡◌, ℕ, zero, suc, ◌+◌, ◌*◌, ◌/◌, ◌%◌, ◌<◌, ◌≤◌, Bool, true, false, cond, List, [], ◌∷◌}
 use Rattle.std.proofs.Common.{◌++◌, length, Option, Some, None, pos, refl, sym, ap, ◌∙◌, subst, arith}
+use Rattle.std.proofs.lemmas.Bool.{eqb-true}
 use Rattle.risc_word.specs.declared.instr.Width.TheVariants.{Word}
 use Rattle.risc_word.specs.declared.instr.Condition.TheVariants as on
 use Rattle.risc_word.specs.declared.instr.Target.TheVariants.{Absolute}
@@ -15,8 +16,7 @@ use Rattle.tac_code.specs.declared.code.Instruction.TheVariants.{Call, CallValue
 use Rattle.tac_code.specs.Meaning.{fetch, Activation, State}
 use Rattle.risc_alloc.specs.declared.homes.Home.TheVariants.{Slot, Reg}
 use Rattle.risc_alloc.specs.Flow.{gives_to}
-use Rattle.risc_emit_relation.proofs.Basics.{eq_of}
-use Rattle.risc_emit_relation.specs.Context.{Context, home, called, is_program, cost, slot_at, Places, IsValue}
+use Rattle.risc_emit_relation.specs.Context.{Context, home, called, is_program, cost, Places, IsValue}
 use Rattle.risc_emit_relation.specs.Context as ctx
 use Rattle.risc_emit_relation.specs.Related.{owner_of, Open}
 use Rattle.risc_emit_relation.specs.Changes.{Leaving, left}
@@ -72,9 +72,9 @@ module _ (c : Context) (words : List ℕ) (b : Built c words) where
       go : (o : Option Instruction) → fetch c.code r j ≡ o → gives_to o t ≡ true → c.resume r (suc j) t ≤ 1048576
       go None here e = absurd (cc e)
       go (Some (Call u q us line)) here e =
-          low u (offer c r us) _ (eq_of t u e) (b.stood.body r j (Call u q us line) here)
+          low u (offer c r us) _ (eqb-true t u e) (b.stood.body r j (Call u q us line) here)
       go (Some (CallValue u a us line)) here e =
-          low u (offer_by c r a us) _ (eq_of t u e) (b.stood.body r j (CallValue u a us line) here)
+          low u (offer_by c r a us) _ (eqb-true t u e) (b.stood.body r j (CallValue u a us line) here)
       go (Some _) here e = absurd (cc e)
 
   link_place : (j : ℕ) → j < 4194304 → 4 * j % 16777216 / 4 ≡ j

@@ -30,14 +30,14 @@ use Rattle.risc_emit_relation.proofs.Steps.{home_read}
 use Rattle.risc_emit_forms.specs.Pieces.{Plain, Left}
 use Rattle.risc_emit_forms.specs.Forms as form
 use Rattle.risc_emit_forms.specs.Forms.{fetched, scaled, scaled_register, base_address, address_register, index_by}
-use Rattle.risc_emit_forms.specs.Told.{short_by, offset_of, bent_at}
-use Rattle.risc_emit_forms.specs.Follows.{machine_of, unbent, Built, Meets, Belongs, Follows}
+use Rattle.risc_emit_forms.specs.Peephole.{short_by, offset_of, deferred_at}
+use Rattle.risc_emit_forms.specs.Follows.{machine_of, with_deferred, Built, Meets, Belongs, Follows}
 use Rattle.risc_emit_forms.proofs.Basics.{left_after, left_at, left_next, is_read, writes_it, among_first, among_rest}
-use Rattle.risc_emit_forms.proofs.Shortfalls.{BentIndex, BentRow, bent_index_is}
+use Rattle.risc_emit_forms.proofs.Shortfalls.{DeferredIndex, DeferredRow, deferred_index_is}
 use Rattle.risc_emit_forms.proofs.Flags.{unflagged}
 use Rattle.risc_emit_forms.proofs.Runs.{step_to}
 use Rattle.risc_emit_forms.proofs.Fetches.{fetch_run, fetched_not}
-use Rattle.risc_emit_forms.proofs.Comes.{framed, bends_end, untested}
+use Rattle.risc_emit_forms.proofs.Comes.{framed, defers_end, untested}
 use Rattle.risc_emit_forms.proofs.Joins.{come_to, come_way}
 use Rattle.risc_emit_forms.proofs.Operands.{one_run}
 use Rattle.risc_emit_forms.proofs.Offsets.{named_low}
@@ -49,24 +49,24 @@ module _ (c : Context) (words : List ℕ) (b : Built c words) (p : Places) (s : 
   -- ---- ahead of an address in a temporary
 
   pub back_follows : (t u i : ℕ) (low high : ℤ) (width error line : ℕ) (block : Block) (offset : ℕ) (x : ℤ)
-      (bent : ℕ × ℤ)
+      (deferred : ℕ × ℤ)
       → fetch c.code s.current.routine s.current.place
       ≡ Some (Index t (base.Temporary u) i low high width error line) → base_value s.current (base.Temporary u)
       ≡ Some (Address block offset) → s.current.temporaries i ≡ Some (Number x)
-      → bent_at c s.current.routine (suc s.current.place) ≡ Some bent → Left c words v.place
-      (index_by c s.current.routine (Some 0) (Some bent) t (base.Temporary u) i low high width error line)
+      → deferred_at c s.current.routine (suc s.current.place) ≡ Some deferred → Left c words v.place
+      (index_by c s.current.routine (Some 0) (Some deferred) t (base.Temporary u) i low high width error line)
       (c.site s.current.routine (suc s.current.place)) → Follows c words
       (gives_component c.code (is_in_range low high x) t block (offset + steps_above low x * width) error line s) s m
-  back_follows t u i low high width error line block offset x bent here ea ei bends l =
+  back_follows t u i low high width error line block offset x deferred here ea ei defers l =
       go (is_in_range low high x) refl
     where
-      ahead : BentIndex c s.current.routine t
-          (offset_of c s.current.routine (base.Temporary u) low high width error) bent
-      ahead = bent_index_is c s.current.routine s.current.place t (base.Temporary u) i low high width error line bent
-          here be.flags.1 bends
+      ahead : DeferredIndex c s.current.routine t
+          (offset_of c s.current.routine (base.Temporary u) low high width error) deferred
+      ahead = deferred_index_is c s.current.routine s.current.place t (base.Temporary u) i low high width error line
+          deferred here be.flags.1 defers
 
-      fold : Backed low high width error bent.1
-      fold = backed_is low high width error bent.1 ahead.offset
+      fold : Backed low high width error deferred.1
+      fold = backed_is low high width error deferred.1 ahead.offset
 
       go : (inside : Bool) → is_in_range low high x ≡ inside → Follows c words
           (gives_component c.code inside t block (offset + steps_above low x * width) error line s) s m
@@ -106,7 +106,7 @@ module _ (c : Context) (words : List ℕ) (b : Built c words) (p : Places) (s : 
               let d = fetched c r 12 (home c r i) in
               let y = scaled_register c r d width in
               let q = address_register c r a in
-              let i5 = word.Operate op.Add bent.0 q (Content y) in
+              let i5 = word.Operate op.Add deferred.0 q (Content y) in
               let last = Plain i5 ∷ [] in
               let rest = base_address c r a ++ last in
               let lt = ltb-true (offset + steps_above low x * width) 2147483648 es in
@@ -136,12 +136,12 @@ module _ (c : Context) (words : List ℕ) (b : Built c words) (p : Places) (s : 
               let v5 = after i5 v3 in
               let far : v3.registers y ≡ fold.first * width
               + steps_above low x * width = g3.moved.registers y (scaled_not c words b s.current.routine d width n15) ∙ g2.value ∙ product in
-              let sum : v5.registers bent.0 ≡ place c p block + (offset + steps_above low x * width)
-              + fold.first * width = update_same v3.registers bent.0 _ ∙ total (v3.registers q) (v3.registers y)
+              let sum : v5.registers deferred.0 ≡ place c p block + (offset + steps_above low x * width)
+              + fold.first * width = update_same v3.registers deferred.0 _ ∙ total (v3.registers q) (v3.registers y)
               (fold.first * width) (steps_above low x * width) g3.value far fold.few lt in
-              let whole : reached (v5.registers bent.0) bent.1 ≡ place c p block
-              + (offset + steps_above low x * width) = ap (reached (v5.registers bent.0)) fold.is
-              ∙ reached_back (v5.registers bent.0) (fold.first * width)
+              let whole : reached (v5.registers deferred.0) deferred.1 ≡ place c p block
+              + (offset + steps_above low x * width) = ap (reached (v5.registers deferred.0)) fold.is
+              ∙ reached_back (v5.registers deferred.0) (fold.first * width)
               (place c p block + (offset + steps_above low x * width)) fold.few
               (low_place (steps_above low x * width) lt) sum in
               let l5 = left_next c words v3.place _ (Plain i5) [] g3.left in
@@ -151,11 +151,11 @@ module _ (c : Context) (words : List ℕ) (b : Built c words) (p : Places) (s : 
               come_way c words b s s' m v1 g.way (come_way c words b s s' g.way.to v2 g2.way
               (come_way c words b s s' g2.way.to v3 g3.way
               (come_to c words b s s' g3.way.to same_tape v5 t5 refl
-              (bends_end c words b p s (machine_of v) f t
-              (Address block (offset + steps_above low x * width)) bent t5.to v5 be.related be.input
-              (writes_it c r k ins here t refl refl) (unflagged c r k ins here refl v5) bends ahead.home
+              (defers_end c words b p s (machine_of v) f t
+              (Address block (offset + steps_above low x * width)) deferred t5.to v5 be.related be.input
+              (writes_it c r k ins here t refl refl) (unflagged c r k ins here refl v5) defers ahead.home
               (g3.good.0, lt) t5.shows whole
-              (λ z n12 n15' nd. update_other v3.registers bent.0 _ z nd ∙ g3.moved.registers z n15'
+              (λ z n12 n15' nd. update_other v3.registers deferred.0 _ z nd ∙ g3.moved.registers z n15'
               ∙ near2.registers z n12 n15') (λ z. g3.moved.words z ∙ near2.words z) (omega (arith, l5.ends))))))
 
 -- ---- an index into a row, whose address a register is short of
@@ -187,26 +187,26 @@ reached_row x z d e y (negsuc a) n narrow least is low en few ez = by (negsuc a 
         omega (arith, back_of, close, low, few, ez, sum)
 
 module _ (c : Context) (words : List ℕ) (b : Built c words) (p : Places) (s : State) (f : ℕ) (m : machine.State) (v : View) (sh : Shows words c.size m v) (me : Meets c words p s v f) where
-  pub row_follows : (bent : ℕ × ℤ) → bent_at c s.current.routine s.current.place ≡ Some bent
-      → (w : BentRow c s.current.routine s.current.place bent) → (block : Block) (offset : ℕ) (x : ℤ)
+  pub row_follows : (deferred : ℕ × ℤ) → deferred_at c s.current.routine s.current.place ≡ Some deferred
+      → (w : DeferredRow c s.current.routine s.current.place deferred) → (block : Block) (offset : ℕ) (x : ℤ)
       → s.current.temporaries w.to ≡ Some (Address block offset) → s.current.temporaries w.index ≡ Some (Number x)
       → Follows c words (gives_component c.code (is_in_range w.low w.high x) w.to block
       (offset + steps_above w.low x * w.width) w.error w.line s) s m
-  row_follows bent is w block offset x ea ei = go (is_in_range w.low w.high x) refl
+  row_follows deferred is w block offset x ea ei = go (is_in_range w.low w.high x) refl
     where
       m0 : Machine
-      m0 = unbent (Some bent) (machine_of v)
+      m0 = with_deferred (Some deferred) (machine_of v)
 
       rel : Related c p s m0 f
-      rel = subst (λ o. Related c p s (unbent o (machine_of v)) f) is me.related
+      rel = subst (λ o. Related c p s (with_deferred o (machine_of v)) f) is me.related
 
       fold : Backed w.low w.high w.width w.error w.further
       fold = backed_is w.low w.high w.width w.error w.further (ap (λ o. short_by o None) w.ahead)
 
-      below : bent.0 < 12
-      below = b.placed.register s.current.routine w.to bent.0 w.home
+      below : deferred.0 < 12
+      below = b.placed.register s.current.routine w.to deferred.0 w.home
 
-      not_frame : 14 ≢ bent.0
+      not_frame : 14 ≢ deferred.0
       not_frame = omega (arith, below)
 
       base_low : place c p block < 16777216
@@ -220,10 +220,10 @@ module _ (c : Context) (words : List ℕ) (b : Built c words) (p : Places) (s : 
               (arith, e, b.laid.order.1, b.laid.order.2, b.laid.order.3)
 
       -- another home holds what it did
-      same_home : (h : Home) → h ≢ Reg bent.0 → value_of c s.current.routine f (machine_of v) h
+      same_home : (h : Home) → h ≢ Reg deferred.0 → value_of c s.current.routine f (machine_of v) h
           ≡ value_of c s.current.routine f m0 h
       same_home (Slot k) ne = refl
-      same_home (Reg q) ne = sym (update_other v.registers bent.0 _ q (λ e. ne (ap Reg e)))
+      same_home (Reg q) ne = sym (update_other v.registers deferred.0 _ q (λ e. ne (ap Reg e)))
 
       go : (inside : Bool) → is_in_range w.low w.high x ≡ inside → Follows c words
           (gives_component c.code inside w.to block (offset + steps_above w.low x * w.width) w.error w.line s) s m
@@ -258,11 +258,11 @@ module _ (c : Context) (words : List ℕ) (b : Built c words) (p : Places) (s : 
               let a = base.Temporary w.to in
               let i = w.index in
               let ins = Index w.to a i w.low w.high w.width w.error w.line in
-              let further : ℕ × ℤ = (bent.0, bent.1 +ℤ w.further) in
+              let further : ℕ × ℤ = (deferred.0, deferred.1 +ℤ w.further) in
               let j = between.number in
               let d = fetched c r 12 (home c r i) in
               let y = scaled_register c r d w.width in
-              let i5 = word.Operate op.Add bent.0 bent.0 (Content y) in
+              let i5 = word.Operate op.Add deferred.0 deferred.0 (Content y) in
               let last = Plain i5 ∷ [] in
               let rest = scaled c r d w.width ++ last in
               let lt = ltb-true (offset + steps_above w.low x * w.width) 2147483648 es in
@@ -271,10 +271,10 @@ module _ (c : Context) (words : List ℕ) (b : Built c words) (p : Places) (s : 
               (left_at c words (c.site r k) v.place _ (form.form c r k ins) (b.stood.body r k ins w.here) me.place) in
               let l = subst (λ h. Left c words v.place (form.fetch c r 12 (home c r i)
               ++ (scaled c r d w.width ++ (form.fetch c r 15 h
-              ++ (Plain (word.Operate op.Add bent.0 (fetched c r 15 h) (Content y)) ∷ [])))) (c.site r (suc k))) w.home
-              l0 in
+              ++ (Plain (word.Operate op.Add deferred.0 (fetched c r 15 h) (Content y)) ∷ [])))) (c.site r (suc k)))
+              w.home l0 in
               let fr = framed c words b p s m0 f rel in
-              let e14 : v.registers 14 ≡ f = sym (update_other v.registers bent.0 _ 14 not_frame) ∙ rel.stack in
+              let e14 : v.registers 14 ≡ f = sym (update_other v.registers deferred.0 _ 14 not_frame) ∙ rel.stack in
               let g = fetch_run c words b.stood b.laid b.placed r f fr 12 i rest _ m v sh (omega arith) e14 l in
               let v1 = g.view in
               let l1 = left_after c words v.place v1.place _ (form.fetch c r 12 (home c r i)) rest l g.place in
@@ -293,21 +293,22 @@ module _ (c : Context) (words : List ℕ) (b : Built c words) (p : Places) (s : 
               let g2 = scaled_run c words b r d j w.width last _ g.way.to v1 g.way.shows n15 is_j narrow low_product l1
               in
               let v2 = g2.view in
-              let n12 : bent.0 ≢ 12 = omega (arith, below) in
-              let n15' : bent.0 ≢ 15 = omega (arith, below) in
-              let old : v2.registers bent.0 ≡ v.registers bent.0 = g2.near.registers bent.0 n12 n15'
-              ∙ g.moved.registers bent.0 n12 in
-              let row_at : reached (v.registers bent.0) bent.1 ≡ place c p block
-              + offset = sym (update_same v.registers bent.0 _) ∙ ap (value_of c r f m0) (sym w.home) ∙ ha.1 in
+              let n12 : deferred.0 ≢ 12 = omega (arith, below) in
+              let n15' : deferred.0 ≢ 15 = omega (arith, below) in
+              let old : v2.registers deferred.0 ≡ v.registers deferred.0 = g2.near.registers deferred.0 n12 n15'
+              ∙ g.moved.registers deferred.0 n12 in
+              let row_at : reached (v.registers deferred.0) deferred.1 ≡ place c p block
+              + offset = sym (update_same v.registers deferred.0 _) ∙ ap (value_of c r f m0) (sym w.home) ∙ ha.1 in
               let t5 = step_to c words b.stood i5 g2.way.to v2 g2.way.shows g2.left.stands.0 tt in
               let v5 = after i5 v2 in
-              let whole : reached (v5.registers bent.0) (bent.1 +ℤ w.further) ≡ place c p block
-              + (offset + steps_above w.low x * w.width) = ap (λ z. reached z (bent.1 +ℤ w.further))
-              (update_same v2.registers bent.0 _
+              let whole : reached (v5.registers deferred.0) (deferred.1 +ℤ w.further) ≡ place c p block
+              + (offset + steps_above w.low x * w.width) = ap (λ z. reached z (deferred.1 +ℤ w.further))
+              (update_same v2.registers deferred.0 _
               ∙ ap (λ z. (z + v2.registers y + 0) % 2 ^ 32) old)
-              ∙ reached_row (v.registers bent.0) (v2.registers y) (fold.first * w.width)
-              (steps_above w.low x * w.width) (place c p block + offset) bent.1 w.further
-              (sh.narrow bent.0 (omega (arith, below))) w.least row_at (low_place (steps_above w.low x * w.width) lt)
+              ∙ reached_row (v.registers deferred.0) (v2.registers y) (fold.first * w.width)
+              (steps_above w.low x * w.width) (place c p block + offset) deferred.1 w.further
+              (sh.narrow deferred.0 (omega (arith, below))) w.least row_at
+              (low_place (steps_above w.low x * w.width) lt)
               fold.is fold.few (g2.value ∙ product) ∙ sums (steps_above w.low x * w.width) in
               let l5 = left_next c words v2.place _ (Plain i5) [] g2.left in
               let s' = record s {
@@ -315,9 +316,9 @@ module _ (c : Context) (words : List ℕ) (b : Built c words) (p : Places) (s : 
               } in
               come_way c words b s s' m v1 g.way (come_way c words b s s' g.way.to v2 g2.way
               (come_to c words b s s' g2.way.to same_tape v5 t5 refl
-              (bends_end c words b p s m0 f w.to (Address block (offset + steps_above w.low x * w.width)) further t5.to
+              (defers_end c words b p s m0 f w.to (Address block (offset + steps_above w.low x * w.width)) further t5.to
               v5 rel me.input (writes_it c r k ins w.here w.to refl refl) (unflagged c r k ins w.here refl v5) w.next
               w.home (ha.0.0, lt) t5.shows whole
-              (λ z z12 z15 nd. update_other v2.registers bent.0 _ z nd ∙ g2.near.registers z z12 z15
-              ∙ g.moved.registers z z12 ∙ sym (update_other v.registers bent.0 _ z nd))
+              (λ z z12 z15 nd. update_other v2.registers deferred.0 _ z nd ∙ g2.near.registers z z12 z15
+              ∙ g.moved.registers z z12 ∙ sym (update_other v.registers deferred.0 _ z nd))
               (λ z. g2.near.words z ∙ g.moved.words z) (omega (arith, l5.ends)))))

@@ -3,6 +3,7 @@ use Rattle.std.proofs.Common.{◌≡◌, ◌≢◌, ℕ, ◌+◌, ◌-◌, ◌%�
 use Rattle.std.proofs.Common.{List, [], ◌∷◌, ◌++◌, length, ℤ, pos, ◌-ℤ◌, refl, sym, ap, ◌∙◌, arith}
 use Rattle.std.specs.Prelude.{int_lt, ◌≤ℤ◌, ◌<ℤ◌}
 use Rattle.std.proofs.lemmas.Int.{ints}
+use Rattle.std.proofs.lemmas.Bool.{lt-ltb, le-ltb, cases_lt}
 use Rattle.risc_word.specs.declared.instr.Operation.TheVariants as op
 use Rattle.risc_word.specs.declared.instr.Operand.TheVariants.{Content, Constant}
 use Rattle.risc_word.specs.declared.instr.Width.TheVariants.{Word}
@@ -28,22 +29,13 @@ less_true x y h = grind (arith, ints)
 less_false : (x y : ℤ) → y ≤ℤ x → int_lt x y ≡ false
 less_false x y h = grind (arith, ints)
 
-pub is_lt : (x y : ℕ) → x < y → nat_lt x y ≡ true
-is_lt x y h = grind arith
-
-not_lt : (x y : ℕ) → y ≤ x → nat_lt x y ≡ false
-not_lt x y h = grind arith
-
-lt_or_ge : (x y : ℕ) → (x < y) ⊎ (y ≤ x)
-lt_or_ge x y = grind arith
-
 -- a frame that begins below the base of the stack
 pub below_is : (f n base : ℕ) → int_lt (pos f -ℤ pos n) (pos base) ≡ nat_lt f (base + n)
-below_is f n base = go (lt_or_ge f (base + n))
+below_is f n base = go (cases_lt f (base + n))
   where
     go : (f < base + n) ⊎ (base + n ≤ f) → int_lt (pos f -ℤ pos n) (pos base) ≡ nat_lt f (base + n)
-    go (inl lt) = less_true (pos f -ℤ pos n) (pos base) (omega (arith, ints, lt)) ∙ sym (is_lt f (base + n) lt)
-    go (inr le) = less_false (pos f -ℤ pos n) (pos base) (omega (arith, ints, le)) ∙ sym (not_lt f (base + n) le)
+    go (inl lt) = less_true (pos f -ℤ pos n) (pos base) (omega (arith, ints, lt)) ∙ sym (lt-ltb f (base + n) lt)
+    go (inr le) = less_false (pos f -ℤ pos n) (pos base) (omega (arith, ints, le)) ∙ sym (le-ltb f (base + n) le)
 
 module _ (c : Context) (words : List ℕ) (stood : Stood c words) where
   -- R12 takes the address n bytes below R14

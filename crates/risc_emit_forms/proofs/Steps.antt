@@ -28,13 +28,13 @@ use Rattle.tac_code.specs.Meaning.{makes, act, step}
 use Rattle.risc_emit_relation.specs.Context.{Context, Places}
 use Rattle.risc_emit_relation.specs.Related.{Related}
 use Rattle.tac_code.specs.declared.code.Base.TheVariants as base
-use Rattle.risc_emit_forms.specs.Told.{bent_at}
-use Rattle.risc_emit_forms.specs.Follows.{machine_of, unbent, Built, Meets, Belongs, Comes, Follows}
-use Rattle.risc_emit_forms.proofs.Shortfalls.{BentLoad, BentRow, bent_is}
+use Rattle.risc_emit_forms.specs.Peephole.{deferred_at}
+use Rattle.risc_emit_forms.specs.Follows.{machine_of, with_deferred, Built, Meets, Belongs, Comes, Follows}
+use Rattle.risc_emit_forms.proofs.Shortfalls.{DeferredLoad, DeferredRow, deferred_is}
 use Rattle.risc_emit_forms.proofs.Moves.{literal_follows, copy_follows, text_follows, routine_follows, forward_follows}
 use Rattle.risc_emit_forms.proofs.Moves.{back_follows}
 use Rattle.risc_emit_forms.proofs.Devices.{trap_follows, end_follows, put_follows, take_follows}
-use Rattle.risc_emit_forms.proofs.Memory.{bent_load_follows, load_follows, store_follows, load_byte_follows}
+use Rattle.risc_emit_forms.proofs.Memory.{deferred_load_follows, load_follows, store_follows, load_byte_follows}
 use Rattle.risc_emit_forms.proofs.Memory.{store_byte_follows}
 use Rattle.risc_emit_forms.proofs.Offsets.{offset_follows}
 use Rattle.risc_emit_forms.proofs.Branches.{forward_branch_follows, back_branch_follows}
@@ -236,17 +236,17 @@ module _ (c : Context) (words : List ℕ) (b : Built c words) (p : Places) (S H 
 -- ---- from any state that meets
 
 module _ (c : Context) (words : List ℕ) (b : Built c words) (p : Places) (S H : ℕ) (stack : S + c.base ≡ c.size) (heap : H + c.heap_at ≡ c.base) (s : State) (f : ℕ) (m : machine.State) (v : View) (sh : Shows words c.size m v) (me : Meets c words p s v f) where
-  loads : (bent : ℕ × ℤ) → bent_at c s.current.routine s.current.place ≡ Some bent
-      → (l : BentLoad c s.current.routine s.current.place bent) → Follows c words
+  loads : (deferred : ℕ × ℤ) → deferred_at c s.current.routine s.current.place ≡ Some deferred
+      → (l : DeferredLoad c s.current.routine s.current.place deferred) → Follows c words
       (act c.code c.costs c.sizes S H (Some (Load l.to (base.Temporary l.to) l.behind)) s) s m
-  loads bent is l = by_address (s.current.temporaries l.to) refl
+  loads deferred is l = by_address (s.current.temporaries l.to) refl
     where
       by_value : (block : Block) (offset : ℕ) → s.current.temporaries l.to ≡ Some (Address block offset)
           → (o : Option Value) → load (text_at c.code) s.memory block (offset + l.behind) ≡ o → Follows c words
           (with_some o (λ x. gives l.to x s)) s m
       by_value block offset e None el = inl refl
-      by_value block offset e (Some x) el = bent_load_follows c words b p s f m v sh me bent l.to l.behind block offset
-          x is l.home l.near l.here e el
+      by_value block offset e (Some x) el = deferred_load_follows c words b p s f m v sh me deferred l.to l.behind block
+          offset x is l.home l.near l.here e el
 
       by_address : (o : Option Value) → s.current.temporaries l.to ≡ o → Follows c words
           (with_address o (λ block offset. with_some (load (text_at c.code) s.memory block (offset + l.behind))
@@ -257,11 +257,11 @@ module _ (c : Context) (words : List ℕ) (b : Built c words) (p : Places) (S H 
       by_address (Some (Address block offset)) e = by_value block offset e
           (load (text_at c.code) s.memory block (offset + l.behind)) refl
 
-  rows : (bent : ℕ × ℤ) → bent_at c s.current.routine s.current.place ≡ Some bent
-      → (w : BentRow c s.current.routine s.current.place bent) → Follows c words
+  rows : (deferred : ℕ × ℤ) → deferred_at c s.current.routine s.current.place ≡ Some deferred
+      → (w : DeferredRow c s.current.routine s.current.place deferred) → Follows c words
       (act c.code c.costs c.sizes S H
       (Some (Index w.to (base.Temporary w.to) w.index w.low w.high w.width w.error w.line)) s) s m
-  rows bent is w = by_address (s.current.temporaries w.to) refl
+  rows deferred is w = by_address (s.current.temporaries w.to) refl
     where
       by_number : (block : Block) (offset : ℕ) → s.current.temporaries w.to ≡ Some (Address block offset)
           → (o : Option Value) → s.current.temporaries w.index ≡ o → Follows c words
@@ -270,7 +270,8 @@ module _ (c : Context) (words : List ℕ) (b : Built c words) (p : Places) (S H 
       by_number block offset e None ei = inl refl
       by_number block offset e (Some (Address block' offset')) ei = inl refl
       by_number block offset e (Some (Routine r)) ei = inl refl
-      by_number block offset e (Some (Number x)) ei = row_follows c words b p s f m v sh me bent is w block offset x e ei
+      by_number block offset e (Some (Number x)) ei = row_follows c words b p s f m v sh me deferred is w block offset x
+          e ei
 
       by_address : (o : Option Value) → s.current.temporaries w.to ≡ o → Follows c words
           (with_address o (λ block offset. with_number (s.current.temporaries w.index)
@@ -282,24 +283,24 @@ module _ (c : Context) (words : List ℕ) (b : Built c words) (p : Places) (S H 
       by_address (Some (Address block offset)) e = by_number block offset e (s.current.temporaries w.index) refl
 
   pub step_follows : Follows c words (step c.code c.costs c.sizes S H s) s m
-  step_follows = go (bent_at c s.current.routine s.current.place) refl
+  step_follows = go (deferred_at c s.current.routine s.current.place) refl
     where
-      go : (o : Option (ℕ × ℤ)) → bent_at c s.current.routine s.current.place ≡ o → Follows c words
+      go : (o : Option (ℕ × ℤ)) → deferred_at c s.current.routine s.current.place ≡ o → Follows c words
           (step c.code c.costs c.sizes S H s) s m
       go None is =
           let be : Belongs c words p s v f = record {
-            related = subst (λ o. Related c p s (unbent o (machine_of v)) f) is me.related;
+            related = subst (λ o. Related c p s (with_deferred o (machine_of v)) f) is me.related;
             place = me.place;
             input = me.input;
             flags = (me.flags, is);
           } in
           act_follows c words b p S H stack heap s f m v sh be (fetch c.code s.current.routine s.current.place) refl
-      go (Some bent) is =
-          by (bent_is c s.current.routine s.current.place bent is)
+      go (Some deferred) is =
+          by (deferred_is c s.current.routine s.current.place deferred is)
         where
-          by : BentLoad c s.current.routine s.current.place bent ⊎ BentRow c s.current.routine s.current.place bent
-              → Follows c words (step c.code c.costs c.sizes S H s) s m
+          by : DeferredLoad c s.current.routine s.current.place deferred ⊎ DeferredRow c s.current.routine
+              s.current.place deferred → Follows c words (step c.code c.costs c.sizes S H s) s m
           by (inl l) =
-              subst (λ i. Follows c words (act c.code c.costs c.sizes S H i s) s m) (sym l.here) (loads bent is l)
+              subst (λ i. Follows c words (act c.code c.costs c.sizes S H i s) s m) (sym l.here) (loads deferred is l)
           by (inr w) =
-              subst (λ i. Follows c words (act c.code c.costs c.sizes S H i s) s m) (sym w.here) (rows bent is w)
+              subst (λ i. Follows c words (act c.code c.costs c.sizes S H i s) s m) (sym w.here) (rows deferred is w)

@@ -1,6 +1,7 @@
 -- The relation of two values as a value, followed by its words.
 use Rattle.std.proofs.Common.{◌≡◌, ◌≢◌, ℕ, suc, ◌+◌, Bool, true, false, cond, ◌&&◌, not, nat_eq, List, ◌∷◌}
 use Rattle.std.proofs.Common.{◌++◌, Some, None, pos, refl, sym, ap, ◌∙◌, subst, arith, length-append, append_assoc}
+use Rattle.std.proofs.lemmas.Bool.{eqb-true}
 use Rattle.risc_word.specs.declared.instr.Operation.TheVariants as op
 use Rattle.risc_word.specs.declared.instr.Operand.TheVariants as instr_operand
 use Rattle.risc_word.specs.declared.instr.Condition.TheVariants as on
@@ -20,10 +21,10 @@ use Rattle.tac_code.specs.Sound.{IsOperand}
 use Rattle.tac_code.specs.Meaning.{fetch, State, giving, operand_value, related}
 use Rattle.risc_alloc.specs.Flow.{in_operand, is_among}
 use Rattle.risc_emit_relation.specs.Context.{Context, home, reads, Places, Writes, IsNumber}
-use Rattle.risc_emit_relation.proofs.Basics.{eq_of, update_same, update_other}
+use Rattle.risc_emit_relation.proofs.Basics.{update_same, update_other}
 use Rattle.risc_emit_forms.specs.Pieces.{Piece, Plain, Left}
 use Rattle.risc_emit_forms.specs.Forms as form
-use Rattle.risc_emit_forms.specs.Told.{told_at}
+use Rattle.risc_emit_forms.specs.Peephole.{flagged_at}
 use Rattle.risc_emit_forms.specs.Forms.{fetched, right, right_operand, both, target, save, condition, brief, is_null}
 use Rattle.risc_emit_forms.specs.Forms.{skip}
 use Rattle.risc_emit_forms.specs.Follows.{machine_of, Built, Belongs, Comes}
@@ -131,16 +132,16 @@ module _ (c : Context) (words : List ℕ) (b : Built c words) (p : Places) (s : 
 
   -- it is already there
   own_run : (t a : ℕ) (o : Operand) (holds : Bool) → form.is_own c s.current.routine
-      (told_at c s.current.routine s.current.place) t a o ≡ true → reads c s.current.routine s.current.place a ≡ true
+      (flagged_at c s.current.routine s.current.place) t a o ≡ true → reads c s.current.routine s.current.place a ≡ true
       → related NotEqual (s.current.temporaries a) (operand_value s.current.temporaries o) ≡ Some holds
       → Left c words v.place (form.unlike c s.current.routine t) (c.site s.current.routine (suc s.current.place))
       → Unlike t holds
   own_run t a o holds own ra e l =
       let r = s.current.routine in
-      let told = told_at c r s.current.place in
-      let k = parts (form.is_told c r told a) (nat_eq t a) (is_null o) own in
+      let told = flagged_at c r s.current.place in
+      let k = parts (form.is_flagged c r told a) (nat_eq t a) (is_null o) own in
       let stood = told_stands c words b p s f m v sh be a k.0 in
-      let d : target c r (home c r t) ≡ stood.0 = ap (λ u. target c r (home c r u)) (eq_of t a k.1)
+      let d : target c r (home c r t) ≡ stood.0 = ap (λ u. target c r (home c r u)) (eqb-true t a k.1)
       ∙ ap (target c r) stood.1 in
       record {
         view = v;
@@ -149,7 +150,7 @@ module _ (c : Context) (words : List ℕ) (b : Built c words) (p : Places) (s : 
         memory = λ x. refl;
         zero = stood.2 ∙ ap (λ q. nat_eq (v.registers q) 0) (sym d);
         flag = brief_flag c words b p s f m v sh be NotEqual a o holds on.NotEqual
-            (chosen (form.is_told c r told a) (is_null o) k.0 k.2) ra e;
+            (chosen (form.is_flagged c r told a) (is_null o) k.0 k.2) ra e;
         left = l;
       }
     where
@@ -242,7 +243,7 @@ module _ (c : Context) (words : List ℕ) (b : Built c words) (p : Places) (s : 
       come_way c words b s s' m v1 w.way (come_to c words b s s' w.way.to same_tape v2 t2 refl
       (gives_end c words b p s (machine_of v) f t (Number (pos 0)) t2.to v2 be.related be.input writes
       (silent c r s.current.place i here none) (number_is false) t2.shows (record {
-        here = eq_of (v1.registers d) 0 (sym w.zero ∙ same);
+        here = eqb-true (v1.registers d) 0 (sym w.zero ∙ same);
         registers = w.registers;
         words = w.memory;
       }) l2))
@@ -259,9 +260,9 @@ module _ (c : Context) (words : List ℕ) (b : Built c words) (p : Places) (s : 
       let k = s.current.place in
       let i = Compare NotEqual t a o in
       unlike_by t holds i here (writes_it c r k i here t refl refl) refl
-      (go (form.is_own c r (told_at c r k) t a o) refl (code c words b p s f m v sh be i here))
+      (go (form.is_own c r (flagged_at c r k) t a o) refl (code c words b p s f m v sh be i here))
     where
-      go : (own : Bool) → form.is_own c s.current.routine (told_at c s.current.routine s.current.place) t a o ≡ own
+      go : (own : Bool) → form.is_own c s.current.routine (flagged_at c s.current.routine s.current.place) t a o ≡ own
           → Left c words v.place (cond own (form.unlike c s.current.routine t)
           (both c s.current.routine a o (form.operate c s.current.routine op.Sub (home c s.current.routine t) a o
           ∷ form.unlike c s.current.routine t))) (c.site s.current.routine (suc s.current.place)) → Unlike t holds

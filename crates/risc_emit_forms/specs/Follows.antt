@@ -7,6 +7,7 @@ use Rattle.risc_word.specs.declared.instr.Operand.TheVariants.{Constant}
 use Rattle.risc_word.specs.declared.instr.Width.TheVariants.{Word}
 use Rattle.risc_word.specs.declared.instr.Instr.{Instr}
 use Rattle.risc_word.specs.declared.instr.Instr.TheVariants.{Move, Store}
+use Rattle.risc_machine.specs.declared.limits.TheConstants.{SIGN_BIT}
 use Rattle.risc_machine.specs.Step as machine
 use Rattle.risc_machine.specs.Exec as run
 use Rattle.risc_machine_laws.specs.View.{View, Fits, HasAt, Shows, reached}
@@ -23,7 +24,7 @@ use Rattle.risc_emit_relation.specs.Related.{Machine, Related}
 use Rattle.risc_emit_relation.specs.Walk.{walk}
 use Rattle.risc_emit_forms.specs.Pieces.{Left}
 use Rattle.risc_emit_relation.specs.Changes.{update}
-use Rattle.risc_emit_forms.specs.Told.{told_at, bent_at}
+use Rattle.risc_emit_forms.specs.Peephole.{flagged_at, deferred_at}
 use Rattle.risc_emit_forms.specs.Forms.{accept, form, entry_form}
 
 abbrev pub machine_of : View → Machine
@@ -80,22 +81,22 @@ tape_of tape = record { input = tape.input; ended = tape.ended; transcript = tap
 -- N and Z are those of the register of the temporary that they belong to at a place
 abbrev pub Flags : Context → ℕ → ℕ → View → Type 0
 Flags c r k v =
-    (t q : ℕ) → told_at c r k ≡ Some t → home c r t ≡ Reg q
-    → (v.equal ≡ nat_eq (v.registers q) 0) × (v.negative ≡ nat_le 2147483648 (v.registers q))
+    (t q : ℕ) → flagged_at c r k ≡ Some t → home c r t ≡ Reg q
+    → (v.equal ≡ nat_eq (v.registers q) 0) × (v.negative ≡ nat_le SIGN_BIT (v.registers q))
 
 -- and no register is short of an offset
 abbrev pub Straight : Context → ℕ → ℕ → View → Type 0
-Straight c r k v = Flags c r k v × (bent_at c r k ≡ None)
+Straight c r k v = Flags c r k v × (deferred_at c r k ≡ None)
 
 -- the machine with the missing offset added to the register that is short of it
-abbrev pub unbent : Option (ℕ × ℤ) → Machine → Machine
-unbent None m = m
-unbent (Some bent) m =
-    record { registers = update bent.0 (reached (m.registers bent.0) bent.1) m.registers; words = m.words }
+abbrev pub with_deferred : Option (ℕ × ℤ) → Machine → Machine
+with_deferred None m = m
+with_deferred (Some deferred) m =
+    record { registers = update deferred.0 (reached (m.registers deferred.0) deferred.1) m.registers; words = m.words }
 
 -- a view, at the words of an instruction, meets a state
 pub record Meets (c : Context) (words : List ℕ) (p : Places) (s : State) (v : View) (f : ℕ) : Type 0 where
-  pub related : Related c p s (unbent (bent_at c s.current.routine s.current.place) (machine_of v)) f
+  pub related : Related c p s (with_deferred (deferred_at c s.current.routine s.current.place) (machine_of v)) f
   pub place : v.place ≡ c.site s.current.routine s.current.place
   pub input : AreBytes s.tape.input
   pub flags : Flags c s.current.routine s.current.place v

@@ -35,7 +35,7 @@ use Rattle.risc_alloc.specs.Flow.{is_it}
 use Rattle.risc_alloc.specs.declared.homes.Home.{Home}
 use Rattle.risc_alloc.specs.declared.homes.Home.TheVariants.{Slot, Reg}
 use Rattle.risc_emit_relation.specs.Context.{Context, home, is_program, slot_at}
-use Rattle.risc_emit_forms.specs.Told.{told_at, short_of, near_of, bent_at, folded}
+use Rattle.risc_emit_forms.specs.Peephole.{flagged_at, short_of, near_of, deferred_at, folded}
 use Rattle.risc_emit_forms.specs.Pieces.{Label, AtPlace, AtEntry, AtText, Piece, Plain, Goes, Fails, Enters, Joins}
 use Rattle.risc_emit_forms.specs.Pieces.{EntersAt, High, Low}
 
@@ -266,7 +266,7 @@ module _ (c : Context) (r : ℕ) where
   -- a word at an offset from a base, or from a register that is short of an offset
   abbrev pub word_form : Option (ℕ × ℤ) → ℕ → Base → ℕ → List Piece
   word_form None t a n = load_form Word t a n
-  word_form (Some bent) t a n = Plain (word.Load Word bent.0 bent.0 (bent.1 +ℤ pos n)) ∷ []
+  word_form (Some deferred) t a n = Plain (word.Load Word deferred.0 deferred.0 (deferred.1 +ℤ pos n)) ∷ []
 
   abbrev pub store_form : Width → Base → ℕ → ℕ → List Piece
   store_form width a n b =
@@ -298,12 +298,12 @@ module _ (c : Context) (r : ℕ) where
   difference a b = Plain (word.Operate op.Sub 12 (fetched 12 (home c r a)) (right_operand b))
 
   -- whether N and Z are known to be those of a temporary's register
-  abbrev pub is_told : Option ℕ → ℕ → Bool
-  is_told told a = is_it a told && is_register (home c r a)
+  abbrev pub is_flagged : Option ℕ → ℕ → Bool
+  is_flagged flagged a = is_it a flagged && is_register (home c r a)
 
   -- whether a temporary's register already holds its difference from 0, with N and Z
   abbrev pub is_own : Option ℕ → ℕ → ℕ → Operand → Bool
-  is_own told t a b = is_told told a && (nat_eq t a && is_null b)
+  is_own flagged t a b = is_flagged flagged a && (nat_eq t a && is_null b)
 
   -- a difference that is not 0 becomes 1
   abbrev pub unlike : ℕ → List Piece
@@ -311,8 +311,8 @@ module _ (c : Context) (r : ℕ) where
 
   -- whether two values differ
   abbrev pub unlike_form : Option ℕ → ℕ → ℕ → Operand → List Piece
-  unlike_form told t a b =
-      if is_own told t a b then unlike t
+  unlike_form flagged t a b =
+      if is_own flagged t a b then unlike t
       else both a b (operate op.Sub (home c r t) a b ∷ unlike t)
 
   -- whether a relation holds
@@ -323,12 +323,12 @@ module _ (c : Context) (r : ℕ) where
       (word.Move (target (home c r t)) (Constant (pos 1))) ∷ save (home c r t))
 
   abbrev pub compare_form : Option ℕ → Relation → ℕ → ℕ → Operand → List Piece
-  compare_form told Equal t a b = truth_form Equal t a b
-  compare_form told NotEqual t a b = unlike_form told t a b
-  compare_form told Less t a b = truth_form Less t a b
-  compare_form told LessEqual t a b = truth_form LessEqual t a b
-  compare_form told Greater t a b = truth_form Greater t a b
-  compare_form told GreaterEqual t a b = truth_form GreaterEqual t a b
+  compare_form flagged Equal t a b = truth_form Equal t a b
+  compare_form flagged NotEqual t a b = unlike_form flagged t a b
+  compare_form flagged Less t a b = truth_form Less t a b
+  compare_form flagged LessEqual t a b = truth_form LessEqual t a b
+  compare_form flagged Greater t a b = truth_form Greater t a b
+  compare_form flagged GreaterEqual t a b = truth_form GreaterEqual t a b
 
   -- ---- numbers
 
@@ -472,10 +472,10 @@ module _ (c : Context) (r : ℕ) where
   component None t a q =
       base_address a ++ (Plain (word.Operate op.Add (target (home c r t)) (address_register a) (Content q)) ∷ save
       (home c r t))
-  component (Some bent) t a q = Plain (word.Operate op.Add bent.0 (base_register a) (Content q)) ∷ []
+  component (Some deferred) t a q = Plain (word.Operate op.Add deferred.0 (base_register a) (Content q)) ∷ []
 
   abbrev pub steps_form : Option (ℕ × ℤ) → ℕ → Base → ℕ → ℕ → List Piece
-  steps_form bent t a q width = scaled q width ++ component bent t a (scaled_register q width)
+  steps_form deferred t a q width = scaled q width ++ component deferred t a (scaled_register q width)
 
   -- the register that is short of the offset of a block, or the address of another base in a register
   abbrev pub near_code : Base → List Piece
@@ -494,21 +494,22 @@ module _ (c : Context) (r : ℕ) where
   abbrev pub near_component : ℕ → Option (ℕ × ℤ) → ℕ → Base → ℕ → List Piece
   near_component n None t a q =
       sum (base_register a) n ++ (Plain (word.Operate op.Add (target (home c r t)) 15 (Content q)) ∷ save (home c r t))
-  near_component n (Some bent) t a q =
-      near_code a ++ (Plain (word.Operate op.Add bent.0 (near_register a) (Content q)) ∷ [])
+  near_component n (Some deferred) t a q =
+      near_code a ++ (Plain (word.Operate op.Add deferred.0 (near_register a) (Content q)) ∷ [])
 
   -- an index is its own distance from such an offset
   abbrev pub index_by : Option ℕ → Option (ℕ × ℤ) → ℕ → Base → ℕ → ℤ → ℤ → ℕ → ℕ → ℕ → List Piece
-  index_by None bent t a i low high width error line =
+  index_by None deferred t a i low high width error line =
       fetch 12 (home c r i) ++ (index_code (fetched 12 (home c r i)) low high error line
-      ++ steps_form bent t a (above_register (fetched 12 (home c r i)) low) width)
-  index_by (Some n) bent t a i low high width error line =
+      ++ steps_form deferred t a (above_register (fetched 12 (home c r i)) low) width)
+  index_by (Some n) deferred t a i low high width error line =
       fetch 12 (home c r i) ++ (scaled (fetched 12 (home c r i)) width
-      ++ near_component n bent t a (scaled_register (fetched 12 (home c r i)) width))
+      ++ near_component n deferred t a (scaled_register (fetched 12 (home c r i)) width))
 
   abbrev pub index_form : Option (ℕ × ℤ) → ℕ → Base → ℕ → ℤ → ℤ → ℕ → ℕ → ℕ → List Piece
-  index_form bent t a i low high width error line =
-      index_by (short_of (folded c r a low high width error) (near_of bent a)) bent t a i low high width error line
+  index_form deferred t a i low high width error line =
+      index_by (short_of (folded c r a low high width error) (near_of deferred a)) deferred t a i low high width error
+      line
 
   -- ---- devices, calls, objects
 
@@ -584,15 +585,15 @@ module _ (c : Context) (r : ℕ) where
   branch_by (Some condition) relation a b label = Goes condition label ∷ []
 
   abbrev pub branch_choice : Option ℕ → Relation → ℕ → Operand → Option Condition
-  branch_choice told relation a b = if is_told told a && is_null b then brief relation else None
+  branch_choice flagged relation a b = if is_flagged flagged a && is_null b then brief relation else None
 
   abbrev pub branch_form : Option ℕ → Relation → ℕ → Operand → Label → List Piece
-  branch_form told relation a b label = branch_by (branch_choice told relation a b) relation a b label
+  branch_form flagged relation a b label = branch_by (branch_choice flagged relation a b) relation a b label
 
   abbrev pub pointer_form : Option ℕ → ℕ → ℕ → ℕ → List Piece
-  pointer_form told a error line =
+  pointer_form flagged a error line =
       if nat_eq error 0 then idle ∷ []
-      else if is_told told a then Fails on.Equal error line ∷ []
+      else if is_flagged flagged a then Fails on.Equal error line ∷ []
       else bring 12 (home c r a) ++ Fails on.Equal error line ∷ []
 
   -- the words of the instruction at a place
@@ -601,21 +602,21 @@ module _ (c : Context) (r : ℕ) where
   form k (Copy t a) = copy (home c r t) (home c r a)
   form k (Arithmetic operator t a b error line) = arithmetic_form operator t a b error line
   form k (Bits operator t a b) = both a b (operate (bit_operation operator) (home c r t) a b ∷ save (home c r t))
-  form k (Compare relation t a b) = compare_form (told_at c r k) relation t a b
+  form k (Compare relation t a b) = compare_form (flagged_at c r k) relation t a b
   form k (CheckRange a low high error line) = check_form a low high error line
-  form k (CheckPointer a error line) = pointer_form (told_at c r k) a error line
+  form k (CheckPointer a error line) = pointer_form (flagged_at c r k) a error line
   form k (Text t bytes) = label_form t (AtText r k)
   form k (Offset t a n extent) = address (target (home c r t)) a n ++ save (home c r t)
-  form k (Index t a i low high width error line) = index_form (bent_at c r (suc k)) t a i low high width error line
+  form k (Index t a i low high width error line) = index_form (deferred_at c r (suc k)) t a i low high width error line
   form k (RoutineValue t q) = label_form t (AtEntry q)
-  form k (Load t a n) = word_form (bent_at c r k) t a n
+  form k (Load t a n) = word_form (deferred_at c r k) t a n
   form k (Store a n b) = store_form Word a n b
   form k (LoadByte t a n) = load_form Byte t a n
   form k (StoreByte a n b) = store_form Byte a n b
   form k (Jump n) = Goes on.Always (AtPlace r (suc k + n)) ∷ []
   form k (JumpBack n) = Goes on.Always (AtPlace r (k - n)) ∷ []
-  form k (Branch relation a b n) = branch_form (told_at c r k) relation a b (AtPlace r (suc k + n))
-  form k (BranchBack relation a b n) = branch_form (told_at c r k) relation a b (AtPlace r (k - n))
+  form k (Branch relation a b n) = branch_form (flagged_at c r k) relation a b (AtPlace r (suc k + n))
+  form k (BranchBack relation a b n) = branch_form (flagged_at c r k) relation a b (AtPlace r (k - n))
   form k (Call t q us line) = call_form t q us line
   form k (CallValue t a us line) = call_value_form t a us line
   form k (Return a) = return_form a

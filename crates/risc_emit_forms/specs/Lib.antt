@@ -1,5 +1,5 @@
 pub mod Pieces
-pub mod Told
+pub mod Peephole
 pub mod Forms
 pub mod Follows
 pub mod Laws

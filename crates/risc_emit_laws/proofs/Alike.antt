@@ -22,7 +22,7 @@ use Rattle.tac_code.specs.declared.code.TacRoutine.{TacRoutine}
 use Rattle.risc_alloc.specs.declared.homes.Home.{Home}
 use Rattle.risc_alloc.specs.declared.homes.Home.TheVariants.{Slot, Reg}
 use Rattle.risc_emit_relation.specs.Context.{Context, home}
-use Rattle.risc_emit_forms.specs.Told.{block_at, fold_in, short_of, near_of, folded, told_at, bent_at}
+use Rattle.risc_emit_forms.specs.Peephole.{block_at, fold_in, short_of, near_of, folded, flagged_at, deferred_at}
 use Rattle.risc_emit_forms.specs.Forms as form
 use Rattle.risc_emit_forms.specs.Forms.{carried}
 use Rattle.risc_emit_laws.specs.Emits.{start_form}
@@ -176,7 +176,7 @@ module _ (c : Context) (r : ℕ) where
 
   word_bare : (o : Option (ℕ × ℤ)) (t : ℕ) (a : Base) (n : ℕ) → form.word_form b r o t a n ≡ form.word_form c r o t a n
   word_bare None t a n = load_bare _ t a n
-  word_bare (Some bent) t a n = refl
+  word_bare (Some deferred) t a n = refl
 
   block_bare : (a : Base) → block_at b r a ≡ block_at c r a
   block_bare base.Frame = refl
@@ -202,12 +202,12 @@ module _ (c : Context) (r : ℕ) where
       rw (fetch_bare 12 (home c r i)) (rw (fetched_bare 12 (home c r i))
       (rw (base_address_bare a) (rw (address_register_bare a)
       (rw (target_bare (home c r t)) (rw (save_bare (home c r t)) refl)))))
-  index_by_bare None (Some bent) t a i low high width error line =
+  index_by_bare None (Some deferred) t a i low high width error line =
       rw (fetch_bare 12 (home c r i)) (rw (fetched_bare 12 (home c r i)) (rw (base_register_bare a) refl))
   index_by_bare (Some n) None t a i low high width error line =
       rw (fetch_bare 12 (home c r i)) (rw (fetched_bare 12 (home c r i))
       (rw (base_register_bare a) (rw (target_bare (home c r t)) (rw (save_bare (home c r t)) refl))))
-  index_by_bare (Some n) (Some bent) t a i low high width error line =
+  index_by_bare (Some n) (Some deferred) t a i low high width error line =
       rw (fetch_bare 12 (home c r i)) (rw (fetched_bare 12 (home c r i))
       (rw (near_code_bare a) (rw (near_register_bare a) refl)))
 
@@ -270,7 +270,7 @@ module _ (c : Context) (r : ℕ) where
 
   branch_bare : (q : Option Condition) (relation : Relation) (a : ℕ) (o : Operand) (label : _)
       → form.branch_by b r q relation a o label ≡ form.branch_by c r q relation a o label
-  branch_bare (Some told) relation a o label = refl
+  branch_bare (Some flagged) relation a o label = refl
   branch_bare None relation a o label =
       rw (fetch_bare 12 (home c r a)) (rw (fetched_bare 12 (home c r a))
       (rw (right_bare o) (rw (right_operand_bare o) refl)))
@@ -282,21 +282,21 @@ module _ (c : Context) (r : ℕ) where
       (rw (right_bare o) (rw (right_operand_bare o)
       (rw (target_bare (home c r t)) (rw (save_bare (home c r t)) refl)))))
 
-  unlike_bare : (told : Option ℕ) (t a : ℕ) (o : Operand) → form.unlike_form b r told t a o
-      ≡ form.unlike_form c r told t a o
-  unlike_bare told t a o =
+  unlike_bare : (flagged : Option ℕ) (t a : ℕ) (o : Operand) → form.unlike_form b r flagged t a o
+      ≡ form.unlike_form c r flagged t a o
+  unlike_bare flagged t a o =
       rw (fetch_bare 12 (home c r a)) (rw (fetched_bare 12 (home c r a))
       (rw (right_bare o) (rw (right_operand_bare o)
       (rw (target_bare (home c r t)) (rw (save_bare (home c r t)) refl)))))
 
-  compare_bare : (told : Option ℕ) (relation : Relation) (t a : ℕ) (o : Operand)
-      → form.compare_form b r told relation t a o ≡ form.compare_form c r told relation t a o
-  compare_bare told NotEqual t a o = unlike_bare told t a o
-  compare_bare told Equal t a o = truth_bare Equal t a o
-  compare_bare told Less t a o = truth_bare Less t a o
-  compare_bare told LessEqual t a o = truth_bare LessEqual t a o
-  compare_bare told Greater t a o = truth_bare Greater t a o
-  compare_bare told GreaterEqual t a o = truth_bare GreaterEqual t a o
+  compare_bare : (flagged : Option ℕ) (relation : Relation) (t a : ℕ) (o : Operand)
+      → form.compare_form b r flagged relation t a o ≡ form.compare_form c r flagged relation t a o
+  compare_bare flagged NotEqual t a o = unlike_bare flagged t a o
+  compare_bare flagged Equal t a o = truth_bare Equal t a o
+  compare_bare flagged Less t a o = truth_bare Less t a o
+  compare_bare flagged LessEqual t a o = truth_bare LessEqual t a o
+  compare_bare flagged Greater t a o = truth_bare Greater t a o
+  compare_bare flagged GreaterEqual t a o = truth_bare GreaterEqual t a o
 
   label_bare : (t : ℕ) (label : _) → form.label_form b r t label ≡ form.label_form c r t label
   label_bare t label = rw (target_bare (home c r t)) (rw (save_bare (home c r t)) refl)
@@ -309,7 +309,7 @@ module _ (c : Context) (r : ℕ) where
       rw (fetch_bare 12 (home c r a)) (rw (fetched_bare 12 (home c r a))
       (rw (right_bare o) (rw (right_operand_bare o)
       (rw (target_bare (home c r t)) (rw (save_bare (home c r t)) refl)))))
-  form_bare k (Compare relation t a o) = compare_bare (told_at c r k) relation t a o
+  form_bare k (Compare relation t a o) = compare_bare (flagged_at c r k) relation t a o
   form_bare k (CheckRange a low high error line) =
       rw (fetch_bare 12 (home c r a)) (rw (fetched_bare 12 (home c r a)) refl)
   form_bare k (CheckPointer a error line) = rw (bring_bare 12 (home c r a)) refl
@@ -317,17 +317,19 @@ module _ (c : Context) (r : ℕ) where
   form_bare k (Offset t a n extent) =
       rw (target_bare (home c r t)) (rw (save_bare (home c r t))
       (rw (address_bare (form.target c r (home c r t)) a n) refl))
-  form_bare k (Index t a i low high width error line) = index_bare (bent_at c r (suc k)) t a i low high width error line
+  form_bare k (Index t a i low high width error line) = index_bare (deferred_at c r (suc k)) t a i low high width error
+      line
   form_bare k (RoutineValue t q) = label_bare t _
-  form_bare k (Load t a n) = word_bare (bent_at c r k) t a n
+  form_bare k (Load t a n) = word_bare (deferred_at c r k) t a n
   form_bare k (Store a n u) = store_bare _ a n u
   form_bare k (LoadByte t a n) = load_bare _ t a n
   form_bare k (StoreByte a n u) = store_bare _ a n u
   form_bare k (Jump n) = refl
   form_bare k (JumpBack n) = refl
-  form_bare k (Branch relation a o n) = branch_bare (form.branch_choice c r (told_at c r k) relation a o) relation a o _
+  form_bare k (Branch relation a o n) = branch_bare (form.branch_choice c r (flagged_at c r k) relation a o) relation a
+      o _
   form_bare k (BranchBack relation a o n) = branch_bare
-      (form.branch_choice c r (told_at c r k) relation a o) relation a o _
+      (form.branch_choice c r (flagged_at c r k) relation a o) relation a o _
   form_bare k (Call t q us line) = rw (offer_bare us) (rw (accept_bare (home c r t)) refl)
   form_bare k (CallValue t a us line) = rw (offer_by_bare a us) (rw (accept_bare (home c r t)) refl)
   form_bare k (Return a) = rw (into_bare 0 (home c r a)) refl

@@ -2,6 +2,7 @@
 use Rattle.std.proofs.Common.{◌≡◌, ℕ, zero, suc, ◌+◌, ◌*◌, ◌<◌, ◌≤◌, nat_lt, List, [], ◌∷◌, length, length-append}
 use Rattle.std.proofs.Common.{take, Option, Some, None, slice_get, refl, sym, ap, ◌∙◌, subst, arith}
 use Rattle.std.specs.Prelude.{option_map, unwrap_or}
+use Rattle.std.proofs.lemmas.Option.{slice_get_within}
 use Rattle.tac_code.specs.declared.code.Instruction.{Instruction}
 use Rattle.tac_code.specs.declared.code.TacRoutine.{TacRoutine}
 use Rattle.tac_code.specs.Meaning.{Code, routines, body_at, fetch}
@@ -13,7 +14,6 @@ use Rattle.risc_image.specs.declared.rows.CallRow.{CallRow}
 use Rattle.risc_image.specs.Image.{Image}
 use Rattle.risc_image.specs.Table.{trap_at, call_at}
 use Rattle.risc_emit_relation.specs.Context.{Context}
-use Rattle.risc_emit_relation.proofs.Basics.{get_within}
 use Rattle.risc_emit_forms.specs.Pieces.{Piece, Plain, Goes, Fails, Enters, Joins, EntersAt, High, Low, instr_at}
 use Rattle.risc_emit_forms.specs.Pieces.{HasRow, Stands, Left}
 use Rattle.risc_emit_forms.specs.Forms.{form, entry_form}
@@ -262,7 +262,7 @@ module _ (code : Code) (homes : List Home) (image : Image) (plan : Plan) (c : Co
       let here = subst (λ q. Stands d image.code (site_place c r routine k) (form c r q i)) (zero_plus k)
       (body_stands c d image.code r 0 (entry_place c r + length (entry_form c r routine)) routine.body k i e back)
       in
-      let lt = get_within routine.body k i e in
+      let lt = slice_get_within routine.body k i e in
       let same = forms_alike c d (drawn.alike heap stack) r k i in
       let n = ap length same in
       let step = body_step c r 0 routine.body k i e in

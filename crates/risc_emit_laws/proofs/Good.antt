@@ -26,7 +26,7 @@ use Rattle.risc_alloc.specs.declared.homes.Home.{Home}
 use Rattle.risc_alloc.specs.declared.homes.Home.TheVariants.{Slot, Reg}
 use Rattle.risc_emit_relation.specs.Context.{Context, home, is_program, slot_at}
 use Rattle.risc_emit_forms.specs.Pieces.{Label, Piece, Fails, Enters, Joins, EntersAt}
-use Rattle.risc_emit_forms.specs.Told.{told_at, short_of, near_of, bent_at, folded}
+use Rattle.risc_emit_forms.specs.Peephole.{flagged_at, short_of, near_of, deferred_at, folded}
 use Rattle.risc_emit_forms.specs.Forms as form
 use Rattle.risc_emit_forms.specs.Forms.{is_near, is_small, is_divisor, carried, is_taken, is_stored}
 
@@ -270,10 +270,10 @@ module _ (c : Context) (r : ℕ) where
       by_number (nat_eq error 0) _ _ (tt, tt) (λ is. good_append (form.fetch c r 12 (home c r i)) _
       (fetch_good 12 (home c r i)) (range_good _ low high error line (number_of error e is) l))
 
-  pointer_good : (told : Option ℕ) (a error line : ℕ) → IsTestNumber error → IsLine line → AreGood
-      (form.pointer_form c r told a error line)
-  pointer_good told a error line e l =
-      by_number (nat_eq error 0) _ _ (tt, tt) (λ is. by_test (form.is_told c r told a) _ _
+  pointer_good : (flagged : Option ℕ) (a error line : ℕ) → IsTestNumber error → IsLine line → AreGood
+      (form.pointer_form c r flagged a error line)
+  pointer_good flagged a error line e l =
+      by_number (nat_eq error 0) _ _ (tt, tt) (λ is. by_test (form.is_flagged c r flagged a) _ _
       ((number_of error e is, l), tt) (good_append (form.bring c r 12 (home c r a)) _ (bring_good 12 (home c r a))
       ((number_of error e is, l), tt)))
 
@@ -288,14 +288,15 @@ module _ (c : Context) (r : ℕ) where
       by_test (nat_eq width 1) _ _ tt (good_append (form.right c r (operand.Number (pos width))) _
       (right_good (operand.Number (pos width))) (tt, tt))
 
-  component_good : (bent : Option (ℕ × ℤ)) (t : ℕ) (a : Base) (q : ℕ) → AreGood (form.component c r bent t a q)
+  component_good : (deferred : Option (ℕ × ℤ)) (t : ℕ) (a : Base) (q : ℕ) → AreGood (form.component c r deferred t a q)
   component_good None t a q = good_append (form.base_address c r a) _ (base_address_good a) (tt, save_good (home c r t))
-  component_good (Some bent) t a q = (tt, tt)
+  component_good (Some deferred) t a q = (tt, tt)
 
-  steps_good : (bent : Option (ℕ × ℤ)) (t : ℕ) (a : Base) (q width : ℕ) → AreGood (form.steps_form c r bent t a q width)
-  steps_good bent t a q width =
+  steps_good : (deferred : Option (ℕ × ℤ)) (t : ℕ) (a : Base) (q width : ℕ)
+      → AreGood (form.steps_form c r deferred t a q width)
+  steps_good deferred t a q width =
       good_append (form.scaled c r q width) _ (scaled_good q width)
-      (component_good bent t a (form.scaled_register c r q width))
+      (component_good deferred t a (form.scaled_register c r q width))
 
   near_code_good : (a : Base) → AreGood (form.near_code c r a)
   near_code_good base.Frame = tt
@@ -303,36 +304,36 @@ module _ (c : Context) (r : ℕ) where
   near_code_good base.Program = tt
   near_code_good (base.Temporary t) = fetch_good 15 (home c r t)
 
-  near_component_good : (n : ℕ) (bent : Option (ℕ × ℤ)) (t : ℕ) (a : Base) (q : ℕ) → AreGood
-      (form.near_component c r n bent t a q)
+  near_component_good : (n : ℕ) (deferred : Option (ℕ × ℤ)) (t : ℕ) (a : Base) (q : ℕ) → AreGood
+      (form.near_component c r n deferred t a q)
   near_component_good n None t a q =
       good_append (form.sum c r (form.base_register c r a) n) _ (sum_good (form.base_register c r a) n)
       (tt, save_good (home c r t))
-  near_component_good n (Some bent) t a q = good_append (form.near_code c r a) _ (near_code_good a) (tt, tt)
+  near_component_good n (Some deferred) t a q = good_append (form.near_code c r a) _ (near_code_good a) (tt, tt)
 
-  index_by_good : (o : Option ℕ) (bent : Option (ℕ × ℤ)) (t : ℕ) (a : Base) (i : ℕ) (low high : ℤ)
+  index_by_good : (o : Option ℕ) (deferred : Option (ℕ × ℤ)) (t : ℕ) (a : Base) (i : ℕ) (low high : ℤ)
       (width error line : ℕ) → IsTestNumber error → IsLine line → AreGood
-      (form.index_by c r o bent t a i low high width error line)
-  index_by_good None bent t a i low high width error line e l =
+      (form.index_by c r o deferred t a i low high width error line)
+  index_by_good None deferred t a i low high width error line e l =
       let at = form.fetched c r 12 (home c r i) in
       good_append (form.fetch c r 12 (home c r i)) _ (fetch_good 12 (home c r i))
       (good_append (form.index_code c r at low high error line) _ (index_code_good at low high error line e l)
-      (steps_good bent t a (form.above_register c r at low) width))
-  index_by_good (Some n) bent t a i low high width error line e l =
+      (steps_good deferred t a (form.above_register c r at low) width))
+  index_by_good (Some n) deferred t a i low high width error line e l =
       let at = form.fetched c r 12 (home c r i) in
       good_append (form.fetch c r 12 (home c r i)) _ (fetch_good 12 (home c r i))
       (good_append (form.scaled c r at width) _ (scaled_good at width)
-      (near_component_good n bent t a (form.scaled_register c r at width)))
+      (near_component_good n deferred t a (form.scaled_register c r at width)))
 
-  index_good : (bent : Option (ℕ × ℤ)) (t : ℕ) (a : Base) (i : ℕ) (low high : ℤ) (width error line : ℕ) → IsTestNumber
-      error → IsLine line → AreGood (form.index_form c r bent t a i low high width error line)
-  index_good bent t a i low high width error line e l =
-      index_by_good (short_of (folded c r a low high width error) (near_of bent a)) bent t a i low high width error line e
-      l
+  index_good : (deferred : Option (ℕ × ℤ)) (t : ℕ) (a : Base) (i : ℕ) (low high : ℤ) (width error line : ℕ)
+      → IsTestNumber error → IsLine line → AreGood (form.index_form c r deferred t a i low high width error line)
+  index_good deferred t a i low high width error line e l =
+      index_by_good (short_of (folded c r a low high width error) (near_of deferred a)) deferred t a i low high width
+      error line e l
 
-  word_good : (bent : Option (ℕ × ℤ)) (t : ℕ) (a : Base) (n : ℕ) → AreGood (form.word_form c r bent t a n)
+  word_good : (deferred : Option (ℕ × ℤ)) (t : ℕ) (a : Base) (n : ℕ) → AreGood (form.word_form c r deferred t a n)
   word_good None t a n = load_form_good _ t a n
-  word_good (Some bent) t a n = (tt, tt)
+  word_good (Some deferred) t a n = (tt, tt)
 
   pass_one_good : (n j : ℕ) (h : Home) → AreGood (form.pass_one c r n j h)
   pass_one_good n j h =
@@ -375,24 +376,24 @@ module _ (c : Context) (r : ℕ) where
   branch_good : (q : Option Condition) (relation : Relation) (a : ℕ) (o : Operand) (label : Label) → AreGood
       (form.branch_by c r q relation a o label)
   branch_good None relation a o label = both_good a o _ (tt, (tt, tt))
-  branch_good (Some told) relation a o label = (tt, tt)
+  branch_good (Some flagged) relation a o label = (tt, tt)
 
   truth_good : (relation : Relation) (t a : ℕ) (o : Operand) → AreGood (form.truth_form c r relation t a o)
   truth_good relation t a o = both_good a o _ (tt, (tt, (tt, (tt, (tt, save_good (home c r t))))))
 
-  unlike_good : (told : Option ℕ) (t a : ℕ) (o : Operand) → AreGood (form.unlike_form c r told t a o)
-  unlike_good told t a o =
-      by_test (form.is_own c r told t a o) _ _ (tt, (tt, save_good (home c r t)))
+  unlike_good : (flagged : Option ℕ) (t a : ℕ) (o : Operand) → AreGood (form.unlike_form c r flagged t a o)
+  unlike_good flagged t a o =
+      by_test (form.is_own c r flagged t a o) _ _ (tt, (tt, save_good (home c r t)))
       (both_good a o _ (tt, (tt, (tt, save_good (home c r t)))))
 
-  compare_good : (told : Option ℕ) (relation : Relation) (t a : ℕ) (o : Operand) → AreGood
-      (form.compare_form c r told relation t a o)
-  compare_good told NotEqual t a o = unlike_good told t a o
-  compare_good told Equal t a o = truth_good Equal t a o
-  compare_good told Less t a o = truth_good Less t a o
-  compare_good told LessEqual t a o = truth_good LessEqual t a o
-  compare_good told Greater t a o = truth_good Greater t a o
-  compare_good told GreaterEqual t a o = truth_good GreaterEqual t a o
+  compare_good : (flagged : Option ℕ) (relation : Relation) (t a : ℕ) (o : Operand) → AreGood
+      (form.compare_form c r flagged relation t a o)
+  compare_good flagged NotEqual t a o = unlike_good flagged t a o
+  compare_good flagged Equal t a o = truth_good Equal t a o
+  compare_good flagged Less t a o = truth_good Less t a o
+  compare_good flagged LessEqual t a o = truth_good LessEqual t a o
+  compare_good flagged Greater t a o = truth_good Greater t a o
+  compare_good flagged GreaterEqual t a o = truth_good GreaterEqual t a o
 
   -- the words of an instruction that is sound
   pub form_good : (limits : Limits) (k : ℕ) (i : Instruction) → IsSoundAt limits k i → AreGood (form.form c r k i)
@@ -401,27 +402,27 @@ module _ (c : Context) (r : ℕ) where
   form_good limits k (Copy t a) h = copy_good (home c r t) (home c r a)
   form_good limits k (Arithmetic operator t a o error line) h = arithmetic_good operator t a o error line h.3 h.4
   form_good limits k (Bits operator t a o) h = both_good a o _ (tt, save_good (home c r t))
-  form_good limits k (Compare relation t a o) h = compare_good (told_at c r k) relation t a o
+  form_good limits k (Compare relation t a o) h = compare_good (flagged_at c r k) relation t a o
   form_good limits k (CheckRange a low high error line) h =
       check_good a low high error line h.3 h.4
   form_good limits k (CheckPointer a error line) h =
-      pointer_good (told_at c r k) a error line h.1 h.2
+      pointer_good (flagged_at c r k) a error line h.1 h.2
   form_good limits k (Text t bytes) h = (tt, (tt, save_good (home c r t)))
   form_good limits k (Offset t a n extent) h =
       good_append (form.address c r (form.target c r (home c r t)) a n) _ (address_good _ a n) (save_good (home c r t))
   form_good limits k (Index t a i low high width error line) h =
-      index_good (bent_at c r (suc k)) t a i low high width error line h.5 h.6
+      index_good (deferred_at c r (suc k)) t a i low high width error line h.5 h.6
   form_good limits k (RoutineValue t q) h = (tt, (tt, save_good (home c r t)))
-  form_good limits k (Load t a n) h = word_good (bent_at c r k) t a n
+  form_good limits k (Load t a n) h = word_good (deferred_at c r k) t a n
   form_good limits k (Store a n u) h = store_form_good _ a n u
   form_good limits k (LoadByte t a n) h = load_form_good _ t a n
   form_good limits k (StoreByte a n u) h = store_form_good _ a n u
   form_good limits k (Jump n) h = (tt, tt)
   form_good limits k (JumpBack n) h = (tt, tt)
   form_good limits k (Branch relation a o n) h = branch_good
-      (form.branch_choice c r (told_at c r k) relation a o) relation a o _
+      (form.branch_choice c r (flagged_at c r k) relation a o) relation a o _
   form_good limits k (BranchBack relation a o n) h = branch_good
-      (form.branch_choice c r (told_at c r k) relation a o) relation a o _
+      (form.branch_choice c r (flagged_at c r k) relation a o) relation a o _
   form_good limits k (Call t q us line) h =
       good_append (form.offer c r us) _ (offer_good us)
       (call_piece (is_program c q) q line h.3, accept_good (home c r t))

@@ -4,6 +4,7 @@ use Rattle.std.proofs.Common.{nat_lt, List, [], ◌∷◌, ◌++◌, length, Som
 use Rattle.std.proofs.Common.{◌∙◌, subst, arith}
 use Rattle.std.proofs.lemmas.Int.{ints}
 use Rattle.std.proofs.lemmas.Bool.{ltb-true, ltb-false}
+use Rattle.std.proofs.lemmas.Option.{slice_get_within}
 use Rattle.behavior.specs.Endings.{Ending, Stack}
 use Rattle.behavior.specs.Transcripts.{AreBytes}
 use Rattle.risc_word.specs.declared.instr.Operation.TheVariants as op
@@ -35,7 +36,7 @@ use Rattle.risc_load.specs.Shows.{IsBudget}
 use Rattle.risc_emit_relation.specs.Context.{Context, is_program}
 use Rattle.risc_emit_relation.specs.Related.{Starting, started_places}
 use Rattle.risc_emit_relation.specs.Walk.{walk}
-use Rattle.risc_emit_relation.proofs.Basics.{get_within, update_same, update_other}
+use Rattle.risc_emit_relation.proofs.Basics.{update_same, update_other}
 use Rattle.risc_emit_relation.proofs.Start.{related_starts}
 use Rattle.risc_emit_forms.specs.Pieces.{AtEntry, Piece, Plain, Goes, Fails, Stands, Left}
 use Rattle.risc_emit_forms.specs.Forms as form
@@ -85,7 +86,7 @@ module _ (c : Context) (words : List ℕ) (stood : Stood c words) (s : State) wh
       let goal = Relative (distance v.place 1) in
       let t1 = branch_taken words c.size stood.fits condition true goal m v sh at e in
       let v1 = at_view (target_view v goal) (link_view true v) in
-      let lt = get_within words v.place _ at.word in
+      let lt = slice_get_within words v.place _ at.word in
       let there : v1.place ≡ 1 = target_reached v.place 1 (omega (arith, lt, stood.short)) (omega arith) in
       let at1 = subst (λ k. HasAt words k stub) (sym there) stood.stub in
       let i = word.Move 12 (Constant (negsuc 63)) in
@@ -324,7 +325,7 @@ module _ (code : Code) (homes : List Home) (image : Image) (sound : IsSound code
       let l3 = left_next c words v2.place _ _ _ (left_next c words v1.place _ _ _ (left_next c words v.place _ _ _ l))
       in
       let t4 = goes_run c words b on.Always (AtEntry 0) [] _ t3.to v3 t3.shows l3 refl
-      (b.stood.within_entry 0 (get_within (routines code) 0 block is)) in
+      (b.stood.within_entry 0 (slice_get_within (routines code) 0 block is)) in
       let v4 = at_view (c.entry 0) v3 in
       let far : v1.registers 12 + 272 ≢ v.registers 12 + 268 = omega arith in
       let far' : v.registers 12 + 268 ≢ v1.registers 12 + 272 = omega arith in

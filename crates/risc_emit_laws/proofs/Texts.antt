@@ -2,6 +2,7 @@
 use Rattle.std.proofs.Common.{◌≡◌, ℕ, zero, suc, ◌+◌, ◌≤◌, List, [], ◌∷◌, ◌++◌, length, length-append, map, take}
 use Rattle.std.proofs.Common.{Option, Some, None, slice_get, ℤ, refl, ap, ◌∙◌, subst, arith}
 use Rattle.std.proofs.lemmas.List.{length-map}
+use Rattle.std.proofs.lemmas.Option.{slice_get_within}
 use Rattle.tac_code.specs.declared.code.Instruction.{Instruction}
 use Rattle.tac_code.specs.declared.code.Instruction.TheVariants.{Text}
 use Rattle.tac_code.specs.declared.code.TacRoutine.{TacRoutine}
@@ -11,7 +12,6 @@ use Rattle.tac_code.specs.Numbers.{word_of}
 use Rattle.tac_code.specs.Memory.{Words, constant_words, constant_at}
 use Rattle.tac_code.specs.Meaning.{Code, routines, body_at, text_of, text_at}
 use Rattle.risc_image.specs.Image.{Image}
-use Rattle.risc_emit_relation.proofs.Basics.{get_within}
 use Rattle.risc_emit_laws.specs.Drawn.{value_word, instruction_texts, body_texts, routines_texts, IsTexted}
 
 get_back : (xs ys : List ℕ) (i : ℕ) → slice_get (xs ++ ys) (length xs + i) ≡ slice_get ys i
@@ -100,7 +100,7 @@ module _ (code : Code) (image : Image) (constant : ℕ → ℕ → ℕ) (first :
   text_placed : (r k : ℕ) (routine : TacRoutine) (t : ℕ) (bytes : List ℕ) → slice_get (routines code) r ≡ Some routine
       → slice_get routine.body k ≡ Some (Text t bytes) → Placed r k (constant_words bytes)
   text_placed r k routine t bytes is here =
-      let lt = get_within routine.body k (Text t bytes) here in
+      let lt = slice_get_within routine.body k (Text t bytes) here in
       let at = texted.places r k routine is lt in
       let whole = ap length texted.words in
       let n = length-append first (routines_texts (routines code)) in

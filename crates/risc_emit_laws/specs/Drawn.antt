@@ -10,6 +10,7 @@ use Rattle.tac_code.specs.declared.code.Value.TheVariants.{Number}
 use Rattle.tac_code.specs.Numbers.{word_of}
 use Rattle.tac_code.specs.Memory.{Words, constant_words, constant_at}
 use Rattle.tac_code.specs.Meaning.{Code, routines, text_at}
+use Rattle.risc_image.specs.declared.header.TheConstants.{MAX_COUNT}
 use Rattle.risc_alloc.specs.declared.homes.Home.{Home}
 use Rattle.risc_machine_laws.specs.View.{IsAt}
 use Rattle.risc_image.specs.declared.rows.FrameRow.{FrameRow}
@@ -131,7 +132,7 @@ module _ (c : Context) where
   -- the tables of an image are these
   pub record IsTabled (image : Image) : Type 0 where
     pub global : image.global ≡ 0
-    pub most : length image.code ≤ 1048576
+    pub most : length image.code ≤ MAX_COUNT
     pub pieces : length (program_pieces c) ≤ length image.code
     pub frames : image.frames ≡ frame_rows_of 0 c.code.program
     pub objects : image.objects ≡ object_rows_of 0 c.code.objects
@@ -162,7 +163,7 @@ module _ (code : Code) (homes : List Home) (image : Image) (plan : Plan) (c : Co
         ≡ Some (word_of x))
     pub sizes : (t bytes : ℕ) → slice_get code.objects t ≡ Some bytes → (object_cost image t % 4 ≡ 0)
         × (bytes ≤ object_cost image t) × (4 ≤ object_cost image t) × (object_cost image t < 4294967296)
-    pub few : length (program_pieces c) ≤ 1048576
+    pub few : length (program_pieces c) ≤ MAX_COUNT
     pub words : (heap stack at : ℕ) (p : Piece) → slice_get (program_pieces c) at ≡ Some p → IsAt image.code at
         (instr_at (context code homes plan image heap stack) at p)
     pub traps : image.traps ≡ trap_rows_of 0 (program_pieces c)

@@ -2,6 +2,7 @@
 -- their rows.
 use Rattle.std.specs.Prelude.{◌≡◌, ℕ, suc, ◌+◌, ◌*◌, ◌%◌, ◌<◌, ◌≤◌, true, false, nat_lt, if◌then◌else◌, List, [], ◌∷◌}
 use Rattle.std.specs.Prelude.{◌++◌, length, slice_get, Some, ℤ, pos, negsuc}
+use Rattle.risc_image.specs.declared.header.TheConstants.{MAX_COUNT}
 use Rattle.risc_word.specs.declared.instr.Operation.TheVariants as op
 use Rattle.risc_word.specs.declared.instr.Operand.TheVariants.{Content, Constant}
 use Rattle.risc_word.specs.declared.instr.Width.TheVariants.{Word}
@@ -61,8 +62,8 @@ pub record Stand (c : Context) (words : List ℕ) : Type 0 where
       (entry_form c r routine) (c.site r 0)
   -- first words are within the words
   pub within : (r k : ℕ) (routine : TacRoutine) → slice_get (routines c.code) r ≡ Some routine → k < length routine.body
-      → c.site r k ≤ 1048576
-  pub within_entry : (r : ℕ) → r < length (routines c.code) → c.entry r ≤ 1048576
+      → c.site r k ≤ MAX_COUNT
+  pub within_entry : (r : ℕ) → r < length (routines c.code) → c.entry r ≤ MAX_COUNT
   -- a run-time routine's parameters come before its link
   pub parameters : (r : ℕ) (routine : TacRoutine) → is_program c r ≡ false → slice_get (routines c.code) r
       ≡ Some routine → 8 + 4 * routine.parameters ≤ c.link_at r

@@ -1,6 +1,6 @@
 -- Lists with an element changed, functions with one value changed, tests.
 use Rattle.risc_emit_relation.specs.Changes.{update}
-use Rattle.std.proofs.Common.{◌≡◌, ◌≢◌, ℕ, zero, suc, ◌<◌, ◌⊎◌, inl, inr, Bool, true, false, nat_eq, List, [], ◌∷◌}
+use Rattle.std.proofs.Common.{◌≡◌, ◌≢◌, ℕ, zero, suc, ◌<◌, true, false, nat_eq, List, [], ◌∷◌}
 use Rattle.std.proofs.Common.{length, Some, slice_get, slice_set, refl, sym, ap, subst, arith}
 
 pub eqb_same : (a : ℕ) → nat_eq a a ≡ true
@@ -8,9 +8,6 @@ eqb_same a = grind arith
 
 pub eqb_other : (a b : ℕ) → a ≢ b → nat_eq a b ≡ false
 eqb_other a b ne = grind arith
-
-pub eq_of : (a b : ℕ) → nat_eq a b ≡ true → a ≡ b
-eq_of a b e = grind arith
 
 pub update_same : (f : ℕ → ℕ) (a w : ℕ) → update a w f a ≡ w
 update_same f a w = rw (eqb_same a) refl
@@ -38,15 +35,3 @@ pub length_set : {X : Type 0} (xs : List X) (i : ℕ) (v : X) → length (slice_
 length_set [] i v = refl
 length_set (x ∷ xs) zero v = refl
 length_set (x ∷ xs) (suc i) v = ap suc (length_set xs i v)
-
-pub get_within : {X : Type 0} (xs : List X) (i : ℕ) (v : X) → slice_get xs i ≡ Some v → i < length xs
-get_within [] i v e = absurd (cc e)
-get_within (x ∷ xs) zero v e = omega arith
-get_within (x ∷ xs) (suc i) v e = let h = get_within xs i v e in omega arith
-
-pub some_same : {X : Type 0} (x y : X) → Some x ≡ Some y → x ≡ y
-some_same x y e = cc e
-
-pub bool_cases : (b : Bool) → (b ≡ true) ⊎ (b ≡ false)
-bool_cases true = inl refl
-bool_cases false = inr refl

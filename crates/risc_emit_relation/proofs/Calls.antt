@@ -2,7 +2,7 @@
 use Rattle.std.proofs.Common.{◌≡◌, ◌≢◌, ℕ, zero, suc, ◌+◌, ◌/◌, ◌<◌, ◌≤◌, ◌⊎◌, inl, inr, ⊎_elim, true, false, ◌||◌}
 use Rattle.std.proofs.Common.{nat_eq, List, [], ◌∷◌, length, replicate, Option, Some, None, slice_get, refl, sym, ap}
 use Rattle.std.proofs.Common.{◌∙◌, subst, arith}
-use Rattle.std.proofs.lemmas.Bool.{cases_eq}
+use Rattle.std.proofs.lemmas.Bool.{cases_eq, cases_Bool}
 use Rattle.tac_code.specs.declared.code.Value.{Value}
 use Rattle.tac_code.specs.declared.code.Instruction.{Instruction}
 use Rattle.tac_code.specs.declared.code.Instruction.TheVariants.{Literal, Copy, Arithmetic, Bits, Compare, CheckRange}
@@ -19,7 +19,7 @@ use Rattle.risc_alloc.specs.Alive.{Passed}
 use Rattle.risc_emit_relation.specs.Context.{Context, home, called, IsAlive, IsPlaced, is_program, cost, slot_at}
 use Rattle.risc_emit_relation.specs.Context.{Places, word, IsValue, Grown, IsLaid}
 use Rattle.risc_emit_relation.specs.Related.{Owner, owner_of, Own, Waits, Open, Held, Machine, value_of, Related}
-use Rattle.risc_emit_relation.proofs.Basics.{eqb_same, bool_cases, update_same, update_other}
+use Rattle.risc_emit_relation.proofs.Basics.{eqb_same, update_same, update_other}
 use Rattle.risc_emit_relation.proofs.Grown.{value_grown, word_grown, open_grown, objects_grown}
 use Rattle.risc_emit_relation.proofs.Frames.{program_room, leaf_room, open_room, open_bottom, inside_program}
 use Rattle.risc_emit_relation.specs.Changes.{entered_places, Entering, Leaving, left, update}
@@ -148,7 +148,7 @@ module _ (c : Context) (laid : IsLaid c) (valid : IsPlaced c) (p : Places) where
         (owner_of s.current) s.callers s.memory.frames s.memory.scratch inner in
         let top = open_room c laid p m.words f (owner_of s.current) s.callers s.memory.frames s.memory.scratch
         h.held.frames in
-        let reach = used_reach (bool_cases (is_program c q)) top qc.0 qc.1 qc.2 qc.3 n.below in
+        let reach = used_reach (cases_Bool (is_program c q)) top qc.0 qc.1 qc.2 qc.3 n.below in
         let waits : Waits c p' m'.words f x y (m'.words (g + c.link_at q)) = record {
           program = n.caller;
           call = n.call;

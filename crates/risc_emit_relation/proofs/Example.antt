@@ -2,6 +2,7 @@
 -- met.
 use Rattle.std.proofs.Common.{◌≡◌, ◌≢◌, ℕ, zero, suc, ◌+◌, ◌*◌, ◌%◌, ◌<◌, ◌≤◌, Bool, true, false, ◌||◌, nat_eq, nat_lt}
 use Rattle.std.proofs.Common.{if◌then◌else◌, List, [], ◌∷◌, Some, None, slice_get, pos, refl, ap, ◌∙◌, arith}
+use Rattle.std.proofs.lemmas.Bool.{eqb-true}
 use Rattle.tac_code.specs.declared.code.Instruction.TheVariants.{Literal, Call, Arithmetic, Store, Load, Return, End}
 use Rattle.tac_code.specs.declared.code.Operator.TheVariants.{Add}
 use Rattle.tac_code.specs.declared.code.Operand.TheVariants as operand
@@ -161,15 +162,12 @@ abbrev AreSmall : List ℕ → Type 0
 AreSmall [] = Unit {0}
 AreSmall (t ∷ ts) = (t < 2) × AreSmall ts
 
-same_number : (u t : ℕ) → nat_eq u t ≡ true → u ≡ t
-same_number u t e = grind arith
-
 small_among : (u : ℕ) (ts : List ℕ) → AreSmall ts → is_among u ts ≡ true → u < 2
 small_among u [] h e = absurd (cc e)
 small_among u (t ∷ ts) h e = go (small_among u ts h.1) (nat_eq u t) refl e
   where
     go : (is_among u ts ≡ true → u < 2) → (b : Bool) → nat_eq u t ≡ b → b || is_among u ts ≡ true → u < 2
-    go rest true is e = let z = same_number u t is in omega (arith, z, h.0)
+    go rest true is e = let z = eqb-true u t is in omega (arith, z, h.0)
     go rest false is e = rest e
 
 small_read : (r k u : ℕ) → reads example r k u ≡ true → (r < 2) × (u < 2)
@@ -186,14 +184,14 @@ small_read (suc zero) (suc (suc (suc k))) u e = absurd (cc e)
 small_read (suc (suc r)) k u e = absurd (cc e)
 
 small_written : (r k t : ℕ) → writes example r k t ≡ true → t < 2
-small_written zero zero t e = let z = same_number t 0 e in omega (arith, z)
-small_written zero (suc zero) t e = let z = same_number t 1 e in omega (arith, z)
-small_written zero (suc (suc zero)) t e = let z = same_number t 1 e in omega (arith, z)
+small_written zero zero t e = let z = eqb-true t 0 e in omega (arith, z)
+small_written zero (suc zero) t e = let z = eqb-true t 1 e in omega (arith, z)
+small_written zero (suc (suc zero)) t e = let z = eqb-true t 1 e in omega (arith, z)
 small_written zero (suc (suc (suc zero))) t e = absurd (cc e)
 small_written zero (suc (suc (suc (suc zero)))) t e = absurd (cc e)
 small_written zero (suc (suc (suc (suc (suc k))))) t e = absurd (cc e)
 small_written (suc zero) zero t e = absurd (cc e)
-small_written (suc zero) (suc zero) t e = let z = same_number t 1 e in omega (arith, z)
+small_written (suc zero) (suc zero) t e = let z = eqb-true t 1 e in omega (arith, z)
 small_written (suc zero) (suc (suc zero)) t e = absurd (cc e)
 small_written (suc zero) (suc (suc (suc k))) t e = absurd (cc e)
 small_written (suc (suc r)) k t e = absurd (cc e)
@@ -268,7 +266,7 @@ example_valid =
     the_call : (r k t : ℕ) → called example r k t ≡ true → (r ≡ 0) × (t ≡ 1)
     the_call r zero t e = absurd (cc e)
     the_call zero (suc zero) t e = absurd (cc e)
-    the_call zero (suc (suc zero)) t e = (refl, same_number t 1 e)
+    the_call zero (suc (suc zero)) t e = (refl, eqb-true t 1 e)
     the_call zero (suc (suc (suc zero))) t e = absurd (cc e)
     the_call zero (suc (suc (suc (suc zero)))) t e = absurd (cc e)
     the_call zero (suc (suc (suc (suc (suc zero))))) t e = absurd (cc e)

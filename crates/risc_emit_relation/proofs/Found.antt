@@ -1,13 +1,13 @@
 -- Where the live blocks are.
 use Rattle.std.proofs.Common.{◌≡◌, ℕ, ◌+◌, ◌%◌, ◌≤◌, Bool, true, false, cond, nat_eq, List, [], ◌∷◌, Some, refl, sym}
 use Rattle.std.proofs.Common.{ap, ◌∙◌, subst, arith}
+use Rattle.std.proofs.lemmas.Bool.{eqb-true}
 use Rattle.tac_code.specs.declared.code.Block.{Block}
 use Rattle.tac_code.specs.declared.code.Block.TheVariants.{Frame, Scratch, Object, Constant}
 use Rattle.tac_code.specs.Memory.{Words, Living, living, words_in}
 use Rattle.tac_code.specs.Meaning.{Activation, State, text_at}
 use Rattle.risc_emit_relation.specs.Context.{Context, is_program, cost, Places, place, IsLaid}
 use Rattle.risc_emit_relation.specs.Related.{Holds, Owner, owner_of, Own, Open, Held}
-use Rattle.risc_emit_relation.proofs.Basics.{eq_of}
 use Rattle.risc_emit_relation.proofs.Frames.{open_room}
 use Rattle.risc_emit_relation.specs.Changes.{Found, ConstantsStand}
 
@@ -53,7 +53,7 @@ module _ (c : Context) (laid : IsLaid c) (p : Places) (w : ℕ → ℕ) where
       go : (t : Bool) → nat_eq b.number n ≡ t → cond t (Some b.words) (living bs n) ≡ Some ws → Found c p w
           (p.frame n) ws
       go true is e = let same : b.words ≡ ws = cc e in subst (Found c p w (p.frame n)) same
-          (own_frame f y b d n al (open_room c laid p w f y [] (b ∷ bs) (d ∷ ds) h) h.0 (eq_of b.number n is))
+          (own_frame f y b d n al (open_room c laid p w f y [] (b ∷ bs) (d ∷ ds) h) h.0 (eqb-true b.number n is))
       go false is e = let none : living [] n ≡ Some ws = subst (λ l. living l n ≡ Some ws) h.2 e in absurd (cc none)
   frame_found f y (x ∷ xs) (b ∷ bs) (d ∷ ds) n ws al h e =
       go (λ k. frame_found (f + cost c y.routine) (owner_of x) xs bs ds n ws
@@ -62,7 +62,7 @@ module _ (c : Context) (laid : IsLaid c) (p : Places) (w : ℕ → ℕ) where
       go : (living bs n ≡ Some ws → Found c p w (p.frame n) ws) → (t : Bool) → nat_eq b.number n ≡ t → cond t
           (Some b.words) (living bs n) ≡ Some ws → Found c p w (p.frame n) ws
       go rest true is e = let same : b.words ≡ ws = cc e in subst (Found c p w (p.frame n)) same
-          (own_frame f y b d n al (open_room c laid p w f y (x ∷ xs) (b ∷ bs) (d ∷ ds) h) h.0 (eq_of b.number n is))
+          (own_frame f y b d n al (open_room c laid p w f y (x ∷ xs) (b ∷ bs) (d ∷ ds) h) h.0 (eqb-true b.number n is))
       go rest false is e = rest e
 
   pub scratch_found : (f : ℕ) (y : Owner) (xs : List Activation) (bs ds : List Living) (n : ℕ) (ws : Words) → f % 4 ≡ 0
@@ -74,7 +74,7 @@ module _ (c : Context) (laid : IsLaid c) (p : Places) (w : ℕ → ℕ) where
       go : (t : Bool) → nat_eq d.number n ≡ t → cond t (Some d.words) (living ds n) ≡ Some ws → Found c p w
           (p.scratch n) ws
       go true is e = let same : d.words ≡ ws = cc e in subst (Found c p w (p.scratch n)) same
-          (own_scratch f y b d n al (open_room c laid p w f y [] (b ∷ bs) (d ∷ ds) h) h.0 (eq_of d.number n is))
+          (own_scratch f y b d n al (open_room c laid p w f y [] (b ∷ bs) (d ∷ ds) h) h.0 (eqb-true d.number n is))
       go false is e = let none : living [] n ≡ Some ws = subst (λ l. living l n ≡ Some ws) h.3 e in absurd (cc none)
   scratch_found f y (x ∷ xs) (b ∷ bs) (d ∷ ds) n ws al h e =
       go (λ k. scratch_found (f + cost c y.routine) (owner_of x) xs bs ds n ws
@@ -83,7 +83,7 @@ module _ (c : Context) (laid : IsLaid c) (p : Places) (w : ℕ → ℕ) where
       go : (living ds n ≡ Some ws → Found c p w (p.scratch n) ws) → (t : Bool) → nat_eq d.number n ≡ t → cond t
           (Some d.words) (living ds n) ≡ Some ws → Found c p w (p.scratch n) ws
       go rest true is e = let same : d.words ≡ ws = cc e in subst (Found c p w (p.scratch n)) same
-          (own_scratch f y b d n al (open_room c laid p w f y (x ∷ xs) (b ∷ bs) (d ∷ ds) h) h.0 (eq_of d.number n is))
+          (own_scratch f y b d n al (open_room c laid p w f y (x ∷ xs) (b ∷ bs) (d ∷ ds) h) h.0 (eqb-true d.number n is))
       go rest false is e = rest e
 
   -- any live block

@@ -1,11 +1,12 @@
 -- What the open activations require of memory, and which words they leave free.
 use Rattle.std.proofs.Common.{◌≡◌, ℕ, ◌+◌, ◌*◌, ◌<◌, ◌≤◌, ◌⊎◌, inl, inr, ⊎_elim, true, false, cond, List, [], ◌∷◌}
 use Rattle.std.proofs.Common.{length, Some, refl, sym, ap, ◌∙◌, subst, arith, true≢false}
+use Rattle.std.proofs.lemmas.Option.{slice_get_within}
+use Rattle.std.proofs.lemmas.Bool.{cases_Bool}
 use Rattle.tac_code.specs.Memory.{Words, Living}
 use Rattle.tac_code.specs.Meaning.{Activation, open_bytes}
 use Rattle.risc_emit_relation.specs.Context.{Context, is_program, cost, slot_at, Places, IsLaid}
 use Rattle.risc_emit_relation.specs.Related.{Holds, Owner, owner_of, Own, Waits, Outermost, Open}
-use Rattle.risc_emit_relation.proofs.Basics.{get_within, bool_cases}
 
 pub cost_program : (c : Context) (r : ℕ) → is_program c r ≡ true → cost c r ≡ c.costs r
 cost_program c r e = rw e refl
@@ -16,7 +17,7 @@ cost_leaf c r e = rw e refl
 pub holds_keeps : (c : Context) (p : Places) (w w' : ℕ → ℕ) (at : ℕ) (ws : Words)
     → ((i : ℕ) → i < length ws → w' (at + 4 * i) ≡ w (at + 4 * i)) → Holds c p w at ws → Holds c p w' at ws
 holds_keeps c p w w' at ws same h i x e =
-    let k = h i x e in (k.0, same i (get_within ws i (Some x) e) ∙ k.1)
+    let k = h i x e in (k.0, same i (slice_get_within ws i (Some x) e) ∙ k.1)
 
 -- the first byte of a frame that is free, after its link and its caller's frame
 abbrev pub free_at : Context → ℕ → ℕ
@@ -72,7 +73,7 @@ module _ (c : Context) (laid : IsLaid c) (p : Places) where
   -- what is used of the innermost frame is in memory
   pub open_room : (w : ℕ → ℕ) (f : ℕ) (y : Owner) (xs : List Activation) (bs ds : List Living) → Open c p w f y xs bs ds
       → f + c.used y.routine ≤ c.size
-  open_room w f y xs bs ds h = by_kind (bool_cases (is_program c y.routine))
+  open_room w f y xs bs ds h = by_kind (cases_Bool (is_program c y.routine))
     where
       leaf : (xs : List Activation) (bs ds : List Living) → is_program c y.routine ≡ false → Open c p w f y xs bs ds → f
           + c.used y.routine ≤ c.size
@@ -244,7 +245,7 @@ module _ (c : Context) (laid : IsLaid c) (p : Places) where
     pub open_within : (f : ℕ) (y : Owner) (xs : List Activation) (b d b' d' : Living) (bs ds : List Living)
         → SameOutside f y.routine → Own c p w' f y b' d' → Open c p w f y xs (b ∷ bs) (d ∷ ds) → Open c p w' f y xs
         (b' ∷ bs) (d' ∷ ds)
-    open_within f y xs b d b' d' bs ds same o h = by_kind (bool_cases (is_program c y.routine))
+    open_within f y xs b d b' d' bs ds same o h = by_kind (cases_Bool (is_program c y.routine))
       where
         by_kind : (is_program c y.routine ≡ true) ⊎ (is_program c y.routine ≡ false) → Open c p w' f y xs (b' ∷ bs)
             (d' ∷ ds)
@@ -297,7 +298,7 @@ module _ (c : Context) (laid : IsLaid c) (p : Places) where
             omega (arith, h.1.top, laid.bottom, e, e')
     open_heap f y (x ∷ xs) (b ∷ bs) (d ∷ ds) same h =
         let k = under (open_bottom w (f + cost c y.routine) (owner_of x) xs bs ds h.2) in
-        let u = used_under k (bool_cases (is_program c y.routine)) in
+        let u = used_under k (cases_Bool (is_program c y.routine)) in
         let l = same (f + c.link_at y.routine) (inl
         (omega (
           arith,

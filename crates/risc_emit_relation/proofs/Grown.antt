@@ -1,5 +1,6 @@
 -- More names change nothing that was said of the ones before.
 use Rattle.std.proofs.Common.{◌≡◌, ℕ, ◌+◌, ◌<◌, ◌≤◌, ◌%◌, List, [], ◌∷◌, refl, sym, ap, ◌∙◌, subst, arith}
+use Rattle.std.proofs.lemmas.Option.{slice_get_within}
 use Rattle.tac_code.specs.declared.code.Block.{Block}
 use Rattle.tac_code.specs.declared.code.Block.TheVariants.{Frame, Scratch, Object, Constant}
 use Rattle.tac_code.specs.declared.code.Value.{Value}
@@ -8,7 +9,6 @@ use Rattle.tac_code.specs.Memory.{Words, Living}
 use Rattle.tac_code.specs.Meaning.{Temporaries, Activation}
 use Rattle.risc_emit_relation.specs.Context.{Context, cost, Places, place, word, IsNamed, IsValue, Grown}
 use Rattle.risc_emit_relation.specs.Related.{Holds, Owner, owner_of, Own, Waits, Open, Stands, Objects, Machine, Homes}
-use Rattle.risc_emit_relation.proofs.Basics.{get_within}
 
 module _ (c : Context) (p q : Places) (g : Grown p q) where
   pub named_grown : (b : Block) → IsNamed p b → IsNamed q b
@@ -96,11 +96,11 @@ module _ (c : Context) (p q : Places) (g : Grown p q) where
       record {
         count = h.count ∙ sym same;
         each = λ n ws e.
-            let lt = get_within objects n ws e in
+            let lt = slice_get_within objects n ws e in
             stands_grown w n ws next next (omega (arith, h.count, lt)) (omega arith) (h.each n ws e);
         rise = λ m n ws vs lt e e'.
-            let lm = get_within objects m ws e in
-            let ln = get_within objects n vs e' in
+            let lm = slice_get_within objects m ws e in
+            let ln = slice_get_within objects n vs e' in
             let r = h.rise m n ws vs lt e e' in
             let em = g.object m (omega (arith, h.count, lm)) in
             let en = g.object n (omega (arith, h.count, ln)) in

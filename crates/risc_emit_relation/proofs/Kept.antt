@@ -3,8 +3,9 @@
 use Rattle.std.proofs.Common.{◌≡◌, ◌≢◌, ℕ, ◌+◌, ◌*◌, ◌/◌, ◌%◌, ◌<◌, ◌≤◌, ◌⊎◌, inl, inr, ⊎_elim, Bool, true, false}
 use Rattle.std.proofs.Common.{cond, ◌&&◌, nat_lt, List, length, Option, Some, None, slice_get, slice_set, refl, sym}
 use Rattle.std.proofs.Common.{ap, ◌∙◌, subst, arith}
-use Rattle.std.proofs.lemmas.Bool.{ltb-true}
+use Rattle.std.proofs.lemmas.Bool.{ltb-true, eqb-true}
 use Rattle.std.proofs.lemmas.Int.{ints}
+use Rattle.std.proofs.lemmas.Option.{slice_get_within}
 use Rattle.tac_code.specs.declared.code.Block.{Block}
 use Rattle.tac_code.specs.declared.code.Block.TheVariants.{Frame, Scratch, Object, Constant}
 use Rattle.tac_code.specs.declared.code.Value.{Value}
@@ -17,7 +18,7 @@ use Rattle.tac_code.specs.Memory.{store_byte}
 use Rattle.tac_code.specs.Meaning.{State, text_at}
 use Rattle.risc_emit_relation.specs.Context.{Context, Places, place, word, IsNumber, IsValue, IsLaid}
 use Rattle.risc_emit_relation.specs.Related.{owner_of, Objects, Held}
-use Rattle.risc_emit_relation.proofs.Basics.{get_within, eq_of, update_other}
+use Rattle.risc_emit_relation.proofs.Basics.{update_other}
 use Rattle.risc_emit_relation.proofs.Frames.{open_above, open_bottom}
 use Rattle.risc_emit_relation.proofs.Found.{found}
 use Rattle.risc_emit_relation.specs.Changes.{Found, ConstantsStand, Kept, IsStored, IsByteStored, Loaded, ByteLoaded}
@@ -44,7 +45,7 @@ known_some None v e = absurd (cc e)
 known_some (Some x) v e = ap Some e
 
 known_within : (ws : Words) (i : ℕ) (v : Value) → known (slice_get ws i) ≡ Some v → i < length ws
-known_within ws i v e = get_within ws i (Some v) (known_some (slice_get ws i) v e)
+known_within ws i v e = slice_get_within ws i (Some v) (known_some (slice_get ws i) v e)
 
 module _ (c : Context) (laid : IsLaid c) (p : Places) where
   -- objects are below the stack
@@ -60,7 +61,7 @@ module _ (c : Context) (laid : IsLaid c) (p : Places) where
               low = s.low;
               room = s.room;
               high = s.high;
-              holds = λ i x is. let k = s.holds i x is in let lt = get_within ws i (Some x) is
+              holds = λ i x is. let k = s.holds i x is in let lt = slice_get_within ws i (Some x) is
                   in (k.0, same (p.object n + 4 * i) (omega (arith, s.high, lt)) ∙ k.1);
             };
         rise = h.rise;
@@ -199,7 +200,7 @@ module _ (c : Context) (laid : IsLaid c) (p : Places) where
             value = v;
             within = ltb-true _ _ lt;
             becomes = cc e;
-            why = (eq_of (offset % 4) 0 al, refl);
+            why = (eqb-true (offset % 4) 0 al, refl);
           }
       go true al false lt e = absurd (cc e)
       go false al t lt e = absurd (cc e)
@@ -259,7 +260,7 @@ module _ (c : Context) (laid : IsLaid c) (p : Places) where
       at_word : (ws : Words) → Found c p w (place c p block) ws → (t : Bool) → is_aligned offset ≡ t → cond t
           (known (slice_get ws (offset / 4))) None ≡ Some v → Loaded c p w (place c p block + offset) v
       at_word ws g true al e =
-          let z = eq_of (offset % 4) 0 al in
+          let z = eqb-true (offset % 4) 0 al in
           let same : place c p block + 4 * (offset / 4) ≡ place c p block + offset = omega (arith, z) in
           subst (λ a. Loaded c p w a v) same (loaded_at w (place c p block) (offset / 4) ws v g e)
       at_word ws g false al e = absurd (cc e)

@@ -1,7 +1,7 @@
 -- Steps within an activation: what they write in the machine, and the relation after them.
 use Rattle.std.proofs.Common.{◌≡◌, ◌≢◌, ℕ, suc, ◌+◌, ◌<◌, ◌≤◌, ◌⊎◌, inl, inr, ⊎_elim, true, false, List, Option, Some}
 use Rattle.std.proofs.Common.{refl, sym, ap, ◌∙◌, subst, arith}
-use Rattle.std.proofs.lemmas.Bool.{cases_eq}
+use Rattle.std.proofs.lemmas.Bool.{cases_eq, cases_Bool}
 use Rattle.tac_code.specs.declared.code.Value.{Value}
 use Rattle.tac_code.specs.Memory.{Living, Memory}
 use Rattle.tac_code.specs.Meaning.{Temporaries, put, Activation, State, onward, giving}
@@ -11,7 +11,7 @@ use Rattle.risc_alloc.specs.Alive.{Used, Passed}
 use Rattle.risc_emit_relation.specs.Context.{Context, home, reads, IsPlaced, Passes, Writes, is_program, cost, slot_at}
 use Rattle.risc_emit_relation.specs.Context.{Places, word, IsValue, IsLaid}
 use Rattle.risc_emit_relation.specs.Related.{Owner, owner_of, Open, Held, Machine, value_of, Related}
-use Rattle.risc_emit_relation.proofs.Basics.{eqb_same, eqb_other, bool_cases, update_other}
+use Rattle.risc_emit_relation.proofs.Basics.{eqb_same, eqb_other, update_other}
 use Rattle.risc_emit_relation.proofs.Frames.{free_at, free_program, free_leaf, program_room, leaf_room, open_bottom}
 use Rattle.risc_emit_relation.proofs.Frames.{open_inside}
 use Rattle.risc_emit_relation.specs.Changes.{Near, Settled, Kept, update}
@@ -22,7 +22,7 @@ module _ (c : Context) (laid : IsLaid c) (valid : IsPlaced c) (p : Places) where
   pub slots_side : (w : ℕ → ℕ) (f : ℕ) (y : Owner) (xs : List Activation) (bs ds : List Living) (a : ℕ)
       → Open c p w f y xs bs ds → c.bottom + 268 ≤ a → a < c.bottom + 276 → (a < f + c.slots_at y.routine)
       ⊎ (f + c.frame_at y.routine ≤ a)
-  slots_side w f y xs bs ds a h lo hi = by_kind (bool_cases (is_program c y.routine))
+  slots_side w f y xs bs ds a h lo hi = by_kind (cases_Bool (is_program c y.routine))
       (open_bottom c laid p w f y xs bs ds h)
     where
       by_kind : (is_program c y.routine ≡ true) ⊎ (is_program c y.routine ≡ false)
@@ -34,7 +34,7 @@ module _ (c : Context) (laid : IsLaid c) (valid : IsPlaced c) (p : Places) where
       by_kind (inr e) (inr le) = let q = leaf_room c laid p y.routine e in inr (omega (arith, q.3, q.4, q.5))
 
   free_slots : (r : ℕ) → free_at c r ≤ c.slots_at r
-  free_slots r = by_kind (bool_cases (is_program c r))
+  free_slots r = by_kind (cases_Bool (is_program c r))
     where
       by_kind : (is_program c r ≡ true) ⊎ (is_program c r ≡ false) → free_at c r ≤ c.slots_at r
       by_kind (inl e) = let q = program_room c laid p r e in let k = free_program c r e in omega (arith, q.0, k)

@@ -2,14 +2,15 @@
 use Rattle.std.proofs.Common.{◌≡◌, ◌≢◌, ℕ, zero, suc, ◌+◌, ◌*◌, ◌%◌, ◌<◌, ◌≤◌, ◌⊎◌, inl, inr, ⊎_elim, Bool, true}
 use Rattle.std.proofs.Common.{false, cond, nat_eq, List, [], ◌∷◌, length, Option, Some, None, slice_get, slice_set}
 use Rattle.std.proofs.Common.{refl, sym, ap, ◌∙◌, subst, arith}
-use Rattle.std.proofs.lemmas.Bool.{cases_eq}
+use Rattle.std.proofs.lemmas.Bool.{cases_eq, eqb-true, cases_Bool}
+use Rattle.std.proofs.lemmas.Option.{slice_get_within}
 use Rattle.tac_code.specs.declared.code.Value.{Value}
 use Rattle.tac_code.specs.Memory.{Words, Living, known, behind, instead, changed, behind_object, instead_object}
 use Rattle.tac_code.specs.Memory.{changed_object}
 use Rattle.tac_code.specs.Meaning.{Activation}
 use Rattle.risc_emit_relation.specs.Context.{Context, is_program, cost, Places, word, IsValue, IsLaid}
 use Rattle.risc_emit_relation.specs.Related.{Holds, Owner, owner_of, Own, Waits, Open, Stands, Objects}
-use Rattle.risc_emit_relation.proofs.Basics.{get_within, get_set_same, get_set_other, length_set, bool_cases, eq_of}
+use Rattle.risc_emit_relation.proofs.Basics.{get_set_same, get_set_other, length_set}
 use Rattle.risc_emit_relation.proofs.Basics.{update_at, update_other}
 use Rattle.risc_emit_relation.proofs.Frames.{free_at, free_program, free_leaf, program_room, leaf_room, holds_keeps}
 use Rattle.risc_emit_relation.proofs.Frames.{open_room, open_bottom, open_within, own_keeps, waits_keeps}
@@ -85,7 +86,7 @@ module _ (c : Context) (laid : IsLaid c) (p : Places) where
   outside w f r at n lo hi x le (inr ge) = let ne : x ≢ at = omega arith in update_other w at n x ne
 
   free_before : (r : ℕ) → (free_at c r ≤ c.frame_at r) × (4 ≤ c.frame_at r)
-  free_before r = by_kind (bool_cases (is_program c r))
+  free_before r = by_kind (cases_Bool (is_program c r))
     where
       by_kind : (is_program c r ≡ true) ⊎ (is_program c r ≡ false) → (free_at c r ≤ c.frame_at r) × (4 ≤ c.frame_at r)
       by_kind (inl e) = let q = program_room c laid p r e in let k = free_program c r e
@@ -97,7 +98,7 @@ module _ (c : Context) (laid : IsLaid c) (p : Places) where
   free_in : (w : ℕ → ℕ) (f : ℕ) (y : Owner) (xs : List Activation) (bs ds : List Living) (at : ℕ)
       → Open c p w f y xs bs ds → f + c.frame_at y.routine ≤ at → at + 4 ≤ f + c.used y.routine
       → (at + 4 ≤ c.bottom + 268) ⊎ (c.bottom + 276 ≤ at)
-  free_in w f y xs bs ds at h lo hi = by_kind (bool_cases (is_program c y.routine))
+  free_in w f y xs bs ds at h lo hi = by_kind (cases_Bool (is_program c y.routine))
       (open_bottom c laid p w f y xs bs ds h)
     where
       by_kind : (is_program c y.routine ≡ true) ⊎ (is_program c y.routine ≡ false)
@@ -248,7 +249,7 @@ module _ (c : Context) (laid : IsLaid c) (p : Places) where
         (x ∷ xs) (b ∷ bs') (d ∷ ds') at Q
     stored_behind w f y x xs b d bs' ds' at o wait t =
         let n = word c p t.value in
-        let u = used_below (bool_cases (is_program c y.routine)) in
+        let u = used_below (cases_Bool (is_program c y.routine)) in
         let l : f + c.link_at y.routine ≢ at = omega (
           arith,
           u,
@@ -310,7 +311,7 @@ module _ (c : Context) (laid : IsLaid c) (p : Places) where
           go true is e =
               let s = instead_some b bs (change b.words) bs' e in
               subst (λ l. Stored w f y [] l (d ∷ ds) (p.frame n + 4 * i) Q) (sym s.2)
-              (frame_here w f y [] b d bs ds s.0 n al h.0 h (eq_of b.number n is) (ok b.words s.0 s.1))
+              (frame_here w f y [] b d bs ds s.0 n al h.0 h (eqb-true b.number n is) (ok b.words s.0 s.1))
           go false is e =
               let s = behind_some b (changed bs n change) bs' e in
               let none : changed [] n change ≡ Some s.0 = subst (λ l. changed l n change ≡ Some s.0) h.2 s.1 in
@@ -326,7 +327,7 @@ module _ (c : Context) (laid : IsLaid c) (p : Places) where
           go further true is e =
               let s = instead_some b bs (change b.words) bs' e in
               subst (λ l. Stored w f y (x ∷ xs) l (d ∷ ds) (p.frame n + 4 * i) Q) (sym s.2)
-              (frame_here w f y (x ∷ xs) b d bs ds s.0 n al h.0 h (eq_of b.number n is) (ok b.words s.0 s.1))
+              (frame_here w f y (x ∷ xs) b d bs ds s.0 n al h.0 h (eqb-true b.number n is) (ok b.words s.0 s.1))
           go further false is e =
               let s = behind_some b (changed bs n change) bs' e in
               subst (λ l. Stored w f y (x ∷ xs) l (d ∷ ds) (p.frame n + 4 * i) Q) (sym s.2)
@@ -344,7 +345,7 @@ module _ (c : Context) (laid : IsLaid c) (p : Places) where
           go true is e =
               let s = instead_some d ds (change d.words) ds' e in
               subst (λ l. Stored w f y [] (b ∷ bs) l (p.scratch n + 4 * i) Q) (sym s.2)
-              (scratch_here w f y [] b d bs ds s.0 n al h.0 h (eq_of d.number n is) (ok d.words s.0 s.1))
+              (scratch_here w f y [] b d bs ds s.0 n al h.0 h (eqb-true d.number n is) (ok d.words s.0 s.1))
           go false is e =
               let s = behind_some d (changed ds n change) ds' e in
               let none : changed [] n change ≡ Some s.0 = subst (λ l. changed l n change ≡ Some s.0) h.3 s.1 in
@@ -360,7 +361,7 @@ module _ (c : Context) (laid : IsLaid c) (p : Places) where
           go further true is e =
               let s = instead_some d ds (change d.words) ds' e in
               subst (λ l. Stored w f y (x ∷ xs) (b ∷ bs) l (p.scratch n + 4 * i) Q) (sym s.2)
-              (scratch_here w f y (x ∷ xs) b d bs ds s.0 n al h.0 h (eq_of d.number n is) (ok d.words s.0 s.1))
+              (scratch_here w f y (x ∷ xs) b d bs ds s.0 n al h.0 h (eqb-true d.number n is) (ok d.words s.0 s.1))
           go further false is e =
               let s = behind_some d (changed ds n change) ds' e in
               subst (λ l. Stored w f y (x ∷ xs) (b ∷ bs) l (p.scratch n + 4 * i) Q) (sym s.2)
@@ -437,7 +438,7 @@ module _ (c : Context) (laid : IsLaid c) (p : Places) where
               (λ (same : m ≡ n).
               let e1 : slice_get (slice_set objects n ws') n ≡ Some vs = subst
               (λ k. slice_get (slice_set objects n ws') k ≡ Some vs) same is in
-              let e2 : ws' ≡ vs = cc (sym (get_set_same objects n ws' (get_within objects n ws there)) ∙ e1) in (
+              let e2 : ws' ≡ vs = cc (sym (get_set_same objects n ws' (slice_get_within objects n ws there)) ∙ e1) in (
                 ws,
                 ap (slice_get objects) same ∙ there,
                 ap length (sym e2) ∙ ap length t.becomes ∙ length_set ws i
@@ -452,7 +453,7 @@ module _ (c : Context) (laid : IsLaid c) (p : Places) where
           each_after ws ws' there t s m vs is (inl same) =
               let e1 : slice_get (slice_set objects n ws') n ≡ Some vs = subst
               (λ k. slice_get (slice_set objects n ws') k ≡ Some vs) same is in
-              let e2 : ws' ≡ vs = cc (sym (get_set_same objects n ws' (get_within objects n ws there)) ∙ e1) in
+              let e2 : ws' ≡ vs = cc (sym (get_set_same objects n ws' (slice_get_within objects n ws there)) ∙ e1) in
               let len : length (slice_set ws i (Some t.value)) ≡ length ws = length_set ws i (Some t.value) in
               subst (λ k. Stands c p (update (p.object n + 4 * i) (word c p t.value) w) k vs next) (sym same)
               (subst (λ l. Stands c p (update (p.object n + 4 * i) (word c p t.value) w) n l next)

@@ -2,12 +2,12 @@
 use Rattle.std.proofs.Common.{◌≡◌, ℕ, zero, suc, ◌+◌, ◌-◌, ◌%◌, ◌<◌, ◌≤◌, ◌⊎◌, inl, inr, Bool, true, false, cond}
 use Rattle.std.proofs.Common.{nat_lt, List, [], ◌∷◌, length, take, Option, Some, None, refl, sym, ap, ◌∙◌, subst}
 use Rattle.std.proofs.Common.{arith}
+use Rattle.std.proofs.lemmas.Bool.{cases_Bool}
 use Rattle.tac_code.specs.Memory.{Living}
 use Rattle.tac_code.specs.Meaning.{Activation, State, onward, open_calls, open_bytes, is_full}
 use Rattle.risc_emit_relation.specs.Context.{Context, is_program, cost, Places, IsLaid}
 use Rattle.risc_emit_relation.specs.Related.{owner_of, Open, Held, Machine, Related}
 use Rattle.risc_emit_relation.specs.Walk.{and_on, is_frame, walk}
-use Rattle.risc_emit_relation.proofs.Basics.{bool_cases}
 use Rattle.risc_emit_relation.proofs.Frames.{program_room, leaf_room, cost_program, open_room, open_sum}
 
 -- a frame that memory holds, as a test and as numbers
@@ -72,7 +72,7 @@ module _ (c : Context) (laid : IsLaid c) (p : Places) (none : c.line 0 ≡ None)
       (m.registers 14) ≡ take n (open_calls (length c.code.program) s.current s.callers)
   walk_is n s m f h =
       ap (walk c.line c.size n m.words) h.stack ∙ by_kind
-      (bool_cases (is_program c s.current.routine)) s.callers s.memory.frames s.memory.scratch h.held.frames
+      (cases_Bool (is_program c s.current.routine)) s.callers s.memory.frames s.memory.scratch h.held.frames
     where
       by_kind : (is_program c s.current.routine ≡ true) ⊎ (is_program c s.current.routine ≡ false)
           → (xs : List Activation) (bs ds : List Living) → Open c p m.words f (owner_of s.current) xs bs ds

@@ -2,6 +2,7 @@
 -- temporaries are, and how frames are laid out. The names of blocks have addresses in a map that grows with the run.
 use Rattle.std.specs.Prelude.{◌≡◌, ◌≢◌, ℕ, suc, ◌+◌, ◌*◌, ◌%◌, ◌<◌, ◌≤◌, Bool, true, false, nat_lt, List, length}
 use Rattle.std.specs.Prelude.{slice_get, Option, Some, ℤ, negsuc, pos, ◌≤ℤ◌}
+use Rattle.tac_code.specs.declared.code.TheConstants.{BLOCK_LIMIT}
 use Rattle.tac_code.specs.declared.code.Block.{Block}
 use Rattle.tac_code.specs.declared.code.Block.TheVariants.{Frame, Scratch, Object, Constant}
 use Rattle.tac_code.specs.declared.code.Value.{Value}
@@ -133,7 +134,7 @@ IsNamed p (Constant r k) = Unit {0}
 
 abbrev pub IsValue : Context → Places → Value → Type 0
 IsValue c p (Number z) = IsNumber z
-IsValue c p (Address block offset) = IsNamed p block × (offset < 2147483648)
+IsValue c p (Address block offset) = IsNamed p block × (offset < BLOCK_LIMIT)
 IsValue c p (Routine r) = r < length (routines c.code)
 
 -- q assigns more names and keeps the addresses of those of p

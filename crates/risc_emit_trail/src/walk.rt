@@ -9,6 +9,7 @@ ghost use Rattle.risc_emit_trail.specs.Told.{trail_of};
 use crate::lines::{MOST, Trail};
 use risc_image::ImageView;
 use risc_machine::Machine;
+use risc_machine::limits::ADDRESSES;
 
 // The register that holds where the innermost frame begins.
 const FRAME: u8 = 14;
@@ -23,7 +24,7 @@ fn is_frame(size: u32, frame: u32) -> bool
 // The word at an address below the device page.
 fn word(machine: &Machine, at: u32) -> u32
     requires within { at + 4 ≤ length machine.now.memory }
-    requires near { at < 16777216 }
+    requires near { at < ADDRESSES }
     ensures { result ≡ word_at machine.now.memory at }
 {
     let low = u32::from(machine.byte(at)) + u32::from(machine.byte(at + 1)) * 256;
@@ -46,7 +47,7 @@ fn line_at(machine: &Machine, image: &ImageView<'_>, frame: u32) -> Option<u32>
     ensures line { result ≡ (if is_frame (length machine.now.memory) frame then line_of image.now
         (word_at machine.now.memory frame) else None) }
     ensures held { IfSome result (λ _. frame + 8 ≤ length machine.now.memory) }
-    ensures near { IfSome result (λ _. frame + 8 < 16777216) }
+    ensures near { IfSome result (λ _. frame + 8 < ADDRESSES) }
 {
     let size = machine.size();
     if is_frame(size, frame) {

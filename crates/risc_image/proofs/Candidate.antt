@@ -5,17 +5,17 @@ use Rattle.std.specs.Prelude.{nat_eq, ◌&&◌, nat_lt, unwrap_or, if◌then◌e
 use Rattle.std.specs.List.{flat_map}
 use Rattle.std.proofs.Math.ListN.{get_or-append}
 use Rattle.std.proofs.lemmas.List.{get_or-drop}
-use Rattle.std.proofs.lemmas.Bool.{eqb-true, ltb-false}
+use Rattle.std.proofs.lemmas.Bool.{eqb-true, ltb-false, and_parts, or_cases, or_parts}
 use Rattle.std.proofs.lemmas.List.{drop-append-le, take-append-drop, length-drop}
 use Rattle.risc_image.specs.declared.rows.CallRow.{CallRow}
-use Rattle.risc_image.specs.Image.{IsWithinLimits, HasGoodTables, AreFrames, AreTraps, AreCalls, limit}
+use Rattle.risc_image.specs.declared.header.TheConstants.{MAX_COUNT}
+use Rattle.risc_image.specs.Image.{IsWithinLimits, HasGoodTables, AreFrames, AreTraps, AreCalls}
 use Rattle.risc_image.specs.Format.{magic_of, count_of, header, word_bytes, frame_words, object_words, trap_words}
 use Rattle.risc_image.specs.Format.{call_words, image_words, spelling, AreWords}
 use Rattle.risc_image.specs.Refusal.{begins_as_image, is_second, header_word, call_count}
 use Rattle.risc_image.specs.Header.{Passes}
 use Rattle.risc_image.specs.Table.{words, frame_rows, object_rows, trap_rows, call_rows_of}
 use Rattle.risc_image.specs.Cut.{IsCut, AreTables, call_table, candidate}
-use Rattle.risc_image.proofs.Joined.{both_true, either_true, neither_true}
 use Rattle.risc_image.proofs.Spelled.{IsBytes, words_length, word_bytes-words, words-below}
 use Rattle.risc_image.proofs.RowLemmas.{frame_rows-read, object_rows-read, trap_rows-read, call_rows-read}
 use Rattle.risc_image.proofs.RowLemmas.{length_frame_rows, length_object_rows, length_trap_rows, length_call_rows}
@@ -25,17 +25,17 @@ use Rattle.risc_image.proofs.RowLemmas.{length_frame_rows, length_object_rows, l
 four_equal : (a b c d x y z w : ℕ) → (nat_eq a x && (nat_eq b y && (nat_eq c z && (nat_eq d w && true)))) ≡ true
     → (a ≡ x) × (b ≡ y) × (c ≡ z) × (d ≡ w)
 four_equal a b c d x y z w e =
-    let t1 = both_true (nat_eq a x) _ e in
-    let t2 = both_true (nat_eq b y) _ t1.1 in
-    let t3 = both_true (nat_eq c z) _ t2.1 in
-    let t4 = both_true (nat_eq d w) _ t3.1 in
+    let t1 = and_parts (nat_eq a x) _ e in
+    let t2 = and_parts (nat_eq b y) _ t1.1 in
+    let t3 = and_parts (nat_eq c z) _ t2.1 in
+    let t4 = and_parts (nat_eq d w) _ t3.1 in
     (eqb-true a x t1.0, eqb-true b y t2.0, eqb-true c z t3.0, eqb-true d w t4.0)
 
 -- the magic is that of the version
 pub magic_read : (bytes calls : List ℕ) → begins_as_image bytes ≡ true → 4 ≤ length bytes → take 4 bytes ≡ magic_of
     (call_table (is_second bytes) calls)
 magic_read (a ∷ b ∷ c ∷ d ∷ rest) calls begins long =
-    elim (either_true _ _ begins) [
+    elim (or_cases _ _ begins) [
       | inl first ↦ (let v = four_equal a b c d 0x50 0x52 0x49 0x31 first in rw (v.0, v.1, v.2, v.3) refl)
       | inr second ↦ (let v = four_equal a b c d 0x50 0x52 0x49 0x32 second in rw (v.0, v.1, v.2, v.3) refl)
     ]
@@ -245,8 +245,8 @@ candidate_words bytes front code frames objects traps calls fits cut =
     (words-below (drop 4 bytes) (IsBytes-drop 4 bytes fits))
 
 call_limit : (second : Bool) (bytes calls : List ℕ) → is_second bytes ≡ second → length calls ≡ 8 * call_count bytes
-    → call_count bytes ≤ limit
-    → length (unwrap_or (call_table second calls) []) ≤ limit
+    → call_count bytes ≤ MAX_COUNT
+    → length (unwrap_or (call_table second calls) []) ≤ MAX_COUNT
 call_limit true bytes calls version len few = omega (arith, call_count' calls (call_count bytes) len)
 call_limit false bytes calls version len few = omega arith
 
@@ -254,12 +254,12 @@ pub candidate_limits : (bytes front code frames objects traps calls : List ℕ) 
     → IsCut bytes front code frames objects traps calls
     → IsWithinLimits (candidate bytes code frames objects traps calls)
 candidate_limits bytes front code frames objects traps calls passes cut =
-    let t6 = neither_true _ (nat_lt limit (call_count bytes)) passes.limits in
-    let t5 = neither_true _ (nat_lt limit (header_word bytes 4)) t6.0 in
-    let t4 = neither_true _ (nat_lt limit (header_word bytes 3)) t5.0 in
-    let t3 = neither_true _ (nat_lt limit (header_word bytes 2)) t4.0 in
-    let t2 = neither_true _ (nat_lt limit (header_word bytes 1)) t3.0 in
-    let t1 = neither_true _ (nat_lt limit (header_word bytes 0)) t2.0 in
+    let t6 = or_parts _ (nat_lt MAX_COUNT (call_count bytes)) passes.limits in
+    let t5 = or_parts _ (nat_lt MAX_COUNT (header_word bytes 4)) t6.0 in
+    let t4 = or_parts _ (nat_lt MAX_COUNT (header_word bytes 3)) t5.0 in
+    let t3 = or_parts _ (nat_lt MAX_COUNT (header_word bytes 2)) t4.0 in
+    let t2 = or_parts _ (nat_lt MAX_COUNT (header_word bytes 1)) t3.0 in
+    let t1 = or_parts _ (nat_lt MAX_COUNT (header_word bytes 0)) t2.0 in
     record {
       global = ltb-false _ _ t1.1;
       code = omega (arith, ltb-false _ _ t2.1, code_count code _ cut.code);

@@ -3,7 +3,6 @@ pub mod RowLemmas
 pub mod Checked
 pub mod Written
 pub mod Unique
-pub mod Joined
 pub mod Candidate
 pub mod Passing
 pub mod Reading

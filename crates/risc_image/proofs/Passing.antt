@@ -6,7 +6,8 @@ use Rattle.std.specs.List.{flat_map}
 use Rattle.std.proofs.lemmas.Bool.{le-ltb}
 use Rattle.std.proofs.lemmas.List.{length-append}
 use Rattle.risc_image.specs.declared.rows.CallRow.{CallRow}
-use Rattle.risc_image.specs.Image.{Image, limit, call_rows}
+use Rattle.risc_image.specs.declared.header.TheConstants.{MAX_COUNT}
+use Rattle.risc_image.specs.Image.{Image, call_rows}
 use Rattle.risc_image.specs.Format.{magic_of, count_of, header, word_bytes, frame_words, object_words, trap_words}
 use Rattle.risc_image.specs.Format.{call_words, image_words, IsImage}
 use Rattle.risc_image.specs.Refusal.{begins_as_image, is_second, header_length, header_word, call_count, longest}
@@ -100,13 +101,13 @@ versioned bytes image (Some rows) e m =
     record { header = rw (second, e) refl; calls = rw (second, e) fifth; longest = rw (second, e) refl }
 
 -- only the second version has calls
-few_calls : (calls : Option (List CallRow)) → length (unwrap_or calls []) ≤ limit → length
-    (unwrap_or calls []) ≤ limit * length (count_of calls)
+few_calls : (calls : Option (List CallRow)) → length (unwrap_or calls []) ≤ MAX_COUNT → length
+    (unwrap_or calls []) ≤ MAX_COUNT * length (count_of calls)
 few_calls None few = omega arith
 few_calls (Some rows) few = omega arith
 
-small : (n m : ℕ) → n ≡ m → m ≤ limit → nat_lt limit n ≡ false
-small n m e le = le-ltb limit n (omega arith)
+small : (n m : ℕ) → n ≡ m → m ≤ MAX_COUNT → nat_lt MAX_COUNT n ≡ false
+small n m e le = le-ltb MAX_COUNT n (omega arith)
 
 pub image_passes : (bytes : List ℕ) (image : Image) → IsImage bytes image → Passes bytes
 image_passes bytes image is =

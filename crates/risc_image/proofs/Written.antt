@@ -1,20 +1,17 @@
 -- One more row: what was written of the rows before it, and what holds for them.
 use Rattle.std.proofs.Common.{◌≡◌, ℕ, zero, suc, ◌+◌, ◌^◌, ◌<◌, ◌≤◌, Option, None, Some, List, [], ◌∷◌, ◌++◌, length}
-use Rattle.std.proofs.Common.{get_or, take, refl, sym, ap, ◌∙◌, append_assoc, add-one, arith}
+use Rattle.std.proofs.Common.{get_or, take, refl, sym, ap, ◌∙◌, append_assoc, arith}
 use Rattle.std.specs.Prelude.{All, unwrap_or}
 use Rattle.std.specs.List.{flat_map}
-use Rattle.std.proofs.Math.Seq.{take-suc}
-use Rattle.risc_image.specs.Image.{Image, IsWellFormed, IsWithinLimits, call_rows, limit}
+use Rattle.risc_image.specs.declared.header.TheConstants.{MAX_COUNT}
+use Rattle.risc_image.specs.Image.{Image, IsWellFormed, IsWithinLimits, call_rows}
 use Rattle.risc_image.specs.declared.rows.CallRow.{CallRow}
 use Rattle.risc_image.specs.Format.{word_bytes, magic_of, count_of, header, frame_words, object_words, trap_words}
 use Rattle.risc_image.specs.Format.{call_words, image_words, spelling, AreWords}
 use Rattle.risc_image.proofs.Spelled.{word_bytes-append}
 use Rattle.std.proofs.lemmas.Grind.{flat_map-append}
 use Rattle.std.proofs.lemmas.List.Elements.{All-append}
-
-take-more : {R : Type 0} (rows : List R) (i : ℕ) (d : R) → i < length rows → take (i + 1) rows ≡ take i rows
-    ++ get_or rows i d ∷ []
-take-more rows i d lt = rw add-one (take-suc rows i d lt)
+use Rattle.std.proofs.lemmas.List.{take_more}
 
 append-nil' : (xs : List ℕ) → xs ++ [] ≡ xs
 append-nil' [] = refl
@@ -29,16 +26,7 @@ written_more f rows i d front out out' lt before now =
     (f (get_or rows i d))
     ∙ ap (λ (t : List ℕ). front ++ t) (ap (λ (t : List ℕ). flat_map f (take i rows) ++ t)
     (sym (append-nil' (f (get_or rows i d)))) ∙ sym (flat_map-append f (take i rows) (get_or rows i d ∷ []))
-    ∙ ap (λ t. flat_map f t) (sym (take-more rows i d lt)))
-
-pub all_more : {R : Type 0} (P : R → Type 0) (rows : List R) (i : ℕ) (d : R) → i < length rows → All P (take i rows) → P
-    (get_or rows i d) → All P (take (i + 1) rows)
-all_more P rows i d lt before here = rw (take-more rows i d lt)
-    (All-append P (take i rows) (get_or rows i d ∷ []) before (only here))
-  where
-    only : P (get_or rows i d) → All P (get_or rows i d ∷ [])
-    only h zero e lt = h
-    only h (suc k) e lt = absurd (omega arith)
+    ∙ ap (λ t. flat_map f t) (sym (take_more rows i d lt)))
 
 word_bytes-flat_map : {R : Type 0} (f : R → List ℕ) (rows : List R) → flat_map (λ row. word_bytes (f row)) rows
     ≡ word_bytes (flat_map f rows)
@@ -98,7 +86,7 @@ words_fit image good code frames objects traps calls =
     all_flat f (row ∷ rows) h = All-append (λ w. w < 2 ^ 32) (f row) (flat_map f rows) (h zero row (omega arith))
         (all_flat f rows (λ k d lt. h (suc k) d (omega arith)))
 
-    count_fits : (calls : Option (List CallRow)) → length (unwrap_or calls []) ≤ limit → AreWords (count_of calls)
+    count_fits : (calls : Option (List CallRow)) → length (unwrap_or calls []) ≤ MAX_COUNT → AreWords (count_of calls)
     count_fits None few k d lt = absurd (omega arith)
     count_fits (Some rows) few zero d lt = omega arith
     count_fits (Some rows) few (suc k) d lt = absurd (omega arith)

@@ -2,6 +2,7 @@
 use Rattle.std.specs.Prelude.{◌≡◌, ℕ, ◌*◌, ◌%◌, ◌<◌, ◌≤◌, List, [], length, map, All, Option, Vec, option_map}
 use Rattle.std.specs.Prelude.{unwrap_or}
 use Rattle.std.specs.List.Sorted.{IsStrictlyIncreasing}
+use Rattle.risc_image.specs.declared.header.TheConstants.{MAX_COUNT}
 use Rattle.risc_image.specs.declared.rows.FrameRow.{FrameRow}
 use Rattle.risc_image.specs.declared.rows.ObjectRow.{ObjectRow}
 use Rattle.risc_image.specs.declared.rows.TrapRow.{TrapRow}
@@ -27,10 +28,6 @@ call_rows image = unwrap_or image.calls []
 -- the address after the last word of the code
 abbrev pub code_end : Image → ℕ
 code_end image = 4 * length image.code
-
--- the greatest number of bytes of globals, of words, and of rows of a table
-abbrev pub limit : ℕ
-limit = 1048576
 
 -- A routine's row: its entry is the address of a word of the code, and its frame is whole words.
 pub record IsFrame (end : ℕ) (row : FrameRow) : Type 0 where
@@ -63,12 +60,12 @@ pub record IsCall (end : ℕ) (row : CallRow) : Type 0 where
 
 -- the globals and the counts are within the limit
 pub record IsWithinLimits (image : Image) : Type 0 where
-  pub global : image.global ≤ limit
-  pub code : length image.code ≤ limit
-  pub frames : length image.frames ≤ limit
-  pub objects : length image.objects ≤ limit
-  pub traps : length image.traps ≤ limit
-  pub calls : length (call_rows image) ≤ limit
+  pub global : image.global ≤ MAX_COUNT
+  pub code : length image.code ≤ MAX_COUNT
+  pub frames : length image.frames ≤ MAX_COUNT
+  pub objects : length image.objects ≤ MAX_COUNT
+  pub traps : length image.traps ≤ MAX_COUNT
+  pub calls : length (call_rows image) ≤ MAX_COUNT
 
 -- A table: each row is good, and the rows ascend by their first number.
 pub record AreFrames (end : ℕ) (rows : List FrameRow) : Type 0 where

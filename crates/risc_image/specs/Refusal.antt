@@ -4,7 +4,8 @@ use Rattle.std.specs.Prelude.{length, slice_index, Option, Some, None, MatchOpti
 use Rattle.std.specs.List.{starts_with}
 use Rattle.risc_image.specs.declared.refusal.ImageRefusal.{ImageRefusal}
 use Rattle.risc_image.specs.declared.refusal.ImageRefusal.TheVariants.{Magic, Truncated, Trailing, TooLarge, BadTable}
-use Rattle.risc_image.specs.Image.{Image, limit}
+use Rattle.risc_image.specs.declared.header.TheConstants.{MAX_COUNT}
+use Rattle.risc_image.specs.Image.{Image}
 use Rattle.risc_image.specs.Format.{IsImage, first_magic, second_magic}
 use Rattle.risc_image.specs.Table.{words}
 
@@ -45,9 +46,10 @@ longest bytes = if is_second bytes then 41943068 else 33554456
 -- the file, its globals or one of its counts is above its limit
 abbrev pub is_too_large : List ℕ → Bool
 is_too_large bytes =
-    nat_lt (longest bytes) (length bytes) || nat_lt limit (header_word bytes 0) || nat_lt limit (header_word bytes 1)
-    || nat_lt limit (header_word bytes 2) || nat_lt limit (header_word bytes 3) || nat_lt limit (header_word bytes 4)
-    || nat_lt limit (call_count bytes)
+    nat_lt (longest bytes) (length bytes) || nat_lt MAX_COUNT (header_word bytes 0)
+    || nat_lt MAX_COUNT (header_word bytes 1) || nat_lt MAX_COUNT (header_word bytes 2)
+    || nat_lt MAX_COUNT (header_word bytes 3) || nat_lt MAX_COUNT (header_word bytes 4)
+    || nat_lt MAX_COUNT (call_count bytes)
 
 -- the bytes that the counts require
 abbrev pub asked_length : List ℕ → ℕ

@@ -14,7 +14,8 @@ pub const FIRST_MAGIC: [u8; 4] = [0x50, 0x52, 0x49, 0x31];
 /// The magic of the second version.
 pub const SECOND_MAGIC: [u8; 4] = [0x50, 0x52, 0x49, 0x32];
 
-const LIMIT: u32 = 1048576;
+/// The most bytes of globals, words of code, and rows of a table.
+pub const MAX_COUNT: u32 = 1_048_576;
 
 const LONGEST_FIRST: usize = 33554456;
 
@@ -90,12 +91,12 @@ fn is_too_large(bytes: &[u8], header: Header) -> bool
         LONGEST_FIRST
     };
     bytes.len() > longest
-        || header.global > LIMIT
-        || header.code > LIMIT
-        || header.frames > LIMIT
-        || header.objects > LIMIT
-        || header.traps > LIMIT
-        || header.calls.unwrap_or(0) > LIMIT
+        || header.global > MAX_COUNT
+        || header.code > MAX_COUNT
+        || header.frames > MAX_COUNT
+        || header.objects > MAX_COUNT
+        || header.traps > MAX_COUNT
+        || header.calls.unwrap_or(0) > MAX_COUNT
 }
 
 // The bytes that the counts require.

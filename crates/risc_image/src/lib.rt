@@ -17,6 +17,7 @@ mod view;
 mod words;
 mod writing;
 
+pub use header::MAX_COUNT;
 pub use laws::format_is_exact;
 pub use parts::Parts;
 pub use refusal::ImageRefusal;

@@ -2,6 +2,7 @@
 use Rattle.std.specs.Prelude.{◌≡◌, ℕ, ◌+◌, ◌*◌, ◌%◌, ◌≤◌, List, length, map}
 use Rattle.behavior.specs.Transcripts.{Shown}
 use Rattle.risc_machine.specs.Exec.{image_run}
+use Rattle.risc_machine.specs.declared.limits.TheConstants.{MAX_MEMORY}
 use Rattle.risc_image.specs.declared.rows.TrapRow.{TrapRow}
 use Rattle.risc_image.specs.Image.{Image}
 use Rattle.risc_image.specs.Format.{word_bytes}
@@ -29,4 +30,4 @@ image_shows image heap stack input steps = image_run (word_bytes image.code) ima
 pub record IsBudget (image : Image) (heap stack : ℕ) : Type 0 where
   pub heap_even : heap % 4 ≡ 0
   pub stack_even : stack % 4 ≡ 0
-  pub fits : 4 * length image.code + image.global + heap + stack ≤ 16777152
+  pub fits : 4 * length image.code + image.global + heap + stack ≤ MAX_MEMORY

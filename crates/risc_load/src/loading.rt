@@ -8,9 +8,8 @@ ghost use Rattle.risc_load.specs.Loaded.{loaded_state};
 use crate::budget::{Budget, LoadRefusal};
 use risc_image::ImageView;
 use risc_machine::Machine;
+use risc_machine::limits::MAX_MEMORY;
 use std::alloc::Global;
-
-const MEMORY: u64 = 16777152;
 
 /// The machine in the loaded state: the code at 0, then the globals, the heap and the stack of the budget.
 ///
@@ -30,7 +29,7 @@ pub fn load(alloc: Global, image: &ImageView, budget: Budget) -> Result<Machine,
         + u64::from(image.global())
         + u64::from(budget.heap)
         + u64::from(budget.stack);
-    if bytes > MEMORY {
+    if bytes > u64::from(MAX_MEMORY) {
         return Err(LoadRefusal::BudgetTooLarge);
     }
     match Machine::start(alloc, code, image.global(), budget.heap, budget.stack) {

@@ -4,6 +4,8 @@ ghost use Rattle.std.specs.Prelude.{◌≡◌, ◌+◌, ◌%◌, ◌^◌, ◌≤
 ghost use Rattle.std.specs.Int.{from_bool};
 ghost use Rattle.risc_machine.specs.Step.{signed, overflows};
 
+use crate::limits::SIGN_BIT;
+
 // Whether a signed number leaves 32 bits.
 fn leaves_word(value: i64) -> bool
     ensures { result ≡ overflows value }
@@ -14,7 +16,7 @@ fn leaves_word(value: i64) -> bool
 // A word as a signed number, of 64 bits.
 fn widened(word: u32) -> i64
     ensures value { result ≡ signed word }
-    ensures small { unsigned_abs result ≤ 2147483648 }
+    ensures small { unsigned_abs result ≤ SIGN_BIT }
 {
     i64::from(word.cast_signed())
 }
@@ -37,11 +39,11 @@ pub(crate) fn difference_overflows(left: u32, right: u32, borrow: bool) -> bool
     leaves_word(borrowed)
 }
 
-// A number moved by 2^31. A function, since LLVM must see the sum of two words before it sees this one.
+// A number moved by the sign bit. A function, since LLVM must see the sum of two words before it sees this one.
 fn moved(number: u64) -> u64
-    ensures { result ≡ (number + 2147483648) % 2 ^ 64 }
+    ensures { result ≡ (number + SIGN_BIT) % 2 ^ 64 }
 {
-    number.wrapping_add(2147483648)
+    number.wrapping_add(u64::from(SIGN_BIT))
 }
 
 // Whether the signed sum of two words leaves 32 bits. Told so, it is the host's own overflow.
@@ -58,5 +60,5 @@ pub(crate) fn words_underflow(left: u32, right: u32) -> bool
 {
     let is_less = left.cast_signed() < right.cast_signed();
     let difference = left.wrapping_sub(right);
-    is_less != (difference >= 2147483648)
+    is_less != (difference >= SIGN_BIT)
 }

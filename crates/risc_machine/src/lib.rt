@@ -6,6 +6,7 @@ pub mod console;
 mod decoded;
 pub mod fused;
 pub mod laws;
+pub mod limits;
 pub mod machine;
 pub mod stop;
 pub mod streams;

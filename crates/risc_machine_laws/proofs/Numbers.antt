@@ -4,7 +4,7 @@ use Rattle.std.proofs.Common.{Bool, true, false, cond, not, ◌||◌, ltb, ℤ, 
 use Rattle.std.proofs.Common.{◌∙◌, subst, arith, lit<}
 use Rattle.std.specs.Prelude.{nat_eq, nat_le, int_lt, int_div, neg_ℤ, unsigned_abs, ◌≤ℤ◌, ◌<ℤ◌}
 use Rattle.std.specs.Int.{int_shr, cast_unsigned, w64, int_div_euclid, int_rem_euclid}
-use Rattle.std.proofs.lemmas.Bool.{cases_eq, cases_lt, false≢true}
+use Rattle.std.proofs.lemmas.Bool.{cases_eq, cases_lt, false≢true, lt-ltb, le-ltb}
 use Rattle.std.proofs.lemmas.Int.{ints, by_lt_z, unsigned_abs-mul}
 use Rattle.std.proofs.lemmas.Nat.{mul-le, div-mul-add}
 use Rattle.std.proofs.Math.Nat.{mod-add-div'}
@@ -19,12 +19,6 @@ signed_word n h = omega (arith, ints, h)
 pub word_narrow : (n : ℤ) → IsNumber n → word_of_int n < 4294967296
 word_narrow n h = omega (arith, ints, h)
 
-is_less : (x y : ℕ) → x < y → ltb x y ≡ true
-is_less x y h = grind arith
-
-is_not_less : (x y : ℕ) → y ≤ x → ltb x y ≡ false
-is_not_less x y h = grind arith
-
 at_least : (n m : ℕ) → m ≤ n → nat_le m n ≡ true
 at_least n m h = grind arith
 
@@ -32,7 +26,7 @@ not_at_least : (n m : ℕ) → n < m → nat_le m n ≡ false
 not_at_least n m h = grind arith
 
 pub minus_word : (n : ℤ) → IsNumber n → nat_le 2147483648 (word_of_int n) ≡ int_lt n (pos 0)
-minus_word (pos n) h = not_at_least n 2147483648 (omega (arith, ints, h)) ∙ sym (is_not_less n 0 (omega arith))
+minus_word (pos n) h = not_at_least n 2147483648 (omega (arith, ints, h)) ∙ sym (le-ltb n 0 (omega arith))
 minus_word (negsuc n) h = at_least (4294967296 - suc n) 2147483648 (omega (arith, ints, h))
 
 pub zero_word : (n : ℤ) → IsNumber n → word_of_int n ≡ 0 → n ≡ pos 0
@@ -89,7 +83,7 @@ sign_low low h =
 
 sign_high : (low : ℕ) → 2147483648 ≤ low → low < 4294967296 → sign_of low ≡ 4294967295
 sign_high low h k =
-    let e : signed low ≡ negsuc (4294967296 - suc low) = rw (is_not_less low 2147483648 h) in
+    let e : signed low ≡ negsuc (4294967296 - suc low) = rw (le-ltb low 2147483648 h) in
     ap (λ z. word_of_int (int_shr z 31)) e ∙ over low h k
   where
     over : (low : ℕ) → 2147483648 ≤ low → low < 4294967296 → 4294967296 - suc ((4294967296 - suc low) / 2147483648)
@@ -124,15 +118,15 @@ high_test (pos n) h =
     let s = sign_low (n % 4294967296) lt in
     ⊎_elim
     (λ (small : n < 2147483648). equal_true _ (n / 4294967296) (overflows (pos n))
-    (let e : 0 ≡ n / 4294967296 = omega arith in s ∙ e) (is_not_less 2147483647 n (omega arith)))
+    (let e : 0 ≡ n / 4294967296 = omega arith in s ∙ e) (le-ltb 2147483647 n (omega arith)))
     (λ (large : 2147483648 ≤ n). equal_false _ (n / 4294967296) (overflows (pos n))
-    (λ e. let x : 0 ≡ n / 4294967296 = sym s ∙ e in absurd (omega arith)) (is_less 2147483647 n (omega arith)))
+    (λ e. let x : 0 ≡ n / 4294967296 = sym s ∙ e in absurd (omega arith)) (lt-ltb 2147483647 n (omega arith)))
     (cases_lt n 2147483648))
     (λ (ge : 2147483648 ≤ n % 4294967296).
     let s = sign_high (n % 4294967296) ge (omega arith) in
     equal_false _ (n / 4294967296) (overflows (pos n))
     (λ e. let x : 4294967295 ≡ n / 4294967296 = sym s ∙ e in absurd (omega arith))
-    (is_less 2147483647 n (omega arith)))
+    (lt-ltb 2147483647 n (omega arith)))
     (cases_lt (n % 4294967296) 2147483648)
 high_test (negsuc n) h =
     let p : ℕ = 18446744073709551616 - suc n in
@@ -141,16 +135,16 @@ high_test (negsuc n) h =
     let s = sign_low (p % 4294967296) lt in
     equal_false _ (p / 4294967296) (overflows (negsuc n))
     (λ e. let x : 0 ≡ p / 4294967296 = sym s ∙ e in absurd (omega arith))
-    (or_right (ltb 2147483647 n) ∙ is_less 2147483647 n (omega arith)))
+    (or_right (ltb 2147483647 n) ∙ lt-ltb 2147483647 n (omega arith)))
     (λ (ge : 2147483648 ≤ p % 4294967296).
     let s = sign_high (p % 4294967296) ge (omega arith) in
     ⊎_elim
     (λ (small : n < 2147483648). equal_true _ (p / 4294967296) (overflows (negsuc n))
     (let e : 4294967295 ≡ p / 4294967296 = omega arith in s ∙ e)
-    (or_right (ltb 2147483647 n) ∙ is_not_less 2147483647 n (omega arith)))
+    (or_right (ltb 2147483647 n) ∙ le-ltb 2147483647 n (omega arith)))
     (λ (large : 2147483648 ≤ n). equal_false _ (p / 4294967296) (overflows (negsuc n))
     (λ e. let x : 4294967295 ≡ p / 4294967296 = sym s ∙ e in absurd (omega arith))
-    (or_right (ltb 2147483647 n) ∙ is_less 2147483647 n (omega arith)))
+    (or_right (ltb 2147483647 n) ∙ lt-ltb 2147483647 n (omega arith)))
     (cases_lt n 2147483648))
     (cases_lt (p % 4294967296) 2147483648)
 

@@ -1,11 +1,11 @@
 -- One step of the machine at a plain instruction: the state after it shows the view after it.
 use Rattle.std.proofs.Common.{◌≡◌, ◌≢◌, ℕ, zero, suc, ◌+◌, ◌-◌, ◌*◌, ◌/◌, ◌%◌, ◌^◌, ◌<◌, ◌≤◌, ⊎_elim, Bool, true}
-use Rattle.std.proofs.Common.{false, cond, eqb, leb, List, length, get_or, set, Some, ℤ, pos, negsuc, ◌+ℤ◌, ◌-ℤ◌, refl}
+use Rattle.std.proofs.Common.{false, cond, eqb, List, length, get_or, set, Some, ℤ, pos, negsuc, ◌+ℤ◌, ◌-ℤ◌, refl}
 use Rattle.std.proofs.Common.{sym, ap, ◌∙◌, subst, arith, lit<, get_or-set_other, get_or-set_same}
 use Rattle.std.specs.Prelude.{nat_le, nat_lt, slice_get, int_lt, bit_and, unsigned_abs, FitsSigned, ◌*ℤ◌, ◌≤ℤ◌}
 use Rattle.std.specs.Int.{cast_unsigned, w32, w64, int_shr, rotate_right, int_div_euclid, int_rem_euclid, from_bool}
 use Rattle.std.proofs.Math.ListN.{length-set}
-use Rattle.std.proofs.lemmas.Bool.{cases_eq}
+use Rattle.std.proofs.lemmas.Bool.{cases_eq, le-leb, lt-ltb}
 use Rattle.std.proofs.lemmas.Int.{ints, fits_signed_mul}
 use Rattle.std.proofs.lemmas.Nat.{shr_le, and_le_l, or_lt, xor_lt}
 use Rattle.std.proofs.lemmas.Option.{slice_get_within}
@@ -36,12 +36,6 @@ eqb_same a = grind arith
 
 pub eqb_other : (a b : ℕ) → a ≢ b → eqb a b ≡ false
 eqb_other a b ne = grind arith
-
-pub is_at_most : (n m : ℕ) → n ≤ m → leb n m ≡ true
-is_at_most n m h = grind arith
-
-is_below : (n m : ℕ) → n < m → nat_lt n m ≡ true
-is_below n m h = grind arith
 
 -- a byte lies in its word
 in_word : (x : ℕ) → word_place x + x % 4 ≡ x
@@ -241,7 +235,7 @@ module _ (code : List ℕ) (size : ℕ) (fits : Fits code size) where
       let within : 4 * m.pc + 4 ≤ length m.memory = omega (arith, s.extent, s.place, fits.room) in
       let e : word_at m.memory (4 * m.pc) ≡ word_of i = ap (λ p. word_at m.memory (4 * p)) s.place ∙ s.stands v.place
       (word_of i) at.word in
-      rw (is_at_most (4 * m.pc + 4) (length m.memory) within)
+      rw (le-leb (4 * m.pc + 4) (length m.memory) within)
       (ap (λ o. act_at o m) (ap instr_at e ∙ instr_back i at.ranges))
 
   pub place_within : (v : View) (i : Instr) → IsAt code v.place i → v.place < length code
@@ -268,19 +262,19 @@ module _ (code : List ℕ) (size : ℕ) (fits : Fits code size) where
 
   load_goes : (a at : ℕ) (m : State) → at % 4 ≡ 0 → at + 4 ≤ length m.memory → load_word a at m ≡ Goes
       (next (with_result a (word_at m.memory at) m))
-  load_goes a at m al within = rw (al, is_at_most (at + 4) (length m.memory) within)
+  load_goes a at m al within = rw (al, le-leb (at + 4) (length m.memory) within)
 
   store_goes : (w at : ℕ) (m : State) → at % 4 ≡ 0 → at + 4 ≤ length m.memory → store_word w at m ≡ Goes
       (next (record m { memory = put_word m.memory at w }))
-  store_goes w at m al within = rw (al, is_at_most (at + 4) (length m.memory) within)
+  store_goes w at m al within = rw (al, le-leb (at + 4) (length m.memory) within)
 
   load_byte_goes : (a at : ℕ) (m : State) → at < length m.memory → load_byte a at m ≡ Goes
       (next (with_result a (get_or m.memory at 0) m))
-  load_byte_goes a at m within = rw (is_below at (length m.memory) within)
+  load_byte_goes a at m within = rw (lt-ltb at (length m.memory) within)
 
   store_byte_goes : (w at : ℕ) (m : State) → at < length m.memory → store_byte w at m ≡ Goes
       (next (record m { memory = set m.memory at (w % 256) }))
-  store_byte_goes w at m within = rw (is_below at (length m.memory) within)
+  store_byte_goes w at m within = rw (lt-ltb at (length m.memory) within)
 
   address_is : (m : State) (v : View) (b n : ℕ) → Shows code size m v → b < 16 → v.registers b + n < size → address m b
       (pos n) ≡ v.registers b + n

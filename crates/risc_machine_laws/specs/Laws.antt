@@ -7,6 +7,7 @@ use Rattle.risc_word.specs.declared.instr.Instr.{Instr}
 use Rattle.risc_word.specs.declared.instr.Instr.TheVariants.{Load, Store, Branch}
 use Rattle.risc_machine.specs.Step.{State, start_state}
 use Rattle.risc_machine.specs.Exec.{told}
+use Rattle.risc_machine.specs.declared.limits.TheConstants.{MAX_MEMORY}
 use Rattle.risc_machine_laws.specs.View.{View, Fits, IsAt, HasAt, Shows, AllPlain, line, at_view, link_view}
 use Rattle.risc_machine_laws.specs.View.{holds_view, target_view}
 use Rattle.risc_machine_laws.specs.Runs.{To, Way, StopsWith, TakesTo, same_tape}
@@ -60,6 +61,6 @@ StopsRun =
 -- the loaded state shows the view of the start
 abbrev pub LoadedStateShows : Type 0
 LoadedStateShows =
-    (code : List ℕ) (global heap stack : ℕ) → AreWords code → start_size code global heap stack ≤ 16777152
+    (code : List ℕ) (global heap stack : ℕ) → AreWords code → start_size code global heap stack ≤ MAX_MEMORY
     → Shows code (start_size code global heap stack) (start_state (code_bytes code) global heap stack)
     (start_view code global heap stack)

@@ -7,6 +7,7 @@ use Rattle.risc_word.specs.declared.instr.Operand.TheVariants.{Constant}
 use Rattle.risc_word.specs.declared.instr.Instr.{Instr}
 use Rattle.risc_word.specs.declared.instr.Instr.TheVariants.{MoveTop, Operate}
 use Rattle.risc_machine.specs.Step.{signed, word_of_int, overflows, product, differ}
+use Rattle.risc_machine.specs.declared.limits.TheConstants.{PLACES, SIGN_BIT}
 
 -- the numbers of 32 bits
 abbrev pub IsNumber : ℤ → Type 0
@@ -45,7 +46,7 @@ pub record NumberLaws : Type 0 where
   pub narrow : (n : ℤ) → IsNumber n → word_of_int n < 4294967296
   pub read : (n : ℤ) → IsNumber n → signed (word_of_int n) ≡ n
   -- N and Z of a number's word
-  pub minus : (n : ℤ) → IsNumber n → nat_le 2147483648 (word_of_int n) ≡ int_lt n (pos 0)
+  pub minus : (n : ℤ) → IsNumber n → nat_le SIGN_BIT (word_of_int n) ≡ int_lt n (pos 0)
   pub zeros : (n : ℤ) → IsNumber n → word_of_int n ≡ 0 → n ≡ pos 0
   -- what does not overflow has a word
   pub fits : (n : ℤ) → overflows n ≡ false → IsNumber n
@@ -61,11 +62,11 @@ pub record NumberLaws : Type 0 where
       (product (word_of_int m) (word_of_int n) / 2 ^ 32)) 0 ≡ not (overflows (m *ℤ n))
   -- N <> V after a difference is the order
   pub order : (m n : ℤ) → IsNumber m → IsNumber n → differ
-      (nat_le 2147483648 (difference_of (word_of_int m) (word_of_int n))) (overflows (m -ℤ n)) ≡ int_lt m n
+      (nat_le SIGN_BIT (difference_of (word_of_int m) (word_of_int n))) (overflows (m -ℤ n)) ≡ int_lt m n
   -- the quotient rounded toward zero, from what DIV gives; a divisor below zero is negated, and then the quotient
   pub quotients : (m n : ℤ) → pos 0 <ℤ n → int_div m n ≡ toward_zero (int_div_euclid m n) (int_rem_euclid m n)
   pub negated : (m n : ℤ) → pos 0 <ℤ n → int_div m (neg_ℤ n) ≡ neg_ℤ (int_div m n)
   -- a branch reaches its place, and the two words of a constant give it
-  pub reached : (from to : ℕ) → from < 4194303 → to < 4194304 → (from + 1 + word_of_int (distance from to)) % 4194304
+  pub reached : (from to : ℕ) → from < PLACES - 1 → to < PLACES → (from + 1 + word_of_int (distance from to)) % PLACES
       ≡ to
   pub constant : (w : ℕ) → w < 4294967296 → sum_of (w / 65536 * 65536) (word_of_int (pos (w % 65536))) ≡ w

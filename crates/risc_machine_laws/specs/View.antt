@@ -20,6 +20,7 @@ use Rattle.risc_word.specs.declared.instr.Instr.{Instr}
 use Rattle.risc_word.specs.declared.instr.Instr.TheVariants.{Move, MoveTop, MoveHigh, Operate, Load, Store, Branch}
 use Rattle.risc_word.specs.Words.{word_of, IsInstr}
 use Rattle.risc_machine.specs.Step.{State, word_at, signed, word_of_int, overflows, product, differ}
+use Rattle.risc_machine.specs.declared.limits.TheConstants.{PLACES, ADDRESSES, MAX_MEMORY, SIGN_BIT}
 
 -- registers, H, the flags, the place of the next instruction in words, and the word at each address of four bytes
 pub record View : Type 0 where
@@ -37,7 +38,7 @@ pub record View : Type 0 where
 -- the code lies within the memory, and the memory ends below the device page
 pub record Fits (code : List ℕ) (size : ℕ) : Type 0 where
   pub room : 4 * length code ≤ size
-  pub top : size ≤ 16777152
+  pub top : size ≤ MAX_MEMORY
 
 -- this instruction is at a place of the code
 pub record IsAt (code : List ℕ) (place : ℕ) (i : Instr) : Type 0 where
@@ -101,7 +102,7 @@ abbrev pub result_view : ℕ → ℕ → View → View
 result_view a w v =
     record v {
       registers = update a w v.registers;
-      negative = nat_le 2147483648 w;
+      negative = nat_le SIGN_BIT w;
       equal = nat_eq w 0;
       place = v.place
           + 1;
@@ -245,15 +246,15 @@ holds_view v Greater = not (differ v.negative v.overflow || v.equal)
 holds_view v Never = false
 
 abbrev pub target_view : View → Target → ℕ
-target_view v (Relative d) = (v.place + 1 + word_of_int d) % 4194304
-target_view v (Absolute c) = v.registers c % 16777216 / 4
+target_view v (Relative d) = (v.place + 1 + word_of_int d) % PLACES
+target_view v (Absolute c) = v.registers c % ADDRESSES / 4
 
 -- the link in R15, with the place left as it is
 abbrev pub link_view : Bool → View → View
 link_view true v =
     record v {
       registers = update 15 (4 * (v.place + 1)) v.registers;
-      negative = nat_le 2147483648
+      negative = nat_le SIGN_BIT
           (4 * (v.place + 1));
       equal = nat_eq (4 * (v.place + 1)) 0;
     }

@@ -3,6 +3,7 @@ use Rattle.std.specs.Prelude.{ℕ, suc, ◌+◌, ◌-◌, ◌*◌, ◌/◌, Bool
 use Rattle.std.specs.Prelude.{List, [], ◌∷◌, ◌++◌, length, replicate, slice_get, Option, Some, None, ℤ, pos, negsuc}
 use Rattle.behavior.specs.Endings.{Ending, Normal, Stack, Heap, Stuck, ending_by}
 use Rattle.behavior.specs.Transcripts.{mark}
+use Rattle.tac_code.specs.declared.code.TheConstants.{BLOCK_LIMIT}
 use Rattle.tac_code.specs.declared.code.Block.{Block}
 use Rattle.tac_code.specs.declared.code.Block.TheVariants.{Frame, Scratch, Object, Constant}
 use Rattle.tac_code.specs.declared.code.Value.{Value}
@@ -200,10 +201,9 @@ gives t v s = Goes (record s { current = giving t v s.current })
 abbrev pub stores : Memory → State → Step
 stores m s = Goes (record s { current = onward s.current; memory = m })
 
--- An offset is below 2147483648, as is the size of each block in bytes.
 abbrev pub gives_address : ℕ → Block → ℕ → State → Step
 gives_address t block offset s =
-    if nat_lt offset 2147483648 then gives t (Address block offset) s else Over Stuck
+    if nat_lt offset BLOCK_LIMIT then gives t (Address block offset) s else Over Stuck
 
 -- ---- input and output
 

@@ -2,6 +2,7 @@
 use Rattle.std.specs.Prelude.{ℕ, zero, suc, ◌+◌, ◌-◌, ◌*◌, ◌/◌, ◌%◌, ◌^◌, Bool, true, false, not, ◌&&◌, nat_eq, nat_lt}
 use Rattle.std.specs.Prelude.{if◌then◌else◌, ℤ, pos, negsuc, ◌+ℤ◌, ◌-ℤ◌, ◌*ℤ◌, int_div, int_lt, bit_and, bit_or}
 use Rattle.std.specs.Int.{w32, cast_unsigned, cast_signed, int_rem_euclid}
+use Rattle.tac_code.specs.declared.code.TheConstants.{NUMBER_LIMIT}
 use Rattle.tac_code.specs.declared.code.Operator.{Operator}
 use Rattle.tac_code.specs.declared.code.Operator.TheVariants.{Add, Subtract, Multiply, Divide, Modulo}
 use Rattle.tac_code.specs.declared.code.BitOperator.{BitOperator}
@@ -11,8 +12,8 @@ use Rattle.tac_code.specs.declared.code.Relation.TheVariants.{Equal, NotEqual, L
 
 -- -2147483648 to 2147483647
 abbrev pub is_integer : ℤ → Bool
-is_integer (pos n) = nat_lt n 2147483648
-is_integer (negsuc n) = nat_lt n 2147483648
+is_integer (pos n) = nat_lt n NUMBER_LIMIT
+is_integer (negsuc n) = nat_lt n NUMBER_LIMIT
 
 abbrev pub is_zero : ℤ → Bool
 is_zero (pos zero) = true

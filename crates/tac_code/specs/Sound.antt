@@ -1,6 +1,7 @@
 -- The invariant of the code: each target and each operand exists, and numbers are in their ranges.
 use Rattle.std.specs.Prelude.{◌≡◌, ℕ, suc, ◌+◌, ◌<◌, ◌≤◌, ◌%◌, IsTrue, ℤ, List, length, slice_get, Some}
 use Rattle.std.specs.List.{All}
+use Rattle.tac_code.specs.declared.code.TheConstants.{BLOCK_LIMIT}
 use Rattle.tac_code.specs.declared.code.Operand.{Operand}
 use Rattle.tac_code.specs.declared.code.Operand.TheVariants as operand
 use Rattle.tac_code.specs.declared.code.Base.{Base}
@@ -111,7 +112,7 @@ pub record IsSoundRoutine (l : Limits) (routine : TacRoutine) : Type 0 where
   pub parameters : routine.parameters ≤ routine.temporaries
   pub frame : routine.frame % 4 ≡ 0
   pub scratch : routine.scratch % 4 ≡ 0
-  pub bytes : size routine < 2147483648
+  pub bytes : size routine < BLOCK_LIMIT
   pub begins : IsLine routine.line
   pub body : IsSoundBody l routine.body
 
@@ -129,7 +130,7 @@ pub record IsLeaf (routine : TacRoutine) : Type 0 where
 -- the bytes of an object of a type
 pub record IsObjectSize (bytes : ℕ) : Type 0 where
   pub aligned : bytes % 4 ≡ 0
-  pub below : bytes < 2147483648
+  pub below : bytes < BLOCK_LIMIT
 
 abbrev pub AreSoundRoutines : Code → List TacRoutine → Type 0
 AreSoundRoutines code list = Each (λ _ routine. IsSoundRoutine (limits_of code routine) routine) list

@@ -5,7 +5,7 @@ ghost use Rattle.tac_code.specs.Meaning.{size};
 ghost use Rattle.tac_code.specs.Sound.{AreOperands, IsInteger, IsOperand, IsBase, IsSoundAt, IsSoundBody};
 ghost use Rattle.tac_code.specs.Sound.{IsSoundRoutine, IsLeaf, Each, CallsNone, IsErrorNumber, IsTestNumber, IsLine};
 
-use crate::code::{Base, Instruction, Operand, Operands, TacRoutine};
+use crate::code::{BLOCK_LIMIT, Base, Instruction, Operand, Operands, TacRoutine};
 
 /// How many there are of what an instruction of a routine may name.
 #[derive(Clone, Copy)]
@@ -90,22 +90,22 @@ fn are_compared(temporaries: u32, left: u32, right: Operand) -> bool
 }
 
 // A base with `bytes` bytes meant from an offset on.
-fn is_base(l: Limits, base: Base, offset: u32, bytes: u32) -> bool
-    ensures { IsTrue result ↔ IsBase l base offset bytes }
+fn is_base(limits: Limits, base: Base, offset: u32, bytes: u32) -> bool
+    ensures { IsTrue result ↔ IsBase limits base offset bytes }
 {
     match base {
         Base::Frame | Base::Program => true,
-        Base::Scratch => u64::from(offset) + u64::from(bytes) <= u64::from(l.scratch),
-        Base::Temporary(t) => t < l.temporaries,
+        Base::Scratch => u64::from(offset) + u64::from(bytes) <= u64::from(limits.scratch),
+        Base::Temporary(t) => t < limits.temporaries,
     }
 }
 
 // A place `forward` instructions after the next one.
-fn is_forward(l: Limits, place: usize, forward: u64) -> bool
-    requires { place < l.places }
-    ensures { IsTrue result ↔ suc place + forward < l.places }
+fn is_forward(limits: Limits, place: usize, forward: u64) -> bool
+    requires { place < limits.places }
+    ensures { IsTrue result ↔ suc place + forward < limits.places }
 {
-    forward < (l.places - 1 - place) as u64
+    forward < (limits.places - 1 - place) as u64
 }
 
 fn is_back(place: usize, back: u64) -> bool
@@ -114,13 +114,13 @@ fn is_back(place: usize, back: u64) -> bool
     back <= place as u64
 }
 
-fn is_sound_at(l: Limits, place: usize, instruction: &Instruction) -> bool
-    requires { place < l.places }
-    ensures { IsTrue result ↔ IsSoundAt l place instruction.now }
+fn is_sound_at(limits: Limits, place: usize, instruction: &Instruction) -> bool
+    requires { place < limits.places }
+    ensures { IsTrue result ↔ IsSoundAt limits place instruction.now }
 {
     match instruction {
-        Instruction::Literal { to, value } => *to < l.temporaries && is_integer(*value),
-        Instruction::Copy { to, from } => *to < l.temporaries && *from < l.temporaries,
+        Instruction::Literal { to, value } => *to < limits.temporaries && is_integer(*value),
+        Instruction::Copy { to, from } => *to < limits.temporaries && *from < limits.temporaries,
         Instruction::Arithmetic {
             operator: _,
             to,
@@ -129,8 +129,8 @@ fn is_sound_at(l: Limits, place: usize, instruction: &Instruction) -> bool
             error,
             line,
         } => {
-            *to < l.temporaries
-                && are_compared(l.temporaries, *left, *right)
+            *to < limits.temporaries
+                && are_compared(limits.temporaries, *left, *right)
                 && is_test(*error, *line)
         }
         Instruction::Bits {
@@ -138,34 +138,34 @@ fn is_sound_at(l: Limits, place: usize, instruction: &Instruction) -> bool
             to,
             left,
             right,
-        } => { *to < l.temporaries && are_compared(l.temporaries, *left, *right) }
+        } => { *to < limits.temporaries && are_compared(limits.temporaries, *left, *right) }
         Instruction::Compare {
             relation: _,
             to,
             left,
             right,
-        } => { *to < l.temporaries && are_compared(l.temporaries, *left, *right) }
+        } => { *to < limits.temporaries && are_compared(limits.temporaries, *left, *right) }
         Instruction::CheckRange {
             value,
             low,
             high,
             error,
             line,
-        } => { *value < l.temporaries && is_range(*low, *high, *error, *line) }
+        } => { *value < limits.temporaries && is_range(*low, *high, *error, *line) }
         Instruction::CheckPointer {
             pointer,
             error,
             line,
-        } => { *pointer < l.temporaries && is_test(*error, *line) }
+        } => { *pointer < limits.temporaries && is_test(*error, *line) }
         Instruction::Text { to, bytes } => {
-            *to < l.temporaries && bytes.as_slice().len() % 4 == 0
+            *to < limits.temporaries && bytes.as_slice().len() % 4 == 0
         }
         Instruction::Offset {
             to,
             base,
             bytes,
             extent,
-        } => { *to < l.temporaries && is_base(l, *base, *bytes, *extent) }
+        } => { *to < limits.temporaries && is_base(limits, *base, *bytes, *extent) }
         Instruction::Index {
             to,
             base,
@@ -176,49 +176,51 @@ fn is_sound_at(l: Limits, place: usize, instruction: &Instruction) -> bool
             error,
             line,
         } => {
-            *to < l.temporaries
-                && is_base(l, *base, 0, 0)
-                && *index < l.temporaries
+            *to < limits.temporaries
+                && is_base(limits, *base, 0, 0)
+                && *index < limits.temporaries
                 && is_range(*low, *high, *error, *line)
         }
         Instruction::RoutineValue { to, routine } => {
-            *to < l.temporaries && (*routine as usize) < l.routines
+            *to < limits.temporaries && (*routine as usize) < limits.routines
         }
         Instruction::Load { to, base, offset } => {
-            *to < l.temporaries && is_base(l, *base, *offset, 4)
+            *to < limits.temporaries && is_base(limits, *base, *offset, 4)
         }
         Instruction::Store { base, offset, from } => {
-            is_base(l, *base, *offset, 4) && *from < l.temporaries
+            is_base(limits, *base, *offset, 4) && *from < limits.temporaries
         }
         Instruction::LoadByte { to, base, offset } => {
-            *to < l.temporaries && is_base(l, *base, *offset, 1)
+            *to < limits.temporaries && is_base(limits, *base, *offset, 1)
         }
         Instruction::StoreByte { base, offset, from } => {
-            is_base(l, *base, *offset, 1) && *from < l.temporaries
+            is_base(limits, *base, *offset, 1) && *from < limits.temporaries
         }
-        Instruction::Jump { forward } => is_forward(l, place, *forward),
+        Instruction::Jump { forward } => is_forward(limits, place, *forward),
         Instruction::JumpBack { back } => is_back(place, *back),
         Instruction::Branch {
             relation: _,
             left,
             right,
             forward,
-        } => { are_compared(l.temporaries, *left, *right) && is_forward(l, place, *forward) }
+        } => {
+            are_compared(limits.temporaries, *left, *right) && is_forward(limits, place, *forward)
+        }
         Instruction::BranchBack {
             relation: _,
             left,
             right,
             back,
-        } => { are_compared(l.temporaries, *left, *right) && is_back(place, *back) }
+        } => { are_compared(limits.temporaries, *left, *right) && is_back(place, *back) }
         Instruction::Call {
             to,
             routine,
             operands,
             line,
         } => {
-            *to < l.temporaries
-                && (*routine as usize) < l.routines
-                && are_passed(l.temporaries, operands, *line)
+            *to < limits.temporaries
+                && (*routine as usize) < limits.routines
+                && are_passed(limits.temporaries, operands, *line)
         }
         Instruction::CallValue {
             to,
@@ -226,29 +228,33 @@ fn is_sound_at(l: Limits, place: usize, instruction: &Instruction) -> bool
             operands,
             line,
         } => {
-            *to < l.temporaries
-                && *callee < l.temporaries
-                && are_passed(l.temporaries, operands, *line)
+            *to < limits.temporaries
+                && *callee < limits.temporaries
+                && are_passed(limits.temporaries, operands, *line)
         }
-        Instruction::Return { from } => *from < l.temporaries,
+        Instruction::Return { from } => *from < limits.temporaries,
         Instruction::Trap { error, line } => is_error(*error, *line),
-        Instruction::Take { to } => *to < l.temporaries,
-        Instruction::Put { from } => *from < l.temporaries,
+        Instruction::Take { to } => *to < limits.temporaries,
+        Instruction::Put { from } => *from < limits.temporaries,
         Instruction::New {
             to,
             object_type,
             line,
-        } => { *to < l.temporaries && (*object_type as usize) < l.object_types && is_line(*line) }
+        } => {
+            *to < limits.temporaries
+                && (*object_type as usize) < limits.object_types
+                && is_line(*line)
+        }
         Instruction::End => true,
     }
 }
 
-fn is_sound_body(l: Limits, body: &[Instruction]) -> bool
-    requires { l.places ≡ length body.now }
-    ensures { IsTrue result ↔ IsSoundBody l body.now }
+fn is_sound_body(limits: Limits, body: &[Instruction]) -> bool
+    requires { limits.places ≡ length body.now }
+    ensures { IsTrue result ↔ IsSoundBody limits body.now }
 {
     for (place, instruction) in body.iter().enumerate() {
-        if !is_sound_at(l, place, instruction) {
+        if !is_sound_at(limits, place, instruction) {
             return false;
         }
     }
@@ -283,17 +289,17 @@ pub fn routine_size(routine: &TacRoutine) -> u64
     u64::from(frame) + u64::from(scratch) + 4 * u64::from(temporaries)
 }
 
-pub(crate) fn is_sound_routine(l: Limits, routine: &TacRoutine) -> bool
-    requires temporaries { l.temporaries ≡ routine.now.temporaries }
-    requires places { l.places ≡ length routine.now.body }
-    ensures { IsTrue result ↔ IsSoundRoutine l routine.now }
+pub(crate) fn is_sound_routine(limits: Limits, routine: &TacRoutine) -> bool
+    requires temporaries { limits.temporaries ≡ routine.now.temporaries }
+    requires places { limits.places ≡ length routine.now.body }
+    ensures { IsTrue result ↔ IsSoundRoutine limits routine.now }
 {
     routine.parameters <= routine.temporaries
         && routine.frame % 4 == 0
         && routine.scratch % 4 == 0
-        && routine_size(routine) < 2147483648
+        && routine_size(routine) < u64::from(BLOCK_LIMIT)
         && is_line(routine.line)
-        && is_sound_body(l, routine.body.as_slice())
+        && is_sound_body(limits, routine.body.as_slice())
 }
 
 pub(crate) fn is_leaf(routine: &TacRoutine) -> bool

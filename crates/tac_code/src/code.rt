@@ -56,6 +56,12 @@ impl Operands {
     }
 }
 
+/// Integers are below it, and at or above its opposite.
+pub const NUMBER_LIMIT: u32 = 2_147_483_648;
+
+/// Offsets are below it, and so are the bytes of a block.
+pub const BLOCK_LIMIT: u32 = 2_147_483_648;
+
 /// Operators on numbers. A result outside -2147483648..2147483647 is the error that the instruction names.
 #[derive(Clone, Copy)]
 pub enum Operator {

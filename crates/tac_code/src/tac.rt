@@ -1,7 +1,7 @@
 // The tested code.
 
 use crate::check::{Limits, is_leaf, is_sound_routine};
-use crate::code::{TacRaw, TacRoutine};
+use crate::code::{BLOCK_LIMIT, TacRaw, TacRoutine};
 use std::marker::Model;
 
 /// Three-address code that keeps its invariant: each target and operand exists, and numbers are in their ranges.
@@ -142,7 +142,7 @@ fn are_leaves(routines: &[TacRoutine]) -> bool
 fn is_object_size(bytes: u32) -> bool
     ensures { IsTrue result ↔ IsObjectSize bytes }
 {
-    bytes % 4 == 0 && bytes < 2147483648
+    bytes % 4 == 0 && bytes < BLOCK_LIMIT
 }
 
 fn are_sound_objects(objects: &[u32]) -> bool

@@ -1,8 +1,8 @@
 -- A jump of sound code leads to a place of its routine.
 use Rattle.std.proofs.Common.{◌≡◌, ℕ, zero, suc, ◌+◌, ◌<◌, ◌≤◌, List, [], ◌∷◌, ◌++◌, length, slice_get, Option, Some}
-use Rattle.std.proofs.Common.{None, IfSome, Bor, ◌^◌, refl, sym, ap, ◌∙◌, length-append, arith}
+use Rattle.std.proofs.Common.{None, IfSome, Bor, ◌^◌, sym, ap, ◌∙◌, length-append, arith}
 use Rattle.std.specs.Option.{option_copied}
-use Rattle.std.proofs.lemmas.Option.{slice_get_within}
+use Rattle.std.proofs.lemmas.Option.{slice_get_within, slice_get_past}
 use Rattle.tac_code.specs.declared.code.Instruction.{Instruction}
 use Rattle.tac_code.specs.declared.code.Instruction.TheVariants.{Jump, Branch}
 use Rattle.tac_code.specs.declared.code.TacRoutine.{TacRoutine}
@@ -38,15 +38,10 @@ pub fetch_found : (code : Code) (r p : ℕ) (routine : TacRoutine) (o : Option I
     ≡ Some routine → o ≡ slice_get routine.body p → o ≡ fetch code r p
 fetch_found code r p routine o e f = f ∙ ap (λ (x : Option TacRoutine). body_at x p) (sym e)
 
-none_past : {X : Type 0} (xs : List X) (n : ℕ) → length xs ≤ n → slice_get xs n ≡ None
-none_past [] n h = refl
-none_past (x ∷ xs) zero h = absurd (omega arith)
-none_past (x ∷ xs) (suc n) h = none_past xs n (omega arith)
-
 pub fetch_missed : (code : Code) (r p : ℕ) → length code.program + length code.run_time ≤ r → None ≡ fetch code r p
 fetch_missed code r p h =
     let past : length (routines code) ≤ r = omega (arith, length-append code.program code.run_time) in
-    sym (ap (λ (x : Option TacRoutine). body_at x p) (none_past (routines code) r past))
+    sym (ap (λ (x : Option TacRoutine). body_at x p) (slice_get_past (routines code) r past))
 
 pub fetch_leads : (code : Code) (r p : ℕ) (routine : TacRoutine) (o : Option (Bor Instruction)) → IsSound code
     → slice_get (routines code) r ≡ Some routine → option_copied o ≡ slice_get routine.body p

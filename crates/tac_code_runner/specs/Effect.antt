@@ -5,6 +5,7 @@ use Rattle.std.specs.Prelude.{negsuc}
 use Rattle.behavior.specs.Endings as ending
 use Rattle.behavior.specs.Endings.{failed}
 use Rattle.behavior.specs.Transcripts.{Shown}
+use Rattle.tac_code.specs.declared.code.TheConstants.{BLOCK_LIMIT}
 use Rattle.tac_code.specs.declared.code.Block.{Block}
 use Rattle.tac_code.specs.declared.code.Block.TheVariants.{Object, Constant}
 use Rattle.tac_code.specs.declared.code.Value.{Value}
@@ -77,7 +78,7 @@ if_byte (negsuc n) go = Stop Stuck
 
 abbrev pub given_address : ℕ → Block → ℕ → Effect
 given_address t block offset =
-    if nat_lt offset 2147483648 then Give t (Address block offset) else Stop Stuck
+    if nat_lt offset BLOCK_LIMIT then Give t (Address block offset) else Stop Stuck
 
 abbrev pub given_computed : ℕ → Computed → ℕ → Effect
 given_computed t (Gives z) line = Give t (Number z)

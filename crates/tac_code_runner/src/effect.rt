@@ -1,6 +1,6 @@
 // The effect of an instruction, once its operands are read.
 
-use tac_code::code::{BitOperator, Block, Operator, Relation, Value};
+use tac_code::code::{BLOCK_LIMIT, BitOperator, Block, Operator, Relation, Value};
 
 /// How a run ended, or that its bound was used up.
 #[derive(Clone, Copy)]
@@ -240,7 +240,7 @@ pub(crate) fn pointer_check(value: Option<Value>, error: u8, line: u16) -> Effec
 pub(crate) fn address(to: u32, block: Block, offset: u64) -> Effect
     ensures { result ≡ given_address to block offset }
 {
-    if offset < 2147483648 {
+    if offset < u64::from(BLOCK_LIMIT) {
         Effect::Give(to, Value::Address(block, offset as u32))
     } else {
         STUCK

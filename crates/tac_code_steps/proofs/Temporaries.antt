@@ -1,15 +1,9 @@
 -- Tables of temporaries.
-use Rattle.std.proofs.Common.{◌≡◌, ℕ, ◌<◌, ◌≤◌, Bool, true, false, nat_eq, if◌then◌else◌, Some, refl, ap, ◌∙◌, arith}
-use Rattle.std.proofs.Common.{eq-eqb, eqb-true}
+use Rattle.std.proofs.Common.{◌≡◌, ℕ, ◌<◌, ◌≤◌, true, nat_eq, if◌then◌else◌, Some, refl, ap, ◌∙◌, arith}
+use Rattle.std.proofs.Common.{eq-eqb}
+use Rattle.std.proofs.lemmas.Bool.{ne_eqb}
 use Rattle.tac_code.specs.declared.code.Value.{Value}
 use Rattle.tac_code.specs.Meaning.{Temporaries, put}
-
-pub eq_no : (a b : ℕ) → (a ≡ b → ⊥) → nat_eq a b ≡ false
-eq_no a b h = go (nat_eq a b) refl
-  where
-    go : (t : Bool) → nat_eq a b ≡ t → t ≡ false
-    go true e = absurd (h (eqb-true a b e))
-    go false e = refl
 
 pub eq_same : (a : ℕ) → nat_eq a a ≡ true
 eq_same a = eq-eqb a a refl
@@ -18,7 +12,7 @@ pub put_same : (t : Temporaries) (i : ℕ) (v : Value) → put t i v i ≡ Some 
 put_same t i v = ap (λ b. if b then Some v else t i) (eq_same i)
 
 pub put_other : (t : Temporaries) (i : ℕ) (v : Value) (j : ℕ) → (j ≡ i → ⊥) → put t i v j ≡ t j
-put_other t i v j h = ap (λ b. if b then Some v else t j) (eq_no j i h)
+put_other t i v j h = ap (λ b. if b then Some v else t j) (ne_eqb j i h)
 
 -- the temporaries below d are the same
 pub record Agree (d : ℕ) (t t' : Temporaries) : Type 0 where

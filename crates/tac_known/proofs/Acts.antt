@@ -1,7 +1,7 @@
 -- Each instruction does what it did, where its tests that lost their numbers can't fail.
 use Rattle.std.proofs.Common.{◌≡◌, ℕ, zero, suc, ◌+◌, ◌*◌, Bool, true, false, not, ◌&&◌, nat_eq, nat_lt, if◌then◌else◌, List}
 use Rattle.std.proofs.Common.{[], ◌∷◌, length, slice_get, Option, Some, None, ℤ, pos, negsuc, refl, sym, ap, ◌∙◌, subst}
-use Rattle.std.proofs.lemmas.Bool.{true≢false}
+use Rattle.std.proofs.lemmas.Bool.{true≢false, and_parts}
 use Rattle.std.proofs.lemmas.Option.{none-some, same_Some}
 use Rattle.behavior.specs.Endings.{Stack, Stuck}
 use Rattle.tac_code.specs.declared.code.Block.{Block}
@@ -34,7 +34,7 @@ use Rattle.tac_known.specs.declared.kind.Kind.{Kind}
 use Rattle.tac_known.specs.declared.kind.Kind.TheVariants.{Unknown, NotNil, Between}
 use Rattle.tac_known.specs.Kinds.{IsOf, kind_in, Hold, operand_kind, fits, lies_within, is_pointer}
 use Rattle.tac_known.specs.Lean.{number_unless, is_nought, is_unequal, is_truth, copied_if, lean}
-use Rattle.tac_known.proofs.Integers.{both_true, eq_int}
+use Rattle.tac_known.proofs.Integers.{eq_int}
 use Rattle.tac_known.proofs.Results.{fits_gives, lies_in, is_bit, truth_of_bit}
 use Rattle.tac_known.proofs.Holding.{operand_is}
 
@@ -365,8 +365,8 @@ module _ (old new : Code) (program : length new.program ≡ length old.program) 
             ≡ before (Compare relation t a b)
         which false e = refl
         which true e =
-            let x = both_true (is_unequal relation) _ e in
-            let y = both_true (is_nought b) _ x.1 in
+            let x = and_parts (is_unequal relation) _ e in
+            let y = and_parts (is_nought b) _ x.1 in
             truth_alike relation t a b x.0 y.0 y.1
 
     pub acts_alike : (i : Instruction) → act new F G S H (Some (lean ks i)) s ≡ act old F G S H (Some i) s

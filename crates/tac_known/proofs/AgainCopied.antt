@@ -1,5 +1,5 @@
 -- A copy of a temporary that holds an address, a sum or a word gives what is computed or loaded again.
-use Rattle.std.proofs.lemmas.Bool.{true≢false}
+use Rattle.std.proofs.lemmas.Bool.{true≢false, and_parts}
 use Rattle.std.proofs.Common.{◌≡◌, ◌≢◌, ℕ, ◌+◌, ◌*◌, Bool, true, false, nat_eq, if◌then◌else◌, Option, Some, None, refl}
 use Rattle.std.proofs.Common.{sym, ap, ◌∙◌, subst, eqb-true}
 use Rattle.std.specs.Ordering.{int_eq}
@@ -32,7 +32,7 @@ use Rattle.tac_known.specs.Again.{IsWord, is_same_word, word}
 use Rattle.tac_known.specs.Again.{IsComponent, IsSum, IsHeld, AreHeld, is_same_base, is_same_operand, is_same_operator}
 use Rattle.tac_known.specs.Again.{is_same_component, is_same_sum, component, total, holder_by, or_other, holder_in}
 use Rattle.tac_known.specs.Again.{copy_of, or_itself, again}
-use Rattle.tac_known.proofs.Integers.{both_true, eq_int}
+use Rattle.tac_known.proofs.Integers.{eq_int}
 
 -- the copy does what the index does
 module _ (code : Code) (F G : ℕ → ℕ) (S H : ℕ) (s : State) (c : Component) (t error line : ℕ) (is : IsComponent c s.current) where
@@ -135,10 +135,10 @@ operand_is (operand.Number y) (operand.Temporary u) e = absurd (true≢false (sy
 as_same : (c d : Component) (current : Activation) → is_same_component c d ≡ true → IsComponent c current → IsComponent
     (component c.holder d.base d.index d.low d.high d.width) current
 as_same c d current e is =
-    let p = both_true (is_same_base c.base d.base) _ e in
-    let q = both_true (nat_eq c.index d.index) _ p.1 in
-    let r = both_true (int_eq c.low d.low) _ q.1 in
-    let x = both_true (int_eq c.high d.high) (nat_eq c.width d.width) r.1 in
+    let p = and_parts (is_same_base c.base d.base) _ e in
+    let q = and_parts (nat_eq c.index d.index) _ p.1 in
+    let r = and_parts (int_eq c.low d.low) _ q.1 in
+    let x = and_parts (int_eq c.high d.high) (nat_eq c.width d.width) r.1 in
     subst (λ b. IsComponent (component c.holder b d.index d.low d.high d.width) current) (base_is c.base d.base p.0)
     (subst (λ x. IsComponent (component c.holder c.base x d.low d.high d.width) current)
     (eqb-true c.index d.index q.0)
@@ -150,9 +150,9 @@ as_same c d current e is =
 as_same_sum : (c d : Sum) (current : Activation) → is_same_sum c d ≡ true → IsSum c current → IsSum
     (total d.operator c.holder d.left d.right d.error) current
 as_same_sum c d current e is =
-    let p = both_true (is_same_operator c.operator d.operator) _ e in
-    let q = both_true (nat_eq c.left d.left) _ p.1 in
-    let r = both_true (is_same_operand c.right d.right) (nat_eq c.error d.error) q.1 in
+    let p = and_parts (is_same_operator c.operator d.operator) _ e in
+    let q = and_parts (nat_eq c.left d.left) _ p.1 in
+    let r = and_parts (is_same_operand c.right d.right) (nat_eq c.error d.error) q.1 in
     subst (λ o. IsSum (total o c.holder d.left d.right d.error) current) (operator_is c.operator d.operator p.0)
     (subst (λ x. IsSum (total c.operator c.holder x d.right d.error) current) (eqb-true c.left d.left q.0)
     (subst (λ b. IsSum (total c.operator c.holder c.left b d.error) current) (operand_is c.right d.right r.0)
@@ -175,7 +175,7 @@ module _ (constants : Constants) (m : Memory) where
   as_same_word : (c d : Word) (current : Activation) → is_same_word c d ≡ true → IsWord constants m c current
       → IsWord constants m (word c.holder d.base d.offset) current
   as_same_word c d current e is =
-      let p = both_true (is_same_base c.base d.base) _ e in
+      let p = and_parts (is_same_base c.base d.base) _ e in
       subst (λ b. IsWord constants m (word c.holder b d.offset) current) (base_is c.base d.base p.0)
       (subst (λ n. IsWord constants m (word c.holder c.base n) current) (eqb-true c.offset d.offset p.1) is)
 

@@ -1,7 +1,7 @@
 -- What is known of temporaries stays true.
 use Rattle.std.proofs.Common.{◌≡◌, ◌≢◌, ◌⊎◌, inl, inr, ℕ, zero, suc, ◌≤◌, Bool, true, false, nat_lt, List}
 use Rattle.std.proofs.Common.{[], ◌∷◌, length, map, slice_set, Option, Some, refl, sym, ap, ◌∙◌, subst, arith}
-use Rattle.std.proofs.lemmas.Bool.{cases_eq, ltb-true, ltb-false, true≢false}
+use Rattle.std.proofs.lemmas.Bool.{cases_eq, ltb-true, ltb-false, true≢false, and_parts}
 use Rattle.std.proofs.lemmas.Int.{ints}
 use Rattle.tac_code.specs.declared.code.Value.{Value}
 use Rattle.tac_code.specs.declared.code.Operand.{Operand}
@@ -12,7 +12,6 @@ use Rattle.tac_pass.proofs.Words.{get_set_same, get_set_other}
 use Rattle.tac_known.specs.declared.kind.Kind.{Kind}
 use Rattle.tac_known.specs.declared.kind.Kind.TheVariants.{Unknown, NotNil, Between}
 use Rattle.tac_known.specs.Kinds.{IsOf, or_unknown, kind_in, Hold, operand_kind, says_no_more, say_no_more, forget}
-use Rattle.tac_known.proofs.Integers.{both_true}
 use Rattle.tac_known.proofs.Results.{less_is}
 
 past_end : (ks : List Kind) (t : ℕ) (k : Kind) → length ks ≤ t → kind_in (slice_set ks t k) t ≡ Unknown
@@ -65,13 +64,13 @@ forgotten (k ∷ ks) (suc u) = forgotten ks u
 pub less_holds : (xs ks : List Kind) (ts : Temporaries) → say_no_more xs ks ≡ true → Hold xs ts → Hold ks ts
 less_holds xs [] ts e h u = tt
 less_holds [] (k ∷ ks) ts e h zero =
-    less_is Unknown k (ts zero) (both_true (says_no_more Unknown k) (say_no_more [] ks) e).0 tt
+    less_is Unknown k (ts zero) (and_parts (says_no_more Unknown k) (say_no_more [] ks) e).0 tt
 less_holds [] (k ∷ ks) ts e h (suc u) =
-    less_holds [] ks (λ u. ts (suc u)) (both_true (says_no_more Unknown k) (say_no_more [] ks) e).1 (λ u. tt) u
+    less_holds [] ks (λ u. ts (suc u)) (and_parts (says_no_more Unknown k) (say_no_more [] ks) e).1 (λ u. tt) u
 less_holds (x ∷ xs) (k ∷ ks) ts e h zero =
-    less_is x k (ts zero) (both_true (says_no_more x k) (say_no_more xs ks) e).0 (h zero)
+    less_is x k (ts zero) (and_parts (says_no_more x k) (say_no_more xs ks) e).0 (h zero)
 less_holds (x ∷ xs) (k ∷ ks) ts e h (suc u) =
-    less_holds xs ks (λ u. ts (suc u)) (both_true (says_no_more x k) (say_no_more xs ks) e).1 (λ u. h (suc u)) u
+    less_holds xs ks (λ u. ts (suc u)) (and_parts (says_no_more x k) (say_no_more xs ks) e).1 (λ u. h (suc u)) u
 
 -- what says no more than nothing says nothing
 unknown_only : (k : Kind) → says_no_more Unknown k ≡ true → k ≡ Unknown
@@ -83,14 +82,14 @@ pub nothing_more : (xs ks : List Kind) → ((u : ℕ) → kind_in xs u ≡ Unkno
     ks u ≡ Unknown
 nothing_more xs [] none e u = refl
 nothing_more [] (k ∷ ks) none e zero =
-    unknown_only k (both_true (says_no_more Unknown k) (say_no_more [] ks) e).0
+    unknown_only k (and_parts (says_no_more Unknown k) (say_no_more [] ks) e).0
 nothing_more [] (k ∷ ks) none e (suc u) =
-    nothing_more [] ks (λ u. refl) (both_true (says_no_more Unknown k) (say_no_more [] ks) e).1 u
+    nothing_more [] ks (λ u. refl) (and_parts (says_no_more Unknown k) (say_no_more [] ks) e).1 u
 nothing_more (x ∷ xs) (k ∷ ks) none e zero =
     unknown_only k (ap (λ x. says_no_more x k) (sym (none zero))
-    ∙ (both_true (says_no_more x k) (say_no_more xs ks) e).0)
+    ∙ (and_parts (says_no_more x k) (say_no_more xs ks) e).0)
 nothing_more (x ∷ xs) (k ∷ ks) none e (suc u) =
-    nothing_more xs ks (λ u. none (suc u)) (both_true (says_no_more x k) (say_no_more xs ks) e).1 u
+    nothing_more xs ks (λ u. none (suc u)) (and_parts (says_no_more x k) (say_no_more xs ks) e).1 u
 
 pub operand_is : (ks : List Kind) (ts : Temporaries) → Hold ks ts → (b : Operand) → IsOf (operand_kind ks b)
     (operand_value ts b)

@@ -2,13 +2,13 @@
 use Rattle.std.proofs.Common.{◌≡◌, ◌≢◌, ℕ, zero, suc, ◌+◌, ◌-◌, ◌*◌, ◌/◌, ◌%◌, ◌<◌, ◌≤◌, Bool, true, false, not}
 use Rattle.std.proofs.Common.{◌&&◌, nat_lt, if◌then◌else◌, ℤ, pos, negsuc, ◌+ℤ◌, ◌*ℤ◌, refl, sym, ap, ◌∙◌, arith}
 use Rattle.std.proofs.Common.{eq-eqb, eqb-true, FitsSigned, w32, w64, unsigned_abs}
-use Rattle.std.proofs.Math.Nat.{mul-le-mul_left, div-mul-le_self, div-le_self}
-use Rattle.std.proofs.lemmas.Nat.{le-div}
+use Rattle.std.proofs.Math.Nat.{div-mul-le_self, div-le_self}
+use Rattle.std.proofs.lemmas.Nat.{le-div, mul-le}
 use Rattle.std.specs.Prelude.{int_lt, int_div, neg_ℤ, ◌≤ℤ◌, ◌<ℤ◌}
 use Rattle.std.specs.Ordering.{int_eq}
 use Rattle.std.specs.Int.{int_rem_euclid}
-use Rattle.std.proofs.lemmas.Int.{ints}
-use Rattle.std.proofs.lemmas.Bool.{ltb-true, ltb-false, lt-ltb, true≢false}
+use Rattle.std.proofs.lemmas.Int.{ints, unsigned_abs-mul}
+use Rattle.std.proofs.lemmas.Bool.{ltb-true, ltb-false, lt-ltb, true≢false, and_parts, not-true}
 use Rattle.tac_code.specs.Numbers.{is_integer, is_in_range, number_of, bits, same_number}
 use Rattle.tac_code.specs.declared.code.BitOperator.TheVariants.{Plus}
 use Rattle.tac_known.specs.Kinds.{least, greatest}
@@ -22,20 +22,11 @@ is_below low x e = grind (arith, ints)
 pub no_less : (low x : ℤ) → low ≤ℤ x → int_lt x low ≡ false
 no_less low x h = grind (arith, ints)
 
-pub both_true : (a b : Bool) → (a && b) ≡ true → (a ≡ true) × (b ≡ true)
-both_true true true e = (refl, refl)
-both_true true false e = absurd (true≢false (sym e))
-both_true false b e = absurd (true≢false (sym e))
-
-pub not_false : (a : Bool) → not a ≡ true → a ≡ false
-not_false true e = absurd (true≢false (sym e))
-not_false false e = refl
-
 pub bounds_of : (low high x : ℤ) → is_in_range low high x ≡ true → (low ≤ℤ x) × (x ≤ℤ high)
 bounds_of low high x e =
-    let b = both_true (not (int_lt x low)) (not (int_lt high x)) e in (
-      not_below low x (not_false (int_lt x low) b.0),
-      not_below x high (not_false (int_lt high x) b.1),
+    let b = and_parts (not (int_lt x low)) (not (int_lt high x)) e in (
+      not_below low x (not-true (int_lt x low) b.0),
+      not_below x high (not-true (int_lt high x) b.1),
     )
 
 pub in_range : (low high x : ℤ) → low ≤ℤ x → x ≤ℤ high → is_in_range low high x ≡ true
@@ -111,28 +102,16 @@ opposite_size : (n : ℕ) → unsigned_abs (neg_ℤ (pos n)) ≡ n
 opposite_size zero = refl
 opposite_size (suc n) = refl
 
-size_of_product : (x y : ℤ) → unsigned_abs (x *ℤ y) ≡ unsigned_abs x * unsigned_abs y
-size_of_product (pos a) (pos b) = refl
-size_of_product (pos a) (negsuc b) = opposite_size (a * suc b)
-size_of_product (negsuc a) (pos b) = opposite_size (suc a * b)
-size_of_product (negsuc a) (negsuc b) = refl
-
-no_more_product : (a b c d : ℕ) → a ≤ c → b ≤ d → a * b ≤ c * d
-no_more_product a b c d h k =
-    let p = mul-le-mul_left a k in
-    let q = mul-le-mul_left d h in
-    omega (arith, p, q)
-
 pub product_fits : (x y : ℤ) → unsigned_abs x ≤ 2147483648 → unsigned_abs y ≤ 2147483648 → FitsSigned w64 (x *ℤ y)
 product_fits x y h k =
-    let s = size_of_product x y in
-    let p = no_more_product (unsigned_abs x) (unsigned_abs y) 2147483648 2147483648 h k in
+    let s = unsigned_abs-mul x y in
+    let p = mul-le (unsigned_abs x) (unsigned_abs y) 2147483648 2147483648 h k in
     omega (arith, ints, s, p)
 
 -- of greater numbers that aren't negative the product is no less
 pub products_grow : (x y h h' : ℤ) → pos 0 ≤ℤ x → x ≤ℤ h → pos 0 ≤ℤ y → y ≤ℤ h' → (x *ℤ y) ≤ℤ (h *ℤ h')
 products_grow (pos a) (pos b) (pos c) (pos d) p q r s =
-    let m = no_more_product a b c d (omega (arith, ints, q)) (omega (arith, ints, s)) in
+    let m = mul-le a b c d (omega (arith, ints, q)) (omega (arith, ints, s)) in
     omega (arith, ints, m)
 products_grow (pos a) (pos b) (pos c) (negsuc d) p q r s = absurd (omega (arith, ints, s))
 products_grow (pos a) (pos b) (negsuc c) h' p q r s = absurd (omega (arith, ints, q))

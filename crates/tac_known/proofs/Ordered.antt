@@ -2,10 +2,10 @@
 use Rattle.std.proofs.Common.{◌≡◌, ◌≢◌, ◌⊎◌, inl, inr, ℕ, ◌&&◌, ◌||◌, Bool, true, false, not, nat_eq, if◌then◌else◌}
 use Rattle.std.proofs.Common.{Option, Some, None, ℤ, pos, negsuc, ◌+ℤ◌, refl, sym, ap, ◌∙◌, subst, arith}
 use Rattle.std.proofs.Common.{eq-eqb, eqb-true}
-use Rattle.std.proofs.lemmas.Bool.{true≢false}
+use Rattle.std.proofs.lemmas.Bool.{true≢false, and_parts, not-true, or_parts, or_cases, or_right, or_left}
 use Rattle.std.proofs.lemmas.Int.{ints}
 use Rattle.std.proofs.lemmas.Option.{none-some, same_Some}
-use Rattle.std.specs.Prelude.{int_lt, ◌≤ℤ◌, ◌<ℤ◌}
+use Rattle.std.specs.Prelude.{int_lt, ◌<ℤ◌}
 use Rattle.std.specs.Ordering.{int_eq}
 use Rattle.tac_code.specs.declared.code.BitOperator.{BitOperator}
 use Rattle.tac_code.specs.declared.code.BitOperator.TheVariants.{And, Or, AndNot, ShiftLeft, Plus}
@@ -22,28 +22,13 @@ use Rattle.tac_known.specs.declared.kind.Kind.{Kind}
 use Rattle.tac_known.specs.declared.kind.Kind.TheVariants.{Unknown, NotNil, Between}
 use Rattle.tac_known.specs.declared.order.Order.{Order}
 use Rattle.tac_known.specs.declared.order.Orders.{Orders}
-use Rattle.tac_known.specs.Kinds.{IsOf, are_plain, opposite}
+use Rattle.tac_known.specs.Kinds.{IsOf, opposite}
 use Rattle.tac_known.specs.Orders.{IsOrdered, AreOrdered, no_orders, each, names, unless_of, without, is_free, with_order}
 use Rattle.tac_known.specs.Orders.{is_left_of, of_copy, or_else, first_of_copy, copied, next_relation, with_relation}
 use Rattle.tac_known.specs.Orders.{of_sum, of_sums, is_plain, plus, combined, sharper, is_of, sharpened, sharp_of, sharp}
 use Rattle.tac_known.specs.Orders.{is_order, unless_both, without_both, found, orders_where, implies, says, say, say_all}
-use Rattle.tac_known.proofs.Integers.{not_below, is_below, no_less, both_true, not_false, same_itself, same_int}
+use Rattle.tac_known.proofs.Integers.{not_below, is_below, no_less, same_itself}
 use Rattle.tac_known.proofs.Results.{other_relation, plain_sum_is}
-
-no_either : (a b : Bool) → (a || b) ≡ false → (a ≡ false) × (b ≡ false)
-no_either true b e = absurd (true≢false e)
-no_either false b e = (refl, e)
-
-either : (a b : Bool) → (a || b) ≡ true → (a ≡ true) ⊎ (b ≡ true)
-either true b e = inl refl
-either false b e = inr e
-
-or_right : (a b : Bool) → b ≡ true → (a || b) ≡ true
-or_right true b e = refl
-or_right false b e = e
-
-or_left : (a b : Bool) → a ≡ true → (a || b) ≡ true
-or_left a b e = ap (λ c. c || b) e
 
 others : (a b : ℕ) → nat_eq a b ≡ false → a ≢ b
 others a b e same = true≢false (sym (eq-eqb a b same) ∙ e)
@@ -85,7 +70,7 @@ module _ (ts : Temporaries) (t : ℕ) (v : Value) where
       which : (b : Bool) → names t order ≡ b → IsOrdered (put ts t v) (if b then None else Some order)
       which true e = tt
       which false e =
-          let n = no_either (nat_eq order.left t) (nat_eq order.right t) e in
+          let n = or_parts (nat_eq order.left t) (nat_eq order.right t) e in
           stays order (others order.left t n.0) (others order.right t n.1) h
 
   pub without_is : (orders : Orders) → AreOrdered ts orders → AreOrdered (put ts t v) (without t orders)
@@ -96,10 +81,10 @@ module _ (ts : Temporaries) (t : ℕ) (v : Value) where
       → related relation o (ts order.right) ≡ Some true → o ≡ Some v
       → IsOrdered (put ts t v) (Some (record { left = t; relation = relation; right = order.right }))
   moved a relation order o e h same =
-      let c = both_true (nat_eq order.left a) (not (nat_eq order.right t)) e in
+      let c = and_parts (nat_eq order.left a) (not (nat_eq order.right t)) e in
       ap (λ o. related relation o (put ts t v order.right)) (put_same ts t v ∙ sym same)
       ∙ ap (related relation o)
-      (put_other ts t v order.right (others order.right t (not_false (nat_eq order.right t) c.1))) ∙ h
+      (put_other ts t v order.right (others order.right t (not-true (nat_eq order.right t) c.1))) ∙ h
 
   of_copy_is : (a : ℕ) → ts a ≡ Some v → (o : Option Order) → IsOrdered ts o → IsOrdered (put ts t v) (of_copy t a o)
   of_copy_is a same None h = tt
@@ -108,7 +93,7 @@ module _ (ts : Temporaries) (t : ℕ) (v : Value) where
       which : (b : Bool) → is_left_of a t order ≡ b → IsOrdered (put ts t v)
           (if b then Some (record { left = t; relation = order.relation; right = order.right }) else None)
       which true e =
-          let c = both_true (nat_eq order.left a) (not (nat_eq order.right t)) e in
+          let c = and_parts (nat_eq order.left a) (not (nat_eq order.right t)) e in
           moved a order.relation order (ts a) e
           (subst (λ u. related order.relation (ts u) (ts order.right) ≡ Some true) (eqb-true order.left a c.0) h) same
       which false e = tt
@@ -201,7 +186,7 @@ module _ (ts : Temporaries) (t a : ℕ) (x z : ℤ) (at : ts a ≡ Some (Number 
       which : (b : Bool) → is_left_of a t order ≡ b → IsOrdered (put ts t sum)
           (if b then with_relation t (next_relation order.relation z) order.right else unless_of t (Some order))
       which true e =
-          let c = both_true (nat_eq order.left a) (not (nat_eq order.right t)) e in
+          let c = and_parts (nat_eq order.left a) (not (nat_eq order.right t)) e in
           next_is order.relation order e
           (sym (ap (λ u. related order.relation (ts u) (ts order.right)) (eqb-true order.left a c.0)
           ∙ ap (λ o. related order.relation o (ts order.right)) at) ∙ h)
@@ -296,10 +281,10 @@ less_of x y e f = which (int_lt x y) refl
     which : (b : Bool) → int_lt x y ≡ b → b ≡ true
     which true g = refl
     which false g =
-        let p = not_below x y (not_false (int_lt y x) e) in
+        let p = not_below x y (not-true (int_lt y x) e) in
         let q = not_below y x g in
         let s : x ≡ y = omega (arith, ints, p, q) in
-        absurd (true≢false (sym (same_itself x) ∙ ap (same_number x) s ∙ not_false (same_number x y) f))
+        absurd (true≢false (sym (same_itself x) ∙ ap (same_number x) s ∙ not-true (same_number x y) f))
 
 -- where both hold
 meets : (known relation sharp : Relation) (o o' : Option Value)
@@ -326,10 +311,10 @@ greater_of x y e f = which (int_lt y x) refl
     which : (b : Bool) → int_lt y x ≡ b → b ≡ true
     which true g = refl
     which false g =
-        let p = not_below y x (not_false (int_lt x y) e) in
+        let p = not_below y x (not-true (int_lt x y) e) in
         let q = not_below x y g in
         let s : x ≡ y = omega (arith, ints, p, q) in
-        absurd (true≢false (sym (same_itself x) ∙ ap (same_number x) s ∙ not_false (same_number x y) f))
+        absurd (true≢false (sym (same_itself x) ∙ ap (same_number x) s ∙ not-true (same_number x y) f))
 
 sharper_is : (known relation : Relation) (o o' : Option Value) → related known o o' ≡ Some true
     → related relation o o' ≡ Some true → related (sharper known relation) o o' ≡ Some true
@@ -354,7 +339,7 @@ module _ (ts : Temporaries) (orders : Orders) (h : AreOrdered ts orders) where
   of_both : (a u : ℕ) (order : Order) → is_of a u order ≡ true → IsOrdered ts (Some order)
       → related order.relation (ts a) (ts u) ≡ Some true
   of_both a u order e k =
-      let c = both_true (nat_eq order.left a) (nat_eq order.right u) e in
+      let c = and_parts (nat_eq order.left a) (nat_eq order.right u) e in
       sym (ap (λ n. related order.relation (ts n) (ts order.right)) (eqb-true order.left a c.0)
       ∙ ap (λ n. related order.relation (ts a) (ts n)) (eqb-true order.right u c.1)) ∙ k
 
@@ -452,8 +437,8 @@ says_is : (ts : Temporaries) (known : Option Order) (order : Order) → says kno
     → IsOrdered ts (Some order)
 says_is ts None order e h = absurd (true≢false (sym e))
 says_is ts (Some known) order e h =
-    let c = both_true (is_of order.left order.right known) (implies known.relation order.relation) e in
-    let d = both_true (nat_eq known.left order.left) (nat_eq known.right order.right) c.0 in
+    let c = and_parts (is_of order.left order.right known) (implies known.relation order.relation) e in
+    let d = and_parts (nat_eq known.left order.left) (nat_eq known.right order.right) c.0 in
     implies_is known.relation order.relation (ts order.left) (ts order.right) c.1
     (sym (ap (λ n. related known.relation (ts n) (ts known.right)) (eqb-true known.left order.left d.0)
     ∙ ap (λ n. related known.relation (ts order.left) (ts n)) (eqb-true known.right order.right d.1)) ∙ h)
@@ -461,7 +446,7 @@ says_is ts (Some known) order e h =
 say_is : (ts : Temporaries) (orders : Orders) (claimed : Option Order) → say orders claimed ≡ true → AreOrdered ts orders
     → IsOrdered ts claimed
 say_is ts orders None e h = tt
-say_is ts orders (Some order) e h = first (either (says orders.first order) _ e)
+say_is ts orders (Some order) e h = first (or_cases (says orders.first order) _ e)
   where
     third : (says orders.third order ≡ true) ⊎ (says orders.fourth order ≡ true) → IsOrdered ts (Some order)
     third (inl f) = says_is ts orders.third order f h.2
@@ -470,21 +455,21 @@ say_is ts orders (Some order) e h = first (either (says orders.first order) _ e)
     second : (says orders.second order ≡ true) ⊎ ((says orders.third order || says orders.fourth order) ≡ true)
         → IsOrdered ts (Some order)
     second (inl f) = says_is ts orders.second order f h.1
-    second (inr f) = third (either (says orders.third order) (says orders.fourth order) f)
+    second (inr f) = third (or_cases (says orders.third order) (says orders.fourth order) f)
 
     first : (says orders.first order ≡ true)
         ⊎ ((says orders.second order || (says orders.third order || says orders.fourth order)) ≡ true)
         → IsOrdered ts (Some order)
     first (inl f) = says_is ts orders.first order f h.0
-    first (inr f) = second (either (says orders.second order) _ f)
+    first (inr f) = second (or_cases (says orders.second order) _ f)
 
 pub less_ordered : (ts : Temporaries) (orders claimed : Orders) → say_all orders claimed ≡ true → AreOrdered ts orders
     → AreOrdered ts claimed
 less_ordered ts orders claimed e h =
-    let c = both_true (say orders claimed.first)
+    let c = and_parts (say orders claimed.first)
     (say orders claimed.second && (say orders claimed.third && say orders claimed.fourth)) e in
-    let d = both_true (say orders claimed.second) (say orders claimed.third && say orders claimed.fourth) c.1 in
-    let f = both_true (say orders claimed.third) (say orders claimed.fourth) d.1 in (
+    let d = and_parts (say orders claimed.second) (say orders claimed.third && say orders claimed.fourth) c.1 in
+    let f = and_parts (say orders claimed.third) (say orders claimed.fourth) d.1 in (
       say_is ts orders claimed.first c.0 h,
       say_is ts orders claimed.second d.0 h,
       say_is ts orders claimed.third f.0 h,

@@ -5,7 +5,7 @@ use Rattle.std.specs.Prelude.{int_lt, int_div, ◌≤ℤ◌, ◌<ℤ◌}
 use Rattle.std.specs.Ordering.{int_eq}
 use Rattle.std.specs.Int.{int_max, int_min, int_rem_euclid}
 use Rattle.std.proofs.lemmas.Int.{ints, clamps}
-use Rattle.std.proofs.lemmas.Bool.{true≢false}
+use Rattle.std.proofs.lemmas.Bool.{true≢false, and_parts, not-true}
 use Rattle.std.proofs.lemmas.Option.{same_Some}
 use Rattle.tac_code.specs.declared.code.Value.{Value}
 use Rattle.tac_code.specs.declared.code.Value.TheVariants.{Number, Address, Routine}
@@ -24,7 +24,7 @@ use Rattle.tac_known.specs.Kinds.{IsOf, least, greatest, met, low_of, high_of, s
 use Rattle.tac_known.specs.Kinds.{are_natural, are_all_natural, product, divide, quotient_of, quotient, are_plain}
 use Rattle.tac_known.specs.Kinds.{are_integers, plain_sum, bits_kind, fits, lies_within, opposite, one_less, one_more, without, narrowed}
 use Rattle.tac_known.specs.Kinds.{says_nil, not_nil, says_no_more}
-use Rattle.tac_known.proofs.Integers.{not_below, is_below, both_true, not_false, in_range}
+use Rattle.tac_known.proofs.Integers.{not_below, is_below, in_range}
 use Rattle.tac_known.proofs.Integers.{integer_bounds, is_integer_between, plain, remainder_bounds, same_int, other_int}
 use Rattle.tac_known.proofs.Integers.{eq_int, products_grow, quotients_grow}
 
@@ -100,16 +100,16 @@ difference_is (Between l h) (Between l' h') x y a b i =
 
 natural_bounds : (l h : ℤ) → are_natural l h ≡ true → (pos 0 ≤ℤ l) × (pos 0 ≤ℤ h)
 natural_bounds l h e =
-    let b = both_true (not (int_lt l (pos 0))) (not (int_lt h (pos 0))) e in (
-      not_below (pos 0) l (not_false (int_lt l (pos 0)) b.0),
-      not_below (pos 0) h (not_false (int_lt h (pos 0)) b.1),
+    let b = and_parts (not (int_lt l (pos 0))) (not (int_lt h (pos 0))) e in (
+      not_below (pos 0) l (not-true (int_lt l (pos 0)) b.0),
+      not_below (pos 0) h (not-true (int_lt h (pos 0)) b.1),
     )
 
 -- a product of numbers that aren't negative lies between those of their bounds
 product_within : (l h l' h' x y : ℤ) → are_all_natural l h l' h' ≡ true → l ≤ℤ x → x ≤ℤ h → l' ≤ℤ y
     → y ≤ℤ h' → (pos 0 ≤ℤ (x *ℤ y)) × ((l *ℤ l') ≤ℤ (x *ℤ y)) × ((x *ℤ y) ≤ℤ (h *ℤ h'))
 product_within l h l' h' x y e m0 m1 n0 n1 =
-    let c = both_true (are_natural l h) (are_natural l' h') e in
+    let c = and_parts (are_natural l h) (are_natural l' h') e in
     let p = (natural_bounds l h c.0).0 in
     let q = (natural_bounds l' h' c.1).0 in
     let p' : pos 0 ≤ℤ x = omega (arith, ints, p, m0) in
@@ -147,8 +147,8 @@ quotient_is (Between l h) (Between l' h') x y a b i = which (divide l h l' h') r
         (if t then Between (quotient_of l l') (quotient_of h l') else Between least greatest)
         (Some (Number (int_div x y)))
     which true e =
-        let c = both_true (are_natural l h) (int_lt (pos 0) l' && int_eq l' h') e in
-        let d = both_true (int_lt (pos 0) l') (int_eq l' h') c.1 in
+        let c = and_parts (are_natural l h) (int_lt (pos 0) l' && int_eq l' h') e in
+        let d = and_parts (int_lt (pos 0) l') (int_eq l' h') c.1 in
         let p = (natural_bounds l h c.0).0 in
         let r = is_below l' (pos 0) d.0 in
         let s = eq_int l' h' d.1 in
@@ -215,7 +215,7 @@ computed_is Modulo error k k' x y z a b e = which (int_lt (pos 0) y) refl e
 
 integer_in : (l h x : ℤ) → are_integers l h ≡ true → l ≤ℤ x → x ≤ℤ h → is_integer x ≡ true
 integer_in l h x e p q =
-    let b = both_true (is_integer l) (is_integer h) e in
+    let b = and_parts (is_integer l) (is_integer h) e in
     let m = (integer_bounds l b.0).0 in let n = (integer_bounds h b.1).1 in
     is_integer_between x (omega (arith, ints, m, p)) (omega (arith, ints, n, q))
 
@@ -232,8 +232,8 @@ plain_is (Between l h) (Between l' h') x y a b =
         (if t then Between (low_of (l +ℤ l')) (high_of (h +ℤ h')) else Unknown) (Some (Number (bits Plus x y)))
     which false e = tt
     which true e =
-        let c = both_true (are_integers l h) (are_integers l' h' && are_integers (l +ℤ l') (h +ℤ h')) e in
-        let d = both_true (are_integers l' h') (are_integers (l +ℤ l') (h +ℤ h')) c.1 in
+        let c = and_parts (are_integers l h) (are_integers l' h' && are_integers (l +ℤ l') (h +ℤ h')) e in
+        let d = and_parts (are_integers l' h') (are_integers (l +ℤ l') (h +ℤ h')) c.1 in
         let m = number_within l h x a in let n = number_within l' h' y b in
         let m0 = m.0 in let m1 = m.1 in let n0 = n.0 in let n1 = n.1 in
         let p : (l +ℤ l') ≤ℤ (x +ℤ y) = omega (arith, ints, m0, n0) in
@@ -247,13 +247,13 @@ plain_is (Between l h) (Between l' h') x y a b =
 pub plain_sum_is : (l h x z : ℤ) → are_plain l h z z ≡ true → IsOf (Between l h) (Some (Number x)) → bits Plus x z
     ≡ x +ℤ z
 plain_sum_is l h x z e a =
-    let c = both_true (are_integers l h) (are_integers z z && are_integers (l +ℤ z) (h +ℤ z)) e in
-    let d = both_true (are_integers z z) (are_integers (l +ℤ z) (h +ℤ z)) c.1 in
+    let c = and_parts (are_integers l h) (are_integers z z && are_integers (l +ℤ z) (h +ℤ z)) e in
+    let d = and_parts (are_integers z z) (are_integers (l +ℤ z) (h +ℤ z)) c.1 in
     let m = number_within l h x a in
     let m0 = m.0 in let m1 = m.1 in
     let p : (l +ℤ z) ≤ℤ (x +ℤ z) = omega (arith, ints, m0) in
     let q : (x +ℤ z) ≤ℤ (h +ℤ z) = omega (arith, ints, m1) in
-    plain x z (integer_in l h x c.0 m0 m1) (both_true (is_integer z) (is_integer z) d.0).0
+    plain x z (integer_in l h x c.0 m0 m1) (and_parts (is_integer z) (is_integer z) d.0).0
     (integer_in (l +ℤ z) (h +ℤ z) (x +ℤ z) d.1 p q)
 
 pub bits_is : (operator : BitOperator) (k k' : Kind) (x y : ℤ) → IsOf k (Some (Number x)) → IsOf k' (Some (Number y))
@@ -279,7 +279,7 @@ fits_gives Subtract (Between l h) (Between l' h') x y e a b =
     let i = integer_in (l -ℤ h') (h -ℤ l') (x -ℤ y) e (omega (arith, ints, m0, n1)) (omega (arith, ints, m1, n0)) in
     (x -ℤ y, λ error. ap (λ t. if t then Gives (x -ℤ y) else Fails error) i)
 fits_gives Multiply (Between l h) (Between l' h') x y e a b =
-    let c = both_true (are_all_natural l h l' h') (is_integer (h *ℤ h')) e in
+    let c = and_parts (are_all_natural l h l' h') (is_integer (h *ℤ h')) e in
     let m = number_within l h x a in let n = number_within l' h' y b in
     let w = product_within l h l' h' x y c.0 m.0 m.1 n.0 n.1 in
     let w0 = w.0 in let w1 = w.2 in
@@ -307,9 +307,9 @@ lies_in Unknown low high x e is = absurd (true≢false (sym e))
 lies_in NotNil low high x e is = absurd (true≢false (sym e))
 lies_in (Between l h) low high x e is =
     let n = number_within l h x is in let n0 = n.0 in let n1 = n.1 in
-    let b = both_true (not (int_lt l low)) (not (int_lt high h)) e in
-    let p = not_below low l (not_false (int_lt l low) b.0) in
-    let q = not_below h high (not_false (int_lt high h) b.1) in
+    let b = and_parts (not (int_lt l low)) (not (int_lt high h)) e in
+    let p = not_below low l (not-true (int_lt l low) b.0) in
+    let q = not_below h high (not-true (int_lt high h) b.1) in
     in_range low high x (omega (arith, ints, n0, p)) (omega (arith, ints, n1, q))
 
 -- a number that is 0 or 1
@@ -318,9 +318,9 @@ pub is_bit : (k : Kind) (o : Option Value) → lies_within k (pos 0) (pos 1) ≡
 is_bit Unknown o e is = absurd (true≢false (sym e))
 is_bit NotNil o e is = absurd (true≢false (sym e))
 is_bit (Between l h) o e (x, f, n0, n1) =
-    let b = both_true (not (int_lt l (pos 0))) (not (int_lt (pos 1) h)) e in
-    let p = not_below (pos 0) l (not_false (int_lt l (pos 0)) b.0) in
-    let q = not_below h (pos 1) (not_false (int_lt (pos 1) h) b.1) in
+    let b = and_parts (not (int_lt l (pos 0))) (not (int_lt (pos 1) h)) e in
+    let p = not_below (pos 0) l (not-true (int_lt l (pos 0)) b.0) in
+    let q = not_below h (pos 1) (not-true (int_lt (pos 1) h) b.1) in
     (x, f, omega (arith, ints, n0, p), omega (arith, ints, n1, q))
 
 pub truth_of_bit : (x : ℤ) → pos 0 ≤ℤ x → x ≤ℤ pos 1 → truth (not (same_number x (pos 0))) ≡ x
@@ -396,21 +396,21 @@ narrowed_is NotEqual l h l' h' x y e p q p' q' = which (int_eq l' h') refl
     which true f =
         let s = eq_int l' h' f in
         let only : y ≡ l' = omega (arith, ints, p', q', s) in
-        without_is l h l' x (λ same. other_int x y (not_false (same_number x y) e) (same ∙ sym only)) p q
+        without_is l h l' x (λ same. other_int x y (not-true (same_number x y) e) (same ∙ sym only)) p q
     which false f = is_between l h x p q
 narrowed_is Less l h l' h' x y e p q p' q' =
     let s = is_below y x e in
     let t = under h' x (omega (arith, ints, q', s)) in
     is_between l (int_min h (one_less h')) x p (omega (arith, ints, clamps, q, t))
 narrowed_is LessEqual l h l' h' x y e p q p' q' =
-    let s = not_below x y (not_false (int_lt y x) e) in
+    let s = not_below x y (not-true (int_lt y x) e) in
     is_between l (int_min h h') x p (omega (arith, ints, clamps, q, q', s))
 narrowed_is Greater l h l' h' x y e p q p' q' =
     let s = is_below x y e in
     let t = over l' x (omega (arith, ints, p', s)) in
     is_between (int_max l (one_more l')) h x (omega (arith, ints, clamps, p, t)) q
 narrowed_is GreaterEqual l h l' h' x y e p q p' q' =
-    let s = not_below y x (not_false (int_lt x y) e) in
+    let s = not_below y x (not-true (int_lt x y) e) in
     is_between (int_max l l') h x (omega (arith, ints, clamps, p, p', s)) q
 
 pub related_is : (relation : Relation) (l h l' h' x y : ℤ) → compared relation x y ≡ true → IsOf (Between l h)
@@ -426,7 +426,7 @@ zero_is : (k : Kind) (o : Option Value) → says_nil k ≡ true → IsOf k o →
 zero_is Unknown o e is = absurd (true≢false (sym e))
 zero_is NotNil o e is = absurd (true≢false (sym e))
 zero_is (Between l h) o e (x, f, p, q) =
-    let b = both_true (int_eq l (pos 0)) (int_eq h (pos 0)) e in
+    let b = and_parts (int_eq l (pos 0)) (int_eq h (pos 0)) e in
     let s = eq_int l (pos 0) b.0 in
     let t = eq_int h (pos 0) b.1 in
     let only : x ≡ pos 0 = omega (arith, ints, p, q, s, t) in
@@ -467,7 +467,7 @@ less_is (Between l h) NotNil o e is = absurd (true≢false (sym e))
 less_is Unknown (Between l' h') o e is = absurd (true≢false (sym e))
 less_is NotNil (Between l' h') o e is = absurd (true≢false (sym e))
 less_is (Between l h) (Between l' h') o e (x, f, p, q) =
-    let b = both_true (not (int_lt l l')) (not (int_lt h' h)) e in
-    let m = not_below l' l (not_false (int_lt l l') b.0) in
-    let n = not_below h h' (not_false (int_lt h' h) b.1) in
+    let b = and_parts (not (int_lt l l')) (not (int_lt h' h)) e in
+    let m = not_below l' l (not-true (int_lt l l') b.0) in
+    let n = not_below h h' (not-true (int_lt h' h) b.1) in
     (x, f, omega (arith, ints, p, m), omega (arith, ints, q, n))

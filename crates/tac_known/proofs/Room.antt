@@ -1,5 +1,6 @@
 -- Lean code has the room of the code that it was made from.
 use Rattle.std.proofs.Common.{◌≡◌, ℕ, zero, suc, ◌<◌, ◌≤◌, List, [], ◌∷◌, ◌++◌, length, slice_get, Some, arith}
+use Rattle.std.proofs.lemmas.Option.{slice_get_within}
 use Rattle.tac_code.specs.declared.code.TacRoutine.{TacRoutine}
 use Rattle.tac_code.specs.Meaning.{Code}
 use Rattle.tac_pass_laws.specs.Passed.{room, IsPassed}
@@ -16,11 +17,6 @@ pub in_first : {X : Type 0} (xs ys : List X) (r : ℕ) (x : X) → r < length xs
 in_first [] ys r x lt e = absurd (omega (arith, lt))
 in_first (z ∷ xs) ys zero x lt e = e
 in_first (z ∷ xs) ys (suc r) x lt e = in_first xs ys r x (omega (arith, lt)) e
-
-pub within : {X : Type 0} (xs : List X) (r : ℕ) (x : X) → slice_get xs r ≡ Some x → r < length xs
-within [] r x e = absurd (cc e)
-within (z ∷ xs) zero x e = omega arith
-within (z ∷ xs) (suc r) x e = let lt = within xs r x e in omega (arith, lt)
 
 within_room : (routine routine' : TacRoutine) → LeanRoutine routine routine' → room routine' ≤ room routine
 within_room routine routine' l =
@@ -39,7 +35,7 @@ lean_are_passed old new made = record {
     objects = made.objects;
     sizes = λ r routine e.
         let one = made.routines r routine (in_both old.program old.run_time r routine e) in
-        let lt : r < length old.program = within old.program r routine e in
+        let lt : r < length old.program = slice_get_within old.program r routine e in
         let as_many = made.program in (
           one.0,
           in_first new.program new.run_time r one.0 (omega (arith, lt, as_many)) one.1,

@@ -5,7 +5,7 @@ use Rattle.std.proofs.Common.{refl, sym, ap, ◌∙◌, subst, arith}
 use Rattle.std.specs.Prelude.{int_lt}
 use Rattle.std.proofs.Common.{not}
 use Rattle.std.proofs.lemmas.Int.{ints}
-use Rattle.std.proofs.lemmas.Bool.{true≢false, cases_eq}
+use Rattle.std.proofs.lemmas.Bool.{true≢false, cases_eq, and_parts}
 use Rattle.std.proofs.lemmas.Option.{none-some, same_Some}
 use Rattle.tac_code.specs.declared.code.Instruction.{Instruction}
 use Rattle.tac_code.specs.declared.code.Instruction.TheVariants.{Literal, Copy, Arithmetic, Bits, Compare, CheckRange}
@@ -25,7 +25,7 @@ use Rattle.tac_known.specs.Walk.{orders_fall, Known, falls_from, nothing, known_
 use Rattle.tac_known.specs.Walk.{is_well, orders_allowed, orders_aimed, orders_aim_well, orders_fall_well}
 use Rattle.tac_known.specs.Walk.{orders_are_well}
 use Rattle.tac_known.proofs.Ordered.{say_all_itself}
-use Rattle.tac_known.proofs.Integers.{no_less, both_true}
+use Rattle.tac_known.proofs.Integers.{no_less}
 use Rattle.tac_known.proofs.Holding.{nothing_more}
 
 -- what was known of a temporary is put back
@@ -181,18 +181,18 @@ module _ (count : ℕ) (claims : Claims) (order_claims : OrderClaims) (body : Li
   leads_well place (New x0 x1 x2) there w = falls_at place (New x0 x1 x2) there w
   leads_well place (Jump x0) there w =
       aims_at (at place) (suc place + x0)
-      (both_true (aims_well claims (at place) (ord place) place (Jump x0)) true w).0
+      (and_parts (aims_well claims (at place) (ord place) place (Jump x0)) true w).0
   leads_well place (JumpBack x0) there w =
       aims_at (at place) (place - x0)
-      (both_true (aims_well claims (at place) (ord place) place (JumpBack x0)) true w).0
+      (and_parts (aims_well claims (at place) (ord place) place (JumpBack x0)) true w).0
   leads_well place (Branch x0 x1 x2 x3) there w =
-      let b = both_true (aims_well claims (at place) (ord place) place (Branch x0 x1 x2 x3))
+      let b = and_parts (aims_well claims (at place) (ord place) place (Branch x0 x1 x2 x3))
       (falls_well claims (at place) (ord place) place (Branch x0 x1 x2 x3)) w in (
         aims_at (where_related (sharp (ord place) x0 x1 x2) x1 x2 (at place)) (suc place + x3) b.0,
         falls_at place (Branch x0 x1 x2 x3) there b.1,
       )
   leads_well place (BranchBack x0 x1 x2 x3) there w =
-      let b = both_true (aims_well claims (at place) (ord place) place (BranchBack x0 x1 x2 x3))
+      let b = and_parts (aims_well claims (at place) (ord place) place (BranchBack x0 x1 x2 x3))
       (falls_well claims (at place) (ord place) place (BranchBack x0 x1 x2 x3)) w in (
         aims_at (where_related (sharp (ord place) x0 x1 x2) x1 x2 (at place)) (place - x3) b.0,
         falls_at place (BranchBack x0 x1 x2 x3) there b.1,
@@ -225,18 +225,18 @@ module _ (count : ℕ) (claims : Claims) (order_claims : OrderClaims) (body : Li
   orders_lead_well place (New x0 x1 x2) there w = orders_fall_at place (New x0 x1 x2) there w
   orders_lead_well place (Jump x0) there w =
       orders_aimed_at (ord place) (suc place + x0)
-      (both_true (orders_aim_well order_claims (ord place) place (Jump x0)) true w).0
+      (and_parts (orders_aim_well order_claims (ord place) place (Jump x0)) true w).0
   orders_lead_well place (JumpBack x0) there w =
       orders_aimed_at (ord place) (place - x0)
-      (both_true (orders_aim_well order_claims (ord place) place (JumpBack x0)) true w).0
+      (and_parts (orders_aim_well order_claims (ord place) place (JumpBack x0)) true w).0
   orders_lead_well place (Branch x0 x1 x2 x3) there w =
-      let b = both_true (orders_aim_well order_claims (ord place) place (Branch x0 x1 x2 x3))
+      let b = and_parts (orders_aim_well order_claims (ord place) place (Branch x0 x1 x2 x3))
       (orders_fall_well order_claims (at place) (ord place) place (Branch x0 x1 x2 x3)) w in (
         orders_aimed_at (orders_where (ord place) x0 x1 x2) (suc place + x3) b.0,
         orders_fall_at place (Branch x0 x1 x2 x3) there b.1,
       )
   orders_lead_well place (BranchBack x0 x1 x2 x3) there w =
-      let b = both_true (orders_aim_well order_claims (ord place) place (BranchBack x0 x1 x2 x3))
+      let b = and_parts (orders_aim_well order_claims (ord place) place (BranchBack x0 x1 x2 x3))
       (orders_fall_well order_claims (at place) (ord place) place (BranchBack x0 x1 x2 x3)) w in (
         orders_aimed_at (orders_where (ord place) x0 x1 x2) (place - x3) b.0,
         orders_fall_at place (BranchBack x0 x1 x2 x3) there b.1,

@@ -2,6 +2,7 @@
 use Rattle.std.proofs.Common.{◌≡◌, ◌≢◌, ◌⊎◌, inl, inr, ℕ, zero, suc, ◌+◌, ◌-◌, Bool, true, false, List, [], ◌∷◌}
 use Rattle.std.proofs.Common.{slice_get, Option, Some, None, sym, ◌∙◌, subst, arith, eqb-true, true≢false}
 use Rattle.std.proofs.lemmas.Option.{none-some, same_Some}
+use Rattle.std.proofs.lemmas.Bool.{and_parts}
 use Rattle.tac_code.specs.declared.code.Instruction.{Instruction}
 use Rattle.tac_code.specs.declared.code.Instruction.TheVariants.{Literal, Copy, Arithmetic, Bits, Compare, CheckRange}
 use Rattle.tac_code.specs.declared.code.Instruction.TheVariants.{CheckPointer, Text, Offset, Index, RoutineValue, Load}
@@ -19,7 +20,6 @@ use Rattle.tac_pass.specs.Tables.{Table, or_unknown, or_unminded, place_of, word
 use Rattle.tac_pass.specs.Acts.{Made, kept, moved_word}
 use Rattle.tac_pass.specs.Certified.{is_passed, are_passed, is_new, are_new, begins, Tested, certificate_of, IsPut}
 use Rattle.tac_pass.specs.Certified.{ArePut, Leads, LeftOut, MadeFrom, Turned, Ended, PassedAt, Certified}
-use Rattle.tac_pass.proofs.TableRows.{both_true}
 use Rattle.tac_pass.proofs.Tables.{forgetful_is}
 use Rattle.tac_pass.proofs.ActParts.{all_forgets, right_is}
 use Rattle.tac_pass.proofs.Acts.{kept_is, ending_is, spared_is, moved_is, cleaned_is, fetched_is}
@@ -32,13 +32,13 @@ passed_rows : (from : ℕ) (xs : List Known) (u t : ℕ) → are_passed from xs 
     ≡ Some t → t ≡ from + u
 passed_rows from [] u t f h = absurd (none-some t h)
 passed_rows from (x ∷ xs) zero t f h = which x.holder
-    (both_true (is_passed from x.holder) (are_passed (suc from) xs) f).0 h
+    (and_parts (is_passed from x.holder) (are_passed (suc from) xs) f).0 h
   where
     which : (o : Option ℕ) → is_passed from o ≡ true → o ≡ Some t → t ≡ from + 0
     which None g h = absurd (none-some t h)
     which (Some v) g h = let a = eqb-true v from g in let b = same_Some v t h in omega (arith, a, b)
 passed_rows from (x ∷ xs) (suc u) t f h =
-    let e = passed_rows (suc from) xs u t (both_true (is_passed from x.holder) (are_passed (suc from) xs) f).1 h
+    let e = passed_rows (suc from) xs u t (and_parts (is_passed from x.holder) (are_passed (suc from) xs) f).1 h
     in omega (arith, e)
 
 pub record NewWord (w : Word) : Type 0 where
@@ -48,7 +48,7 @@ pub record NewWord (w : Word) : Type 0 where
 new_rows : (ws : List Word) (i : ℕ) → are_new ws ≡ true → NewWord (or_unminded (slice_get ws i))
 new_rows [] i f = record { holder = λ t h. none-some t h; blank = λ h. true≢false h }
 new_rows (w ∷ ws) zero f =
-    let g = which w.value.holder w.blank (both_true (is_new w.value.holder w.blank) (are_new ws) f).0 in record {
+    let g = which w.value.holder w.blank (and_parts (is_new w.value.holder w.blank) (are_new ws) f).0 in record {
       holder = g.0;
       blank = g.1;
     }
@@ -56,7 +56,7 @@ new_rows (w ∷ ws) zero f =
     which : (o : Option ℕ) (b : Bool) → is_new o b ≡ true → ((t : ℕ) → o ≢ Some t) × (b ≢ false)
     which None b g = (λ t h. none-some t h, λ h. true≢false (sym g ∙ h))
     which (Some v) b g = absurd (true≢false (sym g))
-new_rows (w ∷ ws) (suc i) f = new_rows ws i (both_true (is_new w.value.holder w.blank) (are_new ws) f).1
+new_rows (w ∷ ws) (suc i) f = new_rows ws i (and_parts (is_new w.value.holder w.blank) (are_new ws) f).1
 
 new_words : (ws : List Word) (o : Option ℕ) → are_new ws ≡ true → NewWord (word_at_place ws o)
 new_words ws None f = record { holder = λ t h. none-some t h; blank = λ h. true≢false h }
@@ -64,7 +64,7 @@ new_words ws (Some i) f = new_rows ws i f
 
 begins_is : (minded : List ℕ) (table : Table) → begins table ≡ true → Begins (claim_in minded table)
 begins_is minded table f =
-    let g = both_true (are_passed 0 table.temporaries) (are_new table.words) f in
+    let g = and_parts (are_passed 0 table.temporaries) (are_new table.words) f in
     record {
       temporaries = λ u t h. let e = passed_rows 0 table.temporaries u t g.0 h in omega (arith, e);
       words = λ k t h. (new_words table.words (place_of minded k) g.1).holder t h;

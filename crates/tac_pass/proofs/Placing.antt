@@ -2,7 +2,7 @@
 use Rattle.std.proofs.Common.{◌≡◌, ◌⊎◌, inl, inr, ℕ, suc, ◌+◌, ◌++◌, true, false, not, ◌&&◌, ◌||◌, nat_eq, nat_lt}
 use Rattle.std.proofs.Common.{Bool, arith, List, [], ◌∷◌, length, slice_get, Option, Some, None, IfSome, refl, sym}
 use Rattle.std.proofs.Common.{◌∙◌, subst, ap, true≢false}
-use Rattle.std.proofs.lemmas.Bool.{eq-eqb}
+use Rattle.std.proofs.lemmas.Bool.{eq-eqb, and_from, or_right, not_from_false}
 use Rattle.std.proofs.lemmas.Option.{none-some, same_Some}
 use Rattle.tac_code.specs.declared.code.Instruction.{Instruction}
 use Rattle.tac_pass.specs.declared.plan.Put.{Put}
@@ -96,52 +96,40 @@ holds_itself : (o : Option ℕ) → holds_no_more o o ≡ true
 holds_itself None = refl
 holds_itself (Some v) = eq_self v
 
-both_are : (a b : Bool) → a ≡ true → b ≡ true → (a && b) ≡ true
-both_are true b e f = f
-both_are false b e f = absurd (true≢false (sym e))
-
 or_not : (a : Bool) → (a || not a) ≡ true
 or_not true = refl
 or_not false = refl
 
-or_true : (a b : Bool) → b ≡ true → (a || b) ≡ true
-or_true true b e = refl
-or_true false b e = e
-
-not_false : (a : Bool) → a ≡ false → not a ≡ true
-not_false true e = absurd (true≢false e)
-not_false false e = refl
-
 within_itself : (x : Reach) → is_within x x ≡ true
 within_itself Anywhere = refl
 within_itself (Within low high) =
-    or_true (not (nat_lt low high)) (not (nat_lt low low) && not (nat_lt high high))
-    (both_are (not (nat_lt low low)) (not (nat_lt high high)) (not_false (nat_lt low low) (lt_self low))
-    (not_false (nat_lt high high) (lt_self high)))
+    or_right (not (nat_lt low high)) (not (nat_lt low low) && not (nat_lt high high))
+    (and_from (not (nat_lt low low)) (not (nat_lt high high)) (not_from_false (nat_lt low low) (lt_self low))
+    (not_from_false (nat_lt high high) (lt_self high)))
 
 known_itself : (x : Known) → is_no_more x x ≡ true
 known_itself x =
-    both_are (holds_no_more x.holder x.holder) (is_within x.reach x.reach) (holds_itself x.holder)
+    and_from (holds_no_more x.holder x.holder) (is_within x.reach x.reach) (holds_itself x.holder)
     (within_itself x.reach)
 
 word_itself : (w : Word) → is_no_more_word w w ≡ true
 word_itself w =
-    both_are (is_no_more w.value w.value) ((w.stale || not w.stale) && (w.blank || not w.blank)) (known_itself w.value)
-    (both_are (w.stale || not w.stale) (w.blank || not w.blank) (or_not w.stale) (or_not w.blank))
+    and_from (is_no_more w.value w.value) ((w.stale || not w.stale) && (w.blank || not w.blank)) (known_itself w.value)
+    (and_from (w.stale || not w.stale) (w.blank || not w.blank) (or_not w.stale) (or_not w.blank))
 
 all_itself : {X : Type 0} (less : X → X → Bool) → ((x : X) → less x x ≡ true) → (xs : List X) → all_no_more less xs xs
     ≡ true
 all_itself less each [] = refl
-all_itself less each (x ∷ xs) = both_are (less x x) (all_no_more less xs xs) (each x) (all_itself less each xs)
+all_itself less each (x ∷ xs) = and_from (less x x) (all_no_more less xs xs) (each x) (all_itself less each xs)
 
 pub forgetful_itself : (t : Table) → is_forgetful t t ≡ true
 forgetful_itself t =
-    both_are (nat_eq (length t.temporaries) (length t.temporaries))
+    and_from (nat_eq (length t.temporaries) (length t.temporaries))
     (nat_eq (length t.words) (length t.words)
     && (all_no_more is_no_more t.temporaries t.temporaries && all_no_more is_no_more_word t.words t.words))
-    (eq_self (length t.temporaries)) (both_are (nat_eq (length t.words) (length t.words))
+    (eq_self (length t.temporaries)) (and_from (nat_eq (length t.words) (length t.words))
     (all_no_more is_no_more t.temporaries t.temporaries && all_no_more is_no_more_word t.words t.words)
-    (eq_self (length t.words)) (both_are (all_no_more is_no_more t.temporaries t.temporaries)
+    (eq_self (length t.words)) (and_from (all_no_more is_no_more t.temporaries t.temporaries)
     (all_no_more is_no_more_word t.words t.words) (all_itself is_no_more known_itself t.temporaries)
     (all_itself is_no_more_word word_itself t.words)))
 

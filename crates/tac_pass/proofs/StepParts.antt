@@ -2,6 +2,7 @@
 use Rattle.std.proofs.Common.{◌≡◌, ◌⊎◌, inl, inr, ℕ, suc, ◌+◌, ◌*◌, ◌<◌, Bool, true, false, nat_lt, if◌then◌else◌, List}
 use Rattle.std.proofs.Common.{length, map, slice_get, Option, Some, None, refl, sym, ap, ◌∙◌, subst}
 use Rattle.std.proofs.lemmas.Option.{none-some}
+use Rattle.std.proofs.lemmas.Bool.{ltb-true}
 use Rattle.tac_code.specs.declared.code.Block.TheVariants.{Frame}
 use Rattle.tac_code.specs.declared.code.Value.{Value}
 use Rattle.tac_code.specs.declared.code.Base.TheVariants as base
@@ -21,7 +22,7 @@ use Rattle.tac_pass.specs.Rules.{As_word, Renames, Calls}
 use Rattle.tac_pass.specs.Follows.{Checked, Becomes, IsSpared, IsRenamed, Jumps, IsEnding}
 use Rattle.tac_pass.proofs.Words.{with_own, load_own, store_own}
 use Rattle.tac_pass.proofs.Inside.{with_set, NotThere}
-use Rattle.tac_pass.proofs.Stepping.{below_of, Followed, act_old, act_new, some_follows}
+use Rattle.tac_pass.proofs.Stepping.{Followed, act_old, act_new, some_follows}
 
 -- the constants of both codes
 module _ (old new : Code) (e : Certificate) (checked : Checked old new e) where
@@ -148,5 +149,5 @@ module _ (old new : Code) (p : Setting) (e : Certificate) (same_count : length n
       within : (v : Value) → s.current.temporaries from ≡ Some v → (x : Bool) → nat_lt k (length a.words) ≡ x → Follow b
           (with_some (if x then Some (with_own s.current.number (with_set a.words k v) a.rest s.memory) else None)
           (λ m. stores m s))
-      within v is true below = h v is (below_of k (length a.words) below)
+      within v is true below = h v is (ltb-true k (length a.words) below)
       within v is false below = λ live. absurd (live refl)

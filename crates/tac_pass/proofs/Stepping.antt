@@ -1,6 +1,6 @@
 -- Each step of the old code is followed by the new code's, by the rules: what all steps have in common.
-use Rattle.std.proofs.Common.{◌≡◌, ℕ, suc, ◌<◌, ℤ, pos, negsuc, Bool, true, false, nat_lt, if◌then◌else◌, length}
-use Rattle.std.proofs.Common.{slice_get, Option, Some, None, refl, ap, ◌∙◌, subst, arith}
+use Rattle.std.proofs.Common.{◌≡◌, ℕ, suc, ℤ, pos, negsuc, Bool, true, false, nat_lt, if◌then◌else◌, length}
+use Rattle.std.proofs.Common.{slice_get, Option, Some, None, refl, ap, ◌∙◌, subst}
 use Rattle.behavior.specs.Endings.{Ending, Stuck}
 use Rattle.tac_code.specs.declared.code.Block.{Block}
 use Rattle.tac_code.specs.declared.code.Value.{Value}
@@ -21,9 +21,6 @@ use Rattle.tac_pass.proofs.Simulating.{Reaches, Ends, goes, ends, Follows}
 use Rattle.tac_pass.proofs.Inside.{NotThere, inside_forgot, inside_gave}
 use Rattle.tac_pass.proofs.Likeness.{at_place, given, alike_inside}
 use Rattle.tac_pass.proofs.Values.{elsewhere, open_alike}
-
-pub below_of : (a b : ℕ) → nat_lt a b ≡ true → a < b
-below_of a b e = grind arith
 
 module _ (old new : Code) (p : Setting) (e : Certificate) where
   abbrev pub Followed : Bool → State → State → Step → Type 0

@@ -1,9 +1,9 @@
 -- Rows and words of a table are set, and what a table claims of the others stays.
-use Rattle.std.proofs.Common.{◌≡◌, ◌≢◌, ◌⊎◌, inl, inr, ℕ, zero, suc, ◌<◌, Bool, true, false, ◌&&◌, nat_eq, nat_lt, ◌≤◌}
+use Rattle.std.proofs.Common.{◌≡◌, ◌≢◌, ◌⊎◌, inl, inr, ℕ, zero, suc, ◌<◌, Bool, true, false, nat_eq, nat_lt, ◌≤◌}
 use Rattle.std.proofs.Common.{if◌then◌else◌, List, [], ◌∷◌, length, map, slice_get, slice_set, Option, Some, None, refl}
 use Rattle.std.proofs.Common.{sym, ap, ◌∙◌, subst, arith, eq-eqb, eqb-true, true≢false}
 use Rattle.std.proofs.lemmas.Bool.{cases_eq, false_from_ne_true}
-use Rattle.std.proofs.lemmas.Option.{none-some, same_Some}
+use Rattle.std.proofs.lemmas.Option.{none-some, same_Some, slice_get_past}
 use Rattle.tac_pass.specs.declared.table.Reach.TheVariants.{Within}
 use Rattle.tac_pass.specs.declared.table.Known.{Known}
 use Rattle.tac_pass.specs.declared.table.Word.{Word}
@@ -11,10 +11,6 @@ use Rattle.tac_pass.specs.Tables.{Table, points_to, unknown, unminded, or_unknow
 use Rattle.tac_pass.specs.Tables.{word_at_place, known_in, word_in, is_held_by, freed, with_known, words_with}
 use Rattle.tac_pass.specs.Tables.{with_word, is_there, is_minded}
 use Rattle.tac_pass.proofs.Words.{get_set_same, get_set_other}
-
-pub both_true : (a b : Bool) → (a && b) ≡ true → (a ≡ true) × (b ≡ true)
-both_true true b f = (refl, f)
-both_true false b f = absurd (true≢false (sym f))
 
 pub no_longer : {X : Type 0} → true ≡ false → X
 no_longer f = absurd (true≢false f)
@@ -25,11 +21,6 @@ get_set_past : {X : Type 0} (xs : List X) (i : ℕ) (x : X) → length xs ≤ i 
 get_set_past [] i x l = refl
 get_set_past (y ∷ ys) zero x l = absurd (omega (arith, l))
 get_set_past (y ∷ ys) (suc i) x l = get_set_past ys i x (omega (arith, l))
-
-get_past : {X : Type 0} (xs : List X) (i : ℕ) → length xs ≤ i → slice_get xs i ≡ None
-get_past [] i l = refl
-get_past (y ∷ ys) zero l = absurd (omega (arith, l))
-get_past (y ∷ ys) (suc i) l = get_past ys i (omega (arith, l))
 
 -- Row v behind a change of row u to x: that, none, or what it was.
 pub data SetRow {X : Type 0} (none x was now : X) (u v : ℕ) : Type 0 where
@@ -49,7 +40,7 @@ set_row or back xs u x v = which (cases_eq v u)
     within e false l =
         let above : length xs ≤ u = grind arith in Past e
         (ap or (ap (slice_get (slice_set xs u x)) e ∙ get_set_past xs u x above))
-        (ap or (ap (slice_get xs) e ∙ get_past xs u above))
+        (ap or (ap (slice_get xs) e ∙ slice_get_past xs u above))
 
     which : (v ≡ u) ⊎ (v ≢ u) → SetRow (or None) x (or (slice_get xs v)) (or (slice_get (slice_set xs u x) v)) u v
     which (inl e) = within e (nat_lt u (length xs)) refl

@@ -2,7 +2,7 @@
 use Rattle.std.proofs.Common.{◌≡◌, ◌≢◌, ◌⊎◌, inl, inr, ℕ, zero, suc, ◌+◌, ◌*◌, ◌<◌, Bool, true, false, not, ◌&&◌}
 use Rattle.std.proofs.Common.{nat_eq, nat_lt, if◌then◌else◌, List, [], ◌∷◌, slice_get, Option, Some, None, refl, sym}
 use Rattle.std.proofs.Common.{ap, ◌∙◌, arith, eqb-true, true≢false}
-use Rattle.std.proofs.lemmas.Bool.{and_cases, and_right, false_from_ne_true, ltb-true, ltb-false, lt-ltb}
+use Rattle.std.proofs.lemmas.Bool.{and_cases, and_right, false_from_ne_true, ltb-true, ltb-false, lt-ltb, and_parts}
 use Rattle.std.proofs.lemmas.Option.{none-some}
 use Rattle.tac_code.specs.declared.code.Base.{Base}
 use Rattle.tac_code.specs.declared.code.Base.TheVariants as base
@@ -14,7 +14,7 @@ use Rattle.tac_pass.specs.Rules.{base_points, Misses, Sees, Wrote, Called}
 use Rattle.tac_pass.specs.Tables.{Table, points_to, nowhere, unknown, unminded, or_unminded, one_further, place_of}
 use Rattle.tac_pass.specs.Tables.{word_at_place, known_in, word_in, claim_in, free, give, base_reach, may_hit, sees_all}
 use Rattle.tac_pass.specs.Tables.{is_seen, hit, hit_all, write, are_fresh, called_word, call}
-use Rattle.tac_pass.proofs.TableRows.{Here, Other, Past, SetRow, at_first, both_true, no_longer, word_mapped}
+use Rattle.tac_pass.proofs.TableRows.{Here, Other, Past, SetRow, at_first, no_longer, word_mapped}
 use Rattle.tac_pass.proofs.TableValues.{c, free_blank, free_points, given_holds, new_one, set_here}
 
 module _ (minded : List ℕ) (table : Table) where
@@ -59,7 +59,7 @@ module _ (minded : List ℕ) (table : Table) where
       nothing_there None = refl
       nothing_there (Some i) = refl
   seen_rows reach n (x ∷ ks) (w ∷ ws) k f hits = which
-      (seen_rows reach n ks ws k (both_true (not (may_hit reach n x && w.stale)) (sees_all reach n ks ws) f).1 hits)
+      (seen_rows reach n ks ws k (and_parts (not (may_hit reach n x && w.stale)) (sees_all reach n ks ws) f).1 hits)
       (nat_eq x k) refl
     where
       later : (o : Option ℕ) → (word_at_place ws o).stale ≡ false → (word_at_place (w ∷ ws) (one_further o)).stale
@@ -75,7 +75,7 @@ module _ (minded : List ℕ) (table : Table) where
           → (word_at_place (w ∷ ws) (if b then Some 0 else one_further (place_of ks k))).stale ≡ false
       which again true e =
           first w.stale (ap (λ b. not (b && w.stale)) (sym (ap (may_hit reach n) (eqb-true x k e) ∙ hits))
-          ∙ (both_true (not (may_hit reach n x && w.stale)) (sees_all reach n ks ws) f).0)
+          ∙ (and_parts (not (may_hit reach n x && w.stale)) (sees_all reach n ks ws) f).0)
       which again false e = later (place_of ks k) again
 
   pub seen : (r : ℕ) (b : Base) (n : ℕ) → is_seen minded (base_reach r b table) n table ≡ true → Sees r
@@ -159,12 +159,12 @@ module _ (minded : List ℕ) (table : Table) where
 
   fresh_rows : (ws : List Word) (i : ℕ) → are_fresh ws ≡ true → (or_unminded (slice_get ws i)).stale ≡ false
   fresh_rows [] i f = refl
-  fresh_rows (w ∷ ws) zero f = which w.stale (both_true (not w.stale) (are_fresh ws) f).0
+  fresh_rows (w ∷ ws) zero f = which w.stale (and_parts (not w.stale) (are_fresh ws) f).0
     where
       which : (b : Bool) → not b ≡ true → b ≡ false
       which true g = absurd (true≢false (sym g))
       which false g = refl
-  fresh_rows (w ∷ ws) (suc i) f = fresh_rows ws i (both_true (not w.stale) (are_fresh ws) f).1
+  fresh_rows (w ∷ ws) (suc i) f = fresh_rows ws i (and_parts (not w.stale) (are_fresh ws) f).1
 
   all_fresh : (o : Option ℕ) → are_fresh table.words ≡ true → (word_at_place table.words o).stale ≡ false
   all_fresh None f = refl

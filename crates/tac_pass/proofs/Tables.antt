@@ -2,6 +2,7 @@
 use Rattle.std.proofs.Common.{◌≡◌, ◌≢◌, ℕ, zero, suc, Bool, true, false, not, ◌&&◌, ◌||◌, nat_eq, List, [], ◌∷◌, length}
 use Rattle.std.proofs.Common.{slice_get, Option, Some, None, refl, sym, ap, ◌∙◌, arith, eqb-true, true≢false}
 use Rattle.std.proofs.lemmas.Option.{none-some}
+use Rattle.std.proofs.lemmas.Bool.{and_parts}
 use Rattle.tac_pass.specs.declared.table.Reach.{Reach}
 use Rattle.tac_pass.specs.declared.table.Reach.TheVariants.{Anywhere, Within}
 use Rattle.tac_pass.specs.declared.table.Known.{Known}
@@ -10,7 +11,7 @@ use Rattle.tac_pass.specs.Rules.{Forgets}
 use Rattle.tac_pass.specs.Tables.{Table, points_to, unminded, or_unknown, or_unminded, place_of, word_at_place}
 use Rattle.tac_pass.specs.Tables.{claim_in, is_within, holds_no_more, is_no_more, is_no_more_word, all_no_more}
 use Rattle.tac_pass.specs.Tables.{is_forgetful}
-use Rattle.tac_pass.proofs.TableRows.{both_true, no_longer}
+use Rattle.tac_pass.proofs.TableRows.{no_longer}
 
 -- ---- jumps
 
@@ -36,11 +37,11 @@ less_known : (xs ys : List Known) → all_no_more (is_no_more) xs ys ≡ true �
 less_known xs [] f u = (λ v e. absurd (none-some v e), λ o e. no_longer e)
 less_known [] (y ∷ ys) f u = absurd (true≢false (sym f))
 less_known (x ∷ xs) (y ∷ ys) f zero =
-    let g = both_true (is_no_more x y) (all_no_more (is_no_more) xs ys) f in
-    let h = both_true (holds_no_more x.holder y.holder) (is_within x.reach y.reach) g.0 in
+    let g = and_parts (is_no_more x y) (all_no_more (is_no_more) xs ys) f in
+    let h = and_parts (holds_no_more x.holder y.holder) (is_within x.reach y.reach) g.0 in
     (λ v e. less_holder x.holder y.holder v h.0 e, λ o e. less_reach x.reach y.reach o h.1 e)
 less_known (x ∷ xs) (y ∷ ys) f (suc u) =
-    less_known xs ys (both_true (is_no_more x y) (all_no_more (is_no_more) xs ys) f).1 u
+    less_known xs ys (and_parts (is_no_more x y) (all_no_more (is_no_more) xs ys) f).1 u
 
 pub record LessWord (w v : Word) : Type 0 where
   pub holder : (t : ℕ) → v.value.holder ≡ Some t → w.value.holder ≡ Some t
@@ -57,10 +58,10 @@ less_words [] [] l f i = same_word
 less_words [] (v ∷ vs) l f i = absurd (omega (arith, l))
 less_words (w ∷ ws) [] l f i = absurd (omega (arith, l))
 less_words (w ∷ ws) (v ∷ vs) l f zero =
-    let g = both_true (is_no_more_word w v) (all_no_more (is_no_more_word) ws vs) f in
-    let h = both_true (is_no_more w.value v.value) ((v.stale || not w.stale) && (v.blank || not w.blank)) g.0 in
-    let k = both_true (v.stale || not w.stale) (v.blank || not w.blank) h.1 in
-    let m = both_true (holds_no_more w.value.holder v.value.holder) (is_within w.value.reach v.value.reach) h.0 in
+    let g = and_parts (is_no_more_word w v) (all_no_more (is_no_more_word) ws vs) f in
+    let h = and_parts (is_no_more w.value v.value) ((v.stale || not w.stale) && (v.blank || not w.blank)) g.0 in
+    let k = and_parts (v.stale || not w.stale) (v.blank || not w.blank) h.1 in
+    let m = and_parts (holds_no_more w.value.holder v.value.holder) (is_within w.value.reach v.value.reach) h.0 in
     record {
       holder = λ t e. less_holder w.value.holder v.value.holder t m.0 e;
       stale = λ e. less_bool w.stale v.stale k.0 e;
@@ -69,7 +70,7 @@ less_words (w ∷ ws) (v ∷ vs) l f zero =
     }
 less_words (w ∷ ws) (v ∷ vs) l f (suc i) =
     less_words ws vs (let e : length ws ≡ length vs = omega (arith, l) in e)
-    (both_true (is_no_more_word w v) (all_no_more (is_no_more_word) ws vs) f).1 i
+    (and_parts (is_no_more_word w v) (all_no_more (is_no_more_word) ws vs) f).1 i
 
 less_place : (ws vs : List Word) → length ws ≡ length vs → all_no_more (is_no_more_word) ws vs ≡ true → (o : Option ℕ)
     → LessWord (word_at_place ws o) (word_at_place vs o)
@@ -79,14 +80,14 @@ less_place ws vs l f (Some i) = less_words ws vs l f i
 pub forgetful_is : (minded : List ℕ) (from to : Table) → is_forgetful from to ≡ true → Forgets (claim_in minded from)
     (claim_in minded to)
 forgetful_is minded from to f =
-    let a = both_true (nat_eq (length from.temporaries) (length to.temporaries))
+    let a = and_parts (nat_eq (length from.temporaries) (length to.temporaries))
     (nat_eq (length from.words) (length to.words)
     && (all_no_more is_no_more from.temporaries to.temporaries && all_no_more is_no_more_word from.words to.words))
     f in
-    let g = both_true (nat_eq (length from.words) (length to.words))
+    let g = and_parts (nat_eq (length from.words) (length to.words))
     (all_no_more is_no_more from.temporaries to.temporaries && all_no_more is_no_more_word from.words to.words) a.1
     in
-    let h = both_true (all_no_more (is_no_more) from.temporaries to.temporaries)
+    let h = and_parts (all_no_more (is_no_more) from.temporaries to.temporaries)
     (all_no_more (is_no_more_word) from.words to.words) g.1 in
     let long = eqb-true (length from.words) (length to.words) g.0 in
     record {

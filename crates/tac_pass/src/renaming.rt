@@ -82,63 +82,90 @@ fn kept_copy(rows: &mut Rows, to: u32, given: u32, from: u32) -> Option<Instruct
     Some(Instruction::Copy { to, from })
 }
 
+fn kept_arithmetic(rows: &mut Rows, to: u32, instruction: &Instruction) -> Option<Instruction>
+    ensures { IfSome result (λ new_one. (r : ℕ) (minded : List ℕ) → IsMade
+        (act.kept r minded rows.old to instruction.now) new_one rows.new) }
+{
+    let Instruction::Arithmetic {
+        operator,
+        to: given,
+        left,
+        right,
+        error,
+        line,
+    } = instruction
+    else {
+        return None;
+    };
+    let left = holder(rows, *left)?;
+    let right = renamed_right(rows, *right)?;
+    rows.give(*given, to, NOWHERE);
+    Some(Instruction::Arithmetic {
+        operator: *operator,
+        to,
+        left,
+        right,
+        error: *error,
+        line: *line,
+    })
+}
+
+fn kept_bits(rows: &mut Rows, to: u32, instruction: &Instruction) -> Option<Instruction>
+    ensures { IfSome result (λ new_one. (r : ℕ) (minded : List ℕ) → IsMade
+        (act.kept r minded rows.old to instruction.now) new_one rows.new) }
+{
+    let Instruction::Bits {
+        operator,
+        to: given,
+        left,
+        right,
+    } = instruction
+    else {
+        return None;
+    };
+    let left = holder(rows, *left)?;
+    let right = renamed_right(rows, *right)?;
+    rows.give(*given, to, NOWHERE);
+    Some(Instruction::Bits {
+        operator: *operator,
+        to,
+        left,
+        right,
+    })
+}
+
+fn kept_compare(rows: &mut Rows, to: u32, instruction: &Instruction) -> Option<Instruction>
+    ensures { IfSome result (λ new_one. (r : ℕ) (minded : List ℕ) → IsMade
+        (act.kept r minded rows.old to instruction.now) new_one rows.new) }
+{
+    let Instruction::Compare {
+        relation,
+        to: given,
+        left,
+        right,
+    } = instruction
+    else {
+        return None;
+    };
+    let left = holder(rows, *left)?;
+    let right = renamed_right(rows, *right)?;
+    rows.give(*given, to, NOWHERE);
+    Some(Instruction::Compare {
+        relation: *relation,
+        to,
+        left,
+        right,
+    })
+}
+
 fn kept_computed(rows: &mut Rows, to: u32, instruction: &Instruction) -> Option<Instruction>
     ensures { IfSome result (λ new_one. (r : ℕ) (minded : List ℕ) → IsMade
         (act.kept r minded rows.old to instruction.now) new_one rows.new) }
 {
     match instruction {
-        Instruction::Arithmetic {
-            operator,
-            to: given,
-            left,
-            right,
-            error,
-            line,
-        } => {
-            let left = holder(rows, *left)?;
-            let right = renamed_right(rows, *right)?;
-            rows.give(*given, to, NOWHERE);
-            Some(Instruction::Arithmetic {
-                operator: *operator,
-                to,
-                left,
-                right,
-                error: *error,
-                line: *line,
-            })
-        }
-        Instruction::Bits {
-            operator,
-            to: given,
-            left,
-            right,
-        } => {
-            let left = holder(rows, *left)?;
-            let right = renamed_right(rows, *right)?;
-            rows.give(*given, to, NOWHERE);
-            Some(Instruction::Bits {
-                operator: *operator,
-                to,
-                left,
-                right,
-            })
-        }
-        Instruction::Compare {
-            relation,
-            to: given,
-            left,
-            right,
-        } => {
-            let left = holder(rows, *left)?;
-            let right = renamed_right(rows, *right)?;
-            rows.give(*given, to, NOWHERE);
-            Some(Instruction::Compare {
-                relation: *relation,
-                to,
-                left,
-                right,
-            })
-        }
+        Instruction::Arithmetic { .. } => kept_arithmetic(rows, to, instruction),
+        Instruction::Bits { .. } => kept_bits(rows, to, instruction),
+        Instruction::Compare { .. } => kept_compare(rows, to, instruction),
         _ => None,
     }
 }
@@ -321,7 +348,7 @@ pub fn kept(
         | Instruction::CheckPointer { .. }
         | Instruction::Put { .. } => Ok(kept_tested(rows, instruction)),
         Instruction::Offset { .. } | Instruction::Index { .. } => {
-            Ok(kept_address(routine, minded, rows, to, instruction))
+            Ok(kept_address(routine, rows, to, instruction))
         }
         Instruction::Load { .. }
         | Instruction::LoadByte { .. }

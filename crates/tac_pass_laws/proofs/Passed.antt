@@ -1,6 +1,7 @@
 -- Code that stands in the place of other code.
 use Rattle.std.proofs.Common.{◌≡◌, inl, inr, ℕ, zero, suc, ◌<◌, ◌≤◌, List, [], ◌∷◌, ◌++◌, length, slice_get, Some, refl, sym}
 use Rattle.std.proofs.Common.{ap, ◌∙◌, subst, arith}
+use Rattle.std.proofs.lemmas.Option.{slice_get_within}
 use Rattle.behavior.specs.Endings.{Ending, Stuck, IsMore}
 use Rattle.behavior.specs.Transcripts.{Shown, GoesOn}
 use Rattle.behavior.proofs.Sameness.{same_has_converse}
@@ -30,11 +31,6 @@ in_first [] ys r x lt e = absurd (omega (arith, lt))
 in_first (z ∷ xs) ys zero x lt e = e
 in_first (z ∷ xs) ys (suc r) x lt e = in_first xs ys r x (omega (arith, lt)) e
 
-within : {X : Type 0} (xs : List X) (r : ℕ) (x : X) → slice_get xs r ≡ Some x → r < length xs
-within [] r x e = absurd (cc e)
-within (z ∷ xs) zero x e = omega arith
-within (z ∷ xs) (suc r) x e = let lt = within xs r x e in omega (arith, lt)
-
 -- ---- the room of code that was made by plans
 
 within_room : (routine routine' : TacRoutine) → SameHeading routine routine' → routine'.temporaries ≡ routine.temporaries
@@ -47,7 +43,7 @@ module _ (old new : Code) (passed : ArePassed old new) where
       × (slice_get new.program r ≡ Some routine') × (room routine' ≤ room routine)
   sizes r routine e =
       let one = passed.routines r routine (in_both old.program old.run_time r routine e) in
-      let lt : r < length old.program = within old.program r routine e in
+      let lt : r < length old.program = slice_get_within old.program r routine e in
       let as_many = passed.program in (
         one.0,
         in_first new.program new.run_time r one.0 (omega (arith, lt, as_many)) one.1,

@@ -3,7 +3,7 @@
 use Rattle.std.proofs.Common.{◌≡◌, inl, inr, ℕ, zero, suc, ◌+◌, ◌-◌, ◌<◌, ◌≤◌, ◌*◌, ◌++◌, Bool, true, false, nat_eq}
 use Rattle.std.proofs.Common.{nat_lt, List, [], ◌∷◌, length, slice_get, Option, Some, None, refl, sym, ◌∙◌, subst, ap}
 use Rattle.std.proofs.Common.{arith}
-use Rattle.std.proofs.lemmas.Bool.{eq-eqb}
+use Rattle.std.proofs.lemmas.Bool.{eq-eqb, and_from}
 use Rattle.std.proofs.lemmas.Option.{none-some, same_Some}
 use Rattle.tac_code.specs.declared.check.Limits.{Limits}
 use Rattle.tac_code.specs.declared.code.Instruction.{Instruction}
@@ -30,7 +30,7 @@ use Rattle.tac_pass.proofs.Placing.{forgetful_itself}
 use Rattle.tac_known.proofs.Itself.{itself_is_lean}
 use Rattle.tac_plan.specs.Passes.{PassesRoutine}
 use Rattle.tac_plan.proofs.Unheld.{itself_again}
-use Rattle.tac_plan.proofs.StayingRows.{Stays, base_stays, both_true, found_forgets, gives, holds, leaves, list}
+use Rattle.tac_plan.proofs.StayingRows.{Stays, base_stays, found_forgets, gives, holds, leaves, list}
 use Rattle.tac_plan.proofs.StayingRows.{load_stays, low, right, rows, store_stays, table}
 
 -- ---- a walk by which all stays
@@ -89,7 +89,7 @@ first_all (x ∷ xs) = ap (λ (l : List Instruction). x ∷ l) (first_all xs)
 are_passed_rows : (n u : ℕ) → are_passed u (rows u n) ≡ true
 are_passed_rows zero u = refl
 are_passed_rows (suc n) u =
-    both_true (nat_eq u u) (are_passed (suc u) (rows (suc u) n)) (eq-eqb u u refl) (are_passed_rows n (suc u))
+    and_from (nat_eq u u) (are_passed (suc u) (rows (suc u) n)) (eq-eqb u u refl) (are_passed_rows n (suc u))
 
 module _ (n places : ℕ) (step : Step) (claims : step.join ≡ Some (table n)) (none : length step.puts.items ≡ 0) where
   abbrev steps : List Step
@@ -260,7 +260,7 @@ body_stays r n step l body claims none same p sound = record {
   walked = record {
     at = λ q. spot (table n) (first q body);
     here = ap (λ (xs : List Instruction). spot (table n) xs) (first_all body);
-    begins = both_true (are_passed 0 (rows 0 n)) true (are_passed_rows n 0) refl;
+    begins = and_from (are_passed 0 (rows 0 n)) true (are_passed_rows n 0) refl;
     starts_first = refl;
     joins = λ q le. joins_at n (length body) step claims none q;
     steps_on = λ q i lt e. on q i lt e;

@@ -1,9 +1,8 @@
 -- Under the table by which all stays, each instruction stays what it is.
-use Rattle.std.proofs.Common.{◌≡◌, ◌≢◌, ℕ, zero, suc, ◌+◌, ◌-◌, ◌<◌, Bool, true, false, ◌&&◌, nat_eq, List, [], ◌∷◌}
+use Rattle.std.proofs.Common.{◌≡◌, ◌≢◌, ℕ, zero, suc, ◌+◌, ◌-◌, ◌<◌, true, ◌&&◌, nat_eq, List, [], ◌∷◌}
 use Rattle.std.proofs.Common.{length, slice_get, slice_set, map, Option, Some, None, refl, sym, ◌∙◌, subst, ap, arith}
-use Rattle.std.proofs.Common.{true≢false}
 use Rattle.std.specs.List.{All}
-use Rattle.std.proofs.lemmas.Bool.{eq-eqb, ne_eqb}
+use Rattle.std.proofs.lemmas.Bool.{eq-eqb, ne_eqb, and_from}
 use Rattle.tac_code.specs.declared.check.Limits.{Limits}
 use Rattle.tac_code.specs.declared.code.Base.{Base}
 use Rattle.tac_code.specs.declared.code.Base.TheVariants as base
@@ -22,10 +21,6 @@ use Rattle.tac_pass.specs.Walk.{IsMade}
 use Rattle.tac_pass.proofs.Memories.{length_map}
 use Rattle.tac_pass.proofs.Placing.{forgetful_itself}
 use Rattle.tac_pass.proofs.Words.{length_set}
-
-pub both_true : (a b : Bool) → a ≡ true → b ≡ true → (a && b) ≡ true
-both_true true b e f = f
-both_true false b e f = absurd (true≢false (sym e))
 
 -- ---- rows
 
@@ -55,13 +50,13 @@ anywhere_within (Within low high) = refl
 -- a value that stands in its own temporary is claimed no less than that it does
 stands : (x : Known) (u : ℕ) → x.holder ≡ Some u → is_no_more x (row u) ≡ true
 stands x u e =
-    both_true (holds_no_more x.holder (Some u)) (is_within x.reach Anywhere)
+    and_from (holds_no_more x.holder (Some u)) (is_within x.reach Anywhere)
     (subst (λ (o : Option ℕ). holds_no_more o (Some u) ≡ true) (sym e) (eq-eqb u u refl)) (anywhere_within x.reach)
 
 all_stand : (n u : ℕ) → all_no_more is_no_more (rows u n) (rows u n) ≡ true
 all_stand zero u = refl
 all_stand (suc n) u =
-    both_true (is_no_more (row u) (row u)) (all_no_more is_no_more (rows (suc u) n) (rows (suc u) n))
+    and_from (is_no_more (row u) (row u)) (all_no_more is_no_more (rows (suc u) n) (rows (suc u) n))
     (stands (row u) u refl) (all_stand n (suc u))
 
 -- another temporary was freed
@@ -73,7 +68,7 @@ freed_above zero u t lt = refl
 freed_above (suc n) u t lt =
     let ne : u ≢ t = omega (arith, lt) in
     let low : t < suc u = omega (arith, lt) in
-    both_true (is_no_more (freed t (row u)) (row u))
+    and_from (is_no_more (freed t (row u)) (row u))
     (all_no_more is_no_more (map (freed t) (rows (suc u) n)) (rows (suc u) n))
     (stands (freed t (row u)) u (freed_holder t u ne)) (freed_above n (suc u) t low)
 
@@ -84,13 +79,13 @@ given_all zero u k t x e h lt = absurd (omega (arith, lt))
 given_all (suc n) u zero t x e h lt =
     let same : t ≡ u = omega (arith, e) in
     let low : t < suc u = omega (arith, e) in
-    both_true (is_no_more x (row u)) (all_no_more is_no_more (map (freed t) (rows (suc u) n)) (rows (suc u) n))
+    and_from (is_no_more x (row u)) (all_no_more is_no_more (map (freed t) (rows (suc u) n)) (rows (suc u) n))
     (stands x u (h ∙ ap (λ (k : ℕ). Some k) same)) (freed_above n (suc u) t low)
 given_all (suc n) u (suc k) t x e h lt =
     let ne : u ≢ t = omega (arith, e) in
     let low : k < n = omega (arith, lt) in
     let f : t ≡ suc u + k = omega (arith, e) in
-    both_true (is_no_more (freed t (row u)) (row u))
+    and_from (is_no_more (freed t (row u)) (row u))
     (all_no_more is_no_more (slice_set (map (freed t) (rows (suc u) n)) k x) (rows (suc u) n))
     (stands (freed t (row u)) u (freed_holder t u ne)) (given_all n (suc u) k t x f h low)
 
@@ -100,12 +95,12 @@ known_all : (n u k t : ℕ) (x : Known) → t ≡ u + k → x.holder ≡ Some t 
 known_all zero u k t x e h lt = absurd (omega (arith, lt))
 known_all (suc n) u zero t x e h lt =
     let same : t ≡ u = omega (arith, e) in
-    both_true (is_no_more x (row u)) (all_no_more is_no_more (rows (suc u) n) (rows (suc u) n))
+    and_from (is_no_more x (row u)) (all_no_more is_no_more (rows (suc u) n) (rows (suc u) n))
     (stands x u (h ∙ ap (λ (k : ℕ). Some k) same)) (all_stand n (suc u))
 known_all (suc n) u (suc k) t x e h lt =
     let low : k < n = omega (arith, lt) in
     let f : t ≡ suc u + k = omega (arith, e) in
-    both_true (is_no_more (row u) (row u)) (all_no_more is_no_more (slice_set (rows (suc u) n) k x) (rows (suc u) n))
+    and_from (is_no_more (row u) (row u)) (all_no_more is_no_more (slice_set (rows (suc u) n) k x) (rows (suc u) n))
     (stands (row u) u refl) (known_all n (suc u) k t x f h low)
 
 -- ---- the table
@@ -117,10 +112,10 @@ table n = record { temporaries = rows 0 n; words = [] }
 forgets : (n : ℕ) (list : List Known) → length list ≡ n → all_no_more is_no_more list (rows 0 n) ≡ true
     → is_forgetful (record { temporaries = list; words = [] }) (table n) ≡ true
 forgets n list e f =
-    both_true (nat_eq (length list) (length (rows 0 n)))
+    and_from (nat_eq (length list) (length (rows 0 n)))
     (all_no_more is_no_more list (rows 0 n) && true)
     (eq-eqb (length list) (length (rows 0 n)) (e ∙ sym (length_rows n 0)))
-    (both_true (all_no_more is_no_more list (rows 0 n)) true f refl)
+    (and_from (all_no_more is_no_more list (rows 0 n)) true f refl)
 
 module _ (n : ℕ) where
   pub holds : (u : ℕ) → u < n → holder (table n) u ≡ Some u

@@ -105,6 +105,37 @@ fn only(set: u64) -> u32 {
     set.trailing_zeros()
 }
 
+// The words that are kept in mind, which nothing holds yet.
+fn held_words(
+    alloc: Global,
+    site: Site<'_>,
+    items: &Items,
+    minded: &[usize],
+) -> Result<Vec<Held>, OutOfMemory> {
+    let mut words = Vec::with_capacity(alloc, minded.len())?;
+    for at in minded {
+        if *at < items.list.len() {
+            let item = items.list[*at];
+            words.push(Held {
+                word: item.word,
+                item: *at,
+                holder: NOBODY,
+                is_stored: false,
+                is_fixed: item.stores == 1,
+                last: if site.flow.has_loops {
+                    item.last.max(site.flow.last_look)
+                } else {
+                    item.last
+                },
+                is_held: false,
+                is_elsewhere: false,
+                is_stale: false,
+            })?;
+        }
+    }
+    Ok(words)
+}
+
 impl<'a> Draft<'a> {
     /// Nothing yet.
     pub fn new(
@@ -113,27 +144,7 @@ impl<'a> Draft<'a> {
         items: &'a Items,
         minded: &[usize],
     ) -> Result<Draft<'a>, OutOfMemory> {
-        let mut words = Vec::with_capacity(alloc, minded.len())?;
-        for at in minded {
-            if *at < items.list.len() {
-                let item = items.list[*at];
-                words.push(Held {
-                    word: item.word,
-                    item: *at,
-                    holder: NOBODY,
-                    is_stored: false,
-                    is_fixed: item.stores == 1,
-                    last: if site.flow.has_loops {
-                        item.last.max(site.flow.last_look)
-                    } else {
-                        item.last
-                    },
-                    is_held: false,
-                    is_elsewhere: false,
-                    is_stale: false,
-                })?;
-            }
-        }
+        let words = held_words(alloc, site, items, minded)?;
         let mut holders = Vec::with_capacity(alloc, site.temporaries as usize)?;
         for temporary in 0..site.temporaries {
             holders.push(temporary)?;

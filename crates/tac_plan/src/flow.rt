@@ -370,7 +370,7 @@ fn is_test(way: &Way, store: &Way) -> bool {
 }
 
 /// Tells the places whose values are stored at another, in a word that is told apart, and used no more.
-pub fn tell_given(ways: &mut [Way], place: usize) {
+pub fn mark_given(ways: &mut [Way], place: usize) {
     let store = way_at(ways, place);
     if store.is_join() || lives_at(ways, place.saturating_add(1)) & store.reads != 0 {
         return;

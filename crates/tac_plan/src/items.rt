@@ -1,6 +1,6 @@
 // The words of the own frame that a body loads and stores.
 
-use crate::flow::{Kind, NONE, Way, is_join, tell_given};
+use crate::flow::{Kind, NONE, Way, is_join, mark_given};
 use std::alloc::Global;
 use tac_code::code::OutOfMemory;
 
@@ -174,7 +174,7 @@ fn tell_item(
     let at = items.note(word, reads, place, stores, may_add)?;
     ways[place].item = at;
     if stores && at != NONE {
-        tell_given(ways, place);
+        mark_given(ways, place);
     }
     Ok(())
 }

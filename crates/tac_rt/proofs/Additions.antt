@@ -1,6 +1,7 @@
 -- Members are added to a set one after another.
 use Rattle.std.proofs.Common.{◌≡◌, ℕ, zero, suc, ◌+◌, ◌*◌, ◌/◌, ◌<◌, ℤ, pos, int_lt, true, not, List, [], ◌∷◌}
 use Rattle.std.proofs.Common.{slice_get, Some, refl, ap, ◌∙◌, subst, arith, lt-ltb}
+use Rattle.std.proofs.lemmas.Bool.{le-ltb}
 use Rattle.tac_code.specs.declared.code.Block.{Block}
 use Rattle.tac_code.specs.declared.code.Value.{Value}
 use Rattle.tac_code.specs.declared.code.Value.TheVariants.{Number, Address}
@@ -21,7 +22,7 @@ use Rattle.tac_rt.specs.Laws.{AddedUp, AddsMembers}
 use Rattle.tac_rt.proofs.Blocks.{IsFresh, stored}
 use Rattle.tac_rt.proofs.Inside.{back, does_so, here_at, enters, returns, literal, computes, joins, indexes, loads}
 use Rattle.tac_rt.proofs.Inside.{stores_word, branches, passes, branches_back, passes_back}
-use Rattle.tac_rt.proofs.Arithmetic.{gives_natural, counted_up, lt-ltb-no}
+use Rattle.tac_rt.proofs.Arithmetic.{gives_natural, counted_up}
 
 abbrev routine : TacRoutine
 routine = routine_of 3 6 ADD_RANGE
@@ -93,7 +94,7 @@ module _ (m : Machine) (s : State) (has : HasRoutines m) (to line : ℕ) (block 
       turns n j.0 t before j.1 a b (omega (arith, e, low)) f j.2 j.3 narrow
       >> branches_back m s 1 routine has refl to line 9 t' j.1 s.tape LessEqual 1 (operand.Temporary 2) 8 refl
       (ap (related LessEqual (Some (Number (pos (suc n))))) c ∙ ap (λ q. Some (not q))
-      (lt-ltb-no last (suc n) (omega (arith, e))))
+      (le-ltb last (suc n) (omega (arith, e))))
       >> goes (suc n) count last t' j.1 after (omega (arith, e)) low a refl c
       (stored s.count before (λ words. with_word words (offset + 4 * (n / 32)) (Number z)) j.1 f block j.3).fresh
       j.4 narrow
@@ -115,7 +116,7 @@ module _ (m : Machine) (s : State) (has : HasRoutines m) (to line : ℕ) (block 
       (at_place 0 (start (pos n) (pos (n + count))) before) (back s to (Number (pos 0)) after s.tape)
   begins n count before after low f j narrow =
       passes m s 1 routine has refl to line 0 (start (pos n) (pos (n + count))) before s.tape Greater 1
-      (operand.Temporary 2) 9 refl (ap Some (lt-ltb-no (n + count) n (omega arith)))
+      (operand.Temporary 2) 9 refl (ap Some (le-ltb (n + count) n (omega arith)))
       >> goes n count (n + count) (start (pos n) (pos (n + count))) before after refl low refl refl refl f j narrow
 
 pub adds_members : AddsMembers

@@ -5,17 +5,11 @@ use Rattle.std.proofs.Common.{ltb-false}
 use Rattle.std.proofs.Math.Nat.{div-eq_of_lt, div-le_self}
 use Rattle.std.proofs.lemmas.Int.{ints}
 use Rattle.std.proofs.lemmas.Grind.{and_numeral}
+use Rattle.std.proofs.lemmas.Bool.{le-ltb}
 use Rattle.tac_code.specs.declared.code.Operator.TheVariants.{Subtract, Multiply, Divide}
 use Rattle.tac_code.specs.declared.code.BitOperator.TheVariants.{And, Plus}
 use Rattle.tac_code.specs.declared.code.Relation.TheVariants.{LessEqual, GreaterEqual}
 use Rattle.tac_code.specs.Numbers.{within, computed, compared, bits, word_of, number_of, Gives, Fails}
-
-pub lt-ltb-no : (a b : ℕ) → b ≤ a → nat_lt a b ≡ false
-lt-ltb-no a b l = go (nat_lt a b) refl
-  where
-    go : (t : Bool) → nat_lt a b ≡ t → t ≡ false
-    go true e = let h = ltb-true a b e in absurd (omega (arith, h))
-    go false e = refl
 
 pub gives_natural : (n : ℕ) → n < 2147483648 → within 0 (pos n) ≡ Gives (pos n)
 gives_natural n l = ap (λ b. if b then Gives (pos n) else Fails 0) (lt-ltb n 2147483648 l)
@@ -155,11 +149,11 @@ one_narrower w n l h = let e : (pos w -ℤ pos n) -ℤ pos 1 ≡ pos w -ℤ pos 
 
 pub at_most_minus_ten : (q : ℕ) → 10 ≤ q → compared LessEqual (minus q) (negsuc 9) ≡ true
 at_most_minus_ten zero l = absurd (omega arith)
-at_most_minus_ten (suc q) l = ap not (lt-ltb-no q 9 (omega arith))
+at_most_minus_ten (suc q) l = ap not (le-ltb q 9 (omega arith))
 
 pub above_minus_ten : (q : ℕ) → q < 10 → compared LessEqual (minus q) (negsuc 9) ≡ false
 above_minus_ten zero l = refl
 above_minus_ten (suc q) l = ap not (lt-ltb q 9 (omega arith))
 
 pub not_negative : (n : ℕ) → compared GreaterEqual (pos n) (pos 0) ≡ true
-not_negative n = ap not (lt-ltb-no n 0 (omega arith))
+not_negative n = ap not (le-ltb n 0 (omega arith))

@@ -2,13 +2,13 @@
 use Rattle.std.proofs.Common.{◌≡◌, ℕ, ◌<◌, Bool, true, false, nat_eq, if◌then◌else◌, List, [], ◌∷◌, Option, Some, None}
 use Rattle.std.proofs.Common.{refl, ap, ◌∙◌, arith, subst, eqb-true}
 use Rattle.std.proofs.lemmas.Option.{none-some}
+use Rattle.std.proofs.lemmas.Bool.{ne_eqb}
 use Rattle.tac_code.specs.declared.code.Block.{Block}
 use Rattle.tac_code.specs.declared.code.Block.TheVariants.{Frame, Scratch, Object, Constant}
 use Rattle.tac_code.specs.declared.code.Value.{Value}
 use Rattle.tac_code.specs.Memory.{Words, Living, Memory, Constants, living, words_in, behind, instead, changed}
 use Rattle.tac_code.specs.Memory.{changed_object, with_frames, with_scratch, with_objects, value_in, byte_value_in}
 use Rattle.tac_code.specs.Memory.{load, load_byte, changed_in}
-use Rattle.tac_code_steps.proofs.Temporaries.{eq_no}
 use Rattle.tac_code_steps.specs.Routines.{AreBelow}
 
 -- no block that lives has the next activation's number
@@ -41,7 +41,7 @@ pub past_empty : (next : ℕ) (bs : List Living) (a : ℕ) (ws : Words) → AreB
 past_empty next bs a ws h e =
     let l = living_below next bs a ws h e in
     let ne : next ≡ a → ⊥ = λ q. omega arith in
-    ap (λ t. if t then Some [] else living bs a) (eq_no next a ne) ∙ e
+    ap (λ t. if t then Some [] else living bs a) (ne_eqb next a ne) ∙ e
 
 -- ---- words that are read
 
@@ -108,7 +108,7 @@ changed_past next bs a change bs' h e =
     let c = changed_below next bs a change bs' h e in
     let ne : next ≡ a → ⊥ = λ q. let l = c.lived in omega arith in
     ap (λ t. if t then instead (empty_at next) bs (change []) else behind (empty_at next) (changed bs a change))
-    (eq_no next a ne) ∙ ap (behind (empty_at next)) e
+    (ne_eqb next a ne) ∙ ap (behind (empty_at next)) e
 
 pub record Stored (next : ℕ) (m : Memory) (b : Block) (change : Words → Option Words) (m' : Memory) : Type 0 where
   pub fresh : IsFresh next m'

@@ -1,6 +1,7 @@
 -- Strings are compared byte by byte.
 use Rattle.std.proofs.Common.{◌≡◌, ℕ, suc, ◌+◌, ◌<◌, pos, ◌-ℤ◌, ℤ, Bool, true, false, not, nat_eq, if◌then◌else◌, List}
 use Rattle.std.proofs.Common.{[], ◌∷◌, length, slice_get, Some, refl, sym, ap, ◌∙◌, subst, arith}
+use Rattle.std.proofs.lemmas.Bool.{ne_eqb}
 use Rattle.tac_code.specs.declared.code.Block.{Block}
 use Rattle.tac_code.specs.declared.code.Value.{Value}
 use Rattle.tac_code.specs.declared.code.Value.TheVariants.{Number, Address}
@@ -12,7 +13,6 @@ use Rattle.tac_code.specs.Memory.{load_byte}
 use Rattle.tac_code.specs.Meaning.{Temporaries, put, State, text_at, related}
 use Rattle.tac_code_steps.specs.Runs.{Machine, Comes}
 use Rattle.tac_code_steps.proofs.Runs.{a_step, ◌>>◌}
-use Rattle.tac_code_steps.proofs.Temporaries.{eq_no}
 use Rattle.tac_rt.specs.declared.words.TheConstants.{COMPARE}
 use Rattle.tac_rt.specs.Bodies.{routine_of}
 use Rattle.tac_rt.specs.Calls.{HasRoutines, BytesAt}
@@ -100,7 +100,7 @@ module _ (m : Machine) (s : State) (has : HasRoutines m) (fresh : IsFresh s.coun
       let same : length left ≡ length right = omega arith in
       branches_back m s 7 routine has refl to line 7 t s.memory s.tape NotEqual 2 (operand.Number (pos 0)) 6 refl
       (ap (λ v. related NotEqual v (Some (Number (pos 0)))) n ∙ ap (λ z. Some (not z))
-      (eq_no (suc (length left)) 0 more))
+      (ne_eqb (suc (length left)) 0 more))
       >> turns p q left right place start t h.0 h.1 g.0 g.1 a b n same l k
       (λ t' a' b' n'. goes left right (place + 1) (start + 1) t' h.2 g.2 same a' b' n' (omega arith) (omega arith))
 
@@ -119,7 +119,7 @@ module _ (m : Machine) (s : State) (has : HasRoutines m) (fresh : IsFresh s.coun
       let more : suc (length left) ≡ 0 → ⊥ = λ z. omega arith in
       let same : length left ≡ length right = omega arith in
       passes m s 7 routine has refl to line 0 (begun (p ∷ left) place start) s.memory s.tape Equal 2
-      (operand.Number (pos 0)) 7 refl (ap Some (eq_no (suc (length left)) 0 more))
+      (operand.Number (pos 0)) 7 refl (ap Some (ne_eqb (suc (length left)) 0 more))
       >> turns p q left right place start (begun (p ∷ left) place start) h.0 h.1 g.0 g.1 refl refl refl same l k
       (λ t' a' b' n'. goes left right (place + 1) (start + 1) t' h.2 g.2 same a' b' n' (omega arith) (omega arith))
 

@@ -1,6 +1,7 @@
 -- Words are copied one after another.
 use Rattle.std.proofs.Common.{◌≡◌, ℕ, zero, suc, ◌+◌, ◌*◌, ◌%◌, ◌<◌, pos, Bool, true, false, not, if◌then◌else◌, List}
 use Rattle.std.proofs.Common.{[], ◌∷◌, slice_get, Some, refl, ap, ◌∙◌, subst, arith}
+use Rattle.std.proofs.lemmas.Bool.{ne_eqb}
 use Rattle.tac_code.specs.declared.code.Block.{Block}
 use Rattle.tac_code.specs.declared.code.Value.{Value}
 use Rattle.tac_code.specs.declared.code.Value.TheVariants.{Number, Address}
@@ -15,7 +16,6 @@ use Rattle.tac_code.specs.Memory.{Memory, load, store, with_word}
 use Rattle.tac_code.specs.Meaning.{Temporaries, put, State, text_at, related}
 use Rattle.tac_code_steps.specs.Runs.{Machine, Comes}
 use Rattle.tac_code_steps.proofs.Runs.{a_step, ◌>>◌}
-use Rattle.tac_code_steps.proofs.Temporaries.{eq_no}
 use Rattle.tac_rt.specs.declared.words.TheConstants.{COPY}
 use Rattle.tac_rt.specs.Bodies.{routine_of}
 use Rattle.tac_rt.specs.Calls.{HasRoutines}
@@ -109,7 +109,7 @@ module _ (m : Machine) (s : State) (has : HasRoutines m) (to line : ℕ) (upper 
       let f' = kept c.1 d.1 (place + 4) d.0 (kept before c.1 place c.0 f c.3) d.3 in
       turns (suc k) place start c.0 d.0 t before c.1 d.1 a b n f c.2 c.3 d.2 d.3 l h
       >> branches_back m s 0 routine has refl to line 15 t' d.1 s.tape NotEqual 2 (operand.Number (pos 0)) 7 refl
-      (ap (λ x. Some (not x)) (eq_no (8 * suc k) 0 more))
+      (ap (λ x. Some (not x)) (ne_eqb (8 * suc k) 0 more))
       >> copies k (place + 8) (start + 8) t' d.1 memory refl refl refl f'
       (behind (twice (suc k)) place start d.1 memory d.4) (omega arith) (omega arith)
 
@@ -126,7 +126,7 @@ module _ (m : Machine) (s : State) (has : HasRoutines m) (to line : ℕ) (upper 
   pairs (suc k) place start t before memory a b n f c l h =
       let more : 8 * suc k ≡ 0 → ⊥ = λ e. omega arith in
       passes m s 0 routine has refl to line 7 t before s.tape Equal 2 (operand.Number (pos 0)) 8 refl
-      (ap (λ v. related Equal v (Some (Number (pos 0)))) n ∙ ap Some (eq_no (8 * suc k) 0 more))
+      (ap (λ v. related Equal v (Some (Number (pos 0)))) n ∙ ap Some (ne_eqb (8 * suc k) 0 more))
       >> copies k place start t before memory a b n f c l h
 
   abbrev first : (n place start : ℕ) → Temporaries

@@ -5,6 +5,7 @@ use Rattle.std.proofs.Common.{take_while, Some, refl, sym, ap, ◌∙◌, arith,
 use Rattle.std.proofs.Common.{leb-true, le-leb}
 use Rattle.std.proofs.lemmas.Int.{ints}
 use Rattle.std.specs.List.{All}
+use Rattle.std.proofs.lemmas.Bool.{le-ltb, and_parts}
 use Rattle.behavior.specs.Transcripts.{mark}
 use Rattle.tac_code.specs.declared.code.Value.TheVariants.{Number}
 use Rattle.tac_code.specs.declared.code.Operator.TheVariants.{Subtract}
@@ -16,7 +17,7 @@ use Rattle.ps_meaning.specs.Text.{is_digit, is_empty}
 use Rattle.tac_rt.specs.declared.reading.TheConstants.{READ_NUMBER}
 use Rattle.tac_rt.specs.Bodies.{routine_of}
 use Rattle.tac_rt.specs.Inputs.{first_or_end}
-use Rattle.tac_rt.proofs.Arithmetic.{lt-ltb-no, gives_natural, gives_negative, minus}
+use Rattle.tac_rt.proofs.Arithmetic.{gives_natural, gives_negative, minus}
 use Rattle.tac_rt.proofs.Strings.{append_nothing, append_after}
 
 abbrev pub routine : TacRoutine
@@ -58,7 +59,7 @@ below_limit (suc k) l = lt-ltb 214748363 k (omega arith)
 
 pub not_below_limit : (n : ℕ) → n ≤ 214748364 → compared Less (minus n) (negsuc 214748363) ≡ false
 not_below_limit zero l = refl
-not_below_limit (suc k) l = lt-ltb-no 214748363 k (omega arith)
+not_below_limit (suc k) l = le-ltb 214748363 k (omega arith)
 
 pub above_limit : (n : ℕ) → n < 214748364 → compared Greater (minus n) (negsuc 214748363) ≡ true
 above_limit zero l = refl
@@ -66,7 +67,7 @@ above_limit (suc k) l = lt-ltb k 214748363 (omega arith)
 
 pub not_above_limit : (n : ℕ) → 214748364 ≤ n → compared Greater (minus n) (negsuc 214748363) ≡ false
 not_above_limit zero l = absurd (omega arith)
-not_above_limit (suc k) l = lt-ltb-no k 214748363 (omega arith)
+not_above_limit (suc k) l = le-ltb k 214748363 (omega arith)
 
 pub minus_fits : (n : ℕ) → n ≤ 2147483648 → is_integer (minus n) ≡ true
 minus_fits zero l = refl
@@ -74,7 +75,7 @@ minus_fits (suc k) l = lt-ltb k 2147483648 (omega arith)
 
 pub minus_no : (n : ℕ) → 2147483648 < n → is_integer (minus n) ≡ false
 minus_no zero l = absurd (omega arith)
-minus_no (suc k) l = lt-ltb-no k 2147483648 (omega arith)
+minus_no (suc k) l = le-ltb k 2147483648 (omega arith)
 
 pub least_is : (n : ℕ) → same_number (minus n) (negsuc 2147483647) ≡ true → n ≡ 2147483648
 least_is zero e = absurd (cc)
@@ -96,17 +97,12 @@ abbrev pub digit_value : List ℕ → ℤ
 digit_value [] = negsuc 48
 digit_value (b ∷ rest) = pos b -ℤ pos 48
 
-pub both_parts : (a b : Bool) → (a && b) ≡ true → (a ≡ true) × (b ≡ true)
-both_parts true true e = (refl, refl)
-both_parts true false e = absurd (cc)
-both_parts false b e = absurd (cc)
-
 pub record IsDigit (b : ℕ) : Type 0 where
   pub low : 48 ≤ b
   pub high : b ≤ 57
 
 pub digit_is : (b : ℕ) → is_digit b ≡ true → IsDigit b
-digit_is b e = let h = both_parts (nat_le 48 b) (nat_le b 57) e in record {
+digit_is b e = let h = and_parts (nat_le 48 b) (nat_le b 57) e in record {
   low = leb-true 48 b h.0;
   high = leb-true b 57 h.1;
 }
@@ -152,7 +148,7 @@ byte_no b rest e = go (nat_lt b 48) refl
         let l = ltb-false b 48 q in
         let z : pos b -ℤ pos 48 ≡ pos (b - 48) = omega (arith, ints, l) in
         inr (
-          ap (λ y. compared Less y (pos 0)) z ∙ lt-ltb-no (b - 48) 0
+          ap (λ y. compared Less y (pos 0)) z ∙ le-ltb (b - 48) 0
               (omega arith),
           ap (λ y. compared LessEqual y (pos 9)) z ∙ ap not
               (lt-ltb 9 (b - 48) (high (nat_lt 57 b) refl)),
@@ -168,7 +164,7 @@ byte_no b rest e = go (nat_lt b 48) refl
             absurd (cc)
 
 pub digit_test : (d : ℕ) → d ≤ 9 → (compared Less (pos d) (pos 0) ≡ false) × (compared LessEqual (pos d) (pos 9) ≡ true)
-digit_test d l = (lt-ltb-no d 0 (omega arith), ap not (lt-ltb-no 9 d l))
+digit_test d l = (le-ltb d 0 (omega arith), ap not (le-ltb 9 d l))
 
 -- ---- marks
 

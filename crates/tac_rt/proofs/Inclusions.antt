@@ -1,6 +1,7 @@
 -- Whether a set is included in another, word by word.
 use Rattle.std.proofs.Common.{◌≡◌, ℕ, suc, ◌+◌, ◌*◌, ◌<◌, ℤ, pos, Bool, true, false, not, if◌then◌else◌, List, [], ◌∷◌}
 use Rattle.std.proofs.Common.{length, slice_get, Some, refl, sym, ap, ◌∙◌, subst, arith}
+use Rattle.std.proofs.lemmas.Bool.{ne_eqb}
 use Rattle.tac_code.specs.declared.code.Block.{Block}
 use Rattle.tac_code.specs.declared.code.Value.{Value}
 use Rattle.tac_code.specs.declared.code.Value.TheVariants.{Number, Address}
@@ -13,7 +14,6 @@ use Rattle.tac_code.specs.Memory.{load}
 use Rattle.tac_code.specs.Meaning.{Temporaries, put, State, text_at, related}
 use Rattle.tac_code_steps.specs.Runs.{Machine, Comes}
 use Rattle.tac_code_steps.proofs.Runs.{a_step, ◌>>◌}
-use Rattle.tac_code_steps.proofs.Temporaries.{eq_no}
 use Rattle.tac_rt.specs.declared.sets.TheConstants.{IS_INCLUDED}
 use Rattle.tac_rt.specs.Bodies.{routine_of}
 use Rattle.tac_rt.specs.Calls.{HasRoutines}
@@ -95,7 +95,7 @@ module _ (m : Machine) (s : State) (has : HasRoutines m) (fresh : IsFresh s.coun
       let same : length left ≡ length right = omega arith in
       branches_back m s 5 routine has refl to line 8 t s.memory s.tape NotEqual 2 (operand.Number (pos 0)) 7 refl
       (ap (λ v. related NotEqual v (Some (Number (pos 0)))) n ∙ ap (λ z. Some (not z))
-      (eq_no (suc (length left)) 0 more))
+      (ne_eqb (suc (length left)) 0 more))
       >> turns p q left right place start t h.0 g.0 a b n (omega arith) (omega arith) (omega arith)
       (λ t' a' b' n'. ends left right (place + 4) (start + 4) t' h.1 g.1 same a' b' n' (omega arith) (omega arith)
       (omega arith))

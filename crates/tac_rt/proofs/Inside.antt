@@ -3,7 +3,7 @@ use Rattle.std.proofs.Common.{◌≡◌, ℕ, suc, ◌+◌, ◌-◌, ◌*◌, �
 use Rattle.std.proofs.Common.{nat_eq, nat_lt, if◌then◌else◌, List, [], ◌∷◌, ◌++◌, length, slice_get, Some, refl, sym}
 use Rattle.std.proofs.Common.{ap, ◌∙◌, subst, arith}
 use Rattle.std.proofs.lemmas.Int.{ints}
-use Rattle.std.proofs.lemmas.Bool.{ltb-true, lt-ltb}
+use Rattle.std.proofs.lemmas.Bool.{ltb-true, lt-ltb, le-ltb}
 use Rattle.behavior.specs.Transcripts.{mark}
 use Rattle.behavior.specs.Endings.{Stack, Stuck}
 use Rattle.tac_code.specs.declared.code.Block.{Block}
@@ -35,7 +35,7 @@ use Rattle.tac_code_steps.proofs.Instructions.{store_byte_step, jump_step, jump_
 use Rattle.tac_code_steps.proofs.Instructions.{branch_back_step, take_step, put_step, call_step, return_step}
 use Rattle.tac_rt.specs.Bodies.{run_time_routines}
 use Rattle.tac_rt.specs.Calls.{HasRoutines}
-use Rattle.tac_rt.proofs.Arithmetic.{lt-ltb-no, counted_down}
+use Rattle.tac_rt.proofs.Arithmetic.{counted_down}
 use Rattle.tac_rt.proofs.Blocks.{IsFresh, pushed, load_pushed, load_byte_pushed, stored}
 
 -- after others, by the number among themselves
@@ -53,8 +53,8 @@ not_below n k = go (nat_lt (n + k) n) refl
 
 -- a set's words are numbered from 0 to 7
 in_set : (q : ℕ) → q < 8 → is_in_range (pos 0) (pos 7) (pos q) ≡ true
-in_set q l = ap (λ b. not b && not (nat_lt 7 q)) (lt-ltb-no q 0 (omega arith)) ∙ ap (λ b. not false && not b)
-    (lt-ltb-no 7 q (omega arith))
+in_set q l = ap (λ b. not b && not (nat_lt 7 q)) (le-ltb q 0 (omega arith)) ∙ ap (λ b. not false && not b)
+    (le-ltb 7 q (omega arith))
 
 above_zero : (q : ℕ) → steps_above (pos 0) (pos q) ≡ q
 above_zero q = let e : pos q -ℤ pos 0 ≡ pos q = omega (arith, ints) in ap natural e

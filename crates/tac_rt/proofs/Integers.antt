@@ -4,6 +4,7 @@ use Rattle.std.proofs.Common.{cond, if◌then◌else◌, List, [], ◌∷◌, �
 use Rattle.std.proofs.Common.{sym, ap, ◌∙◌, subst, arith, lt-ltb}
 use Rattle.std.proofs.lemmas.List.Sums.{take_while-cons}
 use Rattle.std.specs.List.{All}
+use Rattle.std.proofs.lemmas.Bool.{le-ltb}
 use Rattle.behavior.specs.Transcripts.{mark}
 use Rattle.tac_code.specs.declared.code.Block.{Block}
 use Rattle.tac_code.specs.declared.code.Value.TheVariants.{Number, Address}
@@ -23,7 +24,7 @@ use Rattle.tac_rt.specs.Laws.{Renewed, IntegerRead, NumberRead, ReadsNumbers}
 use Rattle.tac_rt.proofs.Blocks.{IsFresh, stored}
 use Rattle.tac_rt.proofs.Inside.{back, here_at, enters, returns, literal, computes, loads, stores_word, branches}
 use Rattle.tac_rt.proofs.Inside.{passes, takes_byte, takes_end}
-use Rattle.tac_rt.proofs.Arithmetic.{lt-ltb-no, minus}
+use Rattle.tac_rt.proofs.Arithmetic.{minus}
 use Rattle.tac_rt.proofs.Strings.{append_after}
 use Rattle.tac_rt.proofs.Counting.{no_digit, starts}
 use Rattle.tac_rt.proofs.Digits.{Counts, byte_no, digits_of, end_no, held, least_is, least_no, minus_fits, minus_no}
@@ -124,8 +125,8 @@ module _ (m : Machine) (s : State) (has : HasRoutines m) (to line : ℕ) where
             )
 
         too_large : (q : Bool) → c.passed ≡ q → c.number ≡ 2147483648 → is_integer (pos written) ≡ false
-        too_large true q l = let x = c.large q in lt-ltb-no written 2147483648 (omega (arith, x))
-        too_large false q l = let x = c.same q in lt-ltb-no written 2147483648 (omega (arith, x, l))
+        too_large true q l = let x = c.large q in le-ltb written 2147483648 (omega (arith, x))
+        too_large false q l = let x = c.same q in le-ltb written 2147483648 (omega (arith, x, l))
 
         go : (q : Bool) → same_number (minus c.number) (negsuc 2147483647) ≡ q → Out (pos written) 33 t tape
         go true q = record {
@@ -152,7 +153,7 @@ module _ (m : Machine) (s : State) (has : HasRoutines m) (to line : ℕ) where
                     ap pos (sym (c.same r)),
                     ap (λ k. is_integer (pos k)) (sym (c.same r))
                         ∙ lt-ltb n 2147483648 small,
-                  )) (λ r. let x = c.large r in lt-ltb-no written 2147483648
+                  )) (λ r. let x = c.large r in le-ltb written 2147483648
                   (omega (arith, x)));
               comes = begin.1
                   >> passes m s 15 routine has refl to line 37 t1 middle tape Equal 5

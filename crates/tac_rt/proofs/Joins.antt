@@ -1,6 +1,7 @@
 -- Sets are joined word by word.
 use Rattle.std.proofs.Common.{◌≡◌, ℕ, zero, suc, ◌+◌, ◌*◌, ◌<◌, pos, negsuc, not, List, [], ◌∷◌, slice_get, ℤ, Some}
 use Rattle.std.proofs.Common.{refl, ap, ◌∙◌, subst, arith}
+use Rattle.std.proofs.lemmas.Bool.{ne_eqb}
 use Rattle.tac_code.specs.declared.code.Block.{Block}
 use Rattle.tac_code.specs.declared.code.Value.{Value}
 use Rattle.tac_code.specs.declared.code.Value.TheVariants.{Number, Address}
@@ -16,7 +17,6 @@ use Rattle.tac_code.specs.Memory.{Memory, load, store, with_word}
 use Rattle.tac_code.specs.Meaning.{Temporaries, put, State, text_at}
 use Rattle.tac_code_steps.specs.Runs.{Machine, Comes}
 use Rattle.tac_code_steps.proofs.Runs.{a_step, ◌>>◌}
-use Rattle.tac_code_steps.proofs.Temporaries.{eq_no}
 use Rattle.tac_rt.specs.declared.step.Step.{Step}
 use Rattle.tac_rt.specs.declared.step.Step.TheVariants as step
 use Rattle.tac_rt.specs.Bodies.{routine_of, run_time_routines}
@@ -140,7 +140,7 @@ module _ (operator : BitOperator) (k : ℕ) (is : slice_get run_time_routines k 
         turns (suc n) place start j.0 j.1 i.0 i.1 t before j.2 i.2 a b c few f j.3 j.4 j.5 i.3 i.4 i.5 (omega arith)
         (omega arith)
         >> branches_back m s k (routine operator) has is to line 12 t' i.2 s.tape NotEqual 2
-        (operand.Number (pos 0)) 11 refl (ap (λ x. Some (not x)) (eq_no (suc n) 0 more))
+        (operand.Number (pos 0)) 11 refl (ap (λ x. Some (not x)) (ne_eqb (suc n) 0 more))
         >> goes n (place + 8) (start + 8) t' i.2 memory refl refl refl (omega arith) f'
         (behind (twice (suc n)) place start i.2 memory i.6) (omega arith) (omega arith)
 

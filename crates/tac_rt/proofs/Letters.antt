@@ -1,6 +1,7 @@
 -- Characters are written as the meaning says.
 use Rattle.std.proofs.Common.{◌≡◌, ℕ, zero, suc, ◌-◌, ◌%◌, ◌<◌, ℤ, pos, negsuc, unsigned_abs, true, not, [], ◌∷◌}
 use Rattle.std.proofs.Common.{replicate, slice_get, Some, refl, ap, ◌∙◌, subst, arith, lt-ltb, ltb-true}
+use Rattle.std.proofs.lemmas.Bool.{ne_eqb, le-ltb}
 use Rattle.tac_code.specs.declared.code.Value.TheVariants.{Number}
 use Rattle.tac_code.specs.declared.code.Operand.TheVariants as operand
 use Rattle.tac_code.specs.declared.code.Operator.TheVariants.{Subtract}
@@ -12,7 +13,6 @@ use Rattle.tac_code.specs.Meaning.{Temporaries, put, Tape, State, related, told}
 use Rattle.tac_code_steps.specs.Runs.{Machine, Comes}
 use Rattle.tac_code_steps.specs.Routines.{wrote}
 use Rattle.tac_code_steps.proofs.Runs.{a_step, ◌>>◌}
-use Rattle.tac_code_steps.proofs.Temporaries.{eq_no}
 use Rattle.ps_meaning.specs.Text.{right_aligned}
 use Rattle.tac_rt.specs.declared.writing.TheConstants.{WRITE_CHARACTER}
 use Rattle.tac_rt.specs.Bodies.{routine_of}
@@ -20,7 +20,7 @@ use Rattle.tac_rt.specs.Calls.{HasRoutines}
 use Rattle.tac_rt.specs.Laws.{WritesCharacters}
 use Rattle.tac_rt.proofs.Inside.{back, does_so, here_at, enters, returns, literal, computes, counts, joins, branches}
 use Rattle.tac_rt.proofs.Inside.{passes, branches_back, passes_back, writes}
-use Rattle.tac_rt.proofs.Arithmetic.{minus, negated, not_negative, lt-ltb-no, low_byte}
+use Rattle.tac_rt.proofs.Arithmetic.{minus, negated, not_negative, low_byte}
 use Rattle.tac_rt.proofs.Strings.{told_all, told_both, told_written}
 
 abbrev routine : TacRoutine
@@ -66,7 +66,7 @@ module _ (m : Machine) (s : State) (has : HasRoutines m) (to line : ℕ) where
         rest.1,
         space (suc (suc k)) t tape n e l
             >> branches_back m s 11 routine has refl to line 9 t1 s.memory (told 32 tape) NotEqual 1
-            (operand.Number (pos 1)) 2 refl (ap (λ x. Some (not x)) (eq_no (suc (suc k)) 1 more))
+            (operand.Number (pos 1)) 2 refl (ap (λ x. Some (not x)) (ne_eqb (suc (suc k)) 1 more))
             >> rest.2,
       )
 
@@ -77,7 +77,7 @@ module _ (m : Machine) (s : State) (has : HasRoutines m) (to line : ℕ) where
     refl,
     branches m s 11 routine has refl to line 5 t s.memory tape LessEqual 1 (operand.Number (pos 1)) 4 refl
         (ap (λ v. related LessEqual v (Some (Number (pos 1)))) n ∙ ap (λ x. Some (not x))
-        (lt-ltb-no 1 w (omega (arith, e)))),
+        (le-ltb 1 w (omega (arith, e)))),
   )
   padding w (suc k) t tape e n l =
       let wide : w ≡ suc (suc k) = omega (arith, e) in

@@ -1,6 +1,7 @@
 -- Whether an integer is a member of a set.
 use Rattle.std.proofs.Common.{◌≡◌, ℕ, ◌+◌, ◌*◌, ◌/◌, ◌%◌, ◌<◌, ℤ, pos, negsuc, Bool, true, false, not, ◌&&◌, nat_eq}
 use Rattle.std.proofs.Common.{nat_lt, [], ◌∷◌, slice_get, Some, refl, sym, ap, ◌∙◌, arith, ltb-true}
+use Rattle.std.proofs.lemmas.Bool.{ne_eqb, le-ltb}
 use Rattle.tac_code.specs.declared.code.Block.{Block}
 use Rattle.tac_code.specs.declared.code.Value.TheVariants.{Number, Address}
 use Rattle.tac_code.specs.declared.code.Operand.TheVariants as operand
@@ -13,7 +14,7 @@ use Rattle.tac_code.specs.Memory.{load}
 use Rattle.tac_code.specs.Meaning.{Temporaries, put, State, text_at}
 use Rattle.tac_code_steps.specs.Runs.{Machine, Comes}
 use Rattle.tac_code_steps.proofs.Runs.{a_step, ◌>>◌}
-use Rattle.tac_code_steps.proofs.Temporaries.{eq_no, eq_same}
+use Rattle.tac_code_steps.proofs.Temporaries.{eq_same}
 use Rattle.tac_rt.specs.declared.sets.TheConstants.{IS_MEMBER}
 use Rattle.tac_rt.specs.Bodies.{routine_of}
 use Rattle.tac_rt.specs.Calls.{HasRoutines}
@@ -21,7 +22,7 @@ use Rattle.tac_rt.specs.Laws.{FindsMembers}
 use Rattle.tac_rt.proofs.Blocks.{IsFresh}
 use Rattle.tac_rt.proofs.Inside.{back, does_so, here_at, enters, returns, literal, computes, joins, compares, indexes}
 use Rattle.tac_rt.proofs.Inside.{loads, branches, passes}
-use Rattle.tac_rt.proofs.Arithmetic.{gives_natural, lt-ltb-no, low_byte}
+use Rattle.tac_rt.proofs.Arithmetic.{gives_natural, low_byte}
 
 abbrev routine : TacRoutine
 routine = routine_of 2 4 IS_MEMBER
@@ -31,8 +32,8 @@ other_outside (negsuc n) e = refl
 other_outside (pos n) e = go (nat_lt 255 n) refl
   where
     go : (above : Bool) → nat_lt 255 n ≡ above → nat_eq (n % 256) n ≡ false
-    go true q = let l = ltb-true 255 n q in eq_no (n % 256) n (λ z. omega (arith, l, z))
-    go false q = let no : true ≡ false = ap (λ a. not a && true) (sym (lt-ltb-no n 0 (omega arith)))
+    go true q = let l = ltb-true 255 n q in ne_eqb (n % 256) n (λ z. omega (arith, l, z))
+    go false q = let no : true ≡ false = ap (λ a. not a && true) (sym (le-ltb n 0 (omega arith)))
         ∙ ap (λ b. not (nat_lt n 0) && not b) (sym q) ∙ e in absurd (cc)
 
 same_inside : (n : ℕ) → n < 256 → nat_eq (n % 256) n ≡ true

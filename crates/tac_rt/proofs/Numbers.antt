@@ -5,6 +5,7 @@ use Rattle.std.proofs.Common.{ap, ◌∙◌, subst, arith, lt-ltb, ltb-true, ltb
 use Rattle.std.proofs.Math.Nat.{pow-suc, div-lt_iff_lt-mul}
 use Rattle.std.proofs.lemmas.Nat.{div-mul-add, le-div}
 use Rattle.std.proofs.lemmas.Int.{ints}
+use Rattle.std.proofs.lemmas.Bool.{ne_eqb}
 use Rattle.tac_code.specs.declared.code.Value.TheVariants.{Number}
 use Rattle.tac_code.specs.declared.code.Operand.TheVariants as operand
 use Rattle.tac_code.specs.declared.code.Operator.TheVariants.{Subtract, Multiply, Divide}
@@ -15,7 +16,6 @@ use Rattle.tac_code.specs.Meaning.{Temporaries, put, Tape, State, related}
 use Rattle.tac_code_steps.specs.Runs.{Machine, Comes}
 use Rattle.tac_code_steps.specs.Routines.{wrote}
 use Rattle.tac_code_steps.proofs.Runs.{a_step, ◌>>◌}
-use Rattle.tac_code_steps.proofs.Temporaries.{eq_no}
 use Rattle.ps_meaning.specs.Text.{right_aligned, digits, integer_text}
 use Rattle.tac_rt.specs.declared.writing.TheConstants.{WRITE_NUMBER}
 use Rattle.tac_rt.specs.Bodies.{routine_of}
@@ -130,7 +130,7 @@ module _ (m : Machine) (s : State) (has : HasRoutines m) (to line : ℕ) where
         rest.1,
         one_digit b bs t tape h left power small low
             >> branches_back m s 10 routine has refl to line 28 t' s.memory told NotEqual 3
-            (operand.Number (pos 0)) 7 refl (ap (λ x. Some (not x)) (eq_no (p / 10) 0 more))
+            (operand.Number (pos 0)) 7 refl (ap (λ x. Some (not x)) (ne_eqb (p / 10) 0 more))
             >> rest.2,
       )
 

@@ -1,7 +1,8 @@
 -- Every target and every operand of the routines exists: a test of their tables, and what it means.
-use Rattle.std.proofs.Common.{◌≡◌, ℕ, zero, suc, ◌+◌, ◌<◌, Bool, true, false, ◌&&◌, nat_lt, nat_le, List, [], ◌∷◌, map}
+use Rattle.std.proofs.Common.{◌≡◌, ℕ, zero, suc, ◌+◌, ◌<◌, Bool, true, ◌&&◌, nat_lt, nat_le, List, [], ◌∷◌, map}
 use Rattle.std.proofs.Common.{length, slice_get, Some, refl, sym, ap, ◌∙◌, subst, arith, ltb-true, leb-true}
 use Rattle.std.proofs.lemmas.Option.{none-some}
+use Rattle.std.proofs.lemmas.Bool.{and_parts}
 use Rattle.tac_code.specs.declared.code.Operand.{Operand}
 use Rattle.tac_code.specs.declared.code.Operand.TheVariants as operand
 use Rattle.tac_code.specs.declared.code.Instruction.{Instruction}
@@ -57,10 +58,6 @@ is_sound_table parameters ts steps = nat_le parameters 8
 
 -- ---- what it means
 
-both : (a b : Bool) → (a && b) ≡ true → (a ≡ true) × (b ≡ true)
-both true b e = (refl, e)
-both false b e = absurd (cc)
-
 no_error : IsTestNumber 0
 no_error = omega arith
 
@@ -72,18 +69,18 @@ operand_sound ts (operand.Temporary t) e = ltb-true t ts e
 operand_sound ts (operand.Number z) e = e
 
 two_sound : (ts t a : ℕ) → (nat_lt t ts && nat_lt a ts) ≡ true → (t < ts) × (a < ts)
-two_sound ts t a e = let p = both (nat_lt t ts) (nat_lt a ts) e in (ltb-true t ts p.0, ltb-true a ts p.1)
+two_sound ts t a e = let p = and_parts (nat_lt t ts) (nat_lt a ts) e in (ltb-true t ts p.0, ltb-true a ts p.1)
 
 three_sound : (ts t a : ℕ) (b : Operand) → (nat_lt t ts && (nat_lt a ts && is_operand ts b)) ≡ true → (t < ts)
     × (a < ts) × IsOperand ts b
 three_sound ts t a b e =
-    let p = both (nat_lt t ts) (nat_lt a ts && is_operand ts b) e in
-    let q = both (nat_lt a ts) (is_operand ts b) p.1 in
+    let p = and_parts (nat_lt t ts) (nat_lt a ts && is_operand ts b) e in
+    let q = and_parts (nat_lt a ts) (is_operand ts b) p.1 in
     (ltb-true t ts p.0, ltb-true a ts q.0, operand_sound ts b q.1)
 
 step_sound : (l : Limits) (pc : ℕ) (i : Step) → is_sound_step l.temporaries l.places pc i ≡ true → IsSoundAt l pc
     (instruction_of i)
-step_sound l pc (step.Literal t z) e = let p = both (nat_lt t l.temporaries) (is_integer z) e
+step_sound l pc (step.Literal t z) e = let p = and_parts (nat_lt t l.temporaries) (is_integer z) e
     in (ltb-true t l.temporaries p.0, p.1)
 step_sound l pc (step.Copy t a) e = two_sound l.temporaries t a e
 step_sound l pc (step.Arithmetic operator t a b) e = let p = three_sound l.temporaries t a b e
@@ -92,8 +89,8 @@ step_sound l pc (step.Bits operator t a b) e = three_sound l.temporaries t a b e
 step_sound l pc (step.Compare relation t a b) e = three_sound l.temporaries t a b e
 step_sound l pc (step.Offset t a n) e = two_sound l.temporaries t a e
 step_sound l pc (step.SetWord t a i) e =
-    let p = both (nat_lt t l.temporaries) (nat_lt a l.temporaries && nat_lt i l.temporaries) e in
-    let q = both (nat_lt a l.temporaries) (nat_lt i l.temporaries) p.1 in (
+    let p = and_parts (nat_lt t l.temporaries) (nat_lt a l.temporaries && nat_lt i l.temporaries) e in
+    let q = and_parts (nat_lt a l.temporaries) (nat_lt i l.temporaries) p.1 in (
       ltb-true t l.temporaries p.0,
       ltb-true a l.temporaries q.0,
       ltb-true i l.temporaries q.1,
@@ -109,12 +106,12 @@ step_sound l pc (step.StoreByte a n b) e = two_sound l.temporaries a b e
 step_sound l pc (step.Jump n) e = ltb-true (suc pc + n) l.places e
 step_sound l pc (step.JumpBack n) e = leb-true n pc e
 step_sound l pc (step.Branch relation a b n) e =
-    let p = both (nat_lt a l.temporaries) (is_operand l.temporaries b && nat_lt (suc pc + n) l.places) e in
-    let q = both (is_operand l.temporaries b) (nat_lt (suc pc + n) l.places) p.1 in
+    let p = and_parts (nat_lt a l.temporaries) (is_operand l.temporaries b && nat_lt (suc pc + n) l.places) e in
+    let q = and_parts (is_operand l.temporaries b) (nat_lt (suc pc + n) l.places) p.1 in
     (ltb-true a l.temporaries p.0, operand_sound l.temporaries b q.0, ltb-true (suc pc + n) l.places q.1)
 step_sound l pc (step.BranchBack relation a b n) e =
-    let p = both (nat_lt a l.temporaries) (is_operand l.temporaries b && nat_le n pc) e in
-    let q = both (is_operand l.temporaries b) (nat_le n pc) p.1 in
+    let p = and_parts (nat_lt a l.temporaries) (is_operand l.temporaries b && nat_le n pc) e in
+    let q = and_parts (is_operand l.temporaries b) (nat_le n pc) p.1 in
     (ltb-true a l.temporaries p.0, operand_sound l.temporaries b q.0, leb-true n pc q.1)
 step_sound l pc (step.Return a) e = ltb-true a l.temporaries e
 step_sound l pc (step.Take t) e = ltb-true t l.temporaries e
@@ -144,12 +141,12 @@ steps_sound : (l : Limits) (pc : ℕ) (steps : List Step) → are_sound_steps l.
     → (i : ℕ) (x : Instruction) → slice_get (map instruction_of steps) i ≡ Some x → IsSoundAt l (pc + i) x
 steps_sound l pc [] t i x e = absurd (none-some x e)
 steps_sound l pc (s ∷ steps) t zero x e =
-    let p = both (is_sound_step l.temporaries l.places pc s) (are_sound_steps l.temporaries l.places (suc pc) steps) t
+    let p = and_parts (is_sound_step l.temporaries l.places pc s) (are_sound_steps l.temporaries l.places (suc pc) steps) t
     in
     let here : pc ≡ pc + 0 = omega arith in
     subst (λ q. IsSoundAt l q x) here (subst (IsSoundAt l pc) (some_is e) (step_sound l pc s p.0))
 steps_sound l pc (s ∷ steps) t (suc i) x e =
-    let p = both (is_sound_step l.temporaries l.places pc s) (are_sound_steps l.temporaries l.places (suc pc) steps) t
+    let p = and_parts (is_sound_step l.temporaries l.places pc s) (are_sound_steps l.temporaries l.places (suc pc) steps) t
     in
     let there : suc pc + i ≡ pc + suc i = omega arith in
     subst (λ q. IsSoundAt l q x) there (steps_sound l (suc pc) steps p.1 i x e)
@@ -171,10 +168,10 @@ Fine code routine = IsSoundRoutine (limits_of code routine) routine × IsLeaf ro
 table_fine : (code : Code) (parameters temporaries : ℕ) (steps : List Step)
     → is_sound_table parameters temporaries steps ≡ true → Fine code (routine_of parameters temporaries steps)
 table_fine code parameters ts steps e =
-    let a = both (nat_le parameters 8) (nat_le parameters ts
+    let a = and_parts (nat_le parameters 8) (nat_le parameters ts
     && (nat_le ts 40 && are_sound_steps ts (length steps) 0 steps)) e in
-    let b = both (nat_le parameters ts) (nat_le ts 40 && are_sound_steps ts (length steps) 0 steps) a.1 in
-    let c = both (nat_le ts 40) (are_sound_steps ts (length steps) 0 steps) b.1 in
+    let b = and_parts (nat_le parameters ts) (nat_le ts 40 && are_sound_steps ts (length steps) 0 steps) a.1 in
+    let c = and_parts (nat_le ts 40) (are_sound_steps ts (length steps) 0 steps) b.1 in
     let few = leb-true ts 40 c.0 in
     let places : are_sound_steps ts (length (map instruction_of steps)) 0 steps
     ≡ true = ap (λ n. are_sound_steps ts n 0 steps) (sym (length_mapped steps)) ∙ c.1 in

@@ -2,6 +2,7 @@
 use Rattle.std.proofs.Common.{◌≡◌, ℕ, zero, suc, ◌+◌, ◌-◌, ◌<◌, ◌≤◌, ℤ, pos, negsuc, Bool, true, false, not, nat_lt}
 use Rattle.std.proofs.Common.{if◌then◌else◌, List, [], ◌∷◌, ◌++◌, length, replicate, take, slice_get, Some, refl, sym}
 use Rattle.std.proofs.Common.{ap, ◌∙◌, subst, arith, lt-ltb, ltb-true, ltb-false}
+use Rattle.std.proofs.lemmas.Bool.{ne_eqb}
 use Rattle.tac_code.specs.declared.code.Block.{Block}
 use Rattle.tac_code.specs.declared.code.Value.{Value}
 use Rattle.tac_code.specs.declared.code.Value.TheVariants.{Number, Address}
@@ -14,7 +15,6 @@ use Rattle.tac_code.specs.Meaning.{Temporaries, put, Tape, State, text_at, relat
 use Rattle.tac_code_steps.specs.Runs.{Machine, Comes}
 use Rattle.tac_code_steps.specs.Routines.{wrote}
 use Rattle.tac_code_steps.proofs.Runs.{a_step, ◌>>◌}
-use Rattle.tac_code_steps.proofs.Temporaries.{eq_no}
 use Rattle.ps_meaning.specs.Text.{right_aligned, fitted}
 use Rattle.tac_rt.specs.declared.writing.TheConstants.{WRITE_STRING}
 use Rattle.tac_rt.specs.Bodies.{routine_of}
@@ -108,7 +108,7 @@ module _ (m : Machine) (s : State) (has : HasRoutines m) (fresh : IsFresh s.coun
         rest.1,
         character b (suc (length text)) block o t tape h.0 h.1 a n l
             >> branches_back m s 12 routine has refl to line 13 t' s.memory (told b tape) NotEqual 1
-            (operand.Number (pos 0)) 4 refl (ap (λ x. Some (not x)) (eq_no (suc (length text)) 0 more))
+            (operand.Number (pos 0)) 4 refl (ap (λ x. Some (not x)) (ne_eqb (suc (length text)) 0 more))
             >> rest.2,
       )
 
@@ -128,7 +128,7 @@ module _ (m : Machine) (s : State) (has : HasRoutines m) (fresh : IsFresh s.coun
         rest.0,
         rest.1,
         passes m s 12 routine has refl to line 8 t s.memory tape Equal 1 (operand.Number (pos 0)) 5 refl
-            (ap (λ v. related Equal v (Some (Number (pos 0)))) n ∙ ap Some (eq_no (suc (length text)) 0 more))
+            (ap (λ v. related Equal v (Some (Number (pos 0)))) n ∙ ap Some (ne_eqb (suc (length text)) 0 more))
             >> rest.2,
       )
 
@@ -164,7 +164,7 @@ module _ (m : Machine) (s : State) (has : HasRoutines m) (fresh : IsFresh s.coun
         rest.3,
         space (suc k) t tape n e l
             >> branches_back m s 12 routine has refl to line 5 t1 s.memory (told 32 tape) NotEqual 3
-            (operand.Number (pos 0)) 2 refl (ap (λ x. Some (not x)) (eq_no (suc k) 0 more))
+            (operand.Number (pos 0)) 2 refl (ap (λ x. Some (not x)) (ne_eqb (suc k) 0 more))
             >> rest.4,
       )
 

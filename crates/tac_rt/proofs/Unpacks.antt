@@ -1,6 +1,7 @@
 -- Bytes are unpacked to words.
 use Rattle.std.proofs.Common.{◌≡◌, ℕ, suc, ◌+◌, ◌*◌, ◌<◌, pos, not, List, [], ◌∷◌, length, slice_get, Some, refl, ap}
 use Rattle.std.proofs.Common.{◌∙◌, subst, arith}
+use Rattle.std.proofs.lemmas.Bool.{ne_eqb}
 use Rattle.tac_code.specs.declared.code.Block.{Block}
 use Rattle.tac_code.specs.declared.code.Value.{Value}
 use Rattle.tac_code.specs.declared.code.Value.TheVariants.{Number, Address}
@@ -11,7 +12,6 @@ use Rattle.tac_code.specs.Memory.{Memory, load_byte, store, with_word}
 use Rattle.tac_code.specs.Meaning.{Temporaries, put, State, text_at}
 use Rattle.tac_code_steps.specs.Runs.{Machine, Comes}
 use Rattle.tac_code_steps.proofs.Runs.{a_step, ◌>>◌}
-use Rattle.tac_code_steps.proofs.Temporaries.{eq_no}
 use Rattle.tac_rt.specs.declared.words.TheConstants.{UNPACK}
 use Rattle.tac_rt.specs.Bodies.{routine_of}
 use Rattle.tac_rt.specs.Calls.{HasRoutines}
@@ -75,7 +75,7 @@ module _ (m : Machine) (s : State) (has : HasRoutines m) (to line : ℕ) (upper 
       let more : suc (length bytes) ≡ 0 → ⊥ = λ e. omega arith in
       turns byte (suc (length bytes)) place start t before c.0 a b n f c.1 c.2 l h
       >> branches_back m s 9 routine has refl to line 6 t4 c.0 s.tape NotEqual 2 (operand.Number (pos 0)) 5 refl
-      (ap (λ x. Some (not x)) (eq_no (suc (length bytes)) 0 more))
+      (ap (λ x. Some (not x)) (ne_eqb (suc (length bytes)) 0 more))
       >> moves next bytes (place + 4) (start + 1) t4 c.0 memory refl refl refl
       (stored s.count before (λ words. with_word words place (Number (pos byte))) c.0 f upper c.2).fresh c.3
       (omega arith) (omega arith)
@@ -94,7 +94,7 @@ module _ (m : Machine) (s : State) (has : HasRoutines m) (to line : ℕ) (upper 
   whole (byte ∷ bytes) place start before memory f c l h =
       let more : suc (length bytes) ≡ 0 → ⊥ = λ e. omega arith in
       passes m s 9 routine has refl to line 0 (first (byte ∷ bytes) place start) before s.tape Equal 2
-      (operand.Number (pos 0)) 6 refl (ap Some (eq_no (suc (length bytes)) 0 more))
+      (operand.Number (pos 0)) 6 refl (ap Some (ne_eqb (suc (length bytes)) 0 more))
       >> moves byte bytes place start (first (byte ∷ bytes) place start) before memory refl refl refl f c l h
 
 pub unpacks_bytes : UnpacksBytes

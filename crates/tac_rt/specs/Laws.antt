@@ -3,6 +3,7 @@ use Rattle.std.specs.Prelude.{int_lt, ◌==◌, ◌/◌, not, ◌-ℤ◌, if◌t
 use Rattle.std.specs.Prelude.{IsTrue, Bool, true, false, ◌++◌, Option, Some, None, negsuc, ℕ, ◌+◌, ◌<◌, pos, List, []}
 use Rattle.std.specs.Prelude.{◌∷◌, length}
 use Rattle.std.specs.List.{All}
+use Rattle.tac_code.specs.declared.code.TheConstants.{BLOCK_LIMIT, NUMBER_LIMIT}
 use Rattle.tac_code.specs.declared.code.Block.{Block}
 use Rattle.tac_code.specs.declared.code.BitOperator.{BitOperator}
 use Rattle.tac_code.specs.declared.code.BitOperator.TheVariants.{And, Or, AndNot, ShiftLeft}
@@ -26,7 +27,7 @@ use Rattle.tac_rt.specs.Inputs.{ahead, begun, tape_of, InputAt, kind_of}
 abbrev pub WritesNumbers : Type 0
 WritesNumbers =
     (m : Machine) (x : ℤ) (width : ℕ) (memory : Memory) (tape : Tape) →
-    HasRoutines m → IsTrue (is_integer x) → width < 2147483648 →
+    HasRoutines m → IsTrue (is_integer x) → width < NUMBER_LIMIT →
     Does m 10 (Number x ∷ Number (pos width) ∷ []) memory tape (Number (pos 0)) memory
     (wrote tape (right_aligned width (integer_text x)))
 
@@ -35,7 +36,7 @@ WritesNumbers =
 abbrev pub WritesCharacters : Type 0
 WritesCharacters =
     (m : Machine) (x : ℤ) (width : ℕ) (memory : Memory) (tape : Tape) →
-    HasRoutines m → IsTrue (is_integer x) → width < 2147483648 →
+    HasRoutines m → IsTrue (is_integer x) → width < NUMBER_LIMIT →
     Does m 11 (Number x ∷ Number (pos width) ∷ []) memory tape (Number (pos 0)) memory
     (wrote tape (right_aligned width (unsigned_abs x % 256 ∷ [])))
 
@@ -44,7 +45,7 @@ abbrev pub WritesStrings : Type 0
 WritesStrings =
     (m : Machine) (block : Block) (offset : ℕ) (text : List ℕ) (width : ℕ) (memory : Memory) (tape : Tape) →
     HasRoutines m → BytesAt (text_at m.code) memory block offset text →
-    offset + length text < 2147483648 → width < 2147483648 →
+    offset + length text < BLOCK_LIMIT → width < NUMBER_LIMIT →
     Does m 12 (Address block offset ∷ Number (pos (length text)) ∷ Number (pos width) ∷ []) memory tape
     (Number (pos 0)) memory (wrote tape (fitted width text))
 
@@ -151,7 +152,7 @@ abbrev pub CopiesWords : Type 0
 CopiesWords =
     (m : Machine) (to : Block) (place : ℕ) (from : Block) (start n : ℕ) (before after : Memory) (tape : Tape) →
     HasRoutines m → CopiedUp (text_at m.code) before to place from start n after →
-    place + 4 * n < 2147483648 → start + 4 * n < 2147483648 →
+    place + 4 * n < BLOCK_LIMIT → start + 4 * n < BLOCK_LIMIT →
     Does m 0 (Address to place ∷ Address from start ∷ Number (pos (4 * n)) ∷ []) before tape (Number (pos 0)) after tape
 
 -- the difference of the first bytes that differ, left minus right, or 0
@@ -167,7 +168,7 @@ ComparesBytes =
     →
     HasRoutines m → BytesAt (text_at m.code) memory x place left → BytesAt (text_at m.code) memory y start right
     → length left ≡ length right →
-    place + length left < 2147483648 → start + length right < 2147483648 →
+    place + length left < BLOCK_LIMIT → start + length right < BLOCK_LIMIT →
     Does m 7 (Address x place ∷ Address y start ∷ Number (pos (length left)) ∷ []) memory tape
     (Number (first_difference left right)) memory tape
 
@@ -186,7 +187,7 @@ PacksBytes =
     (m : Machine) (to : Block) (place : ℕ) (from : Block) (start : ℕ) (bytes : List ℕ) (before after : Memory)
     (tape : Tape) →
     HasRoutines m → PackedUp (text_at m.code) before to place from start bytes after →
-    place + length bytes < 2147483648 → start + 4 * length bytes < 2147483648 →
+    place + length bytes < BLOCK_LIMIT → start + 4 * length bytes < BLOCK_LIMIT →
     Does m 8 (Address to place ∷ Address from start ∷ Number (pos (length bytes)) ∷ []) before tape
     (Number (pos 0)) after tape
 
@@ -205,7 +206,7 @@ UnpacksBytes =
     (m : Machine) (to : Block) (place : ℕ) (from : Block) (start : ℕ) (bytes : List ℕ) (before after : Memory)
     (tape : Tape) →
     HasRoutines m → UnpackedUp (text_at m.code) before to place from start bytes after →
-    place + 4 * length bytes < 2147483648 → start + length bytes < 2147483648 →
+    place + 4 * length bytes < BLOCK_LIMIT → start + length bytes < BLOCK_LIMIT →
     Does m 9 (Address to place ∷ Address from start ∷ Number (pos (length bytes)) ∷ []) before tape
     (Number (pos 0)) after tape
 
@@ -225,7 +226,7 @@ abbrev pub JoinsSets : (number : ℕ) → BitOperator → Type 0
 JoinsSets number operator =
     (m : Machine) (to : Block) (place : ℕ) (from : Block) (start : ℕ) (before after : Memory) (tape : Tape) →
     HasRoutines m → JoinedUp operator (text_at m.code) before to place from start 8 after →
-    place + 32 < 2147483648 → start + 32 < 2147483648 →
+    place + 32 < BLOCK_LIMIT → start + 32 < BLOCK_LIMIT →
     Does m number (Address to place ∷ Address from start ∷ []) before tape (Number (pos 0)) after tape
 
 -- union, difference and intersection
@@ -250,7 +251,7 @@ pub record AddsMembers : Type 0 where
       (Number (pos 0)) memory tape
   pub some : (m : Machine) (n count : ℕ) (block : Block) (offset : ℕ) (before after : Memory) (tape : Tape)
       → HasRoutines m → n + count < 256 → AddedUp (text_at m.code) before block offset n (suc count) after → offset
-      + 32 < 2147483648 → Does m 1 (Address block offset ∷ Number (pos n) ∷ Number (pos (n + count)) ∷ []) before tape
+      + 32 < BLOCK_LIMIT → Does m 1 (Address block offset ∷ Number (pos n) ∷ Number (pos (n + count)) ∷ []) before tape
       (Number (pos 0)) after tape
 
 -- these numbers are in the words of a block from an offset on
@@ -272,7 +273,7 @@ IncludesSets =
     →
     HasRoutines m → WordsAt (text_at m.code) memory x place left → WordsAt (text_at m.code) memory y start right
     → length left ≡ 8 → length right ≡ 8 →
-    place + 32 < 2147483648 → start + 32 < 2147483648 →
+    place + 32 < BLOCK_LIMIT → start + 32 < BLOCK_LIMIT →
     Does m 5 (Address x place ∷ Address y start ∷ []) memory tape (Number (truth (is_included left right))) memory tape
 
 -- Whether an integer is a member of a set (6.7.2.5): the integer, and the address of the set's words. Outside 0..255 it
@@ -283,7 +284,7 @@ pub record FindsMembers : Type 0 where
       (Number (pos 0)) memory tape
   pub inside : (m : Machine) (n : ℕ) (block : Block) (offset : ℕ) (w : ℤ) (memory : Memory) (tape : Tape)
       → HasRoutines m → n < 256 → load (text_at m.code) memory block (offset + 4 * (n / 32)) ≡ Some (Number w) → offset
-      + 32 < 2147483648 → Does m 6 (Number (pos n) ∷ Address block offset ∷ []) memory tape
+      + 32 < BLOCK_LIMIT → Does m 6 (Number (pos n) ∷ Address block offset ∷ []) memory tape
       (Number (truth (not (same_number (bits And w (bits ShiftLeft (pos 1) (pos n))) (pos 0))))) memory tape
 
 -- what the invariant of three-address code requires of its run-time routines: each target and each operand exists, and

@@ -12,7 +12,7 @@ ghost use Rattle.risc_emit_forms.specs.Forms as form;
 ghost use Rattle.risc_emit.specs.Frames.{context_of};
 ghost use Rattle.risc_emit.specs.Meant.{meant};
 
-use crate::arithmetic::is_divisor;
+use crate::arithmetic::{Operands, is_divisor};
 use crate::frame::Frame;
 use crate::operands::{
     fetch, fetch_length, finish, put_divisor, put_modulus, receive, right, save, target,
@@ -176,93 +176,88 @@ fn put_division(
 fn put_divide_by_any(
     frame: &Frame<'_>,
     pieces: &mut Pieces,
-    to: u32,
-    left: u32,
-    operand: Operand,
+    operands: Operands,
     error: u8,
     line: u16,
 ) -> Result<(), OutOfMemory>
-    requires { form.is_divisor operand ≡ false }
+    requires { form.is_divisor operands.right ≡ false }
     ensures { OnOk result (pieces.new ≡ pieces.old ++ form.divide_form
-        (context_of frame.now) frame.now.number to left operand error line) }
+        (context_of frame.now) frame.now.number operands.to operands.left operands.right error line) }
 {
-    put_divisor(frame, pieces, operand)?;
+    put_divisor(frame, pieces, operands.right)?;
     pieces.all(&[
         Piece::Fails(Condition::Equal, 2, line),
-        Piece::Plain(skip(Condition::Minus, quotient_length(frame, left) + 1)),
+        Piece::Plain(skip(Condition::Minus, quotient_length(frame, operands.left) + 1)),
     ])?;
-    put_quotient(frame, pieces, left)?;
-    pieces.plain(skip(Condition::Always, negative_length(frame, left, error, line)))?;
-    put_quotient_by_negative(frame, pieces, left, error, line)?;
-    receive(frame, pieces, to)
+    put_quotient(frame, pieces, operands.left)?;
+    pieces.plain(skip(
+        Condition::Always,
+        negative_length(frame, operands.left, error, line),
+    ))?;
+    put_quotient_by_negative(frame, pieces, operands.left, error, line)?;
+    receive(frame, pieces, operands.to)
 }
 
 pub(super) fn put_divide(
     frame: &Frame<'_>,
     pieces: &mut Pieces,
-    to: u32,
-    left: u32,
-    operand: Operand,
+    operands: Operands,
     error: u8,
     line: u16,
 ) -> Result<(), OutOfMemory>
     ensures { OnOk result (pieces.new ≡ pieces.old ++ form.divide_form
-        (context_of frame.now) frame.now.number to left operand error line) }
+        (context_of frame.now) frame.now.number operands.to operands.left operands.right error line) }
 {
-    if !is_divisor(operand) {
-        return put_divide_by_any(frame, pieces, to, left, operand, error, line);
+    if !is_divisor(operands.right) {
+        return put_divide_by_any(frame, pieces, operands, error, line);
     }
-    let register = target(frame, to);
-    put_division(frame, pieces, register, left, operand)?;
+    let register = target(frame, operands.to);
+    put_division(frame, pieces, register, operands.left, operands.right)?;
     put_rounded(pieces, register)?;
-    save(frame, pieces, to)
+    save(frame, pieces, operands.to)
 }
 
 fn put_modulo_by_any(
     frame: &Frame<'_>,
     pieces: &mut Pieces,
-    to: u32,
-    left: u32,
-    operand: Operand,
+    operands: Operands,
     line: u16,
 ) -> Result<(), OutOfMemory>
-    requires { form.is_divisor operand ≡ false }
+    requires { form.is_divisor operands.right ≡ false }
     ensures { OnOk result (pieces.new ≡ pieces.old ++ form.modulo_form
-        (context_of frame.now) frame.now.number to left operand line) }
+        (context_of frame.now) frame.now.number operands.to operands.left operands.right line) }
 {
-    let modulus = put_modulus(frame, pieces, operand)?;
+    let modulus = put_modulus(frame, pieces, operands.right)?;
     pieces.all(&[
         Piece::Plain(computed(Operation::Sub, r12(), modulus, constant(1))),
         Piece::Fails(Condition::Less, 3, line),
     ])?;
-    let dividend = fetch(frame, pieces, r12(), left)?;
+    let dividend = fetch(frame, pieces, r12(), operands.left)?;
     let remainder = [
         Piece::Plain(computed(Operation::Div, r12(), dividend, Right::Content(modulus))),
         Piece::Plain(Instr::MoveHigh {
-            to: target(frame, to),
+            to: target(frame, operands.to),
         }),
     ];
-    finish(frame, pieces, &remainder, to)
+    finish(frame, pieces, &remainder, operands.to)
 }
 
 // What H holds after a division is Pascal's mod.
 pub(super) fn put_modulo(
     frame: &Frame<'_>,
     pieces: &mut Pieces,
-    to: u32,
-    left: u32,
-    operand: Operand,
+    operands: Operands,
     line: u16,
 ) -> Result<(), OutOfMemory>
     ensures { OnOk result (pieces.new ≡ pieces.old ++ form.modulo_form
-        (context_of frame.now) frame.now.number to left operand line) }
+        (context_of frame.now) frame.now.number operands.to operands.left operands.right line) }
 {
-    if !is_divisor(operand) {
-        return put_modulo_by_any(frame, pieces, to, left, operand, line);
+    if !is_divisor(operands.right) {
+        return put_modulo_by_any(frame, pieces, operands, line);
     }
-    put_division(frame, pieces, r12(), left, operand)?;
+    put_division(frame, pieces, r12(), operands.left, operands.right)?;
     let remainder = Instr::MoveHigh {
-        to: target(frame, to),
+        to: target(frame, operands.to),
     };
-    finish(frame, pieces, &[Piece::Plain(remainder)], to)
+    finish(frame, pieces, &[Piece::Plain(remainder)], operands.to)
 }

@@ -7,6 +7,7 @@ ghost use Rattle.risc_machine.specs.Step.{load_byte, store_byte, holds, target_o
 ghost use Rattle.risc_machine.specs.Exec.{Performs, AfterOperation};
 
 use crate::console::Console;
+use crate::limits::{ADDRESSES, PLACES, SIGN_BIT};
 use crate::machine::Machine;
 use crate::machine::quick_parts::link_of;
 use crate::stop::{Fault, Stop};
@@ -33,7 +34,7 @@ impl Machine {
     pub(super) fn holds(&self, condition: Condition) -> bool
         ensures { result ≡ holds self.now condition }
     {
-        let negative = self.last >= 2147483648;
+        let negative = self.last >= SIGN_BIT;
         let equal = self.last == 0;
         match condition {
             Condition::Minus => negative,
@@ -56,12 +57,12 @@ impl Machine {
     // The address of a load or a store.
     fn address(&self, base: Register, offset: Offset) -> usize
         ensures value { result ≡ address self.now base offset }
-        ensures range { result < 16777216 }
+        ensures range { result < ADDRESSES }
     {
         (self
             .register(base)
             .wrapping_add(offset.value().cast_unsigned())
-            % 16777216) as usize
+            % ADDRESSES) as usize
     }
 
     // A branch: where it is taken, the target is read before the link is set.
@@ -84,13 +85,13 @@ impl Machine {
     // Where a taken branch goes.
     fn target(&self, target: Target) -> u32
         ensures value { result ≡ target_of self.now target }
-        ensures range { result < 4194304 }
+        ensures range { result < PLACES }
     {
         match target {
             Target::Relative(distance) => {
-                (self.pc + 1).wrapping_add(distance.value().cast_unsigned()) % 4194304
+                (self.pc + 1).wrapping_add(distance.value().cast_unsigned()) % PLACES
             }
-            Target::Absolute(register) => self.register(register) % 16777216 / 4,
+            Target::Absolute(register) => self.register(register) % ADDRESSES / 4,
         }
     }
 
@@ -135,7 +136,7 @@ impl Machine {
 
     // A load of a word.
     fn load_word<C: Console>(&mut self, to: Register, at: usize, console: &mut C) -> Option<Stop>
-        requires { at < 16777216 }
+        requires { at < ADDRESSES }
         ensures { Performs (load_word to at self.old) self.old (C.world console.old) self.new
             (C.world console.new) result }
     {
@@ -166,7 +167,7 @@ impl Machine {
         at: usize,
         console: &mut C,
     ) -> Option<Stop>
-        requires { at < 16777216 }
+        requires { at < ADDRESSES }
         ensures { Performs (store_word word at self.old) self.old (C.world console.old) self.new
             (C.world console.new) result }
     {

@@ -1,6 +1,6 @@
 // Whether what is kept of loads, stores and addresses is renamed.
 
-ghost use Rattle.std.specs.Prelude.{◌≡◌, ℕ, IfSome};
+ghost use Rattle.std.specs.Prelude.{◌≡◌, ℕ, List, IfSome};
 ghost use Rattle.tac_code.specs.declared.code.Instruction.TheVariants as Element;
 ghost use Rattle.tac_code.specs.Numbers.{steps_above};
 ghost use Rattle.tac_pass.specs.Acts as act;
@@ -21,59 +21,86 @@ fn steps_above(low: i32, high: i32) -> u64
     (i64::from(high) - i64::from(low)) as u64
 }
 
-pub(super) fn kept_address(
+fn kept_offset(
     routine: usize,
-    minded: &[u32],
     rows: &mut Rows,
     to: u32,
     instruction: &Instruction,
 ) -> Option<Instruction>
-    ensures { IfSome result (λ new_one. IsMade
-        (act.kept routine minded.now rows.old to instruction.now) new_one rows.new) }
+    ensures { IfSome result (λ new_one. (minded : List ℕ) → IsMade
+        (act.kept routine minded rows.old to instruction.now) new_one rows.new) }
+{
+    let Instruction::Offset {
+        to: given,
+        base,
+        bytes,
+        extent,
+    } = instruction
+    else {
+        return None;
+    };
+    let reach = shifted(*bytes, base_reach(routine, *base, rows));
+    let base = renamed_base(rows, *base)?;
+    rows.give(*given, to, reach);
+    Some(Instruction::Offset {
+        to,
+        base,
+        bytes: *bytes,
+        extent: *extent,
+    })
+}
+
+fn kept_index(
+    routine: usize,
+    rows: &mut Rows,
+    to: u32,
+    instruction: &Instruction,
+) -> Option<Instruction>
+    ensures { IfSome result (λ new_one. (minded : List ℕ) → IsMade
+        (act.kept routine minded rows.old to instruction.now) new_one rows.new) }
+{
+    let Instruction::Index {
+        to: given,
+        base,
+        index,
+        low,
+        high,
+        width,
+        error,
+        line,
+    } = instruction
+    else {
+        return None;
+    };
+    let most = steps_above(*low, *high) * u64::from(*width);
+    let reach = stretched(most, base_reach(routine, *base, rows));
+    let base = renamed_base(rows, *base)?;
+    let index = holder(rows, *index)?;
+    rows.give(*given, to, reach);
+    Some(Instruction::Index {
+        to,
+        base,
+        index,
+        low: *low,
+        high: *high,
+        width: *width,
+        error: *error,
+        line: *line,
+    })
+}
+
+pub(super) fn kept_address(
+    routine: usize,
+    rows: &mut Rows,
+    to: u32,
+    instruction: &Instruction,
+) -> Option<Instruction>
+    ensures { IfSome result (λ new_one. (minded : List ℕ) → IsMade
+        (act.kept routine minded rows.old to instruction.now) new_one rows.new) }
 {
     match instruction {
-        Instruction::Offset {
-            to: given,
-            base,
-            bytes,
-            extent,
-        } => {
-            let reach = shifted(*bytes, base_reach(routine, *base, rows));
-            let base = renamed_base(rows, *base)?;
-            rows.give(*given, to, reach);
-            Some(Instruction::Offset {
-                to,
-                base,
-                bytes: *bytes,
-                extent: *extent,
-            })
-        }
-        Instruction::Index {
-            to: given,
-            base,
-            index,
-            low,
-            high,
-            width,
-            error,
-            line,
-        } => {
-            let most = steps_above(*low, *high) * u64::from(*width);
-            let reach = stretched(most, base_reach(routine, *base, rows));
-            let base = renamed_base(rows, *base)?;
-            let index = holder(rows, *index)?;
-            rows.give(*given, to, reach);
-            Some(Instruction::Index {
-                to,
-                base,
-                index,
-                low: *low,
-                high: *high,
-                width: *width,
-                error: *error,
-                line: *line,
-            })
-        }
+        Instruction::Offset { .. } => kept_offset(routine, rows, to, instruction),
+        Instruction::Index { .. } => kept_index(routine, rows, to, instruction),
         _ => None,
     }
 }

@@ -3,7 +3,7 @@ use Rattle.std.proofs.Common.{◌+◌, nat_lt, length, slice_get, refl, sym, ap,
 use Rattle.std.proofs.lemmas.Option.{slice_get_read}
 use Rattle.risc_emit.specs.Frames.{context_of}
 use Rattle.risc_emit.proofs.Few.{passes_few}
-use Rattle.risc_emit.proofs.Telling.{told_here, bent_here, bent_next, loads_near}
+use Rattle.risc_emit.proofs.Peephole.{flagged_here, deferred_here, deferred_next, loads_near}
 use Rattle.risc_emit.proofs.Drafting.{drafted_more, drafted_marks}
 use Rattle.risc_emit.proofs.Limits.{drafted_past}
 use Rattle.risc_emit.proofs.draft.put_routine.Goals as goal
@@ -15,18 +15,19 @@ put_place-requires c =
     let here = ap (λ l. slice_get l c.loop-place.place) (sym c.as_slice-body.ensures)
     ∙ slice_get_read c.as_slice-body.result.now _ c.loop-place.place c.index-body-place.result refl
     c.loop-place-test.true c.index-body-place.is in
-    let bent = bent_here k r c.loop-place.place c.args.routine.now c.as_slice-body.result.now c.bent-here.result
-    c.requires.own c.as_slice-body.ensures c.bent-here.ensures in
+    let deferred = deferred_here k r c.loop-place.place c.args.routine.now c.as_slice-body.result.now
+    c.deferred-here.result
+    c.requires.own c.as_slice-body.ensures c.deferred-here.ensures in
     record {
       few = passes_few c.args.frame.now.code r c.loop-place.place c.args.routine.now c.index-body-place.result
           c.keeps_invariant.ensures c.requires.own here;
-      told = told_here k r c.loop-place.place c.args.routine.now c.as_slice-body.result.now c.told-told.result
-          c.requires.own c.as_slice-body.ensures c.told-told.ensures;
-      bent = bent;
-      next = bent_next k r c.loop-place.place c.args.routine.now c.as_slice-body.result.now c.bent-next.result
-          c.requires.own c.as_slice-body.ensures c.bent-next.ensures;
-      near = loads_near k r c.loop-place.place c.index-body-place.result c.bent-here.result
-          (ap (λ o. body_at o c.loop-place.place) c.requires.own ∙ here) bent;
+      flagged = flagged_here k r c.loop-place.place c.args.routine.now c.as_slice-body.result.now
+          c.flagged-flagged.result c.requires.own c.as_slice-body.ensures c.flagged-flagged.ensures;
+      deferred = deferred;
+      next = deferred_next k r c.loop-place.place c.args.routine.now c.as_slice-body.result.now c.deferred-next.result
+          c.requires.own c.as_slice-body.ensures c.deferred-next.ensures;
+      near = loads_near k r c.loop-place.place c.index-body-place.result c.deferred-here.result
+          (ap (λ o. body_at o c.loop-place.place) c.requires.own ∙ here) deferred;
     }
 
 pub loop-place-preserved : goal.loop-place-preserved

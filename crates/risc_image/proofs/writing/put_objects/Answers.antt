@@ -1,12 +1,13 @@
 use Rattle.std.proofs.Common.{arith}
+use Rattle.std.proofs.lemmas.List.Elements.{All-more}
 use Rattle.risc_image.specs.Format.{word_bytes, object_words, AreWords}
-use Rattle.risc_image.proofs.Written.{written_more, all_more}
+use Rattle.risc_image.proofs.Written.{written_more}
 use Rattle.risc_image.proofs.writing.put_objects.Goals as goal
 
 pub loop-row-preserved : goal.loop-row-preserved
 loop-row-preserved c = record {
   bytes = written_more (λ row. word_bytes (object_words row)) c.args.rows.now c.loop-row.row-index _ _ _ _
       (omega arith) c.loop-row.invariant.bytes c.in_ok-put_words.ensures.bytes;
-  numbers = all_more (λ row. AreWords (object_words row)) c.args.rows.now c.loop-row.row-index _
+  numbers = All-more (λ row. AreWords (object_words row)) c.args.rows.now c.loop-row.row-index _
       (omega arith) c.loop-row.invariant.numbers c.in_ok-put_words.ensures.numbers;
 }

@@ -2,13 +2,13 @@
 
 ghost use Rattle.std.specs.Prelude.{◌≡◌, ◌≤◌, ◌≤ℤ◌, pos, negsuc, slice_get, Some, IfSome};
 ghost use Rattle.risc_emit_relation.specs.Context.{home};
-ghost use Rattle.risc_emit_forms.specs.Told.{both_short, is_apart, row_near};
-ghost use Rattle.risc_emit_forms.specs.Told.{row_from, bend_row, row, bent};
+ghost use Rattle.risc_emit_forms.specs.Peephole.{both_short, is_apart, row_near};
+ghost use Rattle.risc_emit_forms.specs.Peephole.{row_from, defer_row, row, deferred};
 ghost use Rattle.risc_emit.specs.Frames.{context_of};
 
-use crate::bent::{back, bend_load, offset_of};
+use crate::deferred::{back, defer_load, offset_of};
 use crate::frame::Frame;
-use crate::seat::Seat;
+use crate::location::Location;
 use risc_word::Register;
 use tac_code::code::{Base, Instruction};
 
@@ -32,9 +32,9 @@ pub(super) fn both_short(offset: i64, further: Option<i64>) -> Option<i64>
 fn is_apart(frame: &Frame<'_>, temporary: u32, register: Register) -> bool
     ensures { result ≡ is_apart (home (context_of frame.now) frame.now.number temporary) register }
 {
-    match frame.seat(temporary) {
-        Seat::Register(other) => other.number() != register.number(),
-        Seat::Slot(_) => true,
+    match frame.location(temporary) {
+        Location::Register(other) => other.number() != register.number(),
+        Location::Slot(_) => true,
     }
 }
 
@@ -47,8 +47,8 @@ fn row_near(
 ) -> Option<(Register, i64)>
     requires most { offset ≤ℤ pos 1099511627776 }
     ensures is { result ≡ row_near offset (home (context_of frame.now) frame.now.number index) found }
-    ensures least { IfSome result (λ bent. negsuc 16777215 ≤ℤ bent.1) }
-    ensures most { IfSome result (λ bent. bent.1 ≤ℤ pos 1099511627776) }
+    ensures least { IfSome result (λ deferred. negsuc 16777215 ≤ℤ deferred.1) }
+    ensures most { IfSome result (λ deferred. deferred.1 ≤ℤ pos 1099511627776) }
 {
     match found {
         Some((register, _)) => {
@@ -80,13 +80,13 @@ fn row_from(
     requires further_most { IfSome further (λ more. more ≤ℤ pos 0) }
     ensures is { result ≡ row_from (context_of frame.now) frame.now.number to short
         (home (context_of frame.now) frame.now.number index) further (slice_get body.now third) }
-    ensures least { IfSome result (λ bent. negsuc 16777215 ≤ℤ bent.1) }
-    ensures most { IfSome result (λ bent. bent.1 ≤ℤ pos 1099511627776) }
+    ensures least { IfSome result (λ deferred. negsuc 16777215 ≤ℤ deferred.1) }
+    ensures most { IfSome result (λ deferred. deferred.1 ≤ℤ pos 1099511627776) }
 {
     match short {
         Some(offset) => {
             let whole = both_short(offset, further);
-            let found = bend_load(frame, to, whole, body, third);
+            let found = defer_load(frame, to, whole, body, third);
             row_near(frame, offset, index, found)
         }
         None => None,
@@ -104,10 +104,10 @@ fn row_by(
 ) -> Option<(Register, i64)>
     requires least { IfSome short (λ offset. negsuc 16777215 ≤ℤ offset) }
     requires most { IfSome short (λ offset. offset ≤ℤ pos 1099511627776) }
-    ensures is { result ≡ bend_row (context_of frame.now) frame.now.number to short (Some instruction.now)
+    ensures is { result ≡ defer_row (context_of frame.now) frame.now.number to short (Some instruction.now)
         (slice_get body.now third) }
-    ensures least { IfSome result (λ bent. negsuc 16777215 ≤ℤ bent.1) }
-    ensures most { IfSome result (λ bent. bent.1 ≤ℤ pos 1099511627776) }
+    ensures least { IfSome result (λ deferred. negsuc 16777215 ≤ℤ deferred.1) }
+    ensures most { IfSome result (λ deferred. deferred.1 ≤ℤ pos 1099511627776) }
 {
     match instruction {
         Instruction::Index {
@@ -131,7 +131,7 @@ fn row_by(
     }
 }
 
-fn bend_row(
+fn defer_row(
     frame: &Frame<'_>,
     to: u32,
     short: Option<i64>,
@@ -141,10 +141,10 @@ fn bend_row(
 ) -> Option<(Register, i64)>
     requires least { IfSome short (λ offset. negsuc 16777215 ≤ℤ offset) }
     requires most { IfSome short (λ offset. offset ≤ℤ pos 1099511627776) }
-    ensures is { result ≡ bend_row (context_of frame.now) frame.now.number to short (slice_get body.now place)
+    ensures is { result ≡ defer_row (context_of frame.now) frame.now.number to short (slice_get body.now place)
         (slice_get body.now third) }
-    ensures least { IfSome result (λ bent. negsuc 16777215 ≤ℤ bent.1) }
-    ensures most { IfSome result (λ bent. bent.1 ≤ℤ pos 1099511627776) }
+    ensures least { IfSome result (λ deferred. negsuc 16777215 ≤ℤ deferred.1) }
+    ensures most { IfSome result (λ deferred. deferred.1 ≤ℤ pos 1099511627776) }
 {
     match body.get(place) {
         Some(instruction) => row_by(frame, to, short, instruction, body, third),
@@ -161,8 +161,8 @@ pub(super) fn row(
 ) -> Option<(Register, i64)>
     ensures is { result ≡ row (context_of frame.now) frame.now.number (Some instruction.now)
         (slice_get body.now place) (slice_get body.now third) }
-    ensures least { IfSome result (λ bent. negsuc 16777215 ≤ℤ bent.1) }
-    ensures most { IfSome result (λ bent. bent.1 ≤ℤ pos 1099511627776) }
+    ensures least { IfSome result (λ deferred. negsuc 16777215 ≤ℤ deferred.1) }
+    ensures most { IfSome result (λ deferred. deferred.1 ≤ℤ pos 1099511627776) }
 {
     match instruction {
         Instruction::Index {
@@ -175,7 +175,7 @@ pub(super) fn row(
             ..
         } => {
             let short = offset_of(frame, *base, *low, *high, *width, *error);
-            bend_row(frame, *to, short, body, place, third)
+            defer_row(frame, *to, short, body, place, third)
         }
         _ => None,
     }

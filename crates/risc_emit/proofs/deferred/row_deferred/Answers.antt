@@ -1,7 +1,7 @@
 use Rattle.std.proofs.Common.{◌-◌, rules, ◌∙◌}
 use Rattle.risc_emit.specs.Frames.{context_of}
-use Rattle.risc_emit.proofs.Telling.{get_is, row_some, row_none}
-use Rattle.risc_emit.proofs.bent.row_bent.Goals as goal
+use Rattle.risc_emit.proofs.Peephole.{get_is, row_some, row_none}
+use Rattle.risc_emit.proofs.deferred.row_deferred.Goals as goal
 
 pub returns-in-Some-clause-is : goal.returns-in-Some-clause-is
 returns-in-Some-clause-is c =

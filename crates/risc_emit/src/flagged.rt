@@ -2,7 +2,7 @@
 // leads there.
 
 ghost use Rattle.std.specs.Prelude.{◌≡◌, suc, ◌+◌, ◌-◌, true, if◌then◌else◌, Some, None, slice_set, IfOk};
-ghost use Rattle.risc_emit_forms.specs.Told.{sets_flags, flagged_by, jump_of, set_in, jumped, told};
+ghost use Rattle.risc_emit_forms.specs.Peephole.{sets_flags, flagged_by, jump_of, set_in, jumped, flagged};
 
 use std::alloc::Global;
 use tac_code::code::{Instruction, Operator, OutOfMemory};
@@ -91,9 +91,9 @@ pub(crate) fn jumped_places(alloc: Global, body: &[Instruction]) -> Result<Vec<b
 }
 
 /// The temporary whose register determines N and Z at a place, if there is one.
-pub(crate) fn told(body: &[Instruction], marks: &[bool], place: usize) -> Option<u32>
+pub(crate) fn flagged(body: &[Instruction], marks: &[bool], place: usize) -> Option<u32>
     requires { marks.now ≡ jumped body.now }
-    ensures { result ≡ told body.now place }
+    ensures { result ≡ flagged body.now place }
 {
     if place == 0 || place >= marks.len() || marks[place] {
         return None;

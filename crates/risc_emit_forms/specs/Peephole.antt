@@ -1,5 +1,6 @@
--- Where the flags are those of a temporary: after an instruction whose last word sets them by its result, if no jump
--- leads there. And where a register is short of an offset: between an index and the load by it.
+-- What the instructions before and behind a place spare its words. A test, where the flags are those of a temporary:
+-- after an instruction whose last word sets them by its result, if no jump leads there. And the sum of an address,
+-- where a displacement is deferred: an index leaves it out, and the load by it adds it.
 use Rattle.std.specs.Prelude.{ℕ, zero, suc, ◌+◌, ◌-◌, ◌*◌, Bool, true, false, ◌&&◌, not, nat_eq, nat_le, nat_lt, List, []}
 use Rattle.std.specs.Prelude.{if◌then◌else◌, ◌∷◌, length, slice_get, slice_set, get_or, replicate, Option, Some}
 use Rattle.std.specs.Prelude.{None, ℤ, pos, negsuc, ◌+ℤ◌, neg_ℤ, int_lt}
@@ -62,18 +63,18 @@ jumped body = marked body 0 (replicate (length body) false)
 -- ---- what is known of the flags
 
 -- the temporary whose register determines the flags at a place
-abbrev pub told : List Instruction → ℕ → Option ℕ
-told body zero = None
-told body (suc k) = if get_or (jumped body) (suc k) true then None else flagged_in (slice_get body k)
+abbrev pub flagged : List Instruction → ℕ → Option ℕ
+flagged body zero = None
+flagged body (suc k) = if get_or (jumped body) (suc k) true then None else flagged_in (slice_get body k)
 
-abbrev pub told_in : Option TacRoutine → ℕ → Option ℕ
-told_in None k = None
-told_in (Some routine) k = told routine.body k
+abbrev pub flagged_within : Option TacRoutine → ℕ → Option ℕ
+flagged_within None k = None
+flagged_within (Some routine) k = flagged routine.body k
 
-abbrev pub told_at : Context → ℕ → ℕ → Option ℕ
-told_at c r k = told_in (slice_get (routines c.code) r) k
+abbrev pub flagged_at : Context → ℕ → ℕ → Option ℕ
+flagged_at c r k = flagged_within (slice_get (routines c.code) r) k
 
--- ---- addresses that are short of an offset
+-- ---- displacements that are deferred
 
 -- the offset of a base's block from the register of its frame
 abbrev pub block_at : Context → ℕ → Base → Option ℕ
@@ -126,18 +127,18 @@ short_by None (Some n) = Some (pos n)
 short_by None None = None
 
 -- register q is short of m, where a load n bytes after its address can include both
-abbrev pub bend_near : ℕ → ℕ → ℤ → Option (ℕ × ℤ)
-bend_near q n m =
+abbrev pub defer_near : ℕ → ℕ → ℤ → Option (ℕ × ℤ)
+defer_near q n m =
     if int_lt (m +ℤ pos n) (negsuc 524287) then None
     else if int_lt (m +ℤ pos n) (pos 524288) then Some (q, m) else None
 
-abbrev pub bend_by : ℕ → ℕ → Option ℤ → Option (ℕ × ℤ)
-bend_by q n None = None
-bend_by q n (Some m) = bend_near q n m
+abbrev pub defer_by : ℕ → ℕ → Option ℤ → Option (ℕ × ℤ)
+defer_by q n None = None
+defer_by q n (Some m) = defer_near q n m
 
-abbrev pub bend_in : Home → ℕ → Option ℤ → Option (ℕ × ℤ)
-bend_in (Reg q) n o = bend_by q n o
-bend_in (Slot k) n o = None
+abbrev pub defer_in : Home → ℕ → Option ℤ → Option (ℕ × ℤ)
+defer_in (Reg q) n o = defer_by q n o
+defer_in (Slot k) n o = None
 
 -- an offset with that of an index that goes on from the same register
 abbrev pub both_short : ℤ → Option ℤ → Option ℤ
@@ -163,10 +164,10 @@ first_of None o = o
 
 -- an index into a base in a temporary is its own distance only if a load takes the lowest one
 abbrev pub near_of : Option (ℕ × ℤ) → Base → Option ℕ
-near_of (Some bent) (base.Temporary u) = Some 0
-near_of (Some bent) base.Frame = None
-near_of (Some bent) base.Scratch = None
-near_of (Some bent) base.Program = None
+near_of (Some deferred) (base.Temporary u) = Some 0
+near_of (Some deferred) base.Frame = None
+near_of (Some deferred) base.Scratch = None
+near_of (Some deferred) base.Program = None
 near_of None a = None
 
 module _ (c : Context) (r : ℕ) where
@@ -180,31 +181,31 @@ module _ (c : Context) (r : ℕ) where
       short_by (back a low high width error) (short_of (folded a low high width error) (block_at c r a))
 
   -- the address of an index into t, short of an offset, which the next instruction loads from into t
-  abbrev pub bend_load : ℕ → Option ℤ → Option Instruction → Option (ℕ × ℤ)
-  bend_load t o (Some (Load u (base.Temporary w) n)) = if nat_eq u t && nat_eq w t then bend_in (home c r t) n o
+  abbrev pub defer_load : ℕ → Option ℤ → Option Instruction → Option (ℕ × ℤ)
+  defer_load t o (Some (Load u (base.Temporary w) n)) = if nat_eq u t && nat_eq w t then defer_in (home c r t) n o
       else None
-  bend_load t o _ = None
+  defer_load t o _ = None
 
   -- an index into a row, whose address another index made in the same temporary
   abbrev pub row_from : ℕ → Option ℤ → Home → Option ℤ → Option Instruction → Option (ℕ × ℤ)
   row_from t None h d third = None
-  row_from t (Some m) h d third = row_near m h (bend_load t (both_short m d) third)
+  row_from t (Some m) h d third = row_near m h (defer_load t (both_short m d) third)
 
-  abbrev pub bend_row : ℕ → Option ℤ → Option Instruction → Option Instruction → Option (ℕ × ℤ)
-  bend_row t o (Some (Index u (base.Temporary w) j low high width error line)) third =
+  abbrev pub defer_row : ℕ → Option ℤ → Option Instruction → Option Instruction → Option (ℕ × ℤ)
+  defer_row t o (Some (Index u (base.Temporary w) j low high width error line)) third =
       if nat_eq u t && nat_eq w t then row_from t o (home c r j) (back (base.Temporary w) low high width error) third
       else None
-  bend_row t o _ third = None
+  defer_row t o _ third = None
 
   abbrev pub row : Option Instruction → Option Instruction → Option Instruction → Option (ℕ × ℤ)
   row (Some (Index t a i low high width error line)) next third =
-      bend_row t (offset_of a low high width error) next third
+      defer_row t (offset_of a low high width error) next third
   row _ next third = None
 
   -- the address of a row, short of an offset, which the next two instructions take
-  abbrev pub row_bent : List Instruction → ℕ → Option (ℕ × ℤ)
-  row_bent body zero = None
-  row_bent body (suc k) =
+  abbrev pub row_deferred : List Instruction → ℕ → Option (ℕ × ℤ)
+  row_deferred body zero = None
+  row_deferred body (suc k) =
       if get_or (jumped body) (suc k) true then None
       else if get_or (jumped body) (suc (suc k)) true then None
       else row (slice_get body k) (slice_get body (suc k)) (slice_get body (suc (suc k)))
@@ -214,24 +215,24 @@ module _ (c : Context) (r : ℕ) where
   start None a low high width error = offset_of a low high width error
   start (Some x) a low high width error = both_short x.1 (back a low high width error)
 
-  abbrev pub bend : Option (ℕ × ℤ) → Option Instruction → Option Instruction → Option (ℕ × ℤ)
-  bend before (Some (Index t a i low high width error line)) next =
-      bend_load t (start before a low high width error) next
-  bend before _ next = None
+  abbrev pub defer : Option (ℕ × ℤ) → Option Instruction → Option Instruction → Option (ℕ × ℤ)
+  defer before (Some (Index t a i low high width error line)) next =
+      defer_load t (start before a low high width error) next
+  defer before _ next = None
 
   -- the address of a component, which the next instruction loads
-  abbrev pub load_bent : List Instruction → ℕ → Option (ℕ × ℤ)
-  load_bent body zero = None
-  load_bent body (suc k) = if get_or (jumped body) (suc k) true then None else bend (row_bent body k) (slice_get body k)
-      (slice_get body (suc k))
+  abbrev pub load_deferred : List Instruction → ℕ → Option (ℕ × ℤ)
+  load_deferred body zero = None
+  load_deferred body (suc k) = if get_or (jumped body) (suc k) true then None else defer (row_deferred body k)
+      (slice_get body k) (slice_get body (suc k))
 
-  abbrev pub bent : List Instruction → ℕ → Option (ℕ × ℤ)
-  bent body k = first_of (row_bent body k) (load_bent body k)
+  abbrev pub deferred : List Instruction → ℕ → Option (ℕ × ℤ)
+  deferred body k = first_of (row_deferred body k) (load_deferred body k)
 
-  abbrev pub bent_in : Option TacRoutine → ℕ → Option (ℕ × ℤ)
-  bent_in None k = None
-  bent_in (Some routine) k = bent routine.body k
+  abbrev pub deferred_in : Option TacRoutine → ℕ → Option (ℕ × ℤ)
+  deferred_in None k = None
+  deferred_in (Some routine) k = deferred routine.body k
 
   -- the register that is short of an offset at a place, if one is
-  abbrev pub bent_at : ℕ → Option (ℕ × ℤ)
-  bent_at k = bent_in (slice_get (routines c.code) r) k
+  abbrev pub deferred_at : ℕ → Option (ℕ × ℤ)
+  deferred_at k = deferred_in (slice_get (routines c.code) r) k

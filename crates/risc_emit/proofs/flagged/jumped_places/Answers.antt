@@ -1,7 +1,7 @@
 use Rattle.std.proofs.Common.{refl}
 use Rattle.std.proofs.lemmas.Option.{slice_get_read}
 use Rattle.risc_emit.proofs.Jumps.{marked_more, marked_all}
-use Rattle.risc_emit.proofs.told.jumped_places.Goals as goal
+use Rattle.risc_emit.proofs.flagged.jumped_places.Goals as goal
 
 pub loop-place-preserved : goal.loop-place-preserved
 loop-place-preserved c =

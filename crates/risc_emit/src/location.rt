@@ -4,7 +4,7 @@ use risc_word::Register;
 
 /// Where a temporary lives: a slot of the frame, or a register.
 #[derive(Clone, Copy)]
-pub(crate) enum Seat {
+pub(crate) enum Location {
     Slot(u32),
     Register(Register),
 }

@@ -6,14 +6,15 @@ ghost use Rattle.std.specs.Prelude.{◌≡◌, ◌<◌, ◌≤◌, ◌≤ℤ◌,
 ghost use Rattle.std.specs.Prelude.{ℕ, ℤ, false, Option, None};
 ghost use Rattle.tac_code.specs.declared.code.Instruction.{Instruction as Element};
 ghost use Rattle.risc_emit_relation.specs.Context.{Context, home};
-ghost use Rattle.risc_emit_forms.specs.Told.{jumped, block_at, fold_near, fold_by, folded, short_of, back_near, back_by};
-ghost use Rattle.risc_emit_forms.specs.Told.{back, offset_of, bend_near, bend_in};
-ghost use Rattle.risc_emit_forms.specs.Told.{bend_load, row, row_bent, start, bend, load_bent, bent};
+ghost use Rattle.risc_emit_forms.specs.Peephole.{jumped, block_at, fold_near, fold_by, folded, short_of, back_near};
+ghost use Rattle.risc_emit_forms.specs.Peephole.{back_by};
+ghost use Rattle.risc_emit_forms.specs.Peephole.{back, offset_of, defer_near, defer_in};
+ghost use Rattle.risc_emit_forms.specs.Peephole.{defer_load, row, row_deferred, start, defer, load_deferred, deferred};
 ghost use Rattle.risc_emit.specs.Frames.{context_of};
 
-use crate::bent::rows::{both_short, row};
+use crate::deferred::rows::{both_short, row};
 use crate::frame::Frame;
-use crate::seat::Seat;
+use crate::location::Location;
 use risc_word::Register;
 use tac_code::code::{Base, Instruction};
 
@@ -159,10 +160,10 @@ fn offset_of(
 }
 
 // A register is short of an offset, where a load `behind` bytes after it can include both.
-fn bend_near(register: Register, behind: u32, offset: i64) -> Option<(Register, i64)>
+fn defer_near(register: Register, behind: u32, offset: i64) -> Option<(Register, i64)>
     requires least { negsuc 2147483647 ≤ℤ offset }
     requires most { offset ≤ℤ pos 1099511627776 }
-    ensures { result ≡ bend_near register behind offset }
+    ensures { result ≡ defer_near register behind offset }
 {
     let whole = offset + i64::from(behind);
     if whole < -524288 {
@@ -176,22 +177,22 @@ fn bend_near(register: Register, behind: u32, offset: i64) -> Option<(Register, 
 }
 
 // The same for the register of a temporary.
-fn bend_in(frame: &Frame<'_>, to: u32, behind: u32, short: Option<i64>) -> Option<(Register, i64)>
+fn defer_in(frame: &Frame<'_>, to: u32, behind: u32, short: Option<i64>) -> Option<(Register, i64)>
     requires least { IfSome short (λ offset. negsuc 2147483647 ≤ℤ offset) }
     requires most { IfSome short (λ offset. offset ≤ℤ pos 1099511627776) }
-    ensures { result ≡ bend_in (home (context_of frame.now) frame.now.number to) behind short }
+    ensures { result ≡ defer_in (home (context_of frame.now) frame.now.number to) behind short }
 {
-    match frame.seat(to) {
-        Seat::Register(register) => match short {
-            Some(offset) => bend_near(register, behind, offset),
+    match frame.location(to) {
+        Location::Register(register) => match short {
+            Some(offset) => defer_near(register, behind, offset),
             None => None,
         },
-        Seat::Slot(_) => None,
+        Location::Slot(_) => None,
     }
 }
 
 // The address of an index, if an instruction loads from it into the same temporary.
-fn bend_by(
+fn defer_by(
     frame: &Frame<'_>,
     to: u32,
     short: Option<i64>,
@@ -199,7 +200,7 @@ fn bend_by(
 ) -> Option<(Register, i64)>
     requires least { IfSome short (λ offset. negsuc 2147483647 ≤ℤ offset) }
     requires most { IfSome short (λ offset. offset ≤ℤ pos 1099511627776) }
-    ensures { result ≡ bend_load (context_of frame.now) frame.now.number to short (Some instruction.now) }
+    ensures { result ≡ defer_load (context_of frame.now) frame.now.number to short (Some instruction.now) }
 {
     match instruction {
         Instruction::Load {
@@ -208,7 +209,7 @@ fn bend_by(
             offset,
         } => {
             if *other == to && *address == to {
-                bend_in(frame, to, *offset, short)
+                defer_in(frame, to, *offset, short)
             } else {
                 None
             }
@@ -218,7 +219,7 @@ fn bend_by(
 }
 
 // The same for the instruction at a place.
-fn bend_load(
+fn defer_load(
     frame: &Frame<'_>,
     to: u32,
     short: Option<i64>,
@@ -227,16 +228,16 @@ fn bend_load(
 ) -> Option<(Register, i64)>
     requires least { IfSome short (λ offset. negsuc 2147483647 ≤ℤ offset) }
     requires most { IfSome short (λ offset. offset ≤ℤ pos 1099511627776) }
-    ensures { result ≡ bend_load (context_of frame.now) frame.now.number to short (slice_get body.now place) }
+    ensures { result ≡ defer_load (context_of frame.now) frame.now.number to short (slice_get body.now place) }
 {
     match body.get(place) {
-        Some(instruction) => bend_by(frame, to, short, instruction),
+        Some(instruction) => defer_by(frame, to, short, instruction),
         None => None,
     }
 }
 
 // Whether a jump leads to a place, or no instruction is there.
-#[tactic(auto, using(crate::proofs::Telling::get_end, crate::proofs::Telling::get_inside))]
+#[tactic(auto, using(crate::proofs::Peephole::get_end, crate::proofs::Peephole::get_inside))]
 fn is_jumped(marks: &[bool], place: usize) -> bool
     ensures { result ≡ get_or marks.now place true }
 {
@@ -247,17 +248,17 @@ fn is_jumped(marks: &[bool], place: usize) -> bool
 }
 
 // The address of a row, short of an offset that the next two instructions take.
-#[tactic(auto, using(crate::proofs::Telling::row_jumped))]
-fn row_bent(
+#[tactic(auto, using(crate::proofs::Peephole::row_jumped))]
+fn row_deferred(
     frame: &Frame<'_>,
     body: &[Instruction],
     marks: &[bool],
     place: usize,
 ) -> Option<(Register, i64)>
     requires { marks.now ≡ jumped body.now }
-    ensures is { result ≡ row_bent (context_of frame.now) frame.now.number body.now place }
-    ensures least { IfSome result (λ bent. negsuc 16777215 ≤ℤ bent.1) }
-    ensures most { IfSome result (λ bent. bent.1 ≤ℤ pos 1099511627776) }
+    ensures is { result ≡ row_deferred (context_of frame.now) frame.now.number body.now place }
+    ensures least { IfSome result (λ deferred. negsuc 16777215 ≤ℤ deferred.1) }
+    ensures most { IfSome result (λ deferred. deferred.1 ≤ℤ pos 1099511627776) }
 {
     if place == 0 || marks.len() <= place || marks[place] {
         return None;
@@ -282,8 +283,8 @@ fn start(
     width: u32,
     error: u8,
 ) -> Option<i64>
-    requires least { IfSome before (λ bent. negsuc 16777215 ≤ℤ bent.1) }
-    requires most { IfSome before (λ bent. bent.1 ≤ℤ pos 1099511627776) }
+    requires least { IfSome before (λ deferred. negsuc 16777215 ≤ℤ deferred.1) }
+    requires most { IfSome before (λ deferred. deferred.1 ≤ℤ pos 1099511627776) }
     ensures is { result ≡ start (context_of frame.now) frame.now.number before base low high width error }
     ensures least { IfSome result (λ offset. negsuc 2147483647 ≤ℤ offset) }
     ensures most { IfSome result (λ offset. offset ≤ℤ pos 1099511627776) }
@@ -294,16 +295,16 @@ fn start(
     }
 }
 
-fn bend(
+fn defer(
     frame: &Frame<'_>,
     before: Option<(Register, i64)>,
     instruction: &Instruction,
     body: &[Instruction],
     place: usize,
 ) -> Option<(Register, i64)>
-    requires least { IfSome before (λ bent. negsuc 16777215 ≤ℤ bent.1) }
-    requires most { IfSome before (λ bent. bent.1 ≤ℤ pos 1099511627776) }
-    ensures { result ≡ bend (context_of frame.now) frame.now.number before (Some instruction.now)
+    requires least { IfSome before (λ deferred. negsuc 16777215 ≤ℤ deferred.1) }
+    requires most { IfSome before (λ deferred. deferred.1 ≤ℤ pos 1099511627776) }
+    ensures { result ≡ defer (context_of frame.now) frame.now.number before (Some instruction.now)
         (slice_get body.now place) }
 {
     match instruction {
@@ -317,28 +318,28 @@ fn bend(
             ..
         } => {
             let short = start(frame, before, *base, *low, *high, *width, *error);
-            bend_load(frame, *to, short, body, place)
+            defer_load(frame, *to, short, body, place)
         }
         _ => None,
     }
 }
 
 // The address of a component, which the next instruction loads.
-fn load_bent(
+fn load_deferred(
     frame: &Frame<'_>,
     body: &[Instruction],
     marks: &[bool],
     place: usize,
 ) -> Option<(Register, i64)>
     requires { marks.now ≡ jumped body.now }
-    ensures { result ≡ load_bent (context_of frame.now) frame.now.number body.now place }
+    ensures { result ≡ load_deferred (context_of frame.now) frame.now.number body.now place }
 {
     if place == 0 || place >= marks.len() || marks[place] {
         return None;
     }
-    let before = row_bent(frame, body, marks, place - 1);
+    let before = row_deferred(frame, body, marks, place - 1);
     match body.get(place - 1) {
-        Some(instruction) => bend(frame, before, instruction, body, place),
+        Some(instruction) => defer(frame, before, instruction, body, place),
         None => None,
     }
 }
@@ -347,8 +348,8 @@ fn load_bent(
 fn is_index(instruction: &Instruction) -> bool
     ensures row { result ≡ false → (c : Context) (r : ℕ) (next third : Option Element)
         → row c r (Some instruction.now) next third ≡ None }
-    ensures bend { result ≡ false → (c : Context) (r : ℕ) (before : Option (ℕ × ℤ)) (next : Option Element)
-        → bend c r before (Some instruction.now) next ≡ None }
+    ensures defer { result ≡ false → (c : Context) (r : ℕ) (before : Option (ℕ × ℤ)) (next : Option Element)
+        → defer c r before (Some instruction.now) next ≡ None }
 {
     match instruction {
         Instruction::Index { .. } => true,
@@ -358,7 +359,7 @@ fn is_index(instruction: &Instruction) -> bool
 
 // Whether an index comes before a place.
 fn is_behind_index(body: &[Instruction], place: usize) -> bool
-    ensures { result ≡ false → (c : Context) (r : ℕ) → None ≡ bent c r body.now place }
+    ensures { result ≡ false → (c : Context) (r : ℕ) → None ≡ deferred c r body.now place }
 {
     if place == 0 {
         return false;
@@ -370,21 +371,21 @@ fn is_behind_index(body: &[Instruction], place: usize) -> bool
 }
 
 /// The register that is short of an offset at a place, if one is.
-pub(crate) fn bent(
+pub(crate) fn deferred(
     frame: &Frame<'_>,
     body: &[Instruction],
     marks: &[bool],
     place: usize,
 ) -> Option<(Register, i64)>
     requires { marks.now ≡ jumped body.now }
-    ensures { result ≡ bent (context_of frame.now) frame.now.number body.now place }
+    ensures { result ≡ deferred (context_of frame.now) frame.now.number body.now place }
 {
     // most places are behind another instruction, and need no look at what follows
     if !is_behind_index(body, place) {
         return None;
     }
-    match row_bent(frame, body, marks, place) {
+    match row_deferred(frame, body, marks, place) {
         Some(found) => Some(found),
-        None => load_bent(frame, body, marks, place),
+        None => load_deferred(frame, body, marks, place),
     }
 }
