@@ -4,7 +4,7 @@ use Rattle.std.proofs.Common.{ap, subst, ◌∙◌}
 use Rattle.std.specs.Prelude.{Ok, Err}
 use Rattle.ps_tree.specs.Tree as t
 use Rattle.ps_tree.specs.declared.line.Line.{Line}
-use Rattle.ps_tree.specs.declared.tree.Relation.{Relation}
+use Rattle.ps_tree.specs.declared.tree.OrderRelation.{OrderRelation}
 use Rattle.ps_tree.specs.declared.tree.PointerRelation.{PointerRelation}
 use Rattle.ps_tree.specs.declared.tree.BooleanOperator.{BooleanOperator}
 use Rattle.ps_tree.specs.declared.tree.RequiredFunction.{RequiredFunction}
@@ -66,7 +66,7 @@ pub logic_is : (x : Expr) (o : BooleanOperator) (b : Box Expr Global) (v : Vec E
 logic_is x o b v a items e h g = ap (λ k. t.Logic o (expr_of k) (operands_of items)) h
     ∙ ap (λ k. t.Logic o (expr_of b.value) (operands_of k)) g ∙ sym (ap expr_of e ∙ expr_of_Logic o b v)
 
-pub compare_is : (x : Expr) (r : Relation) (p : Box Expr Global) (a : Expr) (q : Box Expr Global) (b : Expr) → x
+pub compare_is : (x : Expr) (r : OrderRelation) (p : Box Expr Global) (a : Expr) (q : Box Expr Global) (b : Expr) → x
     ≡ Compare r p q → a ≡ p.value → b ≡ q.value → t.Compare r (expr_of a) (expr_of b) ≡ expr_of x
 unfolding expr_of
 compare_is x r p a q b e h g = ap (λ k. t.Compare r (expr_of k) (expr_of b)) h

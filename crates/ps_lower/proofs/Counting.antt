@@ -4,7 +4,8 @@ use Rattle.std.proofs.Common.{sym, ap, subst, ◌∙◌, arith}
 use Rattle.std.specs.Prelude.{Ok, Err, IfErr, IsErrAnd}
 use Rattle.std.proofs.Math.Seq.{drop-cons}
 use Rattle.tac_code.specs.declared.code.TacRoutine.{TacRoutine}
-use Rattle.ps_lower.specs.Refused.{most_instructions, instructions_of, IsRefused}
+use Rattle.ps_lower.specs.declared.refusal.TheConstants.{MOST_INSTRUCTIONS}
+use Rattle.ps_lower.specs.Refused.{instructions_of, IsRefused}
 use Rattle.ps_lower.specs.declared.refusal.LowerRefusal.{LowerRefusal}
 use Rattle.ps_lower.proofs.Mapping.{Made}
 use Rattle.ps_lower.proofs.Refusing.{refused_within}
@@ -26,8 +27,8 @@ next_counted one f items i now d h s =
 
 -- this many are left, from which one more routine takes its own
 pub left_less : (left after : ℕ) (now next : List TacRoutine) (x : TacRoutine) → left + instructions_of now
-    ≡ most_instructions → length x.body ≤ left → after ≡ left - length x.body → next ≡ now ++ x ∷ [] → after
-    + instructions_of next ≡ most_instructions
+    ≡ MOST_INSTRUCTIONS → length x.body ≤ left → after ≡ left - length x.body → next ≡ now ++ x ∷ [] → after
+    + instructions_of next ≡ MOST_INSTRUCTIONS
 left_less left after now next x h few e g = omega (arith, h, few, e, ap instructions_of g, counted now (x ∷ []))
 
 -- a refusal that is passed on
@@ -48,8 +49,8 @@ one_refused one f items i now d item refusal h s is refused =
 -- one more routine is too many
 pub no_more : {A B : Type 0} (one : A → B) (f : B → TacRoutine) (items : List A) (i : ℕ) (now : List TacRoutine) (d : A)
     (left : ℕ) (item : TacRoutine) → i < length items → Made one f items i now → left + instructions_of now
-    ≡ most_instructions → item ≡ f (one (get_or items i d)) → left < length item.body
-    → most_instructions < instructions_of (map f (map one items))
+    ≡ MOST_INSTRUCTIONS → item ≡ f (one (get_or items i d)) → left < length item.body
+    → MOST_INSTRUCTIONS < instructions_of (map f (map one items))
 no_more one f items i now d left item h s e is more =
     let all = next_counted one f items i now d h s in
     let size = ap (λ (r : TacRoutine). length r.body) is in

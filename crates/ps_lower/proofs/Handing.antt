@@ -4,7 +4,7 @@ use Rattle.std.proofs.Common.{◌∙◌, append_assoc}
 use Rattle.ps_tree.specs.Tree as t
 use Rattle.ps_tree.specs.declared.line.Line.{Line}
 use Rattle.ps_tree.specs.declared.types.Ty.{Ty}
-use Rattle.ps_tree.specs.declared.tree.Relation.{Relation}
+use Rattle.ps_tree.specs.declared.tree.OrderRelation.{OrderRelation}
 use Rattle.ps_tree.specs.declared.tree.Argument.{Argument}
 use Rattle.ps_tree.specs.declared.tree.Place.{Place}
 use Rattle.ps_tree.specs.declared.tree.Structure.{Structure, Contents}
@@ -23,7 +23,8 @@ use Rattle.ps_lower_code.specs.Statements.{statement_code}
 use Rattle.ps_lower.proofs.Appends.{and_then}
 use Rattle.ps_lower.proofs.Arms.{behind}
 
-pub compare_strings_is : (x : Expr) (r : Relation) (p : Box Structure Global) (a : Structure) (q : Box Structure Global)
+pub compare_strings_is : (x : Expr) (r : OrderRelation) (p : Box Structure Global) (a : Structure)
+    (q : Box Structure Global)
     (b : Structure) → x ≡ CompareStrings r p q → a ≡ p.value → b ≡ q.value → t.CompareStrings r (structure_of a)
     (structure_of b) ≡ expr_of x
 unfolding expr_of
@@ -59,7 +60,8 @@ abbrev pub strings_code : Scope → (a b : t.Structure) → (m n d x : ℕ) → 
 strings_code k a b m n d x = (structure_code k a m x ++ structure_code k b n x) ++ i.Literal (beside n)
     (pos (text_length a)) ∷ helper k CompareBytes (m ∷ n ∷ beside n ∷ []) d ∷ []
 
-pub strings_made : {X E : Type 0} (k : Scope) (relation : Relation) (a b : t.Structure) (d x m n : ℕ) (r : Result X E)
+pub strings_made : {X E : Type 0} (k : Scope) (relation : OrderRelation) (a b : t.Structure) (d x m n : ℕ)
+    (r : Result X E)
     (new o2 o1 old : List Instruction) → m ≡ held (structure_calls b) d → n ≡ even_from (suc m) → o1 ≡ old
     ++ structure_code k a m x → o2 ≡ o1 ++ structure_code k b n x → OnOk r
     (new ≡ o2 ++ i.Literal (beside n) (pos (text_length a)) ∷ helper k CompareBytes (m ∷ n ∷ beside n ∷ []) d ∷ [])

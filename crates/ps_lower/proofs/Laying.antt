@@ -2,7 +2,7 @@
 use Rattle.std.proofs.Common.{◌≡◌, ℕ, zero, suc, ◌+◌, ◌*◌, ◌<◌, ◌≤◌, false, List, [], ◌∷◌, ◌++◌, length, drop, map}
 use Rattle.std.proofs.Common.{get_or, slice_get, refl, sym, ap, subst, ◌∙◌, append_assoc, arith}
 use Rattle.std.proofs.Math.Seq.{drop-cons}
-use Rattle.std.proofs.lemmas.List.{append-nil, drop_all, get_or_past}
+use Rattle.std.proofs.lemmas.List.{append-nil, drop_all, get_or_past, get_or-map}
 use Rattle.std.proofs.lemmas.Option.{slice_get_past}
 use Rattle.ps_tree.specs.Tree as t
 use Rattle.ps_tree.specs.declared.types.Ty.{Ty}
@@ -187,12 +187,6 @@ tabled_all items i now h s = sym (append-nil (map contents_in now))
 
 -- ---- what is looked up
 
-at_mapped : {A B : Type 0} (f : A → B) (xs : List A) (n : ℕ) (x : A) (d : B) → n < length xs → get_or (map f xs) n d ≡ f
-    (get_or xs n x)
-at_mapped f [] n x d h = absurd (omega arith)
-at_mapped f (y ∷ ys) zero x d h = refl
-at_mapped f (y ∷ ys) (suc n) x d h = at_mapped f ys n x d (omega arith)
-
 length_mapped : {A B : Type 0} (f : A → B) (xs : List A) → length (map f xs) ≡ length xs
 length_mapped f [] = refl
 length_mapped f (x ∷ xs) = ap suc (length_mapped f xs)
@@ -203,9 +197,9 @@ table_found tables rs n table are h is =
     let g : n < length rs = (let e = sym (length_mapped contents_in tables) ∙ ap length are
     ∙ length_mapped contents_of rs in omega (arith, e, h)) in
     ap contents_in is
-    ∙ sym (at_mapped contents_in tables n table (contents_in table) h)
+    ∙ sym (get_or-map contents_in tables n table (contents_in table) h)
     ∙ ap (λ l. get_or l n (contents_in table)) are
-    ∙ at_mapped contents_of rs n t.no_routine (contents_in table) g
+    ∙ get_or-map contents_of rs n t.no_routine (contents_in table) g
 
 offset_at : (kinds : List Kind) (p i : ℕ) (d : Spot) → i < length (spots_from p kinds)
     → (get_or (spots_from p kinds) i d).offset ≡ 4 * get_or (places_from p kinds) i 0

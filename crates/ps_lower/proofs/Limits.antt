@@ -2,6 +2,7 @@
 use Rattle.std.proofs.Common.{◌≡◌, ℕ, zero, suc, ◌+◌, ◌*◌, ◌<◌, ◌≤◌, Bool, true, false, ◌&&◌, List, [], ◌∷◌, ◌++◌}
 use Rattle.std.proofs.Common.{length, map, get_or, refl, subst, sym, ap, ◌∙◌, arith, leb-true}
 use Rattle.std.proofs.lemmas.List.{get_or-map, length-map}
+use Rattle.std.proofs.lemmas.Bool.{and_parts}
 use Rattle.ps_tree.specs.Types.{DataType, PointerType}
 use Rattle.ps_tree.specs.declared.types.Ty.{Ty}
 use Rattle.ps_tree.specs.declared.tree.Routine.{Routine}
@@ -18,14 +19,6 @@ use Rattle.ps_lower_bounds.proofs.Cells.{words_cells, words_both, entries_words}
 use Rattle.ps_lower_bounds.proofs.Offsets.{routine_limits, routines_part}
 use Rattle.ps_lower_bounds.specs.Weights.{routine_weight, AreLight}
 
-left : (a b : Bool) → (a && b) ≡ true → a ≡ true
-left true b e = refl
-left false b e = absurd (cc)
-
-right : (a b : Bool) → (a && b) ≡ true → b ≡ true
-right true b e = e
-right false b e = absurd (cc)
-
 -- ---- routines
 
 words_few : (r : t.Routine) → is_routine_within_limits r ≡ true → words_of_all (entries r) ≤ 100000
@@ -36,8 +29,8 @@ words_at : (list : List t.Routine) → are_routines_within_limits list ≡ true 
     (entries (get_or list n t.no_routine)) ≤ 100000
 unfolding are_routines_within_limits
 words_at [] e n = omega arith
-words_at (r ∷ list) e zero = words_few r (left _ _ e)
-words_at (r ∷ list) e (suc n) = words_at list (right _ _ e) n
+words_at (r ∷ list) e zero = words_few r (and_parts _ _ e).0
+words_at (r ∷ list) e (suc n) = words_at list (and_parts _ _ e).1 n
 
 pub routines_keep : (program : t.Program) → is_within_limits program ≡ true
     → are_routines_within_limits program.routines ≡ true
@@ -45,7 +38,7 @@ routines_keep program e = routines_part program e
 
 pub routines_few : (program : t.Program) → is_within_limits program ≡ true → length program.routines ≤ 1048576
 unfolding is_within_limits
-routines_few program e = leb-true (length program.routines) 1048576 (left _ _ (left _ _ (left _ _ e)))
+routines_few program e = leb-true (length program.routines) 1048576 (and_parts _ _ (and_parts _ _ (and_parts _ _ e).0).0).0
 
 pub input_few : (program : t.Program) → is_within_limits program ≡ true → (n : ℕ)
     → (layout_of (t.routine_at program n)).input ≤ 1000000
@@ -84,15 +77,15 @@ parts_few r =
 
 pub domains_keep : (program : t.Program) → is_within_limits program ≡ true → are_small program.domains ≡ true
 unfolding is_within_limits
-domains_keep program e = right _ _ (left _ _ e)
+domains_keep program e = (and_parts _ _ (and_parts _ _ e).0).1
 
 objects_at : (types : List DataType) → are_small types ≡ true → (n : ℕ) → object_bytes
     (get_or types n (PointerType 0)) ≤ 400000
 unfolding are_small
 objects_at [] e n = omega arith
-objects_at (type ∷ types) e zero = let l = leb-true (cells type) 100000 (left _ _ e) in let w = words_cells type
+objects_at (type ∷ types) e zero = let l = leb-true (cells type) 100000 (and_parts _ _ e).0 in let w = words_cells type
     in omega (arith, l, w)
-objects_at (type ∷ types) e (suc n) = objects_at types (right _ _ e) n
+objects_at (type ∷ types) e (suc n) = objects_at types (and_parts _ _ e).1 n
 
 pub object_few : (items : List Ty) (i : ℕ) (ty : Ty) → i < length items → ty ≡ get_or items i ty → are_small
     (map type_of items) ≡ true → object_bytes (type_of ty) ≤ 2147483647

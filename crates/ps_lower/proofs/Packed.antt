@@ -1,8 +1,8 @@
 -- `pack`, `unpack` and `new`, piece by piece.
 use Rattle.std.proofs.Common.{◌≡◌, ℕ, zero, suc, pos, ◌+◌, ◌-◌, ◌+ℤ◌, ◌<◌, ◌≤◌, nat_le, if◌then◌else◌, Bool, true}
 use Rattle.std.proofs.Common.{false, List, [], ◌∷◌, ◌++◌, length, map, get_or, Result, OnOk, refl, ap, sym, subst, ◌∙◌}
-use Rattle.std.proofs.Common.{arith, length-append}
-use Rattle.std.proofs.lemmas.Bool.Decides.{nat_tests}
+use Rattle.std.proofs.Common.{arith}
+use Rattle.std.proofs.lemmas.Bool.{le-leb, lt-leb}
 use Rattle.ps_tree.specs.Types.{DataType, PointerType}
 use Rattle.ps_tree.specs.declared.types.Ordinal.{Ordinal}
 use Rattle.ps_tree.specs.declared.types.Ty.{Ty}
@@ -72,12 +72,6 @@ address_code type s a j line =
 
 -- ---- the room after an index
 
-le_true : (m n : ℕ) → m ≤ n → nat_le m n ≡ true
-le_true m n h = grind (arith, nat_tests, h)
-
-le_false : (m n : ℕ) → n < m → nat_le m n ≡ false
-le_false m n h = grind (arith, nat_tests, h)
-
 abbrev room_if : DataType → (s line n m : ℕ) → Bool → List Instruction
 room_if whole s line n m fits =
     if fits then i.CheckRange s (index_of whole).low ((index_of whole).low +ℤ pos (n - m)) 5 line ∷ []
@@ -92,7 +86,7 @@ room_told whole part s line n m more range r new old is count few fits left h =
     subst (λ y. OnOk r (new ≡ old ++ room_if whole s line y (value_count (index_of part))
     (nat_le (value_count (index_of part)) y))) whole_count
     (subst (λ y. OnOk r (new ≡ old ++ room_if whole s line n y (nat_le y n))) few
-    (subst (λ b. OnOk r (new ≡ old ++ room_if whole s line n m b)) (sym (le_true m n fits))
+    (subst (λ b. OnOk r (new ≡ old ++ room_if whole s line n m b)) (sym (le-leb m n fits))
     (subst (λ y. OnOk r (new ≡ old ++ i.CheckRange s (index_of whole).low ((index_of whole).low +ℤ pos y) 5 line ∷ []))
     left
     (subst (λ (y : Ordinal). OnOk r (new ≡ old ++ i.CheckRange s y.low (y.low +ℤ pos more) 5 line ∷ [])) is h))))
@@ -104,7 +98,7 @@ no_room_told whole part s line n m range r new old is count few full h =
     subst (λ y. OnOk r (new ≡ old ++ room_if whole s line y (value_count (index_of part))
     (nat_le (value_count (index_of part)) y))) (count ∙ ap value_count is)
     (subst (λ y. OnOk r (new ≡ old ++ room_if whole s line n y (nat_le y n))) few
-    (subst (λ b. OnOk r (new ≡ old ++ room_if whole s line n m b)) (sym (le_false m n full)) h))
+    (subst (λ b. OnOk r (new ≡ old ++ room_if whole s line n m b)) (sym (lt-leb m n full)) h))
 
 -- ---- pack
 

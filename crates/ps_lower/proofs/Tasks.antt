@@ -1,8 +1,7 @@
 -- First values step by step: what a step leaves, and that the steps end.
 use Rattle.std.proofs.Common.{◌≡◌, ℕ, zero, suc, ◌+◌, ◌*◌, ◌<◌, ◌≤◌, max, nat_eq, Bool, true, false, if◌then◌else◌}
-use Rattle.std.proofs.Common.{List, [], ◌∷◌, ◌++◌, Result, OnOk, refl, ap, sym, subst, ◌∙◌, append_assoc, arith}
+use Rattle.std.proofs.Common.{List, [], ◌∷◌, ◌++◌, refl, ap, sym, subst, ◌∙◌, append_assoc, arith}
 use Rattle.std.proofs.Common.{mul-le-mul_right}
-use Rattle.std.specs.Prelude.{Ok, Err}
 use Rattle.std.proofs.Math.Nat.{mul_left_comm}
 use Rattle.std.proofs.lemmas.Bool.Decides.{nat_tests}
 use Rattle.std.specs.Borrow.{Bor}
@@ -46,11 +45,6 @@ last_near [] task = omega arith
 last_near (x ∷ rest) task = let h = last_near rest task in omega (arith, h)
 
 -- ---- what the steps leave
-
--- what follows from what was left last
-pub when_left : {X E P Q : Type 0} (r : Result X E) → (P → Q) → OnOk r P → OnOk r Q
-when_left (Ok v) f h = f h
-when_left (Err e) f h = h
 
 -- the components and the copies of an array go no further than the array
 array_near : (n w f each whole : ℕ) → each ≡ 4 * w → whole ≡ n * each → ¬ (whole ≡ 0) → max (max each whole) f ≤

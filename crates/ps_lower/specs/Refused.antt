@@ -3,12 +3,9 @@ use Rattle.std.specs.Prelude.{◌≡◌, ℕ, ◌+◌, ◌<◌, List, [], ◌∷
 use Rattle.tac_code.specs.declared.code.Instruction.{Instruction}
 use Rattle.tac_code.specs.declared.code.TacRoutine.{TacRoutine}
 use Rattle.tac_code.specs.Meaning.{Code}
+use Rattle.ps_lower.specs.declared.refusal.TheConstants.{MOST_INSTRUCTIONS}
 use Rattle.ps_lower.specs.declared.refusal.LowerRefusal.{LowerRefusal}
 use Rattle.ps_lower.specs.declared.refusal.LowerRefusal.TheVariants.{OutOfMemory, CodeTooLarge}
-
--- the most instructions: an image holds no more words, and each instruction takes at least one word
-abbrev pub most_instructions : ℕ
-most_instructions = 1048576
 
 abbrev pub instructions_of : List TacRoutine → ℕ
 instructions_of [] = 0
@@ -21,7 +18,7 @@ instruction_count code = instructions_of code.program
 -- what a refusal says of code of `count` instructions
 abbrev pub IsRefused : LowerRefusal → (count : ℕ) → Type 0
 IsRefused OutOfMemory count = Unit {0}
-IsRefused CodeTooLarge count = most_instructions < count
+IsRefused CodeTooLarge count = MOST_INSTRUCTIONS < count
 
 -- code is added after what there is, or refused with it
 abbrev pub Adds : {T : Type 0} → Result T LowerRefusal → (old new code : List Instruction) → Type 0

@@ -13,7 +13,7 @@ ghost use Rattle.tac_code.specs.declared.code.Base.TheVariants as base;
 ghost use Rattle.tac_code.specs.declared.code.Instruction.TheVariants as i;
 
 use crate::calling::{expr_calls, place_calls};
-use crate::depth::{DEEPEST, beside, even_from, held};
+use crate::depth::{MAX_NUMBER, beside, even_from, held};
 use crate::helpers::copy;
 use crate::level::Level;
 use crate::levels::{formal, link};
@@ -24,6 +24,20 @@ use ps_tree::tree::Argument;
 use ps_tree::types::Ty;
 use std::alloc::{AllocError, Global};
 use tac_code::code::{Base, Instruction};
+
+/// A routine of the program that is called: its number, and how many levels up its block stands.
+#[derive(Clone, Copy)]
+pub struct Callee {
+    pub routine: u32,
+    pub up: u32,
+}
+
+/// A procedural or functional parameter that is called: how many levels up it is declared, and its number there.
+#[derive(Clone, Copy)]
+pub struct FormalCallee {
+    pub up: u32,
+    pub index: u32,
+}
 
 /// Whether the code of an actual parameter calls.
 #[tactic(auto, using(ps_tree::proofs::TreeLemmas::argument_of_Variable), unfolding(ps_tree::specs::View::argument_of))]
@@ -93,7 +107,7 @@ pub fn argument_end(argument: &Argument, t: u32) -> u32
 /// The scratch that an actual parameter holds, after x.
 #[tactic(auto, using(ps_tree::proofs::TreeLemmas::argument_of_Variable), unfolding(ps_tree::specs::View::argument_of))]
 fn argument_scratch(argument: &Argument) -> u32
-    requires { argument_scratch (argument_of argument.now) ≤ 2147483647 }
+    requires { argument_scratch (argument_of argument.now) ≤ MAX_NUMBER }
     ensures { result ≡ argument_scratch (argument_of argument.now) }
 {
     match argument {
@@ -108,7 +122,7 @@ fn argument_scratch(argument: &Argument) -> u32
 
 /// The end of the scratch that an actual parameter holds from x on.
 pub fn scratch_end(argument: &Argument, x: u32) -> u32
-    requires { x + argument_scratch (argument_of argument.now) ≤ 2147483647 }
+    requires { x + argument_scratch (argument_of argument.now) ≤ MAX_NUMBER }
     ensures { result ≡ x + argument_scratch (argument_of argument.now) }
 {
     x + argument_scratch(argument)
@@ -116,7 +130,7 @@ pub fn scratch_end(argument: &Argument, x: u32) -> u32
 
 /// The first temporary after the words of actual parameters.
 fn arguments_end(arguments: &[Argument], d: u32) -> u32
-    requires { arguments_end (arguments_of arguments.now) d ≤ DEEPEST }
+    requires { arguments_end (arguments_of arguments.now) d ≤ MAX_NUMBER }
     ensures { result ≡ arguments_end (arguments_of arguments.now) d }
 {
     let mut depth = d;
@@ -130,9 +144,9 @@ fn arguments_end(arguments: &[Argument], d: u32) -> u32
 
 /// The temporary of the static link, or of a formal's routine.
 pub fn link_temporary(arguments: &[Argument], d: u32) -> u32
-    requires { arguments_end (arguments_of arguments.now) d ≤ DEEPEST }
+    requires { arguments_end (arguments_of arguments.now) d ≤ MAX_NUMBER }
     ensures value { result ≡ even_from (arguments_end (arguments_of arguments.now) d) }
-    ensures small { result ≤ DEEPEST + 1 }
+    ensures small { result ≤ MAX_NUMBER + 1 }
 {
     even_from(arguments_end(arguments, d))
 }
@@ -151,7 +165,7 @@ fn add_words(list: &mut Vec<u32>, argument: &Argument, t: u32) -> Result<(), All
 
 /// The temporaries that a call passes, the static link's first.
 fn words(alloc: Global, arguments: &[Argument], link: u32, d: u32) -> Result<Vec<u32>, AllocError>
-    requires { arguments_end (arguments_of arguments.now) d ≤ DEEPEST }
+    requires { arguments_end (arguments_of arguments.now) d ≤ MAX_NUMBER }
     ensures { IfOk result (λ list. list.items ≡ link ∷ arguments_words (arguments_of arguments.now) d) }
 {
     let mut list = Vec::new(alloc);
@@ -170,48 +184,46 @@ fn words(alloc: Global, arguments: &[Argument], link: u32, d: u32) -> Result<Vec
 /// The static link and the call of a routine.
 pub fn call(
     out: &mut Code,
-    k: &Level,
+    level: &Level,
     arguments: &[Argument],
-    routine: u32,
-    up: u32,
+    callee: Callee,
     line: Line,
     d: u32,
     to: u32,
 ) -> Result<(), AllocError>
-    requires { arguments_end (arguments_of arguments.now) d ≤ DEEPEST }
-    ensures { OnOk result (out.new ≡ out.old ++ (link_code (scope_of k.now)
-        (even_from (arguments_end (arguments_of arguments.now) d)) up ++ i.Call to routine
+    requires { arguments_end (arguments_of arguments.now) d ≤ MAX_NUMBER }
+    ensures { OnOk result (out.new ≡ out.old ++ (link_code (scope_of level.now)
+        (even_from (arguments_end (arguments_of arguments.now) d)) callee.up ++ i.Call to callee.routine
         (even_from (arguments_end (arguments_of arguments.now) d) ∷ arguments_words (arguments_of arguments.now) d)
         line.number
         ∷ [])) }
 {
     let t = link_temporary(arguments, d);
-    link(out, k, t, up)?;
+    link(out, level, t, callee.up)?;
     let operands = words(out.alloc(), arguments, t, d)?;
-    out.call(to, routine, &operands, line)
+    out.call(to, callee.routine, &operands, line)
 }
 
 /// The routine of a formal parameter, and its call.
 pub fn call_formal(
     out: &mut Code,
-    k: &Level,
+    level: &Level,
     arguments: &[Argument],
-    up: u32,
-    index: u32,
+    callee: FormalCallee,
     line: Line,
     d: u32,
     to: u32,
 ) -> Result<(), AllocError>
-    requires depth { arguments_end (arguments_of arguments.now) d ≤ DEEPEST }
-    requires reach { entry_offset (routine_up (scope_of k.now) up) index ≤ 2147483647 }
-    ensures { OnOk result (out.new ≡ out.old ++ (formal_code (scope_of k.now)
-        (even_from (arguments_end (arguments_of arguments.now) d)) up index ++ i.CallValue to
+    requires depth { arguments_end (arguments_of arguments.now) d ≤ MAX_NUMBER }
+    requires reach { entry_offset (routine_up (scope_of level.now) callee.up) callee.index ≤ MAX_NUMBER }
+    ensures { OnOk result (out.new ≡ out.old ++ (formal_code (scope_of level.now)
+        (even_from (arguments_end (arguments_of arguments.now) d)) callee.up callee.index ++ i.CallValue to
         (even_from (arguments_end (arguments_of arguments.now) d))
         (beside (even_from (arguments_end (arguments_of arguments.now) d)) ∷ arguments_words
         (arguments_of arguments.now) d) line.number ∷ [])) }
 {
     let t = link_temporary(arguments, d);
-    formal(out, k, t, up, index)?;
+    formal(out, level, t, callee.up, callee.index)?;
     let operands = words(out.alloc(), arguments, beside(t), d)?;
     out.call_value(to, t, &operands, line)
 }
@@ -219,30 +231,31 @@ pub fn call_formal(
 /// A routine that is passed, and its static link.
 pub fn routine_value(
     out: &mut Code,
-    k: &Level,
+    level: &Level,
     routine: u32,
     up: u32,
     t: u32,
 ) -> Result<(), AllocError>
     requires { t ≤ 4294960000 }
-    ensures { OnOk result (out.new ≡ out.old ++ i.RoutineValue t routine ∷ link_code (scope_of k.now) (beside t) up) }
+    ensures { OnOk result (out.new ≡ out.old
+        ++ i.RoutineValue t routine ∷ link_code (scope_of level.now) (beside t) up) }
 {
     out.push(Instruction::RoutineValue { to: t, routine })?;
-    link(out, k, beside(t), up)
+    link(out, level, beside(t), up)
 }
 
 /// Copies a structure whose address is in t to scratch; the copy's address goes to t.
-pub fn copied(out: &mut Code, k: &Level, ty: &Ty, t: u32, x: u32) -> Result<(), AllocError>
+pub fn copied(out: &mut Code, level: &Level, ty: &Ty, t: u32, x: u32) -> Result<(), AllocError>
     requires depth { t ≤ 4294960000 }
-    requires length { byte_count (shape_of (type_of ty.now)) ≤ 2147483647 }
+    requires length { byte_count (shape_of (type_of ty.now)) ≤ MAX_NUMBER }
     ensures { OnOk result (out.new ≡ out.old ++ i.Offset (beside t) base.Scratch x
-        (byte_count (shape_of (type_of ty.now))) ∷ copy_code (scope_of k.now) (beside t) t (beside (beside t))
+        (byte_count (shape_of (type_of ty.now))) ∷ copy_code (scope_of level.now) (beside t) t (beside (beside t))
         (byte_count (shape_of (type_of ty.now))) ++ i.Offset t base.Scratch x (byte_count (shape_of (type_of ty.now)))
         ∷ []) }
 {
     let bytes = byte_count(ty);
     let to = beside(t);
     out.offset(to, Base::Scratch, x, bytes)?;
-    copy(out, k, to, t, beside(to), bytes)?;
+    copy(out, level, to, t, beside(to), bytes)?;
     out.offset(t, Base::Scratch, x, bytes)
 }

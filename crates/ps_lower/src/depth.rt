@@ -4,7 +4,7 @@ ghost use Rattle.std.specs.Prelude.{◌≡◌, ◌+◌, ◌≤◌, suc, true};
 ghost use Rattle.ps_lower_code.specs.Scopes.{even_from, held, kept, beside};
 
 /// The most that a number of the code may be, including a depth. The weight of the tree keeps it below.
-pub const DEEPEST: u32 = 0x7FFF_FFFF;
+pub const MAX_NUMBER: u32 = 0x7FFF_FFFF;
 
 /// The first even temporary from d on.
 pub fn even_from(d: u32) -> u32

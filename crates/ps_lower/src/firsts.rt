@@ -18,13 +18,14 @@ ghost use Rattle.tac_code.specs.Numbers.{natural};
 ghost use Rattle.tac_code.specs.declared.code.Base.TheVariants as base;
 ghost use Rattle.tac_code.specs.declared.code.Instruction.TheVariants as i;
 
-use crate::depth::{DEEPEST, beside};
+use crate::depth::{MAX_NUMBER, beside};
 use crate::frame::words;
 use crate::helpers::copy;
 use crate::level::Level;
 use crate::numbers::narrow;
 use crate::out::Code;
 use crate::shapes::{byte_count, fits_byte};
+use crate::site::Site;
 use crate::task::Task;
 use ps_tree::types::{Host, Ordinal, Ty, same_host};
 use std::alloc::AllocError;
@@ -62,7 +63,7 @@ fn number(out: &mut Code, base: Base, t: u32, offset: u32, value: i32) -> Result
 /// Copies the first bytes at an offset to the `bytes` bytes after the first n.
 fn copies(
     out: &mut Code,
-    k: &Level,
+    level: &Level,
     base: Base,
     t: u32,
     offset: u32,
@@ -70,21 +71,21 @@ fn copies(
     bytes: u32,
 ) -> Result<(), AllocError>
     requires depth { t ≤ 4294960000 }
-    requires reach { offset + n ≤ 2147483647 }
-    requires length { bytes ≤ 2147483647 }
+    requires reach { offset + n ≤ MAX_NUMBER }
+    requires length { bytes ≤ MAX_NUMBER }
     ensures { OnOk result (out.new ≡ out.old ++ i.Offset t base (offset + n) 0 ∷ i.Offset (beside t) base offset 0
-        ∷ copy_code (scope_of k.now) t (beside t) (beside (beside t)) bytes) }
+        ∷ copy_code (scope_of level.now) t (beside t) (beside (beside t)) bytes) }
 {
     let from = beside(t);
     out.offset(t, base, offset + n, 0)?;
     out.offset(from, base, offset, 0)?;
-    copy(out, k, t, from, beside(from), bytes)
+    copy(out, level, t, from, beside(from), bytes)
 }
 
 /// Copies of the first n bytes at an offset, after them up to the whole.
 fn spread(
     out: &mut Code,
-    k: &Level,
+    level: &Level,
     base: Base,
     t: u32,
     offset: u32,
@@ -92,32 +93,32 @@ fn spread(
     whole: u32,
 ) -> Result<(), AllocError>
     requires depth { t ≤ 4294960000 }
-    requires reach { offset + n ≤ 2147483647 }
-    requires length { whole ≤ 2147483647 }
-    ensures { OnOk result (out.new ≡ out.old ++ spread_code (scope_of k.now) base t offset n whole) }
+    requires reach { offset + n ≤ MAX_NUMBER }
+    requires length { whole ≤ MAX_NUMBER }
+    ensures { OnOk result (out.new ≡ out.old ++ spread_code (scope_of level.now) base t offset n whole) }
 {
     if whole <= n {
         return Ok(());
     }
-    copies(out, k, base, t, offset, n, whole - n)
+    copies(out, level, base, t, offset, n, whole - n)
 }
 
 /// The first value of a set.
 fn zero(
     out: &mut Code,
-    k: &Level,
+    level: &Level,
     base: Base,
     t: u32,
     offset: u32,
     whole: u32,
 ) -> Result<(), AllocError>
     requires depth { t ≤ 4294960000 }
-    requires reach { offset + 32 ≤ 2147483647 }
-    requires length { whole ≤ 2147483647 }
-    ensures { OnOk result (out.new ≡ out.old ++ zero_code (scope_of k.now) base t offset whole) }
+    requires reach { offset + 32 ≤ MAX_NUMBER }
+    requires length { whole ≤ MAX_NUMBER }
+    ensures { OnOk result (out.new ≡ out.old ++ zero_code (scope_of level.now) base t offset whole) }
 {
     number(out, base, t, offset, 0)?;
-    spread(out, k, base, t, offset, 4, whole)
+    spread(out, level, base, t, offset, 4, whole)
 }
 
 /// `n` bytes of one value, up to four, lowest first.
@@ -163,7 +164,7 @@ fn byte_word(n: u32, first: i32) -> i32
 /// The whole words of `count` bytes of one value.
 fn whole_bytes(
     out: &mut Code,
-    k: &Level,
+    level: &Level,
     base: Base,
     t: u32,
     offset: u32,
@@ -171,17 +172,17 @@ fn whole_bytes(
     first: i32,
 ) -> Result<(), AllocError>
     requires depth { t ≤ 4294960000 }
-    requires reach { offset + count ≤ 2147483647 }
+    requires reach { offset + count ≤ MAX_NUMBER }
     requires low { pos 0 ≤ℤ first }
     requires high { first ≤ℤ pos 255 }
-    ensures { OnOk result (out.new ≡ out.old ++ whole_bytes (scope_of k.now) base t offset count first) }
+    ensures { OnOk result (out.new ≡ out.old ++ whole_bytes (scope_of level.now) base t offset count first) }
 {
     if count < 4 {
         return Ok(());
     }
     let word = byte_word(4, first);
     number(out, base, t, offset, word)?;
-    spread(out, k, base, t, offset, 4, 4 * (count / 4))
+    spread(out, level, base, t, offset, 4, 4 * (count / 4))
 }
 
 /// The last word, where they do not fill it.
@@ -193,7 +194,7 @@ fn last_bytes(
     count: u32,
     first: i32,
 ) -> Result<(), AllocError>
-    requires reach { offset + count ≤ 2147483647 }
+    requires reach { offset + count ≤ MAX_NUMBER }
     requires low { pos 0 ≤ℤ first }
     requires high { first ≤ℤ pos 255 }
     ensures { OnOk result (out.new ≡ out.old ++ last_bytes base t offset count first) }
@@ -209,7 +210,7 @@ fn last_bytes(
 /// `count` bytes of one value, padded to whole words.
 fn bytes(
     out: &mut Code,
-    k: &Level,
+    level: &Level,
     base: Base,
     t: u32,
     offset: u32,
@@ -217,17 +218,17 @@ fn bytes(
     first: i32,
 ) -> Result<(), AllocError>
     requires depth { t ≤ 4294960000 }
-    requires reach { offset + first_weight (ByteShape count first) ≤ 2147483647 }
-    ensures { OnOk result (out.new ≡ out.old ++ bytes_code (scope_of k.now) base t offset count first) }
+    requires reach { offset + first_weight (ByteShape count first) ≤ MAX_NUMBER }
+    ensures { OnOk result (out.new ≡ out.old ++ bytes_code (scope_of level.now) base t offset count first) }
 {
-    whole_bytes(out, k, base, t, offset, count, first)?;
+    whole_bytes(out, level, base, t, offset, count, first)?;
     last_bytes(out, base, t, offset, count, first)
 }
 
 /// A byte array.
 fn byte_array(
     out: &mut Code,
-    k: &Level,
+    level: &Level,
     component: &Ty,
     index: Ordinal,
     base: Base,
@@ -236,17 +237,17 @@ fn byte_array(
 ) -> Result<(), AllocError>
     requires depth { t ≤ 4294960000 }
     requires reach { offset + first_weight (ByteShape (value_count index) (first_of (type_of component.now))) ≤
-        2147483647 }
-    ensures { OnOk result (out.new ≡ out.old ++ bytes_code (scope_of k.now) base t offset (value_count index)
+        MAX_NUMBER }
+    ensures { OnOk result (out.new ≡ out.old ++ bytes_code (scope_of level.now) base t offset (value_count index)
         (first_of (type_of component.now))) }
 {
     let count = narrow(index.value_count());
-    bytes(out, k, base, t, offset, count, first_of(component))
+    bytes(out, level, base, t, offset, count, first_of(component))
 }
 
 /// The bytes of an array whose components take `each` bytes.
 fn array_bytes(index: Ordinal, each: u32) -> u32
-    requires { value_count index * each ≤ 2147483647 }
+    requires { value_count index * each ≤ MAX_NUMBER }
     ensures { result ≡ value_count index * each }
 {
     narrow(index.value_count() * u64::from(each))
@@ -267,7 +268,7 @@ fn components<'a>(
     index: Ordinal,
     offset: u32,
 ) -> Result<(), AllocError>
-    requires { offset + first_weight (ArrayShape (value_count index) (shape_of (type_of component.now))) ≤ 2147483647 }
+    requires { offset + first_weight (ArrayShape (value_count index) (shape_of (type_of component.now))) ≤ MAX_NUMBER }
     ensures { OnOk result (IsLeft offset (ArrayShape (value_count index) (shape_of (type_of component.now)))
         tasks.old.items tasks.new.items) }
 {
@@ -292,30 +293,44 @@ fn components<'a>(
     leave(tasks, first)
 }
 
+/// An array type.
+#[derive(Clone, Copy)]
+struct ArrayType<'a> {
+    packed: bool,
+    index: Ordinal,
+    component: &'a Ty,
+}
+
 /// The first value of an array.
 fn array<'a>(
     out: &mut Code,
-    k: &Level,
+    level: &Level,
     tasks: &mut Vec<Task<'a>>,
-    component: &'a Ty,
-    packed: bool,
-    index: Ordinal,
-    base: Base,
+    ty: ArrayType<'a>,
+    site: Site,
     t: u32,
-    offset: u32,
 ) -> Result<(), AllocError>
     requires depth { t ≤ 4294960000 }
-    requires reach { offset + first_weight (array_shape packed index (type_of component.now)) ≤ 2147483647 }
-    ensures { OnOk result (IsDone (scope_of k.now) base t
-        (first_code (scope_of k.now) base t offset (array_shape packed index (type_of component.now)))
-        (weight (array_shape packed index (type_of component.now)))
-        (offset + first_weight (array_shape packed index (type_of component.now))) out.old out.new tasks.old.items
-        tasks.new.items) }
+    requires reach { site.offset + first_weight (array_shape ty.packed ty.index (type_of ty.component.now)) ≤
+        MAX_NUMBER }
+    ensures { OnOk result (IsDone (scope_of level.now) site.base t
+        (first_code (scope_of level.now) site.base t site.offset (array_shape ty.entry.packed ty.entry.index
+        (type_of ty.entry.component.now))) (weight (array_shape ty.entry.packed ty.entry.index
+        (type_of ty.entry.component.now))) (site.offset + first_weight (array_shape ty.entry.packed ty.entry.index
+        (type_of ty.entry.component.now))) out.old out.new tasks.old.items tasks.new.items) }
 {
-    if packed && fits_byte(component) {
-        byte_array(out, k, component, index, base, t, offset)
+    if ty.packed && fits_byte(ty.component) {
+        byte_array(
+            out,
+            level,
+            ty.component,
+            ty.index,
+            site.base,
+            t,
+            site.offset,
+        )
     } else {
-        components(tasks, component, index, offset)
+        components(tasks, ty.component, ty.index, site.offset)
     }
 }
 
@@ -331,7 +346,7 @@ fn record<'a>(tasks: &mut Vec<Task<'a>>, types: &'a [Ty], offset: u32) -> Result
 #[tactic(auto, unfolding(ps_tree::specs::TypeView::type_of))]
 fn begin<'a>(
     out: &mut Code,
-    k: &Level,
+    level: &Level,
     tasks: &mut Vec<Task<'a>>,
     ty: &'a Ty,
     base: Base,
@@ -339,16 +354,16 @@ fn begin<'a>(
     offset: u32,
 ) -> Result<(), AllocError>
     requires depth { t ≤ 4294960000 }
-    requires reach { offset + first_weight (shape_of (type_of ty.now)) ≤ 2147483647 }
-    ensures { OnOk result (IsDone (scope_of k.now) base t
-        (first_code (scope_of k.now) base t offset (shape_of (type_of ty.now))) (weight (shape_of (type_of ty.now)))
+    requires reach { offset + first_weight (shape_of (type_of ty.now)) ≤ MAX_NUMBER }
+    ensures { OnOk result (IsDone (scope_of level.now) base t
+        (first_code (scope_of level.now) base t offset (shape_of (type_of ty.now))) (weight (shape_of (type_of ty.now)))
         (offset + first_weight (shape_of (type_of ty.now))) out.old out.new tasks.old.items tasks.new.items) }
 {
     match ty {
         Ty::Simple(ordinal) => number(out, base, t, offset, first_ordinal(*ordinal)),
         Ty::Pointer { .. } | Ty::Nil => number(out, base, t, offset, 0),
-        Ty::Set { .. } | Ty::EmptySet => zero(out, k, base, t, offset, 32),
-        Ty::Text { length } => bytes(out, k, base, t, offset, *length, 0),
+        Ty::Set { .. } | Ty::EmptySet => zero(out, level, base, t, offset, 32),
+        Ty::Text { length } => bytes(out, level, base, t, offset, *length, 0),
         Ty::Array {
             packed,
             index,
@@ -356,14 +371,15 @@ fn begin<'a>(
             ..
         } => array(
             out,
-            k,
+            level,
             tasks,
-            component.ty(),
-            *packed,
-            *index,
-            base,
+            ArrayType {
+                packed: *packed,
+                index: *index,
+                component: component.ty(),
+            },
+            Site { base, offset },
             t,
-            offset,
         ),
         Ty::Record { fields, .. } => record(tasks, fields.types(), offset),
     }
@@ -371,7 +387,7 @@ fn begin<'a>(
 
 /// The next of the fields that are left, and those after it.
 fn field<'a>(tasks: &mut Vec<Task<'a>>, types: &'a [Ty], offset: u32) -> Result<(), AllocError>
-    requires { offset + fields_weight (shapes_of (types_of types.now)) ≤ 2147483647 }
+    requires { offset + fields_weight (shapes_of (types_of types.now)) ≤ MAX_NUMBER }
     ensures { OnOk result (AreLeft offset (shapes_of (types_of types.now)) tasks.old.items tasks.new.items) }
 {
     let Some((ty, rest)) = types.split_first() else {
@@ -389,24 +405,24 @@ fn field<'a>(tasks: &mut Vec<Task<'a>>, types: &'a [Ty], offset: u32) -> Result<
 /// Does one task; what it leaves comes after the others.
 fn step<'a>(
     out: &mut Code,
-    k: &Level,
+    level: &Level,
     tasks: &mut Vec<Task<'a>>,
     task: Task<'a>,
     base: Base,
     t: u32,
 ) -> Result<(), AllocError>
     requires depth { t ≤ 4294960000 }
-    requires reach { task_reach task ≤ 2147483647 }
-    ensures { OnOk result (IsDone (scope_of k.now) base t (task_code (scope_of k.now) base t task.entry)
+    requires reach { task_reach task ≤ MAX_NUMBER }
+    ensures { OnOk result (IsDone (scope_of level.now) base t (task_code (scope_of level.now) base t task.entry)
         (task_weight task.entry) (task_reach task.entry) out.old out.new tasks.old.items tasks.new.items) }
 {
     match task {
-        Task::FirstValue { ty, offset } => begin(out, k, tasks, ty, base, t, offset),
+        Task::FirstValue { ty, offset } => begin(out, level, tasks, ty, base, t, offset),
         Task::Copies {
             offset,
             each,
             whole,
-        } => spread(out, k, base, t, offset, each, whole),
+        } => spread(out, level, base, t, offset, each, whole),
         Task::FieldsLeft { types, offset } => field(tasks, types, offset),
     }
 }
@@ -415,20 +431,21 @@ fn step<'a>(
 /// is kept in a list, and not in calls.
 fn first(
     out: &mut Code,
-    k: &Level,
+    level: &Level,
     ty: &Ty,
     base: Base,
     t: u32,
     offset: u32,
 ) -> Result<(), AllocError>
     requires depth { t ≤ 4294960000 }
-    requires reach { offset + first_weight (shape_of (type_of ty.now)) ≤ 2147483647 }
-    ensures { OnOk result (out.new ≡ out.old ++ first_code (scope_of k.now) base t offset (shape_of (type_of ty.now))) }
+    requires reach { offset + first_weight (shape_of (type_of ty.now)) ≤ MAX_NUMBER }
+    ensures { OnOk result (out.new ≡ out.old
+        ++ first_code (scope_of level.now) base t offset (shape_of (type_of ty.now))) }
 {
     let mut tasks = Vec::new(out.alloc());
     tasks.push(Task::FirstValue { ty, offset })?;
     while let Some(task) = tasks.pop() {
-        step(out, k, &mut tasks, task, base, t)?;
+        step(out, level, &mut tasks, task, base, t)?;
     }
     Ok(())
 }
@@ -436,48 +453,54 @@ fn first(
 /// The first value of an object whose address is in a temporary.
 pub fn first_object(
     out: &mut Code,
-    k: &Level,
+    level: &Level,
     ty: &Ty,
     object: u32,
     t: u32,
 ) -> Result<(), AllocError>
     requires depth { t ≤ 4294960000 }
-    requires reach { first_weight (shape_of (type_of ty.now)) ≤ 2147483647 }
-    ensures { OnOk result (out.new ≡ out.old ++ first_code (scope_of k.now) (base.Temporary object) t 0
+    requires reach { first_weight (shape_of (type_of ty.now)) ≤ MAX_NUMBER }
+    ensures { OnOk result (out.new ≡ out.old ++ first_code (scope_of level.now) (base.Temporary object) t 0
         (shape_of (type_of ty.now))) }
 {
-    first(out, k, ty, Base::Temporary(object), t, 0)
+    first(out, level, ty, Base::Temporary(object), t, 0)
 }
 
 /// The first value of a variable at a word of the frame, and the word after it.
-pub fn first_at(out: &mut Code, k: &Level, ty: &Ty, t: u32, place: u32) -> Result<u32, AllocError>
-    requires depth { t ≤ DEEPEST }
-    requires reach { 4 * place + first_weight (shape_of (type_of ty.now)) ≤ 2147483647 }
-    requires words { 4 * (place + word_count (shape_of (type_of ty.now))) ≤ 2147483647 }
-    ensures code { OnOk result (out.new ≡ out.old ++ first_code (scope_of k.now) base.Frame t (4 * place)
+pub fn first_at(
+    out: &mut Code,
+    level: &Level,
+    ty: &Ty,
+    t: u32,
+    place: u32,
+) -> Result<u32, AllocError>
+    requires depth { t ≤ MAX_NUMBER }
+    requires reach { 4 * place + first_weight (shape_of (type_of ty.now)) ≤ MAX_NUMBER }
+    requires words { 4 * (place + word_count (shape_of (type_of ty.now))) ≤ MAX_NUMBER }
+    ensures code { OnOk result (out.new ≡ out.old ++ first_code (scope_of level.now) base.Frame t (4 * place)
         (shape_of (type_of ty.now))) }
     ensures next { IfOk result (λ next. next ≡ place + word_count (shape_of (type_of ty.now))) }
 {
-    first(out, k, ty, Base::Frame, t, 4 * place)?;
+    first(out, level, ty, Base::Frame, t, 4 * place)?;
     Ok(place + words(ty))
 }
 
 /// The first values of variables, one after another, from a word of the frame on.
 pub fn firsts(
     out: &mut Code,
-    k: &Level,
+    level: &Level,
     variables: &[Ty],
     t: u32,
     begin: u32,
 ) -> Result<(), AllocError>
-    requires depth { t ≤ DEEPEST }
-    requires reach { firsts_weight begin (map type_of variables.now) ≤ 2147483647 }
-    requires words { 4 * (begin + words_of_all (variable_kinds (map type_of variables.now))) ≤ 2147483647 }
-    ensures { OnOk result (out.new ≡ out.old ++ firsts_code (scope_of k.now) t begin (map type_of variables.now)) }
+    requires depth { t ≤ MAX_NUMBER }
+    requires reach { firsts_weight begin (map type_of variables.now) ≤ MAX_NUMBER }
+    requires words { 4 * (begin + words_of_all (variable_kinds (map type_of variables.now))) ≤ MAX_NUMBER }
+    ensures { OnOk result (out.new ≡ out.old ++ firsts_code (scope_of level.now) t begin (map type_of variables.now)) }
 {
     let mut place = begin;
     for ty in variables {
-        place = first_at(out, k, ty, t, place)?;
+        place = first_at(out, level, ty, t, place)?;
     }
     Ok(())
 }

@@ -4,6 +4,7 @@ ghost use Rattle.std.specs.Prelude.{◌≡◌, ◌≤◌};
 ghost use Rattle.ps_lower_layout.specs.Shapes.{shape_of, word_count, byte_count};
 ghost use Rattle.ps_tree.specs.View.{type_of};
 
+use crate::depth::MAX_NUMBER;
 use ps_tree::types::Ty;
 
 /// An entry of a frame: its offset in bytes, and whether it is the address of a variable.
@@ -22,7 +23,7 @@ pub struct Table {
 
 /// The words of a variable.
 pub fn words(ty: &Ty) -> u32
-    requires { byte_count (shape_of (type_of ty.now)) ≤ 2147483647 }
+    requires { byte_count (shape_of (type_of ty.now)) ≤ MAX_NUMBER }
     ensures { result ≡ word_count (shape_of (type_of ty.now)) }
 {
     ty.bytes() / 4

@@ -11,6 +11,7 @@ ghost use Rattle.ps_tree.specs.Counts.{are_routines_within_limits};
 ghost use Rattle.ps_tree.specs.Tree.{routine_at};
 ghost use Rattle.ps_tree.specs.View.{type_of, formal_of, formals_of, routine_of};
 
+use crate::depth::MAX_NUMBER;
 use crate::frame::{Spot, Table, words};
 use ps_tree::program::Checked;
 use ps_tree::tree::{Formal, Routine};
@@ -26,7 +27,7 @@ const NOWHERE: Spot = Spot {
 
 /// Adds an entry of `words` words, and gives the place after it.
 fn add(spots: &mut Vec<Spot>, place: u32, words: u32, reference: bool) -> Result<u32, AllocError>
-    requires { 4 * (place + words) ≤ 2147483647 }
+    requires { 4 * (place + words) ≤ MAX_NUMBER }
     ensures spots { OnOk result (spots.new.items ≡ spots.old.items ++ spot place reference ∷ []) }
     ensures place { IfOk result (λ n. n ≡ place + words) }
 {
@@ -40,7 +41,7 @@ fn add_result(
     place: u32,
     result_type: &Option<Ty>,
 ) -> Result<u32, AllocError>
-    requires { 4 * (place + words_of_all (result_kinds (option_map type_of result_type.now))) ≤ 2147483647 }
+    requires { 4 * (place + words_of_all (result_kinds (option_map type_of result_type.now))) ≤ MAX_NUMBER }
     ensures spots { OnOk result (spots.new.items ≡ spots.old.items ++ spots_from place
         (result_kinds (option_map type_of result_type.now))) }
     ensures place { IfOk result (λ n. n ≡ place + words_of_all (result_kinds (option_map type_of result_type.now))) }
@@ -53,7 +54,7 @@ fn add_result(
 
 #[tactic(auto, unfolding(ps_tree::specs::View::formal_of))]
 fn add_formal(spots: &mut Vec<Spot>, place: u32, formal: &Formal) -> Result<u32, AllocError>
-    requires { 4 * (place + kind_words (kind_of (formal_of formal.now))) ≤ 2147483647 }
+    requires { 4 * (place + kind_words (kind_of (formal_of formal.now))) ≤ MAX_NUMBER }
     ensures spots { OnOk result (spots.new.items ≡ spots.old.items ++ spot_at place (kind_of (formal_of formal.now))
         ∷ []) }
     ensures place { IfOk result (λ n. n ≡ place + kind_words (kind_of (formal_of formal.now))) }
@@ -66,7 +67,7 @@ fn add_formal(spots: &mut Vec<Spot>, place: u32, formal: &Formal) -> Result<u32,
 }
 
 fn add_formals(spots: &mut Vec<Spot>, place: u32, formals: &[Formal]) -> Result<u32, AllocError>
-    requires { 4 * (place + words_of_all (listed_kinds (kinds_of (formals_of formals.now)))) ≤ 2147483647 }
+    requires { 4 * (place + words_of_all (listed_kinds (kinds_of (formals_of formals.now)))) ≤ MAX_NUMBER }
     ensures spots { OnOk result (spots.new.items ≡ spots.old.items ++ spots_from place
         (listed_kinds (kinds_of (formals_of formals.now)))) }
     ensures place { IfOk result (λ n. n ≡ place + words_of_all (listed_kinds (kinds_of (formals_of formals.now)))) }
@@ -79,7 +80,7 @@ fn add_formals(spots: &mut Vec<Spot>, place: u32, formals: &[Formal]) -> Result<
 }
 
 fn add_variables(spots: &mut Vec<Spot>, place: u32, variables: &[Ty]) -> Result<u32, AllocError>
-    requires { 4 * (place + words_of_all (variable_kinds (map type_of variables.now))) ≤ 2147483647 }
+    requires { 4 * (place + words_of_all (variable_kinds (map type_of variables.now))) ≤ MAX_NUMBER }
     ensures spots { OnOk result (spots.new.items ≡ spots.old.items ++ spots_from place
         (variable_kinds (map type_of variables.now))) }
     ensures place { IfOk result (λ n. n ≡ place + words_of_all (variable_kinds (map type_of variables.now))) }
@@ -93,7 +94,7 @@ fn add_variables(spots: &mut Vec<Spot>, place: u32, variables: &[Ty]) -> Result<
 
 /// The entries of a routine.
 pub fn table(alloc: Global, routine: &Routine) -> Result<Table, AllocError>
-    requires { 4 * (1 + words_of_all (entries (routine_of routine.now))) ≤ 2147483647 }
+    requires { 4 * (1 + words_of_all (entries (routine_of routine.now))) ≤ MAX_NUMBER }
     ensures { IfOk result (λ table. contents_in table ≡ contents_of (routine_of routine.now)) }
 {
     let mut spots = Vec::new(alloc);

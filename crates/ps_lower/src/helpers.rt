@@ -7,7 +7,7 @@ ghost use Rattle.ps_lower.specs.Levels.{scope_of};
 ghost use Rattle.ps_tree.specs.View.{structure_of};
 ghost use Rattle.tac_code.specs.declared.code.Instruction.TheVariants as i;
 
-use crate::depth::beside;
+use crate::depth::{MAX_NUMBER, beside};
 use crate::level::Level;
 use crate::levels::run_time_number;
 use crate::out::Code;
@@ -21,7 +21,7 @@ const COMPARE_BYTES: u32 = 7;
 
 /// A number from 0 on.
 pub fn amount(out: &mut Code, n: u32, t: u32) -> Result<(), AllocError>
-    requires { n ≤ 2147483647 }
+    requires { n ≤ MAX_NUMBER }
     ensures { OnOk result (out.new ≡ out.old ++ i.Literal t (pos n) ∷ []) }
 {
     out.literal(t, n as i32)
@@ -30,50 +30,50 @@ pub fn amount(out: &mut Code, n: u32, t: u32) -> Result<(), AllocError>
 /// A call of a run-time routine.
 pub fn help(
     out: &mut Code,
-    k: &Level,
+    level: &Level,
     number: u32,
     operands: &[u32],
     to: u32,
 ) -> Result<(), AllocError>
     requires { number ≤ 16 }
     ensures { (routine : RunTime) → number ≡ run_time_number routine → OnOk result
-        (out.new ≡ out.old ++ helper (scope_of k.now) routine operands.now to ∷ []) }
+        (out.new ≡ out.old ++ helper (scope_of level.now) routine operands.now to ∷ []) }
 {
-    let number = run_time_number(k, number);
+    let number = run_time_number(level, number);
     out.call_run_time(to, number, operands)
 }
 
 /// Copies the words at the address in `from` to the address in `to`. The temporary t is used.
 pub fn copy(
     out: &mut Code,
-    k: &Level,
+    level: &Level,
     to: u32,
     from: u32,
     t: u32,
     bytes: u32,
 ) -> Result<(), AllocError>
-    requires { bytes ≤ 2147483647 }
-    ensures { OnOk result (out.new ≡ out.old ++ copy_code (scope_of k.now) to from t bytes) }
+    requires { bytes ≤ MAX_NUMBER }
+    ensures { OnOk result (out.new ≡ out.old ++ copy_code (scope_of level.now) to from t bytes) }
 {
     amount(out, bytes, t)?;
-    help(out, k, COPY_WORDS, &[to, from, t], t)
+    help(out, level, COPY_WORDS, &[to, from, t], t)
 }
 
 /// The comparison of a string with another of the same length.
 pub fn compare_strings(
     out: &mut Code,
-    k: &Level,
+    level: &Level,
     e: &Structure,
     left: u32,
     right: u32,
     to: u32,
 ) -> Result<(), AllocError>
     requires depth { right ≤ 4294960000 }
-    requires length { text_length (structure_of e.now) ≤ 2147483647 }
+    requires length { text_length (structure_of e.now) ≤ MAX_NUMBER }
     ensures { OnOk result (out.new ≡ out.old ++ i.Literal (beside right) (pos (text_length (structure_of e.now)))
-        ∷ helper (scope_of k.now) CompareBytes (left ∷ right ∷ beside right ∷ []) to ∷ []) }
+        ∷ helper (scope_of level.now) CompareBytes (left ∷ right ∷ beside right ∷ []) to ∷ []) }
 {
     let t = beside(right);
     amount(out, text_length(e), t)?;
-    help(out, k, COMPARE_BYTES, &[left, right, t], to)
+    help(out, level, COMPARE_BYTES, &[left, right, t], to)
 }

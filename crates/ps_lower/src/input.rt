@@ -5,7 +5,7 @@ ghost use Rattle.ps_lower_code.specs.Scopes.{even_from, input_site, site_code, h
 ghost use Rattle.ps_lower.specs.Levels.{scope_of, site_of};
 ghost use Rattle.tac_code.specs.declared.code.Instruction.TheVariants as i;
 
-use crate::depth::{DEEPEST, even_from};
+use crate::depth::{MAX_NUMBER, even_from};
 use crate::helpers::help;
 use crate::level::Level;
 use crate::out::Code;
@@ -18,33 +18,33 @@ use tac_code::code::Base;
 const LOOK_AHEAD: u32 = 13;
 
 /// Where the words are that record what was taken ahead of the input.
-pub fn input(k: &Level) -> Site
-    ensures { site_of result ≡ input_site (scope_of k.now) }
+pub fn input(level: &Level) -> Site
+    ensures { site_of result ≡ input_site (scope_of level.now) }
 {
     Site {
         base: Base::Program,
-        offset: 4 * k.checked.words(0),
+        offset: 4 * level.checked.words(0),
     }
 }
 
 /// What comes next in the input: a character, the end of a line, or the end of all.
-pub fn look_ahead(out: &mut Code, k: &Level, d: u32) -> Result<(), AllocError>
-    requires { d ≤ DEEPEST }
-    ensures { OnOk result (out.new ≡ out.old ++ (site_code (even_from d) (input_site (scope_of k.now)) 8 ++ helper
-        (scope_of k.now) LookAhead (even_from d ∷ []) d ∷ [])) }
+pub fn look_ahead(out: &mut Code, level: &Level, d: u32) -> Result<(), AllocError>
+    requires { d ≤ MAX_NUMBER }
+    ensures { OnOk result (out.new ≡ out.old ++ (site_code (even_from d) (input_site (scope_of level.now)) 8 ++ helper
+        (scope_of level.now) LookAhead (even_from d ∷ []) d ∷ [])) }
 {
     let t = even_from(d);
-    let site = input(k);
+    let site = input(level);
     address(out, t, site, 8)?;
-    help(out, k, LOOK_AHEAD, &[t], d)
+    help(out, level, LOOK_AHEAD, &[t], d)
 }
 
 /// The same, where the end of all is an error.
-pub fn look_on(out: &mut Code, k: &Level, line: Line, d: u32) -> Result<(), AllocError>
-    requires { d ≤ DEEPEST }
-    ensures { OnOk result (out.new ≡ out.old ++ (site_code (even_from d) (input_site (scope_of k.now)) 8 ++ helper
-        (scope_of k.now) LookAhead (even_from d ∷ []) d ∷ i.CheckRange d (pos 1) (pos 2) 9 line.number ∷ [])) }
+pub fn look_on(out: &mut Code, level: &Level, line: Line, d: u32) -> Result<(), AllocError>
+    requires { d ≤ MAX_NUMBER }
+    ensures { OnOk result (out.new ≡ out.old ++ (site_code (even_from d) (input_site (scope_of level.now)) 8 ++ helper
+        (scope_of level.now) LookAhead (even_from d ∷ []) d ∷ i.CheckRange d (pos 1) (pos 2) 9 line.number ∷ [])) }
 {
-    look_ahead(out, k, d)?;
+    look_ahead(out, level, d)?;
     out.check_range(d, 1, 2, 9, line)
 }

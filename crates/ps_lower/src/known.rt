@@ -9,11 +9,10 @@ ghost use Rattle.ps_meaning.specs.Operators.{is_between};
 ghost use Rattle.ps_tree.specs.View.{expr_of};
 
 use crate::calling::expr_calls;
-use crate::depth::{DEEPEST, even_above, kept};
+use crate::depth::{MAX_NUMBER, even_above, kept};
 use crate::places::is_byte;
 use ps_tree::tree::{
-    ArithmeticOperator, BooleanOperator, Expr, PointerRelation, Relation as TreeRelation,
-    RequiredFunction,
+    ArithmeticOperator, BooleanOperator, Expr, OrderRelation, PointerRelation, RequiredFunction,
 };
 use tac_code::code::{BitOperator, Operand, Operator, Relation};
 
@@ -95,16 +94,16 @@ pub fn bit_operator(operator: BooleanOperator) -> BitOperator
     }
 }
 
-fn relation(relation: TreeRelation) -> Relation
+fn relation(relation: OrderRelation) -> Relation
     ensures { result ≡ relation_of relation }
 {
     match relation {
-        TreeRelation::Equal => Relation::Equal,
-        TreeRelation::Different => Relation::NotEqual,
-        TreeRelation::Less => Relation::Less,
-        TreeRelation::Greater => Relation::Greater,
-        TreeRelation::AtMost => Relation::LessEqual,
-        TreeRelation::AtLeast => Relation::GreaterEqual,
+        OrderRelation::Equal => Relation::Equal,
+        OrderRelation::Different => Relation::NotEqual,
+        OrderRelation::Less => Relation::Less,
+        OrderRelation::Greater => Relation::Greater,
+        OrderRelation::AtMost => Relation::LessEqual,
+        OrderRelation::AtLeast => Relation::GreaterEqual,
     }
 }
 
@@ -193,7 +192,7 @@ pub fn relation_in(e: &Expr) -> Relation
 #[cycle(left_in)]
 #[tactic(auto, using(ps_tree::proofs::TreeLemmas::expr_of_Load, ps_tree::proofs::TreeLemmas::expr_of_Call, ps_tree::proofs::TreeLemmas::expr_of_CallFormal), unfolding(ps_tree::specs::View::expr_of))]
 pub fn left_in(e: &Expr, d: u32) -> u32
-    requires { d ≤ DEEPEST }
+    requires { d ≤ MAX_NUMBER }
     ensures { result ≡ left_in (expr_of e.now) d }
 {
     match e {
@@ -209,7 +208,7 @@ pub fn left_in(e: &Expr, d: u32) -> u32
 #[cycle(right_in)]
 #[tactic(auto, using(ps_tree::proofs::TreeLemmas::expr_of_Load, ps_tree::proofs::TreeLemmas::expr_of_Call, ps_tree::proofs::TreeLemmas::expr_of_CallFormal), unfolding(ps_tree::specs::View::expr_of))]
 pub fn right_in(e: &Expr, d: u32) -> Operand
-    requires { d ≤ DEEPEST }
+    requires { d ≤ MAX_NUMBER }
     ensures { result ≡ right_in (expr_of e.now) d }
 {
     match e {

@@ -7,7 +7,7 @@ ghost use Rattle.ps_lower_layout.specs.Frames.{entry_offset};
 ghost use Rattle.ps_lower.specs.Levels.{scope_of, is_reference_at};
 ghost use Rattle.ps_tree.specs.Checked.{program_in};
 
-use crate::depth::beside;
+use crate::depth::{MAX_NUMBER, beside};
 use crate::frame::Spot;
 use crate::level::Level;
 use crate::out::Code;
@@ -15,15 +15,15 @@ use std::alloc::AllocError;
 use tac_code::code::Base;
 
 /// Whether the frame `up` levels out is the program block's.
-fn is_outermost(k: &Level, up: u32) -> bool
-    ensures { result ≡ is_outermost (scope_of k.now) up }
+fn is_outermost(level: &Level, up: u32) -> bool
+    ensures { result ≡ is_outermost (scope_of level.now) up }
 {
-    u64::from(up) + 1 == k.chain.len() as u64
+    u64::from(up) + 1 == level.chain.len() as u64
 }
 
 /// From the frame whose address is in a temporary, `count` levels further out.
-fn hops(out: &mut Code, k: &Level, t: u32, count: u32) -> Result<(), AllocError>
-    ensures { OnOk result (out.new ≡ out.old ++ hops (scope_of k.now) t 1 count) }
+fn hops(out: &mut Code, level: &Level, t: u32, count: u32) -> Result<(), AllocError>
+    ensures { OnOk result (out.new ≡ out.old ++ hops (scope_of level.now) t 1 count) }
 {
     for _ in 0..count {
         out.load(t, Base::Temporary(t), 0)?;
@@ -32,66 +32,66 @@ fn hops(out: &mut Code, k: &Level, t: u32, count: u32) -> Result<(), AllocError>
 }
 
 /// Reaches the frame `up` levels out, and gives the base from which its parts are then addressed.
-pub fn frame(out: &mut Code, k: &Level, t: u32, up: u32) -> Result<Base, AllocError>
-    ensures code { OnOk result (out.new ≡ out.old ++ frame_code (scope_of k.now) t up) }
-    ensures base { IfOk result (λ base. base ≡ frame_base (scope_of k.now) t up) }
+pub fn frame(out: &mut Code, level: &Level, t: u32, up: u32) -> Result<Base, AllocError>
+    ensures code { OnOk result (out.new ≡ out.old ++ frame_code (scope_of level.now) t up) }
+    ensures base { IfOk result (λ base. base ≡ frame_base (scope_of level.now) t up) }
 {
     if up == 0 {
         return Ok(Base::Frame);
     }
-    if is_outermost(k, up) {
+    if is_outermost(level, up) {
         return Ok(Base::Program);
     }
     out.load(t, Base::Frame, 0)?;
-    hops(out, k, t, up - 1)?;
+    hops(out, level, t, up - 1)?;
     Ok(Base::Temporary(t))
 }
 
 /// The address of the frame `up` levels out.
-pub fn link(out: &mut Code, k: &Level, t: u32, up: u32) -> Result<(), AllocError>
-    ensures { OnOk result (out.new ≡ out.old ++ link_code (scope_of k.now) t up) }
+pub fn link(out: &mut Code, level: &Level, t: u32, up: u32) -> Result<(), AllocError>
+    ensures { OnOk result (out.new ≡ out.old ++ link_code (scope_of level.now) t up) }
 {
     if up == 0 {
         return out.offset(t, Base::Frame, 0, 0);
     }
-    if is_outermost(k, up) {
+    if is_outermost(level, up) {
         return out.offset(t, Base::Program, 0, 0);
     }
     out.load(t, Base::Frame, 0)?;
-    hops(out, k, t, up - 1)
+    hops(out, level, t, up - 1)
 }
 
 /// The number of the routine `up` levels out; 0 where there is none.
-fn number_up(k: &Level, up: u32) -> u32
-    ensures { result ≡ get_or k.now.chain.now up 0 }
+fn number_up(level: &Level, up: u32) -> u32
+    ensures { result ≡ get_or level.now.chain.now up 0 }
 {
-    k.chain.get(up as usize).copied().unwrap_or(0)
+    level.chain.get(up as usize).copied().unwrap_or(0)
 }
 
 /// An entry of the routine `up` levels out.
-pub fn entry(k: &Level, up: u32, index: u32) -> Spot
-    ensures offset { result.offset ≡ entry_offset (routine_up (scope_of k.now) up) index }
-    ensures reference { result.reference ≡ is_reference_at (kind_at (scope_of k.now) up index) }
+pub fn entry(level: &Level, up: u32, index: u32) -> Spot
+    ensures offset { result.offset ≡ entry_offset (routine_up (scope_of level.now) up) index }
+    ensures reference { result.reference ≡ is_reference_at (kind_at (scope_of level.now) up index) }
 {
-    k.checked.entry(number_up(k, up), index)
+    level.checked.entry(number_up(level, up), index)
 }
 
 /// The routine of a procedural or functional parameter, with its static link in the temporary beside it.
-pub fn formal(out: &mut Code, k: &Level, t: u32, up: u32, index: u32) -> Result<(), AllocError>
+pub fn formal(out: &mut Code, level: &Level, t: u32, up: u32, index: u32) -> Result<(), AllocError>
     requires depth { t ≤ 4294960000 }
-    requires reach { entry_offset (routine_up (scope_of k.now) up) index ≤ 2147483647 }
-    ensures { OnOk result (out.new ≡ out.old ++ formal_code (scope_of k.now) t up index) }
+    requires reach { entry_offset (routine_up (scope_of level.now) up) index ≤ MAX_NUMBER }
+    ensures { OnOk result (out.new ≡ out.old ++ formal_code (scope_of level.now) t up index) }
 {
-    let base = frame(out, k, t, up)?;
-    let place = entry(k, up, index).offset;
+    let base = frame(out, level, t, up)?;
+    let place = entry(level, up, index).offset;
     out.load(beside(t), base, place + 4)?;
     out.load(t, base, place)
 }
 
 /// The number of a run-time routine; these come after those of the program.
-pub fn run_time_number(k: &Level, number: u32) -> u32
+pub fn run_time_number(level: &Level, number: u32) -> u32
     requires { number ≤ 16 }
-    ensures { result ≡ length (program_in k.now.checked.now).routines + number }
+    ensures { result ≡ length (program_in level.now.checked.now).routines + number }
 {
-    k.checked.count() + number
+    level.checked.count() + number
 }

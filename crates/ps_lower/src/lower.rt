@@ -8,8 +8,9 @@ ghost use Rattle.ps_tree.specs.Checked.{program_in};
 ghost use Rattle.ps_tree.specs.Counts.{are_small};
 ghost use Rattle.ps_tree.specs.View.{type_of};
 ghost use Rattle.tac_code.specs.Sound.{IsSound};
-ghost use Rattle.ps_lower.specs.Refused.{most_instructions, instructions_of, instruction_count, IsRefused};
+ghost use Rattle.ps_lower.specs.Refused.{instructions_of, instruction_count, IsRefused};
 
+use crate::depth::MAX_NUMBER;
 use crate::frame::words;
 use crate::frames::Frames;
 use crate::marks::Mark;
@@ -33,7 +34,7 @@ fn routines_of(
     ensures made { IfOk result (λ list. list.items ≡ map (tac_of (program_in checked.now))
         (program_in checked.now).routines) }
     ensures few { OnOk result (instructions_of
-        (map (tac_of (program_in checked.now)) (program_in checked.now).routines) ≤ most_instructions) }
+        (map (tac_of (program_in checked.now)) (program_in checked.now).routines) ≤ MOST_INSTRUCTIONS) }
     ensures refused { IfErr result (λ refusal. IsRefused refusal
         (instructions_of (map (tac_of (program_in checked.now)) (program_in checked.now).routines))) }
 {
@@ -53,7 +54,7 @@ fn routines_of(
 
 /// The bytes of an object of a type.
 fn object_bytes(ty: &Ty) -> u32
-    requires { object_bytes (type_of ty.now) ≤ 2147483647 }
+    requires { object_bytes (type_of ty.now) ≤ MAX_NUMBER }
     ensures { result ≡ object_bytes (type_of ty.now) }
 {
     4 * words(ty)
@@ -87,7 +88,7 @@ pub fn lower_marked(alloc: Global, checked: &Checked) -> Result<Marked, LowerRef
     requires light { AreLight (program_in checked.now) }
     ensures code { IfOk result (λ marked. marked.tac ≡ code_of run_time_routines (program_in checked.now)) }
     ensures few { OnOk result (instruction_count
-        (code_of run_time_routines (program_in checked.now)) ≤ most_instructions) }
+        (code_of run_time_routines (program_in checked.now)) ≤ MOST_INSTRUCTIONS) }
     ensures refused { IfErr result (λ refusal. IsRefused refusal
         (instruction_count (code_of run_time_routines (program_in checked.now)))) }
 {
@@ -117,7 +118,7 @@ pub fn lower(alloc: Global, checked: &Checked) -> Result<Tac, LowerRefusal>
     requires light { AreLight (program_in checked.now) }
     ensures code { IfOk result (λ tac. tac ≡ code_of run_time_routines (program_in checked.now)) }
     ensures few { OnOk result (instruction_count
-        (code_of run_time_routines (program_in checked.now)) ≤ most_instructions) }
+        (code_of run_time_routines (program_in checked.now)) ≤ MOST_INSTRUCTIONS) }
     ensures refused { IfErr result (λ refusal. IsRefused refusal
         (instruction_count (code_of run_time_routines (program_in checked.now)))) }
 {

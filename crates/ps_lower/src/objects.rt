@@ -11,7 +11,7 @@ ghost use Rattle.ps_tree.specs.View.{place_of};
 ghost use Rattle.tac_code.specs.declared.code.Base.TheVariants as base;
 ghost use Rattle.tac_code.specs.declared.code.Instruction.TheVariants as i;
 
-use crate::depth::{DEEPEST, even_above, held};
+use crate::depth::{MAX_NUMBER, even_above, held};
 use crate::firsts::first_object;
 use crate::level::Level;
 use crate::out::Code;
@@ -26,35 +26,35 @@ use tac_code::code::Instruction;
 /// The first value of the object of a pointer type; a number of no pointer type gives a pointer.
 fn first_of_domain(
     out: &mut Code,
-    k: &Level,
+    level: &Level,
     pointer: u32,
     to: u32,
     t: u32,
 ) -> Result<(), AllocError>
     requires depth { t ≤ 4294960000 }
-    requires reach { first_weight (shape_of (domain_at (scope_of k.now).program pointer)) ≤ 2147483647 }
-    ensures { OnOk result (out.new ≡ out.old ++ first_code (scope_of k.now) (base.Temporary to) t 0
-        (shape_of (domain_at (scope_of k.now).program pointer))) }
+    requires reach { first_weight (shape_of (domain_at (scope_of level.now).program pointer)) ≤ MAX_NUMBER }
+    ensures { OnOk result (out.new ≡ out.old ++ first_code (scope_of level.now) (base.Temporary to) t 0
+        (shape_of (domain_at (scope_of level.now).program pointer))) }
 {
-    match k.checked.domains().get(pointer as usize) {
-        Some(ty) => first_object(out, k, ty, to, t),
-        None => first_object(out, k, &Ty::Pointer { number: 0 }, to, t),
+    match level.checked.domains().get(pointer as usize) {
+        Some(ty) => first_object(out, level, ty, to, t),
+        None => first_object(out, level, &Ty::Pointer { number: 0 }, to, t),
     }
 }
 
 /// An object of the type that a pointer type points to, with its first value; its address goes to a temporary.
 fn object(
     out: &mut Code,
-    k: &Level,
+    level: &Level,
     pointer: u32,
     to: u32,
     t: u32,
     line: Line,
 ) -> Result<(), AllocError>
     requires depth { t ≤ 4294960000 }
-    requires reach { first_weight (shape_of (domain_at (scope_of k.now).program pointer)) ≤ 2147483647 }
-    ensures { OnOk result (out.new ≡ out.old ++ i.New to pointer line.number ∷ first_code (scope_of k.now)
-        (base.Temporary to) t 0 (shape_of (domain_at (scope_of k.now).program pointer))) }
+    requires reach { first_weight (shape_of (domain_at (scope_of level.now).program pointer)) ≤ MAX_NUMBER }
+    ensures { OnOk result (out.new ≡ out.old ++ i.New to pointer line.number ∷ first_code (scope_of level.now)
+        (base.Temporary to) t 0 (shape_of (domain_at (scope_of level.now).program pointer))) }
 {
     out.push_at(
         Instruction::New {
@@ -64,26 +64,27 @@ fn object(
         },
         line,
     )?;
-    first_of_domain(out, k, pointer, to, t)
+    first_of_domain(out, level, pointer, to, t)
 }
 
 /// An object that a pointer variable points to from now on.
 pub fn create(
     out: &mut Code,
-    k: &Level,
+    level: &Level,
     target: &Place,
     pointer: u32,
     line: Line,
     d: u32,
 ) -> Result<(), AllocError>
-    requires { d + statement_weight (scope_of k.now) (tree.New (place_of target.now) pointer line.number) d ≤ DEEPEST }
-    ensures { OnOk result (out.new ≡ out.old ++ statement_code (scope_of k.now)
+    requires { d + statement_weight (scope_of level.now)
+        (tree.New (place_of target.now) pointer line.number) d ≤ MAX_NUMBER }
+    ensures { OnOk result (out.new ≡ out.old ++ statement_code (scope_of level.now)
         (tree.New (place_of target.now) pointer line.number) d) }
 {
     let at = held(true, d);
     let to = held(true, at + 1);
     let free = even_above(to);
-    let site = place(out, k, target, at, 0)?;
-    object(out, k, pointer, to, free, line)?;
+    let site = place(out, level, target, at, 0)?;
+    object(out, level, pointer, to, free, line)?;
     keep(out, is_byte(target), site, to)
 }

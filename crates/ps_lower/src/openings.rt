@@ -7,7 +7,7 @@ ghost use Rattle.ps_lower_code.specs.Values.{place_code, place_site};
 ghost use Rattle.ps_lower.specs.Levels.{scope_of, site_of, within};
 ghost use Rattle.ps_tree.specs.View.{place_of};
 
-use crate::depth::{DEEPEST, held};
+use crate::depth::{MAX_NUMBER, held};
 use crate::level::Level;
 use crate::out::Code;
 use crate::places::place_temporary;
@@ -26,20 +26,20 @@ pub struct Opened {
 /// A record within others that are open.
 fn open(
     out: &mut Code,
-    k: &Level,
+    level: &Level,
     variable: &Place,
     sites: &[Site],
     t: u32,
 ) -> Result<Site, AllocError>
-    requires { t + place_weight (within (scope_of k.now) sites.now) (place_of variable.now) ≤ DEEPEST }
-    ensures code { OnOk result (out.new ≡ out.old ++ place_code (within (scope_of k.now) sites.now)
+    requires { t + place_weight (within (scope_of level.now) sites.now) (place_of variable.now) ≤ MAX_NUMBER }
+    ensures code { OnOk result (out.new ≡ out.old ++ place_code (within (scope_of level.now) sites.now)
         (place_of variable.now) t 0) }
-    ensures site { IfOk result (λ s. site_of s ≡ place_site (within (scope_of k.now) sites.now)
+    ensures site { IfOk result (λ s. site_of s ≡ place_site (within (scope_of level.now) sites.now)
         (place_of variable.now) t) }
 {
     let inner = Level {
-        checked: k.checked,
-        chain: k.chain,
+        checked: level.checked,
+        chain: level.chain,
         opened: sites,
     };
     place(out, &inner, variable, t, 0)
@@ -48,22 +48,23 @@ fn open(
 /// Opens records.
 pub fn open_all(
     out: &mut Code,
-    k: &Level,
+    level: &Level,
     records: &[Place],
     calls: bool,
     d: u32,
 ) -> Result<Opened, AllocError>
-    requires { d + with_weight (scope_of k.now) (map place_of records.now) calls d ≤ DEEPEST }
-    ensures code { OnOk result (out.new ≡ out.old ++ with_code (scope_of k.now) (map place_of records.now) calls d) }
-    ensures scope { IfOk result (λ o. within (scope_of k.now) o.sites.items ≡ with_scope (scope_of k.now)
+    requires { d + with_weight (scope_of level.now) (map place_of records.now) calls d ≤ MAX_NUMBER }
+    ensures code { OnOk result
+        (out.new ≡ out.old ++ with_code (scope_of level.now) (map place_of records.now) calls d) }
+    ensures scope { IfOk result (λ o. within (scope_of level.now) o.sites.items ≡ with_scope (scope_of level.now)
         (map place_of records.now) calls d) }
     ensures depth { IfOk result (λ o. o.depth ≡ with_depth (map place_of records.now) calls d) }
 {
-    let mut sites = Vec::from_slice(out.alloc(), k.opened)?;
+    let mut sites = Vec::from_slice(out.alloc(), level.opened)?;
     let mut depth = d;
     for variable in records {
         let t = held(calls, depth);
-        let site = open(out, k, variable, sites.as_slice(), t)?;
+        let site = open(out, level, variable, sites.as_slice(), t)?;
         sites.push(site)?;
         depth = place_temporary(variable, t) + 1;
     }

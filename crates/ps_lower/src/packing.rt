@@ -15,7 +15,7 @@ ghost use Rattle.ps_tree.specs.View.{type_of, expr_of, place_of};
 ghost use Rattle.tac_code.specs.declared.code.Base.TheVariants as base;
 ghost use Rattle.tac_code.specs.declared.code.Instruction.TheVariants as i;
 
-use crate::depth::{DEEPEST, even_above, held};
+use crate::depth::{MAX_NUMBER, even_above, held};
 use crate::helpers::{amount, copy, help};
 use crate::level::Level;
 use crate::numbers::narrow;
@@ -34,6 +34,21 @@ const PACK_BYTES: u32 = 8;
 
 const UNPACK_BYTES: u32 = 9;
 
+/// An array, with its type.
+#[derive(Clone, Copy)]
+pub struct Array<'a> {
+    pub place: &'a Place,
+    pub ty: &'a Ty,
+}
+
+/// The temporaries of a copy: they hold where it comes from and where it goes, or are free for it.
+#[derive(Clone, Copy)]
+struct Copying {
+    from: u32,
+    to: u32,
+    free: u32,
+}
+
 /// The address of the component of an array whose index is in a temporary, or error 5.
 fn component(
     out: &mut Code,
@@ -43,7 +58,7 @@ fn component(
     index: u32,
     line: Line,
 ) -> Result<(), AllocError>
-    requires { component_bytes (shape_of (type_of ty.now)) ≤ 2147483647 }
+    requires { component_bytes (shape_of (type_of ty.now)) ≤ MAX_NUMBER }
     ensures { OnOk result (out.new ≡ out.old ++ i.Index t (site_of site).base index (index_of (type_of ty.now)).low
         (index_of (type_of ty.now)).high (component_bytes (shape_of (type_of ty.now))) 5 line.number ∷ i.Offset t
         (base.Temporary t) (site_of site).offset 0 ∷ []) }
@@ -55,7 +70,7 @@ fn component(
 
 /// The lowest value of a range, plus `more`.
 fn above(range: Ordinal, more: u32) -> i32
-    requires { unless (is_integer (range.low +ℤ pos more)) ≤ 2147483647 }
+    requires { unless (is_integer (range.low +ℤ pos more)) ≤ MAX_NUMBER }
     ensures { result ≡ range.low +ℤ pos more }
 {
     (i64::from(range.low) + i64::from(more)) as i32
@@ -69,7 +84,7 @@ fn check_room(
     more: u32,
     line: Line,
 ) -> Result<(), AllocError>
-    requires { unless (is_integer (range.low +ℤ pos more)) ≤ 2147483647 }
+    requires { unless (is_integer (range.low +ℤ pos more)) ≤ MAX_NUMBER }
     ensures { OnOk result (out.new ≡ out.old ++ i.CheckRange t range.low (range.low +ℤ pos more) 5 line.number ∷ []) }
 {
     let last = above(range, more);
@@ -79,7 +94,7 @@ fn check_room(
 /// The test that an array has room, from an index on, for a part with the components of another, or error 5.
 fn room(out: &mut Code, whole_ty: &Ty, part_ty: &Ty, t: u32, line: Line) -> Result<(), AllocError>
     requires { unless (is_integer ((index_of (type_of whole_ty.now)).low +ℤ pos
-        (value_count (index_of (type_of whole_ty.now)) - value_count (index_of (type_of part_ty.now))))) ≤ 2147483647 }
+        (value_count (index_of (type_of whole_ty.now)) - value_count (index_of (type_of part_ty.now))))) ≤ MAX_NUMBER }
     ensures { OnOk result (out.new ≡ out.old ++ room_code (type_of whole_ty.now) (type_of part_ty.now) t line.number) }
 {
     let whole = index_of(whole_ty);
@@ -95,25 +110,24 @@ fn room(out: &mut Code, whole_ty: &Ty, part_ty: &Ty, t: u32, line: Line) -> Resu
 /// Copies `count` components from one address to another by a run-time routine.
 fn bytes(
     out: &mut Code,
-    k: &Level,
+    level: &Level,
     number: u32,
-    a: u32,
-    b: u32,
     count: u32,
-    t: u32,
+    at: Copying,
 ) -> Result<(), AllocError>
-    requires count { count ≤ 2147483647 }
+    requires count { count ≤ MAX_NUMBER }
     requires number { number ≤ 16 }
     ensures { (routine : RunTime) → number ≡ run_time_number routine → OnOk result
-        (out.new ≡ out.old ++ i.Literal t (pos count) ∷ helper (scope_of k.now) routine (b ∷ a ∷ t ∷ []) t ∷ []) }
+        (out.new ≡ out.old ++ i.Literal at.free (pos count) ∷ helper (scope_of level.now) routine
+        (at.to ∷ at.from ∷ at.free ∷ []) at.free ∷ []) }
 {
-    amount(out, count, t)?;
-    help(out, k, number, &[b, a, t], t)
+    amount(out, count, at.free)?;
+    help(out, level, number, &[at.to, at.from, at.free], at.free)
 }
 
 /// The bytes of `count` components. Where there are none, their type may be of any size.
 fn part_bytes(ty: &Ty, count: u32) -> u32
-    requires { count * component_bytes (shape_of (type_of ty.now)) ≤ 2147483647 }
+    requires { count * component_bytes (shape_of (type_of ty.now)) ≤ MAX_NUMBER }
     ensures { result ≡ count * component_bytes (shape_of (type_of ty.now)) }
 {
     if count == 0 {
@@ -122,92 +136,103 @@ fn part_bytes(ty: &Ty, count: u32) -> u32
     count * component_bytes(ty)
 }
 
-/// The components of a part, from the address in a to the address in b: by words, where neither array is one of bytes.
+/// The components of a part, from one address to another: by words, where neither array is one of bytes.
 fn components(
     out: &mut Code,
-    k: &Level,
+    level: &Level,
     from_ty: &Ty,
     to_ty: &Ty,
     count: u32,
-    a: u32,
-    b: u32,
-    t: u32,
+    at: Copying,
 ) -> Result<(), AllocError>
-    requires count { count ≤ 2147483647 }
-    requires bytes { count * component_bytes (shape_of (type_of from_ty.now)) ≤ 2147483647 }
-    ensures { (packing : Bool) → OnOk result (out.new ≡ out.old ++ components_code (scope_of k.now) packing a b count
-        (is_byte_array (shape_of (type_of from_ty.now))) (is_byte_array (shape_of (type_of to_ty.now)))
-        (component_bytes (shape_of (type_of from_ty.now))) t) }
+    requires count { count ≤ MAX_NUMBER }
+    requires bytes { count * component_bytes (shape_of (type_of from_ty.now)) ≤ MAX_NUMBER }
+    ensures { (packing : Bool) → OnOk result (out.new ≡ out.old ++ components_code (scope_of level.now) packing at.from
+        at.to count (is_byte_array (shape_of (type_of from_ty.now))) (is_byte_array (shape_of (type_of to_ty.now)))
+        (component_bytes (shape_of (type_of from_ty.now))) at.free) }
 {
     if is_byte_array(to_ty) {
-        return bytes(out, k, PACK_BYTES, a, b, count, t);
+        return bytes(out, level, PACK_BYTES, count, at);
     }
     if is_byte_array(from_ty) {
-        return bytes(out, k, UNPACK_BYTES, a, b, count, t);
+        return bytes(out, level, UNPACK_BYTES, count, at);
     }
-    copy(out, k, b, a, t, part_bytes(from_ty, count))
+    copy(
+        out,
+        level,
+        at.to,
+        at.from,
+        at.free,
+        part_bytes(from_ty, count),
+    )
 }
 
 /// `pack(from, index, to)`
 pub fn pack(
     out: &mut Code,
-    k: &Level,
-    from: &Place,
-    from_ty: &Ty,
+    level: &Level,
+    from: Array<'_>,
     index: &Expr,
+    to: Array<'_>,
     line: Line,
-    to: &Place,
-    to_ty: &Ty,
     d: u32,
 ) -> Result<(), AllocError>
-    requires { d + statement_weight (scope_of k.now)
-        (tree.Pack (place_of from.now) (type_of from_ty.now) (expr_of index.now) line.number (place_of to.now)
-        (type_of to_ty.now)) d ≤ DEEPEST }
-    ensures { OnOk result (out.new ≡ out.old ++ statement_code (scope_of k.now)
-        (tree.Pack (place_of from.now) (type_of from_ty.now) (expr_of index.now) line.number (place_of to.now)
-        (type_of to_ty.now)) d) }
+    requires { d + statement_weight (scope_of level.now)
+        (tree.Pack (place_of from.place.now) (type_of from.ty.now) (expr_of index.now) line.number
+        (place_of to.place.now) (type_of to.ty.now)) d ≤ MAX_NUMBER }
+    ensures { OnOk result (out.new ≡ out.old ++ statement_code (scope_of level.now)
+        (tree.Pack (place_of from.entry.place.now) (type_of from.entry.ty.now) (expr_of index.now) line.number
+        (place_of to.entry.place.now) (type_of to.entry.ty.now)) d) }
 {
     let a = held(true, d);
     let b = held(true, a + 1);
     let c = held(true, b + 1);
-    let count = narrow(index_of(to_ty).value_count());
-    let first = place(out, k, from, a, 0)?;
-    value(out, k, index, b, 0)?;
-    component(out, from_ty, first, a, b, line)?;
-    let second = place(out, k, to, c, 0)?;
-    room(out, from_ty, to_ty, b, line)?;
+    let count = narrow(index_of(to.ty).value_count());
+    let first = place(out, level, from.place, a, 0)?;
+    value(out, level, index, b, 0)?;
+    component(out, from.ty, first, a, b, line)?;
+    let second = place(out, level, to.place, c, 0)?;
+    room(out, from.ty, to.ty, b, line)?;
     address(out, c, second, 0)?;
-    components(out, k, from_ty, to_ty, count, a, c, even_above(c))
+    let at = Copying {
+        from: a,
+        to: c,
+        free: even_above(c),
+    };
+    components(out, level, from.ty, to.ty, count, at)
 }
 
 /// `unpack(from, to, index)`
 pub fn unpack(
     out: &mut Code,
-    k: &Level,
-    from: &Place,
-    from_ty: &Ty,
-    to: &Place,
-    to_ty: &Ty,
+    level: &Level,
+    from: Array<'_>,
+    to: Array<'_>,
     index: &Expr,
     line: Line,
     d: u32,
 ) -> Result<(), AllocError>
-    requires { d + statement_weight (scope_of k.now)
-        (tree.Unpack (place_of from.now) (type_of from_ty.now) (place_of to.now) (type_of to_ty.now)
-        (expr_of index.now) line.number) d ≤ DEEPEST }
-    ensures { OnOk result (out.new ≡ out.old ++ statement_code (scope_of k.now)
-        (tree.Unpack (place_of from.now) (type_of from_ty.now) (place_of to.now) (type_of to_ty.now)
-        (expr_of index.now) line.number) d) }
+    requires { d + statement_weight (scope_of level.now)
+        (tree.Unpack (place_of from.place.now) (type_of from.ty.now) (place_of to.place.now) (type_of to.ty.now)
+        (expr_of index.now) line.number) d ≤ MAX_NUMBER }
+    ensures { OnOk result (out.new ≡ out.old ++ statement_code (scope_of level.now)
+        (tree.Unpack (place_of from.entry.place.now) (type_of from.entry.ty.now) (place_of to.entry.place.now)
+        (type_of to.entry.ty.now) (expr_of index.now) line.number) d) }
 {
     let a = held(true, d);
     let b = held(true, a + 1);
     let c = held(true, b + 1);
-    let count = narrow(index_of(from_ty).value_count());
-    let first = place(out, k, from, a, 0)?;
+    let count = narrow(index_of(from.ty).value_count());
+    let first = place(out, level, from.place, a, 0)?;
     address(out, a, first, 0)?;
-    let second = place(out, k, to, b, 0)?;
-    value(out, k, index, c, 0)?;
-    component(out, to_ty, second, b, c, line)?;
-    room(out, to_ty, from_ty, c, line)?;
-    components(out, k, from_ty, to_ty, count, a, b, even_above(c))
+    let second = place(out, level, to.place, b, 0)?;
+    value(out, level, index, c, 0)?;
+    component(out, to.ty, second, b, c, line)?;
+    room(out, to.ty, from.ty, c, line)?;
+    let at = Copying {
+        from: a,
+        to: b,
+        free: even_above(c),
+    };
+    components(out, level, from.ty, to.ty, count, at)
 }

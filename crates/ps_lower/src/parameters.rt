@@ -11,7 +11,7 @@ ghost use Rattle.ps_tree.specs.View.{type_of, formal_of, formals_of};
 ghost use Rattle.tac_code.specs.declared.code.Base.TheVariants as base;
 ghost use Rattle.tac_code.specs.declared.code.Instruction.TheVariants as i;
 
-use crate::depth::{DEEPEST, beside};
+use crate::depth::{MAX_NUMBER, beside};
 use crate::frame::words;
 use crate::helpers::copy;
 use crate::level::Level;
@@ -37,7 +37,7 @@ fn parameter_words(formal: &Formal) -> u32
 /// The words of a parameter's entry.
 #[tactic(auto, unfolding(ps_tree::specs::View::formal_of))]
 fn entry_words(formal: &Formal) -> u32
-    requires { 4 * kind_words (kind_of (formal_of formal.now)) ≤ 2147483647 }
+    requires { 4 * kind_words (kind_of (formal_of formal.now)) ≤ MAX_NUMBER }
     ensures { result ≡ kind_words (kind_of (formal_of formal.now)) }
 {
     match formal {
@@ -49,7 +49,7 @@ fn entry_words(formal: &Formal) -> u32
 
 /// A number of temporaries, plus the words of the next parameter.
 fn with_parameter(count: u32, formal: &Formal) -> u32
-    requires { count ≤ DEEPEST }
+    requires { count ≤ MAX_NUMBER }
     ensures { result ≡ count + parameter_words (kind_of (formal_of formal.now)) }
 {
     count + parameter_words(formal)
@@ -57,7 +57,7 @@ fn with_parameter(count: u32, formal: &Formal) -> u32
 
 /// How many temporaries a routine's parameters come in, its static link's first.
 pub fn count_parameters(formals: &[Formal]) -> u32
-    requires { suc (count_parameters (kinds_of (formals_of formals.now))) ≤ DEEPEST }
+    requires { suc (count_parameters (kinds_of (formals_of formals.now))) ≤ MAX_NUMBER }
     ensures { result ≡ suc (count_parameters (kinds_of (formals_of formals.now))) }
 {
     let mut count = 1;
@@ -85,38 +85,46 @@ fn is_word(ty: &Ty) -> bool
 /// A structure or a set, whose address is in t, to an entry.
 fn copied(
     out: &mut Code,
-    k: &Level,
+    level: &Level,
     ty: &Ty,
     t: u32,
     offset: u32,
     free: u32,
 ) -> Result<(), AllocError>
-    requires depth { free ≤ DEEPEST }
-    requires length { byte_count (shape_of (type_of ty.now)) ≤ 2147483647 }
+    requires depth { free ≤ MAX_NUMBER }
+    requires length { byte_count (shape_of (type_of ty.now)) ≤ MAX_NUMBER }
     ensures { OnOk result (out.new ≡ out.old ++ i.Offset free base.Frame offset (byte_count (shape_of (type_of ty.now)))
-        ∷ copy_code (scope_of k.now) free t (beside free) (byte_count (shape_of (type_of ty.now)))) }
+        ∷ copy_code (scope_of level.now) free t (beside free) (byte_count (shape_of (type_of ty.now)))) }
 {
     let bytes = byte_count(ty);
     out.offset(free, Base::Frame, offset, bytes)?;
-    copy(out, k, free, t, beside(free), bytes)
+    copy(out, level, free, t, beside(free), bytes)
 }
 
 /// A value parameter.
-fn own(out: &mut Code, k: &Level, ty: &Ty, t: u32, offset: u32, free: u32) -> Result<(), AllocError>
-    requires depth { free ≤ DEEPEST }
-    requires length { byte_count (shape_of (type_of ty.now)) ≤ 2147483647 }
-    ensures { OnOk result (out.new ≡ out.old ++ own_code (scope_of k.now) (shape_of (type_of ty.now)) t offset free) }
+fn own(
+    out: &mut Code,
+    level: &Level,
+    ty: &Ty,
+    t: u32,
+    offset: u32,
+    free: u32,
+) -> Result<(), AllocError>
+    requires depth { free ≤ MAX_NUMBER }
+    requires length { byte_count (shape_of (type_of ty.now)) ≤ MAX_NUMBER }
+    ensures { OnOk result (out.new ≡ out.old
+        ++ own_code (scope_of level.now) (shape_of (type_of ty.now)) t offset free) }
 {
     if is_word(ty) {
         return out.store(Base::Frame, offset, t);
     }
-    copied(out, k, ty, t, offset, free)
+    copied(out, level, ty, t, offset, free)
 }
 
 /// A procedural or functional parameter: its routine, followed by its static link.
 fn closure(out: &mut Code, t: u32, offset: u32) -> Result<(), AllocError>
-    requires depth { t ≤ DEEPEST }
-    requires reach { offset ≤ 2147483647 }
+    requires depth { t ≤ MAX_NUMBER }
+    requires reach { offset ≤ MAX_NUMBER }
     ensures { OnOk result (out.new ≡ out.old ++ i.Store base.Frame offset t ∷ i.Store base.Frame (offset + 4) (suc t)
         ∷ []) }
 {
@@ -128,21 +136,21 @@ fn closure(out: &mut Code, t: u32, offset: u32) -> Result<(), AllocError>
 #[tactic(auto, unfolding(ps_tree::specs::View::formal_of))]
 fn parameter(
     out: &mut Code,
-    k: &Level,
+    level: &Level,
     formal: &Formal,
     t: u32,
     offset: u32,
     free: u32,
 ) -> Result<(), AllocError>
-    requires temporary { t ≤ DEEPEST }
-    requires free { free ≤ DEEPEST }
-    requires reach { offset ≤ 2147483647 }
-    requires words { 4 * kind_words (kind_of (formal_of formal.now)) ≤ 2147483647 }
-    ensures { OnOk result (out.new ≡ out.old ++ parameter_code (scope_of k.now)
+    requires temporary { t ≤ MAX_NUMBER }
+    requires free { free ≤ MAX_NUMBER }
+    requires reach { offset ≤ MAX_NUMBER }
+    requires words { 4 * kind_words (kind_of (formal_of formal.now)) ≤ MAX_NUMBER }
+    ensures { OnOk result (out.new ≡ out.old ++ parameter_code (scope_of level.now)
         (kind_of (formal_of formal.now)) t offset free) }
 {
     match formal {
-        Formal::Value(ty) => own(out, k, ty, t, offset, free),
+        Formal::Value(ty) => own(out, level, ty, t, offset, free),
         Formal::Variable(_) => out.store(Base::Frame, offset, t),
         Formal::Routine { .. } => closure(out, t, offset),
     }
@@ -151,42 +159,42 @@ fn parameter(
 /// A parameter in the temporary t, to an entry at a word of the frame, and the word after it.
 fn parameter_at(
     out: &mut Code,
-    k: &Level,
+    level: &Level,
     formal: &Formal,
     t: u32,
     place: u32,
     free: u32,
 ) -> Result<u32, AllocError>
-    requires temporary { t ≤ DEEPEST }
-    requires free { free ≤ DEEPEST }
-    requires words { 4 * (place + kind_words (kind_of (formal_of formal.now))) ≤ 2147483647 }
-    ensures code { OnOk result (out.new ≡ out.old ++ parameter_code (scope_of k.now) (kind_of (formal_of formal.now)) t
-        (4 * place) free) }
+    requires temporary { t ≤ MAX_NUMBER }
+    requires free { free ≤ MAX_NUMBER }
+    requires words { 4 * (place + kind_words (kind_of (formal_of formal.now))) ≤ MAX_NUMBER }
+    ensures code { OnOk result
+        (out.new ≡ out.old ++ parameter_code (scope_of level.now) (kind_of (formal_of formal.now)) t (4 * place) free) }
     ensures next { IfOk result (λ next. next ≡ place + kind_words (kind_of (formal_of formal.now))) }
 {
-    parameter(out, k, formal, t, 4 * place, free)?;
+    parameter(out, level, formal, t, 4 * place, free)?;
     Ok(place + entry_words(formal))
 }
 
 /// The parameters of a routine, to consecutive entries from a word of the frame on, and the word after them.
 pub fn parameters(
     out: &mut Code,
-    k: &Level,
+    level: &Level,
     formals: &[Formal],
     begin: u32,
     free: u32,
 ) -> Result<u32, AllocError>
-    requires free { free ≤ DEEPEST }
-    requires total { suc (count_parameters (kinds_of (formals_of formals.now))) ≤ DEEPEST }
-    requires words { 4 * (begin + words_of_all (listed_kinds (kinds_of (formals_of formals.now)))) ≤ 2147483647 }
-    ensures code { OnOk result (out.new ≡ out.old ++ parameters_at (scope_of k.now)
+    requires free { free ≤ MAX_NUMBER }
+    requires total { suc (count_parameters (kinds_of (formals_of formals.now))) ≤ MAX_NUMBER }
+    requires words { 4 * (begin + words_of_all (listed_kinds (kinds_of (formals_of formals.now)))) ≤ MAX_NUMBER }
+    ensures code { OnOk result (out.new ≡ out.old ++ parameters_at (scope_of level.now)
         (kinds_of (formals_of formals.now)) 1 begin free) }
     ensures next { IfOk result (λ next. next ≡ begin + words_of_all (listed_kinds (kinds_of (formals_of formals.now)))) }
 {
     let mut t = 1;
     let mut place = begin;
     for formal in formals {
-        place = parameter_at(out, k, formal, t, place, free)?;
+        place = parameter_at(out, level, formal, t, place, free)?;
         t = with_parameter(t, formal);
     }
     Ok(place)

@@ -8,7 +8,7 @@ ghost use Rattle.ps_tree.specs.declared.tree.RequiredFunction.TheVariants.{Abs};
 ghost use Rattle.tac_code.specs.declared.code.Instruction.TheVariants as i;
 ghost use Rattle.tac_code.specs.declared.code.Operand.TheVariants as operand;
 
-use crate::depth::{DEEPEST, even_above};
+use crate::depth::{MAX_NUMBER, even_above};
 use crate::known::{
     has_bytes, is_any, is_between, is_relation, is_truth, left_in, relation_in, right_in,
 };
@@ -38,7 +38,7 @@ pub fn moved(out: &mut Code, from: u32, to: u32) -> Result<(), AllocError>
 
 /// The truth of the relation that an expression left, as a word.
 fn relation(out: &mut Code, e: &Expr, d: u32) -> Result<(), AllocError>
-    requires { d ≤ DEEPEST }
+    requires { d ≤ MAX_NUMBER }
     ensures { OnOk result (out.new ≡ out.old ++ relation_code (expr_of e.now) d) }
 {
     out.compare(relation_in(e), d, left_in(e, d), right_in(e, d))
@@ -46,7 +46,7 @@ fn relation(out: &mut Code, e: &Expr, d: u32) -> Result<(), AllocError>
 
 /// The word of an expression, after its front code.
 pub fn finish(out: &mut Code, e: &Expr, d: u32) -> Result<(), AllocError>
-    requires { d ≤ DEEPEST }
+    requires { d ≤ MAX_NUMBER }
     ensures { OnOk result (out.new ≡ out.old ++ finish (expr_of e.now) d) }
 {
     if is_relation(e) {
@@ -58,7 +58,7 @@ pub fn finish(out: &mut Code, e: &Expr, d: u32) -> Result<(), AllocError>
 
 /// Its truth, as 0 or 1.
 pub fn truth_finish(out: &mut Code, e: &Expr, d: u32) -> Result<(), AllocError>
-    requires { d ≤ DEEPEST }
+    requires { d ≤ MAX_NUMBER }
     ensures { OnOk result (out.new ≡ out.old ++ truth_finish (expr_of e.now) d) }
 {
     if is_truth(e) && !is_relation(e) {
@@ -159,7 +159,7 @@ pub fn operand_check(
 
 /// The absolute value of the number in d.
 fn absolute(out: &mut Code, d: u32, line: Line) -> Result<(), AllocError>
-    requires { d ≤ DEEPEST }
+    requires { d ≤ MAX_NUMBER }
     ensures { OnOk result (out.new ≡ out.old ++ function_code Abs d line.number) }
 {
     let t = even_above(d);
@@ -191,7 +191,7 @@ pub fn function(
     d: u32,
     line: Line,
 ) -> Result<(), AllocError>
-    requires { d ≤ DEEPEST }
+    requires { d ≤ MAX_NUMBER }
     ensures { OnOk result (out.new ≡ out.old ++ function_code function d line.number) }
 {
     match function {

@@ -13,7 +13,7 @@ ghost use Rattle.ps_tree.specs.View.{type_of, base_of, selector_of, selectors_of
 ghost use Rattle.tac_code.specs.declared.code.Instruction.TheVariants as i;
 
 use crate::calling::selectors_call;
-use crate::depth::kept;
+use crate::depth::{MAX_NUMBER, kept};
 use crate::level::Level;
 use crate::levels::{entry, frame};
 use crate::out::Code;
@@ -64,18 +64,19 @@ pub fn is_byte(place: &Place) -> bool
 /// An entry of the frame `up` levels out, whose parts are addressed from a base: a variable, or the address of one.
 fn reference(
     out: &mut Code,
-    k: &Level,
+    level: &Level,
     base: Base,
     t: u32,
     up: u32,
     index: u32,
 ) -> Result<Site, AllocError>
-    ensures code { OnOk result (base ≡ frame_base (scope_of k.now) t up → out.new ≡ out.old ++ reference_code
-        (scope_of k.now) (kind_at (scope_of k.now) up index) t up index) }
-    ensures site { IfOk result (λ s. base ≡ frame_base (scope_of k.now) t up → site_of s ≡ entry_site (scope_of k.now)
-        (kind_at (scope_of k.now) up index) t up index) }
+    ensures code { OnOk result (base ≡ frame_base (scope_of level.now) t up → out.new ≡ out.old ++ reference_code
+        (scope_of level.now) (kind_at (scope_of level.now) up index) t up index) }
+    ensures site { IfOk result
+        (λ s. base ≡ frame_base (scope_of level.now) t up → site_of s ≡ entry_site (scope_of level.now)
+        (kind_at (scope_of level.now) up index) t up index) }
 {
-    let spot = entry(k, up, index);
+    let spot = entry(level, up, index);
     if spot.reference {
         out.load(t, base, spot.offset)?;
         Ok(Site {
@@ -92,25 +93,25 @@ fn reference(
 
 /// Where a record is that `with` opened, if there is one with this number; the innermost is 0.
 #[tactic(auto, using(crate::proofs::Opening::turned, crate::proofs::Opening::not_opened))]
-fn opened(k: &Level, which: u32) -> Option<Site>
-    ensures { option_map site_of result ≡ slice_get (scope_of k.now).opened which }
+fn opened(level: &Level, which: u32) -> Option<Site>
+    ensures { option_map site_of result ≡ slice_get (scope_of level.now).opened which }
 {
-    let count = k.opened.len();
+    let count = level.opened.len();
     let further = which as usize;
     if count <= further {
         return None;
     }
-    Some(k.opened[count - 1 - further])
+    Some(level.opened[count - 1 - further])
 }
 
 /// A field of a record that `with` opened.
-fn field(k: &Level, field: &OpenedField) -> Site
-    requires { (field_site (scope_of k.now) (slice_get (scope_of k.now).opened field.now.which)
-        (field_offset (shape_of (type_of field.now.ty)) field.now.number)).offset ≤ 2147483647 }
-    ensures { site_of result ≡ field_site (scope_of k.now) (slice_get (scope_of k.now).opened field.now.which)
+fn field(level: &Level, field: &OpenedField) -> Site
+    requires { (field_site (scope_of level.now) (slice_get (scope_of level.now).opened field.now.which)
+        (field_offset (shape_of (type_of field.now.ty)) field.now.number)).offset ≤ MAX_NUMBER }
+    ensures { site_of result ≡ field_site (scope_of level.now) (slice_get (scope_of level.now).opened field.now.which)
         (field_offset (shape_of (type_of field.now.ty)) field.now.number) }
 {
-    let Some(record) = opened(k, field.which) else {
+    let Some(record) = opened(level, field.which) else {
         return Site {
             base: Base::Frame,
             offset: 0,
@@ -120,17 +121,17 @@ fn field(k: &Level, field: &OpenedField) -> Site
 }
 
 /// What a name denotes.
-pub fn name(out: &mut Code, k: &Level, name: &PlaceBase, t: u32) -> Result<Site, AllocError>
-    requires { name_reach (scope_of k.now) (base_of name.now) ≤ 2147483647 }
-    ensures code { OnOk result (out.new ≡ out.old ++ name_code (scope_of k.now) (base_of name.now) t) }
-    ensures site { IfOk result (λ s. site_of s ≡ name_site (scope_of k.now) (base_of name.now) t) }
+pub fn name(out: &mut Code, level: &Level, name: &PlaceBase, t: u32) -> Result<Site, AllocError>
+    requires { name_reach (scope_of level.now) (base_of name.now) ≤ MAX_NUMBER }
+    ensures code { OnOk result (out.new ≡ out.old ++ name_code (scope_of level.now) (base_of name.now) t) }
+    ensures site { IfOk result (λ s. site_of s ≡ name_site (scope_of level.now) (base_of name.now) t) }
 {
     match name {
         PlaceBase::Entry { up, index } => {
-            let base = frame(out, k, t, *up)?;
-            reference(out, k, base, t, *up, *index)
+            let base = frame(out, level, t, *up)?;
+            reference(out, level, base, t, *up, *index)
         }
-        PlaceBase::Opened(opened) => Ok(field(k, opened)),
+        PlaceBase::Opened(opened) => Ok(field(level, opened)),
     }
 }
 
@@ -154,7 +155,7 @@ pub fn indexed(
     index: u32,
     line: Line,
 ) -> Result<Site, AllocError>
-    requires { component_bytes (shape_of (type_of ty.now)) ≤ 2147483647 }
+    requires { component_bytes (shape_of (type_of ty.now)) ≤ MAX_NUMBER }
     ensures code { OnOk result (out.new ≡ out.old ++ index_code None (type_of ty.now)
         (site_of site) t index line.number []) }
     ensures site { IfOk result (λ s. site_of s ≡ element_site None (site_of site) t) }

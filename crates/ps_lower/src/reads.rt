@@ -13,7 +13,7 @@ ghost use Rattle.ps_tree.specs.View.{place_of, read_of};
 ghost use Rattle.tac_code.specs.declared.code.Base.TheVariants as base;
 ghost use Rattle.tac_code.specs.declared.code.Instruction.TheVariants as i;
 
-use crate::depth::{DEEPEST, beside, even_above, even_from, held};
+use crate::depth::{MAX_NUMBER, beside, even_above, even_from, held};
 use crate::helpers::help;
 use crate::input::input;
 use crate::known::has_bytes;
@@ -34,10 +34,10 @@ const READ_NUMBER: u32 = 15;
 const READ_LINE: u32 = 16;
 
 /// The address of the words that record what was taken ahead of the input.
-fn ahead(out: &mut Code, k: &Level, t: u32) -> Result<(), AllocError>
-    ensures { OnOk result (out.new ≡ out.old ++ site_code t (input_site (scope_of k.now)) 8) }
+fn ahead(out: &mut Code, level: &Level, t: u32) -> Result<(), AllocError>
+    ensures { OnOk result (out.new ≡ out.old ++ site_code t (input_site (scope_of level.now)) 8) }
 {
-    let site = input(k);
+    let site = input(level);
     address(out, t, site, 8)
 }
 
@@ -62,15 +62,15 @@ fn byte_fits(out: &mut Code, t: u32, low: &i32, high: &i32, line: Line) -> Resul
 /// A character from the input whose address is in a, or error 9.
 fn take_character(
     out: &mut Code,
-    k: &Level,
+    level: &Level,
     a: u32,
     low: &i32,
     high: &i32,
     line: Line,
 ) -> Result<(), AllocError>
-    ensures { OnOk result (out.new ≡ out.old ++ character_taken (scope_of k.now) low.now high.now line.number a) }
+    ensures { OnOk result (out.new ≡ out.old ++ character_taken (scope_of level.now) low.now high.now line.number a) }
 {
-    help(out, k, READ_CHARACTER, &[a], a)?;
+    help(out, level, READ_CHARACTER, &[a], a)?;
     out.check_range(a, 0, i32::MAX, 9, line)?;
     byte_fits(out, a, low, high, line)
 }
@@ -88,18 +88,18 @@ fn check_number(out: &mut Code, a: u32, line: Line) -> Result<(), AllocError>
 /// A number from the input whose address is in a.
 fn take_number(
     out: &mut Code,
-    k: &Level,
+    level: &Level,
     a: u32,
     low: &i32,
     high: &i32,
     line: Line,
 ) -> Result<(), AllocError>
     requires { a ≤ 4294960000 }
-    ensures { OnOk result (out.new ≡ out.old ++ number_taken (scope_of k.now) low.now high.now line.number a) }
+    ensures { OnOk result (out.new ≡ out.old ++ number_taken (scope_of level.now) low.now high.now line.number a) }
 {
     let into = beside(a);
     out.offset(into, Base::Scratch, 0, 4)?;
-    help(out, k, READ_NUMBER, &[a, into], a)?;
+    help(out, level, READ_NUMBER, &[a, into], a)?;
     check_number(out, a, line)?;
     out.load(a, Base::Scratch, 0)?;
     fits(out, a, low, high, line)
@@ -107,52 +107,52 @@ fn take_number(
 
 fn read_character(
     out: &mut Code,
-    k: &Level,
+    level: &Level,
     target: &Place,
     low: &i32,
     high: &i32,
     line: Line,
     d: u32,
 ) -> Result<(), AllocError>
-    requires { d + read_weight (scope_of k.now)
-        (tree.ReadChar (place_of target.now) low.now high.now line.number) ≤ DEEPEST }
-    ensures { OnOk result (out.new ≡ out.old ++ read_code (scope_of k.now)
+    requires { d + read_weight (scope_of level.now)
+        (tree.ReadChar (place_of target.now) low.now high.now line.number) ≤ MAX_NUMBER }
+    ensures { OnOk result (out.new ≡ out.old ++ read_code (scope_of level.now)
         (tree.ReadChar (place_of target.now) low.now high.now line.number) d) }
 {
     let t = held(true, d);
     let a = even_above(t);
-    let site = place(out, k, target, t, 0)?;
-    ahead(out, k, a)?;
-    take_character(out, k, a, low, high, line)?;
+    let site = place(out, level, target, t, 0)?;
+    ahead(out, level, a)?;
+    take_character(out, level, a, low, high, line)?;
     keep(out, is_byte(target), site, a)
 }
 
 fn read_number(
     out: &mut Code,
-    k: &Level,
+    level: &Level,
     target: &Place,
     low: &i32,
     high: &i32,
     line: Line,
     d: u32,
 ) -> Result<(), AllocError>
-    requires { d + read_weight (scope_of k.now)
-        (tree.ReadInteger (place_of target.now) low.now high.now line.number) ≤ DEEPEST }
-    ensures { OnOk result (out.new ≡ out.old ++ read_code (scope_of k.now)
+    requires { d + read_weight (scope_of level.now)
+        (tree.ReadInteger (place_of target.now) low.now high.now line.number) ≤ MAX_NUMBER }
+    ensures { OnOk result (out.new ≡ out.old ++ read_code (scope_of level.now)
         (tree.ReadInteger (place_of target.now) low.now high.now line.number) d) }
 {
     let t = held(true, d);
     let a = even_above(t);
-    let site = place(out, k, target, t, 0)?;
-    ahead(out, k, a)?;
-    take_number(out, k, a, low, high, line)?;
+    let site = place(out, level, target, t, 0)?;
+    ahead(out, level, a)?;
+    take_number(out, level, a, low, high, line)?;
     keep(out, is_byte(target), site, a)
 }
 
 #[tactic(auto, unfolding(ps_tree::specs::View::read_of))]
-fn read(out: &mut Code, k: &Level, variable: &ReadVariable, d: u32) -> Result<(), AllocError>
-    requires { d + read_weight (scope_of k.now) (read_of variable.now) ≤ DEEPEST }
-    ensures { OnOk result (out.new ≡ out.old ++ read_code (scope_of k.now) (read_of variable.now) d) }
+fn read(out: &mut Code, level: &Level, variable: &ReadVariable, d: u32) -> Result<(), AllocError>
+    requires { d + read_weight (scope_of level.now) (read_of variable.now) ≤ MAX_NUMBER }
+    ensures { OnOk result (out.new ≡ out.old ++ read_code (scope_of level.now) (read_of variable.now) d) }
 {
     match variable {
         ReadVariable::Char {
@@ -160,54 +160,54 @@ fn read(out: &mut Code, k: &Level, variable: &ReadVariable, d: u32) -> Result<()
             low,
             high,
             line,
-        } => read_character(out, k, place, low, high, *line, d),
+        } => read_character(out, level, place, low, high, *line, d),
         ReadVariable::Integer {
             place,
             low,
             high,
             line,
-        } => read_number(out, k, place, low, high, *line, d),
+        } => read_number(out, level, place, low, high, *line, d),
     }
 }
 
 /// The variables of read or readln, one after another.
 pub fn reads(
     out: &mut Code,
-    k: &Level,
+    level: &Level,
     variables: &[ReadVariable],
     d: u32,
 ) -> Result<(), AllocError>
-    requires { d + reads_weight (scope_of k.now) (map read_of variables.now) ≤ DEEPEST }
-    ensures { OnOk result (out.new ≡ out.old ++ reads_code (scope_of k.now) (map read_of variables.now) d) }
+    requires { d + reads_weight (scope_of level.now) (map read_of variables.now) ≤ MAX_NUMBER }
+    ensures { OnOk result (out.new ≡ out.old ++ reads_code (scope_of level.now) (map read_of variables.now) d) }
 {
     for variable in variables {
-        read(out, k, variable, d)?;
+        read(out, level, variable, d)?;
     }
     Ok(())
 }
 
 /// The rest of the line, or error 9 at the end of the input.
-fn take_line(out: &mut Code, k: &Level, a: u32, line: Line) -> Result<(), AllocError>
-    ensures { OnOk result (out.new ≡ out.old ++ line_taken (scope_of k.now) line.number a) }
+fn take_line(out: &mut Code, level: &Level, a: u32, line: Line) -> Result<(), AllocError>
+    ensures { OnOk result (out.new ≡ out.old ++ line_taken (scope_of level.now) line.number a) }
 {
-    help(out, k, READ_LINE, &[a], a)?;
+    help(out, level, READ_LINE, &[a], a)?;
     out.check_range(a, 0, 0, 9, line)
 }
 
 /// The variables of readln, and the rest of the line.
 pub fn readln(
     out: &mut Code,
-    k: &Level,
+    level: &Level,
     variables: &[ReadVariable],
     line: Line,
     d: u32,
 ) -> Result<(), AllocError>
-    requires { d + reads_weight (scope_of k.now) (map read_of variables.now) ≤ DEEPEST }
-    ensures { OnOk result (out.new ≡ out.old ++ statement_code (scope_of k.now)
+    requires { d + reads_weight (scope_of level.now) (map read_of variables.now) ≤ MAX_NUMBER }
+    ensures { OnOk result (out.new ≡ out.old ++ statement_code (scope_of level.now)
         (tree.Readln (map read_of variables.now) line.number) d) }
 {
     let a = even_from(d);
-    reads(out, k, variables, d)?;
-    ahead(out, k, a)?;
-    take_line(out, k, a, line)
+    reads(out, level, variables, d)?;
+    ahead(out, level, a)?;
+    take_line(out, level, a, line)
 }

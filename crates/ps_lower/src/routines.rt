@@ -14,7 +14,7 @@ ghost use Rattle.ps_tree.specs.Checked.{program_in};
 ghost use Rattle.ps_tree.specs.View.{type_of, routine_of};
 
 use crate::count::{scratch_in, temporaries_in};
-use crate::depth::DEEPEST;
+use crate::depth::MAX_NUMBER;
 use crate::firsts::{first_at, firsts};
 use crate::frames::{Frames, table};
 use crate::level::Level;
@@ -80,9 +80,9 @@ fn frame_bytes(routine: &Routine, words: u32) -> u32
 
 /// How many temporaries the parameters of a routine come in.
 fn parameter_total(routine: &Routine) -> u32
-    requires { begin_weight (routine_of routine.now) ≤ DEEPEST }
+    requires { begin_weight (routine_of routine.now) ≤ MAX_NUMBER }
     ensures exact { result ≡ parameter_total (routine_of routine.now) }
-    ensures small { result ≤ DEEPEST }
+    ensures small { result ≤ MAX_NUMBER }
 {
     if is_program_block(routine) {
         return 0;
@@ -118,36 +118,42 @@ fn head(out: &mut Code, routine: &Routine, words: u32, t: u32) -> Result<(), All
 /// The first value of a result, and the word after it.
 fn first_result(
     out: &mut Code,
-    k: &Level,
+    level: &Level,
     result_type: &Option<Ty>,
     t: u32,
 ) -> Result<u32, AllocError>
-    requires depth { t ≤ DEEPEST }
-    requires reach { result_weight (option_map type_of result_type.now) ≤ DEEPEST }
-    requires words { 4 * (1 + words_of_all (result_kinds (option_map type_of result_type.now))) ≤ DEEPEST }
-    ensures code { OnOk result (out.new ≡ out.old ++ result_at (scope_of k.now)
+    requires depth { t ≤ MAX_NUMBER }
+    requires reach { result_weight (option_map type_of result_type.now) ≤ MAX_NUMBER }
+    requires words { 4 * (1 + words_of_all (result_kinds (option_map type_of result_type.now))) ≤ MAX_NUMBER }
+    ensures code { OnOk result (out.new ≡ out.old ++ result_at (scope_of level.now)
         (option_map type_of result_type.now) t 1) }
     ensures next { IfOk result (λ next. next ≡ 1 + words_of_all (result_kinds (option_map type_of result_type.now))) }
 {
     match result_type {
         None => Ok(1),
-        Some(ty) => first_at(out, k, ty, t, 1),
+        Some(ty) => first_at(out, level, ty, t, 1),
     }
 }
 
 /// What a routine does before its statements.
-fn begin(out: &mut Code, k: &Level, routine: &Routine, words: u32, t: u32) -> Result<(), AllocError>
+fn begin(
+    out: &mut Code,
+    level: &Level,
+    routine: &Routine,
+    words: u32,
+    t: u32,
+) -> Result<(), AllocError>
     requires small { words ≤ MOST_WORDS }
     requires exact { words ≡ words_in (routine_of routine.now) }
-    requires free { t ≤ DEEPEST }
+    requires free { t ≤ MAX_NUMBER }
     requires total { t ≡ parameter_total (routine_of routine.now) }
-    requires light { begin_weight (routine_of routine.now) ≤ DEEPEST }
-    ensures { OnOk result (out.new ≡ out.old ++ begin_code (scope_of k.now) (routine_of routine.now)) }
+    requires light { begin_weight (routine_of routine.now) ≤ MAX_NUMBER }
+    ensures { OnOk result (out.new ≡ out.old ++ begin_code (scope_of level.now) (routine_of routine.now)) }
 {
     head(out, routine, words, t)?;
-    let place = first_result(out, k, &routine.result, t)?;
-    let place = parameters(out, k, routine.formals.as_slice(), place, t)?;
-    firsts(out, k, routine.variables.as_slice(), t, place)
+    let place = first_result(out, level, &routine.result, t)?;
+    let place = parameters(out, level, routine.formals.as_slice(), place, t)?;
+    firsts(out, level, routine.variables.as_slice(), t, place)
 }
 
 /// The return of a function's result, which is the first entry, or of 0.
@@ -179,22 +185,22 @@ fn finish(out: &mut Code, routine: &Routine) -> Result<(), AllocError>
 /// The code of a routine.
 fn block(
     out: &mut Code,
-    k: &Level,
+    level: &Level,
     routine: &Routine,
     words: u32,
     t: u32,
 ) -> Result<(), LowerRefusal>
     requires small { words ≤ MOST_WORDS }
     requires exact { words ≡ words_in (routine_of routine.now) }
-    requires free { t ≤ DEEPEST }
+    requires free { t ≤ MAX_NUMBER }
     requires total { t ≡ parameter_total (routine_of routine.now) }
-    requires light { begin_weight (routine_of routine.now) ≤ DEEPEST }
-    requires body { statements_weight (scope_of k.now) (routine_of routine.now).body 0 ≤ DEEPEST }
-    ensures { Adds result out.old out.new (begin_code (scope_of k.now) (routine_of routine.now) ++ statements_code
-        (scope_of k.now) (routine_of routine.now).body 0 ++ end_code (routine_of routine.now)) }
+    requires light { begin_weight (routine_of routine.now) ≤ MAX_NUMBER }
+    requires body { statements_weight (scope_of level.now) (routine_of routine.now).body 0 ≤ MAX_NUMBER }
+    ensures { Adds result out.old out.new (begin_code (scope_of level.now) (routine_of routine.now) ++ statements_code
+        (scope_of level.now) (routine_of routine.now).body 0 ++ end_code (routine_of routine.now)) }
 {
-    begin(out, k, routine, words, t)?;
-    statements(out, k, routine.body.as_slice(), 0)?;
+    begin(out, level, routine, words, t)?;
+    statements(out, level, routine.body.as_slice(), 0)?;
     lifted(finish(out, routine))
 }
 
@@ -211,11 +217,11 @@ fn body_within(
 ) -> Result<Option<Body>, LowerRefusal>
     requires small { words ≤ MOST_WORDS }
     requires exact { words ≡ words_in (routine_of routine.now) }
-    requires free { t ≤ DEEPEST }
+    requires free { t ≤ MAX_NUMBER }
     requires total { t ≡ parameter_total (routine_of routine.now) }
-    requires light { begin_weight (routine_of routine.now) ≤ DEEPEST }
+    requires light { begin_weight (routine_of routine.now) ≤ MAX_NUMBER }
     requires body { statements_weight (scope_in (program_in checked.now) (routine_of routine.now))
-        (routine_of routine.now).body 0 ≤ DEEPEST }
+        (routine_of routine.now).body 0 ≤ MAX_NUMBER }
     ensures { MatchResult result (λ made. IfSome made (λ body. body ≡ routine_code (program_in checked.now)
         (routine_of routine.now))) (λ refusal. IsRefused refusal (length (routine_code (program_in checked.now)
         (routine_of routine.now)))) }
@@ -245,11 +251,11 @@ fn body(
 ) -> Result<Body, LowerRefusal>
     requires small { words ≤ MOST_WORDS }
     requires exact { words ≡ words_in (routine_of routine.now) }
-    requires free { t ≤ DEEPEST }
+    requires free { t ≤ MAX_NUMBER }
     requires total { t ≡ parameter_total (routine_of routine.now) }
-    requires light { begin_weight (routine_of routine.now) ≤ DEEPEST }
+    requires light { begin_weight (routine_of routine.now) ≤ MAX_NUMBER }
     requires body { statements_weight (scope_in (program_in checked.now) (routine_of routine.now))
-        (routine_of routine.now).body 0 ≤ DEEPEST }
+        (routine_of routine.now).body 0 ≤ MAX_NUMBER }
     ensures { MatchResult result (λ body. body ≡ routine_code (program_in checked.now) (routine_of routine.now))
         (λ refusal. IsRefused refusal (length (routine_code (program_in checked.now) (routine_of routine.now)))) }
 {

@@ -14,7 +14,7 @@ ghost use Rattle.tac_code.specs.declared.code.Instruction.TheVariants as i;
 ghost use Rattle.tac_code.specs.declared.code.Operand.TheVariants as operand;
 ghost use Rattle.tac_code.specs.declared.code.Relation.TheVariants.{Equal};
 
-use crate::depth::{DEEPEST, beside, even_above, even_from, next};
+use crate::depth::{MAX_NUMBER, beside, even_above, even_from, next};
 use crate::helpers::help;
 use crate::level::Level;
 use crate::out::Code;
@@ -38,7 +38,7 @@ const IS_INCLUDED: u32 = 5;
 
 /// What comes after the set from x on.
 pub fn above(x: u32) -> u32
-    requires { x ≤ DEEPEST }
+    requires { x ≤ MAX_NUMBER }
     ensures { result ≡ x + 32 }
 {
     x + 32
@@ -46,7 +46,7 @@ pub fn above(x: u32) -> u32
 
 /// No members in the set from x on.
 pub fn clear(out: &mut Code, t: u32, x: u32) -> Result<(), AllocError>
-    requires { x ≤ DEEPEST }
+    requires { x ≤ MAX_NUMBER }
     ensures { OnOk result (out.new ≡ out.old ++ cleared_code t x) }
 {
     out.literal(t, 0)?;
@@ -65,8 +65,8 @@ fn copy_words(
     start: u32,
     spare: u32,
 ) -> Result<(), AllocError>
-    requires to { offset ≤ DEEPEST }
-    requires from { start ≤ DEEPEST }
+    requires to { offset ≤ MAX_NUMBER }
+    requires from { start ≤ MAX_NUMBER }
     ensures { OnOk result (out.new ≡ out.old ++ words_code to offset from start spare 8) }
 {
     for word in 0..8 {
@@ -78,8 +78,8 @@ fn copy_words(
 
 /// The words of a set at a site, as the set from x on.
 pub fn copied_set(out: &mut Code, site: Site, d: u32, x: u32) -> Result<(), AllocError>
-    requires depth { d ≤ DEEPEST }
-    requires place { x ≤ DEEPEST }
+    requires depth { d ≤ MAX_NUMBER }
+    requires place { x ≤ MAX_NUMBER }
     ensures { OnOk result (out.new ≡ out.old ++ copied_code (site_of site) (even_from (suc d)) x) }
 {
     let from = even_above(d);
@@ -96,7 +96,7 @@ pub fn copied_set(out: &mut Code, site: Site, d: u32, x: u32) -> Result<(), Allo
 
 /// The addresses of the set from x on and of the one after it.
 fn offsets(out: &mut Code, first: u32, second: u32, x: u32) -> Result<(), AllocError>
-    requires { x ≤ DEEPEST }
+    requires { x ≤ MAX_NUMBER }
     ensures { OnOk result (out.new ≡ out.old ++ offsets_code first second x) }
 {
     let behind = above(x);
@@ -117,17 +117,17 @@ fn set_routine(operator: SetOperator) -> u32
 /// An operator on the set from x on and the one whose address is in the temporary beside t.
 pub fn combined(
     out: &mut Code,
-    k: &Level,
+    level: &Level,
     operator: SetOperator,
     t: u32,
     x: u32,
 ) -> Result<(), AllocError>
     requires { t ≤ 4294960000 }
-    ensures { OnOk result (out.new ≡ out.old ++ joining_code (scope_of k.now) operator t x) }
+    ensures { OnOk result (out.new ≡ out.old ++ joining_code (scope_of level.now) operator t x) }
 {
     let second = beside(t);
     out.offset(t, Base::Scratch, x, 32)?;
-    help(out, k, set_routine(operator), &[t, second], t)
+    help(out, level, set_routine(operator), &[t, second], t)
 }
 
 fn is_union(operator: SetOperator) -> bool
@@ -153,80 +153,86 @@ pub fn adds(operator: SetOperator, e: &SetExpr) -> bool
 /// Whether the set from x on is included in the one after it.
 fn included(
     out: &mut Code,
-    k: &Level,
+    level: &Level,
     first: u32,
     second: u32,
     to: u32,
     x: u32,
 ) -> Result<(), AllocError>
-    requires { x ≤ DEEPEST }
-    ensures { OnOk result (out.new ≡ out.old ++ included_code (scope_of k.now) first second to x) }
+    requires { x ≤ MAX_NUMBER }
+    ensures { OnOk result (out.new ≡ out.old ++ included_code (scope_of level.now) first second to x) }
 {
     offsets(out, first, second, x)?;
-    help(out, k, IS_INCLUDED, &[first, second], to)
+    help(out, level, IS_INCLUDED, &[first, second], to)
 }
 
 /// Whether the set after the one from x on is included in it.
-fn includes(out: &mut Code, k: &Level, t: u32, x: u32) -> Result<(), AllocError>
+fn includes(out: &mut Code, level: &Level, t: u32, x: u32) -> Result<(), AllocError>
     requires depth { t ≤ 4294960000 }
-    requires place { x ≤ DEEPEST }
-    ensures { OnOk result (out.new ≡ out.old ++ includes_code (scope_of k.now) t x) }
+    requires place { x ≤ MAX_NUMBER }
+    ensures { OnOk result (out.new ≡ out.old ++ includes_code (scope_of level.now) t x) }
 {
     let second = beside(t);
     offsets(out, t, second, x)?;
-    help(out, k, IS_INCLUDED, &[second, t], t)
+    help(out, level, IS_INCLUDED, &[second, t], t)
 }
 
 /// Whether the set from x on equals the one after it.
-fn same_sets(out: &mut Code, k: &Level, t: u32, x: u32) -> Result<(), AllocError>
+fn same_sets(out: &mut Code, level: &Level, t: u32, x: u32) -> Result<(), AllocError>
     requires depth { t ≤ 4294960000 }
-    requires place { x ≤ DEEPEST }
-    ensures { OnOk result (out.new ≡ out.old ++ same_sets_code (scope_of k.now) t x) }
+    requires place { x ≤ MAX_NUMBER }
+    ensures { OnOk result (out.new ≡ out.old ++ same_sets_code (scope_of level.now) t x) }
 {
     let both = next(t);
-    included(out, k, t, beside(t), both, x)?;
-    includes(out, k, t, x)?;
+    included(out, level, t, beside(t), both, x)?;
+    includes(out, level, t, x)?;
     out.bits(BitOperator::And, t, t, Operand::Temporary(both))
 }
 
-fn other_sets(out: &mut Code, k: &Level, t: u32, x: u32) -> Result<(), AllocError>
+fn other_sets(out: &mut Code, level: &Level, t: u32, x: u32) -> Result<(), AllocError>
     requires depth { t ≤ 4294960000 }
-    requires place { x ≤ DEEPEST }
-    ensures { OnOk result (out.new ≡ out.old ++ (same_sets_code (scope_of k.now) t x ++ i.Compare Equal t t
+    requires place { x ≤ MAX_NUMBER }
+    ensures { OnOk result (out.new ≡ out.old ++ (same_sets_code (scope_of level.now) t x ++ i.Compare Equal t t
         (operand.Number (pos 0)) ∷ [])) }
 {
-    same_sets(out, k, t, x)?;
+    same_sets(out, level, t, x)?;
     out.compare(Relation::Equal, t, t, Operand::Number(0))
 }
 
 /// The truth of a relation between the set from x on and the one after it.
-fn truth(out: &mut Code, k: &Level, relation: SetRelation, t: u32, x: u32) -> Result<(), AllocError>
+fn truth(
+    out: &mut Code,
+    level: &Level,
+    relation: SetRelation,
+    t: u32,
+    x: u32,
+) -> Result<(), AllocError>
     requires depth { t ≤ 4294960000 }
-    requires place { x ≤ DEEPEST }
-    ensures { OnOk result (out.new ≡ out.old ++ sets_code (scope_of k.now) relation t x) }
+    requires place { x ≤ MAX_NUMBER }
+    ensures { OnOk result (out.new ≡ out.old ++ sets_code (scope_of level.now) relation t x) }
 {
     match relation {
-        SetRelation::Included => included(out, k, t, beside(t), t, x),
-        SetRelation::Includes => includes(out, k, t, x),
-        SetRelation::Same => same_sets(out, k, t, x),
-        SetRelation::Other => other_sets(out, k, t, x),
+        SetRelation::Included => included(out, level, t, beside(t), t, x),
+        SetRelation::Includes => includes(out, level, t, x),
+        SetRelation::Same => same_sets(out, level, t, x),
+        SetRelation::Other => other_sets(out, level, t, x),
     }
 }
 
 /// The same, moved to where it is wanted.
 pub fn compare_sets(
     out: &mut Code,
-    k: &Level,
+    level: &Level,
     relation: SetRelation,
     t: u32,
     x: u32,
     d: u32,
 ) -> Result<(), AllocError>
     requires depth { t ≤ 4294960000 }
-    requires place { x ≤ DEEPEST }
-    ensures { OnOk result (out.new ≡ out.old ++ (sets_code (scope_of k.now) relation t x ++ moved t d)) }
+    requires place { x ≤ MAX_NUMBER }
+    ensures { OnOk result (out.new ≡ out.old ++ (sets_code (scope_of level.now) relation t x ++ moved t d)) }
 {
-    truth(out, k, relation, t, x)?;
+    truth(out, level, relation, t, x)?;
     moved(out, t, d)
 }
 
@@ -289,32 +295,33 @@ pub fn is_member(out: &mut Code, member: u32, set: u32, to: u32) -> Result<(), A
 /// Adds the members from what `first` holds to what `last` holds to a set.
 fn add_range(
     out: &mut Code,
-    k: &Level,
+    level: &Level,
     set: u32,
     first: u32,
     last: u32,
     to: u32,
 ) -> Result<(), AllocError>
-    ensures { OnOk result (out.new ≡ out.old ++ helper (scope_of k.now) AddRange (set ∷ first ∷ last ∷ []) to ∷ []) }
+    ensures { OnOk result (out.new ≡ out.old
+        ++ helper (scope_of level.now) AddRange (set ∷ first ∷ last ∷ []) to ∷ []) }
 {
-    help(out, k, ADD_RANGE, &[set, first, last], to)
+    help(out, level, ADD_RANGE, &[set, first, last], to)
 }
 
 /// Adds a member to the set from x on.
 pub fn add_member(
     out: &mut Code,
-    k: &Level,
+    level: &Level,
     member: u32,
     x: u32,
     line: Line,
 ) -> Result<(), AllocError>
     requires { member ≤ 4294960000 }
-    ensures { OnOk result (out.new ≡ out.old ++ one_member (scope_of k.now) member x line.number) }
+    ensures { OnOk result (out.new ≡ out.old ++ one_member (scope_of level.now) member x line.number) }
 {
     let set = beside(member);
     out.check_range(member, 0, 255, 8, line)?;
     out.offset(set, Base::Scratch, x, 32)?;
-    add_range(out, k, set, member, member, member)
+    add_range(out, level, set, member, member, member)
 }
 
 /// A word in which only the bit of a member is set.
@@ -327,7 +334,7 @@ fn bit(number: u32) -> u32
 /// Adds a known member to the set from x on.
 pub fn add_bit(out: &mut Code, number: u32, t: u32, x: u32) -> Result<(), AllocError>
     requires number { number ≤ 255 }
-    requires place { x ≤ DEEPEST }
+    requires place { x ≤ MAX_NUMBER }
     ensures { OnOk result (out.new ≡ out.old ++ bit_code number t x) }
 {
     let offset = x + 4 * (number / 32);
@@ -344,21 +351,21 @@ pub fn add_bit(out: &mut Code, number: u32, t: u32, x: u32) -> Result<(), AllocE
 /// The members from a first to a last go into the set from x on.
 pub fn add_members(
     out: &mut Code,
-    k: &Level,
+    level: &Level,
     first: u32,
     last: u32,
     x: u32,
     line: Line,
 ) -> Result<(), AllocError>
     requires { last ≤ 4294960000 }
-    ensures { OnOk result (out.new ≡ out.old ++ range_members (scope_of k.now) first last x line.number) }
+    ensures { OnOk result (out.new ≡ out.old ++ range_members (scope_of level.now) first last x line.number) }
 {
     let set = beside(last);
     out.branch(Relation::Less, last, Operand::Temporary(first), 4)?;
     out.check_range(first, 0, 255, 8, line)?;
     out.check_range(last, 0, 255, 8, line)?;
     out.offset(set, Base::Scratch, x, 32)?;
-    add_range(out, k, set, first, last, set)
+    add_range(out, level, set, first, last, set)
 }
 
 /// Whether every member that a set can have is within the bounds of a base.
@@ -431,7 +438,7 @@ fn joined_word(out: &mut Code, t: u32, x: u32, mask: u32) -> Result<(), AllocErr
 /// What the set from x on holds outside the bounds of a base.
 fn outside(out: &mut Code, low: &i32, high: &i32, t: u32, x: u32) -> Result<(), AllocError>
     requires depth { t ≤ 4294960000 }
-    requires place { x ≤ DEEPEST }
+    requires place { x ≤ MAX_NUMBER }
     ensures { OnOk result (out.new ≡ out.old ++ outside_code low.now high.now t x 8) }
 {
     for word in 0..8 {
@@ -450,7 +457,7 @@ pub fn check_set(
     line: Line,
 ) -> Result<(), AllocError>
     requires depth { t ≤ 4294960000 }
-    requires place { x ≤ DEEPEST }
+    requires place { x ≤ MAX_NUMBER }
     ensures { OnOk result (out.new ≡ out.old ++ set_check t x low.now high.now line.number) }
 {
     if holds_all(low, high) {
@@ -472,7 +479,7 @@ pub fn hand_set(
     line: Line,
 ) -> Result<(), AllocError>
     requires depth { t ≤ 4294950000 }
-    requires place { x ≤ DEEPEST }
+    requires place { x ≤ MAX_NUMBER }
     ensures { OnOk result (out.new ≡ out.old ++ (set_check (even_from t) x low.now high.now line.number
         ++ i.Offset t base.Scratch x 32 ∷ [])) }
 {

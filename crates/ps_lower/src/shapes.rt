@@ -8,13 +8,14 @@ ghost use Rattle.ps_lower_bounds.specs.Weights.{steps_reach};
 ghost use Rattle.ps_tree.specs.Sizes.{fits_byte};
 ghost use Rattle.ps_tree.specs.View.{type_of, expr_of};
 
+use crate::depth::MAX_NUMBER;
 use crate::known::{is_between, literal};
 use ps_tree::tree::Expr;
 use ps_tree::types::{Host, Ordinal, Ty};
 
 /// The bytes of a variable.
 pub fn byte_count(ty: &Ty) -> u32
-    requires { byte_count (shape_of (type_of ty.now)) ≤ 2147483647 }
+    requires { byte_count (shape_of (type_of ty.now)) ≤ MAX_NUMBER }
     ensures { result ≡ byte_count (shape_of (type_of ty.now)) }
 {
     ty.bytes()
@@ -50,7 +51,7 @@ pub fn is_byte_array(ty: &Ty) -> bool
 /// The bytes that each component of an array takes.
 #[tactic(auto, unfolding(ps_tree::specs::TypeView::type_of))]
 pub fn component_bytes(ty: &Ty) -> u32
-    requires { component_bytes (shape_of (type_of ty.now)) ≤ 2147483647 }
+    requires { component_bytes (shape_of (type_of ty.now)) ≤ MAX_NUMBER }
     ensures { result ≡ component_bytes (shape_of (type_of ty.now)) }
 {
     match ty {
@@ -88,8 +89,8 @@ pub fn index_of(ty: &Ty) -> Ordinal
 
 /// The bytes before a component whose index is known and in its range.
 fn steps_before(ty: &Ty, index: i32) -> Option<u32>
-    requires width { component_bytes (shape_of (type_of ty.now)) ≤ 2147483647 }
-    requires reach { steps_reach (steps_before (type_of ty.now) index) ≤ 2147483647 }
+    requires width { component_bytes (shape_of (type_of ty.now)) ≤ MAX_NUMBER }
+    requires reach { steps_reach (steps_before (type_of ty.now) index) ≤ MAX_NUMBER }
     ensures { result ≡ steps_before (type_of ty.now) index }
 {
     let range = index_of(ty);
@@ -101,8 +102,8 @@ fn steps_before(ty: &Ty, index: i32) -> Option<u32>
 
 /// The same for an index that may not be known.
 pub fn known_steps(ty: &Ty, index: &Expr) -> Option<u32>
-    requires width { component_bytes (shape_of (type_of ty.now)) ≤ 2147483647 }
-    requires reach { steps_reach (known_steps (type_of ty.now) (literal_of (expr_of index.now))) ≤ 2147483647 }
+    requires width { component_bytes (shape_of (type_of ty.now)) ≤ MAX_NUMBER }
+    requires reach { steps_reach (known_steps (type_of ty.now) (literal_of (expr_of index.now))) ≤ MAX_NUMBER }
     ensures { result ≡ known_steps (type_of ty.now) (literal_of (expr_of index.now)) }
 {
     match literal(index) {
@@ -114,7 +115,7 @@ pub fn known_steps(ty: &Ty, index: &Expr) -> Option<u32>
 /// Where a field of a record begins, in bytes.
 #[tactic(auto, using(crate::proofs::Shaped::offset_told), unfolding(ps_tree::specs::TypeView::type_of))]
 pub fn field_offset(ty: &Ty, number: u32) -> u32
-    requires { field_offset (shape_of (type_of ty.now)) number ≤ 2147483647 }
+    requires { field_offset (shape_of (type_of ty.now)) number ≤ MAX_NUMBER }
     ensures { result ≡ field_offset (shape_of (type_of ty.now)) number }
 {
     match ty {

@@ -11,16 +11,16 @@ ghost use Rattle.ps_tree.specs.View.{expr_of, place_of, statement_of, statements
 ghost use Rattle.ps_tree.specs.declared.tree.CaseElement.{out-CaseElement};
 ghost use Rattle.tac_code.specs.declared.code.Instruction.TheVariants as i;
 
-use crate::assign::{assign, assign_set, assign_structure};
+use crate::assign::{Members, assign, assign_set, assign_structure};
 use crate::calling::{statement_calls, with_calls};
 use crate::cases::{close_elements, close_tests, tests};
-use crate::depth::DEEPEST;
+use crate::depth::MAX_NUMBER;
 use crate::known::{left_in, opposite, relation_in, right_in};
 use crate::level::Level;
 use crate::objects::create;
 use crate::openings::open_all;
 use crate::out::Code;
-use crate::packing::{pack, unpack};
+use crate::packing::{Array, pack, unpack};
 use crate::procedures::{call_formal_procedure, call_procedure};
 use crate::reads::{readln, reads};
 use crate::refusal::{LowerRefusal, lifted, limited};
@@ -32,12 +32,17 @@ use ps_tree::tree::{CaseElement, Expr, Place, Statement};
 
 /// The code of a statement, marked as that of the next one in the text, and refused where there is too much code then.
 #[cycle(statements)]
-pub fn statement(out: &mut Code, k: &Level, action: &Statement, d: u32) -> Result<(), LowerRefusal>
-    requires { d + statement_weight (scope_of k.now) (statement_of action.now) d ≤ DEEPEST }
-    ensures { Adds result out.old out.new (statement_code (scope_of k.now) (statement_of action.now) d) }
+pub fn statement(
+    out: &mut Code,
+    level: &Level,
+    action: &Statement,
+    d: u32,
+) -> Result<(), LowerRefusal>
+    requires { d + statement_weight (scope_of level.now) (statement_of action.now) d ≤ MAX_NUMBER }
+    ensures { Adds result out.old out.new (statement_code (scope_of level.now) (statement_of action.now) d) }
 {
     let outer = out.begin_statement();
-    act(out, k, action, d)?;
+    act(out, level, action, d)?;
     out.end_statement(outer);
     limited(out)
 }
@@ -45,9 +50,9 @@ pub fn statement(out: &mut Code, k: &Level, action: &Statement, d: u32) -> Resul
 /// The code of a statement, by its form.
 #[cycle(statements)]
 #[tactic(auto, unfolding(ps_tree::specs::View::statement_of))]
-fn act(out: &mut Code, k: &Level, action: &Statement, d: u32) -> Result<(), LowerRefusal>
-    requires { d + statement_weight (scope_of k.now) (statement_of action.now) d ≤ DEEPEST }
-    ensures { Adds result out.old out.new (statement_code (scope_of k.now) (statement_of action.now) d) }
+fn act(out: &mut Code, level: &Level, action: &Statement, d: u32) -> Result<(), LowerRefusal>
+    requires { d + statement_weight (scope_of level.now) (statement_of action.now) d ≤ MAX_NUMBER }
+    ensures { Adds result out.old out.new (statement_code (scope_of level.now) (statement_of action.now) d) }
 {
     match action {
         Statement::Empty => Ok(()),
@@ -56,16 +61,16 @@ fn act(out: &mut Code, k: &Level, action: &Statement, d: u32) -> Result<(), Lowe
             range,
             value,
             line,
-        } => lifted(assign(out, k, target, *range, value, *line, d)),
-        Statement::Compound(body) => statements(out, k, body, d),
-        Statement::If { condition, body } => act_if(out, k, body, condition, d),
+        } => lifted(assign(out, level, target, *range, value, *line, d)),
+        Statement::Compound(body) => statements(out, level, body, d),
+        Statement::If { condition, body } => act_if(out, level, body, condition, d),
         Statement::IfElse {
             condition,
             body,
             otherwise,
         } => {
-            let end = then_part(out, k, body, condition, d)?;
-            statement(out, k, otherwise, d)?;
+            let end = then_part(out, level, body, condition, d)?;
+            statement(out, level, otherwise, d)?;
             out.set_jump(end);
             Ok(())
         }
@@ -73,9 +78,9 @@ fn act(out: &mut Code, k: &Level, action: &Statement, d: u32) -> Result<(), Lowe
             index,
             elements,
             line,
-        } => act_case(out, k, elements, index, *line, d),
-        Statement::While { condition, body } => act_while(out, k, body, condition, d),
-        Statement::Repeat { body, condition } => act_repeat(out, k, body, condition, d),
+        } => act_case(out, level, elements, index, *line, d),
+        Statement::While { condition, body } => act_while(out, level, body, condition, d),
+        Statement::Repeat { body, condition } => act_repeat(out, level, body, condition, d),
         Statement::For {
             variable,
             low,
@@ -89,38 +94,41 @@ fn act(out: &mut Code, k: &Level, action: &Statement, d: u32) -> Result<(), Lowe
             ..
         } => {
             let control = control_of(*variable, low, high, *direction, *from_line, *to_line);
-            act_for(out, k, body, control, from, to, d)
+            act_for(out, level, body, control, from, to, d)
         }
-        Statement::Write { parameters } => lifted(writes(out, k, parameters, d)),
-        Statement::Writeln { parameters } => lifted(writeln(out, k, parameters, d)),
+        Statement::Write { parameters } => lifted(writes(out, level, parameters, d)),
+        Statement::Writeln { parameters } => lifted(writeln(out, level, parameters, d)),
         Statement::AssignSet {
             target,
             low,
             high,
             value,
             line,
-        } => lifted(assign_set(out, k, target, low, high, value, *line, d)),
+        } => {
+            let members = Members { low, high };
+            lifted(assign_set(out, level, target, members, value, *line, d))
+        }
         Statement::AssignStructure { target, value } => lifted(assign_structure(
-            out, k, target, value, d,
+            out, level, target, value, d,
         )),
         Statement::Call {
             routine,
             up,
             arguments,
             line,
-        } => lifted(call_procedure(out, k, arguments, *routine, *up, *line, d)),
+        } => lifted(call_procedure(out, level, arguments, *routine, *up, *line, d)),
         Statement::CallFormal {
             up,
             index,
             arguments,
             line,
-        } => lifted(call_formal_procedure(out, k, arguments, *up, *index, *line, d)),
-        Statement::With { places, body } => act_with(out, k, body, places, d),
+        } => lifted(call_formal_procedure(out, level, arguments, *up, *index, *line, d)),
+        Statement::With { places, body } => act_with(out, level, body, places, d),
         Statement::New {
             place,
             pointer,
             line,
-        } => lifted(create(out, k, place, *pointer, *line, d)),
+        } => lifted(create(out, level, place, *pointer, *line, d)),
         Statement::Pack {
             from,
             from_ty,
@@ -128,7 +136,21 @@ fn act(out: &mut Code, k: &Level, action: &Statement, d: u32) -> Result<(), Lowe
             line,
             to,
             to_ty,
-        } => lifted(pack(out, k, from, from_ty, index, *line, to, to_ty, d)),
+        } => lifted(pack(
+            out,
+            level,
+            Array {
+                place: from,
+                ty: from_ty,
+            },
+            index,
+            Array {
+                place: to,
+                ty: to_ty,
+            },
+            *line,
+            d,
+        )),
         Statement::Unpack {
             from,
             from_ty,
@@ -136,9 +158,23 @@ fn act(out: &mut Code, k: &Level, action: &Statement, d: u32) -> Result<(), Lowe
             to_ty,
             index,
             line,
-        } => lifted(unpack(out, k, from, from_ty, to, to_ty, index, *line, d)),
-        Statement::Read { variables } => lifted(reads(out, k, variables, d)),
-        Statement::Readln { variables, line } => lifted(readln(out, k, variables, *line, d)),
+        } => lifted(unpack(
+            out,
+            level,
+            Array {
+                place: from,
+                ty: from_ty,
+            },
+            Array {
+                place: to,
+                ty: to_ty,
+            },
+            index,
+            *line,
+            d,
+        )),
+        Statement::Read { variables } => lifted(reads(out, level, variables, d)),
+        Statement::Readln { variables, line } => lifted(readln(out, level, variables, *line, d)),
     }
 }
 
@@ -146,15 +182,15 @@ fn act(out: &mut Code, k: &Level, action: &Statement, d: u32) -> Result<(), Lowe
 #[cycle(statements)]
 pub fn statements(
     out: &mut Code,
-    k: &Level,
+    level: &Level,
     statements: &[Statement],
     d: u32,
 ) -> Result<(), LowerRefusal>
-    requires { d + statements_weight (scope_of k.now) (statements_of statements.now) d ≤ DEEPEST }
-    ensures { Adds result out.old out.new (statements_code (scope_of k.now) (statements_of statements.now) d) }
+    requires { d + statements_weight (scope_of level.now) (statements_of statements.now) d ≤ MAX_NUMBER }
+    ensures { Adds result out.old out.new (statements_code (scope_of level.now) (statements_of statements.now) d) }
 {
     for one in statements {
-        statement(out, k, one, d)?;
+        statement(out, level, one, d)?;
     }
     Ok(())
 }
@@ -162,19 +198,19 @@ pub fn statements(
 #[cycle(statements)]
 fn act_if(
     out: &mut Code,
-    k: &Level,
+    level: &Level,
     body: &Statement,
     condition: &Expr,
     d: u32,
 ) -> Result<(), LowerRefusal>
-    requires { d + statement_weight (scope_of k.now)
-        (tree.If (expr_of condition.now) (statement_of body.now)) d ≤ DEEPEST }
-    ensures { Adds result out.old out.new (statement_code (scope_of k.now)
+    requires { d + statement_weight (scope_of level.now)
+        (tree.If (expr_of condition.now) (statement_of body.now)) d ≤ MAX_NUMBER }
+    ensures { Adds result out.old out.new (statement_code (scope_of level.now)
         (tree.If (expr_of condition.now) (statement_of body.now)) d) }
 {
-    front(out, k, condition, d, 0)?;
+    front(out, level, condition, d, 0)?;
     let past = out.room()?;
-    statement(out, k, body, d)?;
+    statement(out, level, body, d)?;
     let relation = opposite(relation_in(condition));
     out.set_branch(
         past,
@@ -189,21 +225,22 @@ fn act_if(
 #[cycle(statements)]
 fn then_part(
     out: &mut Code,
-    k: &Level,
+    level: &Level,
     body: &Statement,
     condition: &Expr,
     d: u32,
 ) -> Result<usize, LowerRefusal>
-    requires { d + statement_weight (scope_of k.now)
-        (tree.If (expr_of condition.now) (statement_of body.now)) d ≤ DEEPEST }
-    ensures code { Adds result (out.old ++ then_code (scope_of k.now) (expr_of condition.now) (statement_of body.now) d)
+    requires { d + statement_weight (scope_of level.now)
+        (tree.If (expr_of condition.now) (statement_of body.now)) d ≤ MAX_NUMBER }
+    ensures code { Adds result
+        (out.old ++ then_code (scope_of level.now) (expr_of condition.now) (statement_of body.now) d)
         out.new (i.End ∷ []) }
     ensures place { IfOk result (λ place. place ≡ length
-        (out.old ++ then_code (scope_of k.now) (expr_of condition.now) (statement_of body.now) d)) }
+        (out.old ++ then_code (scope_of level.now) (expr_of condition.now) (statement_of body.now) d)) }
 {
-    front(out, k, condition, d, 0)?;
+    front(out, level, condition, d, 0)?;
     let past = out.room()?;
-    statement(out, k, body, d)?;
+    statement(out, level, body, d)?;
     let end = out.room()?;
     let relation = opposite(relation_in(condition));
     out.set_branch(
@@ -218,21 +255,21 @@ fn then_part(
 #[cycle(statements)]
 fn act_while(
     out: &mut Code,
-    k: &Level,
+    level: &Level,
     body: &Statement,
     condition: &Expr,
     d: u32,
 ) -> Result<(), LowerRefusal>
-    requires { d + statement_weight (scope_of k.now)
-        (tree.While (expr_of condition.now) (statement_of body.now)) d ≤ DEEPEST }
-    ensures { Adds result out.old out.new (statement_code (scope_of k.now)
+    requires { d + statement_weight (scope_of level.now)
+        (tree.While (expr_of condition.now) (statement_of body.now)) d ≤ MAX_NUMBER }
+    ensures { Adds result out.old out.new (statement_code (scope_of level.now)
         (tree.While (expr_of condition.now) (statement_of body.now)) d) }
 {
     let to_test = out.room()?;
     let begin = out.place();
-    statement(out, k, body, d)?;
+    statement(out, level, body, d)?;
     out.set_jump(to_test);
-    front(out, k, condition, d, 0)?;
+    front(out, level, condition, d, 0)?;
     let relation = relation_in(condition);
     lifted(out.branch_back(
         relation,
@@ -245,19 +282,19 @@ fn act_while(
 #[cycle(statements)]
 fn act_repeat(
     out: &mut Code,
-    k: &Level,
+    level: &Level,
     body: &[Statement],
     condition: &Expr,
     d: u32,
 ) -> Result<(), LowerRefusal>
-    requires { d + statement_weight (scope_of k.now)
-        (tree.Repeat (statements_of body.now) (expr_of condition.now)) d ≤ DEEPEST }
-    ensures { Adds result out.old out.new (statement_code (scope_of k.now)
+    requires { d + statement_weight (scope_of level.now)
+        (tree.Repeat (statements_of body.now) (expr_of condition.now)) d ≤ MAX_NUMBER }
+    ensures { Adds result out.old out.new (statement_code (scope_of level.now)
         (tree.Repeat (statements_of body.now) (expr_of condition.now)) d) }
 {
     let begin = out.place();
-    statements(out, k, body, d)?;
-    front(out, k, condition, d, 0)?;
+    statements(out, level, body, d)?;
+    front(out, level, condition, d, 0)?;
     let relation = opposite(relation_in(condition));
     lifted(out.branch_back(
         relation,
@@ -270,25 +307,25 @@ fn act_repeat(
 #[cycle(statements)]
 fn act_for(
     out: &mut Code,
-    k: &Level,
+    level: &Level,
     body: &Statement,
     control: Control,
     from: &Expr,
     to: &Expr,
     d: u32,
 ) -> Result<(), LowerRefusal>
-    requires { d + statement_weight (scope_of k.now)
+    requires { d + statement_weight (scope_of level.now)
         (tree.For control.variable control.low control.high
         (expr_of from.now) control.from_line.number control.direction
-        (expr_of to.now) control.to_line.number (statement_of body.now)) d ≤ DEEPEST }
-    ensures { Adds result out.old out.new (statement_code (scope_of k.now)
+        (expr_of to.now) control.to_line.number (statement_of body.now)) d ≤ MAX_NUMBER }
+    ensures { Adds result out.old out.new (statement_code (scope_of level.now)
         (tree.For control.variable control.low control.high
         (expr_of from.now) control.from_line.number control.direction
         (expr_of to.now) control.to_line.number (statement_of body.now)) d) }
 {
-    let turns = turns_of(k, control.variable, to, statement_calls(body), d);
-    let places = open_turns(out, k, control, from, to, turns)?;
-    statement(out, k, body, turns.depth)?;
+    let turns = turns_of(level, control.variable, to, statement_calls(body), d);
+    let places = open_turns(out, level, control, from, to, turns)?;
+    statement(out, level, body, turns.depth)?;
     end_turn(out, turns, places.begin)?;
     let relation = past_relation(control.direction);
     out.set_branch(places.past, relation, turns.first, turns.limit);
@@ -299,19 +336,21 @@ fn act_for(
 #[cycle(statements)]
 fn act_element(
     out: &mut Code,
-    k: &Level,
+    level: &Level,
     element: &CaseElement,
     d: u32,
 ) -> Result<usize, LowerRefusal>
-    requires { d + statement_weight (scope_of k.now) (statement_of (out-CaseElement element.now).body) d ≤ DEEPEST }
-    ensures code { Adds result (out.old ++ element_code (scope_of k.now) (out-CaseElement element.now).constants.items
+    requires { d + statement_weight (scope_of level.now) (statement_of (out-CaseElement element.now).body) d
+        ≤ MAX_NUMBER }
+    ensures code { Adds result
+        (out.old ++ element_code (scope_of level.now) (out-CaseElement element.now).constants.items
         (statement_of (out-CaseElement element.now).body) d) out.new (i.End ∷ []) }
     ensures place { IfOk result (λ place. place ≡ length
-        (out.old ++ element_code (scope_of k.now) (out-CaseElement element.now).constants.items
+        (out.old ++ element_code (scope_of level.now) (out-CaseElement element.now).constants.items
         (statement_of (out-CaseElement element.now).body) d)) }
 {
     let last = tests(out, &element.constants, d)?;
-    statement(out, k, &element.body, d)?;
+    statement(out, level, &element.body, d)?;
     let end = out.room()?;
     close_tests(out, last, &element.constants, d);
     Ok(end)
@@ -321,18 +360,18 @@ fn act_element(
 #[cycle(statements)]
 fn act_elements(
     out: &mut Code,
-    k: &Level,
+    level: &Level,
     elements: &[CaseElement],
     d: u32,
 ) -> Result<Vec<usize>, LowerRefusal>
-    requires { d + elements_weight (scope_of k.now) (elements_of elements.now) d ≤ DEEPEST }
-    ensures code { Adds result out.old out.new (open_elements (scope_of k.now) (elements_of elements.now) d) }
-    ensures ends { IfOk result (λ ends. ends.items ≡ ends_from (scope_of k.now) (elements_of elements.now) d
+    requires { d + elements_weight (scope_of level.now) (elements_of elements.now) d ≤ MAX_NUMBER }
+    ensures code { Adds result out.old out.new (open_elements (scope_of level.now) (elements_of elements.now) d) }
+    ensures ends { IfOk result (λ ends. ends.items ≡ ends_from (scope_of level.now) (elements_of elements.now) d
         (length out.old)) }
 {
     let mut ends = Vec::new(out.alloc());
     for element in elements {
-        let end = act_element(out, k, element, d)?;
+        let end = act_element(out, level, element, d)?;
         ends.push(end)?;
     }
     Ok(ends)
@@ -341,19 +380,19 @@ fn act_elements(
 #[cycle(statements)]
 fn act_case(
     out: &mut Code,
-    k: &Level,
+    level: &Level,
     elements: &[CaseElement],
     index: &Expr,
     line: Line,
     d: u32,
 ) -> Result<(), LowerRefusal>
-    requires { d + statement_weight (scope_of k.now)
-        (tree.Case (expr_of index.now) (elements_of elements.now) line.number) d ≤ DEEPEST }
-    ensures { Adds result out.old out.new (statement_code (scope_of k.now)
+    requires { d + statement_weight (scope_of level.now)
+        (tree.Case (expr_of index.now) (elements_of elements.now) line.number) d ≤ MAX_NUMBER }
+    ensures { Adds result out.old out.new (statement_code (scope_of level.now)
         (tree.Case (expr_of index.now) (elements_of elements.now) line.number) d) }
 {
-    value(out, k, index, d, 0)?;
-    let ends = act_elements(out, k, elements, d)?;
+    value(out, level, index, d, 0)?;
+    let ends = act_elements(out, level, elements, d)?;
     out.trap(7, line)?;
     close_elements(out, &ends);
     Ok(())
@@ -363,21 +402,21 @@ fn act_case(
 #[cycle(statements)]
 fn act_with(
     out: &mut Code,
-    k: &Level,
+    level: &Level,
     body: &Statement,
     places: &[Place],
     d: u32,
 ) -> Result<(), LowerRefusal>
-    requires { d + statement_weight (scope_of k.now)
-        (tree.With (map place_of places.now) (statement_of body.now)) d ≤ DEEPEST }
-    ensures { Adds result out.old out.new (statement_code (scope_of k.now)
+    requires { d + statement_weight (scope_of level.now)
+        (tree.With (map place_of places.now) (statement_of body.now)) d ≤ MAX_NUMBER }
+    ensures { Adds result out.old out.new (statement_code (scope_of level.now)
         (tree.With (map place_of places.now) (statement_of body.now)) d) }
 {
     let calls = with_calls(body, places);
-    let opened = open_all(out, k, places, calls, d)?;
+    let opened = open_all(out, level, places, calls, d)?;
     let inner = Level {
-        checked: k.checked,
-        chain: k.chain,
+        checked: level.checked,
+        chain: level.chain,
         opened: opened.sites.as_slice(),
     };
     statement(out, &inner, body, opened.depth)

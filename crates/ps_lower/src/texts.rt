@@ -10,6 +10,7 @@ ghost use Rattle.ps_tree.specs.Tree.{Place};
 ghost use Rattle.ps_tree.specs.View.{type_of, structure_of};
 ghost use Rattle.tac_code.specs.declared.code.Instruction.TheVariants as i;
 
+use crate::depth::MAX_NUMBER;
 use crate::out::Code;
 use crate::shapes::byte_count;
 use ps_tree::characters::Characters;
@@ -45,7 +46,7 @@ fn contents_length(ty: &Ty) -> u32
 /// The number of a string's characters.
 #[tactic(auto, using(ps_tree::proofs::TreeLemmas::structure_of_Contents), unfolding(ps_tree::specs::View::structure_of))]
 pub fn text_length(e: &Structure) -> u32
-    requires { text_length (structure_of e.now) ≤ 2147483647 }
+    requires { text_length (structure_of e.now) ≤ MAX_NUMBER }
     ensures { result ≡ text_length (structure_of e.now) }
 {
     match e {
@@ -56,7 +57,7 @@ pub fn text_length(e: &Structure) -> u32
 
 /// The bytes of `length` characters, padded to whole words.
 fn filled_length(length: usize) -> u32
-    requires { 4 * ((length + 3) / 4) ≤ 2147483647 }
+    requires { 4 * ((length + 3) / 4) ≤ MAX_NUMBER }
     ensures { result ≡ 4 * ((length + 3) / 4) }
 {
     let words = (length + 3) / 4;
@@ -66,7 +67,7 @@ fn filled_length(length: usize) -> u32
 /// The bytes of a structure's words.
 #[tactic(auto, using(ps_tree::proofs::TreeLemmas::structure_of_Contents, crate::proofs::Strings::filled_length), unfolding(ps_tree::specs::View::structure_of))]
 pub fn structure_bytes(e: &Structure) -> u32
-    requires { structure_bytes (structure_of e.now) ≤ 2147483647 }
+    requires { structure_bytes (structure_of e.now) ≤ MAX_NUMBER }
     ensures { result ≡ structure_bytes (structure_of e.now) }
 {
     match e {

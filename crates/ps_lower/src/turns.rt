@@ -12,7 +12,7 @@ ghost use Rattle.tac_code.specs.declared.code.Instruction.TheVariants as i;
 ghost use Rattle.tac_code.specs.declared.code.Relation.TheVariants.{NotEqual};
 
 use crate::calling::expr_calls;
-use crate::depth::{DEEPEST, even_from, held};
+use crate::depth::{MAX_NUMBER, even_from, held};
 use crate::known::{literal, operand};
 use crate::level::Level;
 use crate::levels::entry;
@@ -103,14 +103,14 @@ pub fn control_of(
 }
 
 /// Where a loop keeps what it needs, by whether its body calls.
-pub fn turns_of(k: &Level, variable: u32, to: &Expr, calls: bool, d: u32) -> Turns
-    requires { d ≤ DEEPEST }
-    ensures value { result ≡ turns_of (scope_of k.now) variable (expr_of to.now) calls d }
+pub fn turns_of(level: &Level, variable: u32, to: &Expr, calls: bool, d: u32) -> Turns
+    requires { d ≤ MAX_NUMBER }
+    ensures value { result ≡ turns_of (scope_of level.now) variable (expr_of to.now) calls d }
     ensures first { result.first ≤ d + 1 }
     ensures last { result.last ≤ d + 3 }
     ensures depth { result.depth ≤ d + 4 }
 {
-    let offset = entry(k, 0, variable).offset;
+    let offset = entry(level, 0, variable).offset;
     let known = literal(to);
     let first = held(expr_calls(to), d);
     let last = held(calls, first + 1);
@@ -126,13 +126,20 @@ pub fn turns_of(k: &Level, variable: u32, to: &Expr, calls: bool, d: u32) -> Tur
 }
 
 /// The values of both bounds.
-fn bounds(out: &mut Code, k: &Level, from: &Expr, to: &Expr, turns: Turns) -> Result<(), AllocError>
-    requires first { turns.first + expr_weight (scope_of k.now) (expr_of from.now) ≤ DEEPEST }
-    requires last { turns.last + expr_weight (scope_of k.now) (expr_of to.now) ≤ DEEPEST }
-    ensures { OnOk result (out.new ≡ out.old ++ bounds_code (scope_of k.now) (expr_of from.now) (expr_of to.now) turns) }
+fn bounds(
+    out: &mut Code,
+    level: &Level,
+    from: &Expr,
+    to: &Expr,
+    turns: Turns,
+) -> Result<(), AllocError>
+    requires first { turns.first + expr_weight (scope_of level.now) (expr_of from.now) ≤ MAX_NUMBER }
+    requires last { turns.last + expr_weight (scope_of level.now) (expr_of to.now) ≤ MAX_NUMBER }
+    ensures { OnOk result (out.new ≡ out.old
+        ++ bounds_code (scope_of level.now) (expr_of from.now) (expr_of to.now) turns) }
 {
-    value(out, k, from, turns.first, 0)?;
-    unless_known(out, k, to, turns.last, 0)
+    value(out, level, from, turns.first, 0)?;
+    unless_known(out, level, to, turns.last, 0)
 }
 
 /// The tests of both bounds, where they are not known to pass.
@@ -181,21 +188,21 @@ fn first_turn(out: &mut Code, direction: Direction, turns: Turns) -> Result<usiz
 /// What comes before the body, with a room for the branch past all turns.
 pub fn open_turns(
     out: &mut Code,
-    k: &Level,
+    level: &Level,
     control: Control,
     from: &Expr,
     to: &Expr,
     turns: Turns,
 ) -> Result<Places, AllocError>
-    requires first { turns.first + expr_weight (scope_of k.now) (expr_of from.now) ≤ DEEPEST }
-    requires last { turns.last + expr_weight (scope_of k.now) (expr_of to.now) ≤ DEEPEST }
-    ensures code { OnOk result (out.new ≡ (out.old ++ bounds_code (scope_of k.now) (expr_of from.now)
+    requires first { turns.first + expr_weight (scope_of level.now) (expr_of from.now) ≤ MAX_NUMBER }
+    requires last { turns.last + expr_weight (scope_of level.now) (expr_of to.now) ≤ MAX_NUMBER }
+    ensures code { OnOk result (out.new ≡ (out.old ++ bounds_code (scope_of level.now) (expr_of from.now)
         (expr_of to.now) turns) ++ i.End ∷ opening_code control (expr_of from.now) (expr_of to.now) turns) }
     ensures past { IfOk result (λ places. places.past ≡ length
-        (out.old ++ bounds_code (scope_of k.now) (expr_of from.now) (expr_of to.now) turns)) }
+        (out.old ++ bounds_code (scope_of level.now) (expr_of from.now) (expr_of to.now) turns)) }
     ensures begin { IfOk result (λ places. places.begin + 2 ≡ length out.new) }
 {
-    bounds(out, k, from, to, turns)?;
+    bounds(out, level, from, to, turns)?;
     let past = out.room()?;
     checks(out, control, from, to, turns)?;
     let begin = first_turn(out, control.direction, turns)?;

@@ -23,9 +23,10 @@ ghost use Rattle.ps_tree.specs.View.{member_of, type_of};
 
 use crate::calling::{asked_calls, expr_calls, operands_call, steps_call, structure_calls};
 use crate::calls::{
-    argument_end, arguments_call, call, call_formal, copied, routine_value, scratch_end, tail,
+    Callee, FormalCallee, argument_end, arguments_call, call, call_formal, copied, routine_value,
+    scratch_end, tail,
 };
-use crate::depth::{DEEPEST, beside, even_above, even_from, held, kept};
+use crate::depth::{MAX_NUMBER, beside, even_above, even_from, held, kept};
 use crate::helpers::compare_strings;
 use crate::input::{look_ahead, look_on};
 use crate::known::{bit_operator, gives_byte, known_member, literal, negated, operand, operator};
@@ -39,7 +40,7 @@ use crate::sets::{
     hand_set, is_member,
 };
 use crate::shapes::{byte_count, field_offset, known_steps};
-use crate::site::Site;
+use crate::site::{Room, Site};
 use crate::texts::text;
 use ps_tree::line::Line;
 use ps_tree::tree::{
@@ -53,24 +54,24 @@ use tac_code::code::{Base, Operand, Operator};
 /// The front code of an expression.
 #[cycle(values)]
 #[tactic(auto, using(ps_tree::proofs::TreeLemmas::expr_of_Load), unfolding(ps_tree::specs::View::expr_of))]
-pub fn front(out: &mut Code, k: &Level, e: &Expr, d: u32, x: u32) -> Result<(), AllocError>
-    requires { d + x + expr_weight (scope_of k.now) (expr_of e.now) ≤ DEEPEST }
-    ensures { OnOk result (out.new ≡ out.old ++ front_code (scope_of k.now) (expr_of e.now) d x) }
+pub fn front(out: &mut Code, level: &Level, e: &Expr, d: u32, x: u32) -> Result<(), AllocError>
+    requires { d + x + expr_weight (scope_of level.now) (expr_of e.now) ≤ MAX_NUMBER }
+    ensures { OnOk result (out.new ≡ out.old ++ front_code (scope_of level.now) (expr_of e.now) d x) }
 {
     match e {
         Expr::Number(n) => number(out, n, d),
         Expr::Nil => out.literal(d, 0),
         Expr::Load(variable) => {
-            let site = place(out, k, variable, d, x)?;
+            let site = place(out, level, variable, d, x)?;
             fetch(out, is_byte(variable), d, site)
         }
-        Expr::Plus(operand) => value(out, k, operand, d, x),
-        Expr::Minus { operand, line } => minus(out, k, operand, *line, d, x),
-        Expr::Not(operand) => front(out, k, operand, d, x),
+        Expr::Plus(operand) => value(out, level, operand, d, x),
+        Expr::Minus { operand, line } => minus(out, level, operand, *line, d, x),
+        Expr::Not(operand) => front(out, level, operand, d, x),
         Expr::Arithmetic { first, steps } => {
             let sum = kept(steps_call(steps), d);
-            value(out, k, first, sum, x)?;
-            go_on(out, k, steps, sum, x)?;
+            value(out, level, first, sum, x)?;
+            go_on(out, level, steps, sum, x)?;
             moved(out, sum, d)
         }
         Expr::Logic {
@@ -79,30 +80,30 @@ pub fn front(out: &mut Code, k: &Level, e: &Expr, d: u32, x: u32) -> Result<(), 
             rest,
         } => {
             let truth = kept(operands_call(rest), d);
-            front(out, k, first, truth, x)?;
+            front(out, level, first, truth, x)?;
             truth_finish(out, first, truth)?;
-            go_on_with(out, k, *operator, rest, truth, x)?;
+            go_on_with(out, level, *operator, rest, truth, x)?;
             moved(out, truth, d)
         }
         Expr::Compare { left, right, .. } | Expr::ComparePointers { left, right, .. } => {
             let held = kept(expr_calls(right), d);
-            value(out, k, left, held, x)?;
-            unless_known(out, k, right, even_above(held), x)
+            value(out, level, left, held, x)?;
+            unless_known(out, level, right, even_above(held), x)
         }
         Expr::Apply {
             function: required,
             operand,
             line,
         } => {
-            value(out, k, operand, d, x)?;
+            value(out, level, operand, d, x)?;
             function(out, *required, d, *line)
         }
         Expr::CompareStrings { left, right, .. } => {
             let first = held(structure_calls(right), d);
             let second = even_above(first);
-            structure(out, k, left, first, x)?;
-            structure(out, k, right, second, x)?;
-            compare_strings(out, k, left, first, second, d)
+            structure(out, level, left, first, x)?;
+            structure(out, level, right, second, x)?;
+            compare_strings(out, level, left, first, second, d)
         }
         Expr::Call {
             routine,
@@ -110,8 +111,12 @@ pub fn front(out: &mut Code, k: &Level, e: &Expr, d: u32, x: u32) -> Result<(), 
             arguments: actual,
             line,
         } => {
-            arguments(out, k, actual, d, x)?;
-            call(out, k, actual, *routine, *up, *line, d, d)
+            arguments(out, level, actual, d, x)?;
+            let callee = Callee {
+                routine: *routine,
+                up: *up,
+            };
+            call(out, level, actual, callee, *line, d, d)
         }
         Expr::CallFormal {
             up,
@@ -119,11 +124,15 @@ pub fn front(out: &mut Code, k: &Level, e: &Expr, d: u32, x: u32) -> Result<(), 
             arguments: actual,
             line,
         } => {
-            arguments(out, k, actual, d, x)?;
-            call_formal(out, k, actual, *up, *index, *line, d, d)
+            arguments(out, level, actual, d, x)?;
+            let callee = FormalCallee {
+                up: *up,
+                index: *index,
+            };
+            call_formal(out, level, actual, callee, *line, d, d)
         }
-        Expr::Eof => look_ahead(out, k, d),
-        Expr::Eoln { line } => look_on(out, k, *line, d),
+        Expr::Eof => look_ahead(out, level, d),
+        Expr::Eoln { line } => look_on(out, level, *line, d),
         Expr::CompareSets {
             relation,
             left,
@@ -131,15 +140,15 @@ pub fn front(out: &mut Code, k: &Level, e: &Expr, d: u32, x: u32) -> Result<(), 
         } => {
             let t = even_from(d);
             let behind = above(x);
-            set(out, k, left, t, x)?;
-            set(out, k, right, t, behind)?;
-            compare_sets(out, k, *relation, t, x, d)
+            set(out, level, left, t, x)?;
+            set(out, level, right, t, behind)?;
+            compare_sets(out, level, *relation, t, x, d)
         }
         Expr::In { left, right } => {
             let member = kept(asked_calls(right), d);
             let t = even_above(member);
-            value(out, k, left, member, x)?;
-            asked(out, k, right, t, x)?;
+            value(out, level, left, member, x)?;
+            asked(out, level, right, t, x)?;
             is_member(out, member, t, d)
         }
     }
@@ -147,46 +156,52 @@ pub fn front(out: &mut Code, k: &Level, e: &Expr, d: u32, x: u32) -> Result<(), 
 
 /// The word of an expression.
 #[cycle(values)]
-pub fn value(out: &mut Code, k: &Level, e: &Expr, d: u32, x: u32) -> Result<(), AllocError>
-    requires { d + x + expr_weight (scope_of k.now) (expr_of e.now) ≤ DEEPEST }
-    ensures { OnOk result (out.new ≡ out.old ++ expr_code (scope_of k.now) (expr_of e.now) d x) }
+pub fn value(out: &mut Code, level: &Level, e: &Expr, d: u32, x: u32) -> Result<(), AllocError>
+    requires { d + x + expr_weight (scope_of level.now) (expr_of e.now) ≤ MAX_NUMBER }
+    ensures { OnOk result (out.new ≡ out.old ++ expr_code (scope_of level.now) (expr_of e.now) d x) }
 {
-    front(out, k, e, d, x)?;
+    front(out, level, e, d, x)?;
     finish(out, e, d)
 }
 
 /// The word of an expression, unless the expression is a number.
 #[cycle(values)]
-pub fn unless_known(out: &mut Code, k: &Level, e: &Expr, d: u32, x: u32) -> Result<(), AllocError>
-    requires { d + x + expr_weight (scope_of k.now) (expr_of e.now) ≤ DEEPEST }
+pub fn unless_known(
+    out: &mut Code,
+    level: &Level,
+    e: &Expr,
+    d: u32,
+    x: u32,
+) -> Result<(), AllocError>
+    requires { d + x + expr_weight (scope_of level.now) (expr_of e.now) ≤ MAX_NUMBER }
     ensures { OnOk result (out.new ≡ out.old ++ unless_known (literal_of (expr_of e.now))
-        (expr_code (scope_of k.now) (expr_of e.now) d x)) }
+        (expr_code (scope_of level.now) (expr_of e.now) d x)) }
 {
     match literal(e) {
         Some(_) => Ok(()),
-        None => value(out, k, e, d, x),
+        None => value(out, level, e, d, x),
     }
 }
 
 #[cycle(values)]
 fn minus(
     out: &mut Code,
-    k: &Level,
+    level: &Level,
     operand: &Expr,
     line: Line,
     d: u32,
     x: u32,
 ) -> Result<(), AllocError>
-    requires { d + 8 + x + expr_weight (scope_of k.now) (expr_of operand.now) ≤ DEEPEST }
+    requires { d + 8 + x + expr_weight (scope_of level.now) (expr_of operand.now) ≤ MAX_NUMBER }
     ensures { OnOk result (out.new ≡ out.old ++ minus_code (negated (expr_of operand.now)) d
         (even_from (suc d)) line.number
-        (expr_code (scope_of k.now) (expr_of operand.now) (even_from (suc d)) x)) }
+        (expr_code (scope_of level.now) (expr_of operand.now) (even_from (suc d)) x)) }
 {
     match negated(operand) {
         Some(number) => out.literal(d, number),
         None => {
             let t = even_above(d);
-            value(out, k, operand, t, x)?;
+            value(out, level, operand, t, x)?;
             out.literal(d, 0)?;
             out.arithmetic(Operator::Subtract, d, d, Operand::Temporary(t), 1, line)
         }
@@ -197,17 +212,17 @@ fn minus(
 #[cycle(values)]
 fn go_on(
     out: &mut Code,
-    k: &Level,
+    level: &Level,
     steps: &[ArithmeticStep],
     a: u32,
     x: u32,
 ) -> Result<(), AllocError>
-    requires { a + x + steps_weight (scope_of k.now) (arithmetic_of steps.now) ≤ DEEPEST + 1 }
-    ensures { OnOk result (out.new ≡ out.old ++ steps_code (scope_of k.now) (arithmetic_of steps.now) a x) }
+    requires { a + x + steps_weight (scope_of level.now) (arithmetic_of steps.now) ≤ MAX_NUMBER + 1 }
+    ensures { OnOk result (out.new ≡ out.old ++ steps_code (scope_of level.now) (arithmetic_of steps.now) a x) }
 {
     let t = even_above(a);
     for step in steps {
-        unless_known(out, k, &step.operand, t, x)?;
+        unless_known(out, level, &step.operand, t, x)?;
         let right = operand(literal(&step.operand), t);
         out.arithmetic(operator(step.operator), a, a, right, 1, step.line)?;
     }
@@ -218,18 +233,19 @@ fn go_on(
 #[cycle(values)]
 fn go_on_with(
     out: &mut Code,
-    k: &Level,
+    level: &Level,
     operator: BooleanOperator,
     operands: &[Expr],
     a: u32,
     x: u32,
 ) -> Result<(), AllocError>
-    requires { a + x + operands_weight (scope_of k.now) (operands_of operands.now) ≤ DEEPEST + 1 }
-    ensures { OnOk result (out.new ≡ out.old ++ operands_code (scope_of k.now) operator (operands_of operands.now) a x) }
+    requires { a + x + operands_weight (scope_of level.now) (operands_of operands.now) ≤ MAX_NUMBER + 1 }
+    ensures { OnOk result (out.new ≡ out.old
+        ++ operands_code (scope_of level.now) operator (operands_of operands.now) a x) }
 {
     let t = even_above(a);
     for operand in operands {
-        front(out, k, operand, t, x)?;
+        front(out, level, operand, t, x)?;
         truth_finish(out, operand, t)?;
         out.bits(bit_operator(operator), a, a, Operand::Temporary(t))?;
     }
@@ -238,35 +254,41 @@ fn go_on_with(
 
 /// A variable: the code that reaches it, and where it is then.
 #[cycle(values)]
-pub fn place(out: &mut Code, k: &Level, place: &Place, d: u32, x: u32) -> Result<Site, AllocError>
-    requires { d + x + place_weight (scope_of k.now) (place_of place.now) ≤ DEEPEST }
-    ensures code { OnOk result (out.new ≡ out.old ++ place_code (scope_of k.now) (place_of place.now) d x) }
-    ensures site { IfOk result (λ s. site_of s ≡ place_site (scope_of k.now) (place_of place.now) d) }
+pub fn place(
+    out: &mut Code,
+    level: &Level,
+    place: &Place,
+    d: u32,
+    x: u32,
+) -> Result<Site, AllocError>
+    requires { d + x + place_weight (scope_of level.now) (place_of place.now) ≤ MAX_NUMBER }
+    ensures code { OnOk result (out.new ≡ out.old ++ place_code (scope_of level.now) (place_of place.now) d x) }
+    ensures site { IfOk result (λ s. site_of s ≡ place_site (scope_of level.now) (place_of place.now) d) }
 {
     let t = place_temporary(place, d);
-    let site = name(out, k, &place.base, t)?;
-    along(out, k, &place.selectors, site, t, x)
+    let site = name(out, level, &place.base, t)?;
+    along(out, level, &place.selectors, site, t, x)
 }
 
 /// From one site to the next, selector by selector.
 #[cycle(values)]
 fn along(
     out: &mut Code,
-    k: &Level,
+    level: &Level,
     selectors: &[Selector],
     site: Site,
     t: u32,
     x: u32,
 ) -> Result<Site, AllocError>
-    requires depth { t + x + selectors_weight (scope_of k.now) (selectors_of selectors.now) ≤ DEEPEST }
-    requires reach { site.offset + selectors_reach (selectors_of selectors.now) ≤ DEEPEST }
-    ensures code { OnOk result (out.new ≡ out.old ++ selectors_code (scope_of k.now) (selectors_of selectors.now)
+    requires depth { t + x + selectors_weight (scope_of level.now) (selectors_of selectors.now) ≤ MAX_NUMBER }
+    requires reach { site.offset + selectors_reach (selectors_of selectors.now) ≤ MAX_NUMBER }
+    ensures code { OnOk result (out.new ≡ out.old ++ selectors_code (scope_of level.now) (selectors_of selectors.now)
         (site_of site) t x) }
     ensures site { IfOk result (λ s. site_of s ≡ selectors_site (selectors_of selectors.now) (site_of site) t) }
 {
     let mut site = site;
     for selector in selectors {
-        site = select(out, k, selector, site, t, x)?;
+        site = select(out, level, selector, site, t, x)?;
     }
     Ok(site)
 }
@@ -275,22 +297,28 @@ fn along(
 #[tactic(auto, unfolding(ps_tree::specs::View::selector_of))]
 fn select(
     out: &mut Code,
-    k: &Level,
+    level: &Level,
     selector: &Selector,
     site: Site,
     t: u32,
     x: u32,
 ) -> Result<Site, AllocError>
-    requires depth { t + x + selectors_weight (scope_of k.now)
-        (tree.selector_before (selector_of selector.now) tree.no_selector) ≤ DEEPEST }
+    requires depth { t + x + selectors_weight (scope_of level.now)
+        (tree.selector_before (selector_of selector.now) tree.no_selector) ≤ MAX_NUMBER }
     requires reach { site.offset + selectors_reach
-        (tree.selector_before (selector_of selector.now) tree.no_selector) ≤ DEEPEST }
-    ensures code { OnOk result (out.new ≡ out.old ++ selector_code (scope_of k.now) (selector_of selector.now)
+        (tree.selector_before (selector_of selector.now) tree.no_selector) ≤ MAX_NUMBER }
+    ensures code { OnOk result (out.new ≡ out.old ++ selector_code (scope_of level.now) (selector_of selector.now)
         (site_of site) t x) }
     ensures site { IfOk result (λ s. site_of s ≡ selector_site (selector_of selector.now) (site_of site) t) }
 {
     match selector {
-        Selector::Element { ty, index, line } => element(out, k, index, ty, site, t, *line, x),
+        Selector::Element { ty, index, line } => {
+            let room = Room {
+                first: t,
+                scratch: x,
+            };
+            element(out, level, index, ty, site, room, *line)
+        }
         Selector::Field { ty, number } => Ok(behind(site, field_offset(ty, *number))),
         Selector::Target { line, .. } => pointed(out, site, t, *line),
     }
@@ -300,30 +328,29 @@ fn select(
 #[cycle(values)]
 fn element(
     out: &mut Code,
-    k: &Level,
+    level: &Level,
     index: &Expr,
     ty: &Ty,
     site: Site,
-    t: u32,
+    room: Room,
     line: Line,
-    x: u32,
 ) -> Result<Site, AllocError>
-    requires depth { t + 8 + x + expr_weight (scope_of k.now) (expr_of index.now) ≤ DEEPEST }
-    requires width { component_bytes (shape_of (type_of ty.now)) ≤ DEEPEST }
+    requires depth { room.first + 8 + room.scratch + expr_weight (scope_of level.now) (expr_of index.now) ≤ MAX_NUMBER }
+    requires width { component_bytes (shape_of (type_of ty.now)) ≤ MAX_NUMBER }
     requires reach { site.offset + steps_reach
-        (known_steps (type_of ty.now) (literal_of (expr_of index.now))) ≤ DEEPEST }
-    ensures code { OnOk result (out.new ≡ out.old ++ selector_code (scope_of k.now)
-        (tree.Element (type_of ty.now) (expr_of index.now) line.number) (site_of site) t x) }
+        (known_steps (type_of ty.now) (literal_of (expr_of index.now))) ≤ MAX_NUMBER }
+    ensures code { OnOk result (out.new ≡ out.old ++ selector_code (scope_of level.now)
+        (tree.Element (type_of ty.now) (expr_of index.now) line.number) (site_of site) room.first room.scratch) }
     ensures site { IfOk result (λ s. site_of s ≡ selector_site
         (tree.Element (type_of ty.now) (expr_of index.now) line.number)
-        (site_of site) t) }
+        (site_of site) room.first) }
 {
     match known_steps(ty, index) {
         Some(steps) => Ok(behind(site, steps)),
         None => {
-            let at = even_above(t);
-            value(out, k, index, at, x)?;
-            indexed(out, ty, site, t, at, line)
+            let at = even_above(room.first);
+            value(out, level, index, at, room.scratch)?;
+            indexed(out, ty, site, room.first, at, line)
         }
     }
 }
@@ -331,17 +358,17 @@ fn element(
 /// The address of a set: a variable's own, and that of the set from x on for any other.
 #[cycle(values)]
 #[tactic(auto, using(ps_tree::proofs::TreeLemmas::set_of_Load, ps_tree::proofs::TreeLemmas::set_of_Constructor), unfolding(ps_tree::specs::View::set_of))]
-fn asked(out: &mut Code, k: &Level, e: &SetExpr, t: u32, x: u32) -> Result<(), AllocError>
-    requires { t + x + set_weight (scope_of k.now) (set_of e.now) ≤ DEEPEST }
-    ensures { OnOk result (out.new ≡ out.old ++ asked_code (scope_of k.now) (set_of e.now) t x) }
+fn asked(out: &mut Code, level: &Level, e: &SetExpr, t: u32, x: u32) -> Result<(), AllocError>
+    requires { t + x + set_weight (scope_of level.now) (set_of e.now) ≤ MAX_NUMBER }
+    ensures { OnOk result (out.new ≡ out.old ++ asked_code (scope_of level.now) (set_of e.now) t x) }
 {
     match e {
         SetExpr::Load(variable) => {
-            let site = place(out, k, variable, t, x)?;
+            let site = place(out, level, variable, t, x)?;
             address(out, t, site, 32)
         }
         SetExpr::Constructor(_) | SetExpr::Combine { .. } => {
-            set(out, k, e, t, x)?;
+            set(out, level, e, t, x)?;
             out.offset(t, Base::Scratch, x, 32)
         }
     }
@@ -350,34 +377,40 @@ fn asked(out: &mut Code, k: &Level, e: &SetExpr, t: u32, x: u32) -> Result<(), A
 /// A set, in the scratch block from x on.
 #[cycle(values)]
 #[tactic(auto, using(ps_tree::proofs::TreeLemmas::set_of_Load, ps_tree::proofs::TreeLemmas::set_of_Constructor), unfolding(ps_tree::specs::View::set_of))]
-pub fn set(out: &mut Code, k: &Level, e: &SetExpr, d: u32, x: u32) -> Result<(), AllocError>
-    requires { d + x + set_weight (scope_of k.now) (set_of e.now) ≤ DEEPEST }
-    ensures { OnOk result (out.new ≡ out.old ++ set_code (scope_of k.now) (set_of e.now) d x) }
+pub fn set(out: &mut Code, level: &Level, e: &SetExpr, d: u32, x: u32) -> Result<(), AllocError>
+    requires { d + x + set_weight (scope_of level.now) (set_of e.now) ≤ MAX_NUMBER }
+    ensures { OnOk result (out.new ≡ out.old ++ set_code (scope_of level.now) (set_of e.now) d x) }
 {
     match e {
         SetExpr::Load(variable) => {
-            let site = place(out, k, variable, d, x)?;
+            let site = place(out, level, variable, d, x)?;
             copied_set(out, site, d, x)
         }
         SetExpr::Constructor(list) => {
             clear(out, even_from(d), x)?;
-            members(out, k, list, d, x)
+            members(out, level, list, d, x)
         }
         SetExpr::Combine { first, steps } => {
-            set(out, k, first, d, x)?;
-            combine(out, k, steps, d, x)
+            set(out, level, first, d, x)?;
+            combine(out, level, steps, d, x)
         }
     }
 }
 
 /// The operators after the first set, and their operands. The set so far is from x on.
 #[cycle(values)]
-fn combine(out: &mut Code, k: &Level, steps: &[SetStep], d: u32, x: u32) -> Result<(), AllocError>
-    requires { d + x + set_steps_weight (scope_of k.now) (set_steps_of steps.now) ≤ DEEPEST }
-    ensures { OnOk result (out.new ≡ out.old ++ set_steps_code (scope_of k.now) (set_steps_of steps.now) d x) }
+fn combine(
+    out: &mut Code,
+    level: &Level,
+    steps: &[SetStep],
+    d: u32,
+    x: u32,
+) -> Result<(), AllocError>
+    requires { d + x + set_steps_weight (scope_of level.now) (set_steps_of steps.now) ≤ MAX_NUMBER }
+    ensures { OnOk result (out.new ≡ out.old ++ set_steps_code (scope_of level.now) (set_steps_of steps.now) d x) }
 {
     for step in steps {
-        join(out, k, step.operator, &step.operand, d, x)?;
+        join(out, level, step.operator, &step.operand, d, x)?;
     }
     Ok(())
 }
@@ -386,46 +419,46 @@ fn combine(out: &mut Code, k: &Level, steps: &[SetStep], d: u32, x: u32) -> Resu
 #[cycle(values)]
 fn join(
     out: &mut Code,
-    k: &Level,
+    level: &Level,
     operator: SetOperator,
     e: &SetExpr,
     d: u32,
     x: u32,
 ) -> Result<(), AllocError>
-    requires { d + x + 64 + set_weight (scope_of k.now) (set_of e.now) ≤ DEEPEST }
-    ensures { OnOk result (out.new ≡ out.old ++ step_code (scope_of k.now) operator (set_of e.now) d x) }
+    requires { d + x + 64 + set_weight (scope_of level.now) (set_of e.now) ≤ MAX_NUMBER }
+    ensures { OnOk result (out.new ≡ out.old ++ step_code (scope_of level.now) operator (set_of e.now) d x) }
 {
     if adds(operator, e) {
-        return adding(out, k, e, d, x);
+        return adding(out, level, e, d, x);
     }
     let t = even_from(d);
     let second = beside(t);
     let behind = above(x);
-    asked(out, k, e, second, behind)?;
-    combined(out, k, operator, t, x)
+    asked(out, level, e, second, behind)?;
+    combined(out, level, operator, t, x)
 }
 
 /// Adds the members of a constructor, if it is one, to the set from x on.
 #[cycle(values)]
 #[tactic(auto, using(ps_tree::proofs::TreeLemmas::set_of_Load, ps_tree::proofs::TreeLemmas::set_of_Constructor, ps_tree::proofs::TreeLemmas::set_of_Combine), unfolding(ps_tree::specs::View::set_of))]
-fn adding(out: &mut Code, k: &Level, e: &SetExpr, d: u32, x: u32) -> Result<(), AllocError>
-    requires { d + x + set_weight (scope_of k.now) (set_of e.now) ≤ DEEPEST }
-    ensures { OnOk result (out.new ≡ out.old ++ adding_code (scope_of k.now) (set_of e.now) d x) }
+fn adding(out: &mut Code, level: &Level, e: &SetExpr, d: u32, x: u32) -> Result<(), AllocError>
+    requires { d + x + set_weight (scope_of level.now) (set_of e.now) ≤ MAX_NUMBER }
+    ensures { OnOk result (out.new ≡ out.old ++ adding_code (scope_of level.now) (set_of e.now) d x) }
 {
     match e {
-        SetExpr::Constructor(list) => members(out, k, list, d, x),
+        SetExpr::Constructor(list) => members(out, level, list, d, x),
         SetExpr::Load(_) | SetExpr::Combine { .. } => Ok(()),
     }
 }
 
 /// Adds the members of a constructor to the set from x on.
 #[cycle(values)]
-fn members(out: &mut Code, k: &Level, list: &[Member], d: u32, x: u32) -> Result<(), AllocError>
-    requires { d + x + members_weight (scope_of k.now) (members_of list.now) ≤ DEEPEST }
-    ensures { OnOk result (out.new ≡ out.old ++ members_code (scope_of k.now) (members_of list.now) d x) }
+fn members(out: &mut Code, level: &Level, list: &[Member], d: u32, x: u32) -> Result<(), AllocError>
+    requires { d + x + members_weight (scope_of level.now) (members_of list.now) ≤ MAX_NUMBER }
+    ensures { OnOk result (out.new ≡ out.old ++ members_code (scope_of level.now) (members_of list.now) d x) }
 {
     for one in list {
-        member(out, k, one, d, x)?;
+        member(out, level, one, d, x)?;
     }
     Ok(())
 }
@@ -433,19 +466,19 @@ fn members(out: &mut Code, k: &Level, list: &[Member], d: u32, x: u32) -> Result
 /// A member, or those from one to another, whose values are evaluated after the set.
 #[cycle(values)]
 #[tactic(auto, unfolding(ps_tree::specs::View::member_of))]
-fn member(out: &mut Code, k: &Level, one: &Member, d: u32, x: u32) -> Result<(), AllocError>
-    requires { d + x + member_weight (scope_of k.now) (member_of one.now) ≤ DEEPEST }
-    ensures { OnOk result (out.new ≡ out.old ++ member_code (scope_of k.now) (member_of one.now) d x) }
+fn member(out: &mut Code, level: &Level, one: &Member, d: u32, x: u32) -> Result<(), AllocError>
+    requires { d + x + member_weight (scope_of level.now) (member_of one.now) ≤ MAX_NUMBER }
+    ensures { OnOk result (out.new ≡ out.old ++ member_code (scope_of level.now) (member_of one.now) d x) }
 {
     let behind = above(x);
     match one {
-        Member::One { value: e, line } => one_member(out, k, e, *line, d, x),
+        Member::One { value: e, line } => one_member(out, level, e, *line, d, x),
         Member::Range { from, to, line } => {
             let first = held(expr_calls(to), d);
             let last = even_above(first);
-            value(out, k, from, first, behind)?;
-            value(out, k, to, last, behind)?;
-            add_members(out, k, first, last, x, *line)
+            value(out, level, from, first, behind)?;
+            value(out, level, to, last, behind)?;
+            add_members(out, level, first, last, x, *line)
         }
     }
 }
@@ -454,22 +487,23 @@ fn member(out: &mut Code, k: &Level, one: &Member, d: u32, x: u32) -> Result<(),
 #[cycle(values)]
 fn one_member(
     out: &mut Code,
-    k: &Level,
+    level: &Level,
     e: &Expr,
     line: Line,
     d: u32,
     x: u32,
 ) -> Result<(), AllocError>
-    requires { d + x + member_weight (scope_of k.now) (tree.One (expr_of e.now) line.number) ≤ DEEPEST }
-    ensures { OnOk result (out.new ≡ out.old ++ member_code (scope_of k.now) (tree.One (expr_of e.now) line.number) d x) }
+    requires { d + x + member_weight (scope_of level.now) (tree.One (expr_of e.now) line.number) ≤ MAX_NUMBER }
+    ensures { OnOk result (out.new ≡ out.old
+        ++ member_code (scope_of level.now) (tree.One (expr_of e.now) line.number) d x) }
 {
     let t = even_from(d);
     match known_member(e) {
         Some(number) => add_bit(out, number, t, x),
         None => {
             let behind = above(x);
-            value(out, k, e, t, behind)?;
-            add_member(out, k, t, x, line)
+            value(out, level, e, t, behind)?;
+            add_member(out, level, t, x, line)
         }
     }
 }
@@ -477,9 +511,15 @@ fn one_member(
 /// The address of a structure.
 #[cycle(values)]
 #[tactic(auto, using(ps_tree::proofs::TreeLemmas::structure_of_Contents), unfolding(ps_tree::specs::View::structure_of))]
-pub fn structure(out: &mut Code, k: &Level, e: &Structure, d: u32, x: u32) -> Result<(), AllocError>
-    requires { d + x + structure_weight (scope_of k.now) (structure_of e.now) ≤ DEEPEST }
-    ensures { OnOk result (out.new ≡ out.old ++ structure_code (scope_of k.now) (structure_of e.now) d x) }
+pub fn structure(
+    out: &mut Code,
+    level: &Level,
+    e: &Structure,
+    d: u32,
+    x: u32,
+) -> Result<(), AllocError>
+    requires { d + x + structure_weight (scope_of level.now) (structure_of e.now) ≤ MAX_NUMBER }
+    ensures { OnOk result (out.new ≡ out.old ++ structure_code (scope_of level.now) (structure_of e.now) d x) }
 {
     match e {
         Structure::Literal(characters) => text(out, characters, d),
@@ -487,7 +527,7 @@ pub fn structure(out: &mut Code, k: &Level, e: &Structure, d: u32, x: u32) -> Re
             place: variable,
             ty,
         } => {
-            let site = place(out, k, variable, d, x)?;
+            let site = place(out, level, variable, d, x)?;
             address(out, d, site, byte_count(ty))
         }
     }
@@ -498,13 +538,13 @@ pub fn structure(out: &mut Code, k: &Level, e: &Structure, d: u32, x: u32) -> Re
 #[tactic(auto, using(ps_tree::proofs::TreeLemmas::argument_of_Variable), unfolding(ps_tree::specs::View::argument_of))]
 fn argument(
     out: &mut Code,
-    k: &Level,
+    level: &Level,
     argument: &Argument,
     t: u32,
     x: u32,
 ) -> Result<(), AllocError>
-    requires { t + x + argument_weight (scope_of k.now) (argument_of argument.now) ≤ DEEPEST }
-    ensures { OnOk result (out.new ≡ out.old ++ argument_code (scope_of k.now) (argument_of argument.now) t x) }
+    requires { t + x + argument_weight (scope_of level.now) (argument_of argument.now) ≤ MAX_NUMBER }
+    ensures { OnOk result (out.new ≡ out.old ++ argument_code (scope_of level.now) (argument_of argument.now) t x) }
 {
     match argument {
         Argument::Value {
@@ -512,7 +552,7 @@ fn argument(
             range,
             line,
         } => {
-            value(out, k, e, t, x)?;
+            value(out, level, e, t, x)?;
             fitting(out, gives_byte(e), literal(e), t, *range, *line)
         }
         Argument::Set {
@@ -521,19 +561,19 @@ fn argument(
             high,
             line,
         } => {
-            set(out, k, e, t, x)?;
+            set(out, level, e, t, x)?;
             hand_set(out, t, x, low, high, *line)
         }
         Argument::Copy { value: e, ty } => {
-            structure(out, k, e, t, x)?;
-            copied(out, k, ty, t, x)
+            structure(out, level, e, t, x)?;
+            copied(out, level, ty, t, x)
         }
         Argument::Variable(variable) => {
-            let site = place(out, k, variable, t, x)?;
+            let site = place(out, level, variable, t, x)?;
             address(out, t, site, 0)
         }
-        Argument::Routine { routine, up } => routine_value(out, k, *routine, *up, t),
-        Argument::Formal { up, index } => formal(out, k, t, *up, *index),
+        Argument::Routine { routine, up } => routine_value(out, level, *routine, *up, t),
+        Argument::Formal { up, index } => formal(out, level, t, *up, *index),
     }
 }
 
@@ -541,13 +581,13 @@ fn argument(
 #[cycle(values)]
 pub fn arguments(
     out: &mut Code,
-    k: &Level,
+    level: &Level,
     arguments: &[Argument],
     d: u32,
     x: u32,
 ) -> Result<(), AllocError>
-    requires { d + x + arguments_weight (scope_of k.now) (arguments_of arguments.now) ≤ DEEPEST }
-    ensures { OnOk result (out.new ≡ out.old ++ arguments_code (scope_of k.now) (arguments_of arguments.now) d x) }
+    requires { d + x + arguments_weight (scope_of level.now) (arguments_of arguments.now) ≤ MAX_NUMBER }
+    ensures { OnOk result (out.new ≡ out.old ++ arguments_code (scope_of level.now) (arguments_of arguments.now) d x) }
 {
     let mut depth = d;
     let mut scratch = x;
@@ -555,7 +595,7 @@ pub fn arguments(
     for one in arguments {
         rest = tail(rest);
         let t = held(arguments_call(rest), depth);
-        argument(out, k, one, t, scratch)?;
+        argument(out, level, one, t, scratch)?;
         depth = argument_end(one, t);
         scratch = scratch_end(one, scratch);
     }

@@ -10,7 +10,7 @@ ghost use Rattle.ps_tree.specs.View.{expr_of, structure_of, width_of, write_of};
 ghost use Rattle.tac_code.specs.declared.code.Instruction.TheVariants as i;
 
 use crate::calling::width_calls;
-use crate::depth::{DEEPEST, beside, even_above, even_from, held};
+use crate::depth::{MAX_NUMBER, beside, even_above, even_from, held};
 use crate::helpers::{amount, help};
 use crate::known::literal;
 use crate::level::Level;
@@ -30,15 +30,21 @@ const WRITE_STRING: u32 = 12;
 
 /// The width of a parameter, or its default.
 #[tactic(auto, unfolding(ps_tree::specs::View::width_of))]
-fn width(out: &mut Code, k: &Level, width: &Width, default: u32, t: u32) -> Result<(), AllocError>
-    requires default { default ≤ 2147483647 }
-    requires depth { t + width_weight (scope_of k.now) (width_of width.now) ≤ DEEPEST }
-    ensures { OnOk result (out.new ≡ out.old ++ width_code (scope_of k.now) (width_of width.now) default t) }
+fn width(
+    out: &mut Code,
+    level: &Level,
+    width: &Width,
+    default: u32,
+    t: u32,
+) -> Result<(), AllocError>
+    requires default { default ≤ MAX_NUMBER }
+    requires depth { t + width_weight (scope_of level.now) (width_of width.now) ≤ MAX_NUMBER }
+    ensures { OnOk result (out.new ≡ out.old ++ width_code (scope_of level.now) (width_of width.now) default t) }
 {
     match width {
         Width::Default => amount(out, default, t),
         Width::Given { value: e, line } => {
-            value(out, k, e, t, 0)?;
+            value(out, level, e, t, 0)?;
             check(out, literal(e), t, 1, i32::MAX, 11, *line)
         }
     }
@@ -47,104 +53,119 @@ fn width(out: &mut Code, k: &Level, width: &Width, default: u32, t: u32) -> Resu
 /// A number and its width, and the call that writes them.
 fn write_number(
     out: &mut Code,
-    k: &Level,
+    level: &Level,
     e: &Expr,
     given: &Width,
     d: u32,
 ) -> Result<(), AllocError>
-    requires { d + write_weight (scope_of k.now) (tree.WriteInteger (expr_of e.now) (width_of given.now)) ≤ DEEPEST }
-    ensures { OnOk result (out.new ≡ out.old ++ write_code (scope_of k.now)
+    requires { d + write_weight (scope_of level.now) (tree.WriteInteger (expr_of e.now) (width_of given.now))
+        ≤ MAX_NUMBER }
+    ensures { OnOk result (out.new ≡ out.old ++ write_code (scope_of level.now)
         (tree.WriteInteger (expr_of e.now) (width_of given.now)) d) }
 {
     let t = held(width_calls(given), d);
     let w = even_above(t);
-    value(out, k, e, t, 0)?;
-    width(out, k, given, 11, w)?;
-    help(out, k, WRITE_NUMBER, &[t, w], even_from(d))
+    value(out, level, e, t, 0)?;
+    width(out, level, given, 11, w)?;
+    help(out, level, WRITE_NUMBER, &[t, w], even_from(d))
 }
 
 /// The same for a character.
 fn write_character(
     out: &mut Code,
-    k: &Level,
+    level: &Level,
     e: &Expr,
     given: &Width,
     d: u32,
 ) -> Result<(), AllocError>
-    requires { d + write_weight (scope_of k.now) (tree.WriteChar (expr_of e.now) (width_of given.now)) ≤ DEEPEST }
-    ensures { OnOk result (out.new ≡ out.old ++ write_code (scope_of k.now)
+    requires { d + write_weight (scope_of level.now) (tree.WriteChar (expr_of e.now) (width_of given.now))
+        ≤ MAX_NUMBER }
+    ensures { OnOk result (out.new ≡ out.old ++ write_code (scope_of level.now)
         (tree.WriteChar (expr_of e.now) (width_of given.now)) d) }
 {
     let t = held(width_calls(given), d);
     let w = even_above(t);
-    value(out, k, e, t, 0)?;
-    width(out, k, given, 1, w)?;
-    help(out, k, WRITE_CHARACTER, &[t, w], even_from(d))
+    value(out, level, e, t, 0)?;
+    width(out, level, given, 1, w)?;
+    help(out, level, WRITE_CHARACTER, &[t, w], even_from(d))
 }
 
 /// A truth value and its width, the string of that value, and the call that writes it.
-fn write_truth(out: &mut Code, k: &Level, e: &Expr, given: &Width, d: u32) -> Result<(), AllocError>
-    requires { d + write_weight (scope_of k.now) (tree.WriteBoolean (expr_of e.now) (width_of given.now)) ≤ DEEPEST }
-    ensures { OnOk result (out.new ≡ out.old ++ write_code (scope_of k.now)
+fn write_truth(
+    out: &mut Code,
+    level: &Level,
+    e: &Expr,
+    given: &Width,
+    d: u32,
+) -> Result<(), AllocError>
+    requires { d + write_weight (scope_of level.now) (tree.WriteBoolean (expr_of e.now) (width_of given.now))
+        ≤ MAX_NUMBER }
+    ensures { OnOk result (out.new ≡ out.old ++ write_code (scope_of level.now)
         (tree.WriteBoolean (expr_of e.now) (width_of given.now)) d) }
 {
     let t = held(width_calls(given), d);
     let w = even_above(t);
     let string = beside(w);
     let size = beside(string);
-    value(out, k, e, t, 0)?;
-    width(out, k, given, 5, w)?;
+    value(out, level, e, t, 0)?;
+    width(out, level, given, 5, w)?;
     truth_text(out, t, string, size)?;
-    help(out, k, WRITE_STRING, &[string, size, w], even_from(d))
+    help(out, level, WRITE_STRING, &[string, size, w], even_from(d))
 }
 
 /// A string's address, its width and its length, and the call that writes it.
 fn write_string(
     out: &mut Code,
-    k: &Level,
+    level: &Level,
     e: &Structure,
     given: &Width,
     d: u32,
 ) -> Result<(), AllocError>
-    requires { d + write_weight (scope_of k.now) (tree.WriteText (structure_of e.now) (width_of given.now)) ≤ DEEPEST }
-    ensures { OnOk result (out.new ≡ out.old ++ write_code (scope_of k.now)
+    requires { d + write_weight (scope_of level.now)
+        (tree.WriteText (structure_of e.now) (width_of given.now)) ≤ MAX_NUMBER }
+    ensures { OnOk result (out.new ≡ out.old ++ write_code (scope_of level.now)
         (tree.WriteText (structure_of e.now) (width_of given.now)) d) }
 {
     let t = held(width_calls(given), d);
     let w = even_above(t);
     let size = beside(w);
     let length = text_length(e);
-    structure(out, k, e, t, 0)?;
-    width(out, k, given, length, w)?;
+    structure(out, level, e, t, 0)?;
+    width(out, level, given, length, w)?;
     amount(out, length, size)?;
-    help(out, k, WRITE_STRING, &[t, size, w], even_from(d))
+    help(out, level, WRITE_STRING, &[t, size, w], even_from(d))
 }
 
 #[tactic(auto, unfolding(ps_tree::specs::View::write_of))]
-fn write(out: &mut Code, k: &Level, parameter: &WriteParameter, d: u32) -> Result<(), AllocError>
-    requires { d + write_weight (scope_of k.now) (write_of parameter.now) ≤ DEEPEST }
-    ensures { OnOk result (out.new ≡ out.old ++ write_code (scope_of k.now) (write_of parameter.now) d) }
+fn write(
+    out: &mut Code,
+    level: &Level,
+    parameter: &WriteParameter,
+    d: u32,
+) -> Result<(), AllocError>
+    requires { d + write_weight (scope_of level.now) (write_of parameter.now) ≤ MAX_NUMBER }
+    ensures { OnOk result (out.new ≡ out.old ++ write_code (scope_of level.now) (write_of parameter.now) d) }
 {
     match parameter {
-        WriteParameter::Integer { value, width } => write_number(out, k, value, width, d),
-        WriteParameter::Char { value, width } => write_character(out, k, value, width, d),
-        WriteParameter::Boolean { value, width } => write_truth(out, k, value, width, d),
-        WriteParameter::Text { value, width } => write_string(out, k, value, width, d),
+        WriteParameter::Integer { value, width } => write_number(out, level, value, width, d),
+        WriteParameter::Char { value, width } => write_character(out, level, value, width, d),
+        WriteParameter::Boolean { value, width } => write_truth(out, level, value, width, d),
+        WriteParameter::Text { value, width } => write_string(out, level, value, width, d),
     }
 }
 
 /// The parameters of write or writeln, one after another.
 pub fn writes(
     out: &mut Code,
-    k: &Level,
+    level: &Level,
     parameters: &[WriteParameter],
     d: u32,
 ) -> Result<(), AllocError>
-    requires { d + writes_weight (scope_of k.now) (map write_of parameters.now) ≤ DEEPEST }
-    ensures { OnOk result (out.new ≡ out.old ++ writes_code (scope_of k.now) (map write_of parameters.now) d) }
+    requires { d + writes_weight (scope_of level.now) (map write_of parameters.now) ≤ MAX_NUMBER }
+    ensures { OnOk result (out.new ≡ out.old ++ writes_code (scope_of level.now) (map write_of parameters.now) d) }
 {
     for parameter in parameters {
-        write(out, k, parameter, d)?;
+        write(out, level, parameter, d)?;
     }
     Ok(())
 }
@@ -152,15 +173,15 @@ pub fn writes(
 /// The same, and the end of the line.
 pub fn writeln(
     out: &mut Code,
-    k: &Level,
+    level: &Level,
     parameters: &[WriteParameter],
     d: u32,
 ) -> Result<(), AllocError>
-    requires { d + writes_weight (scope_of k.now) (map write_of parameters.now) ≤ DEEPEST }
-    ensures { OnOk result (out.new ≡ out.old ++ (writes_code (scope_of k.now) (map write_of parameters.now) d
+    requires { d + writes_weight (scope_of level.now) (map write_of parameters.now) ≤ MAX_NUMBER }
+    ensures { OnOk result (out.new ≡ out.old ++ (writes_code (scope_of level.now) (map write_of parameters.now) d
         ++ i.Literal (even_from d) (pos 10) ∷ i.Put (even_from d) ∷ [])) }
 {
-    writes(out, k, parameters, d)?;
+    writes(out, level, parameters, d)?;
     out.literal(even_from(d), 10)?;
     out.push(Instruction::Put { from: even_from(d) })
 }

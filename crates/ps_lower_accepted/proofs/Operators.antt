@@ -7,7 +7,7 @@ use Rattle.ps_syntax.specs.declared.expression.Adding.{Adding}
 use Rattle.ps_syntax.specs.declared.expression.Adding.TheVariants as adding
 use Rattle.ps_syntax.specs.declared.expression.Multiplying.{Multiplying}
 use Rattle.ps_syntax.specs.declared.expression.Multiplying.TheVariants as multiplying
-use Rattle.ps_syntax.specs.declared.expression.Relation.{Relation}
+use Rattle.ps_syntax.specs.declared.expression.Relational.{Relational}
 use Rattle.ps_tree.specs.declared.types.Host.{Host}
 use Rattle.ps_tree.specs.declared.types.Host.TheVariants.{Integer, Boolean}
 use Rattle.ps_tree.specs.declared.tree.ArithmeticOperator.{ArithmeticOperator}
@@ -215,13 +215,14 @@ module _ (D : Table) (k : Scope) (os : List Shape) where
   related_is at None make x q = absurd (no_yes q)
   related_is at (Some s) make x q = (s, inside_yes (truth (make s)) x q)
 
-  compared_numbers : (at : ℕ) (relation : Relation) (a b : Expr) (x : Value) → ExprSound k os a NumberSort
+  compared_numbers : (at : ℕ) (relation : Relational) (a b : Expr) (x : Value) → ExprSound k os a NumberSort
       → ExprSound k os b NumberSort → related at (ordered relation) (λ s. Compare s a b) ≡ Yes x → ValueTold D k os x
   compared_numbers at relation a b x f g q =
       let r = related_is at (ordered relation) (λ s. Compare s a b) x q in
       subst (ValueTold D k os) r.1 (truth_told (Compare r.0 a b) ((refl, f.0, g.0), (f.1, g.1)))
 
-  compared_pointers : (at : ℕ) (relation : Relation) (a b : Expr) (n : ℕ) (x : Value) → ExprSound k os a (PointerSort n)
+  compared_pointers : (at : ℕ) (relation : Relational) (a b : Expr) (n : ℕ) (x : Value)
+      → ExprSound k os a (PointerSort n)
       → ExprSound k os b (PointerSort n) → related at (of_pointers relation) (λ s. ComparePointers s a b) ≡ Yes x
       → ValueTold D k os x
   compared_pointers at relation a b n x f g q =
@@ -235,7 +236,7 @@ module _ (D : Table) (k : Scope) (os : List Shape) where
       go true q h = eqb-true m n q
       go false q h = never h
 
-  simple_told : (at : places.Operands) (relation : Relation) (a b : Expr) (s t : DataType) (x : Value)
+  simple_told : (at : places.Operands) (relation : Relational) (a b : Expr) (s t : DataType) (x : Value)
       → SimpleTold D k os a s → SimpleTold D k os b t → is_compatible s t ≡ true → simple_comparison at relation a b s
       ≡ Yes x → ValueTold D k os x
   unfolding is_compatible is_same_type string_length simple_comparison
@@ -270,8 +271,8 @@ module _ (D : Table) (k : Scope) (os : List Shape) where
     fits : fit ≡ true
     is : truth (make relation) ≡ x
 
-  together_is : {R : Type 0} (at : places.Operands) (relation : Relation) (first : DataType) (fit : Bool) (o : Option R)
-      (make : R → Expr) (x : Value) → together at relation first fit o make ≡ Yes x → Together fit make x
+  together_is : {R : Type 0} (at : places.Operands) (relation : Relational) (first : DataType) (fit : Bool)
+      (o : Option R) (make : R → Expr) (x : Value) → together at relation first fit o make ≡ Yes x → Together fit make x
   together_is at relation first fit None make x q = absurd (no_yes q)
   together_is at relation first true (Some s) make x q = record {
     relation = s;
@@ -280,7 +281,7 @@ module _ (D : Table) (k : Scope) (os : List Shape) where
   }
   together_is at relation first false (Some s) make x q = absurd (no_yes q)
 
-  pub compared_told : (at : places.Operands) (relation : Relation) (v w x : Value) → ValueTold D k os v
+  pub compared_told : (at : places.Operands) (relation : Relational) (v w x : Value) → ValueTold D k os v
       → ValueTold D k os w → compared at relation v w ≡ Yes x → ValueTold D k os x
   unfolding compared
   compared_told at relation (SimpleValue a s) (SimpleValue b t) x h g q =

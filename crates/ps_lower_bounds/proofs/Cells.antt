@@ -1,6 +1,7 @@
 -- No variable has more words than cells.
 use Rattle.std.proofs.Common.{◌≡◌, ℕ, ◌+◌, ◌*◌, ◌/◌, ◌≤◌, Bool, true, false, ◌&&◌, if◌then◌else◌, List, [], ◌∷◌, ◌++◌}
 use Rattle.std.proofs.Common.{Option, Some, None, refl, sym, subst, arith, mul-le-mul_left}
+use Rattle.std.proofs.lemmas.Bool.{and_parts}
 use Rattle.ps_tree.specs.Types.{DataType, OrdinalType, PointerType, NilType, SetType, EmptySetType, TextType}
 use Rattle.ps_tree.specs.Types.{ArrayType, RecordType, field_list, DataTypes, no_type, type_before}
 use Rattle.ps_tree.specs.Sizes.{cells, record_cells, field_cells, value_count, fits_byte}
@@ -11,10 +12,6 @@ use Rattle.ps_lower_layout.specs.Shapes.{ByteShape, ArrayShape, shape_of, shapes
 use Rattle.ps_lower_layout.specs.Frames.{Kind, kind_of, kinds_of, listed_kinds, result_kinds, variable_kinds, entries}
 use Rattle.ps_lower_layout.specs.Frames.{words_of_all, kind_words}
 use Rattle.ps_lower_code.specs.Programs.{object_bytes}
-
-both_true : (a b : Bool) → (a && b) ≡ true → b ≡ true
-both_true true b e = e
-both_true false b e = absurd (cc)
 
 -- ---- a variable
 
@@ -40,7 +37,7 @@ array_words packed n component l = go (packed && fits_byte component) refl
   where
     go : (b : Bool) → (packed && fits_byte component) ≡ b → word_count
         (if b then ByteShape n (first_of component) else ArrayShape n (shape_of component)) ≤ n * cells component
-    go true e = let one = byte_cell component (both_true packed (fits_byte component) e) in subst
+    go true e = let one = byte_cell component (and_parts packed (fits_byte component) e).1 in subst
         (λ c. (n + 3) / 4 ≤ n * c) (sym one) (let f = filled n in omega (arith, f))
     go false e = mul-le-mul_left n l
 

@@ -3,6 +3,7 @@ use Rattle.std.proofs.Common.{◌≡◌, ℕ, zero, suc, ◌+◌, ◌-◌, ◌*�
 use Rattle.std.proofs.Common.{nat_lt, nat_eq, if◌then◌else◌, List, [], ◌∷◌, ◌++◌, length, ℤ, pos, negsuc, ◌+ℤ◌, int_le}
 use Rattle.std.proofs.Common.{refl, arith, leb-true, length-append}
 use Rattle.std.proofs.Common.{w32}
+use Rattle.std.proofs.lemmas.Bool.{and_parts}
 use mir.Facts.{sfits_to_z}
 use lib.Signed.{mag}
 use Rattle.ps_tree.specs.declared.tree.Direction.{Direction}
@@ -38,12 +39,8 @@ in_word (negsuc n) l = l
 word_int : (n : ℕ) → n < 4294967296 → IsInt (number_of n)
 word_int n l = in_word (number_of n) (sfits_to_z {w = w32} {n = n} (record { fits = l })).sfits
 
-right : (a b : Bool) → (a && b) ≡ true → b ≡ true
-right true b e = e
-right false b e = absurd (cc)
-
 byte_most : (b : ℤ) → (int_le (pos 0) b && int_le b (pos 255)) ≡ true → natural b ≤ 255
-byte_most (pos n) e = leb-true n 255 (right (nat_le 0 n) (nat_le n 255) e)
+byte_most (pos n) e = leb-true n 255 (and_parts (nat_le 0 n) (nat_le n 255) e).1
 byte_most (negsuc n) e = omega arith
 
 bytes_most : (n b : ℕ) → n ≤ 4 → b ≤ 255 → bytes_below n b < 4294967296

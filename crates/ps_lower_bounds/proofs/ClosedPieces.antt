@@ -3,6 +3,7 @@ use Rattle.std.proofs.Common.{◌≡◌, ℕ, zero, suc, ◌+◌, ◌-◌, ◌*�
 use Rattle.std.proofs.Common.{nat_le, nat_lt, if◌then◌else◌, List, [], ◌∷◌, length, ℤ, pos, negsuc, ◌-ℤ◌, Option, Some}
 use Rattle.std.proofs.Common.{None, refl, arith, leb-true, ltb-true, ltb-false}
 use Rattle.std.proofs.Math.Pow.{pow-lt}
+use Rattle.std.proofs.lemmas.Bool.{and_parts}
 use Rattle.ps_tree.specs.declared.tree.Range.{Range}
 use Rattle.ps_tree.specs.declared.tree.Range.TheVariants.{Any, Within}
 use Rattle.ps_tree.specs.declared.tree.SetRelation.{SetRelation}
@@ -36,13 +37,9 @@ use Rattle.ps_lower_bounds.proofs.Closed.{IsInt, to_int, IsNumber, Closed, anywh
 
 -- ---- numbers
 
-left : (a b : Bool) → (a && b) ≡ true → a ≡ true
-left true b e = refl
-left false b e = absurd (cc)
-
 between_int : (z : ℤ) → is_between least z greatest ≡ true → IsInt z
 between_int (pos n) e = let l = leb-true n 2147483647 e in omega (arith, l)
-between_int (negsuc n) e = let l = leb-true n 2147483647 (left (nat_le n 2147483647) true e) in omega (arith, l)
+between_int (negsuc n) e = let l = leb-true n 2147483647 (and_parts (nat_le n 2147483647) true e).0 in omega (arith, l)
 
 abbrev pub IsKnown : Option ℤ → Type 0
 IsKnown None = Unit {0}

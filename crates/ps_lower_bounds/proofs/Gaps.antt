@@ -1,7 +1,8 @@
 -- The number of a component is below the count of its array.
 use Rattle.std.proofs.Common.{◌≡◌, ℕ, zero, suc, ◌+◌, ◌-◌, ◌<◌, ◌≤◌, ℤ, pos, negsuc, ◌-ℤ◌, unsigned_abs, int_lt}
-use Rattle.std.proofs.Common.{int_le, Bool, true, false, not, ◌&&◌, nat_lt, nat_le, if◌then◌else◌, refl, sym, ap, ◌∙◌}
+use Rattle.std.proofs.Common.{int_le, Bool, true, false, not, nat_lt, nat_le, if◌then◌else◌, refl, sym, ap, ◌∙◌}
 use Rattle.std.proofs.Common.{arith, ltb-true, ltb-false, leb-true, le-leb}
+use Rattle.std.proofs.lemmas.Bool.{and_parts}
 use Rattle.ps_tree.specs.declared.types.Ordinal.{Ordinal}
 use Rattle.ps_tree.specs.Sizes.{value_count}
 use Rattle.ps_meaning.specs.Operators.{is_between}
@@ -83,11 +84,6 @@ le_through (negsuc a) (negsuc b) (negsuc h) e f = let l = leb-true b a e in let 
     go true q l m = let r = ltb-true a h q in absurd (omega arith)
     go false q l m = refl
 
-both_parts : (a b : Bool) → (a && b) ≡ true → (a ≡ true) × (b ≡ true)
-both_parts true true e = (refl, refl)
-both_parts true false e = absurd (cc)
-both_parts false b e = absurd (cc)
-
 not_false : (b : Bool) → true ≡ not b → b ≡ false
 not_false true e = absurd (cc)
 not_false false e = refl
@@ -96,7 +92,7 @@ not_false false e = refl
 pub index_number : (index : Ordinal) (z : ℤ) → is_between index.low z index.high ≡ true
     → (z -ℤ index.low ≡ pos (gap index.low z)) × (gap index.low z < value_count index)
 index_number index z e =
-    let h = both_parts (int_le index.low z) (int_le z index.high) e in
+    let h = and_parts (int_le index.low z) (int_le z index.high) e in
     let whole = le_through index.low z index.high h.0 h.1 in
     let more = gap_more index.low z index.high h.0 h.1 in
     let inside = not_false (int_lt index.high index.low) (sym whole ∙ at_most index.low index.high) in

@@ -2,6 +2,7 @@
 use Rattle.std.proofs.Common.{◌≡◌, ℕ, zero, suc, ◌+◌, ◌<◌, ◌≤◌, Bool, true, false, ◌&&◌, if◌then◌else◌, List, [], ◌∷◌}
 use Rattle.std.proofs.Common.{◌++◌, length, get_or, slice_get, Option, Some, None, refl, ap, subst, arith, leb-true}
 use Rattle.std.proofs.lemmas.Option.{none-some}
+use Rattle.std.proofs.lemmas.Bool.{and_parts}
 use Rattle.ps_tree.specs.Types.{DataType, PointerType}
 use Rattle.ps_tree.specs.Sizes.{cells}
 use Rattle.ps_tree.specs.Counts.{is_within_limits, are_small, is_small, are_small_formals, is_small_formal}
@@ -33,14 +34,6 @@ use Rattle.ps_lower_bounds.proofs.Narrow.{AtNarrow, IsNarrow, Narrow, at_narrow,
 use Rattle.ps_lower_bounds.proofs.Narrow.{Framed}
 use Rattle.ps_lower_bounds.proofs.NarrowFirsts.{first_narrow}
 use Rattle.ps_lower_bounds.proofs.NarrowStatements.{statements_narrow}
-
-left : (a b : Bool) → (a && b) ≡ true → a ≡ true
-left true b e = refl
-left false b e = absurd (cc)
-
-right : (a b : Bool) → (a && b) ≡ true → b ≡ true
-right true b e = e
-right false b e = absurd (cc)
 
 some_is : {A : Type 0} {x y : A} → Some x ≡ Some y → x ≡ y
 some_is {A} {x} e = ap (λ o. elim o [ Some z ↦ z | None ↦ x ]) e
@@ -75,7 +68,7 @@ formal_short (RoutineFormal formals result) e = tt
 formals_short : (fs : Formals) → are_small_formals fs ≡ true → AllShort (listed_kinds (kinds_of fs))
 unfolding are_small_formals
 formals_short no_formal e = tt
-formals_short (formal_before f rest) e = (formal_short f (left _ _ e), formals_short rest (right _ _ e))
+formals_short (formal_before f rest) e = (formal_short f (and_parts _ _ e).0, formals_short rest (and_parts _ _ e).1)
 
 variables_short : (types : List DataType) → (variables_extent types).taken ≤ 100000 → AllShort (variable_kinds types)
 unfolding variables_extent
@@ -101,10 +94,10 @@ pub routine_limits : (r : Routine) → is_routine_within_limits r ≡ true → (
     × (routine_nodes r ≤ 4194304) × (are_small_formals r.formals ≡ true)
 unfolding is_routine_within_limits
 routine_limits r e = (
-  leb-true (routine_cells r) 100000 (right _ _ (left _ _ e)),
+  leb-true (routine_cells r) 100000 (and_parts _ _ (and_parts _ _ e).0).1,
   leb-true (routine_nodes r) 4194304
-      (right _ _ e),
-  right _ _ (left _ _ (left _ _ (left _ _ (left _ _ e)))),
+      (and_parts _ _ e).1,
+  (and_parts _ _ (and_parts _ _ (and_parts _ _ (and_parts _ _ (and_parts _ _ e).0).0).0).0).1,
 )
 
 routine_framed : (r : Routine) → is_routine_within_limits r ≡ true → FramedRoutine r
@@ -130,25 +123,25 @@ routines_framed : (list : List Routine) → are_routines_within_limits list ≡ 
     (get_or list r no_routine)
 unfolding are_routines_within_limits
 routines_framed [] e r = none_framed
-routines_framed (x ∷ list) e zero = routine_framed x (left _ _ e)
-routines_framed (x ∷ list) e (suc r) = routines_framed list (right _ _ e) r
+routines_framed (x ∷ list) e zero = routine_framed x (and_parts _ _ e).0
+routines_framed (x ∷ list) e (suc r) = routines_framed list (and_parts _ _ e).1 r
 
 domains_few : (types : List DataType) → are_small types ≡ true → (t : ℕ) → byte_count
     (shape_of (get_or types t (PointerType 0))) ≤ 400000
 unfolding are_small
 domains_few [] e t = omega arith
-domains_few (type ∷ types) e zero = small_few type (left _ _ e)
-domains_few (type ∷ types) e (suc t) = domains_few types (right _ _ e) t
+domains_few (type ∷ types) e zero = small_few type (and_parts _ _ e).0
+domains_few (type ∷ types) e (suc t) = domains_few types (and_parts _ _ e).1 t
 
 pub program_framed : (program : Program) → is_within_limits program ≡ true → Framed program
 unfolding is_within_limits
 program_framed program e =
-    let routines = routines_framed program.routines (right _ _ e) in
+    let routines = routines_framed program.routines (and_parts _ _ e).1 in
     record {
       offsets = λ r n. (routines r).offsets n;
       kinds = λ r n kind s. short_at (entries (routine_at program r)) (routines r).kinds n kind s;
       input = (routines 0).input;
-      domains = domains_few program.domains (right _ _ (left _ _ e));
+      domains = domains_few program.domains (and_parts _ _ (and_parts _ _ e).0).1;
     }
 
 -- ---- a routine's beginning and end
@@ -260,8 +253,8 @@ pub limits_at : (list : List Routine) (n : ℕ) → are_routines_within_limits l
     → is_routine_within_limits (get_or list n no_routine) ≡ true
 unfolding are_routines_within_limits
 limits_at [] n e l = absurd (omega (arith, l))
-limits_at (r ∷ list) zero e l = left _ _ e
-limits_at (r ∷ list) (suc n) e l = limits_at list n (right _ _ e) (omega (arith, l))
+limits_at (r ∷ list) zero e l = (and_parts _ _ e).0
+limits_at (r ∷ list) (suc n) e l = limits_at list n (and_parts _ _ e).1 (omega (arith, l))
 
 scratch_few : (r : Routine) → is_routine_within_limits r ≡ true → scratch_of r < 2147483648
 unfolding routine_extent
@@ -274,7 +267,7 @@ scratch_few r e =
 pub routines_part : (program : Program) → is_within_limits program ≡ true → are_routines_within_limits program.routines
     ≡ true
 unfolding is_within_limits
-routines_part program e = right _ _ e
+routines_part program e = (and_parts _ _ e).1
 
 pub offsets_small : (program : Program) → is_within_limits program ≡ true → (number : ℕ)
     → number < length program.routines

@@ -4,6 +4,7 @@ use Rattle.std.proofs.Common.{◌++◌, length, map, get_or, slice_get, pos, Opt
 use Rattle.std.proofs.Common.{arith, length-append, leb-true}
 use Rattle.std.proofs.lemmas.Option.{none-some}
 use Rattle.std.proofs.lemmas.List.Elements.{All-nil, All-cons}
+use Rattle.std.proofs.lemmas.Bool.{and_parts}
 use Rattle.ps_tree.specs.Types.{DataType, PointerType}
 use Rattle.ps_tree.specs.Sizes.{cells}
 use Rattle.ps_tree.specs.Counts.{is_within_limits, are_small, are_routines_within_limits, is_routine_within_limits}
@@ -162,20 +163,12 @@ end_some r = go (is_program_block r.chain) r.result
 
 -- ---- limits
 
-left : (a b : Bool) → (a && b) ≡ true → a ≡ true
-left true b e = refl
-left false b e = absurd (cc)
-
-right : (a b : Bool) → (a && b) ≡ true → b ≡ true
-right true b e = e
-right false b e = absurd (cc)
-
 few_nodes : (r : Routine) → is_routine_within_limits r ≡ true → (routine_cells r ≤ 100000) × (routine_nodes r ≤ 4194304)
 unfolding is_routine_within_limits
 few_nodes r e = (
-  leb-true (routine_cells r) 100000 (right _ _ (left _ _ e)),
+  leb-true (routine_cells r) 100000 (and_parts _ _ (and_parts _ _ e).0).1,
   leb-true (routine_nodes r) 4194304
-      (right _ _ e),
+      (and_parts _ _ e).1,
 )
 
 length_mapped : {A B : Type 0} (f : A → B) (list : List A) → length (map f list) ≡ length list
@@ -217,8 +210,8 @@ module _ (program : Program) (h : Known (length program.routines) program) where
   routines_sound [] f w j v e = absurd (none-some v e)
   routines_sound (r ∷ rest) f w zero v e = subst
       (λ v. IsSoundRoutine (limits_of (code_of run_time_routines program) v) v) (some_is e)
-      (routine_sound r f.0 (left _ _ w))
-  routines_sound (r ∷ rest) f w (suc j) v e = routines_sound rest f.1 (right _ _ w) j v e
+      (routine_sound r f.0 (and_parts _ _ w).0)
+  routines_sound (r ∷ rest) f w (suc j) v e = routines_sound rest f.1 (and_parts _ _ w).1 j v e
 
 -- ---- objects
 
@@ -227,16 +220,16 @@ objects_sound : (types : List DataType) → are_small types ≡ true → (j n : 
 unfolding are_small
 objects_sound [] w j n e = absurd (none-some n e)
 objects_sound (type ∷ rest) w zero n e =
-    let few = few_bytes type (leb-true (cells type) 100000 (left _ _ w)) in
+    let few = few_bytes type (leb-true (cells type) 100000 (and_parts _ _ w).0) in
     subst IsObjectSize (some_is e) (record { aligned = omega arith; below = few })
-objects_sound (type ∷ rest) w (suc j) n e = objects_sound rest (right _ _ w) j n e
+objects_sound (type ∷ rest) w (suc j) n e = objects_sound rest (and_parts _ _ w).1 j n e
 
 domains_known : (types : List DataType) → VariablesHaveFirst types → are_small types ≡ true → (t : ℕ) → IsVariable
     (get_or types t (PointerType 0))
 unfolding are_small
 domains_known [] f w t = (tt, omega arith)
-domains_known (type ∷ rest) f w zero = (f.0, few_bytes type (leb-true (cells type) 100000 (left _ _ w)))
-domains_known (type ∷ rest) f w (suc t) = domains_known rest f.1 (right _ _ w) t
+domains_known (type ∷ rest) f w zero = (f.0, few_bytes type (leb-true (cells type) 100000 (and_parts _ _ w).0))
+domains_known (type ∷ rest) f w (suc t) = domains_known rest f.1 (and_parts _ _ w).1 t
 
 -- ---- programs
 
@@ -244,10 +237,10 @@ limits_parts : (program : Program) → is_within_limits program ≡ true → (le
     × (are_small program.domains ≡ true) × (are_routines_within_limits program.routines ≡ true)
 unfolding is_within_limits
 limits_parts program w = (
-  leb-true (length program.domains) 1048576 (right _ _ (left _ _ (left _ _ w))),
-  right _ _
-      (left _ _ w),
-  right _ _ w,
+  leb-true (length program.domains) 1048576 (and_parts _ _ (and_parts _ _ (and_parts _ _ w).0).0).1,
+  (and_parts _ _
+      (and_parts _ _ w).0).1,
+  (and_parts _ _ w).1,
 )
 
 pub code_sound : (program : Program) → is_within_limits program ≡ true → ProgramFormed program → IsSound

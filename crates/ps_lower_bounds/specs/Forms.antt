@@ -21,6 +21,7 @@ use Rattle.ps_tree.specs.Tree.{If, IfElse, Case, While, Repeat, For, With, New, 
 use Rattle.ps_tree.specs.Tree.{Writeln, Statements, no_statement, statement_before, Elements, no_element}
 use Rattle.ps_tree.specs.Tree.{element_before, Routine, Program}
 use Rattle.ps_meaning.specs.Expressions.{index_of}
+use Rattle.tac_code.specs.declared.code.TheConstants.{NUMBER_LIMIT}
 use Rattle.tac_code.specs.Sound.{IsLine, IsInteger}
 use Rattle.ps_lower_layout.specs.Shapes.{Shape, NumberShape, PointerShape, SetShape, ByteShape, ArrayShape}
 use Rattle.ps_lower_layout.specs.Shapes.{RecordShape, Shapes, no_shape, shape_before, shape_of, byte_count}
@@ -30,7 +31,7 @@ use Rattle.ps_lower_code.specs.Values.{text_length, structure_bytes}
 
 -- a byte count that an instruction may hold as an integer
 abbrev pub IsSmall : ℕ → Type 0
-IsSmall n = n < 2147483648
+IsSmall n = n < NUMBER_LIMIT
 
 abbrev pub AreIntegers : (low high : ℤ) → Type 0
 AreIntegers low high = IsInteger low × IsInteger high

@@ -1,11 +1,12 @@
 -- What a frame of variables is, once it is bound.
 use Rattle.std.proofs.Common.{◌≡◌, ℕ, suc, ◌<◌, List, [], ◌∷◌, if◌then◌else◌, refl, ap, ◌∙◌, arith}
+use Rattle.std.proofs.lemmas.Bool.{ne_eqb}
 use Rattle.ps_tree.specs.Types.{DataType}
 use Rattle.ps_tree.specs.Tree.{Program}
 use Rattle.ps_meaning.specs.Values.{Value, first}
 use Rattle.ps_meaning.specs.Worlds.{World, at_name, with_new}
 use Rattle.ps_meaning.specs.Calls.{bind_variables}
-use Rattle.tac_code_steps.proofs.Temporaries.{eq_no, eq_same}
+use Rattle.tac_code_steps.proofs.Temporaries.{eq_same}
 use Rattle.ps_lower_layout.specs.Shapes.{shape_of}
 use Rattle.ps_lower_layout.specs.Frames.{Own, variable_kinds}
 use Rattle.ps_lower_relation.specs.Ghosts.{Ghost, slot_kinds, SlotsFrom, FrameAt}
@@ -38,7 +39,7 @@ name_new : (st : ℕ → Value) (n : ℕ) (v : Value) → at_name st n v n ≡ v
 name_new st n v = ap (λ t. if t then v else st n) (eq_same n)
 
 name_old : (st : ℕ → Value) (n : ℕ) (v : Value) (m : ℕ) → m < n → at_name st n v m ≡ st m
-name_old st n v m l = let ne : m ≡ n → ⊥ = λ e. omega arith in ap (λ t. if t then v else st m) (eq_no m n ne)
+name_old st n v m l = let ne : m ≡ n → ⊥ = λ e. omega arith in ap (λ t. if t then v else st m) (ne_eqb m n ne)
 
 pub extends_new : (w : World) (v : Value) → Extends w (with_new w v)
 extends_new w v = record {

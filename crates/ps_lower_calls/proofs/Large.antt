@@ -1,6 +1,7 @@
 -- A parameter of many words is copied from the caller's scratch block to its entry.
 use Rattle.std.proofs.Common.{◌≡◌, ℕ, suc, pos, ◌+◌, ◌*◌, ◌<◌, ◌≤◌, List, [], ◌∷◌, length, Some, if◌then◌else◌, refl}
 use Rattle.std.proofs.Common.{sym, ap, ◌∙◌, subst, arith, lt-ltb}
+use Rattle.std.proofs.lemmas.Bool.{ne_eqb}
 use Rattle.tac_code.specs.declared.code.Block.TheVariants.{Frame as FrameBlock, Scratch as ScratchBlock}
 use Rattle.tac_code.specs.declared.code.Value.{Value as Word}
 use Rattle.tac_code.specs.declared.code.Value.TheVariants.{Number as Numeral, Address}
@@ -14,7 +15,7 @@ use Rattle.tac_code_steps.specs.Runs.{Stands, Comes}
 use Rattle.tac_code_steps.specs.Routines.{Fresh}
 use Rattle.tac_code_steps.specs.Splices.{spliced}
 use Rattle.tac_code_steps.proofs.Runs.{a_step, ◌>>◌}
-use Rattle.tac_code_steps.proofs.Temporaries.{eq_no, eq_same, put_same, put_other}
+use Rattle.tac_code_steps.proofs.Temporaries.{eq_same, put_same, put_other}
 use Rattle.tac_code_steps.proofs.Instructions.{literal_step, offset_step}
 use Rattle.ps_lower_layout.specs.Shapes.{Shape, word_count, byte_count}
 use Rattle.ps_lower_layout.specs.Words.{value_words}
@@ -58,7 +59,7 @@ module _ (p : Setting) (c : Activated) (gs : List Ghost) (w : World) (k : Scope)
 
       there : words_in (text_at (code_in p)) memory (ScratchBlock caller) ≡ Some theirs
       there = ap (λ b. if b then Some work.scratch else living c.waiting caller)
-          (eq_no c.number caller (λ e. waits.other (sym e))) ∙ waits.lives
+          (ne_eqb c.number caller (λ e. waits.other (sym e))) ∙ waits.lives
 
       replaced : with_block memory (FrameBlock c.number) (spliced x (value_words shape v) words)
           ≡ (entering p c gs w (spliced x (value_words shape v) words) work pc).memory

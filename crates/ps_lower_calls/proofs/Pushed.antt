@@ -1,12 +1,12 @@
 -- What is known of places, frames and environments outlives a call: a new activation's number is no earlier one's.
 use Rattle.std.proofs.Common.{◌≡◌, ℕ, ◌<◌, Bool, true, false, nat_eq, if◌then◌else◌, List, [], ◌∷◌, Some, refl, ap}
 use Rattle.std.proofs.Common.{◌∙◌, arith, eqb-true}
+use Rattle.std.proofs.lemmas.Bool.{ne_eqb}
 use Rattle.ps_tree.specs.Tree.{Program, routine_at}
 use Rattle.tac_code.specs.declared.code.Block.{Block}
 use Rattle.tac_code.specs.declared.code.Value.{Value as Word}
 use Rattle.ps_meaning.specs.Values.{Root, Declared, Made, Spot}
 use Rattle.ps_meaning.specs.Worlds.{Env, Outside, Within, Frame, no_entry, variable_before, routine_before}
-use Rattle.tac_code_steps.proofs.Temporaries.{eq_no}
 use Rattle.tac_code_steps.proofs.Pieces.{some_none}
 use Rattle.ps_lower_layout.specs.Shapes.{Part, Whole}
 use Rattle.ps_lower_code.specs.Fits.{tail}
@@ -28,7 +28,7 @@ module _ (program : Program) (gs : List Ghost) (made : List ℕ) (new : Ghost) (
   found_pushed a g h =
       let low = found_less gs new.number a g numbered h in
       let ne : new.number ≡ a → ⊥ = λ e. omega (arith, low) in
-      ap (λ b. if b then Some new else found gs a) (eq_no new.number a ne) ∙ h
+      ap (λ b. if b then Some new else found gs a) (ne_eqb new.number a ne) ∙ h
 
   root_pushed : (root : Root) (path : List ℕ) (b : Block) (o : ℕ) (part : Part)
       → RootAt program gs made root path b o part → RootAt program (new ∷ gs) made root path b o part

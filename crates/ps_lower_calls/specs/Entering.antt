@@ -1,5 +1,6 @@
 -- An activation that is entered: the words of its frame are placed piece by piece, before a ghost stands for them.
 use Rattle.std.specs.Prelude.{◌≡◌, ℕ, ◌*◌, ◌<◌, List, ◌∷◌, length, get_or, sum_by, Some}
+use Rattle.tac_code.specs.declared.code.TheConstants.{BLOCK_LIMIT}
 use Rattle.tac_code.specs.declared.code.Block.TheVariants.{Frame as FrameBlock}
 use Rattle.tac_code.specs.declared.code.Base.TheVariants as base
 use Rattle.tac_code.specs.Memory.{Words, living}
@@ -70,7 +71,7 @@ pub record CanCopy (p : Setting) (c : Activated) (gs : List Ghost) (w : World) (
   pub number : c.number < count
   pub frames : AreBelow count (frames_of p.program w gs)
   pub waiting : AreBelow count c.waiting
-  pub small : 4 * size < 2147483648
+  pub small : 4 * size < BLOCK_LIMIT
 
 -- The words of the scratch block of one that waits, where a call's copies stand.
 pub record Waits (c : Activated) (caller : ℕ) (theirs : Words) : Type 0 where

@@ -2,6 +2,7 @@
 use Rattle.std.specs.Prelude.{◌≡◌, ℕ, suc, ◌+◌, ◌*◌, ◌<◌, ◌≤◌, List, [], ◌∷◌, ◌++◌, pos, Option, Some, None, slice_get}
 use Rattle.ps_tree.specs.Types.{DataType}
 use Rattle.ps_tree.specs.Tree.{Program, routine_at}
+use Rattle.tac_code.specs.declared.code.TheConstants.{BLOCK_LIMIT}
 use Rattle.tac_code.specs.declared.code.Block.{Block}
 use Rattle.tac_code.specs.declared.code.Block.TheVariants.{Scratch as ScratchBlock}
 use Rattle.tac_code.specs.declared.code.Value.{Value as Word}
@@ -71,7 +72,7 @@ pub record CopiedIn (caller : ℕ) (scratch : Words) (end : ℕ) (shape : Shape)
   pub place : ℕ
   pub is : x ≡ Address (ScratchBlock caller) (4 * place)
   pub within : 4 * (place + word_count shape) ≤ end
-  pub small : 4 * (place + word_count shape) < 2147483648
+  pub small : 4 * (place + word_count shape) < BLOCK_LIMIT
   pub reads : (i : ℕ) → i < word_count shape → slice_get scratch (place + i) ≡ slice_get (value_words shape v) i
 
 -- the words of what is passed: the value's own, or the address of its copy

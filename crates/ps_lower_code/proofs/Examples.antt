@@ -5,7 +5,8 @@ use Rattle.ps_tree.specs.declared.types.Ordinal.{Ordinal}
 use Rattle.ps_tree.specs.declared.tree.Range.TheVariants.{Within}
 use Rattle.ps_tree.specs.declared.tree.Direction.TheVariants.{To, Downto}
 use Rattle.ps_tree.specs.declared.tree.ArithmeticOperator.TheVariants.{Add, Subtract}
-use Rattle.ps_tree.specs.declared.tree.Relation.TheVariants.{Less as IsLess, Greater as IsGreater, Equal as IsEqual}
+use Rattle.ps_tree.specs.declared.tree.OrderRelation.TheVariants.{Less as IsLess, Greater as IsGreater}
+use Rattle.ps_tree.specs.declared.tree.OrderRelation.TheVariants.{Equal as IsEqual}
 use Rattle.ps_tree.specs.Types.{DataType, OrdinalType, ArrayType}
 use Rattle.ps_tree.specs.Tree.{Place, Variable, Entry, Element, no_selector, selector_before, no_arithmetic_step}
 use Rattle.ps_tree.specs.Tree.{arithmetic_step_before, Expr, Number, Load, Arithmetic, Compare, Not, Call, CallFormal}

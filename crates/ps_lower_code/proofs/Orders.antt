@@ -4,7 +4,7 @@ use Rattle.std.proofs.Common.{◌≡◌, ℕ, pos, negsuc, true, List, [], ◌�
 use Rattle.ps_tree.specs.declared.tree.Range.TheVariants.{Within}
 use Rattle.ps_tree.specs.declared.tree.Direction.TheVariants.{To}
 use Rattle.ps_tree.specs.declared.tree.BooleanOperator.TheVariants.{And}
-use Rattle.ps_tree.specs.declared.tree.Relation.TheVariants.{Greater as IsGreater, Equal as IsEqual}
+use Rattle.ps_tree.specs.declared.tree.OrderRelation.TheVariants.{Greater as IsGreater, Equal as IsEqual}
 use Rattle.ps_tree.specs.Types.{DataType, PointerType, ArrayType}
 use Rattle.ps_tree.specs.Tree.{Variable, Entry, Target, no_selector, selector_before, Expr, Load, Logic, Compare}
 use Rattle.ps_tree.specs.Tree.{no_operand, operand_before, Contents, ByValue, ByCopy, ByRoutine, no_argument}

@@ -22,6 +22,7 @@ use Rattle.ps_tree.specs.Tree.{no_set_step, set_step_before, CompareSets, In, Se
 use Rattle.ps_tree.specs.Tree.{Member, One, Several, Members, no_member, member_before, New, Pack, Unpack, Eof, Eoln}
 use Rattle.ps_tree.specs.Tree.{ReadVariable, ReadChar, ReadInteger, Read, Readln}
 use Rattle.ps_meaning.specs.Expressions.{index_of}
+use Rattle.tac_code.specs.declared.code.TheConstants.{BLOCK_LIMIT}
 use Rattle.tac_code.specs.Numbers.{is_integer}
 use Rattle.ps_lower_layout.specs.Shapes.{Shape, NumberShape, PointerShape, SetShape, ByteShape, ArrayShape, shape_of}
 use Rattle.ps_lower_layout.specs.Shapes.{field_part, Part, Whole, Byte, component_part}
@@ -158,13 +159,13 @@ module _ (k : Scope) where
 
     -- a string's characters are bytes, and so are those of a string variable
     pub StructureFits : List Shape → Structure → Type 0
-    StructureFits os (Literal characters) = All (λ b. b < 256) characters × (length characters < 2147483648)
+    StructureFits os (Literal characters) = All (λ b. b < 256) characters × (length characters < BLOCK_LIMIT)
     StructureFits os (Contents p type) = (count : ℕ) × (first : ℤ) × (shape_of type ≡ ByteShape count first)
         × (string_length type ≡ Some count) × PlaceFits os p (Whole (ByteShape count first))
 
     -- what can be assigned to a variable of a shape: a string of the same length, or a variable of the same shape
     pub ContentsFit : List Shape → Structure → Shape → Type 0
-    ContentsFit os (Literal characters) shape = All (λ b. b < 256) characters × (length characters < 2147483648)
+    ContentsFit os (Literal characters) shape = All (λ b. b < 256) characters × (length characters < BLOCK_LIMIT)
         × ((first : ℤ) × (shape ≡ ByteShape (length characters) first))
     ContentsFit os (Contents p type) shape = (shape_of type ≡ shape) × PlaceFits os p (Whole shape)
 

@@ -1,11 +1,12 @@
 -- What code is made from: temporaries by their classes, frames by their levels, and the pieces that all constructs
 -- share.
-use Rattle.std.specs.Prelude.{ℕ, zero, suc, ◌+◌, ◌%◌, ℤ, pos, negsuc, Bool, true, false, ◌&&◌, nat_eq, if◌then◌else◌}
+use Rattle.std.specs.Prelude.{ℕ, zero, suc, ◌+◌, ◌%◌, ℤ, pos, Bool, true, false, ◌&&◌, nat_eq, if◌then◌else◌}
 use Rattle.std.specs.Prelude.{List, [], ◌∷◌, ◌++◌, length, Option, Some, None, get_or, slice_get, int_le}
 use Rattle.ps_tree.specs.declared.tree.Range.{Range}
 use Rattle.ps_tree.specs.declared.tree.Range.TheVariants.{Any, Within}
 use Rattle.ps_tree.specs.Tree.{Program, Routine, routine_at}
 use Rattle.ps_meaning.specs.Operators.{is_between, is_equal}
+pub use Rattle.ps_meaning.specs.Operators.{least, greatest}
 use Rattle.tac_code.specs.declared.code.Operand.{Operand}
 use Rattle.tac_code.specs.declared.code.Operand.TheVariants as operand
 use Rattle.tac_code.specs.declared.code.Base.{Base}
@@ -42,12 +43,6 @@ abbrev pub moved : (from to : ℕ) → List Instruction
 moved from to = if nat_eq from to then [] else Copy to from ∷ []
 
 -- ---- numbers
-
-abbrev pub least : ℤ
-least = negsuc 2147483647
-
-abbrev pub greatest : ℤ
-greatest = pos 2147483647
 
 -- every integer is in the range
 abbrev pub is_any : ℤ → ℤ → Bool

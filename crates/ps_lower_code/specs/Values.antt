@@ -9,8 +9,8 @@ use Rattle.ps_tree.specs.declared.tree.BooleanOperator.{BooleanOperator}
 use Rattle.ps_tree.specs.declared.tree.BooleanOperator.TheVariants.{And, Or}
 use Rattle.ps_tree.specs.declared.tree.SetOperator.{SetOperator}
 use Rattle.ps_tree.specs.declared.tree.SetOperator.TheVariants.{Union, Difference, Intersection}
-use Rattle.ps_tree.specs.declared.tree.Relation.{Relation as TreeRelation}
-use Rattle.ps_tree.specs.declared.tree.Relation.TheVariants as asked
+use Rattle.ps_tree.specs.declared.tree.OrderRelation.{OrderRelation}
+use Rattle.ps_tree.specs.declared.tree.OrderRelation.TheVariants as asked
 use Rattle.ps_tree.specs.declared.tree.PointerRelation.{PointerRelation}
 use Rattle.ps_tree.specs.declared.tree.PointerRelation.TheVariants.{Same, Other}
 use Rattle.ps_tree.specs.declared.tree.SetRelation.{SetRelation}
@@ -76,7 +76,7 @@ abbrev pub bit_operator_of : BooleanOperator → BitOperator
 bit_operator_of And = bits.And
 bit_operator_of Or = bits.Or
 
-abbrev pub relation_of : TreeRelation → Relation
+abbrev pub relation_of : OrderRelation → Relation
 relation_of asked.Equal = Equal
 relation_of asked.Different = NotEqual
 relation_of asked.Less = Less

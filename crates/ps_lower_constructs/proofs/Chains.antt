@@ -3,7 +3,7 @@ use Rattle.std.proofs.Common.{◌≡◌, ℕ, suc, ◌≤◌, ℤ, pos, ◌-ℤ�
 use Rattle.std.proofs.Common.{◌++◌, Option, Some, None, nat_eq, refl, sym, ap, ◌∙◌, subst, arith, eqb-true}
 use Rattle.ps_tree.specs.declared.tree.ArithmeticOperator.{ArithmeticOperator}
 use Rattle.ps_tree.specs.declared.tree.ArithmeticOperator.TheVariants.{Subtract}
-use Rattle.ps_tree.specs.declared.tree.Relation.{Relation as TreeRelation}
+use Rattle.ps_tree.specs.declared.tree.OrderRelation.{OrderRelation}
 use Rattle.ps_tree.specs.Tree.{ArithmeticSteps, no_arithmetic_step, arithmetic_step_before, Expr, Plus, Minus, Not}
 use Rattle.ps_tree.specs.Tree.{Arithmetic, Compare}
 use Rattle.tac_code.specs.declared.code.Value.TheVariants.{Number as Numeral}
@@ -246,7 +246,7 @@ module _ (p : Setting) (n : ℕ) (call : Caller) (c : Activated) (active : IsAct
         byte = λ q. false_true q;
       }))
 
-  pub compare_front : (r : TreeRelation) (a b : Expr) → FrontRuns p n call c active a → FrontRuns p n call c active b
+  pub compare_front : (r : OrderRelation) (a b : Expr) → FrontRuns p n call c active a → FrontRuns p n call c active b
       → FrontRuns p n call c active (Compare r a b)
   compare_front r a b fa fb d x o w k pc pc' sort alive opened fits st =
       let la = kept (expr_calls b) d in

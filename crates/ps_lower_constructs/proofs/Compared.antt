@@ -1,7 +1,7 @@
 -- Comparisons of strings.
 use Rattle.std.proofs.Common.{◌≡◌, ℕ, suc, ◌+◌, ◌<◌, ◌≤◌, ℤ, pos, [], ◌∷◌, ◌++◌, length, Some, None, refl, sym, ap}
 use Rattle.std.proofs.Common.{◌∙◌, subst, arith, append-nil}
-use Rattle.ps_tree.specs.declared.tree.Relation.{Relation as TreeRelation}
+use Rattle.ps_tree.specs.declared.tree.OrderRelation.{OrderRelation}
 use Rattle.ps_tree.specs.Tree.{Structure, Literal, Contents, CompareStrings}
 use Rattle.tac_code.specs.declared.code.Value.TheVariants.{Number as Numeral, Address}
 use Rattle.tac_code.specs.declared.code.Instruction.TheVariants as i
@@ -49,7 +49,7 @@ module _ (p : Setting) (n : ℕ) (call : Caller) (c : Activated) (active : IsAct
       (fits.1, (fits.2 ∙ same, subst (λ y. PlaceFits (plain_scope p c) o.shapes q (Whole y)) same fits.4))
 
   -- the routine gives the first bytes that differ
-  compared_so : (d x a b t m : ℕ) (f g : ℤ) (r : TreeRelation) (h u : Held) (w : World) (k : Work) (pc pc' : ℕ) → d ≤ a
+  compared_so : (d x a b t m : ℕ) (f g : ℤ) (r : OrderRelation) (h u : Held) (w : World) (k : Work) (pc pc' : ℕ) → d ≤ a
       → a < b → b < t → Alive p c w k → StructureIn p c a (ByteShape m f) h w k → StructureIn p c b
       (ByteShape m g) u w k
       → Stands (code_in p) c.routine pc (i.Literal t (pos m) ∷ i.Call d (length p.program.routines + 7)
@@ -126,7 +126,7 @@ module _ (p : Setting) (n : ℕ) (call : Caller) (c : Activated) (active : IsAct
             (held_shape p c w k.count alive.holds (ByteShape m g) u two.block two.offset two.at)));
       }
 
-  pub compare_strings_front : (r : TreeRelation) (a b : Structure) → StructureRuns p n call c active a
+  pub compare_strings_front : (r : OrderRelation) (a b : Structure) → StructureRuns p n call c active a
       → StructureRuns p n call c active b → FrontRuns p n call c active (CompareStrings r a b)
   compare_strings_front r a b first second d x o w k pc pc' sort alive opened fits st =
       let code = scope_in p c o in

@@ -2,6 +2,7 @@
 use Rattle.std.proofs.Common.{◌≡◌, ℕ, zero, suc, ◌-◌, ◌%◌, ◌<◌, ◌≤◌, ℤ, pos, negsuc, unsigned_abs, Bool, true, false}
 use Rattle.std.proofs.Common.{if◌then◌else◌, IsTrue, List, refl, sym, ap, ◌∙◌, arith, nat_eq, ◌+ℤ◌, ◌-ℤ◌, ◌*ℤ◌}
 use Rattle.std.proofs.Common.{int_div, lt-ltb, ltb-true, mod-lt, int_le}
+use Rattle.std.proofs.lemmas.Bool.{ne_eqb}
 use Rattle.behavior.specs.Endings.{Stack, Heap, Stuck, failed, ending_by}
 use Rattle.ps_tree.specs.declared.tree.ArithmeticOperator.{ArithmeticOperator}
 use Rattle.ps_tree.specs.declared.tree.ArithmeticOperator.TheVariants.{Add, Subtract, Multiply, Div, Mod}
@@ -13,7 +14,7 @@ use Rattle.ps_meaning.specs.Operators.{Computed, Result, Fault, is_between, is_e
 use Rattle.ps_meaning.specs.Worlds.{World, settled}
 use Rattle.tac_code_steps.specs.Runs.{step_of, Stops}
 use Rattle.tac_code_steps.proofs.Runs.{stops_now}
-use Rattle.tac_code_steps.proofs.Temporaries.{put_same, eq_no}
+use Rattle.tac_code_steps.proofs.Temporaries.{put_same}
 use Rattle.ps_lower_layout.specs.Paths.{NumberSort}
 use Rattle.ps_lower_code.specs.Scopes.{least, greatest}
 use Rattle.ps_lower_relation.specs.Here.{Setting, machine_of, code_in, Work, Activated, IsActive, Alive, state, WordIn}
@@ -33,10 +34,10 @@ ends_by number line calls l =
     let z : number ≡ 0 → ⊥ = λ e. omega arith in
     let a : number ≡ 12 → ⊥ = λ e. omega arith in
     let b : number ≡ 13 → ⊥ = λ e. omega arith in
-    ap (λ t. if t then Stuck else ending_by number line calls) (eq_no number 0 z)
+    ap (λ t. if t then Stuck else ending_by number line calls) (ne_eqb number 0 z)
     ∙ ap (λ t. if t then Stack line else (if nat_eq number 13 then Heap line else failed number line calls))
-    (eq_no number 12 a)
-    ∙ ap (λ t. if t then Heap line else failed number line calls) (eq_no number 13 b)
+    (ne_eqb number 12 a)
+    ∙ ap (λ t. if t then Heap line else failed number line calls) (ne_eqb number 13 b)
 
 -- what is computed is an integer, and an error is one of the language
 abbrev pub IsWell : Computed → Type 0

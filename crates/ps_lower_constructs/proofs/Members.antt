@@ -4,7 +4,7 @@ use Rattle.std.proofs.Common.{not, ◌&&◌, nat_eq, nat_lt, if◌then◌else◌
 use Rattle.std.proofs.Common.{arith, lt-ltb, ltb-true, ltb-false}
 use Rattle.std.proofs.lemmas.Grind.{and_numeral}
 use Rattle.std.proofs.lemmas.Int.{ints}
-use Rattle.std.proofs.lemmas.Bool.{le-ltb}
+use Rattle.std.proofs.lemmas.Bool.{le-ltb, ne_eqb}
 use Rattle.behavior.specs.Endings.{Stuck}
 use Rattle.ps_tree.specs.Tree.{Place, Expr, In, SetExpr, LoadSet, Constructor, Combine, SetSteps, Members}
 use Rattle.tac_code.specs.declared.code.Base.TheVariants as base
@@ -26,7 +26,7 @@ use Rattle.ps_meaning.specs.Worlds.{World, Gives, and_then, contents_in}
 use Rattle.ps_meaning.specs.Expressions.{Caller, access, value, set_value}
 use Rattle.tac_code_steps.specs.Runs.{Stands, step_of}
 use Rattle.tac_code_steps.proofs.Runs.{split, stay, a_step}
-use Rattle.tac_code_steps.proofs.Temporaries.{put_same, put_other, eq_no, eq_same}
+use Rattle.tac_code_steps.proofs.Temporaries.{put_same, put_other, eq_same}
 use Rattle.tac_code_steps.proofs.Instructions.{arithmetic_step, bits_step, compare_step, offset_step, index_step}
 use Rattle.tac_code_steps.proofs.Instructions.{load_step, jump_step, branch_step}
 use Rattle.ps_lower_layout.specs.Shapes.{SetShape, Whole}
@@ -80,7 +80,7 @@ above_zero q = let e : pos q -ℤ pos 0 ≡ pos q = omega (arith, ints) in ap na
 
 -- the lowest byte of a number that lies elsewhere is another number
 other_above : (n : ℕ) → 256 ≤ n → same_number (pos (word_of (pos n) % 256)) (pos n) ≡ false
-other_above n l = eq_no (word_of (pos n) % 256) n (λ e. omega (arith, l, e))
+other_above n l = ne_eqb (word_of (pos n) % 256) n (λ e. omega (arith, l, e))
 
 same_inside : (n : ℕ) → n < 256 → same_number (pos (word_of (pos n) % 256)) (pos n) ≡ true
 same_inside n l = let e : word_of (pos n) % 256 ≡ n = omega (arith, l) in ap (λ k. nat_eq k n) e ∙ eq_same n

@@ -2,7 +2,7 @@
 use Rattle.std.proofs.Common.{◌≡◌, ◌==◌, ℕ, zero, suc, ◌+◌, ◌-◌, ◌<◌, ℤ, pos, negsuc, ◌-ℤ◌, int_lt, Bool, true, false}
 use Rattle.std.proofs.Common.{not, nat_eq, nat_lt, if◌then◌else◌, refl, sym, ap, ◌∙◌, arith, eq-eqb, eqb-true, lt-ltb}
 use Rattle.std.proofs.Common.{ltb-true, ltb-false}
-use Rattle.ps_tree.specs.declared.tree.Relation.{Relation as TreeRelation}
+use Rattle.ps_tree.specs.declared.tree.OrderRelation.{OrderRelation}
 use Rattle.tac_code.specs.declared.code.Relation.{Relation}
 use Rattle.tac_code.specs.declared.code.Relation.TheVariants.{Equal, NotEqual, Less, LessEqual, Greater, GreaterEqual}
 use Rattle.tac_code.specs.Numbers.{same_number, compared}
@@ -75,11 +75,11 @@ difference_compared GreaterEqual a b = ap not (tells_order a b).less
 
 -- ---- strings
 
-abbrev difference_holds : TreeRelation → ℤ × ℤ → Bool
+abbrev difference_holds : OrderRelation → ℤ × ℤ → Bool
 difference_holds r (x, y) = holds r x y
 
 -- the bytes of two strings of one length are in the order of their values
-pub strings_compared : (r : TreeRelation) (n : ℕ) (vs ws : Values) → AreByteValues n vs → AreByteValues n ws → compared
+pub strings_compared : (r : OrderRelation) (n : ℕ) (vs ws : Values) → AreByteValues n vs → AreByteValues n ws → compared
     (relation_of r) (first_difference (bytes_of n vs) (bytes_of n ws)) (pos 0) ≡ strings_hold r vs ws
 strings_compared r zero no_value no_value h g = related_same r (pos 0) (pos 0)
 strings_compared r zero no_value (value_before w ws) h g = absurd g

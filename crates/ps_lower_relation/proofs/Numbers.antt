@@ -4,10 +4,11 @@ use Rattle.std.proofs.Common.{int_le, int_div, unsigned_abs, Bool, true, false, 
 use Rattle.std.proofs.Common.{if◌then◌else◌, IsTrue, refl, sym, ap, ◌∙◌, arith, lt-ltb, ltb-true, ltb-false, le-leb}
 use Rattle.std.proofs.Common.{leb-true}
 use Rattle.std.specs.Int.{int_rem_euclid}
+use Rattle.std.proofs.lemmas.Bool.{ne_eqb}
 use Rattle.ps_tree.specs.declared.tree.ArithmeticOperator.{ArithmeticOperator}
 use Rattle.ps_tree.specs.declared.tree.ArithmeticOperator.TheVariants.{Add, Subtract, Multiply, Div, Mod}
-use Rattle.ps_tree.specs.declared.tree.Relation.{Relation as TreeRelation}
-use Rattle.ps_tree.specs.declared.tree.Relation.TheVariants as asked
+use Rattle.ps_tree.specs.declared.tree.OrderRelation.{OrderRelation}
+use Rattle.ps_tree.specs.declared.tree.OrderRelation.TheVariants as asked
 use Rattle.tac_code.specs.declared.code.Relation.{Relation}
 use Rattle.tac_code.specs.declared.code.Relation.TheVariants.{Equal, NotEqual, Less, LessEqual, Greater, GreaterEqual}
 use Rattle.tac_code.specs.Numbers.{is_integer, is_zero, same_number, compared, is_in_range, number_of, bits, within}
@@ -19,7 +20,6 @@ use Rattle.ps_tree.specs.declared.tree.Direction.TheVariants.{To, Downto}
 use Rattle.tac_code.specs.declared.code.BitOperator.TheVariants.{Plus}
 use Rattle.ps_meaning.specs.Statements.{succeeding}
 use Rattle.ps_lower_code.specs.Statements.{step_number}
-use Rattle.tac_code_steps.proofs.Temporaries.{eq_no}
 use Rattle.ps_lower_code.specs.Scopes.{least, greatest}
 use Rattle.ps_lower_code.specs.Values.{operator_of, relation_of, opposite}
 
@@ -76,7 +76,7 @@ same_numbers (negsuc a) (negsuc b) = refl
 
 zero_test : (y : ℤ) → is_zero y ≡ is_equal y (pos 0)
 zero_test (pos zero) = refl
-zero_test (pos (suc n)) = let ne : suc n ≡ 0 → ⊥ = λ e. omega arith in sym (eq_no (suc n) 0 ne)
+zero_test (pos (suc n)) = let ne : suc n ≡ 0 → ⊥ = λ e. omega arith in sym (ne_eqb (suc n) 0 ne)
 zero_test (negsuc n) = refl
 
 -- ---- truths
@@ -98,7 +98,7 @@ unlike_zero x = ap not (same_numbers x (pos 0))
 
 -- ---- relations
 
-pub related_same : (r : TreeRelation) (x y : ℤ) → compared (relation_of r) x y ≡ holds r x y
+pub related_same : (r : OrderRelation) (x y : ℤ) → compared (relation_of r) x y ≡ holds r x y
 related_same asked.Equal x y = same_numbers x y
 related_same asked.Different x y = ap not (same_numbers x y)
 related_same asked.Less x y = refl

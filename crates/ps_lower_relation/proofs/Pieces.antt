@@ -2,12 +2,13 @@
 use Rattle.std.proofs.Common.{◌≡◌, ◌⊎◌, inl, inr, ℕ, zero, suc, ◌+◌, ◌<◌, ◌≤◌, List, [], ◌∷◌, length, replicate}
 use Rattle.std.proofs.Common.{slice_get, Option, Some, None, Bool, true, false, if◌then◌else◌, refl, sym, ap, ◌∙◌}
 use Rattle.std.proofs.Common.{subst, arith}
+use Rattle.std.proofs.lemmas.Bool.{ne_eqb}
 use Rattle.ps_tree.specs.Tree.{Program, routine_at}
 use Rattle.tac_code.specs.declared.code.Value.{Value as Word}
 use Rattle.ps_meaning.specs.Values.{Value}
 use Rattle.ps_meaning.specs.Worlds.{World, at_name}
 use Rattle.tac_code_steps.specs.Splices.{Piece, ApartFrom, ArePlaced, with_words}
-use Rattle.tac_code_steps.proofs.Temporaries.{eq_no, eq_same}
+use Rattle.tac_code_steps.proofs.Temporaries.{eq_same}
 use Rattle.tac_code_steps.proofs.Pieces.{same_some, some_none, placed_length}
 use Rattle.ps_lower_layout.specs.Shapes.{Shape}
 use Rattle.ps_lower_layout.specs.Words.{value_words}
@@ -143,7 +144,7 @@ own_name (ClosureSlot ks result r w ∷ xs) m n zero shape name h e = absurd (cc
 own_name (ClosureSlot ks result r w ∷ xs) m n (suc i) shape name h e = own_name xs m n i shape name h e
 
 pub name_other : (st : ℕ → Value) (n : ℕ) (v : Value) (m : ℕ) → (m ≡ n → ⊥) → at_name st n v m ≡ st m
-name_other st n v m h = ap (λ t. if t then v else st m) (eq_no m n h)
+name_other st n v m h = ap (λ t. if t then v else st m) (ne_eqb m n h)
 
 pub name_same : (st : ℕ → Value) (n : ℕ) (v : Value) → at_name st n v n ≡ v
 name_same st n v = ap (λ t. if t then v else st n) (eq_same n)

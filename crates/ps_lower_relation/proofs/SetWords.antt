@@ -9,6 +9,7 @@ use Rattle.std.proofs.Math.Pow.{pow-lt}
 use Rattle.std.proofs.lemmas.Nat.{or_lt, and_le_l}
 use Rattle.std.proofs.lemmas.Nat.Bits.{bit_at-zero, bit_at_lowest, bit_at-suc, bit_at-pow_same, bit_at-pow_other}
 use Rattle.std.proofs.lemmas.Nat.Bits.{bit_at_or, bit_at_and, same_from_bits_below}
+use Rattle.std.proofs.lemmas.Bool.{ne_eqb}
 use Rattle.ps_tree.specs.declared.tree.SetOperator.{SetOperator}
 use Rattle.ps_tree.specs.declared.tree.SetOperator.TheVariants.{Union, Difference, Intersection}
 use Rattle.tac_code.specs.declared.code.Value.TheVariants.{Number}
@@ -16,7 +17,7 @@ use Rattle.tac_code.specs.declared.code.BitOperator.TheVariants.{And, Or, ShiftL
 use Rattle.tac_code.specs.Numbers.{number_of, word_of, bits, same_number}
 use Rattle.ps_meaning.specs.Operators.{combine_sets}
 use Rattle.ps_lower_layout.specs.Words.{bits_from, set_words_from, set_words}
-use Rattle.tac_code_steps.proofs.Temporaries.{eq_no, eq_same}
+use Rattle.tac_code_steps.proofs.Temporaries.{eq_same}
 use Rattle.ps_lower_code.proofs.Masks.{bits_below}
 use Rattle.ps_lower_relation.specs.Sets.{set_number, bit_operator_of}
 use Rattle.ps_lower_relation.proofs.Bytes.{word_back}
@@ -113,7 +114,7 @@ bits_power q j l =
     go i false e =
         let other : i ≡ j → ⊥ = λ s. absurd_bool (sym (ap (λ m. nat_eq m j) s ∙ eq_same j) ∙ e) in
         let apart : 32 * q + i ≡ 32 * q + j → ⊥ = λ s. other (omega (arith, s)) in
-        bit_at-pow_other j i other ∙ ap bit_of (sym (eq_no (32 * q + i) (32 * q + j) apart))
+        bit_at-pow_other j i other ∙ ap bit_of (sym (ne_eqb (32 * q + i) (32 * q + j) apart))
       where
         absurd_bool : true ≡ false → ⊥
         absurd_bool s = absurd (cc)
@@ -176,7 +177,7 @@ pub member_elsewhere : (s : ℕ → Bool) (n q : ℕ) → (q ≡ n / 32 → ⊥)
 member_elsewhere s n q other =
     number_same (λ k. s k || nat_eq k n) s q (λ i l.
     let apart : 32 * q + i ≡ n → ⊥ = λ e. other (omega (arith, e, l)) in
-    ap (λ b. s (32 * q + i) || b) (eq_no (32 * q + i) n apart) ∙ or_false (s (32 * q + i)))
+    ap (λ b. s (32 * q + i) || b) (ne_eqb (32 * q + i) n apart) ∙ or_false (s (32 * q + i)))
   where
     or_false : (b : Bool) → (b || false) ≡ b
     or_false true = refl

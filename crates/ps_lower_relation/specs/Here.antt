@@ -2,6 +2,7 @@
 use Rattle.std.specs.Prelude.{◌≡◌, ℕ, ◌+◌, ◌*◌, ◌/◌, ◌<◌, List, [], ◌∷◌, ◌++◌, length, slice_get, get_or, Option, Some}
 use Rattle.std.specs.Prelude.{sum_by}
 use Rattle.ps_tree.specs.Tree.{Program, routine_at, domain_at}
+use Rattle.tac_code.specs.declared.code.TheConstants.{BLOCK_LIMIT}
 use Rattle.tac_code.specs.declared.code.Block.{Block}
 use Rattle.tac_code.specs.declared.code.Block.TheVariants.{Frame as FrameBlock, Scratch as ScratchBlock}
 use Rattle.tac_code.specs.declared.code.Value.{Value as Word}
@@ -111,9 +112,9 @@ Below n (b ∷ bs) = (b.number < n) × Below n bs
 
 -- every frame, every object and every scratch block has less than 2 ^ 31 bytes
 pub record AreSmall (program : Program) : Type 0 where
-  pub frames : (r : ℕ) → 4 * (layout_of (routine_at program r)).size < 2147483648
-  pub objects : (t : ℕ) → byte_count (shape_of (domain_at program t)) < 2147483648
-  pub scratch : (r : ℕ) → scratch_in (routine_code program (routine_at program r)) < 2147483648
+  pub frames : (r : ℕ) → 4 * (layout_of (routine_at program r)).size < BLOCK_LIMIT
+  pub objects : (t : ℕ) → byte_count (shape_of (domain_at program t)) < BLOCK_LIMIT
+  pub scratch : (r : ℕ) → scratch_in (routine_code program (routine_at program r)) < BLOCK_LIMIT
 
 -- what is fixed for a running activation
 pub record IsActive (p : Setting) (c : Activated) : Type 0 where

@@ -7,7 +7,7 @@ use Rattle.ps_lower.proofs.assign.assign.Goals as goal
 
 pub returns : goal.returns
 returns c =
-    assign_told (scope_of c.args.k.now) (place_of c.args.target.now) c.args.range
+    assign_told (scope_of c.args.level.now) (place_of c.args.target.now) c.args.range
     (expr_of c.args.e.now) c.args.line.number c.args.d c.kept-t.result c.place_temporary.result c.even_above-at.result
     (site_of c.in_ok-site.site) c.gives_byte.result c.literal.result c.is_byte.result c.keep.result c.keep.new.out
     c.fitting.new.out c.value.new.out c.place.new.out c.args.out.now

@@ -7,7 +7,7 @@ use Rattle.ps_lower.proofs.assign.assign_structure.Goals as goal
 
 pub returns : goal.returns
 returns c =
-    assign_structure_told (scope_of c.args.k.now) (place_of c.args.target.now)
+    assign_structure_told (scope_of c.args.level.now) (place_of c.args.target.now)
     (structure_of c.args.e.now) c.args.d c.held-t.result c.place_temporary.result c.even_above-from.result
     c.beside-to.result c.beside-free.result c.structure_bytes-bytes.result
     (site_of c.in_ok-site.site) c.copy.result c.copy.new.out c.address.new.out c.structure.new.out c.place.new.out

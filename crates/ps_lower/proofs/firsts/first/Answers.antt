@@ -6,17 +6,17 @@ use Rattle.ps_lower.proofs.Tasks.{doing_next, doing_less, doing_near, task_near}
 use Rattle.ps_lower.proofs.firsts.first.Goals as goal
 
 pub loop-task-smaller : goal.loop-task-smaller
-loop-task-smaller c = doing_less (scope_of c.args.k.now) c.args.base c.args.t c.loop-task.out c.step.new.out
+loop-task-smaller c = doing_less (scope_of c.args.level.now) c.args.base c.args.t c.loop-task.out c.step.new.out
     c.in-Some.task c.loop-task.tasks.items c.pop.new.self.items c.step.new.tasks.items c.in-Some.ensures.items
     c.in_ok-step.ensures
 
 pub loop-task-preserved : goal.loop-task-preserved
 loop-task-preserved c = (
-  doing_next (scope_of c.args.k.now) c.args.base c.args.t c.args.out.now
-      (first_code (scope_of c.args.k.now) c.args.base c.args.t c.args.offset (shape_of (type_of c.args.ty.now)))
+  doing_next (scope_of c.args.level.now) c.args.base c.args.t c.args.out.now
+      (first_code (scope_of c.args.level.now) c.args.base c.args.t c.args.offset (shape_of (type_of c.args.ty.now)))
       c.loop-task.out c.step.new.out c.in-Some.task c.loop-task.tasks.items c.pop.new.self.items c.step.new.tasks.items
       c.in-Some.ensures.items c.loop-task.invariant.0 c.in_ok-step.ensures,
-  doing_near (scope_of c.args.k.now) c.args.base c.args.t c.loop-task.out c.step.new.out c.in-Some.task
+  doing_near (scope_of c.args.level.now) c.args.base c.args.t c.loop-task.out c.step.new.out c.in-Some.task
       c.loop-task.tasks.items c.pop.new.self.items c.step.new.tasks.items 2147483647
       c.in-Some.ensures.items c.loop-task.invariant.1 c.in_ok-step.ensures,
 )

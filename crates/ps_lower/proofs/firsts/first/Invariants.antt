@@ -8,8 +8,8 @@ use Rattle.ps_lower.proofs.Tasks.{Doing}
 use Rattle.ps_lower.proofs.firsts.first.Given as goal
 
 abbrev pub invariant-loop-task : goal.invariant-loop-task
-invariant-loop-task l = Doing (scope_of l.k) l.base l.t l.fn.out
-    (first_code (scope_of l.k) l.base l.t l.offset (shape_of (type_of l.ty))) l.out l.tasks.items
+invariant-loop-task l = Doing (scope_of l.level) l.base l.t l.fn.out
+    (first_code (scope_of l.level) l.base l.t l.offset (shape_of (type_of l.ty))) l.out l.tasks.items
     × (tasks_reach l.tasks.items ≤ 2147483647)
 
 abbrev pub decreases-loop-task : goal.decreases-loop-task

@@ -7,6 +7,6 @@ use Rattle.ps_lower.proofs.input.look_on.Goals as goal
 
 pub returns : goal.returns
 returns c = look_on_told c.check_range.result c.check_range.new.self c.look_ahead.new.out c.args.out.now
-    (site_code (even_from c.args.d) (input_site (scope_of c.args.k.now)) 8)
-    (helper (scope_of c.args.k.now) LookAhead (even_from c.args.d ∷ []) c.args.d)
+    (site_code (even_from c.args.d) (input_site (scope_of c.args.level.now)) 8)
+    (helper (scope_of c.args.level.now) LookAhead (even_from c.args.d ∷ []) c.args.d)
     (i.CheckRange c.args.d (pos 1) (pos 2) 9 c.args.line.number) c.in_ok-look_ahead.ensures c.check_range.ensures

@@ -11,4 +11,4 @@ loop-preserved c = hopped_next _ _ _ c.loop.counter _ _ _ c.loop-test.true
     (let e : c.loop.counter + 1 ≡ suc c.loop.counter = omega arith in e) c.loop.invariant c.in_ok-load.ensures
 
 pub returns : goal.returns
-returns c = hopped_all (scope_of c.args.k.now) _ _ _ _ _ c.loop-test.false c.loop.invariant
+returns c = hopped_all (scope_of c.args.level.now) _ _ _ _ _ c.loop-test.false c.loop.invariant

@@ -2,7 +2,8 @@ use Rattle.std.proofs.Common.{◌≡◌, ◌+◌, ◌-◌, ◌<◌, ◌≤◌, m
 use Rattle.ps_tree.specs.Checked.{program_in}
 use Rattle.ps_tree.specs.View.{routine_of}
 use Rattle.ps_lower_code.specs.Programs.{tac_of}
-use Rattle.ps_lower.specs.Refused.{most_instructions, instructions_of, IsRefused}
+use Rattle.ps_lower.specs.declared.refusal.TheConstants.{MOST_INSTRUCTIONS}
+use Rattle.ps_lower.specs.Refused.{instructions_of, IsRefused}
 use Rattle.ps_lower.proofs.Limits.{routine_light}
 use Rattle.ps_lower.proofs.Mapping.{made_start, made_next, made_all}
 use Rattle.ps_lower.proofs.Counting.{left_less, passed_on, one_refused, no_more}
@@ -63,7 +64,7 @@ pub returns-then-count-left-clause-refused : goal.returns-then-count-left-clause
 returns-then-count-left-clause-refused c =
     let size = ap length c.as_slice-count.ensures in
     let more = c.if-count-left.true in
-    subst (λ l. most_instructions < instructions_of (map (tac_of (program_in c.args.checked.now)) (map routine_of l)))
+    subst (λ l. MOST_INSTRUCTIONS < instructions_of (map (tac_of (program_in c.args.checked.now)) (map routine_of l)))
     c.routines-routine-items.ensures.routines
     (no_more routine_of (tac_of (program_in c.args.checked.now)) _ _ _ c.routine-item.result c.loop-routine.left
     c.in_ok-made.made c.loop-routine-test.true c.loop-routine.invariant.0 c.loop-routine.invariant.1

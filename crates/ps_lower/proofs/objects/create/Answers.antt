@@ -5,8 +5,8 @@ use Rattle.ps_lower.proofs.objects.create.Goals as goal
 
 pub returns : goal.returns
 returns c =
-    new_made (scope_of c.args.k.now) (place_of c.args.target.now) c.args.pointer c.args.line.number c.args.d c.held-at.result
-    c.held-to.result c.even_above-free.result
+    new_made (scope_of c.args.level.now) (place_of c.args.target.now) c.args.pointer c.args.line.number c.args.d
+    c.held-at.result c.held-to.result c.even_above-free.result
     (site_of c.in_ok-site.site) c.is_byte.result c.keep.result c.keep.new.out c.object.new.out c.place.new.out
     c.args.out.now
     c.held-at.ensures.value (held_told c.held-at.result c.held-to.result c.held-to.ensures.value)

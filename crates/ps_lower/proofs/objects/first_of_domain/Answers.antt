@@ -12,7 +12,7 @@ use Rattle.ps_lower.proofs.objects.first_of_domain.Goals as goal
 pub returns-in-Some : goal.returns-in-Some
 returns-in-Some c =
     subst (λ (type : DataType). OnOk c.first_object.result
-    (c.first_object.new.out ≡ c.args.out.now ++ first_code (scope_of c.args.k.now)
+    (c.first_object.new.out ≡ c.args.out.now ++ first_code (scope_of c.args.level.now)
     (base.Temporary c.args.to) c.args.t 0 (shape_of type)))
     (sym (typed c.domains.result.now c.args.pointer c.in-Some.ty.now c.in-Some.ensures.lookup.3.0 ∙ ap type_of
     (sym (c.in-Some.ensures.lookup.3.1 c.in-Some.ty.now)))
@@ -22,7 +22,7 @@ returns-in-Some c =
 pub returns-in-None : goal.returns-in-None
 returns-in-None c =
     subst (λ (type : DataType). OnOk c.first_object-in-None.result
-    (c.first_object-in-None.new.out ≡ c.args.out.now ++ first_code (scope_of c.args.k.now)
+    (c.first_object-in-None.new.out ≡ c.args.out.now ++ first_code (scope_of c.args.level.now)
     (base.Temporary c.args.to) c.args.t 0 (shape_of type)))
     (pointer_type 0 ∙ untyped c.domains.result.now c.args.pointer c.in-None.ensures.lookup.3
     ∙ ap (λ l. get_or (map type_of l) c.args.pointer (PointerType 0)) c.domains.ensures.domains)

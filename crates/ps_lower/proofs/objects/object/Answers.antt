@@ -11,6 +11,6 @@ use Rattle.ps_lower.proofs.objects.object.Goals as goal
 pub returns : goal.returns
 returns c = behind c.first_of_domain.result c.first_of_domain.new.out c.push_at.new.self c.args.out.now
     (i.New c.args.to c.args.pointer c.args.line.number ∷ [])
-    (first_code (scope_of c.args.k.now) (base.Temporary c.args.to) c.args.t 0
-    (shape_of (domain_at (scope_of c.args.k.now).program c.args.pointer))) c.in_ok-push_at.ensures
+    (first_code (scope_of c.args.level.now) (base.Temporary c.args.to) c.args.t 0
+    (shape_of (domain_at (scope_of c.args.level.now).program c.args.pointer))) c.in_ok-push_at.ensures
     c.first_of_domain.ensures

@@ -7,11 +7,11 @@ use Rattle.ps_lower.proofs.packing.unpack.Goals as goal
 
 pub returns : goal.returns
 returns c =
-    unpack_made (scope_of c.args.k.now) (place_of c.args.from.now) (place_of c.args.to.now) (expr_of c.args.index.now)
-    (type_of c.args.from_ty.now) (type_of c.args.to_ty.now) c.args.line.number c.args.d c.narrow-count.result
-    c.held-a.result c.held-b.result c.held-c.result c.even_above.result (site_of c.in_ok-first.first)
-    (site_of c.in_ok-second.second) c.components.result c.components.new.out c.room.new.out c.component.new.out
-    c.value.new.out c.place-2.new.out c.address.new.out c.place.new.out c.args.out.now
+    unpack_made (scope_of c.args.level.now) (place_of c.args.from.place.now) (place_of c.args.to.place.now) (expr_of
+    c.args.index.now) (type_of c.args.from.ty.now) (type_of c.args.to.ty.now) c.args.line.number c.args.d
+    c.narrow-count.result c.held-a.result c.held-b.result c.held-c.result c.even_above.result (site_of
+    c.in_ok-first.first) (site_of c.in_ok-second.second) c.components.result c.components.new.out c.room.new.out
+    c.component.new.out c.value.new.out c.place-2.new.out c.address.new.out c.place.new.out c.args.out.now
     c.held-a.ensures.value (held_told c.held-a.result c.held-b.result c.held-b.ensures.value)
     (held_told c.held-b.result c.held-c.result c.held-c.ensures.value) c.even_above.ensures.value
     (c.narrow-count.ensures ∙ c.value_count.ensures.value ∙ ap value_count c.index_of.ensures)

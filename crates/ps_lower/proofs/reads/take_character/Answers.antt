@@ -10,11 +10,11 @@ use Rattle.ps_lower.proofs.reads.take_character.Goals as goal
 pub returns : goal.returns
 returns c =
     behind c.byte_fits.result c.byte_fits.new.out c.check_range.new.self c.args.out.now
-    (helper (scope_of c.args.k.now) ReadCharacter (c.args.a ∷ []) c.args.a ∷ i.CheckRange c.args.a
+    (helper (scope_of c.args.level.now) ReadCharacter (c.args.a ∷ []) c.args.a ∷ i.CheckRange c.args.a
     (pos 0) greatest 9 c.args.line.number ∷ []) (fitting_code true None c.args.a
     (Within c.args.low.now c.args.high.now) c.args.line.number)
     (and_then c.args.out.now c.help.new.out c.check_range.new.self
-    (helper (scope_of c.args.k.now) ReadCharacter (c.args.a ∷ []) c.args.a ∷ [])
+    (helper (scope_of c.args.level.now) ReadCharacter (c.args.a ∷ []) c.args.a ∷ [])
     (i.CheckRange c.args.a (pos 0) greatest 9 c.args.line.number ∷ [])
     (c.in_ok-help.ensures ReadCharacter refl) c.in_ok-check_range.ensures)
     c.byte_fits.ensures

@@ -8,6 +8,6 @@ use Rattle.ps_lower.proofs.reads.take_line.Goals as goal
 pub returns : goal.returns
 returns c =
     behind c.check_range.result c.check_range.new.self c.help.new.out c.args.out.now
-    (helper (scope_of c.args.k.now) ReadLine (c.args.a ∷ []) c.args.a ∷ [])
+    (helper (scope_of c.args.level.now) ReadLine (c.args.a ∷ []) c.args.a ∷ [])
     (i.CheckRange c.args.a (pos 0) (pos 0) 9 c.args.line.number ∷ [])
     (c.in_ok-help.ensures ReadLine refl) c.check_range.ensures

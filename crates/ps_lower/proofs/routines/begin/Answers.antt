@@ -10,16 +10,16 @@ use Rattle.ps_lower.proofs.routines.begin.Goals as goal
 
 pub returns : goal.returns
 returns c =
-    begin_made (scope_of c.args.k.now) (routine_of c.args.routine.now) c.args.t c.in_ok-place.place
+    begin_made (scope_of c.args.level.now) (routine_of c.args.routine.now) c.args.t c.in_ok-place.place
     c.in_ok-place-2.place c.firsts.result c.firsts.new.out c.parameters.new.out c.first_result.new.out
     c.head.new.out c.args.out.now
     c.requires.total c.in_ok-head.ensures c.in_ok-place.ensures.code c.in_ok-place.ensures.next
-    (c.in_ok-place-2.ensures.code ∙ ap (λ l. c.first_result.new.out ++ parameters_at (scope_of c.args.k.now)
+    (c.in_ok-place-2.ensures.code ∙ ap (λ l. c.first_result.new.out ++ parameters_at (scope_of c.args.level.now)
     (kinds_of (formals_of l)) 1 c.in_ok-place.place c.args.t) c.as_slice.ensures.value)
     (c.in_ok-place-2.ensures.next ∙ ap (λ l. c.in_ok-place.place + words_of_all
     (listed_kinds (kinds_of (formals_of l)))) c.as_slice.ensures.value)
     (subst (λ (l : List Ty). OnOk c.firsts.result
-    (c.firsts.new.out ≡ c.parameters.new.out ++ firsts_code (scope_of c.args.k.now) c.args.t c.in_ok-place-2.place
+    (c.firsts.new.out ≡ c.parameters.new.out ++ firsts_code (scope_of c.args.level.now) c.args.t c.in_ok-place-2.place
     (map type_of l))) c.as_slice-2.ensures.value c.firsts.ensures)
 
 pub parameters-requires-clause-words : goal.parameters-requires-clause-words

@@ -8,7 +8,7 @@ use Rattle.ps_lower.proofs.sets.includes.Goals as goal
 pub returns : goal.returns
 returns c =
     subst (λ s. OnOk c.help.result (c.help.new.out ≡ c.args.out.now
-    ++ (offsets_code c.args.t s c.args.x ++ helper (scope_of c.args.k.now) IsIncluded (s ∷ c.args.t ∷ []) c.args.t
+    ++ (offsets_code c.args.t s c.args.x ++ helper (scope_of c.args.level.now) IsIncluded (s ∷ c.args.t ∷ []) c.args.t
     ∷ []))) c.beside-second.ensures.value
     (behind c.help.result c.help.new.out c.offsets.new.out c.args.out.now _ _ c.in_ok-offsets.ensures
     (c.help.ensures IsIncluded refl))

@@ -7,7 +7,7 @@ use Rattle.ps_lower.proofs.writes.write_number.Goals as goal
 
 pub returns : goal.returns
 returns c =
-    write_made (scope_of c.args.k.now) (expr_of c.args.e.now)
+    write_made (scope_of c.args.level.now) (expr_of c.args.e.now)
     (width_of c.args.given.now) 11 WriteNumber c.args.d c.held-t.result c.even_above-w.result c.even_from.result
     c.help.result c.help.new.out c.width.new.out c.value.new.out c.args.out.now
     (c.held-t.ensures.value ∙ ap (λ b. held b c.args.d) c.width_calls.ensures) c.even_above-w.ensures.value

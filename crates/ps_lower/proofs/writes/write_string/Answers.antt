@@ -7,7 +7,7 @@ use Rattle.ps_lower.proofs.writes.write_string.Goals as goal
 
 pub returns : goal.returns
 returns c =
-    string_made (scope_of c.args.k.now) (structure_of c.args.e.now)
+    string_made (scope_of c.args.level.now) (structure_of c.args.e.now)
     (width_of c.args.given.now) c.text_length-length.result c.args.d c.held-t.result c.even_above-w.result
     c.beside-size.result c.even_from.result c.help.result c.help.new.out c.amount.new.out c.width.new.out
     c.structure.new.out c.args.out.now
