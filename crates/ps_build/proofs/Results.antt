@@ -1,6 +1,6 @@
 -- What a run answers, and what it is refused for, from what it is made of.
 use Rattle.std.proofs.Common.{List, ℕ, Result, Ok, Err, Option, Some, None}
-use Rattle.std.specs.Prelude.{IfOk, IfErr, IfSome, IfNone}
+use Rattle.std.specs.Prelude.{IfOk, IfSome, IfNone}
 use Rattle.risc_image.specs.declared.refusal.ImageRefusal.{ImageRefusal}
 use Rattle.risc_image.specs.declared.refusal.ImageRefusal.TheVariants as i
 use Rattle.risc_image.specs.Image.{Image}
@@ -11,10 +11,6 @@ use Rattle.ps_build.specs.declared.refusal.Refusal.{Refusal}
 use Rattle.ps_build.specs.declared.refusal.Refusal.TheVariants.{OutOfMemory, BudgetTooLarge, BudgetUneven}
 use Rattle.ps_build.specs.Refusals.{of_image}
 use Rattle.ps_build.specs.Runs.{IsLoadRefused, IsRunRefused}
-
-pub if_ok : {T E : Type 0} (r : Result T E) (P Q : T → Type 0) → ((x : T) → P x → Q x) → IfOk r P → IfOk r Q
-if_ok (Ok x) P Q f h = f x h
-if_ok (Err e) P Q f h = h
 
 pub if_ok_both : {T E : Type 0} (r : Result T E) (P Q R : T → Type 0) → ((x : T) → P x → Q x → R x) → IfOk r P
     → IfOk r Q → IfOk r R
@@ -51,10 +47,6 @@ pub if_left_in : {S T E : Type 0} (end : S → Option T) (r : Result S E) (P Q :
     → IfOk r (λ s. IfNone (end s) P) → IfOk r (λ s. IfNone (end s) Q)
 if_left_in end (Ok s) P Q f h = if_none (end s) P Q f h
 if_left_in end (Err e) P Q f h = h
-
-pub if_err : {T E : Type 0} (r : Result T E) (P Q : E → Type 0) → ((e : E) → P e → Q e) → IfErr r P → IfErr r Q
-if_err (Ok x) P Q f h = h
-if_err (Err e) P Q f h = f e h
 
 pub no_image : (bytes : List ℕ) (budget : Budget) (refusal : ImageRefusal) → IsRefused bytes refusal
     → IsRunRefused bytes budget (of_image refusal)

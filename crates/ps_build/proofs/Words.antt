@@ -24,7 +24,7 @@ use Rattle.risc_alloc.specs.Slots.{every_slot}
 use Rattle.risc_alloc.proofs.Whole.{every_slot_valid}
 use Rattle.risc_emit_relation.specs.Context.{Context, home, is_program}
 use Rattle.risc_emit_forms.specs.Pieces.{Label, Piece}
-use Rattle.risc_emit_forms.specs.Told.{short_of, near_of, folded}
+use Rattle.risc_emit_forms.specs.Peephole.{short_of, near_of, folded}
 use Rattle.risc_emit_forms.specs.Forms as form
 use Rattle.risc_emit_laws.specs.Drawn.{body_pieces, routine_pieces, routines_pieces, start_pieces}
 use Rattle.risc_emit.specs.Layout.{laid_out}
@@ -83,17 +83,17 @@ module _ (c : Context) (r : ℕ) where
   truth_word : (relation : Relation) (t a : ℕ) (b : Operand) → HasWord (form.truth_form c r relation t a b)
   truth_word relation t a b = both_word a b _ (one _ _)
 
-  unlike_word : (told : Option ℕ) (t a : ℕ) (b : Operand) → HasWord (form.unlike_form c r told t a b)
-  unlike_word told t a b = either (form.is_own c r told t a b) _ _ (one _ _) (both_word a b _ (one _ _))
+  unlike_word : (flagged : Option ℕ) (t a : ℕ) (b : Operand) → HasWord (form.unlike_form c r flagged t a b)
+  unlike_word flagged t a b = either (form.is_own c r flagged t a b) _ _ (one _ _) (both_word a b _ (one _ _))
 
-  compare_word : (told : Option ℕ) (relation : Relation) (t a : ℕ) (b : Operand) → HasWord
-      (form.compare_form c r told relation t a b)
-  compare_word told Equal t a b = truth_word Equal t a b
-  compare_word told NotEqual t a b = unlike_word told t a b
-  compare_word told Less t a b = truth_word Less t a b
-  compare_word told LessEqual t a b = truth_word LessEqual t a b
-  compare_word told Greater t a b = truth_word Greater t a b
-  compare_word told GreaterEqual t a b = truth_word GreaterEqual t a b
+  compare_word : (flagged : Option ℕ) (relation : Relation) (t a : ℕ) (b : Operand) → HasWord
+      (form.compare_form c r flagged relation t a b)
+  compare_word flagged Equal t a b = truth_word Equal t a b
+  compare_word flagged NotEqual t a b = unlike_word flagged t a b
+  compare_word flagged Less t a b = truth_word Less t a b
+  compare_word flagged LessEqual t a b = truth_word LessEqual t a b
+  compare_word flagged Greater t a b = truth_word Greater t a b
+  compare_word flagged GreaterEqual t a b = truth_word GreaterEqual t a b
 
   arithmetic_word : (operator : Operator) (t a : ℕ) (b : Operand) (error line : ℕ) → HasWord
       (form.arithmetic_form c r operator t a b error line)
@@ -115,37 +115,39 @@ module _ (c : Context) (r : ℕ) where
   check_word a low high error line = either (nat_eq error 0) _ _ (one _ _)
       (behind (form.fetch c r 12 _) _ (range_word _ low high error line))
 
-  pointer_word : (told : Option ℕ) (a error line : ℕ) → HasWord (form.pointer_form c r told a error line)
-  pointer_word told a error line = either (nat_eq error 0) _ _ (one _ _)
-      (either (form.is_told c r told a) _ _ (one _ _) (before (form.bring c r 12 _) _ (bring_word 12 _)))
+  pointer_word : (flagged : Option ℕ) (a error line : ℕ) → HasWord (form.pointer_form c r flagged a error line)
+  pointer_word flagged a error line = either (nat_eq error 0) _ _ (one _ _)
+      (either (form.is_flagged c r flagged a) _ _ (one _ _) (before (form.bring c r 12 _) _ (bring_word 12 _)))
 
-  component_word : (bent : Option (ℕ × ℤ)) (t : ℕ) (a : Base) (q : ℕ) → HasWord (form.component c r bent t a q)
+  component_word : (deferred : Option (ℕ × ℤ)) (t : ℕ) (a : Base) (q : ℕ) → HasWord (form.component c r deferred t a q)
   component_word None t a q = behind (form.base_address c r a) _ (one _ _)
-  component_word (Some bent) t a q = one _ _
+  component_word (Some deferred) t a q = one _ _
 
-  steps_word : (bent : Option (ℕ × ℤ)) (t : ℕ) (a : Base) (q width : ℕ) → HasWord (form.steps_form c r bent t a q width)
-  steps_word bent t a q width = behind (form.scaled c r q width) _ (component_word bent t a _)
+  steps_word : (deferred : Option (ℕ × ℤ)) (t : ℕ) (a : Base) (q width : ℕ)
+      → HasWord (form.steps_form c r deferred t a q width)
+  steps_word deferred t a q width = behind (form.scaled c r q width) _ (component_word deferred t a _)
 
-  near_component_word : (n : ℕ) (bent : Option (ℕ × ℤ)) (t : ℕ) (a : Base) (q : ℕ) → HasWord
-      (form.near_component c r n bent t a q)
+  near_component_word : (n : ℕ) (deferred : Option (ℕ × ℤ)) (t : ℕ) (a : Base) (q : ℕ) → HasWord
+      (form.near_component c r n deferred t a q)
   near_component_word n None t a q = behind (form.sum c r (form.base_register c r a) n) _ (one _ _)
-  near_component_word n (Some bent) t a q = behind (form.near_code c r a) _ (one _ _)
+  near_component_word n (Some deferred) t a q = behind (form.near_code c r a) _ (one _ _)
 
-  index_by_word : (o : Option ℕ) (bent : Option (ℕ × ℤ)) (t : ℕ) (a : Base) (i : ℕ) (low high : ℤ)
-      (width error line : ℕ) → HasWord (form.index_by c r o bent t a i low high width error line)
-  index_by_word None bent t a i low high width error line =
+  index_by_word : (o : Option ℕ) (deferred : Option (ℕ × ℤ)) (t : ℕ) (a : Base) (i : ℕ) (low high : ℤ)
+      (width error line : ℕ) → HasWord (form.index_by c r o deferred t a i low high width error line)
+  index_by_word None deferred t a i low high width error line =
       let at = form.fetched c r 12 (home c r i) in
       behind (form.fetch c r 12 (home c r i)) _
-      (behind (form.index_code c r at low high error line) _ (steps_word bent t a _ width))
-  index_by_word (Some n) bent t a i low high width error line =
+      (behind (form.index_code c r at low high error line) _ (steps_word deferred t a _ width))
+  index_by_word (Some n) deferred t a i low high width error line =
       let at = form.fetched c r 12 (home c r i) in
       behind (form.fetch c r 12 (home c r i)) _
-      (behind (form.scaled c r at width) _ (near_component_word n bent t a _))
+      (behind (form.scaled c r at width) _ (near_component_word n deferred t a _))
 
-  index_word : (bent : Option (ℕ × ℤ)) (t : ℕ) (a : Base) (i : ℕ) (low high : ℤ) (width error line : ℕ) → HasWord
-      (form.index_form c r bent t a i low high width error line)
-  index_word bent t a i low high width error line =
-      index_by_word (short_of (folded c r a low high width error) (near_of bent a)) bent t a i low high width error line
+  index_word : (deferred : Option (ℕ × ℤ)) (t : ℕ) (a : Base) (i : ℕ) (low high : ℤ) (width error line : ℕ) → HasWord
+      (form.index_form c r deferred t a i low high width error line)
+  index_word deferred t a i low high width error line =
+      index_by_word (short_of (folded c r a low high width error) (near_of deferred a)) deferred t a i low high width
+      error line
 
   address_word : (d : ℕ) (a : Base) (n : ℕ) → HasWord (form.address c r d a n)
   address_word d a n = behind (form.base_code c r a) _ (either _ _ _ (one _ _) (one _ _))
@@ -153,9 +155,9 @@ module _ (c : Context) (r : ℕ) where
   load_form_word : (width : _) (t : ℕ) (a : Base) (n : ℕ) → HasWord (form.load_form c r width t a n)
   load_form_word width t a n = behind (form.reach c r a n) _ (one _ _)
 
-  word_form_word : (bent : Option (ℕ × ℤ)) (t : ℕ) (a : Base) (n : ℕ) → HasWord (form.word_form c r bent t a n)
+  word_form_word : (deferred : Option (ℕ × ℤ)) (t : ℕ) (a : Base) (n : ℕ) → HasWord (form.word_form c r deferred t a n)
   word_form_word None t a n = load_form_word _ t a n
-  word_form_word (Some bent) t a n = one _ _
+  word_form_word (Some deferred) t a n = one _ _
 
   store_form_word : (width : _) (a : Base) (n b : ℕ) → HasWord (form.store_form c r width a n b)
   store_form_word width a n b = behind (form.reach c r a n) _ (behind (form.fetch c r 15 _) _ (one _ _))

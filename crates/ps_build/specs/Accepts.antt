@@ -25,6 +25,7 @@ use Rattle.ps_check.specs.Programs.{program}
 use Rattle.ps_lower_code.specs.Programs.{code_of}
 use Rattle.tac_rt.specs.Bodies.{run_time_routines}
 use Rattle.tac_code.specs.Meaning.{Code}
+use Rattle.risc_image.specs.declared.header.TheConstants.{MAX_COUNT}
 use Rattle.risc_alloc.specs.declared.homes.Home.{Home}
 use Rattle.risc_alloc.specs.Valid.{Valid}
 use Rattle.risc_emit.specs.Emitted.{code_words}
@@ -89,15 +90,11 @@ pub record HasNoProgram (text : List ℕ) (rule : Rule) (place : Place) : Type 0
   pub ends : place.to ≡ end_of_token tokens place.from
   pub on_line : place.line ≡ line_in text place.from
 
--- the most words of code
-abbrev pub most_words : ℕ
-most_words = 1048576
-
 -- the code has homes for its temporaries with which its words are too many
 pub record HasNoRoom (code : Code) : Type 0 where
   pub homes : List Home
   pub placed : Valid code homes
-  pub words : most_words < code_words code homes
+  pub words : MAX_COUNT < code_words code homes
 
 -- the text is accepted, as a program whose three-address code has too many words
 pub record IsCodeTooLarge (text : List ℕ) : Type 0 where

@@ -5,7 +5,7 @@ use Rattle.ps_tree.specs.declared.types.Packing.TheVariants.{Unpacked}
 use Rattle.ps_tree.specs.declared.tree.ArithmeticOperator.TheVariants.{Subtract, Div}
 use Rattle.ps_tree.specs.declared.tree.BooleanOperator.TheVariants.{And}
 use Rattle.ps_tree.specs.declared.tree.SetOperator.TheVariants.{Union}
-use Rattle.ps_tree.specs.declared.tree.Relation.TheVariants.{Equal, AtMost}
+use Rattle.ps_tree.specs.declared.tree.OrderRelation.TheVariants.{Equal, AtMost}
 use Rattle.ps_tree.specs.declared.tree.PointerRelation.TheVariants.{Other as OtherPointer}
 use Rattle.ps_tree.specs.declared.tree.Range.TheVariants.{Any, Within}
 use Rattle.ps_tree.specs.declared.tree.Direction.TheVariants.{To}

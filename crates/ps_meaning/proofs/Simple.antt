@@ -5,7 +5,7 @@ use Rattle.ps_tree.specs.declared.tree.ArithmeticOperator.{ArithmeticOperator}
 use Rattle.ps_tree.specs.declared.tree.ArithmeticOperator.TheVariants.{Add, Subtract, Div, Mod}
 use Rattle.ps_tree.specs.declared.tree.BooleanOperator.TheVariants.{Or}
 use Rattle.ps_tree.specs.declared.tree.SetOperator.TheVariants.{Union, Difference}
-use Rattle.ps_tree.specs.declared.tree.Relation.TheVariants.{Less, Greater}
+use Rattle.ps_tree.specs.declared.tree.OrderRelation.TheVariants.{Less, Greater}
 use Rattle.ps_tree.specs.declared.tree.RequiredFunction.TheVariants.{Abs}
 use Rattle.ps_tree.specs.declared.tree.Direction.TheVariants.{To, Downto}
 use Rattle.ps_tree.specs.Types.{OrdinalType}

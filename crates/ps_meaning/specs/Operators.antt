@@ -8,8 +8,8 @@ use Rattle.ps_tree.specs.declared.tree.BooleanOperator.{BooleanOperator}
 use Rattle.ps_tree.specs.declared.tree.BooleanOperator.TheVariants.{And, Or}
 use Rattle.ps_tree.specs.declared.tree.SetOperator.{SetOperator}
 use Rattle.ps_tree.specs.declared.tree.SetOperator.TheVariants.{Union, Difference, Intersection}
-use Rattle.ps_tree.specs.declared.tree.Relation.{Relation}
-use Rattle.ps_tree.specs.declared.tree.Relation.TheVariants.{Equal, Different, Less, Greater, AtMost, AtLeast}
+use Rattle.ps_tree.specs.declared.tree.OrderRelation.{OrderRelation}
+use Rattle.ps_tree.specs.declared.tree.OrderRelation.TheVariants.{Equal, Different, Less, Greater, AtMost, AtLeast}
 use Rattle.ps_tree.specs.declared.tree.PointerRelation.{PointerRelation}
 use Rattle.ps_tree.specs.declared.tree.PointerRelation.TheVariants.{Same as SamePointer, Other as OtherPointer}
 use Rattle.ps_tree.specs.declared.tree.SetRelation.{SetRelation}
@@ -33,9 +33,16 @@ is_equal _ _ = false
 abbrev pub is_between : ℤ → ℤ → ℤ → Bool
 is_between low x high = int_le low x && int_le x high
 
+-- the least and the greatest integer, which is maxint (6.4.2.2)
+abbrev pub least : ℤ
+least = negsuc 2147483647
+
+abbrev pub greatest : ℤ
+greatest = pos 2147483647
+
 -- error 1 where the result is not an integer
 abbrev pub integer : ℤ → Computed
-integer x = if is_between (negsuc 2147483647) x (pos 2147483647) then Result x else Fault 1
+integer x = if is_between least x greatest then Result x else Fault 1
 
 -- the k in 0 .. j - 1 for which i - k is a multiple of j, where j is positive
 abbrev pub modulo : ℤ → ℕ → ℤ
@@ -72,7 +79,7 @@ apply (Succ high) x = if int_lt x high then Result (x +ℤ pos 1) else Fault 4
 apply (Pred low) x = if int_lt low x then Result (x -ℤ pos 1) else Fault 4
 
 -- 6.7.2.5
-abbrev pub holds : Relation → ℤ → ℤ → Bool
+abbrev pub holds : OrderRelation → ℤ → ℤ → Bool
 holds Equal x y = is_equal x y
 holds Different x y = not (is_equal x y)
 holds Less x y = int_lt x y
@@ -95,7 +102,7 @@ first_difference (value_before v vs) (value_before w ws) = if is_equal (number_o
     then first_difference vs ws else (number_of v, number_of w)
 first_difference _ _ = (pos 0, pos 0)
 
-abbrev pub strings_hold : Relation → Values → Values → Bool
+abbrev pub strings_hold : OrderRelation → Values → Values → Bool
 strings_hold relation vs ws = let (x, y) = first_difference vs ws in holds relation x y
 
 -- 6.7.2.4: sets, as tests of their members

@@ -1,5 +1,5 @@
 -- Statements (6.8) and required procedures (6.6.5, 6.9): fuel is spent on a loop's next turn and on a called block.
-use Rattle.std.specs.Prelude.{ℕ, ◌+◌, ◌%◌, ℤ, pos, negsuc, ◌+ℤ◌, ◌-ℤ◌, unsigned_abs, int_lt, Bool, nat_lt, nat_le}
+use Rattle.std.specs.Prelude.{ℕ, ◌+◌, ◌%◌, ℤ, pos, ◌+ℤ◌, ◌-ℤ◌, unsigned_abs, int_lt, Bool, nat_lt, nat_le}
 use Rattle.std.specs.Prelude.{if◌then◌else◌, List, [], ◌∷◌, ◌++◌, length, Option, Some, None, unwrap_or, sum_by}
 use Rattle.ps_tree.specs.declared.types.Ordinal.{Ordinal}
 use Rattle.ps_tree.specs.declared.tree.Range.TheVariants.{Within as WithinBounds}
@@ -15,7 +15,7 @@ use Rattle.ps_tree.specs.Tree.{Program, domain_at}
 use Rattle.behavior.specs.Endings.{Heap}
 use Rattle.ps_meaning.specs.Values.{Value, OrdinalValue, ObjectValue, StructureValue, Values, no_value, value_before}
 use Rattle.ps_meaning.specs.Values.{Spot, number_of, components_of, first, values_from, first_values, with_values}
-use Rattle.ps_meaning.specs.Operators.{is_equal, is_between, is_true, is_among}
+use Rattle.ps_meaning.specs.Operators.{is_equal, is_between, least, greatest, is_true, is_among}
 use Rattle.ps_meaning.specs.Text.{as_character, Reading, EndFound, NoInteger, Integer, scan_integer, marks_to}
 use Rattle.ps_meaning.specs.Text.{after_integer, after_line, line_marks, right_aligned, fitted, integer_text}
 use Rattle.ps_meaning.specs.Text.{boolean_text}
@@ -62,8 +62,8 @@ is_past Downto x y = int_lt x y
 -- the next value of a control variable: the sum with 1 or -1 modulo 2 ^ 32, as an integer, so that there always is one;
 -- where this is not the sum, a for statement has had its last turn (6.8.3.9)
 abbrev pub succeeding : Direction → ℤ → ℤ
-succeeding To x = if int_lt x (pos 2147483647) then x +ℤ pos 1 else negsuc 2147483647
-succeeding Downto x = if int_lt (negsuc 2147483647) x then x -ℤ pos 1 else pos 2147483647
+succeeding To x = if int_lt x greatest then x +ℤ pos 1 else least
+succeeding Downto x = if int_lt least x then x -ℤ pos 1 else greatest
 
 -- an entry of the routine itself
 abbrev pub own_spot : ℕ → Context → Spot

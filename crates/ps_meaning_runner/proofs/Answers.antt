@@ -15,7 +15,7 @@ use Rattle.behavior.specs.Endings.{Ending, More}
 use Rattle.ps_meaning.specs.Operators.{combine_sets}
 use Rattle.ps_meaning.specs.Worlds as m
 use Rattle.ps_meaning.specs.Expressions as e
-use Rattle.ps_meaning_runner.specs.declared.world.Job.{Job}
+use Rattle.ps_meaning_runner.specs.declared.world.Setup.{Setup}
 use Rattle.ps_meaning_runner.specs.declared.world.World.{World}
 use Rattle.ps_meaning_runner.specs.declared.value.Value.{Value}
 use Rattle.ps_meaning_runner.specs.View.{listed, value_of}
@@ -77,31 +77,32 @@ handed_on view a (Ok r) halt w d n is h = absurd is
 handed_on view a (Err other) halt w d n is h = subst (λ (k : Halt). Halted a d n k w) (sym is) h
 
 -- a part that is the only one, or one of two or of three
-pub halted_alone : {A B : Type 0} (job : Job) (n : ℕ) (a : m.Answer A) (f : A → m.Act B) (halt : Halt) (w : World)
-    (d k : ℕ) → Halted a d (levels job n k) halt w → Halted (m.and_then a f) d (levels job n k) halt w
-halted_alone job n a f halt w d k is = halted_then a f halt w d (levels job n k) d (levels job n k) is (omega arith)
-
-pub halted_left : {A B : Type 0} (job : Job) (n : ℕ) (a : m.Answer A) (f : A → m.Act B) (halt : Halt) (w : World)
-    (d k g : ℕ) → Halted a d (levels job n k) halt w → Halted (m.and_then a f) d (levels job n (max k g)) halt w
-halted_left job n a f halt w d k g is = halted_then a f halt w d (levels job n k) d (levels job n (max k g)) is
+pub halted_alone : {A B : Type 0} (setup : Setup) (n : ℕ) (a : m.Answer A) (f : A → m.Act B) (halt : Halt) (w : World)
+    (d k : ℕ) → Halted a d (levels setup n k) halt w → Halted (m.and_then a f) d (levels setup n k) halt w
+halted_alone setup n a f halt w d k is = halted_then a f halt w d (levels setup n k) d (levels setup n k) is
     (omega arith)
 
-pub halted_right : {A B : Type 0} (job : Job) (n : ℕ) (a : m.Answer A) (f : A → m.Act B) (halt : Halt) (w : World)
-    (d k g : ℕ) → Halted a d (levels job n k) halt w → Halted (m.and_then a f) d (levels job n (max g k)) halt w
-halted_right job n a f halt w d k g is = halted_then a f halt w d (levels job n k) d (levels job n (max g k)) is
+pub halted_left : {A B : Type 0} (setup : Setup) (n : ℕ) (a : m.Answer A) (f : A → m.Act B) (halt : Halt) (w : World)
+    (d k g : ℕ) → Halted a d (levels setup n k) halt w → Halted (m.and_then a f) d (levels setup n (max k g)) halt w
+halted_left setup n a f halt w d k g is = halted_then a f halt w d (levels setup n k) d (levels setup n (max k g)) is
     (omega arith)
 
-pub halted_middle : {A B : Type 0} (job : Job) (n : ℕ) (a : m.Answer A) (f : A → m.Act B) (halt : Halt) (w : World)
-    (d k g h : ℕ) → Halted a d (levels job n k) halt w → Halted (m.and_then a f) d
-    (levels job n (max g (max k h))) halt w
-halted_middle job n a f halt w d k g h is = halted_then a f halt w d (levels job n k) d
-    (levels job n (max g (max k h))) is (omega arith)
+pub halted_right : {A B : Type 0} (setup : Setup) (n : ℕ) (a : m.Answer A) (f : A → m.Act B) (halt : Halt) (w : World)
+    (d k g : ℕ) → Halted a d (levels setup n k) halt w → Halted (m.and_then a f) d (levels setup n (max g k)) halt w
+halted_right setup n a f halt w d k g is = halted_then a f halt w d (levels setup n k) d (levels setup n (max g k)) is
+    (omega arith)
 
-pub halted_last : {A B : Type 0} (job : Job) (n : ℕ) (a : m.Answer A) (f : A → m.Act B) (halt : Halt) (w : World)
-    (d k g h : ℕ) → Halted a d (levels job n k) halt w → Halted (m.and_then a f) d
-    (levels job n (max g (max h k))) halt w
-halted_last job n a f halt w d k g h is = halted_then a f halt w d (levels job n k) d
-    (levels job n (max g (max h k))) is (omega arith)
+pub halted_middle : {A B : Type 0} (setup : Setup) (n : ℕ) (a : m.Answer A) (f : A → m.Act B) (halt : Halt) (w : World)
+    (d k g h : ℕ) → Halted a d (levels setup n k) halt w → Halted (m.and_then a f) d
+    (levels setup n (max g (max k h))) halt w
+halted_middle setup n a f halt w d k g h is = halted_then a f halt w d (levels setup n k) d
+    (levels setup n (max g (max k h))) is (omega arith)
+
+pub halted_last : {A B : Type 0} (setup : Setup) (n : ℕ) (a : m.Answer A) (f : A → m.Act B) (halt : Halt) (w : World)
+    (d k g h : ℕ) → Halted a d (levels setup n k) halt w → Halted (m.and_then a f) d
+    (levels setup n (max g (max h k))) halt w
+halted_last setup n a f halt w d k g h is = halted_then a f halt w d (levels setup n k) d
+    (levels setup n (max g (max h k))) is (omega arith)
 
 -- what a part that takes no levels answers
 pub answers_run : {A R : Type 0} (view : R → A) (a : m.Answer A) (result : Result R Halt) (w : World) (d n : ℕ)
@@ -166,16 +167,16 @@ members_stop call c members i tests x stop w v all is h at lt =
     (λ y u. m.and_then (e.members_value call (members_of (drop (i + 1) members)) c u)
     (λ z. m.give (combine_sets Union y z))) stop v h))
 
-pub members_halt : (job : Job) (n : ℕ) (c : m.Context) (members : List Member) (i : ℕ) (tests : List Bool) (x : Member)
-    (halt : Halt) (w : m.World) (v : World) (all : m.Answer (ℕ → Bool)) (d : ℕ) → members_left
-    (caller job n) c members i tests w ≡ all → Halted (e.member_value (caller job n) (member_of x) c w) d
-    (levels job n (member_height (member_of x))) halt v → x ≡ get_or members i x → i < length members → Halted all d
-    (levels job n (members_height (members_of members))) halt v
-members_halt job n c members i tests x halt w v all d is h at lt =
+pub members_halt : (setup : Setup) (n : ℕ) (c : m.Context) (members : List Member) (i : ℕ) (tests : List Bool)
+    (x : Member) (halt : Halt) (w : m.World) (v : World) (all : m.Answer (ℕ → Bool)) (d : ℕ) → members_left
+    (caller setup n) c members i tests w ≡ all → Halted (e.member_value (caller setup n) (member_of x) c w) d
+    (levels setup n (member_height (member_of x))) halt v → x ≡ get_or members i x → i < length members → Halted all d
+    (levels setup n (members_height (members_of members))) halt v
+members_halt setup n c members i tests x halt w v all d is h at lt =
     let le : member_height (member_of x) ≤ members_height (members_of members) = member_within members i x at lt in
-    halted_by (e.member_value (caller job n) (member_of x) c w) all halt v d
-    (levels job n (member_height (member_of x))) d (levels job n (members_height (members_of members)))
-    (λ stop s. members_stop (caller job n) c members i tests x stop w v all is s at lt) h (omega arith)
+    halted_by (e.member_value (caller setup n) (member_of x) c w) all halt v d
+    (levels setup n (member_height (member_of x))) d (levels setup n (members_height (members_of members)))
+    (λ stop s. members_stop (caller setup n) c members i tests x stop w v all is s at lt) h (omega arith)
 
 or_false : (b : Bool) → (b || false) ≡ b
 or_false true = refl
@@ -234,17 +235,17 @@ actuals_stop call c arguments i taken x stop w v all is h at lt =
     (λ y u. m.and_then (e.actuals_of call (arguments_of (drop (i + 1) arguments)) c u) (λ ys. m.give (y ∷ ys))) stop
     v h))
 
-pub actuals_halt : (job : Job) (n : ℕ) (c : m.Context) (arguments : List Argument) (i : ℕ) (taken : List e.Actual)
+pub actuals_halt : (setup : Setup) (n : ℕ) (c : m.Context) (arguments : List Argument) (i : ℕ) (taken : List e.Actual)
     (x : Argument) (halt : Halt) (w : m.World) (v : World) (all : m.Answer (List e.Actual)) (d : ℕ) → actuals_left
-    (caller job n) c arguments i taken w ≡ all → Halted (e.actual_of (caller job n) (argument_of x) c w) d
-    (levels job n (argument_height (argument_of x))) halt v → x ≡ get_or arguments i x → i < length arguments
-    → Halted all d (levels job n (arguments_height (arguments_of arguments))) halt v
-actuals_halt job n c arguments i taken x halt w v all d is h at lt =
+    (caller setup n) c arguments i taken w ≡ all → Halted (e.actual_of (caller setup n) (argument_of x) c w) d
+    (levels setup n (argument_height (argument_of x))) halt v → x ≡ get_or arguments i x → i < length arguments
+    → Halted all d (levels setup n (arguments_height (arguments_of arguments))) halt v
+actuals_halt setup n c arguments i taken x halt w v all d is h at lt =
     let le : argument_height (argument_of x) ≤ arguments_height
     (arguments_of arguments) = argument_within arguments i x at lt in
-    halted_by (e.actual_of (caller job n) (argument_of x) c w) all halt v d
-    (levels job n (argument_height (argument_of x))) d (levels job n (arguments_height (arguments_of arguments)))
-    (λ stop s. actuals_stop (caller job n) c arguments i taken x stop w v all is s at lt) h (omega arith)
+    halted_by (e.actual_of (caller setup n) (argument_of x) c w) all halt v d
+    (levels setup n (argument_height (argument_of x))) d (levels setup n (arguments_height (arguments_of arguments)))
+    (λ stop s. actuals_stop (caller setup n) c arguments i taken x stop w v all is s at lt) h (omega arith)
 
 pub actuals_end : (call : e.Caller) (c : m.Context) (arguments : List Argument) (i : ℕ) (taken : List e.Actual)
     (w : m.World) → length arguments ≤ i → actuals_left call c arguments i taken w ≡ m.Gives taken w
@@ -254,29 +255,31 @@ actuals_end call c arguments i taken w le =
     ∙ ap (λ l. m.Gives l w) (append-nil taken)
 
 -- calls of functions, read again
-pub call_runs : (job : Job) (n : ℕ) (c : m.Context) (w : m.World) (x : Expr) (routine up : ℕ) (v : Vec Argument Global)
+pub call_runs : (setup : Setup) (n : ℕ) (c : m.Context) (w : m.World) (x : Expr) (routine up : ℕ)
+    (v : Vec Argument Global)
     (line : Line) (items : List Argument) (result : Result Value Halt) (u : World) (d : ℕ) → x ≡ Call routine up v line
-    → items ≡ v.items → Runs value_of (e.value (caller job n) (t.Call routine up (arguments_of items) line.number) c w)
-    (d - 1) (levels job n (arguments_height (arguments_of items))) result u → Runs value_of
-    (e.value (caller job n) (expr_of x) c w) d (levels job n (expr_height (expr_of x))) result u
-call_runs job n c w x routine up v line items result u d is at h =
+    → items ≡ v.items → Runs value_of
+    (e.value (caller setup n) (t.Call routine up (arguments_of items) line.number) c w)
+    (d - 1) (levels setup n (arguments_height (arguments_of items))) result u → Runs value_of
+    (e.value (caller setup n) (expr_of x) c w) d (levels setup n (expr_height (expr_of x))) result u
+call_runs setup n c w x routine up v line items result u d is at h =
     let called : t.Expr = t.Call routine up (arguments_of items) line.number in
-    subst (λ (y : t.Expr). Runs value_of (e.value (caller job n) y c w) d (levels job n (expr_height y)) result u)
+    subst (λ (y : t.Expr). Runs value_of (e.value (caller setup n) y c w) d (levels setup n (expr_height y)) result u)
     (call_is x routine up v line items is at)
-    (runs_deeper value_of (e.value (caller job n) called c w) result u (d - 1)
-    (levels job n (arguments_height (arguments_of items))) d
-    (levels job n (suc (arguments_height (arguments_of items)))) h (omega arith))
+    (runs_deeper value_of (e.value (caller setup n) called c w) result u (d - 1)
+    (levels setup n (arguments_height (arguments_of items))) d
+    (levels setup n (suc (arguments_height (arguments_of items)))) h (omega arith))
 
-pub call_formal_runs : (job : Job) (n : ℕ) (c : m.Context) (w : m.World) (x : Expr) (up index : ℕ)
+pub call_formal_runs : (setup : Setup) (n : ℕ) (c : m.Context) (w : m.World) (x : Expr) (up index : ℕ)
     (v : Vec Argument Global) (line : Line) (items : List Argument) (result : Result Value Halt) (u : World) (d : ℕ) → x
     ≡ CallFormal up index v line → items ≡ v.items → Runs value_of
-    (e.value (caller job n) (t.CallFormal up index (arguments_of items) line.number) c w) (d - 1)
-    (levels job n (arguments_height (arguments_of items))) result u → Runs value_of
-    (e.value (caller job n) (expr_of x) c w) d (levels job n (expr_height (expr_of x))) result u
-call_formal_runs job n c w x up index v line items result u d is at h =
+    (e.value (caller setup n) (t.CallFormal up index (arguments_of items) line.number) c w) (d - 1)
+    (levels setup n (arguments_height (arguments_of items))) result u → Runs value_of
+    (e.value (caller setup n) (expr_of x) c w) d (levels setup n (expr_height (expr_of x))) result u
+call_formal_runs setup n c w x up index v line items result u d is at h =
     let called : t.Expr = t.CallFormal up index (arguments_of items) line.number in
-    subst (λ (y : t.Expr). Runs value_of (e.value (caller job n) y c w) d (levels job n (expr_height y)) result u)
+    subst (λ (y : t.Expr). Runs value_of (e.value (caller setup n) y c w) d (levels setup n (expr_height y)) result u)
     (call_formal_is x up index v line items is at)
-    (runs_deeper value_of (e.value (caller job n) called c w) result u (d - 1)
-    (levels job n (arguments_height (arguments_of items))) d
-    (levels job n (suc (arguments_height (arguments_of items)))) h (omega arith))
+    (runs_deeper value_of (e.value (caller setup n) called c w) result u (d - 1)
+    (levels setup n (arguments_height (arguments_of items))) d
+    (levels setup n (suc (arguments_height (arguments_of items)))) h (omega arith))

@@ -4,7 +4,7 @@ use Rattle.ps_tree.specs.Tree as t
 use Rattle.ps_tree.specs.declared.line.Line.{Line}
 use Rattle.ps_tree.specs.declared.types.Ty.{Ty}
 use Rattle.ps_tree.specs.declared.tree.Range.{Range}
-use Rattle.ps_tree.specs.declared.tree.Relation.{Relation}
+use Rattle.ps_tree.specs.declared.tree.OrderRelation.{OrderRelation}
 use Rattle.ps_tree.specs.declared.tree.PointerRelation.{PointerRelation}
 use Rattle.ps_tree.specs.declared.tree.SetRelation.{SetRelation}
 use Rattle.ps_tree.specs.declared.tree.Place.{Place}
@@ -22,7 +22,7 @@ use Rattle.ps_meaning.specs.Worlds as m
 use Rattle.ps_meaning.specs.Expressions as e
 use Rattle.ps_meaning_runner.specs.declared.value.Value.{Value}
 use Rattle.ps_meaning_runner.specs.declared.stop.Halt.{Halt}
-use Rattle.ps_meaning_runner.specs.declared.world.Job.{Job}
+use Rattle.ps_meaning_runner.specs.declared.world.Setup.{Setup}
 use Rattle.ps_meaning_runner.specs.declared.world.World.{World}
 use Rattle.ps_meaning_runner.specs.View.{value_of}
 use Rattle.ps_meaning_runner.specs.Worlds.{caller, acting, done_of}
@@ -31,30 +31,30 @@ use Rattle.ps_meaning_runner.specs.Runs.{Runs, levels}
 use Rattle.ps_meaning_runner.proofs.Answers.{runs_deeper}
 use Rattle.ps_meaning_runner.proofs.Trees as tree
 
-pub expr_runs : (job : Job) (n : ℕ) (c : m.Context) (w : m.World) (x : Expr) (whole : t.Expr) (height : ℕ)
+pub expr_runs : (setup : Setup) (n : ℕ) (c : m.Context) (w : m.World) (x : Expr) (whole : t.Expr) (height : ℕ)
     (result : Result Value Halt) (u : World) (d : ℕ) → whole ≡ expr_of x → expr_height whole ≡ suc height
-    → Runs value_of (e.value (caller job n) whole c w) (d - 1) (levels job n height) result u → Runs value_of
-    (e.value (caller job n) (expr_of x) c w) d (levels job n (expr_height (expr_of x))) result u
-expr_runs job n c w x whole height result u d is high h =
-    subst (λ (y : t.Expr). Runs value_of (e.value (caller job n) y c w) d (levels job n (expr_height y)) result u) is
-    (runs_deeper value_of (e.value (caller job n) whole c w) result u (d - 1) (levels job n height) d
-    (levels job n (expr_height whole)) h (omega arith))
+    → Runs value_of (e.value (caller setup n) whole c w) (d - 1) (levels setup n height) result u → Runs value_of
+    (e.value (caller setup n) (expr_of x) c w) d (levels setup n (expr_height (expr_of x))) result u
+expr_runs setup n c w x whole height result u d is high h =
+    subst (λ (y : t.Expr). Runs value_of (e.value (caller setup n) y c w) d (levels setup n (expr_height y)) result u)
+    is (runs_deeper value_of (e.value (caller setup n) whole c w) result u (d - 1) (levels setup n height) d
+    (levels setup n (expr_height whole)) h (omega arith))
 
-pub statement_runs : (job : Job) (n : ℕ) (c : m.Context) (w : m.World) (x : Statement) (whole : t.Statement)
+pub statement_runs : (setup : Setup) (n : ℕ) (c : m.Context) (w : m.World) (x : Statement) (whole : t.Statement)
     (height : ℕ) (result : Result (Unit {0}) Halt) (u : World) (d : ℕ) → whole ≡ statement_of x → statement_height whole
-    ≡ suc height → Runs done_of (acting job n whole c w) (d - 1) (levels job n height) result u → Runs done_of
-    (acting job n (statement_of x) c w) d (levels job n (statement_height (statement_of x))) result u
-statement_runs job n c w x whole height result u d is high h =
-    subst (λ (y : t.Statement). Runs done_of (acting job n y c w) d (levels job n (statement_height y)) result u) is
-    (runs_deeper done_of (acting job n whole c w) result u (d - 1) (levels job n height) d
-    (levels job n (statement_height whole)) h (omega arith))
+    ≡ suc height → Runs done_of (acting setup n whole c w) (d - 1) (levels setup n height) result u → Runs done_of
+    (acting setup n (statement_of x) c w) d (levels setup n (statement_height (statement_of x))) result u
+statement_runs setup n c w x whole height result u d is high h =
+    subst (λ (y : t.Statement). Runs done_of (acting setup n y c w) d (levels setup n (statement_height y)) result u) is
+    (runs_deeper done_of (acting setup n whole c w) result u (d - 1) (levels setup n height) d
+    (levels setup n (statement_height whole)) h (omega arith))
 
 pub plus_is : (x : Expr) (operand_box : Box Expr Global) (operand : Expr) → x ≡ Plus operand_box → operand
     ≡ operand_box.value → t.Plus (expr_of operand) ≡ expr_of x
 unfolding expr_of
 plus_is x operand_box operand is h0 = ap (λ k. t.Plus (expr_of k)) h0 ∙ sym (ap expr_of is)
 
-pub compare_is : (x : Expr) (relation : Relation) (left_box : Box Expr Global) (left : Expr)
+pub compare_is : (x : Expr) (relation : OrderRelation) (left_box : Box Expr Global) (left : Expr)
     (right_box : Box Expr Global) (right : Expr) → x ≡ Compare relation left_box right_box → left ≡ left_box.value
     → right ≡ right_box.value → t.Compare relation (expr_of left) (expr_of right) ≡ expr_of x
 unfolding expr_of
@@ -77,7 +77,7 @@ compare_sets_is x relation left_box left right_box right is h0 h1 =
     ap (λ k. t.CompareSets relation (set_of k) (set_of right)) h0
     ∙ ap (λ k. t.CompareSets relation (set_of left_box.value) (set_of k)) h1 ∙ sym (ap expr_of is)
 
-pub compare_strings_is : (x : Expr) (relation : Relation) (left_box : Box Structure Global) (left : Structure)
+pub compare_strings_is : (x : Expr) (relation : OrderRelation) (left_box : Box Structure Global) (left : Structure)
     (right_box : Box Structure Global) (right : Structure) → x ≡ CompareStrings relation left_box right_box → left
     ≡ left_box.value → right ≡ right_box.value → t.CompareStrings relation (structure_of left) (structure_of right)
     ≡ expr_of x

@@ -14,7 +14,7 @@ use Rattle.ps_meaning.specs.Worlds as m
 use Rattle.ps_meaning.specs.Expressions as x
 use Rattle.ps_meaning.specs.Statements as s
 use Rattle.ps_meaning.specs.Calls.{Bound, declared, bind, bind_variables, bind_actuals, execute}
-use Rattle.ps_meaning_runner.specs.declared.world.Job.{Job}
+use Rattle.ps_meaning_runner.specs.declared.world.Setup.{Setup}
 use Rattle.ps_meaning_runner.specs.declared.operands.Actual.{Actual}
 use Rattle.ps_meaning_runner.specs.declared.value.Spot.{Spot}
 use Rattle.ps_meaning_runner.specs.declared.world.Entry.{Entry, Variable}
@@ -105,16 +105,17 @@ routine_past (x ∷ rest) domains zero le = absurd (omega arith)
 routine_past (x ∷ rest) domains (suc r) le = routine_past rest domains r (omega arith)
 
 -- the routine with a number, and a number past those of all routines
-pub numbered : (job : Job) (routines : List Routine) (number : ℕ) (called : Routine) → routines
-    ≡ job.program.now.routines → number < length routines → called ≡ get_or routines number called → Tree.routine_at
-    (r.program_of job) number ≡ routine_of called
-numbered job routines number called is lt at = ap (λ l. Tree.routine_at (program_of l job.program.now.domains) number)
-    (sym is) ∙ routine_found routines job.program.now.domains number called lt at
+pub numbered : (setup : Setup) (routines : List Routine) (number : ℕ) (called : Routine) → routines
+    ≡ setup.program.now.routines → number < length routines → called ≡ get_or routines number called → Tree.routine_at
+    (r.program_of setup) number ≡ routine_of called
+numbered setup routines number called is lt at = ap
+    (λ l. Tree.routine_at (program_of l setup.program.now.domains) number)
+    (sym is) ∙ routine_found routines setup.program.now.domains number called lt at
 
-pub not_numbered : (job : Job) (routines : List Routine) (number : ℕ) → routines ≡ job.program.now.routines
-    → length routines ≤ number → Tree.routine_at (r.program_of job) number ≡ Tree.no_routine
-not_numbered job routines number is le = ap (λ l. Tree.routine_at (program_of l job.program.now.domains) number)
-    (sym is) ∙ routine_past routines job.program.now.domains number le
+pub not_numbered : (setup : Setup) (routines : List Routine) (number : ℕ) → routines ≡ setup.program.now.routines
+    → length routines ≤ number → Tree.routine_at (r.program_of setup) number ≡ Tree.no_routine
+not_numbered setup routines number is le = ap (λ l. Tree.routine_at (program_of l setup.program.now.domains) number)
+    (sym is) ∙ routine_past routines setup.program.now.domains number le
 
 if_true_at : {A B : Type 0} (b : Bool) (f g : A → B) (w : A) → b ≡ true → (if b then f else g) w ≡ f w
 if_true_at b f g w is = ap (λ k. (if k then f else g) w) is
@@ -123,28 +124,29 @@ if_false_at : {A B : Type 0} (b : Bool) (f g : A → B) (w : A) → b ≡ false 
 if_false_at b f g w is = ap (λ k. (if k then f else g) w) is
 
 -- a call that is stopped, and one that enters its block
-pub stack_passed : (job : Job) (n number : ℕ) (parent : m.Env) (actuals : List x.Actual) (c : m.Context) (w : m.World)
-    (line : ℕ) → (Tree.routine_at (r.program_of job) number).line ≡ line → s.passes_stack (costs_in job)
-    (number ∷ c.active) ≡ true → caller job n number parent actuals c w ≡ m.Ends w.transcript (Stack line)
+pub stack_passed : (setup : Setup) (n number : ℕ) (parent : m.Env) (actuals : List x.Actual) (c : m.Context)
+    (w : m.World)
+    (line : ℕ) → (Tree.routine_at (r.program_of setup) number).line ≡ line → s.passes_stack (costs_in setup)
+    (number ∷ c.active) ≡ true → caller setup n number parent actuals c w ≡ m.Ends w.transcript (Stack line)
 unfolding caller
-stack_passed job n number parent actuals c w line is passes =
+stack_passed setup n number parent actuals c w line is passes =
     if_true_at _ _ _ w passes ∙ ap (λ k. m.Ends w.transcript (Stack k)) is
 
 -- a block whose names are bound
-entered : Job → (n number : ℕ) → m.Env → m.Context → Tree.Statements → Bound → m.Answer m.Done
-entered job n number parent c body b = execute (r.program_of job) (costs_in job) n (s.Block body) (record {
+entered : Setup → (n number : ℕ) → m.Env → m.Context → Tree.Statements → Bound → m.Answer m.Done
+entered setup n number parent c body b = execute (r.program_of setup) (costs_in setup) n (s.Block body) (record {
   env = m.Within b.frame parent;
   opened = [];
   active = number ∷ c.active;
   calls = c.calls;
 }) b.world
 
-pub block_entered : (job : Job) (n number : ℕ) (parent : m.Env) (actuals : List x.Actual) (c : m.Context) (w : m.World)
-    (result : Option DataType) (variables : List DataType) (body : Tree.Statements) (bound : Bound)
-    → (Tree.routine_at (r.program_of job) number).result ≡ result
-    → (Tree.routine_at (r.program_of job) number).variables ≡ variables
-    → (Tree.routine_at (r.program_of job) number).body ≡ body → s.passes_stack (costs_in job) (number ∷ c.active)
-    ≡ false → bind result actuals variables w ≡ bound → caller job n number parent actuals c w ≡ next job n
+pub block_entered : (setup : Setup) (n number : ℕ) (parent : m.Env) (actuals : List x.Actual) (c : m.Context)
+    (w : m.World) (result : Option DataType) (variables : List DataType) (body : Tree.Statements) (bound : Bound)
+    → (Tree.routine_at (r.program_of setup) number).result ≡ result
+    → (Tree.routine_at (r.program_of setup) number).variables ≡ variables
+    → (Tree.routine_at (r.program_of setup) number).body ≡ body → s.passes_stack (costs_in setup) (number ∷ c.active)
+    ≡ false → bind result actuals variables w ≡ bound → caller setup n number parent actuals c w ≡ next setup n
     (s.Block body) (record {
       env = m.Within bound.frame parent;
       opened = [];
@@ -152,24 +154,24 @@ pub block_entered : (job : Job) (n number : ℕ) (parent : m.Env) (actuals : Lis
       calls = c.calls;
     }) bound.world
 unfolding caller next entered
-block_entered job n number parent actuals c w result variables body bound ends declares does passes did =
-    if_false_at _ _ _ w passes ∙ ap (λ k. entered job n number parent c k
-    (bind (Tree.routine_at (r.program_of job) number).result actuals
-    (Tree.routine_at (r.program_of job) number).variables w)) does ∙ ap (entered job n number parent c body)
-    (ap (λ k. bind k actuals (Tree.routine_at (r.program_of job) number).variables w) ends
+block_entered setup n number parent actuals c w result variables body bound ends declares does passes did =
+    if_false_at _ _ _ w passes ∙ ap (λ k. entered setup n number parent c k
+    (bind (Tree.routine_at (r.program_of setup) number).result actuals
+    (Tree.routine_at (r.program_of setup) number).variables w)) does ∙ ap (entered setup n number parent c body)
+    (ap (λ k. bind k actuals (Tree.routine_at (r.program_of setup) number).variables w) ends
     ∙ ap (λ k. bind result actuals k w) declares ∙ did)
 
 -- the block of a call, with no fuel left and with some
-pub block_none : (job : Job) (n : ℕ) (body : Tree.Statements) (c : m.Context) (w : m.World) → n ≡ 0 → next job n
+pub block_none : (setup : Setup) (n : ℕ) (body : Tree.Statements) (c : m.Context) (w : m.World) → n ≡ 0 → next setup n
     (s.Block body) c w ≡ r.used_up w
 unfolding next
-block_none job n body c w none = ap (λ k. execute (r.program_of job) (costs_in job) k (s.Block body) c w) none
+block_none setup n body c w none = ap (λ k. execute (r.program_of setup) (costs_in setup) k (s.Block body) c w) none
 
-pub block_next : (job : Job) (n : ℕ) (body : Tree.Statements) (c : m.Context) (w : m.World) → n ≢ 0 → next job n
-    (s.Block body) c w ≡ r.acting_all job (n - 1) body c w
+pub block_next : (setup : Setup) (n : ℕ) (body : Tree.Statements) (c : m.Context) (w : m.World) → n ≢ 0 → next setup n
+    (s.Block body) c w ≡ r.acting_all setup (n - 1) body c w
 unfolding next caller
-block_next job zero body c w more = absurd (more refl)
-block_next job (suc n) body c w more = ap (λ k. r.acting_all job k body c w) (one_less n)
+block_next setup zero body c w more = absurd (more refl)
+block_next setup (suc n) body c w more = ap (λ k. r.acting_all setup k body c w) (one_less n)
   where
     one_less : (k : ℕ) → k ≡ suc k - 1
     one_less k = omega arith

@@ -23,7 +23,7 @@ use Rattle.ps_meaning_runner.specs.declared.stop.Halt.{Halt}
 use Rattle.ps_meaning_runner.specs.declared.value.Value.{Value}
 use Rattle.ps_meaning_runner.specs.declared.value.Spot.{Spot}
 use Rattle.ps_meaning_runner.specs.declared.operands.Held.TheVariants.{Place}
-use Rattle.ps_meaning_runner.specs.declared.world.Job.{Job}
+use Rattle.ps_meaning_runner.specs.declared.world.Setup.{Setup}
 use Rattle.ps_meaning_runner.specs.View.{members_of_set, value_of, spot_of}
 use Rattle.ps_meaning_runner.specs.declared.world.World.{World}
 use Rattle.ps_meaning_runner.specs.Worlds.{Stopped, caller, held_of}
@@ -59,19 +59,19 @@ pub selectors_end : (call : e.Caller) (c : m.Context) (xs : List Selector) (i : 
     ≡ m.Gives spot w
 selectors_end call c xs i spot w all is le = sym is ∙ ap (λ l. e.accesses call l spot c w) (selectors_past xs i le)
 
-pub selectors_halt : (job : Job) (n : ℕ) (c : m.Context) (xs : List Selector) (i : ℕ) (x : Selector) (spot : v.Spot)
-    (halt : Halt) (w : m.World) (u : World) (all : m.Answer v.Spot) (d : ℕ) → e.accesses (caller job n)
-    (selectors_of (drop i xs)) spot c w ≡ all → Halted (e.at_selector (caller job n) (selector_of x) spot c w) d
-    (levels job n (selector_height (selector_of x))) halt u → x ≡ get_or xs i x → i < length xs → Halted all d
-    (levels job n (selectors_height (selectors_of xs))) halt u
-selectors_halt job n c xs i x spot halt w u all d is h at lt =
+pub selectors_halt : (setup : Setup) (n : ℕ) (c : m.Context) (xs : List Selector) (i : ℕ) (x : Selector) (spot : v.Spot)
+    (halt : Halt) (w : m.World) (u : World) (all : m.Answer v.Spot) (d : ℕ) → e.accesses (caller setup n)
+    (selectors_of (drop i xs)) spot c w ≡ all → Halted (e.at_selector (caller setup n) (selector_of x) spot c w) d
+    (levels setup n (selector_height (selector_of x))) halt u → x ≡ get_or xs i x → i < length xs → Halted all d
+    (levels setup n (selectors_height (selectors_of xs))) halt u
+selectors_halt setup n c xs i x spot halt w u all d is h at lt =
     let le : selector_height (selector_of x) ≤ selectors_height (selectors_of xs) = selector_within xs i x at lt in
-    halted_by (e.at_selector (caller job n) (selector_of x) spot c w) all halt u d
-    (levels job n (selector_height (selector_of x))) d (levels job n (selectors_height (selectors_of xs)))
+    halted_by (e.at_selector (caller setup n) (selector_of x) spot c w) all halt u d
+    (levels setup n (selector_height (selector_of x))) d (levels setup n (selectors_height (selectors_of xs)))
     (λ stop s. stopped_same _ all stop u (sym
-    (ap (λ l. e.accesses (caller job n) l spot c w) (selectors_at xs i x lt at)) ∙ is)
-    (stopped_then (e.at_selector (caller job n) (selector_of x) spot c w)
-    (λ y. e.accesses (caller job n) (selectors_of (drop (i + 1) xs)) y c) stop u s)) h (omega arith)
+    (ap (λ l. e.accesses (caller setup n) l spot c w) (selectors_at xs i x lt at)) ∙ is)
+    (stopped_then (e.at_selector (caller setup n) (selector_of x) spot c w)
+    (λ y. e.accesses (caller setup n) (selectors_of (drop (i + 1) xs)) y c) stop u s)) h (omega arith)
 
 -- a variable from its first selector on, and where one of them ends the run
 pub access_begins : (call : e.Caller) (c : m.Context) (p : PlaceInTree) (xs : List Selector) (spot : v.Spot)
@@ -80,18 +80,18 @@ pub access_begins : (call : e.Caller) (c : m.Context) (p : PlaceInTree) (xs : Li
 access_begins call c p xs spot w whole at = ap (λ l. e.accesses call (selectors_of l) spot c w) whole
     ∙ ap (λ s. e.accesses call (selectors_of p.selectors.items) s c w) at
 
-pub access_halts : (job : Job) (n : ℕ) (c : m.Context) (p : PlaceInTree) (xs : List Selector) (i : ℕ) (x : Selector)
+pub access_halts : (setup : Setup) (n : ℕ) (c : m.Context) (p : PlaceInTree) (xs : List Selector) (i : ℕ) (x : Selector)
     (spot : v.Spot) (halt : Halt) (first w : m.World) (u : World) (d : ℕ) → xs ≡ p.selectors.items → e.accesses
-    (caller job n) (selectors_of (drop i xs)) spot c w ≡ e.access (caller job n) (place_of p) c first → Halted
-    (e.at_selector (caller job n) (selector_of x) spot c w) (d - 1)
-    (levels job n (selector_height (selector_of x))) halt u → x ≡ get_or xs i x → i < length xs → Halted
-    (e.access (caller job n) (place_of p) c first) d (levels job n (place_height (place_of p))) halt u
-access_halts job n c p xs i x spot halt first w u d whole is h at lt =
-    let all : m.Answer v.Spot = e.access (caller job n) (place_of p) c first in
-    let needed : ℕ = levels job n (selectors_height (selectors_of xs)) in
-    subst (λ l. Halted all d (levels job n (suc (selectors_height (selectors_of l)))) halt u) whole
-    (halted_by all all halt u (d - 1) needed d (levels job n (suc (selectors_height (selectors_of xs))))
-    (λ stop s. s) (selectors_halt job n c xs i x spot halt w u all (d - 1) is h at lt) (omega arith))
+    (caller setup n) (selectors_of (drop i xs)) spot c w ≡ e.access (caller setup n) (place_of p) c first → Halted
+    (e.at_selector (caller setup n) (selector_of x) spot c w) (d - 1)
+    (levels setup n (selector_height (selector_of x))) halt u → x ≡ get_or xs i x → i < length xs → Halted
+    (e.access (caller setup n) (place_of p) c first) d (levels setup n (place_height (place_of p))) halt u
+access_halts setup n c p xs i x spot halt first w u d whole is h at lt =
+    let all : m.Answer v.Spot = e.access (caller setup n) (place_of p) c first in
+    let needed : ℕ = levels setup n (selectors_height (selectors_of xs)) in
+    subst (λ l. Halted all d (levels setup n (suc (selectors_height (selectors_of l)))) halt u) whole
+    (halted_by all all halt u (d - 1) needed d (levels setup n (suc (selectors_height (selectors_of xs))))
+    (λ stop s. s) (selectors_halt setup n c xs i x spot halt w u all (d - 1) is h at lt) (omega arith))
 
 -- ---- operators on integers
 
@@ -147,31 +147,31 @@ pub steps_end : (call : e.Caller) (c : m.Context) (xs : List ArithmeticStep) (i 
     (v.OrdinalValue k) w
 steps_end call c xs i k w all is le = sym is ∙ ap (λ l. e.computed call l k c w) (steps_past xs i le)
 
-pub steps_halt_first : (job : Job) (n : ℕ) (c : m.Context) (first : Tree.Expr) (steps : Tree.ArithmeticSteps)
-    (halt : Halt) (w : m.World) (u : World) (d : ℕ) → Halted (e.value (caller job n) first c w) d
-    (levels job n (expr_height first)) halt u → Halted (e.value (caller job n) (Tree.Arithmetic first steps) c w) d
-    (levels job n (max (expr_height first) (steps_height steps))) halt u
-steps_halt_first job n c first steps halt w u d h =
-    halted_by (e.value (caller job n) first c w) (e.value (caller job n) (Tree.Arithmetic first steps) c w) halt u d
-    (levels job n (expr_height first)) d (levels job n (max (expr_height first) (steps_height steps)))
-    (λ stop s. stopped_then (e.value (caller job n) first c w)
-    (λ y. e.computed (caller job n) steps (v.number_of y) c) stop u s) h (omega arith)
+pub steps_halt_first : (setup : Setup) (n : ℕ) (c : m.Context) (first : Tree.Expr) (steps : Tree.ArithmeticSteps)
+    (halt : Halt) (w : m.World) (u : World) (d : ℕ) → Halted (e.value (caller setup n) first c w) d
+    (levels setup n (expr_height first)) halt u → Halted (e.value (caller setup n) (Tree.Arithmetic first steps) c w) d
+    (levels setup n (max (expr_height first) (steps_height steps))) halt u
+steps_halt_first setup n c first steps halt w u d h =
+    halted_by (e.value (caller setup n) first c w) (e.value (caller setup n) (Tree.Arithmetic first steps) c w) halt u d
+    (levels setup n (expr_height first)) d (levels setup n (max (expr_height first) (steps_height steps)))
+    (λ stop s. stopped_then (e.value (caller setup n) first c w)
+    (λ y. e.computed (caller setup n) steps (v.number_of y) c) stop u s) h (omega arith)
 
-pub steps_halt : (job : Job) (n : ℕ) (c : m.Context) (xs : List ArithmeticStep) (i : ℕ) (x : ArithmeticStep) (k : ℤ)
-    (halt : Halt) (w : m.World) (u : World) (all : m.Answer v.Value) (d height : ℕ) → e.computed (caller job n)
+pub steps_halt : (setup : Setup) (n : ℕ) (c : m.Context) (xs : List ArithmeticStep) (i : ℕ) (x : ArithmeticStep) (k : ℤ)
+    (halt : Halt) (w : m.World) (u : World) (all : m.Answer v.Value) (d height : ℕ) → e.computed (caller setup n)
     (arithmetic_of (drop i xs)) k c w ≡ all → Halted
-    (e.value (caller job n) (expr_of (out-ArithmeticStep x).operand) c w) d
-    (levels job n (expr_height (expr_of (out-ArithmeticStep x).operand))) halt u → x ≡ get_or xs i x → i < length xs
-    → Halted all d (levels job n (max height (steps_height (arithmetic_of xs)))) halt u
-steps_halt job n c xs i x k halt w u all d height is h at lt =
+    (e.value (caller setup n) (expr_of (out-ArithmeticStep x).operand) c w) d
+    (levels setup n (expr_height (expr_of (out-ArithmeticStep x).operand))) halt u → x ≡ get_or xs i x → i < length xs
+    → Halted all d (levels setup n (max height (steps_height (arithmetic_of xs)))) halt u
+steps_halt setup n c xs i x k halt w u all d height is h at lt =
     let le : expr_height (expr_of (out-ArithmeticStep x).operand) ≤ steps_height
     (arithmetic_of xs) = step_within xs i x at lt in
-    halted_by (e.value (caller job n) (expr_of (out-ArithmeticStep x).operand) c w) all halt u d
-    (levels job n (expr_height (expr_of (out-ArithmeticStep x).operand))) d
-    (levels job n (max height (steps_height (arithmetic_of xs))))
-    (λ stop s. stopped_same _ all stop u (step_is (caller job n) c xs i x k w all is at lt)
-    (stopped_then (e.value (caller job n) (expr_of (out-ArithmeticStep x).operand) c w)
-    (step_done (caller job n) c xs i x k) stop u s)) h (omega arith)
+    halted_by (e.value (caller setup n) (expr_of (out-ArithmeticStep x).operand) c w) all halt u d
+    (levels setup n (expr_height (expr_of (out-ArithmeticStep x).operand))) d
+    (levels setup n (max height (steps_height (arithmetic_of xs))))
+    (λ stop s. stopped_same _ all stop u (step_is (caller setup n) c xs i x k w all is at lt)
+    (stopped_then (e.value (caller setup n) (expr_of (out-ArithmeticStep x).operand) c w)
+    (step_done (caller setup n) c xs i x k) stop u s)) h (omega arith)
 
 pub steps_stop : (call : e.Caller) (c : m.Context) (xs : List ArithmeticStep) (i : ℕ) (x : ArithmeticStep) (k : ℤ)
     (y : v.Value) (stop : Halt) (w u : m.World) (t : World) (all : m.Answer v.Value) → e.computed call
@@ -202,38 +202,39 @@ truth_then (m.Gives y w) f = refl
 truth_then (m.Ends out ending) f = refl
 
 -- the truth of the first operand, and what the others give
-logic_is : (job : Job) (n : ℕ) (c : m.Context) (operator : BooleanOperator) (first : Tree.Expr) (rest : Tree.Operands)
-    (w : m.World) → e.value (caller job n) (Tree.Logic operator first rest) c w ≡ m.and_then (truth_in job n first c w)
-    (λ b. e.combined (caller job n) operator rest b c)
-logic_is job n c operator first rest w = truth_then (e.value (caller job n) first c w)
-    (λ b. e.combined (caller job n) operator rest b c)
+logic_is : (setup : Setup) (n : ℕ) (c : m.Context) (operator : BooleanOperator) (first : Tree.Expr)
+    (rest : Tree.Operands)
+    (w : m.World) → e.value (caller setup n) (Tree.Logic operator first rest) c w
+    ≡ m.and_then (truth_in setup n first c w) (λ b. e.combined (caller setup n) operator rest b c)
+logic_is setup n c operator first rest w = truth_then (e.value (caller setup n) first c w)
+    (λ b. e.combined (caller setup n) operator rest b c)
 
-pub operands_begin : (job : Job) (n : ℕ) (c : m.Context) (operator : BooleanOperator) (first : Tree.Expr)
-    (rest : Tree.Operands) (b : Bool) (w u : m.World) → truth_in job n first c w ≡ m.Gives b u → e.combined
-    (caller job n) operator rest b c u ≡ e.value (caller job n) (Tree.Logic operator first rest) c w
-operands_begin job n c operator first rest b w u gives = sym
-    (logic_is job n c operator first rest w ∙ then_gives (truth_in job n first c w)
-    (λ k. e.combined (caller job n) operator rest k c) b u gives)
+pub operands_begin : (setup : Setup) (n : ℕ) (c : m.Context) (operator : BooleanOperator) (first : Tree.Expr)
+    (rest : Tree.Operands) (b : Bool) (w u : m.World) → truth_in setup n first c w ≡ m.Gives b u → e.combined
+    (caller setup n) operator rest b c u ≡ e.value (caller setup n) (Tree.Logic operator first rest) c w
+operands_begin setup n c operator first rest b w u gives = sym
+    (logic_is setup n c operator first rest w ∙ then_gives (truth_in setup n first c w)
+    (λ k. e.combined (caller setup n) operator rest k c) b u gives)
 
-operand_is : (job : Job) (n : ℕ) (c : m.Context) (operator : BooleanOperator) (xs : List Expr) (i : ℕ) (x : Expr)
-    (k : Bool) (w : m.World) (all : m.Answer v.Value) → e.combined (caller job n) operator
+operand_is : (setup : Setup) (n : ℕ) (c : m.Context) (operator : BooleanOperator) (xs : List Expr) (i : ℕ) (x : Expr)
+    (k : Bool) (w : m.World) (all : m.Answer v.Value) → e.combined (caller setup n) operator
     (operands_of (drop i xs)) k c w ≡ all → x ≡ get_or xs i x → i < length xs → m.and_then
-    (truth_in job n (expr_of x) c w) (λ y. e.combined (caller job n) operator (operands_of (drop (i + 1) xs))
+    (truth_in setup n (expr_of x) c w) (λ y. e.combined (caller setup n) operator (operands_of (drop (i + 1) xs))
     (combine_truths operator k y) c) ≡ all
-operand_is job n c operator xs i x k w all is at lt =
-    sym (ap (λ l. e.combined (caller job n) operator l k c w) (operands_at xs i x lt at) ∙ truth_then
-    (e.value (caller job n) (expr_of x) c w)
-    (λ y. e.combined (caller job n) operator (operands_of (drop (i + 1) xs)) (combine_truths operator k y) c)) ∙ is
+operand_is setup n c operator xs i x k w all is at lt =
+    sym (ap (λ l. e.combined (caller setup n) operator l k c w) (operands_at xs i x lt at) ∙ truth_then
+    (e.value (caller setup n) (expr_of x) c w)
+    (λ y. e.combined (caller setup n) operator (operands_of (drop (i + 1) xs)) (combine_truths operator k y) c)) ∙ is
 
-pub operands_next : (job : Job) (n : ℕ) (c : m.Context) (operator : BooleanOperator) (xs : List Expr) (i : ℕ) (x : Expr)
-    (k y : Bool) (w u : m.World) (all : m.Answer v.Value) → e.combined (caller job n) operator
-    (operands_of (drop i xs)) k c w ≡ all → truth_in job n (expr_of x) c w ≡ m.Gives y u → x ≡ get_or xs i x
-    → i < length xs → e.combined (caller job n) operator (operands_of (drop (i + 1) xs))
+pub operands_next : (setup : Setup) (n : ℕ) (c : m.Context) (operator : BooleanOperator) (xs : List Expr) (i : ℕ)
+    (x : Expr) (k y : Bool) (w u : m.World) (all : m.Answer v.Value) → e.combined (caller setup n) operator
+    (operands_of (drop i xs)) k c w ≡ all → truth_in setup n (expr_of x) c w ≡ m.Gives y u → x ≡ get_or xs i x
+    → i < length xs → e.combined (caller setup n) operator (operands_of (drop (i + 1) xs))
     (combine_truths operator k y) c u ≡ all
-operands_next job n c operator xs i x k y w u all is gives at lt =
-    sym (then_gives (truth_in job n (expr_of x) c w)
-    (λ b. e.combined (caller job n) operator (operands_of (drop (i + 1) xs)) (combine_truths operator k b) c) y u
-    gives) ∙ operand_is job n c operator xs i x k w all is at lt
+operands_next setup n c operator xs i x k y w u all is gives at lt =
+    sym (then_gives (truth_in setup n (expr_of x) c w)
+    (λ b. e.combined (caller setup n) operator (operands_of (drop (i + 1) xs)) (combine_truths operator k b) c) y u
+    gives) ∙ operand_is setup n c operator xs i x k w all is at lt
 
 pub operands_end : (call : e.Caller) (c : m.Context) (operator : BooleanOperator) (xs : List Expr) (i : ℕ) (k : Bool)
     (w : m.World) (all : m.Answer v.Value) → e.combined call operator (operands_of (drop i xs)) k c w ≡ all
@@ -241,30 +242,31 @@ pub operands_end : (call : e.Caller) (c : m.Context) (operator : BooleanOperator
 operands_end call c operator xs i k w all is le = sym is ∙ ap (λ l. e.combined call operator l k c w)
     (operands_past xs i le)
 
-pub operands_halt_first : (job : Job) (n : ℕ) (c : m.Context) (operator : BooleanOperator) (first : Tree.Expr)
-    (rest : Tree.Operands) (halt : Halt) (w : m.World) (u : World) (d : ℕ) → Halted (truth_in job n first c w) d
-    (levels job n (expr_height first)) halt u → Halted (e.value (caller job n) (Tree.Logic operator first rest) c w) d
-    (levels job n (max (expr_height first) (operands_height rest))) halt u
-operands_halt_first job n c operator first rest halt w u d h =
-    halted_by (truth_in job n first c w) (e.value (caller job n) (Tree.Logic operator first rest) c w) halt u d
-    (levels job n (expr_height first)) d (levels job n (max (expr_height first) (operands_height rest)))
-    (λ stop s. stopped_same _ (e.value (caller job n) (Tree.Logic operator first rest) c w) stop u
-    (sym (logic_is job n c operator first rest w))
-    (stopped_then (truth_in job n first c w) (λ b. e.combined (caller job n) operator rest b c) stop u s)) h
+pub operands_halt_first : (setup : Setup) (n : ℕ) (c : m.Context) (operator : BooleanOperator) (first : Tree.Expr)
+    (rest : Tree.Operands) (halt : Halt) (w : m.World) (u : World) (d : ℕ) → Halted (truth_in setup n first c w) d
+    (levels setup n (expr_height first)) halt u
+    → Halted (e.value (caller setup n) (Tree.Logic operator first rest) c w) d
+    (levels setup n (max (expr_height first) (operands_height rest))) halt u
+operands_halt_first setup n c operator first rest halt w u d h =
+    halted_by (truth_in setup n first c w) (e.value (caller setup n) (Tree.Logic operator first rest) c w) halt u d
+    (levels setup n (expr_height first)) d (levels setup n (max (expr_height first) (operands_height rest)))
+    (λ stop s. stopped_same _ (e.value (caller setup n) (Tree.Logic operator first rest) c w) stop u
+    (sym (logic_is setup n c operator first rest w))
+    (stopped_then (truth_in setup n first c w) (λ b. e.combined (caller setup n) operator rest b c) stop u s)) h
     (omega arith)
 
-pub operands_halt : (job : Job) (n : ℕ) (c : m.Context) (operator : BooleanOperator) (xs : List Expr) (i : ℕ) (x : Expr)
-    (k : Bool) (halt : Halt) (w : m.World) (u : World) (all : m.Answer v.Value) (d height : ℕ) → e.combined
-    (caller job n) operator (operands_of (drop i xs)) k c w ≡ all → Halted (truth_in job n (expr_of x) c w) d
-    (levels job n (expr_height (expr_of x))) halt u → x ≡ get_or xs i x → i < length xs → Halted all d
-    (levels job n (max height (operands_height (operands_of xs)))) halt u
-operands_halt job n c operator xs i x k halt w u all d height is h at lt =
+pub operands_halt : (setup : Setup) (n : ℕ) (c : m.Context) (operator : BooleanOperator) (xs : List Expr) (i : ℕ)
+    (x : Expr) (k : Bool) (halt : Halt) (w : m.World) (u : World) (all : m.Answer v.Value) (d height : ℕ) → e.combined
+    (caller setup n) operator (operands_of (drop i xs)) k c w ≡ all → Halted (truth_in setup n (expr_of x) c w) d
+    (levels setup n (expr_height (expr_of x))) halt u → x ≡ get_or xs i x → i < length xs → Halted all d
+    (levels setup n (max height (operands_height (operands_of xs)))) halt u
+operands_halt setup n c operator xs i x k halt w u all d height is h at lt =
     let le : expr_height (expr_of x) ≤ operands_height (operands_of xs) = operand_within xs i x at lt in
-    halted_by (truth_in job n (expr_of x) c w) all halt u d (levels job n (expr_height (expr_of x))) d
-    (levels job n (max height (operands_height (operands_of xs))))
-    (λ stop s. stopped_same _ all stop u (operand_is job n c operator xs i x k w all is at lt)
-    (stopped_then (truth_in job n (expr_of x) c w)
-    (λ y. e.combined (caller job n) operator (operands_of (drop (i + 1) xs)) (combine_truths operator k y) c) stop u
+    halted_by (truth_in setup n (expr_of x) c w) all halt u d (levels setup n (expr_height (expr_of x))) d
+    (levels setup n (max height (operands_height (operands_of xs))))
+    (λ stop s. stopped_same _ all stop u (operand_is setup n c operator xs i x k w all is at lt)
+    (stopped_then (truth_in setup n (expr_of x) c w)
+    (λ y. e.combined (caller setup n) operator (operands_of (drop (i + 1) xs)) (combine_truths operator k y) c) stop u
     s)) h (omega arith)
 
 -- ---- operators on sets
@@ -306,31 +308,32 @@ pub sets_end : (call : e.Caller) (c : m.Context) (xs : List SetStep) (i : ℕ) (
     ≡ m.Gives k w
 sets_end call c xs i k w all is le = sym is ∙ ap (λ l. e.sets_combined call l k c w) (sets_past xs i le)
 
-pub sets_halt_first : (job : Job) (n : ℕ) (c : m.Context) (first : Tree.SetExpr) (steps : Tree.SetSteps) (halt : Halt)
-    (w : m.World) (u : World) (d : ℕ) → Halted (e.set_value (caller job n) first c w) d
-    (levels job n (set_height first)) halt u → Halted (e.set_value (caller job n) (Tree.Combine first steps) c w) d
-    (levels job n (max (set_height first) (set_steps_height steps))) halt u
-sets_halt_first job n c first steps halt w u d h =
-    halted_by (e.set_value (caller job n) first c w)
-    (e.set_value (caller job n) (Tree.Combine first steps) c w) halt u d (levels job n (set_height first)) d
-    (levels job n (max (set_height first) (set_steps_height steps)))
-    (λ stop s. stopped_then (e.set_value (caller job n) first c w)
-    (λ y. e.sets_combined (caller job n) steps y c) stop u s) h (omega arith)
+pub sets_halt_first : (setup : Setup) (n : ℕ) (c : m.Context) (first : Tree.SetExpr) (steps : Tree.SetSteps)
+    (halt : Halt) (w : m.World) (u : World) (d : ℕ) → Halted (e.set_value (caller setup n) first c w) d
+    (levels setup n (set_height first)) halt u → Halted (e.set_value (caller setup n) (Tree.Combine first steps) c w) d
+    (levels setup n (max (set_height first) (set_steps_height steps))) halt u
+sets_halt_first setup n c first steps halt w u d h =
+    halted_by (e.set_value (caller setup n) first c w)
+    (e.set_value (caller setup n) (Tree.Combine first steps) c w) halt u d (levels setup n (set_height first)) d
+    (levels setup n (max (set_height first) (set_steps_height steps)))
+    (λ stop s. stopped_then (e.set_value (caller setup n) first c w)
+    (λ y. e.sets_combined (caller setup n) steps y c) stop u s) h (omega arith)
 
-pub sets_halt : (job : Job) (n : ℕ) (c : m.Context) (xs : List SetStep) (i : ℕ) (x : SetStep) (k : ℕ → Bool)
-    (halt : Halt) (w : m.World) (u : World) (all : m.Answer (ℕ → Bool)) (d height : ℕ) → e.sets_combined (caller job n)
-    (set_steps_of (drop i xs)) k c w ≡ all → Halted (e.set_value (caller job n) (set_of (out-SetStep x).operand) c w) d
-    (levels job n (set_height (set_of (out-SetStep x).operand))) halt u → x ≡ get_or xs i x → i < length xs
-    → Halted all d (levels job n (max height (set_steps_height (set_steps_of xs)))) halt u
-sets_halt job n c xs i x k halt w u all d height is h at lt =
+pub sets_halt : (setup : Setup) (n : ℕ) (c : m.Context) (xs : List SetStep) (i : ℕ) (x : SetStep) (k : ℕ → Bool)
+    (halt : Halt) (w : m.World) (u : World) (all : m.Answer (ℕ → Bool)) (d height : ℕ)
+    → e.sets_combined (caller setup n)
+    (set_steps_of (drop i xs)) k c w ≡ all → Halted (e.set_value (caller setup n) (set_of (out-SetStep x).operand) c w)
+    d (levels setup n (set_height (set_of (out-SetStep x).operand))) halt u → x ≡ get_or xs i x → i < length xs
+    → Halted all d (levels setup n (max height (set_steps_height (set_steps_of xs)))) halt u
+sets_halt setup n c xs i x k halt w u all d height is h at lt =
     let le : set_height (set_of (out-SetStep x).operand) ≤ set_steps_height
     (set_steps_of xs) = set_step_within xs i x at lt in
-    halted_by (e.set_value (caller job n) (set_of (out-SetStep x).operand) c w) all halt u d
-    (levels job n (set_height (set_of (out-SetStep x).operand))) d
-    (levels job n (max height (set_steps_height (set_steps_of xs))))
-    (λ stop s. stopped_same _ all stop u (set_step_is (caller job n) c xs i x k w all is at lt)
-    (stopped_then (e.set_value (caller job n) (set_of (out-SetStep x).operand) c w)
-    (λ y. e.sets_combined (caller job n) (set_steps_of (drop (i + 1) xs))
+    halted_by (e.set_value (caller setup n) (set_of (out-SetStep x).operand) c w) all halt u d
+    (levels setup n (set_height (set_of (out-SetStep x).operand))) d
+    (levels setup n (max height (set_steps_height (set_steps_of xs))))
+    (λ stop s. stopped_same _ all stop u (set_step_is (caller setup n) c xs i x k w all is at lt)
+    (stopped_then (e.set_value (caller setup n) (set_of (out-SetStep x).operand) c w)
+    (λ y. e.sets_combined (caller setup n) (set_steps_of (drop (i + 1) xs))
     (combine_sets (out-SetStep x).operator k y) c) stop u s)) h (omega arith)
 
 -- chains, read again
@@ -342,18 +345,18 @@ arithmetic_is x b v first items f g h = ap (λ y. Tree.Arithmetic (expr_of y) (a
     ∙ ap (λ l. Tree.Arithmetic (expr_of b.value) (arithmetic_of l)) h ∙ sym
     (ap expr_of f ∙ lemma.expr_of_Arithmetic b v)
 
-pub arithmetic_runs : (job : Job) (n : ℕ) (c : m.Context) (w : m.World) (x : Expr) (b : Box Expr Global)
+pub arithmetic_runs : (setup : Setup) (n : ℕ) (c : m.Context) (w : m.World) (x : Expr) (b : Box Expr Global)
     (v : Vec ArithmeticStep Global) (first : Expr) (items : List ArithmeticStep) (result : Result Value Halt)
     (u : World) (d : ℕ) → x ≡ Arithmetic b v → first ≡ b.value → items ≡ v.items → Runs value_of
-    (e.value (caller job n) (Tree.Arithmetic (expr_of first) (arithmetic_of items)) c w) (d - 1)
-    (levels job n (max (expr_height (expr_of first)) (steps_height (arithmetic_of items)))) result u → Runs value_of
-    (e.value (caller job n) (expr_of x) c w) d (levels job n (expr_height (expr_of x))) result u
-arithmetic_runs job n c w x b v first items result u d f g h runs =
-    subst (λ (y : Tree.Expr). Runs value_of (e.value (caller job n) y c w) d (levels job n (expr_height y)) result u)
-    (arithmetic_is x b v first items f g h) (runs_deeper value_of
-    (e.value (caller job n) (Tree.Arithmetic (expr_of first) (arithmetic_of items)) c w) result u (d - 1)
-    (levels job n (max (expr_height (expr_of first)) (steps_height (arithmetic_of items)))) d
-    (levels job n (suc (max (expr_height (expr_of first)) (steps_height (arithmetic_of items))))) runs
+    (e.value (caller setup n) (Tree.Arithmetic (expr_of first) (arithmetic_of items)) c w) (d - 1)
+    (levels setup n (max (expr_height (expr_of first)) (steps_height (arithmetic_of items)))) result u → Runs value_of
+    (e.value (caller setup n) (expr_of x) c w) d (levels setup n (expr_height (expr_of x))) result u
+arithmetic_runs setup n c w x b v first items result u d f g h runs =
+    subst (λ (y : Tree.Expr). Runs value_of (e.value (caller setup n) y c w) d (levels setup n (expr_height y)) result
+    u) (arithmetic_is x b v first items f g h) (runs_deeper value_of
+    (e.value (caller setup n) (Tree.Arithmetic (expr_of first) (arithmetic_of items)) c w) result u (d - 1)
+    (levels setup n (max (expr_height (expr_of first)) (steps_height (arithmetic_of items)))) d
+    (levels setup n (suc (max (expr_height (expr_of first)) (steps_height (arithmetic_of items))))) runs
     (omega arith))
 
 logical_is : (x : Expr) (operator : BooleanOperator) (b : Box Expr Global) (v : Vec Expr Global) (first : Expr)
@@ -363,18 +366,18 @@ logical_is x operator b v first items f g h = ap (λ y. Tree.Logic operator (exp
     ∙ ap (λ l. Tree.Logic operator (expr_of b.value) (operands_of l)) h ∙ sym
     (ap expr_of f ∙ lemma.expr_of_Logic operator b v)
 
-pub logical_runs : (job : Job) (n : ℕ) (c : m.Context) (w : m.World) (x : Expr) (operator : BooleanOperator)
+pub logical_runs : (setup : Setup) (n : ℕ) (c : m.Context) (w : m.World) (x : Expr) (operator : BooleanOperator)
     (b : Box Expr Global) (v : Vec Expr Global) (first : Expr) (items : List Expr) (result : Result Value Halt)
     (u : World) (d : ℕ) → x ≡ Logic operator b v → first ≡ b.value → items ≡ v.items → Runs value_of
-    (e.value (caller job n) (Tree.Logic operator (expr_of first) (operands_of items)) c w) (d - 1)
-    (levels job n (max (expr_height (expr_of first)) (operands_height (operands_of items)))) result u → Runs value_of
-    (e.value (caller job n) (expr_of x) c w) d (levels job n (expr_height (expr_of x))) result u
-logical_runs job n c w x operator b v first items result u d f g h runs =
-    subst (λ (y : Tree.Expr). Runs value_of (e.value (caller job n) y c w) d (levels job n (expr_height y)) result u)
-    (logical_is x operator b v first items f g h)
-    (runs_deeper value_of (e.value (caller job n) (Tree.Logic operator (expr_of first) (operands_of items)) c w)
-    result u (d - 1) (levels job n (max (expr_height (expr_of first)) (operands_height (operands_of items)))) d
-    (levels job n (suc (max (expr_height (expr_of first)) (operands_height (operands_of items))))) runs
+    (e.value (caller setup n) (Tree.Logic operator (expr_of first) (operands_of items)) c w) (d - 1)
+    (levels setup n (max (expr_height (expr_of first)) (operands_height (operands_of items)))) result u → Runs value_of
+    (e.value (caller setup n) (expr_of x) c w) d (levels setup n (expr_height (expr_of x))) result u
+logical_runs setup n c w x operator b v first items result u d f g h runs =
+    subst (λ (y : Tree.Expr). Runs value_of (e.value (caller setup n) y c w) d (levels setup n (expr_height y)) result
+    u) (logical_is x operator b v first items f g h)
+    (runs_deeper value_of (e.value (caller setup n) (Tree.Logic operator (expr_of first) (operands_of items)) c w)
+    result u (d - 1) (levels setup n (max (expr_height (expr_of first)) (operands_height (operands_of items)))) d
+    (levels setup n (suc (max (expr_height (expr_of first)) (operands_height (operands_of items))))) runs
     (omega arith))
 
 combination_is : (x : SetExpr) (b : Box SetExpr Global) (v : Vec SetStep Global) (first : SetExpr)
@@ -383,18 +386,19 @@ combination_is : (x : SetExpr) (b : Box SetExpr Global) (v : Vec SetStep Global)
 combination_is x b v first items f g h = ap (λ y. Tree.Combine (set_of y) (set_steps_of items)) g
     ∙ ap (λ l. Tree.Combine (set_of b.value) (set_steps_of l)) h ∙ sym (ap set_of f ∙ lemma.set_of_Combine b v)
 
-pub combination_runs : (job : Job) (n : ℕ) (c : m.Context) (w : m.World) (x : SetExpr) (b : Box SetExpr Global)
+pub combination_runs : (setup : Setup) (n : ℕ) (c : m.Context) (w : m.World) (x : SetExpr) (b : Box SetExpr Global)
     (v : Vec SetStep Global) (first : SetExpr) (items : List SetStep) (result : Result (Vec Bool Global) Halt)
     (u : World) (d : ℕ) → x ≡ Combine b v → first ≡ b.value → items ≡ v.items → Runs members_of_set
-    (e.set_value (caller job n) (Tree.Combine (set_of first) (set_steps_of items)) c w) (d - 1)
-    (levels job n (max (set_height (set_of first)) (set_steps_height (set_steps_of items)))) result u
-    → Runs members_of_set (e.set_value (caller job n) (set_of x) c w) d (levels job n (set_height (set_of x))) result u
-combination_runs job n c w x b v first items result u d f g h runs =
-    subst (λ (y : Tree.SetExpr). Runs members_of_set (e.set_value (caller job n) y c w) d
-    (levels job n (set_height y)) result u) (combination_is x b v first items f g h)
-    (runs_deeper members_of_set (e.set_value (caller job n) (Tree.Combine (set_of first) (set_steps_of items)) c w)
-    result u (d - 1) (levels job n (max (set_height (set_of first)) (set_steps_height (set_steps_of items)))) d
-    (levels job n (suc (max (set_height (set_of first)) (set_steps_height (set_steps_of items))))) runs
+    (e.set_value (caller setup n) (Tree.Combine (set_of first) (set_steps_of items)) c w) (d - 1)
+    (levels setup n (max (set_height (set_of first)) (set_steps_height (set_steps_of items)))) result u
+    → Runs members_of_set (e.set_value (caller setup n) (set_of x) c w) d (levels setup n (set_height (set_of x)))
+    result u
+combination_runs setup n c w x b v first items result u d f g h runs =
+    subst (λ (y : Tree.SetExpr). Runs members_of_set (e.set_value (caller setup n) y c w) d
+    (levels setup n (set_height y)) result u) (combination_is x b v first items f g h)
+    (runs_deeper members_of_set (e.set_value (caller setup n) (Tree.Combine (set_of first) (set_steps_of items)) c w)
+    result u (d - 1) (levels setup n (max (set_height (set_of first)) (set_steps_height (set_steps_of items)))) d
+    (levels setup n (suc (max (set_height (set_of first)) (set_steps_height (set_steps_of items))))) runs
     (omega arith))
 
 -- an operand whose variable is accessed, read again
@@ -403,21 +407,22 @@ contents_is : (x : Structure) (b : Box PlaceInTree Global) (ty : Ty) (place : Pl
 contents_is x b ty place f g = ap (λ p. Tree.Contents (place_of p) (type_of ty)) g ∙ sym
     (ap structure_of f ∙ lemma.structure_of_Contents b ty)
 
-pub contents_halt : (job : Job) (n : ℕ) (c : m.Context) (w : m.World) (x : Structure) (b : Box PlaceInTree Global)
+pub contents_halt : (setup : Setup) (n : ℕ) (c : m.Context) (w : m.World) (x : Structure) (b : Box PlaceInTree Global)
     (ty : Ty) (place : PlaceInTree) (halt : Halt) (u : World) (d : ℕ) → x ≡ Contents b ty → place ≡ b.value → Halted
-    (e.access (caller job n) (place_of place) c w) d (levels job n (place_height (place_of place))) halt u → Halted
-    (e.operand (caller job n) (structure_of x) c w) d (levels job n (structure_height (structure_of x))) halt u
-contents_halt job n c w x b ty place halt u d f g h =
-    subst (λ (y : Tree.Structure). Halted (e.operand (caller job n) y c w) d (levels job n (structure_height y)) halt u)
-    (contents_is x b ty place f g) (halted_then (e.access (caller job n) (place_of place) c w)
-    (λ s. m.give (e.HeldSpot s)) halt u d (levels job n (place_height (place_of place))) d
-    (levels job n (place_height (place_of place))) h (omega arith))
+    (e.access (caller setup n) (place_of place) c w) d (levels setup n (place_height (place_of place))) halt u → Halted
+    (e.operand (caller setup n) (structure_of x) c w) d (levels setup n (structure_height (structure_of x))) halt u
+contents_halt setup n c w x b ty place halt u d f g h =
+    subst (λ (y : Tree.Structure). Halted (e.operand (caller setup n) y c w) d (levels setup n (structure_height y))
+    halt u) (contents_is x b ty place f g) (halted_then (e.access (caller setup n) (place_of place) c w)
+    (λ s. m.give (e.HeldSpot s)) halt u d (levels setup n (place_height (place_of place))) d
+    (levels setup n (place_height (place_of place))) h (omega arith))
 
-pub contents_gives : (job : Job) (n : ℕ) (c : m.Context) (w u : m.World) (x : Structure) (b : Box PlaceInTree Global)
-    (ty : Ty) (place : PlaceInTree) (spot : Spot) → x ≡ Contents b ty → place ≡ b.value → e.access (caller job n)
-    (place_of place) c w ≡ m.Gives (spot_of spot) u → e.operand (caller job n) (structure_of x) c w ≡ m.Gives
+pub contents_gives : (setup : Setup) (n : ℕ) (c : m.Context) (w u : m.World) (x : Structure)
+    (b : Box PlaceInTree Global)
+    (ty : Ty) (place : PlaceInTree) (spot : Spot) → x ≡ Contents b ty → place ≡ b.value → e.access (caller setup n)
+    (place_of place) c w ≡ m.Gives (spot_of spot) u → e.operand (caller setup n) (structure_of x) c w ≡ m.Gives
     (held_of (Place spot)) u
 unfolding held_of
-contents_gives job n c w u x b ty place spot f g gives =
-    ap (λ (y : Tree.Structure). e.operand (caller job n) y c w) (sym (contents_is x b ty place f g)) ∙ then_gives
-    (e.access (caller job n) (place_of place) c w) (λ s. m.give (e.HeldSpot s)) (spot_of spot) u gives
+contents_gives setup n c w u x b ty place spot f g gives =
+    ap (λ (y : Tree.Structure). e.operand (caller setup n) y c w) (sym (contents_is x b ty place f g)) ∙ then_gives
+    (e.access (caller setup n) (place_of place) c w) (λ s. m.give (e.HeldSpot s)) (spot_of spot) u gives

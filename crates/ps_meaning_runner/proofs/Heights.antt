@@ -16,7 +16,7 @@ use Rattle.ps_tree.specs.declared.tree.SetStep.{SetStep, out-SetStep}
 use Rattle.ps_tree.specs.View.{selector_of, selectors_of, expr_of, arithmetic_of, operands_of, set_of, set_steps_of}
 use Rattle.ps_tree.specs.View.{member_of, members_of, argument_of, arguments_of, place_of, statement_of, statements_of}
 use Rattle.ps_tree.specs.View.{elements_of, read_of, write_of}
-use Rattle.ps_meaning_runner.specs.declared.world.Job.{Job}
+use Rattle.ps_meaning_runner.specs.declared.world.Setup.{Setup}
 use Rattle.ps_meaning_runner.specs.Worlds.{program_of}
 use Rattle.ps_meaning_runner.specs.Heights.{place_height, selector_height, selectors_height, expr_height, steps_height}
 use Rattle.ps_meaning_runner.specs.Heights.{operands_height, set_height, set_steps_height, member_height}
@@ -192,10 +192,10 @@ body_of (x ∷ rest) zero = omega arith
 body_of (x ∷ rest) (suc r) = let le : statements_height
     (get_or rest r t.no_routine).body ≤ highest_of rest = body_of rest r in omega arith
 
-pub body_within : (job : Job) (r : ℕ) (body : t.Statements) → body ≡ (t.routine_at (program_of job) r).body
-    → statements_height body ≤ highest (program_of job)
-body_within job r body is = subst (λ b. statements_height b ≤ highest (program_of job)) (sym is)
-    (body_of (program_of job).routines r)
+pub body_within : (setup : Setup) (r : ℕ) (body : t.Statements) → body ≡ (t.routine_at (program_of setup) r).body
+    → statements_height body ≤ highest (program_of setup)
+body_within setup r body is = subst (λ b. statements_height b ≤ highest (program_of setup)) (sym is)
+    (body_of (program_of setup).routines r)
 
 -- the levels of calls: with more fuel, and of a block with what is left for its calls
 levels_more : (n h : ℕ) → n ≢ 0 → (n - 1) * h + h ≡ n * h
@@ -208,12 +208,12 @@ times_more zero n h le = omega arith
 times_more (suc j) zero h le = absurd (omega arith)
 times_more (suc j) (suc n) h le = let more : j * h ≤ n * h = times_more j n h (omega arith) in omega arith
 
-pub fewer_calls : (job : Job) (j n : ℕ) → j ≤ n → call_levels job j ≤ call_levels job n
+pub fewer_calls : (setup : Setup) (j n : ℕ) → j ≤ n → call_levels setup j ≤ call_levels setup n
 unfolding call_levels
-fewer_calls job j n le = times_more j n (highest (program_of job)) le
+fewer_calls setup j n le = times_more j n (highest (program_of setup)) le
 
-pub block_levels : (job : Job) (n height : ℕ) → n ≢ 0 → height ≤ highest (program_of job) → levels job
-    (n - 1) height ≤ levels job n 0
+pub block_levels : (setup : Setup) (n height : ℕ) → n ≢ 0 → height ≤ highest (program_of setup) → levels setup
+    (n - 1) height ≤ levels setup n 0
 unfolding call_levels
-block_levels job n height more le = let is : (n - 1) * highest (program_of job) + highest (program_of job) ≡ n * highest
-    (program_of job) = levels_more n (highest (program_of job)) more in omega arith
+block_levels setup n height more le = let is : (n - 1) * highest (program_of setup) + highest (program_of setup)
+    ≡ n * highest (program_of setup) = levels_more n (highest (program_of setup)) more in omega arith

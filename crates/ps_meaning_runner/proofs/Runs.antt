@@ -13,7 +13,7 @@ use Rattle.ps_meaning.specs.Run as d
 use Rattle.ps_meaning_runner.specs.declared.ending.Ending.{Ending}
 use Rattle.ps_meaning_runner.specs.declared.ending.Ending.TheVariants.{Normal}
 use Rattle.ps_meaning_runner.specs.declared.value.Value.{Value}
-use Rattle.ps_meaning_runner.specs.declared.world.Job.{Job}
+use Rattle.ps_meaning_runner.specs.declared.world.Setup.{Setup}
 use Rattle.ps_meaning_runner.specs.declared.world.World.{World}
 use Rattle.ps_meaning_runner.specs.View.{value_of}
 use Rattle.ps_meaning_runner.specs.Worlds.{stored, caller, world_of, ending_of, program_of, costs_in}
@@ -61,10 +61,11 @@ first_world_is store objects made input transcript e f g h =
       transcript = [];
     }) no_store
 
-pub answer_is : (job : Job) (n : ℕ) (input : List ℕ) → caller job n 0 m.Outside [] d.first_context (d.first_world input)
-    ≡ d.answer (program_of job) (costs_in job) input n
+pub answer_is : (setup : Setup) (n : ℕ) (input : List ℕ)
+    → caller setup n 0 m.Outside [] d.first_context (d.first_world input)
+    ≡ d.answer (program_of setup) (costs_in setup) input n
 unfolding caller
-answer_is job n input = refl
+answer_is setup n input = refl
 
 pub shown_done : (w : World) (calls : Vec ℕ Global) (a : m.Answer m.Done) → a ≡ m.Gives m.done (world_of w) → shown
     (record {

@@ -5,7 +5,7 @@ use Rattle.std.proofs.Common.{◌∙◌, arith}
 use Rattle.std.proofs.Math.Seq.{get_or-append_seam, drop-cons}
 use Rattle.std.proofs.Math.ListN.{get_or-append, length-append}
 use Rattle.std.proofs.lemmas.List.{get_or_past, drop_all}
-use Rattle.std.proofs.lemmas.Bool.{ltb-true, ltb-false, le-leb, leb-true}
+use Rattle.std.proofs.lemmas.Bool.{ltb-true, ltb-false, le-leb, lt-leb}
 use mathlib.Core.Path.{fun_ext}
 use Rattle.ps_tree.specs.declared.tree.SetOperator.{SetOperator}
 use Rattle.ps_tree.specs.declared.tree.SetOperator.TheVariants.{Union, Difference, Intersection}
@@ -94,13 +94,6 @@ interval_next low i tests x at h =
     below k (inr e) = ap (λ j. listed (tests ++ x ∷ []) j) (e ∙ sym h.many) ∙ get_or-append_seam tests x [] false ∙ at
         ∙ ap (nat_le low) (sym e)
 
-not-leb : (a b : ℕ) → b < a → nat_le a b ≡ false
-not-leb a b lt = cases (nat_le a b) refl
-  where
-    cases : (t : Bool) → nat_le a b ≡ t → t ≡ false
-    cases true e = absurd (let le : a ≤ b = leb-true a b e in omega arith)
-    cases false e = refl
-
 pub interval_all : (low high : ℕ) (tests : List Bool) → Spanned low (high + 1) tests → listed tests ≡ o.interval
     (pos low) (pos high)
 interval_all low high tests h = fun_ext (λ k. each k (nat_lt k (high + 1)) refl)
@@ -120,7 +113,7 @@ interval_all low high tests h = fun_ext (λ k. each k (nat_lt k (high + 1)) refl
     each k false e =
         let le : high + 1 ≤ k = ltb-false k (high + 1) e in
         get_or_past tests k false (omega (arith, h.many)) ∙ and_false (nat_le low k) ∙ ap (λ b. nat_le low k && b)
-        (sym (not-leb k high (omega arith)))
+        (sym (lt-leb k high (omega arith)))
 
 -- strings, from a place on
 values_here : (xs : List Value) (i : ℕ) (x : Value) → i < length xs → x ≡ get_or xs i x → values_of (drop i xs)

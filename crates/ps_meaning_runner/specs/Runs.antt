@@ -8,7 +8,7 @@ use Rattle.ps_meaning.specs.Operators.{is_equal, is_true, truth}
 use Rattle.ps_meaning.specs.Worlds as m
 use Rattle.ps_meaning.specs.Expressions as e
 use Rattle.ps_meaning.specs.Statements as s
-use Rattle.ps_meaning_runner.specs.declared.world.Job.{Job}
+use Rattle.ps_meaning_runner.specs.declared.world.Setup.{Setup}
 use Rattle.ps_meaning_runner.specs.declared.world.World.{World}
 use Rattle.ps_meaning_runner.specs.Worlds.{caller, ending_of, program_of, world_of}
 use Rattle.ps_meaning_runner.specs.declared.stop.Halt.{Halt}
@@ -20,11 +20,11 @@ use Rattle.ps_meaning_runner.specs.Heights.{highest}
 
 -- The levels that calls with this fuel may take: each is no higher than the highest body. A part of a body also needs
 -- those of its own height.
-unfoldable pub call_levels : Job → (fuel : ℕ) → ℕ
-call_levels job n = n * highest (program_of job)
+unfoldable pub call_levels : Setup → (fuel : ℕ) → ℕ
+call_levels setup n = n * highest (program_of setup)
 
-abbrev pub levels : Job → (fuel height : ℕ) → ℕ
-levels job n height = height + call_levels job n
+abbrev pub levels : Setup → (fuel height : ℕ) → ℕ
+levels setup n height = height + call_levels setup n
 
 -- where the definition's answer is known to end the run, or fewer levels were allowed than are needed; nothing is said
 -- when out of memory
@@ -39,17 +39,18 @@ Runs view answer depth needed (Ok r) w = answer ≡ m.Gives (view r) (world_of w
 Runs view answer depth needed (Err halt) w = Halted answer depth needed halt w
 
 -- the truth of a condition
-abbrev pub truth_in : Job → ℕ → t.Expr → m.Context → m.Act Bool
-truth_in job n condition c = λ w. m.and_then (e.value (caller job n) condition c w)
+abbrev pub truth_in : Setup → ℕ → t.Expr → m.Context → m.Act Bool
+truth_in setup n condition c = λ w. m.and_then (e.value (caller setup n) condition c w)
     (λ x. m.give (is_true (v.number_of x)))
 
 abbrev pub truth_of : Bool → Bool
 truth_of b = b
 
 -- two values are compared
-abbrev pub comparing : Job → ℕ → Comparison → t.Expr → t.Expr → m.Context → m.Act v.Value
-comparing job n comparison a b c = λ w. m.and_then (e.value (caller job n) a c w)
-    (λ x u. m.and_then (e.value (caller job n) b c u) (λ y. m.give (v.OrdinalValue (truth (compared comparison x y)))))
+abbrev pub comparing : Setup → ℕ → Comparison → t.Expr → t.Expr → m.Context → m.Act v.Value
+comparing setup n comparison a b c = λ w. m.and_then (e.value (caller setup n) a c w)
+    (λ x u. m.and_then (e.value (caller setup n) b c u)
+    (λ y. m.give (v.OrdinalValue (truth (compared comparison x y)))))
 
 -- the control variable of a for statement advances, and there is another turn; or it had the last value
 abbrev pub advancing : v.Spot → Direction → (last : ℤ) → m.Act Bool

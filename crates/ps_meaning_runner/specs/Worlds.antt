@@ -10,7 +10,7 @@ use Rattle.ps_tree.specs.Tree as Tree
 use Rattle.ps_tree.specs.Tree.{Program}
 use Rattle.ps_tree.specs.declared.tree.Direction.{Direction}
 use Rattle.ps_tree.specs.declared.tree.Range.{Range}
-use Rattle.ps_tree.specs.declared.tree.Relation.{Relation}
+use Rattle.ps_tree.specs.declared.tree.OrderRelation.{OrderRelation}
 use Rattle.ps_tree.specs.declared.tree.Range.TheVariants.{Within as WithinBounds}
 use Rattle.ps_meaning.specs.Values as v
 use Rattle.ps_meaning.specs.Operators as o
@@ -27,7 +27,7 @@ use Rattle.ps_meaning_runner.specs.declared.ending.Ending.{Ending}
 use Rattle.ps_meaning_runner.specs.declared.ending.Ending.TheVariants.{Normal, Error, Stack, Heap, More}
 use Rattle.ps_meaning_runner.specs.declared.stop.Halt.{Halt}
 use Rattle.ps_meaning_runner.specs.declared.stop.Halt.TheVariants.{Ended, OutOfMemory, TooDeep}
-use Rattle.ps_meaning_runner.specs.declared.world.Job.{Job}
+use Rattle.ps_meaning_runner.specs.declared.world.Setup.{Setup}
 use Rattle.ps_meaning_runner.specs.declared.world.Env.{Env, Outside, Within', Row_of-Entry, end_of-Entry, more_of-Entry}
 use Rattle.ps_meaning_runner.specs.declared.world.Entry.{Entry, Variable, Routine'}
 use Rattle.ps_meaning_runner.specs.declared.world.Numbers.{Numbers, End, Number'}
@@ -107,18 +107,18 @@ world_of w = record {
   transcript = w.transcript.items;
 }
 
-abbrev pub program_of : Job → Program
-program_of job = program_in job.program.now
+abbrev pub program_of : Setup → Program
+program_of setup = program_in setup.program.now
 
-abbrev pub costs_in : Job → Costs
-costs_in job = costs_of job.frames.now job.objects.now job.stack job.heap
+abbrev pub costs_in : Setup → Costs
+costs_in setup = costs_of setup.frames.now setup.objects.now setup.stack setup.heap
 
 -- a call, and a task, with this fuel
-unfoldable pub caller : Job → ℕ → Caller
-caller job n = call_routine (program_of job) (costs_in job) (execute (program_of job) (costs_in job) n)
+unfoldable pub caller : Setup → ℕ → Caller
+caller setup n = call_routine (program_of setup) (costs_in setup) (execute (program_of setup) (costs_in setup) n)
 
-unfoldable pub next : Job → ℕ → Next
-next job n = execute (program_of job) (costs_in job) n
+unfoldable pub next : Setup → ℕ → Next
+next setup n = execute (program_of setup) (costs_in setup) n
 
 -- how a run ends, with the calls at these lines open
 abbrev pub ending_of : Ending → (calls : List ℕ) → endings.Ending
@@ -162,41 +162,41 @@ written Char x n = m.write_text (t.right_aligned (unwrap_or n 1) (st.character x
 written Boolean x n = m.write_text (t.fitted (unwrap_or n 5) (t.boolean_text (o.is_true (v.number_of x))))
 
 -- statements with n of fuel
-module _ (job : Job) (n : ℕ) where
+module _ (setup : Setup) (n : ℕ) where
   abbrev pub acting : Tree.Statement → m.Context → m.Act m.Done
-  acting = st.act (program_of job) (costs_in job) (caller job n) (next job n)
+  acting = st.act (program_of setup) (costs_in setup) (caller setup n) (next setup n)
 
   abbrev pub acting_all : Tree.Statements → m.Context → m.Act m.Done
-  acting_all = st.acts (program_of job) (costs_in job) (caller job n) (next job n)
+  acting_all = st.acts (program_of setup) (costs_in setup) (caller setup n) (next setup n)
 
   abbrev pub selecting : Tree.Elements → ℤ → (line : ℕ) → m.Context → m.Act m.Done
-  selecting = st.selected (program_of job) (costs_in job) (caller job n) (next job n)
+  selecting = st.selected (program_of setup) (costs_in setup) (caller setup n) (next setup n)
 
   abbrev pub reading : Tree.ReadVariable → m.Context → m.Act m.Done
-  reading = st.read (program_of job) (costs_in job) (caller job n) (next job n)
+  reading = st.read (program_of setup) (costs_in setup) (caller setup n) (next setup n)
 
   abbrev pub reading_all : List Tree.ReadVariable → m.Context → m.Act m.Done
-  reading_all = st.reads (program_of job) (costs_in job) (caller job n) (next job n)
+  reading_all = st.reads (program_of setup) (costs_in setup) (caller setup n) (next setup n)
 
   abbrev pub width_in : Tree.Width → m.Context → m.Act (Option ℕ)
-  width_in = st.width_value (program_of job) (costs_in job) (caller job n) (next job n)
+  width_in = st.width_value (program_of setup) (costs_in setup) (caller setup n) (next setup n)
 
   abbrev pub writing : Tree.WriteParameter → m.Context → m.Act m.Done
-  writing = st.write (program_of job) (costs_in job) (caller job n) (next job n)
+  writing = st.write (program_of setup) (costs_in setup) (caller setup n) (next setup n)
 
   -- a value is evaluated, then the width, and the value is written in a form
   abbrev pub writing_form : Form → Tree.Expr → Tree.Width → m.Context → m.Act m.Done
-  writing_form form x width c = λ w. m.and_then (e.value (caller job n) x c w)
+  writing_form form x width c = λ w. m.and_then (e.value (caller setup n) x c w)
       (λ y u. m.and_then (width_in width c u) (written form y))
 
   abbrev pub writing_all : List Tree.WriteParameter → m.Context → m.Act m.Done
-  writing_all = st.writes (program_of job) (costs_in job) (caller job n) (next job n)
+  writing_all = st.writes (program_of setup) (costs_in setup) (caller setup n) (next setup n)
 
   abbrev pub opening_all : List Tree.Place → m.Context → m.Act (List v.Spot)
-  opening_all = st.opening (program_of job) (costs_in job) (caller job n) (next job n)
+  opening_all = st.opening (program_of setup) (costs_in setup) (caller setup n) (next setup n)
 
   abbrev pub making : (pointer line : ℕ) → m.Act v.Value
-  making = st.new_object (program_of job) (costs_in job) (caller job n) (next job n)
+  making = st.new_object (program_of setup) (costs_in setup) (caller setup n) (next setup n)
 
   abbrev pub putting_object : v.Spot → (pointer line : ℕ) → m.Act m.Done
   putting_object s pointer line = λ w. m.and_then (making pointer line w) (m.put s)
@@ -204,16 +204,16 @@ module _ (job : Job) (n : ℕ) where
   -- a body, and then the other turns
   unfoldable pub turning : (variable : ℕ) → Direction → (last : ℤ) → Tree.Statement → m.Context → m.Act m.Done
   turning variable direction last s c = λ w. m.and_then (acting s c w)
-      (λ _. next job n (st.Further variable direction last s) c)
+      (λ _. next setup n (st.Further variable direction last s) c)
 
 -- what the elements of a case statement select
 abbrev pub Selects : Tree.Elements → ℤ → Tree.Statement → Type 0
-Selects elements x s = (job : Job) (n line : ℕ) (c : m.Context) (w : m.World) → selecting job n elements x line c w
-    ≡ acting job n s c w
+Selects elements x s = (setup : Setup) (n line : ℕ) (c : m.Context) (w : m.World)
+    → selecting setup n elements x line c w ≡ acting setup n s c w
 
 abbrev pub SelectsNone : Tree.Elements → ℤ → Type 0
-SelectsNone elements x = (job : Job) (n line : ℕ) (c : m.Context) (w : m.World) → selecting job n elements x line c w
-    ≡ m.fault 7 line c w
+SelectsNone elements x = (setup : Setup) (n line : ℕ) (c : m.Context) (w : m.World)
+    → selecting setup n elements x line c w ≡ m.fault 7 line c w
 
 -- the routine that a call names, and the environment in which it was declared
 abbrev pub callee_routine : Callee → m.Context → ℕ
@@ -225,23 +225,23 @@ callee_env (Declared routine up) c = m.above c.env up
 callee_env (Formal up index) c = m.env_in (m.frame_of (m.above c.env up)) index
 
 -- a call of what was named, and the value of one
-abbrev pub called : Job → ℕ → Callee → Tree.Arguments → (line : ℕ) → m.Context → m.Act m.Done
-called job n callee arguments line c = λ w. m.and_then (e.actuals_of (caller job n) arguments c w)
-    (λ actuals. caller job n (callee_routine callee c) (callee_env callee c) actuals (e.calling line c))
+abbrev pub called : Setup → ℕ → Callee → Tree.Arguments → (line : ℕ) → m.Context → m.Act m.Done
+called setup n callee arguments line c = λ w. m.and_then (e.actuals_of (caller setup n) arguments c w)
+    (λ actuals. caller setup n (callee_routine callee c) (callee_env callee c) actuals (e.calling line c))
 
-abbrev pub called_value : Job → ℕ → Callee → Tree.Arguments → (line : ℕ) → m.Context → m.Act v.Value
-called_value job n callee arguments line c = λ w. m.and_then (e.actuals_of (caller job n) arguments c w)
-    (λ actuals. e.function_value (caller job n) (callee_routine callee c) (callee_env callee c) actuals
+abbrev pub called_value : Setup → ℕ → Callee → Tree.Arguments → (line : ℕ) → m.Context → m.Act v.Value
+called_value setup n callee arguments line c = λ w. m.and_then (e.actuals_of (caller setup n) arguments c w)
+    (λ actuals. e.function_value (caller setup n) (callee_routine callee c) (callee_env callee c) actuals
     (e.calling line c))
 
 -- a for statement whose bounds were evaluated
-abbrev pub counting : Job → ℕ → (variable : ℕ) (low high : ℤ) → v.Value → (from_line : ℕ) → Direction → v.Value
+abbrev pub counting : Setup → ℕ → (variable : ℕ) (low high : ℤ) → v.Value → (from_line : ℕ) → Direction → v.Value
     → (to_line : ℕ) → Tree.Statement → m.Context → m.Act m.Done
-counting job n variable low high x from_line direction y to_line s c = if st.is_past direction (v.number_of x)
+counting setup n variable low high x from_line direction y to_line s c = if st.is_past direction (v.number_of x)
     (v.number_of y) then m.give m.done else (λ w. m.and_then (e.fitting (WithinBounds low high) x from_line c w)
     (λ _ u. m.and_then (e.fitting (WithinBounds low high) y to_line c u)
     (λ _ z. m.and_then (m.put (st.own_spot variable c) x z)
-    (λ _. turning job n variable direction (v.number_of y) s c))))
+    (λ _. turning setup n variable direction (v.number_of y) s c))))
 
 -- what comes before the first turn of a for statement
 abbrev pub beginning : (variable : ℕ) → Range → v.Value → (from_line : ℕ) → v.Value → (to_line : ℕ) → m.Context
@@ -293,7 +293,7 @@ reading_into (Tree.ReadChar p low high line) s c = character_into s low high lin
 reading_into (Tree.ReadInteger p low high line) s c = integer_into s low high line c
 
 -- two strings that were accessed
-abbrev pub strings_compared : Relation → e.Held → e.Held → m.Act v.Value
+abbrev pub strings_compared : OrderRelation → e.Held → e.Held → m.Act v.Value
 strings_compared relation x y = λ w. m.and_then (e.contents_of x w)
     (λ a u. m.and_then (e.contents_of y u) (λ b. m.give
     (v.OrdinalValue (o.truth (o.strings_hold relation (v.components_of a) (v.components_of b))))))

@@ -19,7 +19,7 @@ use crate::ending::Ending;
 use crate::operands::{Actual, Callee};
 use crate::stop::Halt;
 use crate::value::{Root, Spot, Value, first};
-use crate::world::{Context, Entry, Env, Job, Numbers, World};
+use crate::world::{Context, Entry, Env, Numbers, Setup, World};
 use ps_tree::tree::Statement;
 use ps_tree::types::Ty;
 use std::alloc::{AllocError, Global};
@@ -141,14 +141,14 @@ impl<'a> World<'a> {
 
 /// What a call needs of the routine with a number; past its own routines, the program has an empty one for each number.
 #[tactic(auto, using(crate::proofs::Blocks::routine_found, crate::proofs::Blocks::routine_past), unfolding(ps_tree::specs::View::statements_of))]
-fn routine_numbered<'b>(job: &'b Job<'b>, number: u32) -> Called<'b>
-    ensures result { (routine_at (program_of job.now) number).result ≡ option_map type_of
+fn routine_numbered<'b>(setup: &'b Setup<'b>, number: u32) -> Called<'b>
+    ensures result { (routine_at (program_of setup.now) number).result ≡ option_map type_of
         (option_copied result.result) }
-    ensures variables { (routine_at (program_of job.now) number).variables ≡ map type_of result.variables.now }
-    ensures body { (routine_at (program_of job.now) number).body ≡ statements_of result.body.now }
-    ensures line { (routine_at (program_of job.now) number).line ≡ result.line }
+    ensures variables { (routine_at (program_of setup.now) number).variables ≡ map type_of result.variables.now }
+    ensures body { (routine_at (program_of setup.now) number).body ≡ statements_of result.body.now }
+    ensures line { (routine_at (program_of setup.now) number).line ≡ result.line }
 {
-    match job.program.routines().get(number as usize) {
+    match setup.program.routines().get(number as usize) {
         Some(routine) => Called {
             result: routine.result.as_ref(),
             variables: routine.variables.as_slice(),
@@ -183,28 +183,28 @@ impl<'a> World<'a> {
         parent: Rc<Env>,
         actuals: &[Actual],
         calls: Rc<Numbers>,
-        c: &Context,
-        job: &'b Job<'b>,
+        outer: &Context,
+        setup: &'b Setup<'b>,
     ) -> Result<(&'b [Statement], Context), Halt>
-        ensures entered { IfOk result (λ b. (n : ℕ) → caller job.now n routine (env_of parent.value)
-            (map actual_of actuals.now) (with_calls (numbers_of calls.value) (context_of c.now)) (world_of self.old)
-            ≡ next job.now n (Block (statements_of b.0.now)) (context_of b.1) (world_of self.new)) }
-        ensures body { IfOk result (λ b. statements_of b.0.now ≡ (routine_at (program_of job.now) routine).body) }
+        ensures entered { IfOk result (λ b. (n : ℕ) → caller setup.now n routine (env_of parent.value)
+            (map actual_of actuals.now) (with_calls (numbers_of calls.value) (context_of outer.now)) (world_of self.old)
+            ≡ next setup.now n (Block (statements_of b.0.now)) (context_of b.1) (world_of self.new)) }
+        ensures body { IfOk result (λ b. statements_of b.0.now ≡ (routine_at (program_of setup.now) routine).body) }
         ensures stopped { IfErr result (λ stop. (n : ℕ) → Stopped
-            (caller job.now n routine (env_of parent.value) (map actual_of actuals.now)
-            (with_calls (numbers_of calls.value) (context_of c.now)) (world_of self.old)) stop self.new) }
+            (caller setup.now n routine (env_of parent.value) (map actual_of actuals.now)
+            (with_calls (numbers_of calls.value) (context_of outer.now)) (world_of self.old)) stop self.new) }
     {
-        let called = routine_numbered(job, routine);
-        let active = Numbers::before(job.alloc, routine, &c.active)?;
-        if passes_stack(job, &active) {
+        let called = routine_numbered(setup, routine);
+        let active = Numbers::before(setup.alloc, routine, &outer.active)?;
+        if passes_stack(setup, &active) {
             let ending = Ending::Stack { line: called.line };
-            return Err(self.ended(ending, &calls, job.alloc));
+            return Err(self.ended(ending, &calls, setup.alloc));
         }
-        let frame = self.bind(job.alloc, called.result, actuals, called.variables)?;
-        let env = env_within(job.alloc, frame, parent)?;
-        let opened = Vec::new(job.alloc);
+        let frame = self.bind(setup.alloc, called.result, actuals, called.variables)?;
+        let env = env_within(setup.alloc, frame, parent)?;
+        let opened = Vec::new(setup.alloc);
         let context = Context {
-            alloc: job.alloc,
+            alloc: setup.alloc,
             env,
             opened,
             active,
@@ -219,20 +219,25 @@ impl<'a> World<'a> {
         callee: Callee,
         actuals: Vec<Actual>,
         line: u16,
-        c: &Context,
-        job: &'b Job<'b>,
+        context: &Context,
+        setup: &'b Setup<'b>,
     ) -> Result<(&'b [Statement], Context), Halt>
-        ensures entered { IfOk result (λ b. (n : ℕ) → caller job.now n (callee_routine callee (context_of c.now))
-            (callee_env callee (context_of c.now)) (map actual_of actuals.items) (m.calling line (context_of c.now))
-            (world_of self.old) ≡ next job.now n (Block (statements_of b.0.now)) (context_of b.1) (world_of self.new)) }
+        ensures entered { IfOk result
+            (λ b. (n : ℕ) → caller setup.now n (callee_routine callee (context_of context.now))
+            (callee_env callee (context_of context.now)) (map actual_of actuals.items)
+            (m.calling line (context_of context.now))
+            (world_of self.old) ≡ next setup.now n (Block (statements_of b.0.now)) (context_of b.1)
+            (world_of self.new)) }
         ensures body { IfOk result (λ b. statements_of b.0.now
-            ≡ (routine_at (program_of job.now) (callee_routine callee (context_of c.now))).body) }
+            ≡ (routine_at (program_of setup.now) (callee_routine callee (context_of context.now))).body) }
         ensures stopped { IfErr result (λ stop. (n : ℕ) → Stopped
-            (caller job.now n (callee_routine callee (context_of c.now)) (callee_env callee (context_of c.now))
-            (map actual_of actuals.items) (m.calling line (context_of c.now)) (world_of self.old)) stop self.new) }
+            (caller setup.now n (callee_routine callee (context_of context.now))
+            (callee_env callee (context_of context.now))
+            (map actual_of actuals.items) (m.calling line (context_of context.now)) (world_of self.old)) stop
+            self.new) }
     {
-        let (routine, parent) = callee.found(c)?;
-        let calls = Numbers::before(c.alloc, u32::from(line), &c.calls)?;
-        self.enter_with(routine, parent, actuals.as_slice(), calls, c, job)
+        let (routine, parent) = callee.found(context)?;
+        let calls = Numbers::before(context.alloc, u32::from(line), &context.calls)?;
+        self.enter_with(routine, parent, actuals.as_slice(), calls, context, setup)
     }
 }

@@ -24,19 +24,19 @@ use ps_tree::tree::{Argument, Statement};
 use std::alloc::Global;
 
 /// The fuel is used up.
-pub fn used_up(world: &World, c: &Context) -> Halt
+pub fn used_up(world: &World, context: &Context) -> Halt
     ensures { Stopped (r.used_up (world_of world.now)) result world.now }
 {
-    world.ended(Ending::More, &c.calls, c.alloc)
+    world.ended(Ending::More, &context.calls, context.alloc)
 }
 
 /// Executes a block of the program.
 #[cycle(run)]
 pub fn do_block(world: &mut World, body: &[Statement], here: Here) -> Result<(), Halt>
-    requires { statements_height (statements_of body.now) ≤ highest (program_of here.job.now) }
-    ensures { Runs done_of (next here.entry.job.now here.entry.fuel (Block (statements_of body.now))
+    requires { statements_height (statements_of body.now) ≤ highest (program_of here.setup.now) }
+    ensures { Runs done_of (next here.entry.setup.now here.entry.fuel (Block (statements_of body.now))
         (context_of here.entry.context.now) (world_of world.old)) here.entry.depth
-        (levels here.entry.job.now here.entry.fuel 0) result world.new }
+        (levels here.entry.setup.now here.entry.fuel 0) result world.new }
 {
     if here.fuel == 0 {
         Err(used_up(world, here.context))
@@ -59,12 +59,12 @@ pub fn call_procedure(
     line: u16,
     here: Here,
 ) -> Result<(), Halt>
-    ensures { Runs done_of (called here.entry.job.now here.entry.fuel callee (arguments_of arguments.now) line
+    ensures { Runs done_of (called here.entry.setup.now here.entry.fuel callee (arguments_of arguments.now) line
         (context_of here.entry.context.now) (world_of world.old)) here.entry.depth
-        (levels here.entry.job.now here.entry.fuel (arguments_height (arguments_of arguments.now))) result world.new }
+        (levels here.entry.setup.now here.entry.fuel (arguments_height (arguments_of arguments.now))) result world.new }
 {
     let actuals = take_actuals(world, arguments, here)?;
-    let (body, inner) = world.enter(callee, actuals, line, here.context, here.job)?;
+    let (body, inner) = world.enter(callee, actuals, line, here.context, here.setup)?;
     let inside = Here {
         context: &inner,
         ..here
@@ -82,13 +82,13 @@ pub fn call_value(
     line: u16,
     here: Here,
 ) -> Result<Value, Halt>
-    ensures { Runs value_of (called_value here.entry.job.now here.entry.fuel callee (arguments_of arguments.now) line
+    ensures { Runs value_of (called_value here.entry.setup.now here.entry.fuel callee (arguments_of arguments.now) line
         (context_of here.entry.context.now) (world_of world.old)) here.entry.depth
-        (levels here.entry.job.now here.entry.fuel (arguments_height (arguments_of arguments.now))) result world.new }
+        (levels here.entry.setup.now here.entry.fuel (arguments_height (arguments_of arguments.now))) result world.new }
 {
     let actuals = take_actuals(world, arguments, here)?;
     let name = world.next;
-    let (body, inner) = world.enter(callee, actuals, line, here.context, here.job)?;
+    let (body, inner) = world.enter(callee, actuals, line, here.context, here.setup)?;
     let inside = Here {
         context: &inner,
         ..here

@@ -22,9 +22,9 @@ use ps_tree::tree::{CaseElement, Expr, Statement};
 #[cycle(run)]
 #[tactic(auto, using(crate::proofs::Answers::halted_then, crate::proofs::Answers::runs_deeper))]
 pub fn act_if(world: &mut World, condition: &Expr, body: &Statement, here: Here) -> Result<(), Halt>
-    ensures { Runs done_of (acting here.entry.job.now here.entry.fuel
+    ensures { Runs done_of (acting here.entry.setup.now here.entry.fuel
         (Tree.If (expr_of condition.now) (statement_of body.now)) (context_of here.entry.context.now)
-        (world_of world.old)) here.entry.depth (levels here.entry.job.now here.entry.fuel
+        (world_of world.old)) here.entry.depth (levels here.entry.setup.now here.entry.fuel
         (max (expr_height (expr_of condition.now)) (statement_height (statement_of body.now)))) result world.new }
 {
     let x = evaluate(world, condition, here)?;
@@ -45,10 +45,10 @@ pub fn act_if_else(
     otherwise: &Statement,
     here: Here,
 ) -> Result<(), Halt>
-    ensures { Runs done_of (acting here.entry.job.now here.entry.fuel
+    ensures { Runs done_of (acting here.entry.setup.now here.entry.fuel
         (Tree.IfElse (expr_of condition.now) (statement_of body.now) (statement_of otherwise.now))
         (context_of here.entry.context.now) (world_of world.old)) here.entry.depth
-        (levels here.entry.job.now here.entry.fuel
+        (levels here.entry.setup.now here.entry.fuel
         (max (expr_height (expr_of condition.now))
         (max (statement_height (statement_of body.now)) (statement_height (statement_of otherwise.now))))) result
         world.new }
@@ -71,9 +71,9 @@ pub fn choose(
     line: u16,
     here: Here,
 ) -> Result<(), Halt>
-    ensures { Runs done_of (acting here.entry.job.now here.entry.fuel
+    ensures { Runs done_of (acting here.entry.setup.now here.entry.fuel
         (Tree.Case (expr_of index.now) (elements_of elements.now) line) (context_of here.entry.context.now)
-        (world_of world.old)) here.entry.depth (levels here.entry.job.now here.entry.fuel
+        (world_of world.old)) here.entry.depth (levels here.entry.setup.now here.entry.fuel
         (max (expr_height (expr_of index.now)) (elements_height (elements_of elements.now)))) result world.new }
 {
     let x = evaluate(world, index, here)?;

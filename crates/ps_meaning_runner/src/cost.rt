@@ -4,7 +4,7 @@ ghost use Rattle.std.specs.Prelude.{◌≡◌, ◌+◌, ◌<◌, ◌++◌, ◌�
 ghost use Rattle.ps_meaning.specs.Statements as m;
 ghost use Rattle.ps_meaning_runner.specs.Worlds.{costs_in, numbers_of};
 
-use crate::world::{Job, Numbers};
+use crate::world::{Numbers, Setup};
 
 /// The cost with a number; 0 where none is listed.
 fn cost_of(costs: &[u32], number: u32) -> u64
@@ -38,27 +38,27 @@ fn left_after(costs: &[u32], numbers: &[u32], budget: u64) -> Option<u64>
 }
 
 /// Whether the bytes of the objects made, and of one more of this pointer type, exceed the heap.
-pub fn passes_heap(job: &Job, made: &[u32], pointer: u32) -> bool
-    ensures { result ≡ m.passes_heap (costs_in job.now) (made.now ++ pointer ∷ []) }
+pub fn passes_heap(setup: &Setup, made: &[u32], pointer: u32) -> bool
+    ensures { result ≡ m.passes_heap (costs_in setup.now) (made.now ++ pointer ∷ []) }
 {
-    match left_after(job.objects, made, job.heap) {
-        Some(left) => left < cost_of(job.objects, pointer),
+    match left_after(setup.objects, made, setup.heap) {
+        Some(left) => left < cost_of(setup.objects, pointer),
         None => true,
     }
 }
 
 /// Whether the frame bytes of the open routines exceed the stack. Where no costs are listed nothing is summed.
 #[tactic(auto, using(crate::proofs::Worlds::numbers_of_Number, crate::proofs::Costs::free_of_cost), unfolding(crate::specs::Worlds::numbers_of))]
-pub fn passes_stack(job: &Job, active: &Numbers) -> bool
-    ensures { result ≡ m.passes_stack (costs_in job.now) (numbers_of active.now) }
+pub fn passes_stack(setup: &Setup, active: &Numbers) -> bool
+    ensures { result ≡ m.passes_stack (costs_in setup.now) (numbers_of active.now) }
 {
-    if job.frames.len() == 0 {
+    if setup.frames.len() == 0 {
         return false;
     }
-    let mut left = job.stack;
+    let mut left = setup.stack;
     let mut open = active;
     while let Numbers::Number { first, rest } = open {
-        let cost = cost_of(job.frames, *first);
+        let cost = cost_of(setup.frames, *first);
         if left < cost {
             return true;
         }

@@ -30,9 +30,9 @@ use std::alloc::AllocError;
 #[cycle(run)]
 #[tactic(auto)]
 pub fn access(world: &mut World, place: &Place, here: Here) -> Result<Spot, Halt>
-    ensures { Runs spot_of (m.access (caller here.entry.job.now here.entry.fuel) (place_of place.now)
+    ensures { Runs spot_of (m.access (caller here.entry.setup.now here.entry.fuel) (place_of place.now)
         (context_of here.entry.context.now) (world_of world.old)) here.entry.depth
-        (levels here.entry.job.now here.entry.fuel (place_height (place_of place.now))) result world.new }
+        (levels here.entry.setup.now here.entry.fuel (place_height (place_of place.now))) result world.new }
 {
     if here.depth == 0 {
         return Err(Halt::TooDeep);
@@ -52,9 +52,9 @@ pub fn access(world: &mut World, place: &Place, here: Here) -> Result<Spot, Halt
 #[cycle(run)]
 #[tactic(auto, using(crate::proofs::Answers::halted_then, crate::proofs::Answers::answers_run), unfolding(ps_tree::specs::View::selector_of))]
 fn select(world: &mut World, selector: &Selector, spot: Spot, here: Here) -> Result<Spot, Halt>
-    ensures { Runs spot_of (m.at_selector (caller here.entry.job.now here.entry.fuel) (selector_of selector.now)
+    ensures { Runs spot_of (m.at_selector (caller here.entry.setup.now here.entry.fuel) (selector_of selector.now)
         (spot_of spot) (context_of here.entry.context.now) (world_of world.old)) here.entry.depth
-        (levels here.entry.job.now here.entry.fuel (selector_height (selector_of selector.now))) result world.new }
+        (levels here.entry.setup.now here.entry.fuel (selector_height (selector_of selector.now))) result world.new }
 {
     match selector {
         Selector::Element { ty, index, line } => {
@@ -70,9 +70,9 @@ fn select(world: &mut World, selector: &Selector, spot: Spot, here: Here) -> Res
 #[cycle(run)]
 #[tactic(auto, using(crate::proofs::Answers::halted_then, crate::proofs::Answers::answers_run, ps_tree::proofs::TreeLemmas::expr_of_Load), unfolding(ps_tree::specs::View::expr_of, crate::specs::View::value_of, crate::specs::View::integer_of))]
 pub fn evaluate(world: &mut World, e: &Expr, here: Here) -> Result<Value, Halt>
-    ensures { Runs value_of (m.value (caller here.entry.job.now here.entry.fuel) (expr_of e.now)
+    ensures { Runs value_of (m.value (caller here.entry.setup.now here.entry.fuel) (expr_of e.now)
         (context_of here.entry.context.now) (world_of world.old)) here.entry.depth
-        (levels here.entry.job.now here.entry.fuel (expr_height (expr_of e.now))) result world.new }
+        (levels here.entry.setup.now here.entry.fuel (expr_height (expr_of e.now))) result world.new }
 {
     if here.depth == 0 {
         return Err(Halt::TooDeep);
@@ -171,9 +171,9 @@ pub fn evaluate(world: &mut World, e: &Expr, here: Here) -> Result<Value, Halt>
 #[cycle(run)]
 #[tactic(auto, using(crate::proofs::Answers::halted_then))]
 pub fn evaluate_truth(world: &mut World, e: &Expr, here: Here) -> Result<bool, Halt>
-    ensures { Runs truth_of (truth_in here.entry.job.now here.entry.fuel (expr_of e.now)
+    ensures { Runs truth_of (truth_in here.entry.setup.now here.entry.fuel (expr_of e.now)
         (context_of here.entry.context.now) (world_of world.old)) here.entry.depth
-        (levels here.entry.job.now here.entry.fuel (expr_height (expr_of e.now))) result world.new }
+        (levels here.entry.setup.now here.entry.fuel (expr_height (expr_of e.now))) result world.new }
 {
     let x = evaluate(world, e, here)?;
     Ok(is_true(x.number()))
@@ -181,19 +181,19 @@ pub fn evaluate_truth(world: &mut World, e: &Expr, here: Here) -> Result<bool, H
 
 impl<'a> World<'a> {
     /// The set in the variable at a spot.
-    fn set_at(&self, spot: &Spot, c: &Context) -> Result<Vec<bool>, Halt>
+    fn set_at(&self, spot: &Spot, context: &Context) -> Result<Vec<bool>, Halt>
         ensures { Answers members_of_set (Gives (v.set_of (contents_in (world_of self.now) (spot_of spot.now)))
             (world_of self.now)) result self.now }
     {
-        let value = self.contents(c.alloc, spot)?;
-        Ok(Vec::from_slice(c.alloc, value.members())?)
+        let value = self.contents(context.alloc, spot)?;
+        Ok(Vec::from_slice(context.alloc, value.members())?)
     }
 
     /// The value in the variable at a spot.
-    fn loaded(&self, spot: &Spot, c: &Context) -> Result<Value, Halt>
+    fn loaded(&self, spot: &Spot, context: &Context) -> Result<Value, Halt>
         ensures { Answers value_of (contents (spot_of spot.now) (world_of self.now)) result self.now }
     {
-        Ok(self.contents(c.alloc, spot)?)
+        Ok(self.contents(context.alloc, spot)?)
     }
 }
 
@@ -201,9 +201,9 @@ impl<'a> World<'a> {
 #[cycle(run)]
 #[tactic(auto, using(crate::proofs::Answers::halted_then, crate::proofs::Answers::runs_deeper, crate::proofs::Trees::set_of_Constructor, ps_tree::proofs::TreeLemmas::set_of_Load), unfolding(ps_tree::specs::View::set_of))]
 pub fn evaluate_set(world: &mut World, e: &SetExpr, here: Here) -> Result<Vec<bool>, Halt>
-    ensures { Runs members_of_set (m.set_value (caller here.entry.job.now here.entry.fuel) (set_of e.now)
+    ensures { Runs members_of_set (m.set_value (caller here.entry.setup.now here.entry.fuel) (set_of e.now)
         (context_of here.entry.context.now) (world_of world.old)) here.entry.depth
-        (levels here.entry.job.now here.entry.fuel (set_height (set_of e.now))) result world.new }
+        (levels here.entry.setup.now here.entry.fuel (set_height (set_of e.now))) result world.new }
 {
     if here.depth == 0 {
         return Err(Halt::TooDeep);
@@ -231,9 +231,9 @@ fn combine_all(
     steps: &[SetStep],
     here: Here,
 ) -> Result<Vec<bool>, Halt>
-    ensures { Runs members_of_set (m.set_value (caller here.entry.job.now here.entry.fuel)
+    ensures { Runs members_of_set (m.set_value (caller here.entry.setup.now here.entry.fuel)
         (Tree.Combine (set_of first.now) (set_steps_of steps.now)) (context_of here.entry.context.now)
-        (world_of world.old)) here.entry.depth (levels here.entry.job.now here.entry.fuel
+        (world_of world.old)) here.entry.depth (levels here.entry.setup.now here.entry.fuel
         (max (set_height (set_of first.now)) (set_steps_height (set_steps_of steps.now)))) result world.new }
 {
     let mut tests = evaluate_set(world, first, here)?;
@@ -253,9 +253,9 @@ fn combine_all(
 #[cycle(run)]
 #[tactic(auto, using(crate::proofs::Answers::halted_then, crate::proofs::Answers::answers_run), unfolding(ps_tree::specs::View::member_of))]
 fn evaluate_member(world: &mut World, member: &Member, here: Here) -> Result<Vec<bool>, Halt>
-    ensures { Runs members_of_set (m.member_value (caller here.entry.job.now here.entry.fuel) (member_of member.now)
+    ensures { Runs members_of_set (m.member_value (caller here.entry.setup.now here.entry.fuel) (member_of member.now)
         (context_of here.entry.context.now) (world_of world.old)) here.entry.depth
-        (levels here.entry.job.now here.entry.fuel (member_height (member_of member.now))) result world.new }
+        (levels here.entry.setup.now here.entry.fuel (member_height (member_of member.now))) result world.new }
 {
     match member {
         Member::One { value, line } => {
@@ -274,9 +274,10 @@ fn evaluate_member(world: &mut World, member: &Member, here: Here) -> Result<Vec
 #[cycle(run)]
 #[tactic(auto, using(crate::proofs::Answers::members_start, crate::proofs::Answers::members_next, crate::proofs::Answers::members_end))]
 fn evaluate_members(world: &mut World, members: &[Member], here: Here) -> Result<Vec<bool>, Halt>
-    ensures { Runs members_of_set (m.members_value (caller here.entry.job.now here.entry.fuel) (members_of members.now)
+    ensures { Runs members_of_set
+        (m.members_value (caller here.entry.setup.now here.entry.fuel) (members_of members.now)
         (context_of here.entry.context.now) (world_of world.old)) here.entry.depth
-        (levels here.entry.job.now here.entry.fuel (members_height (members_of members.now))) result world.new }
+        (levels here.entry.setup.now here.entry.fuel (members_height (members_of members.now))) result world.new }
 {
     let mut tests = Vec::new(here.context.alloc);
     for member in members {
@@ -295,9 +296,9 @@ fn evaluate_members(world: &mut World, members: &[Member], here: Here) -> Result
 #[cycle(run)]
 #[tactic(auto, unfolding(ps_tree::specs::View::structure_of, crate::specs::Worlds::held_of))]
 pub fn take_operand<'t>(world: &mut World, e: &'t Structure, here: Here) -> Result<Held<'t>, Halt>
-    ensures { Runs held_of (m.operand (caller here.entry.job.now here.entry.fuel) (structure_of e.now)
+    ensures { Runs held_of (m.operand (caller here.entry.setup.now here.entry.fuel) (structure_of e.now)
         (context_of here.entry.context.now) (world_of world.old)) here.entry.depth
-        (levels here.entry.job.now here.entry.fuel (structure_height (structure_of e.now))) result world.new }
+        (levels here.entry.setup.now here.entry.fuel (structure_height (structure_of e.now))) result world.new }
 {
     match e {
         Structure::Literal(characters) => Ok(Held::Text(characters.as_slice())),
@@ -309,9 +310,9 @@ pub fn take_operand<'t>(world: &mut World, e: &'t Structure, here: Here) -> Resu
 #[cycle(run)]
 #[tactic(auto, using(crate::proofs::Answers::halted_then, crate::proofs::Answers::stopped_halts_then, crate::proofs::Answers::answers_run, ps_tree::proofs::TreeLemmas::argument_of_Variable), unfolding(ps_tree::specs::View::argument_of, crate::specs::Worlds::actual_of))]
 fn take_actual(world: &mut World, argument: &Argument, here: Here) -> Result<Actual, Halt>
-    ensures { Runs actual_of (m.actual_of (caller here.entry.job.now here.entry.fuel) (argument_of argument.now)
+    ensures { Runs actual_of (m.actual_of (caller here.entry.setup.now here.entry.fuel) (argument_of argument.now)
         (context_of here.entry.context.now) (world_of world.old)) here.entry.depth
-        (levels here.entry.job.now here.entry.fuel (argument_height (argument_of argument.now))) result world.new }
+        (levels here.entry.setup.now here.entry.fuel (argument_height (argument_of argument.now))) result world.new }
 {
     match argument {
         Argument::Value { value, range, line } => {
@@ -357,9 +358,9 @@ pub fn take_actuals(
     arguments: &[Argument],
     here: Here,
 ) -> Result<Vec<Actual>, Halt>
-    ensures { Runs actuals_in (m.actuals_of (caller here.entry.job.now here.entry.fuel) (arguments_of arguments.now)
+    ensures { Runs actuals_in (m.actuals_of (caller here.entry.setup.now here.entry.fuel) (arguments_of arguments.now)
         (context_of here.entry.context.now) (world_of world.old)) here.entry.depth
-        (levels here.entry.job.now here.entry.fuel (arguments_height (arguments_of arguments.now))) result world.new }
+        (levels here.entry.setup.now here.entry.fuel (arguments_height (arguments_of arguments.now))) result world.new }
 {
     let mut actuals = Vec::new(here.context.alloc);
     for argument in arguments {

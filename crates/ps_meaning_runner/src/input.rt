@@ -43,35 +43,41 @@ impl<'a> World<'a> {
     }
 
     /// eoln; error 9 at the end of input.
-    pub fn eoln(&mut self, line: u16, c: &Context) -> Result<Value, Halt>
-        ensures { Answers value_of (r.at_line_end line (context_of c.now) (world_of self.old)) result self.new }
+    pub fn eoln(&mut self, line: u16, context: &Context) -> Result<Value, Halt>
+        ensures { Answers value_of (r.at_line_end line (context_of context.now) (world_of self.old)) result self.new }
     {
         let next = self.look()?;
-        self.line_end(next, line, c)
+        self.line_end(next, line, context)
     }
 
     /// Whether the next character ends a line; error 9 at the end of input.
     #[tactic(auto, using(crate::proofs::Answers::stops), unfolding(crate::specs::View::value_of))]
-    fn line_end(&self, next: Option<u8>, line: u16, c: &Context) -> Result<Value, Halt>
-        ensures { Answers value_of (e.line_end next line (context_of c.now) (world_of self.now)) result self.now }
+    fn line_end(&self, next: Option<u8>, line: u16, context: &Context) -> Result<Value, Halt>
+        ensures { Answers value_of (e.line_end next line (context_of context.now) (world_of self.now)) result self.now }
     {
         match next {
             Some(byte) => Ok(Value::Ordinal(truth(byte == 10))),
-            None => Err(self.fault(9, line, c)),
+            None => Err(self.fault(9, line, context)),
         }
     }
 
     /// The next character for a read; error 9 at the end of input.
     #[tactic(auto, using(crate::proofs::Answers::stops), unfolding(crate::specs::View::value_of))]
-    fn character_read(&mut self, next: Option<u8>, line: u16, c: &Context) -> Result<Value, Halt>
-        ensures { Answers value_of (m.character_read next line (context_of c.now) (world_of self.old)) result self.new }
+    fn character_read(
+        &mut self,
+        next: Option<u8>,
+        line: u16,
+        context: &Context,
+    ) -> Result<Value, Halt>
+        ensures { Answers value_of (m.character_read next line (context_of context.now) (world_of self.old)) result
+            self.new }
     {
         match next {
             Some(byte) => {
                 self.input = self.input.taken();
                 Ok(Value::Ordinal(i32::from(as_character(byte))))
             }
-            None => Err(self.fault(9, line, c)),
+            None => Err(self.fault(9, line, context)),
         }
     }
 }
@@ -89,11 +95,11 @@ fn add_marks(transcript: &mut Vec<u16>, count: usize) -> Result<(), AllocError>
 impl<'a> World<'a> {
     /// Looks at the rest of the line and takes it; error 9 at the end of input.
     #[tactic(auto, using(crate::proofs::Answers::stops))]
-    fn line_read(&mut self, next: Option<u8>, line: u16, c: &Context) -> Result<(), Halt>
-        ensures { Answers done_of (m.line_read next line (context_of c.now) (world_of self.old)) result self.new }
+    fn line_read(&mut self, next: Option<u8>, line: u16, context: &Context) -> Result<(), Halt>
+        ensures { Answers done_of (m.line_read next line (context_of context.now) (world_of self.old)) result self.new }
     {
         if next.is_none() {
-            return Err(self.fault(9, line, c));
+            return Err(self.fault(9, line, context));
         }
         self.skip_line()?;
         Ok(())
@@ -130,11 +136,18 @@ impl<'a> World<'a> {
 
     /// Reads an integer for a variable of this range: error 9 at the end of input, 10 where there is no integer, 4 for
     /// one outside the range.
-    fn integer_read(&mut self, low: i32, high: i32, line: u16, c: &Context) -> Result<Value, Halt>
-        ensures { Answers value_of (r.integer_in low high line (context_of c.now) (world_of self.old)) result self.new }
+    fn integer_read(
+        &mut self,
+        low: i32,
+        high: i32,
+        line: u16,
+        context: &Context,
+    ) -> Result<Value, Halt>
+        ensures { Answers value_of (r.integer_in low high line (context_of context.now) (world_of self.old)) result
+            self.new }
     {
         let found = self.scan()?;
-        self.integer_fitting(found, low, high, line, c)
+        self.integer_fitting(found, low, high, line, context)
     }
 
     /// The integer that was found, for a variable of this range.
@@ -145,10 +158,10 @@ impl<'a> World<'a> {
         low: i32,
         high: i32,
         line: u16,
-        c: &Context,
+        context: &Context,
     ) -> Result<Value, Halt>
         ensures { (r : t.Reading) → IsReading r found → Answers value_of
-            (integer_fitting r low high line (context_of c.now) (world_of self.now)) result self.now }
+            (integer_fitting r low high line (context_of context.now) (world_of self.now)) result self.now }
     {
         let number = match found {
             Reading::EndFound => 9,
@@ -156,10 +169,10 @@ impl<'a> World<'a> {
             Reading::Integer(None) => 4,
             Reading::Integer(Some(x)) => {
                 let range = Range::Within { low, high };
-                return self.fitting(range, Value::Ordinal(x), line, c);
+                return self.fitting(range, Value::Ordinal(x), line, context);
             }
         };
-        Err(self.fault(number, line, c))
+        Err(self.fault(number, line, context))
     }
     /// Reads a character into a variable of this range: error 9 at the end of input, 4 for one outside the range.
     #[tactic(auto, using(crate::proofs::Answers::stopped_then))]
@@ -169,14 +182,14 @@ impl<'a> World<'a> {
         low: i32,
         high: i32,
         line: u16,
-        c: &Context,
+        context: &Context,
     ) -> Result<(), Halt>
-        ensures { Answers done_of (r.character_into (spot_of spot.now) low high line (context_of c.now)
+        ensures { Answers done_of (r.character_into (spot_of spot.now) low high line (context_of context.now)
             (world_of self.old)) result self.new }
     {
         let next = self.look()?;
-        let x = self.character_read(next, line, c)?;
-        self.put_fitting(spot, Range::Within { low, high }, x, line, c)
+        let x = self.character_read(next, line, context)?;
+        self.put_fitting(spot, Range::Within { low, high }, x, line, context)
     }
 
     /// Reads an integer into a variable of this range, as `integer_read` reads it.
@@ -187,21 +200,21 @@ impl<'a> World<'a> {
         low: i32,
         high: i32,
         line: u16,
-        c: &Context,
+        context: &Context,
     ) -> Result<(), Halt>
-        ensures { Answers done_of (r.integer_into (spot_of spot.now) low high line (context_of c.now)
+        ensures { Answers done_of (r.integer_into (spot_of spot.now) low high line (context_of context.now)
             (world_of self.old)) result self.new }
     {
-        let v = self.integer_read(low, high, line, c)?;
+        let v = self.integer_read(low, high, line, context)?;
         self.put(spot, v)
     }
 
     /// Looks at the rest of the line and takes it; error 9 at the end of input.
     #[tactic(auto, using(crate::proofs::Answers::stopped_then))]
-    pub fn line_taken(&mut self, line: u16, c: &Context) -> Result<(), Halt>
-        ensures { Answers done_of (r.rest_of_line line (context_of c.now) (world_of self.old)) result self.new }
+    pub fn line_taken(&mut self, line: u16, context: &Context) -> Result<(), Halt>
+        ensures { Answers done_of (r.rest_of_line line (context_of context.now) (world_of self.old)) result self.new }
     {
         let next = self.look()?;
-        self.line_read(next, line, c)
+        self.line_read(next, line, context)
     }
 }

@@ -52,9 +52,9 @@ pub fn repeat_while(
     body: &Statement,
     here: Here,
 ) -> Result<(), Halt>
-    ensures { Runs done_of (acting here.entry.job.now here.entry.fuel
+    ensures { Runs done_of (acting here.entry.setup.now here.entry.fuel
         (Tree.While (expr_of condition.now) (statement_of body.now)) (context_of here.entry.context.now)
-        (world_of world.old)) here.entry.depth (levels here.entry.job.now here.entry.fuel
+        (world_of world.old)) here.entry.depth (levels here.entry.setup.now here.entry.fuel
         (max (expr_height (expr_of condition.now)) (statement_height (statement_of body.now)))) result world.new }
 {
     let mut left = here.fuel;
@@ -79,9 +79,9 @@ pub fn repeat_until(
     condition: &Expr,
     here: Here,
 ) -> Result<(), Halt>
-    ensures { Runs done_of (acting here.entry.job.now here.entry.fuel
+    ensures { Runs done_of (acting here.entry.setup.now here.entry.fuel
         (Tree.Repeat (statements_of body.now) (expr_of condition.now)) (context_of here.entry.context.now)
-        (world_of world.old)) here.entry.depth (levels here.entry.job.now here.entry.fuel
+        (world_of world.old)) here.entry.depth (levels here.entry.setup.now here.entry.fuel
         (max (statements_height (statements_of body.now)) (expr_height (expr_of condition.now)))) result world.new }
 {
     let mut left = here.fuel;
@@ -113,10 +113,10 @@ pub fn count(
     body: &Statement,
     here: Here,
 ) -> Result<(), Halt>
-    ensures { Runs done_of (acting here.entry.job.now here.entry.fuel
+    ensures { Runs done_of (acting here.entry.setup.now here.entry.fuel
         (Tree.For variable low high (expr_of from.now) from_line direction (expr_of to.now) to_line
         (statement_of body.now)) (context_of here.entry.context.now) (world_of world.old)) here.entry.depth
-        (levels here.entry.job.now here.entry.fuel
+        (levels here.entry.setup.now here.entry.fuel
         (max (expr_height (expr_of from.now)) (max (expr_height (expr_of to.now))
         (statement_height (statement_of body.now))))) result world.new }
 {
@@ -149,14 +149,14 @@ fn begin_turns(
     from_line: u16,
     y: &Value,
     to_line: u16,
-    c: &Context,
+    context: &Context,
 ) -> Result<(), Halt>
     ensures { Answers done_of (r.beginning variable range (value_of x.now) from_line (value_of y.now) to_line
-        (context_of c.now) (world_of world.old)) result world.new }
+        (context_of context.now) (world_of world.old)) result world.new }
 {
-    check_bound(world, range, x, from_line, c)?;
-    check_bound(world, range, y, to_line, c)?;
-    set_own(world, variable, x, c)
+    check_bound(world, range, x, from_line, context)?;
+    check_bound(world, range, y, to_line, context)?;
+    set_own(world, variable, x, context)
 }
 
 /// A bound of a for statement fits its control variable; error 4 where it does not.
@@ -166,27 +166,28 @@ fn check_bound(
     range: Range,
     bound: &Value,
     line: u16,
-    c: &Context,
+    context: &Context,
 ) -> Result<(), Halt>
-    ensures fits { OnOk result (fitting range (value_of bound.now) line (context_of c.now) (world_of world.now) ≡ Gives
+    ensures fits { OnOk result
+        (fitting range (value_of bound.now) line (context_of context.now) (world_of world.now) ≡ Gives
         (value_of bound.now) (world_of world.now)) }
     ensures stopped { IfErr result (λ stop. Stopped
-        (fitting range (value_of bound.now) line (context_of c.now) (world_of world.now)) stop world.now) }
+        (fitting range (value_of bound.now) line (context_of context.now) (world_of world.now)) stop world.now) }
 {
     if fits(range, bound) {
         Ok(())
     } else {
-        Err(world.fault(4, line, c))
+        Err(world.fault(4, line, context))
     }
 }
 
 /// Assigns to a variable of the block itself.
-fn set_own(world: &mut World, variable: u32, value: &Value, c: &Context) -> Result<(), Halt>
-    ensures { Answers done_of (put (own_spot variable (context_of c.now)) (value_of value.now) (world_of world.old))
-        result world.new }
+fn set_own(world: &mut World, variable: u32, value: &Value, context: &Context) -> Result<(), Halt>
+    ensures { Answers done_of
+        (put (own_spot variable (context_of context.now)) (value_of value.now) (world_of world.old)) result world.new }
 {
-    let spot = spot_in(c.alloc, &c.env, variable)?;
-    world.put(&spot, value.copy(c.alloc)?)
+    let spot = spot_in(context.alloc, &context.env, variable)?;
+    world.put(&spot, value.copy(context.alloc)?)
 }
 
 /// The turns of a for statement, starting with the one that begins.
@@ -199,9 +200,9 @@ fn turns(
     body: &Statement,
     here: Here,
 ) -> Result<(), Halt>
-    ensures { Runs done_of (turning here.entry.job.now here.entry.fuel variable direction
+    ensures { Runs done_of (turning here.entry.setup.now here.entry.fuel variable direction
         (number_of (value_of last.now)) (statement_of body.now) (context_of here.entry.context.now)
-        (world_of world.old)) here.entry.depth (levels here.entry.job.now here.entry.fuel
+        (world_of world.old)) here.entry.depth (levels here.entry.setup.now here.entry.fuel
         (statement_height (statement_of body.now))) result world.new }
 {
     let mut left = here.fuel;
@@ -225,13 +226,13 @@ fn advance(
     variable: u32,
     direction: Direction,
     last: &Value,
-    c: &Context,
+    context: &Context,
 ) -> Result<bool, Halt>
-    ensures { Answers truth_of (advancing (own_spot variable (context_of c.now)) direction
+    ensures { Answers truth_of (advancing (own_spot variable (context_of context.now)) direction
         (number_of (value_of last.now)) (world_of world.old)) result world.new }
 {
-    let spot = spot_in(c.alloc, &c.env, variable)?;
-    let x = world.contents(c.alloc, &spot)?.number();
+    let spot = spot_in(context.alloc, &context.env, variable)?;
+    let x = world.contents(context.alloc, &spot)?.number();
     if is_equal(x, last.number()) {
         return Ok(false);
     }

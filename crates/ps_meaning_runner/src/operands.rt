@@ -15,7 +15,7 @@ use crate::operators::{Computed, fits, interval, set_fits, strings_hold, truth};
 use crate::stop::Halt;
 use crate::value::{Root, Spot, Value, text_values};
 use crate::world::{Context, Env, World, above, routine_above, spot_above};
-use ps_tree::tree::{OpenedField, PlaceBase, Range, Relation};
+use ps_tree::tree::{OpenedField, OrderRelation, PlaceBase, Range};
 use ps_tree::types::{Host, Ordinal, Ty};
 use std::alloc::AllocError;
 use std::rc::Rc;
@@ -48,16 +48,16 @@ pub enum Callee {
 
 impl Callee {
     /// Its routine, with the environment in which that was declared.
-    pub fn found(self, c: &Context) -> Result<(u32, Rc<Env>), AllocError>
-        ensures routine { IfOk result (λ r. r.0 ≡ callee_routine self (context_of c.now)) }
-        ensures env { IfOk result (λ r. env_of r.1.value ≡ callee_env self (context_of c.now)) }
+    pub fn found(self, context: &Context) -> Result<(u32, Rc<Env>), AllocError>
+        ensures routine { IfOk result (λ r. r.0 ≡ callee_routine self (context_of context.now)) }
+        ensures env { IfOk result (λ r. env_of r.1.value ≡ callee_env self (context_of context.now)) }
     {
         match self {
             Callee::Declared { routine, up } => {
-                let parent = above(&c.env, up)?;
+                let parent = above(&context.env, up)?;
                 Ok((routine, parent))
             }
-            Callee::Formal { up, index } => routine_above(c, up, index),
+            Callee::Formal { up, index } => routine_above(context, up, index),
         }
     }
 }
@@ -107,12 +107,12 @@ impl<'a> World<'a> {
         range: Range,
         value: Value,
         line: u16,
-        c: &Context,
+        context: &Context,
     ) -> Result<Actual, Halt>
-        ensures { Answers actual_of (and_then (m.fitting range (value_of value) line (context_of c.now)
+        ensures { Answers actual_of (and_then (m.fitting range (value_of value) line (context_of context.now)
             (world_of self.now)) (λ x. give (m.ValueActual x))) result self.now }
     {
-        Ok(Actual::Value(self.fitting(range, value, line, c)?))
+        Ok(Actual::Value(self.fitting(range, value, line, context)?))
     }
 
     /// The actual parameter of a value parameter of a set type; error 8 for a member outside its base.
@@ -123,42 +123,43 @@ impl<'a> World<'a> {
         high: i32,
         tests: Vec<bool>,
         line: u16,
-        c: &Context,
+        context: &Context,
     ) -> Result<Actual, Halt>
-        ensures { Answers actual_of (and_then (m.fitting_set low high (members_of_set tests) line (context_of c.now)
+        ensures { Answers actual_of
+            (and_then (m.fitting_set low high (members_of_set tests) line (context_of context.now)
             (world_of self.now)) (λ x. give (m.ValueActual x))) result self.now }
     {
-        Ok(Actual::Value(self.fitting_set(low, high, tests, line, c)?))
+        Ok(Actual::Value(self.fitting_set(low, high, tests, line, context)?))
     }
 
     /// The actual parameter of a value parameter that takes a copy of an operand's contents.
     #[tactic(auto, unfolding(crate::specs::Worlds::actual_of))]
-    pub fn copy_passed(&self, held: &Held, c: &Context) -> Result<Actual, Halt>
+    pub fn copy_passed(&self, held: &Held, context: &Context) -> Result<Actual, Halt>
         ensures { Answers actual_of (and_then (m.contents_of (held_of held.now) (world_of self.now))
             (λ x. give (m.ValueActual x))) result self.now }
     {
-        Ok(Actual::Value(self.contents_of(held, c)?))
+        Ok(Actual::Value(self.contents_of(held, context)?))
     }
 
     /// The actual parameter that passes on a routine.
     #[tactic(auto, unfolding(crate::specs::Worlds::actual_of))]
-    pub fn passed(&self, callee: Callee, c: &Context) -> Result<Actual, Halt>
-        ensures { Answers actual_of (Gives (m.RoutineActual (callee_routine callee (context_of c.now))
-            (callee_env callee (context_of c.now))) (world_of self.now)) result self.now }
+    pub fn passed(&self, callee: Callee, context: &Context) -> Result<Actual, Halt>
+        ensures { Answers actual_of (Gives (m.RoutineActual (callee_routine callee (context_of context.now))
+            (callee_env callee (context_of context.now))) (world_of self.now)) result self.now }
     {
-        let (routine, parent) = callee.found(c)?;
+        let (routine, parent) = callee.found(context)?;
         Ok(Actual::Routine(routine, parent))
     }
 
     /// What was computed, or its error at a line.
     #[tactic(auto, using(crate::proofs::Answers::stops), unfolding(crate::specs::View::value_of))]
-    pub fn settled(&self, computed: Computed, line: u16, c: &Context) -> Result<Value, Halt>
-        ensures { Answers value_of (settled (computed_of computed) line (context_of c.now) (world_of self.now)) result
-            self.now }
+    pub fn settled(&self, computed: Computed, line: u16, context: &Context) -> Result<Value, Halt>
+        ensures { Answers value_of (settled (computed_of computed) line (context_of context.now) (world_of self.now))
+            result self.now }
     {
         match computed {
             Computed::Result(number) => Ok(Value::Ordinal(number)),
-            Computed::Fault(number) => Err(self.fault(number, line, c)),
+            Computed::Fault(number) => Err(self.fault(number, line, context)),
         }
     }
 
@@ -170,105 +171,117 @@ impl<'a> World<'a> {
         index: Ordinal,
         x: i32,
         line: u16,
-        c: &Context,
+        context: &Context,
     ) -> Result<Spot, Halt>
-        ensures { Answers spot_of (m.component_of (spot_of spot) index x line (context_of c.now) (world_of self.now))
-            result self.now }
+        ensures { Answers spot_of
+            (m.component_of (spot_of spot) index x line (context_of context.now) (world_of self.now)) result self.now }
     {
         if index.low <= x && x <= index.high {
             Ok(spot.step(x.abs_diff(index.low))?)
         } else {
-            Err(self.fault(5, line, c))
+            Err(self.fault(5, line, context))
         }
     }
 
     /// The number of an index's component; error 5 for one outside the index type.
     #[tactic(auto, using(crate::proofs::Answers::stops))]
-    pub fn index_place(&self, index: Ordinal, x: i32, line: u16, c: &Context) -> Result<u32, Halt>
-        ensures { Answers number_of_place (index_place index x line (context_of c.now) (world_of self.now)) result
+    pub fn index_place(
+        &self,
+        index: Ordinal,
+        x: i32,
+        line: u16,
+        context: &Context,
+    ) -> Result<u32, Halt>
+        ensures { Answers number_of_place (index_place index x line (context_of context.now) (world_of self.now)) result
             self.now }
     {
         if index.low <= x && x <= index.high {
             Ok(x.abs_diff(index.low))
         } else {
-            Err(self.fault(5, line, c))
+            Err(self.fault(5, line, context))
         }
     }
 
     /// The object that a pointer points to; error 6 for nil.
     #[tactic(auto, using(crate::proofs::Answers::stops), unfolding(crate::specs::View::value_of))]
-    pub fn object_of(&self, value: &Value, line: u16, c: &Context) -> Result<Spot, Halt>
-        ensures { Answers spot_of (m.object_of (value_of value.now) line (context_of c.now) (world_of self.now)) result
-            self.now }
+    pub fn object_of(&self, value: &Value, line: u16, context: &Context) -> Result<Spot, Halt>
+        ensures { Answers spot_of (m.object_of (value_of value.now) line (context_of context.now) (world_of self.now))
+            result self.now }
     {
         match value {
-            Value::Object(object) => Ok(Spot::entire(c.alloc, Root::Made(*object))),
+            Value::Object(object) => Ok(Spot::entire(context.alloc, Root::Made(*object))),
             Value::Ordinal(_) | Value::Nil | Value::Set(_) | Value::Structure(_) => {
-                Err(self.fault(6, line, c))
+                Err(self.fault(6, line, context))
             }
         }
     }
 
     /// The object that the pointer in a variable points to; error 6 for nil.
-    pub fn target_of(&self, spot: &Spot, line: u16, c: &Context) -> Result<Spot, Halt>
+    pub fn target_of(&self, spot: &Spot, line: u16, context: &Context) -> Result<Spot, Halt>
         ensures { Answers spot_of (m.object_of (contents_in (world_of self.now) (spot_of spot.now)) line
-            (context_of c.now) (world_of self.now)) result self.now }
+            (context_of context.now) (world_of self.now)) result self.now }
     {
-        let pointer = self.contents(c.alloc, spot)?;
-        self.object_of(&pointer, line, c)
+        let pointer = self.contents(context.alloc, spot)?;
+        self.object_of(&pointer, line, context)
     }
 
     /// The record that a `with` opened.
     #[tactic(auto, using(crate::proofs::Worlds::opened_within, crate::proofs::Worlds::opened_past))]
-    pub fn opened(&self, which: u32, c: &Context) -> Result<Spot, AllocError>
-        ensures { IfOk result (λ s. spot_of s ≡ get_or (map spot_of c.now.opened.items) which no_spot) }
+    pub fn opened(&self, which: u32, context: &Context) -> Result<Spot, AllocError>
+        ensures { IfOk result (λ s. spot_of s ≡ get_or (map spot_of context.now.opened.items) which no_spot) }
     {
-        match c.opened.as_slice().get(which as usize) {
-            Some(spot) => spot.copy(c.alloc),
-            None => Ok(Spot::entire(c.alloc, Root::Declared(0))),
+        match context.opened.as_slice().get(which as usize) {
+            Some(spot) => spot.copy(context.alloc),
+            None => Ok(Spot::entire(context.alloc, Root::Declared(0))),
         }
     }
 
     /// A field of a record that a `with` opened.
-    fn field(&self, field: &OpenedField, c: &Context) -> Result<Spot, AllocError>
-        ensures { IfOk result (λ s. spot_of s ≡ step (get_or (map spot_of c.now.opened.items) field.now.which no_spot)
-            field.now.number) }
+    fn field(&self, field: &OpenedField, context: &Context) -> Result<Spot, AllocError>
+        ensures { IfOk result (λ s. spot_of s
+            ≡ step (get_or (map spot_of context.now.opened.items) field.now.which no_spot) field.now.number) }
     {
-        self.opened(field.which, c)?.step(field.number)
+        self.opened(field.which, context)?.step(field.number)
     }
 
     /// What a variable's name denotes by itself.
-    pub fn denoted(&self, base: &PlaceBase, c: &Context) -> Result<Spot, AllocError>
-        ensures { IfOk result (λ s. spot_of s ≡ m.denoted (base_of base.now) (context_of c.now)) }
+    pub fn denoted(&self, base: &PlaceBase, context: &Context) -> Result<Spot, AllocError>
+        ensures { IfOk result (λ s. spot_of s ≡ m.denoted (base_of base.now) (context_of context.now)) }
     {
         match base {
-            PlaceBase::Entry { up, index } => spot_above(c, *up, *index),
-            PlaceBase::Opened(field) => self.field(field, c),
+            PlaceBase::Entry { up, index } => spot_above(context, *up, *index),
+            PlaceBase::Opened(field) => self.field(field, context),
         }
     }
 
     /// The contents of an operand.
     #[tactic(auto, using(crate::proofs::Values::value_of_Structure), unfolding(crate::specs::Worlds::held_of))]
-    pub fn contents_of(&self, held: &Held, c: &Context) -> Result<Value, AllocError>
+    pub fn contents_of(&self, held: &Held, context: &Context) -> Result<Value, AllocError>
         ensures { IfOk result (λ v. m.contents_of (held_of held.now) (world_of self.now) ≡ Gives (value_of v)
             (world_of self.now)) }
     {
         match held {
-            Held::Text(characters) => Ok(Value::Structure(text_values(c.alloc, characters)?)),
-            Held::Place(spot) => self.contents(c.alloc, spot),
+            Held::Text(characters) => Ok(Value::Structure(text_values(context.alloc, characters)?)),
+            Held::Place(spot) => self.contents(context.alloc, spot),
         }
     }
 
     /// A value to be stored in a variable of this range; error 4 for one outside it.
     #[tactic(auto, using(crate::proofs::Answers::stops))]
-    pub fn fitting(&self, range: Range, value: Value, line: u16, c: &Context) -> Result<Value, Halt>
-        ensures { Answers value_of (m.fitting range (value_of value) line (context_of c.now) (world_of self.now)) result
-            self.now }
+    pub fn fitting(
+        &self,
+        range: Range,
+        value: Value,
+        line: u16,
+        context: &Context,
+    ) -> Result<Value, Halt>
+        ensures { Answers value_of (m.fitting range (value_of value) line (context_of context.now) (world_of self.now))
+            result self.now }
     {
         if fits(range, &value) {
             Ok(value)
         } else {
-            Err(self.fault(4, line, c))
+            Err(self.fault(4, line, context))
         }
     }
 
@@ -280,29 +293,36 @@ impl<'a> World<'a> {
         high: i32,
         tests: Vec<bool>,
         line: u16,
-        c: &Context,
+        context: &Context,
     ) -> Result<Value, Halt>
-        ensures { Answers value_of (m.fitting_set low high (listed tests.items) line (context_of c.now)
+        ensures { Answers value_of (m.fitting_set low high (listed tests.items) line (context_of context.now)
             (world_of self.now)) result self.now }
     {
         if set_fits(low, high, tests.as_slice()) {
             Ok(Value::Set(tests))
         } else {
-            Err(self.fault(8, line, c))
+            Err(self.fault(8, line, context))
         }
     }
 
     /// The members from one number to another; error 8 outside 0..255.
     #[tactic(auto, using(crate::proofs::Answers::stops, crate::proofs::Values::listed_none))]
-    pub fn set_between(&self, x: i32, y: i32, line: u16, c: &Context) -> Result<Vec<bool>, Halt>
-        ensures { Answers members_of_set (m.set_between x y line (context_of c.now) (world_of self.now)) result self.now }
+    pub fn set_between(
+        &self,
+        x: i32,
+        y: i32,
+        line: u16,
+        context: &Context,
+    ) -> Result<Vec<bool>, Halt>
+        ensures { Answers members_of_set (m.set_between x y line (context_of context.now) (world_of self.now)) result
+            self.now }
     {
         if y < x {
-            Ok(Vec::new(c.alloc))
+            Ok(Vec::new(context.alloc))
         } else if 0 <= x && x <= 255 && 0 <= y && y <= 255 {
-            Ok(interval(c.alloc, x as u8, y as u8)?)
+            Ok(interval(context.alloc, x as u8, y as u8)?)
         } else {
-            Err(self.fault(8, line, c))
+            Err(self.fault(8, line, context))
         }
     }
 
@@ -314,12 +334,13 @@ impl<'a> World<'a> {
         range: Range,
         value: Value,
         line: u16,
-        c: &Context,
+        context: &Context,
     ) -> Result<(), Halt>
-        ensures { Answers done_of (putting_fitting (spot_of spot.now) range (value_of value) line (context_of c.now)
+        ensures { Answers done_of
+            (putting_fitting (spot_of spot.now) range (value_of value) line (context_of context.now)
             (world_of self.old)) result self.new }
     {
-        let fitting = self.fitting(range, value, line, c)?;
+        let fitting = self.fitting(range, value, line, context)?;
         self.put(spot, fitting)
     }
 
@@ -332,21 +353,21 @@ impl<'a> World<'a> {
         high: i32,
         tests: Vec<bool>,
         line: u16,
-        c: &Context,
+        context: &Context,
     ) -> Result<(), Halt>
         ensures { Answers done_of (putting_fitting_set (spot_of spot.now) low high (members_of_set tests) line
-            (context_of c.now) (world_of self.old)) result self.new }
+            (context_of context.now) (world_of self.old)) result self.new }
     {
-        let fitting = self.fitting_set(low, high, tests, line, c)?;
+        let fitting = self.fitting_set(low, high, tests, line, context)?;
         self.put(spot, fitting)
     }
 
     /// Assigns the contents of an operand to a variable.
-    pub fn put_contents(&mut self, spot: &Spot, held: &Held, c: &Context) -> Result<(), Halt>
+    pub fn put_contents(&mut self, spot: &Spot, held: &Held, context: &Context) -> Result<(), Halt>
         ensures { Answers done_of (putting_contents (spot_of spot.now) (held_of held.now) (world_of self.old)) result
             self.new }
     {
-        let value = self.contents_of(held, c)?;
+        let value = self.contents_of(held, context)?;
         self.put(spot, value)
     }
 
@@ -354,16 +375,16 @@ impl<'a> World<'a> {
     #[tactic(auto, unfolding(crate::specs::View::value_of))]
     pub fn strings_compared(
         &self,
-        relation: Relation,
+        relation: OrderRelation,
         x: &Held,
         y: &Held,
-        c: &Context,
+        context: &Context,
     ) -> Result<Value, Halt>
         ensures { Answers value_of (strings_compared relation (held_of x.now) (held_of y.now) (world_of self.now))
             result self.now }
     {
-        let left = self.contents_of(x, c)?;
-        let right = self.contents_of(y, c)?;
+        let left = self.contents_of(x, context)?;
+        let right = self.contents_of(y, context)?;
         let is_so = strings_hold(relation, left.components(), right.components());
         Ok(Value::Ordinal(truth(is_so)))
     }

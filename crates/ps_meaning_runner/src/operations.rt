@@ -19,7 +19,7 @@ use crate::stop::Halt;
 use crate::value::Value;
 use crate::world::{Context, Here, World};
 use ps_tree::tree::{
-    ArithmeticStep, BooleanOperator, Expr, Relation, SetExpr, SetRelation, Structure,
+    ArithmeticStep, BooleanOperator, Expr, OrderRelation, SetExpr, SetRelation, Structure,
 };
 
 impl Value {
@@ -49,9 +49,9 @@ pub fn calculate(
     steps: &[ArithmeticStep],
     here: Here,
 ) -> Result<Value, Halt>
-    ensures { Runs value_of (m.value (caller here.entry.job.now here.entry.fuel)
+    ensures { Runs value_of (m.value (caller here.entry.setup.now here.entry.fuel)
         (Tree.Arithmetic (expr_of first.now) (arithmetic_of steps.now)) (context_of here.entry.context.now)
-        (world_of world.old)) here.entry.depth (levels here.entry.job.now here.entry.fuel
+        (world_of world.old)) here.entry.depth (levels here.entry.setup.now here.entry.fuel
         (max (expr_height (expr_of first.now)) (steps_height (arithmetic_of steps.now)))) result world.new }
 {
     let mut x = evaluate(world, first, here)?;
@@ -68,13 +68,14 @@ fn calculated(
     step: &ArithmeticStep,
     x: &Value,
     y: &Value,
-    c: &Context,
+    context: &Context,
 ) -> Result<Value, Halt>
     ensures { Answers value_of (settled (compute step.now.operator (number_of (value_of x.now))
-        (number_of (value_of y.now))) step.now.line.number (context_of c.now) (world_of world.now)) result world.now }
+        (number_of (value_of y.now))) step.now.line.number (context_of context.now) (world_of world.now)) result
+        world.now }
 {
     let computed = compute(step.operator, x.number(), y.number());
-    world.settled(computed, step.line.number, c)
+    world.settled(computed, step.line.number, context)
 }
 
 /// `and` and `or`; all operands are evaluated.
@@ -87,9 +88,9 @@ pub fn combine(
     rest: &[Expr],
     here: Here,
 ) -> Result<Value, Halt>
-    ensures { Runs value_of (m.value (caller here.entry.job.now here.entry.fuel)
+    ensures { Runs value_of (m.value (caller here.entry.setup.now here.entry.fuel)
         (Tree.Logic operator (expr_of first.now) (operands_of rest.now)) (context_of here.entry.context.now)
-        (world_of world.old)) here.entry.depth (levels here.entry.job.now here.entry.fuel
+        (world_of world.old)) here.entry.depth (levels here.entry.setup.now here.entry.fuel
         (max (expr_height (expr_of first.now)) (operands_height (operands_of rest.now)))) result world.new }
 {
     let mut x = evaluate_truth(world, first, here)?;
@@ -110,9 +111,9 @@ pub fn compare(
     right: &Expr,
     here: Here,
 ) -> Result<Value, Halt>
-    ensures { Runs value_of (comparing here.entry.job.now here.entry.fuel comparison (expr_of left.now)
+    ensures { Runs value_of (comparing here.entry.setup.now here.entry.fuel comparison (expr_of left.now)
         (expr_of right.now) (context_of here.entry.context.now) (world_of world.old)) here.entry.depth
-        (levels here.entry.job.now here.entry.fuel
+        (levels here.entry.setup.now here.entry.fuel
         (max (expr_height (expr_of left.now)) (expr_height (expr_of right.now)))) result world.new }
 {
     let x = evaluate(world, left, here)?;
@@ -130,9 +131,9 @@ pub fn compare_sets(
     right: &SetExpr,
     here: Here,
 ) -> Result<Value, Halt>
-    ensures { Runs value_of (m.value (caller here.entry.job.now here.entry.fuel)
+    ensures { Runs value_of (m.value (caller here.entry.setup.now here.entry.fuel)
         (Tree.CompareSets relation (set_of left.now) (set_of right.now)) (context_of here.entry.context.now)
-        (world_of world.old)) here.entry.depth (levels here.entry.job.now here.entry.fuel
+        (world_of world.old)) here.entry.depth (levels here.entry.setup.now here.entry.fuel
         (max (set_height (set_of left.now)) (set_height (set_of right.now)))) result world.new }
 {
     let x = evaluate_set(world, left, here)?;
@@ -145,15 +146,15 @@ pub fn compare_sets(
 #[tactic(auto, using(crate::proofs::Answers::halted_then, crate::proofs::Answers::answers_run))]
 pub fn compare_strings(
     world: &mut World,
-    relation: Relation,
+    relation: OrderRelation,
     left: &Structure,
     right: &Structure,
     here: Here,
 ) -> Result<Value, Halt>
-    ensures { Runs value_of (m.value (caller here.entry.job.now here.entry.fuel)
+    ensures { Runs value_of (m.value (caller here.entry.setup.now here.entry.fuel)
         (Tree.CompareStrings relation (structure_of left.now) (structure_of right.now))
         (context_of here.entry.context.now) (world_of world.old)) here.entry.depth
-        (levels here.entry.job.now here.entry.fuel
+        (levels here.entry.setup.now here.entry.fuel
         (max (structure_height (structure_of left.now)) (structure_height (structure_of right.now)))) result world.new }
 {
     let x = take_operand(world, left, here)?;
@@ -170,9 +171,9 @@ pub fn test_member(
     right: &SetExpr,
     here: Here,
 ) -> Result<Value, Halt>
-    ensures { Runs value_of (m.value (caller here.entry.job.now here.entry.fuel)
+    ensures { Runs value_of (m.value (caller here.entry.setup.now here.entry.fuel)
         (Tree.In (expr_of left.now) (set_of right.now)) (context_of here.entry.context.now) (world_of world.old))
-        here.entry.depth (levels here.entry.job.now here.entry.fuel
+        here.entry.depth (levels here.entry.setup.now here.entry.fuel
         (max (expr_height (expr_of left.now)) (set_height (set_of right.now)))) result world.new }
 {
     let x = evaluate(world, left, here)?.number();

@@ -11,7 +11,7 @@ ghost use Rattle.ps_meaning_runner.specs.View.{compared, listed, tested, value_o
 
 use crate::value::Value;
 use ps_tree::tree::{
-    ArithmeticOperator, BooleanOperator, PointerRelation, Range, Relation, RequiredFunction,
+    ArithmeticOperator, BooleanOperator, OrderRelation, PointerRelation, Range, RequiredFunction,
     SetOperator, SetRelation,
 };
 use std::alloc::{AllocError, Global};
@@ -155,16 +155,16 @@ pub fn combine_truths(operator: BooleanOperator, a: bool, b: bool) -> bool
 }
 
 /// A relation between two ordinals.
-fn holds(relation: Relation, x: i32, y: i32) -> bool
+fn holds(relation: OrderRelation, x: i32, y: i32) -> bool
     ensures { result ≡ holds relation x y }
 {
     match relation {
-        Relation::Equal => x == y,
-        Relation::Different => x != y,
-        Relation::Less => x < y,
-        Relation::Greater => x > y,
-        Relation::AtMost => x <= y,
-        Relation::AtLeast => x >= y,
+        OrderRelation::Equal => x == y,
+        OrderRelation::Different => x != y,
+        OrderRelation::Less => x < y,
+        OrderRelation::Greater => x > y,
+        OrderRelation::AtMost => x <= y,
+        OrderRelation::AtLeast => x >= y,
     }
 }
 
@@ -196,7 +196,7 @@ fn pointers_hold(relation: PointerRelation, a: &Value, b: &Value) -> bool
 /// A relation between two values: of ordinals, or of pointers.
 #[derive(Clone, Copy)]
 pub enum Comparison {
-    Ordinals(Relation),
+    Ordinals(OrderRelation),
     Pointers(PointerRelation),
 }
 
@@ -388,7 +388,7 @@ fn first_difference(a: &[Value], b: &[Value]) -> (i32, i32)
 }
 
 /// A relation between two strings.
-pub fn strings_hold(relation: Relation, a: &[Value], b: &[Value]) -> bool
+pub fn strings_hold(relation: OrderRelation, a: &[Value], b: &[Value]) -> bool
     ensures { result ≡ strings_hold relation (values_of a.now) (values_of b.now) }
 {
     let (x, y) = first_difference(a, b);

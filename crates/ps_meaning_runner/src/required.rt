@@ -13,17 +13,17 @@ use crate::cost::passes_heap;
 use crate::ending::Ending;
 use crate::stop::Halt;
 use crate::value::{Spot, Value, copy_all, first};
-use crate::world::{Context, Job, World};
+use crate::world::{Context, Setup, World};
 use ps_tree::types::Ordinal;
 use std::alloc::{AllocError, Global};
 
 /// The first value of a pointer type's objects.
 #[tactic(auto, using(crate::proofs::Procedures::domain_past), unfolding(crate::specs::View::value_of))]
-fn first_object(job: &Job, pointer: u32) -> Result<Value, AllocError>
-    ensures { IfOk result (λ x. value_of x ≡ v.first (domain_at (program_of job.now) pointer)) }
+fn first_object(setup: &Setup, pointer: u32) -> Result<Value, AllocError>
+    ensures { IfOk result (λ x. value_of x ≡ v.first (domain_at (program_of setup.now) pointer)) }
 {
-    match job.program.domains().get(pointer as usize) {
-        Some(ty) => first(job.alloc, ty),
+    match setup.program.domains().get(pointer as usize) {
+        Some(ty) => first(setup.alloc, ty),
         None => Ok(Value::Nil),
     }
 }
@@ -36,27 +36,28 @@ impl<'a> World<'a> {
         spot: &Spot,
         pointer: u32,
         line: u16,
-        c: &Context,
-        job: &Job,
+        context: &Context,
+        setup: &Setup,
     ) -> Result<(), Halt>
-        ensures { (n : ℕ) → Answers done_of (r.putting_object job.now n (spot_of spot.now) pointer line
+        ensures { (n : ℕ) → Answers done_of (r.putting_object setup.now n (spot_of spot.now) pointer line
             (world_of self.old)) result self.new }
     {
-        if passes_heap(job, self.made.as_slice(), pointer) {
-            return Err(self.ended(Ending::Heap { line }, &c.calls, c.alloc));
+        if passes_heap(setup, self.made.as_slice(), pointer) {
+            return Err(self.ended(Ending::Heap { line }, &context.calls, context.alloc));
         }
-        let object = self.make(pointer, job)?;
+        let object = self.make(pointer, setup)?;
         self.put(spot, object)
     }
 
     /// A new object with its first value.
     #[tactic(auto, unfolding(crate::specs::View::value_of))]
-    fn make(&mut self, pointer: u32, job: &Job) -> Result<Value, AllocError>
+    fn make(&mut self, pointer: u32, setup: &Setup) -> Result<Value, AllocError>
         ensures value { IfOk result (λ x. value_of x ≡ v.ObjectValue (length (world_of self.old).objects)) }
-        ensures world { OnOk result (world_of self.new ≡ world_made (program_of job.now) pointer (world_of self.old)) }
+        ensures world { OnOk result
+            (world_of self.new ≡ world_made (program_of setup.now) pointer (world_of self.old)) }
     {
         let object = self.objects.len();
-        self.objects.push(first_object(job, pointer)?)?;
+        self.objects.push(first_object(setup, pointer)?)?;
         self.made.push(pointer)?;
         Ok(Value::Object(object))
     }
@@ -156,16 +157,16 @@ impl<'a> World<'a> {
         z: &Spot,
         to: Ordinal,
         line: u16,
-        c: &Context,
+        context: &Context,
     ) -> Result<(), Halt>
-        ensures { Answers done_of (r.packing (spot_of a.now) from k (spot_of z.now) to line (context_of c.now)
+        ensures { Answers done_of (r.packing (spot_of a.now) from k (spot_of z.now) to line (context_of context.now)
             (world_of self.old)) result self.new }
     {
         let count = to.value_count();
         if from.value_count() < u64::from(k) + count {
-            return Err(self.fault(5, line, c));
+            return Err(self.fault(5, line, context));
         }
-        let value = self.packed(c.alloc, a, k, count)?;
+        let value = self.packed(context.alloc, a, k, count)?;
         self.put(z, value)
     }
 
@@ -179,15 +180,15 @@ impl<'a> World<'a> {
         to: Ordinal,
         k: u32,
         line: u16,
-        c: &Context,
+        context: &Context,
     ) -> Result<(), Halt>
-        ensures { Answers done_of (r.unpacking (spot_of z.now) from (spot_of a.now) to k line (context_of c.now)
+        ensures { Answers done_of (r.unpacking (spot_of z.now) from (spot_of a.now) to k line (context_of context.now)
             (world_of self.old)) result self.new }
     {
         if to.value_count() < u64::from(k) + from.value_count() {
-            return Err(self.fault(5, line, c));
+            return Err(self.fault(5, line, context));
         }
-        let value = self.unpacked(c.alloc, z, a, k)?;
+        let value = self.unpacked(context.alloc, z, a, k)?;
         self.put(a, value)
     }
 }

@@ -18,7 +18,7 @@ ghost use Rattle.ps_meaning_runner.specs.Runs.{Runs, levels, shown};
 use crate::calls::do_block;
 use crate::ending::Ending;
 use crate::stop::Halt;
-use crate::world::{Context, Env, Here, Input, Job, Numbers, World};
+use crate::world::{Context, Env, Here, Input, Numbers, Setup, World};
 use ps_tree::program::Checked;
 use std::alloc::{AllocError, Global};
 use std::rc::Rc;
@@ -95,16 +95,16 @@ fn first_context(alloc: Global) -> Result<Context, AllocError>
 
 /// Executes the program block.
 #[tactic(auto, using(crate::proofs::Heights::body_within, crate::proofs::Answers::stopped_halts))]
-fn run_job(world: &mut World, job: &Job, fuel: u64, depth: u32) -> Result<(), Halt>
-    ensures { Runs done_of (caller job.now fuel 0 Outside [] m.first_context (world_of world.old)) depth
-        (levels job.now fuel 0) result world.new }
+fn run_setup(world: &mut World, setup: &Setup, fuel: u64, depth: u32) -> Result<(), Halt>
+    ensures { Runs done_of (caller setup.now fuel 0 Outside [] m.first_context (world_of world.old)) depth
+        (levels setup.now fuel 0) result world.new }
 {
-    let c = first_context(job.alloc)?;
-    let parent = outside(job.alloc)?;
-    let calls = no_numbers(job.alloc)?;
-    let (body, inner) = world.enter_with(0, parent, &[], calls, &c, job)?;
+    let c = first_context(setup.alloc)?;
+    let parent = outside(setup.alloc)?;
+    let calls = no_numbers(setup.alloc)?;
+    let (body, inner) = world.enter_with(0, parent, &[], calls, &c, setup)?;
     let here = Here {
-        job,
+        setup,
         context: &inner,
         fuel,
         depth,
@@ -114,17 +114,17 @@ fn run_job(world: &mut World, job: &Job, fuel: u64, depth: u32) -> Result<(), Ha
 
 /// How a run on an input went.
 #[tactic(auto, unfolding(crate::specs::Runs::call_levels))]
-fn run_on(job: &Job, input: &[u8], fuel: u64, depth: u32) -> Result<Ran, Refusal>
+fn run_on(setup: &Setup, input: &[u8], fuel: u64, depth: u32) -> Result<Ran, Refusal>
     ensures told { IfOk result (λ k. shown k ≡ m.shown
-        (m.answer (program_of job.now) (costs_in job.now) input.now fuel)) }
-    ensures refused { IfErr result (λ refusal. refusal ≡ TooDeep → depth < fuel * highest (program_of job.now)) }
+        (m.answer (program_of setup.now) (costs_in setup.now) input.now fuel)) }
+    ensures refused { IfErr result (λ refusal. refusal ≡ TooDeep → depth < fuel * highest (program_of setup.now)) }
 {
-    let mut world = first_world(job.alloc, input);
-    match run_job(&mut world, job, fuel, depth) {
+    let mut world = first_world(setup.alloc, input);
+    match run_setup(&mut world, setup, fuel, depth) {
         Ok(()) => Ok(Ran {
             transcript: world.transcript,
             ending: Ending::Normal,
-            calls: Vec::new(job.alloc),
+            calls: Vec::new(setup.alloc),
         }),
         Err(Halt::Ended { ending, calls }) => Ok(Ran {
             transcript: world.transcript,
@@ -162,7 +162,7 @@ pub fn reference_to_depth(
         fuel) }
     ensures refused { IfErr result (λ refusal. refusal ≡ TooDeep → depth < fuel * highest (program_in program.now)) }
 {
-    let job = Job {
+    let setup = Setup {
         alloc,
         program,
         frames: budget.frames,
@@ -170,7 +170,7 @@ pub fn reference_to_depth(
         stack: budget.stack,
         heap: budget.heap,
     };
-    run_on(&job, input, fuel, depth)
+    run_on(&setup, input, fuel, depth)
 }
 
 /// The run of a program on an input with `fuel`, within costs and a budget. It is refused when out of memory, or where

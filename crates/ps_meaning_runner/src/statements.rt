@@ -23,9 +23,9 @@ use ps_tree::types::Ty;
 #[cycle(run)]
 #[tactic(auto, using(crate::proofs::Answers::runs_deeper, crate::proofs::Answers::halted_then, crate::proofs::Answers::answers_run, crate::proofs::Trees::statement_of_Compound, crate::proofs::Trees::statement_of_Repeat, crate::proofs::Trees::statement_of_Case), unfolding(ps_tree::specs::View::statement_of, crate::specs::View::value_of))]
 pub fn act(world: &mut World, statement: &Statement, here: Here) -> Result<(), Halt>
-    ensures { Runs done_of (acting here.entry.job.now here.entry.fuel (statement_of statement.now)
+    ensures { Runs done_of (acting here.entry.setup.now here.entry.fuel (statement_of statement.now)
         (context_of here.entry.context.now) (world_of world.old)) here.entry.depth
-        (levels here.entry.job.now here.entry.fuel (statement_height (statement_of statement.now))) result world.new }
+        (levels here.entry.setup.now here.entry.fuel (statement_height (statement_of statement.now))) result world.new }
 {
     if here.depth == 0 {
         return Err(Halt::TooDeep);
@@ -123,7 +123,7 @@ pub fn act(world: &mut World, statement: &Statement, here: Here) -> Result<(), H
             line,
         } => {
             let spot = access(world, place, below)?;
-            world.put_object(&spot, *pointer, line.number, here.context, here.job)
+            world.put_object(&spot, *pointer, line.number, here.context, here.setup)
         }
         Statement::Pack {
             from,
@@ -158,9 +158,10 @@ pub fn act(world: &mut World, statement: &Statement, here: Here) -> Result<(), H
 #[cycle(run)]
 #[tactic(auto, using(crate::proofs::Acts::acts_next, crate::proofs::Acts::acts_end))]
 pub fn act_all(world: &mut World, statements: &[Statement], here: Here) -> Result<(), Halt>
-    ensures { Runs done_of (acting_all here.entry.job.now here.entry.fuel (statements_of statements.now)
+    ensures { Runs done_of (acting_all here.entry.setup.now here.entry.fuel (statements_of statements.now)
         (context_of here.entry.context.now) (world_of world.old)) here.entry.depth
-        (levels here.entry.job.now here.entry.fuel (statements_height (statements_of statements.now))) result world.new }
+        (levels here.entry.setup.now here.entry.fuel (statements_height (statements_of statements.now))) result
+        world.new }
 {
     for statement in statements {
         act(world, statement, here)?;
@@ -179,9 +180,9 @@ fn assign(
     line: u16,
     here: Here,
 ) -> Result<(), Halt>
-    ensures { Runs done_of (acting here.entry.job.now here.entry.fuel
+    ensures { Runs done_of (acting here.entry.setup.now here.entry.fuel
         (Tree.Assign (place_of target.now) range (expr_of value.now) line) (context_of here.entry.context.now)
-        (world_of world.old)) here.entry.depth (levels here.entry.job.now here.entry.fuel
+        (world_of world.old)) here.entry.depth (levels here.entry.setup.now here.entry.fuel
         (max (place_height (place_of target.now)) (expr_height (expr_of value.now)))) result world.new }
 {
     let spot = access(world, target, here)?;
@@ -201,9 +202,9 @@ fn assign_set(
     line: u16,
     here: Here,
 ) -> Result<(), Halt>
-    ensures { Runs done_of (acting here.entry.job.now here.entry.fuel
+    ensures { Runs done_of (acting here.entry.setup.now here.entry.fuel
         (Tree.AssignSet (place_of target.now) low high (set_of value.now) line) (context_of here.entry.context.now)
-        (world_of world.old)) here.entry.depth (levels here.entry.job.now here.entry.fuel
+        (world_of world.old)) here.entry.depth (levels here.entry.setup.now here.entry.fuel
         (max (place_height (place_of target.now)) (set_height (set_of value.now)))) result world.new }
 {
     let spot = access(world, target, here)?;
@@ -220,9 +221,9 @@ fn assign_structure(
     value: &Structure,
     here: Here,
 ) -> Result<(), Halt>
-    ensures { Runs done_of (acting here.entry.job.now here.entry.fuel
+    ensures { Runs done_of (acting here.entry.setup.now here.entry.fuel
         (Tree.AssignStructure (place_of target.now) (structure_of value.now)) (context_of here.entry.context.now)
-        (world_of world.old)) here.entry.depth (levels here.entry.job.now here.entry.fuel
+        (world_of world.old)) here.entry.depth (levels here.entry.setup.now here.entry.fuel
         (max (place_height (place_of target.now)) (structure_height (structure_of value.now)))) result world.new }
 {
     let spot = access(world, target, here)?;
@@ -233,9 +234,9 @@ fn assign_structure(
 /// A with statement: each record is opened in the context of those before it.
 #[cycle(run)]
 fn act_with(world: &mut World, places: &[Place], body: &Statement, here: Here) -> Result<(), Halt>
-    ensures { Runs done_of (acting here.entry.job.now here.entry.fuel
+    ensures { Runs done_of (acting here.entry.setup.now here.entry.fuel
         (Tree.With (map place_of places.now) (statement_of body.now)) (context_of here.entry.context.now)
-        (world_of world.old)) here.entry.depth (levels here.entry.job.now here.entry.fuel
+        (world_of world.old)) here.entry.depth (levels here.entry.setup.now here.entry.fuel
         (max (places_height (map place_of places.now)) (statement_height (statement_of body.now)))) result world.new }
 {
     let mut inner = here.context.copy()?;
@@ -267,10 +268,10 @@ fn pack(
     to_ty: &Ty,
     here: Here,
 ) -> Result<(), Halt>
-    ensures { Runs done_of (acting here.entry.job.now here.entry.fuel
+    ensures { Runs done_of (acting here.entry.setup.now here.entry.fuel
         (Tree.Pack (place_of from.now) (type_of from_ty.now) (expr_of index.now) line (place_of to.now)
         (type_of to_ty.now)) (context_of here.entry.context.now) (world_of world.old)) here.entry.depth
-        (levels here.entry.job.now here.entry.fuel
+        (levels here.entry.setup.now here.entry.fuel
         (max (place_height (place_of from.now)) (max (expr_height (expr_of index.now))
         (place_height (place_of to.now))))) result world.new }
 {
@@ -302,10 +303,10 @@ fn unpack(
     line: u16,
     here: Here,
 ) -> Result<(), Halt>
-    ensures { Runs done_of (acting here.entry.job.now here.entry.fuel
+    ensures { Runs done_of (acting here.entry.setup.now here.entry.fuel
         (Tree.Unpack (place_of from.now) (type_of from_ty.now) (place_of to.now) (type_of to_ty.now)
         (expr_of index.now) line) (context_of here.entry.context.now) (world_of world.old)) here.entry.depth
-        (levels here.entry.job.now here.entry.fuel
+        (levels here.entry.setup.now here.entry.fuel
         (max (place_height (place_of from.now)) (max (place_height (place_of to.now))
         (expr_height (expr_of index.now))))) result world.new }
 {

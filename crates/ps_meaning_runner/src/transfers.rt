@@ -29,9 +29,9 @@ use std::alloc::{AllocError, Global};
 /// Reads variables.
 #[cycle(run)]
 pub fn read_all(world: &mut World, variables: &[ReadVariable], here: Here) -> Result<(), Halt>
-    ensures { Runs done_of (reading_all here.entry.job.now here.entry.fuel (map read_of variables.now)
+    ensures { Runs done_of (reading_all here.entry.setup.now here.entry.fuel (map read_of variables.now)
         (context_of here.entry.context.now) (world_of world.old)) here.entry.depth
-        (levels here.entry.job.now here.entry.fuel (reads_height (map read_of variables.now))) result world.new }
+        (levels here.entry.setup.now here.entry.fuel (reads_height (map read_of variables.now))) result world.new }
 {
     for variable in variables {
         let spot = access(world, place_read(variable), here)?;
@@ -53,8 +53,13 @@ fn place_read(variable: &ReadVariable) -> &Place
 impl<'a> World<'a> {
     /// Reads into the variable at a spot.
     #[tactic(auto, unfolding(ps_tree::specs::View::read_of))]
-    fn read_into(&mut self, spot: &Spot, variable: &ReadVariable, c: &Context) -> Result<(), Halt>
-        ensures { Answers done_of (r.reading_into (read_of variable.now) (spot_of spot.now) (context_of c.now)
+    fn read_into(
+        &mut self,
+        spot: &Spot,
+        variable: &ReadVariable,
+        context: &Context,
+    ) -> Result<(), Halt>
+        ensures { Answers done_of (r.reading_into (read_of variable.now) (spot_of spot.now) (context_of context.now)
             (world_of self.old)) result self.new }
     {
         match variable {
@@ -63,13 +68,13 @@ impl<'a> World<'a> {
                 high,
                 line,
                 ..
-            } => self.read_character(spot, *low, *high, line.number, c),
+            } => self.read_character(spot, *low, *high, line.number, context),
             ReadVariable::Integer {
                 low,
                 high,
                 line,
                 ..
-            } => self.read_integer(spot, *low, *high, line.number, c),
+            } => self.read_integer(spot, *low, *high, line.number, context),
         }
     }
 }
@@ -77,11 +82,12 @@ impl<'a> World<'a> {
 impl<'a> World<'a> {
     /// The width of a parameter of write; error 11 for one below 1.
     #[tactic(auto, using(crate::proofs::Answers::stops))]
-    pub fn checked_width(&self, x: i32, line: u16, c: &Context) -> Result<Option<u32>, Halt>
-        ensures { Answers r.width_of (width_checked x line (context_of c.now) (world_of self.now)) result self.now }
+    pub fn checked_width(&self, x: i32, line: u16, context: &Context) -> Result<Option<u32>, Halt>
+        ensures { Answers r.width_of (width_checked x line (context_of context.now) (world_of self.now)) result
+            self.now }
     {
         if x < 1 {
-            Err(self.fault(11, line, c))
+            Err(self.fault(11, line, context))
         } else {
             Ok(Some(x.unsigned_abs()))
         }
@@ -92,9 +98,9 @@ impl<'a> World<'a> {
 #[cycle(run)]
 #[tactic(auto, using(crate::proofs::Answers::halted_then, crate::proofs::Answers::answers_run), unfolding(ps_tree::specs::View::width_of))]
 fn evaluate_width(world: &mut World, width: &Width, here: Here) -> Result<Option<u32>, Halt>
-    ensures { Runs r.width_of (width_in here.entry.job.now here.entry.fuel (width_of width.now)
+    ensures { Runs r.width_of (width_in here.entry.setup.now here.entry.fuel (width_of width.now)
         (context_of here.entry.context.now) (world_of world.old)) here.entry.depth
-        (levels here.entry.job.now here.entry.fuel (width_height (width_of width.now))) result world.new }
+        (levels here.entry.setup.now here.entry.fuel (width_height (width_of width.now))) result world.new }
 {
     match width {
         Width::Default => Ok(None),
@@ -108,9 +114,9 @@ fn evaluate_width(world: &mut World, width: &Width, here: Here) -> Result<Option
 /// Writes parameters.
 #[cycle(run)]
 pub fn write_all(world: &mut World, parameters: &[WriteParameter], here: Here) -> Result<(), Halt>
-    ensures { Runs done_of (writing_all here.entry.job.now here.entry.fuel (map write_of parameters.now)
+    ensures { Runs done_of (writing_all here.entry.setup.now here.entry.fuel (map write_of parameters.now)
         (context_of here.entry.context.now) (world_of world.old)) here.entry.depth
-        (levels here.entry.job.now here.entry.fuel (writes_height (map write_of parameters.now))) result world.new }
+        (levels here.entry.setup.now here.entry.fuel (writes_height (map write_of parameters.now))) result world.new }
 {
     for parameter in parameters {
         write_one(world, parameter, here)?;
@@ -130,9 +136,9 @@ enum Form {
 #[cycle(run)]
 #[tactic(auto, using(crate::proofs::Answers::runs_deeper), unfolding(ps_tree::specs::View::write_of))]
 fn write_one(world: &mut World, parameter: &WriteParameter, here: Here) -> Result<(), Halt>
-    ensures { Runs done_of (writing here.entry.job.now here.entry.fuel (write_of parameter.now)
+    ensures { Runs done_of (writing here.entry.setup.now here.entry.fuel (write_of parameter.now)
         (context_of here.entry.context.now) (world_of world.old)) here.entry.depth
-        (levels here.entry.job.now here.entry.fuel (write_height (write_of parameter.now))) result world.new }
+        (levels here.entry.setup.now here.entry.fuel (write_height (write_of parameter.now))) result world.new }
 {
     match parameter {
         WriteParameter::Integer { value, width } => {
@@ -158,9 +164,9 @@ fn write_evaluated(
     width: &Width,
     here: Here,
 ) -> Result<(), Halt>
-    ensures { Runs done_of (r.writing_form here.entry.job.now here.entry.fuel form (expr_of value.now)
+    ensures { Runs done_of (r.writing_form here.entry.setup.now here.entry.fuel form (expr_of value.now)
         (width_of width.now) (context_of here.entry.context.now) (world_of world.old)) here.entry.depth
-        (levels here.entry.job.now here.entry.fuel
+        (levels here.entry.setup.now here.entry.fuel
         (max (expr_height (expr_of value.now)) (width_height (width_of width.now)))) result world.new }
 {
     let x = evaluate(world, value, here)?;
@@ -177,9 +183,9 @@ fn write_contents(
     width: &Width,
     here: Here,
 ) -> Result<(), Halt>
-    ensures { Runs done_of (writing here.entry.job.now here.entry.fuel
+    ensures { Runs done_of (writing here.entry.setup.now here.entry.fuel
         (Tree.WriteText (structure_of value.now) (width_of width.now)) (context_of here.entry.context.now)
-        (world_of world.old)) here.entry.depth (levels here.entry.job.now here.entry.fuel
+        (world_of world.old)) here.entry.depth (levels here.entry.setup.now here.entry.fuel
         (max (structure_height (structure_of value.now)) (width_height (width_of width.now)))) result world.new }
 {
     let held = take_operand(world, value, here)?;
@@ -252,17 +258,22 @@ fn write_value(
 }
 
 /// Writes the contents of an operand that is a string, in a field of its length where no width is given (6.9.3.6).
-fn write_string(world: &mut World, held: &Held, width: Option<u32>, c: &Context) -> Result<(), Halt>
+fn write_string(
+    world: &mut World,
+    held: &Held,
+    width: Option<u32>,
+    context: &Context,
+) -> Result<(), Halt>
     ensures { Answers done_of (and_then (contents_of (held_of held.now) (world_of world.old))
         (λ v. write_text (text.fitted (unwrap_or (r.width_of width) (length (m.characters (components_of v))))
         (m.characters (components_of v))))) result world.new }
 {
-    let value = world.contents_of(held, c)?;
-    let text = characters(c.alloc, value.components())?;
+    let value = world.contents_of(held, context)?;
+    let text = characters(context.alloc, value.components())?;
     drop(value);
     let Some(count) = width.or(u32::try_from(text.len()).ok()) else {
         return Err(Halt::OutOfMemory);
     };
-    let field = fitted(c.alloc, count, text.as_slice())?;
+    let field = fitted(context.alloc, count, text.as_slice())?;
     world.write(field.as_slice())
 }

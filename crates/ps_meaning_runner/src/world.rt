@@ -21,7 +21,7 @@ use std::rc::Rc;
 /// What a program is run with: the frame bytes of each routine, the object bytes of each pointer type, and the bytes
 /// of stack and heap.
 #[derive(Clone, Copy)]
-pub struct Job<'a> {
+pub struct Setup<'a> {
     pub alloc: Global,
     pub program: &'a Checked,
     pub frames: &'a [u32],
@@ -76,10 +76,10 @@ impl Drop for Context {
     }
 }
 
-/// Where a part of a run is executed: in what job and context, with how much fuel and at most how many levels.
+/// Where a part of a run is executed: in what setup and context, with how much fuel and at most how many levels.
 #[derive(Clone, Copy)]
 pub struct Here<'a> {
-    pub job: &'a Job<'a>,
+    pub setup: &'a Setup<'a>,
     pub context: &'a Context,
     pub fuel: u64,
     pub depth: u32,
@@ -158,11 +158,11 @@ pub fn spot_in(alloc: Global, env: &Env, index: u32) -> Result<Spot, AllocError>
 }
 
 /// The spot that a name of the frame `up` frames out stands for.
-pub fn spot_above(c: &Context, up: u32, index: u32) -> Result<Spot, AllocError>
-    ensures { IfOk result (λ s. spot_of s ≡ spot_in (frame_of (above (env_of c.now.env.value) up)) index) }
+pub fn spot_above(context: &Context, up: u32, index: u32) -> Result<Spot, AllocError>
+    ensures { IfOk result (λ s. spot_of s ≡ spot_in (frame_of (above (env_of context.now.env.value) up)) index) }
 {
-    let env = above(&c.env, up)?;
-    spot_in(c.alloc, &env, index)
+    let env = above(&context.env, up)?;
+    spot_in(context.alloc, &env, index)
 }
 
 /// The routine that a name of the innermost frame stands for, with its environment.
@@ -178,12 +178,13 @@ fn routine_in(alloc: Global, env: &Env, index: u32) -> Result<(u32, Rc<Env>), Al
 }
 
 /// The routine that a name of the frame `up` frames out stands for, with its environment.
-pub fn routine_above(c: &Context, up: u32, index: u32) -> Result<(u32, Rc<Env>), AllocError>
-    ensures routine { IfOk result (λ r. r.0 ≡ routine_in (frame_of (above (env_of c.now.env.value) up)) index) }
-    ensures env { IfOk result (λ r. env_of r.1.value ≡ env_in (frame_of (above (env_of c.now.env.value) up)) index) }
+pub fn routine_above(context: &Context, up: u32, index: u32) -> Result<(u32, Rc<Env>), AllocError>
+    ensures routine { IfOk result (λ r. r.0 ≡ routine_in (frame_of (above (env_of context.now.env.value) up)) index) }
+    ensures env { IfOk result
+        (λ r. env_of r.1.value ≡ env_in (frame_of (above (env_of context.now.env.value) up)) index) }
 {
-    let env = above(&c.env, up)?;
-    routine_in(c.alloc, &env, index)
+    let env = above(&context.env, up)?;
+    routine_in(context.alloc, &env, index)
 }
 
 impl Numbers {
@@ -332,10 +333,14 @@ impl<'a> World<'a> {
     }
 
     /// The end with an error at a line.
-    pub fn fault(&self, number: u16, line: u16, c: &Context) -> Halt
-        ensures { Stopped (faults number line (context_of c.now) (world_of self.now)) result self.now }
+    pub fn fault(&self, number: u16, line: u16, context: &Context) -> Halt
+        ensures { Stopped (faults number line (context_of context.now) (world_of self.now)) result self.now }
     {
-        self.ended(Ending::Error { number, line }, &c.calls, c.alloc)
+        self.ended(
+            Ending::Error { number, line },
+            &context.calls,
+            context.alloc,
+        )
     }
 }
 

@@ -4,7 +4,7 @@ use Rattle.ps_tree.specs.declared.line.Line.{Line}
 use Rattle.ps_tree.specs.declared.types.Ty.{Ty}
 use Rattle.ps_tree.specs.declared.tree.BooleanOperator.{BooleanOperator}
 use Rattle.ps_tree.specs.declared.tree.RequiredFunction.{RequiredFunction}
-use Rattle.ps_tree.specs.declared.tree.Relation.{Relation}
+use Rattle.ps_tree.specs.declared.tree.OrderRelation.{OrderRelation}
 use Rattle.ps_tree.specs.declared.tree.PointerRelation.{PointerRelation}
 use Rattle.ps_tree.specs.declared.tree.Place.{Place}
 use Rattle.ps_tree.specs.declared.tree.Selector.{Selector}
@@ -233,7 +233,7 @@ one_operand e b (inr (inl f)) = sym (ap (λ x. expr_uses (expr_of x)) f.1)
 one_operand e b (inr (inr (inl f))) = sym (ap (λ x. expr_uses (expr_of x)) f)
 one_operand e b (inr (inr (inr f))) = sym (ap (λ x. expr_uses (expr_of x)) f.2)
 
-pub two_operands : (e : Expr) (a b : Box Expr Global) → ((relation : Relation) × (e ≡ Compare relation a b))
+pub two_operands : (e : Expr) (a b : Box Expr Global) → ((relation : OrderRelation) × (e ≡ Compare relation a b))
     ⊎ ((relation : PointerRelation) × (e ≡ ComparePointers relation a b)) → expr_uses (expr_of a.value) ++ expr_uses
     (expr_of b.value) ≡ expr_uses (expr_of e)
 unfolding expr_of

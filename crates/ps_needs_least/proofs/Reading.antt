@@ -8,6 +8,7 @@ use Rattle.std.proofs.Math.ListN.{get_or-map as map_default}
 use Rattle.std.proofs.Math.Seq.{get_or-append_seam}
 use Rattle.std.proofs.lemmas.List.Concat.{flat_map-cons}
 use Rattle.std.proofs.lemmas.List.Elements.{Contains-append_left, Contains-append_right, Contains-append_cases}
+use Rattle.std.proofs.lemmas.Bool.{cases_lt}
 use Rattle.ps_tree.specs.Counts.{is_within_limits}
 use Rattle.ps_tree.specs.Tree.{Program, Routine, no_routine}
 use Rattle.ps_needs_least.specs.declared.uses.Use.{Use}
@@ -18,7 +19,7 @@ use Rattle.ps_needs_least.specs.Least.{IsLeast, HasNoBound}
 use Rattle.ps_needs_least.specs.Nodes.{passed_in, blocks_of, nodes_of}
 use Rattle.ps_needs_least.specs.Settled.{depth_of, dearest, Sound, IsBlocked}
 use Rattle.ps_needs_least.proofs.DepthTables.{price, Depths, depth_is_least, endless_has_no_bound}
-use Rattle.ps_needs_least.proofs.Settling.{less_or_not, dearest_all, dearest_taken, dearest_missing}
+use Rattle.ps_needs_least.proofs.Settling.{dearest_all, dearest_taken, dearest_missing}
 
 -- ---- the routines that are passed
 
@@ -129,7 +130,7 @@ module _ (program : Program) where
   nothing_beyond r l = ap (λ (q : Routine). statements_uses q.body) (get_or_past program.routines r no_routine l)
 
   may_within : (r s : ℕ) → MayCall program r s → r < many
-  may_within r s may = go (less_or_not r many)
+  may_within r s may = go (cases_lt r many)
     where
       none : (u : Use) → many ≤ r → Contains (uses program r) u → r < many
       none u l c = let d = subst (λ us. Contains us u) (nothing_beyond r l) c in let k = d.1 in absurd
@@ -191,9 +192,9 @@ module _ (program : Program) where
 
     pub depths_are : Depths program F depth
     depths_are = record {
-      own = λ r d e. own r d e (less_or_not r many);
+      own = λ r d e. own r d e (cases_lt r many);
       calls = λ r s d e may. calls r s d e may;
-      taken = λ r d e. taken r d e (less_or_not r many);
+      taken = λ r d e. taken r d e (cases_lt r many);
     }
       where
         own : (r d : ℕ) → depth r ≡ Some d → (r < many) ⊎ (many ≤ r) → price F r ≤ d
@@ -260,7 +261,7 @@ module _ (program : Program) where
         Endless r = (r < many) × (get_or xs r None ≡ None)
 
         endless_is : (s : ℕ) → depth s ≡ None → Endless s
-        endless_is s e = go (less_or_not s many)
+        endless_is s e = go (cases_lt s many)
           where
             go : (s < many) ⊎ (many ≤ s) → Endless s
             go (inl l) = (l, sym (within_is s l) ∙ e)

@@ -1,10 +1,11 @@
 -- Tables of depths while they are filled.
 use Rattle.std.proofs.Common.{◌≡◌, ◌≢◌, ◌⊎◌, inl, inr, ℕ, zero, suc, ◌+◌, ◌-◌, ◌*◌, ◌<◌, ◌≤◌, max, nat_lt}
 use Rattle.std.proofs.Common.{if◌then◌else◌, Bool, true, false, List, [], ◌∷◌, length, get_or, set, replicate, Option}
-use Rattle.std.proofs.Common.{Some, None, refl, sym, ap, ◌∙◌, subst, arith, ltb-true, ltb-false}
+use Rattle.std.proofs.Common.{Some, None, refl, sym, ap, ◌∙◌, subst, arith}
 use Rattle.std.specs.List.{Contains, slice_index_or}
 use Rattle.std.proofs.lemmas.List.{get_or-set_same, get_or-set_other, get_or-replicate, get_or_past, length-replicate}
 use Rattle.std.proofs.lemmas.List.{length-set}
+use Rattle.std.proofs.lemmas.Bool.{cases_lt}
 use Rattle.ps_needs_least.specs.declared.uses.Use.{Use}
 use Rattle.ps_needs_least.specs.declared.uses.Use.TheVariants.{Called, Passed, ParameterCalled}
 use Rattle.ps_needs_least.specs.Settled.{depth_of, larger, dearest, undone, Sound}
@@ -20,15 +21,8 @@ larger_none (Some x) (Some y) e = absurd (cc)
 larger_none (Some x) None e = inr refl
 larger_none None b e = inl refl
 
-pub less_or_not : (r m : ℕ) → (r < m) ⊎ (m ≤ r)
-less_or_not r m = go (nat_lt r m) refl
-  where
-    go : (t : Bool) → nat_lt r m ≡ t → (r < m) ⊎ (m ≤ r)
-    go true e = inl (ltb-true r m e)
-    go false e = inr (ltb-false r m e)
-
 either : (x y m : ℕ) → max x y ≡ m → (m ≡ x) ⊎ (m ≡ y)
-either x y m e = go (less_or_not x y)
+either x y m e = go (cases_lt x y)
   where
     go : (x < y) ⊎ (y ≤ x) → (m ≡ x) ⊎ (m ≡ y)
     go (inl l) = inr (omega (arith, e, l))
@@ -225,7 +219,7 @@ abbrev no_depths : ℕ → List (Option ℕ)
 no_depths n = replicate n None
 
 none_yet : (n r : ℕ) → get_or (no_depths n) r None ≡ None
-none_yet n r = go (less_or_not r n)
+none_yet n r = go (cases_lt r n)
   where
     go : (r < n) ⊎ (n ≤ r) → get_or (no_depths n) r None ≡ None
     go (inl l) = get_or-replicate n r None None l

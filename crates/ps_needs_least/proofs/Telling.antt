@@ -7,16 +7,17 @@ use Rattle.std.proofs.lemmas.List.{reverse-append, get_or-set_other, get_or-repl
 use Rattle.std.proofs.lemmas.List.{length-set}
 use Rattle.std.proofs.lemmas.List.Sums.{sum_by-append, sum_by-cons}
 use Rattle.std.proofs.lemmas.List.Elements.{Contains-append_left, Contains-append_right}
+use Rattle.std.proofs.lemmas.Bool.{cases_lt}
 use Rattle.ps_tree.specs.Tree.{Program}
 use Rattle.ps_needs_least.specs.declared.uses.Use.{Use}
-use Rattle.ps_needs_least.specs.declared.uses.Use.TheVariants.{Called, Passed, ParameterCalled}
+use Rattle.ps_needs_least.specs.declared.uses.Use.TheVariants.{Called, ParameterCalled}
 use Rattle.ps_needs_least.specs.Paths.{IsPassed, Path, program_block, call_within}
 use Rattle.ps_needs_least.specs.Nodes.{nodes_of}
 use Rattle.ps_needs_least.specs.Settled.{depth_of, dearest, Sound, IsBlocked}
-use Rattle.ps_needs_least.specs.Tabled.{passed_of, Leads, IsPathOf, Tabled, IsTabled}
+use Rattle.ps_needs_least.specs.Tabled.{passed_of, Leads, IsPathOf, Tabled}
 use Rattle.ps_needs_least.specs.Answers.{ComesBack, Takes}
 use Rattle.ps_needs_least.proofs.DepthTables.{price}
-use Rattle.ps_needs_least.proofs.Settling.{less_or_not, same_or_not, dearest_taken, dearest_missing}
+use Rattle.ps_needs_least.proofs.Settling.{same_or_not, dearest_taken, dearest_missing}
 use Rattle.ps_needs_least.proofs.Reading.{many, count_is, node_is, last_is, is_passed, counted, within_is, beyond_is}
 use Rattle.ps_needs_least.proofs.Reading.{own_is, parameter_is, depths_are}
 
@@ -75,7 +76,7 @@ module _ (nodes : List (List Use)) (F : List ℕ) (xs : List (Option ℕ)) (t : 
 
   -- a routine that has no depth, or takes something, is one of the program
   pub routine_within : (r : ℕ) (o : Option ℕ) → depth_of xs (Called r) ≡ o → o ≢ Some 0 → r + 1 < length nodes
-  routine_within r o e deep = go (less_or_not r (many t.program))
+  routine_within r o e deep = go (cases_lt r (many t.program))
     where
       go : (r < many t.program) ⊎ (many t.program ≤ r) → r + 1 < length nodes
       go (inl l) = let n = nodes_count in omega (arith, l, n)
@@ -226,7 +227,7 @@ pub record Turned (nodes : List (List Use)) (xs : List (Option ℕ)) (seen : Lis
   pub stands : (s : ℕ) → get_or seen s false ≡ true → Contains told s
 
 none_seen : (n s : ℕ) → get_or (replicate n false) s false ≡ false
-none_seen n s = go (less_or_not s n)
+none_seen n s = go (cases_lt s n)
   where
     go : (s < n) ⊎ (n ≤ s) → get_or (replicate n false) s false ≡ false
     go (inl l) = get_or-replicate n s false false l

@@ -1,6 +1,7 @@
 -- When a parser reads a symbol of the grammar exactly, and what its first steps show.
 use Rattle.std.proofs.Common.{◌≡◌, ◌<◌, ◌≤◌, Bool, true, false, [], ◌∷◌, length, Option, Some, None, Ok, Err, ◌⊎◌, inl}
 use Rattle.std.proofs.Common.{inr, refl, sym, ap, ◌∙◌, subst, if◌then◌else◌}
+use Rattle.std.proofs.lemmas.Bool.{cases_Bool}
 use Rattle.ps_text.specs.declared.Span.{Span}
 use Rattle.ps_scan.specs.declared.token.Kind.{Kind}
 use Rattle.ps_scan.specs.declared.token.Token.{Token}
@@ -65,10 +66,6 @@ pub same_self : (a : Kind) → same a a ≡ true
 unfolding same
 same_self a = true_same the_type a a refl
 
-pub bool_cases : (b : Bool) → (b ≡ true) ⊎ (b ≡ false)
-bool_cases true = inl refl
-bool_cases false = inr refl
-
 expect_here : (k : Kind) (t : Token) (ts : Tokens) (b : Bool) → same t.kind k ≡ b → (at : Span) (r : Tokens)
     → ◌≡◌ {A = Outcome Span} (if b then Ok (t.span, ts) else Err (length (t ∷ ts))) (Ok (at, r)) → t ∷ ts ≡ token k at
     ∷ r
@@ -92,7 +89,7 @@ expect_complete k at r = rw (same_self k) refl
 pub sees_cases : (k : Kind) (ts : Tokens) → ((at : Span) × (m : Tokens) × (ts ≡ token k at ∷ m))
     ⊎ ((sees k ts ≡ false) × (after k ts ≡ ts))
 sees_cases k [] = inr (refl, refl)
-sees_cases k (t ∷ ts) = elim (bool_cases (same t.kind k)) [
+sees_cases k (t ∷ ts) = elim (cases_Bool (same t.kind k)) [
   | inl e ↦ inl (t.span, ts, ap (λ (q : Kind). token q t.span ∷ ts) (same_is t.kind k e))
   | inr e ↦ inr
       (e, rw e refl)

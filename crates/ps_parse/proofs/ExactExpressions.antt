@@ -5,8 +5,8 @@ use Rattle.ps_text.specs.declared.Span.{Span}
 use Rattle.ps_scan.specs.declared.token.Kind.{Kind}
 use Rattle.ps_scan.specs.declared.token.Kind.TheVariants as k
 use Rattle.ps_scan.specs.Kinds.{same}
-use Rattle.ps_syntax.specs.declared.expression.Relation.{Relation}
-use Rattle.ps_syntax.specs.declared.expression.Relation.TheVariants as relation
+use Rattle.ps_syntax.specs.declared.expression.Relational.{Relational}
+use Rattle.ps_syntax.specs.declared.expression.Relational.TheVariants as relation
 use Rattle.ps_syntax.specs.declared.expression.Sign.{Sign}
 use Rattle.ps_syntax.specs.declared.expression.Sign.TheVariants as sign
 use Rattle.ps_syntax.specs.declared.expression.Adding.{Adding}
@@ -81,7 +81,7 @@ no_adding k.Minus h = absurd (omega arith)
 no_adding k.Or h = absurd (omega arith)
 no_adding kind h = refl
 
-pub relation_back : (kind : Kind) (op : Relation) → read.relation_of kind ≡ Some op → kind ≡ relation_kind op
+pub relation_back : (kind : Kind) (op : Relational) → read.relation_of kind ≡ Some op → kind ≡ relation_kind op
 relation_back k.Equal op e = ap relation_kind (some_is e)
 relation_back k.NotEqual op e = ap relation_kind (some_is e)
 relation_back k.Less op e = ap relation_kind (some_is e)
@@ -91,7 +91,7 @@ relation_back k.GreaterEqual op e = ap relation_kind (some_is e)
 relation_back k.In op e = ap relation_kind (some_is e)
 relation_back kind op e = cc
 
-pub relation_forth : (op : Relation) → read.relation_of (relation_kind op) ≡ Some op
+pub relation_forth : (op : Relational) → read.relation_of (relation_kind op) ≡ Some op
 relation_forth relation.Equal = refl
 relation_forth relation.NotEqual = refl
 relation_forth relation.Less = refl
@@ -100,7 +100,7 @@ relation_forth relation.LessEqual = refl
 relation_forth relation.GreaterEqual = refl
 relation_forth relation.In = refl
 
-relation_binds : (op : Relation) → binds (relation_kind op) ≡ 1
+relation_binds : (op : Relational) → binds (relation_kind op) ≡ 1
 relation_binds relation.Equal = refl
 relation_binds relation.NotEqual = refl
 relation_binds relation.Less = refl

@@ -1,6 +1,7 @@
 -- The reading of levels where what begins late may be higher; it reads Low's levels exactly.
 use Rattle.std.proofs.Common.{◌≡◌, ℕ, zero, suc, ◌≤◌, Bool, true, false, if◌then◌else◌, List, [], length, Ok, refl}
-use Rattle.std.proofs.Common.{◌∙◌, arith, nat_le}
+use Rattle.std.proofs.Common.{◌∙◌, nat_le}
+use Rattle.std.proofs.lemmas.Bool.{leb-true, le-leb}
 use Rattle.ps_text.specs.declared.Span.{Span}
 use Rattle.ps_scan.specs.declared.token.Kind.TheVariants as k
 use Rattle.ps_syntax.specs.declared.expression.Expr.{Expr}
@@ -40,22 +41,16 @@ use Rattle.ps_parse.proofs.ExactPrograms.{block_level, next_block, program_sound
 abbrev pub gate : {A : Type 0} → ℕ → Parser A → Parser A
 gate left p = λ ts. if nat_le (length ts) left then p ts else refuse ts
 
-le_is : (a b : ℕ) → nat_le a b ≡ true → a ≤ b
-le_is a b q = grind arith
-
-is_le : (a b : ℕ) → a ≤ b → nat_le a b ≡ true
-is_le a b q = grind arith
-
 module _ {A : Type 0} (left : ℕ) (S : Symbol A) (p : Parser A) where
   opened : (ts : Tokens) → length ts ≤ left → gate left p ts ≡ p ts
-  opened ts le = rw (is_le (length ts) left le) refl
+  opened ts le = rw (le-leb (length ts) left le) refl
 
   gate_sound : ((ts : Tokens) (x : A) (r : Tokens) → p ts ≡ Ok (x, r) → S x ts r) → (ts : Tokens) (x : A) (r : Tokens)
       → gate left p ts ≡ Ok (x, r) → late left S x ts r
   gate_sound h ts x r q = go (nat_le (length ts) left) refl q
     where
       go : (b : Bool) → nat_le (length ts) left ≡ b → (if b then p ts else refuse ts) ≡ Ok (x, r) → late left S x ts r
-      go true i q = (le_is (length ts) left i, h ts x r q)
+      go true i q = (leb-true (length ts) left i, h ts x r q)
       go false i q = cc
 
   late_exact : (ends : Tokens → Type 0) → Exact ends S p → Exact ends (late left S) (gate left p)
@@ -139,7 +134,7 @@ module _ (left more : ℕ) where
   open_statement : (ts : Tokens) (x : Statement) (r : Tokens) (b : Bool) → nat_le (length ts) left ≡ b
       → (if b then s.read_statement more ts else refuse ts) ≡ Ok (x, r) → Greedy (statement_low left more zero) x ts r
   open_statement ts x r true i q = (let d = (statements.level more).exact.sound ts x r q
-      in (d.0, (le_is (length ts) left i, d.1), d.2))
+      in (d.0, (leb-true (length ts) left i, d.1), d.2))
   open_statement ts x r false i q = cc
 
   statement_level : (n : ℕ) → statements.Level (statement_low left more n) (gated_statement n)

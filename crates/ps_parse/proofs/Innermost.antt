@@ -1,6 +1,7 @@
 -- The expression in the innermost of parentheses that come one after the other: it isn't itself in parentheses.
 use Rattle.std.proofs.Common.{◌≡◌, ℕ, zero, suc, ◌-◌, ◌<◌, ◌≤◌, Bool, true, false, List, [], ◌∷◌, ◌++◌, length}
 use Rattle.std.proofs.Common.{drop, Option, Some, None, Ok, Err, ◌⊎◌, inl, inr, refl, sym, ap, ◌∙◌, subst, arith}
+use Rattle.std.proofs.lemmas.Bool.{cases_Bool}
 use Rattle.ps_text.specs.declared.Span.{Span}
 use Rattle.ps_scan.specs.declared.token.Kind.{Kind}
 use Rattle.ps_scan.specs.declared.token.Kind.TheVariants as k
@@ -8,7 +9,7 @@ use Rattle.ps_scan.specs.declared.token.Token.{Token}
 use Rattle.ps_scan.specs.Kinds.{same}
 use Rattle.ps_syntax.specs.declared.expression.Multiplying.{Multiplying}
 use Rattle.ps_syntax.specs.declared.expression.Adding.{Adding}
-use Rattle.ps_syntax.specs.declared.expression.Relation.{Relation}
+use Rattle.ps_syntax.specs.declared.expression.Relational.{Relational}
 use Rattle.ps_syntax.specs.declared.expression.Expr.{Expr}
 use Rattle.ps_syntax.specs.declared.expression.Expr.TheVariants as e
 use Rattle.ps_syntax.specs.declared.expression.Simple.{Simple, roll-Simple}
@@ -24,7 +25,7 @@ use Rattle.ps_parse.specs.Steps.{Outcome, Parser, and_then, if_some, sees, many,
 use Rattle.ps_parse.specs.ReadExpressions.{multiplying_of, adding_of, relation_of, is_operator, sees_operator}
 use Rattle.ps_parse.specs.ReadExpressions.{eat_operator, multiplied, term_from, term, added, simple}
 use Rattle.ps_parse.specs.ReadExpressions.{compared_from, simple_after, expr_after, parentheses, read_expr}
-use Rattle.ps_parse.proofs.Exact.{bool_cases, both_steps, first_part, second_part}
+use Rattle.ps_parse.proofs.Exact.{both_steps, first_part, second_part}
 use Rattle.ps_parse.proofs.ExactExpressions.{expr_exact_within}
 
 -- ---- the innermost expression isn't in parentheses as a whole
@@ -35,7 +36,7 @@ open_bounds zero ts = (omega arith, omega arith)
 open_bounds (suc n) [] = (omega arith, omega arith)
 open_bounds (suc n) (t ∷ ts) =
     let inner = open_bounds n ts in
-    elim (bool_cases (same t.kind k.LeftParen)) [
+    elim (cases_Bool (same t.kind k.LeftParen)) [
       | inl is ↦ (let more : parentheses (suc n) (t ∷ ts) ≡ suc (parentheses n ts) = rw is refl
           in (omega (arith, more, inner.0), omega (arith, more, inner.1)))
       | inr other ↦ (let none : parentheses (suc n) (t ∷ ts) ≡ 0 = rw other refl
@@ -47,7 +48,7 @@ unfolding parentheses
 stopped zero ts h = absurd (omega (arith, h))
 stopped (suc n) [] h = refl
 stopped (suc n) (t ∷ ts) h =
-    elim (bool_cases (same t.kind k.LeftParen)) [
+    elim (cases_Bool (same t.kind k.LeftParen)) [
       | inl is ↦ (let more : parentheses (suc n) (t ∷ ts) ≡ suc (parentheses n ts) = rw is refl in
           ap (λ (m : ℕ). sees k.LeftParen (drop m (t ∷ ts))) more ∙ stopped n ts (omega (arith, h, more)))
       | inr other ↦ (let none : parentheses (suc n) (t ∷ ts) ≡ 0 = rw other refl
@@ -151,7 +152,7 @@ added_missed : (T : Parser Term) (t : Token) (ts : Tokens) → adding_of t.kind 
 unfolding many many_from added eat_operator
 added_missed T t ts is = rw is refl
 
-relation_found : (op : Relation) (t : Token) (ts m : Tokens) → relation_of t.kind ≡ Some op → eat_operator relation_of
+relation_found : (op : Relational) (t : Token) (ts m : Tokens) → relation_of t.kind ≡ Some op → eat_operator relation_of
     (t ∷ ts) ≡ Ok (None, m) → ⊥
 unfolding eat_operator
 relation_found op t ts m is h = let found : eat_operator relation_of (t ∷ ts) ≡ Ok (Some (op, t.span), ts) = rw is refl
@@ -208,7 +209,7 @@ goes_on F t ts x [] m [] l r is h h' h'' =
     true_false is (no_operator t.kind factors.0 terms.0 relations)
 
 compared_or : (F : Parser Factor) (t : Token) (ts : Tokens) (x : Factor) (xs : List MultipliedFactor) (m : Tokens)
-    (ys : List AddedTerm) (l : Tokens) (op : Option (Relation × Span)) (n : Tokens) (y : Expr) (r : Tokens)
+    (ys : List AddedTerm) (l : Tokens) (op : Option (Relational × Span)) (n : Tokens) (y : Expr) (r : Tokens)
     → is_operator t.kind ≡ true → many (multiplied F) (t ∷ ts) ≡ Ok (xs, m) → many (added (term F)) m ≡ Ok (ys, l)
     → eat_operator relation_of l ≡ Ok (op, n)
     → if_some op (λ o. e.Compare (roll-Simple (record {

@@ -4,8 +4,8 @@ use Rattle.std.proofs.Common.{Some, None, Ok, Err, Result, ap, sym, refl, ◌∙
 use Rattle.std.specs.Prelude.{IsOkAnd}
 use Rattle.ps_scan.specs.declared.token.Kind.{Kind}
 use Rattle.ps_parse_grammar.specs.Symbols.{Tokens}
-use Rattle.ps_parse.specs.declared.error.Fault.{Fault}
-use Rattle.ps_parse.specs.declared.error.Fault.TheVariants.{OutOfMemory}
+use Rattle.ps_parse.specs.declared.error.ReadFailure.{ReadFailure}
+use Rattle.ps_parse.specs.declared.error.ReadFailure.TheVariants.{OutOfMemory}
 use Rattle.ps_parse.specs.Steps.{Outcome, Parser, Reads, left_of, and_then, pure, sees, after, eat, look, separated}
 use Rattle.ps_parse.specs.Steps.{separated_from, terminated, terminated_from, many, many_from, if_begins, part}
 use Rattle.ps_parse.proofs.Exact.{second_part}
@@ -20,14 +20,14 @@ module _ {A : Type 0} (p : Parser A) (from : ℕ → List A → Parser (List A))
   abbrev pub next_from : List A → Parser (List A)
   next_from found ts = and_then (p ts) (λ x q. from (length q) (found ++ x ∷ []) q)
 
-  pub next_refused : {x : Outcome (List A)} (found : List A) (ts : Tokens) (answer : Result A Fault) (r : Tokens)
-      (e : Fault) → x ≡ next_from found ts → Reads (p ts) answer r → (e ≢ OutOfMemory → answer ≡ Err e)
+  pub next_refused : {x : Outcome (List A)} (found : List A) (ts : Tokens) (answer : Result A ReadFailure) (r : Tokens)
+      (e : ReadFailure) → x ≡ next_from found ts → Reads (p ts) answer r → (e ≢ OutOfMemory → answer ≡ Err e)
       → e ≢ OutOfMemory → x ≡ Err (left_of e)
   next_refused found ts answer r e i h told ne = i
       ∙ ap (λ (o : Outcome A). and_then o (λ y q. from (length q) (found ++ y ∷ []) q))
       (was_refused (p ts) answer r e h told ne)
 
-  pub next_put : {x : Outcome (List A)} (found : List A) (ts : Tokens) (answer : Result A Fault) (r : Tokens)
+  pub next_put : {x : Outcome (List A)} (found : List A) (ts : Tokens) (answer : Result A ReadFailure) (r : Tokens)
       (now : List A) → x ≡ next_from found ts → Reads (p ts) answer r → IsOkAnd answer (λ y. now ≡ found ++ y ∷ []) → x
       ≡ from (length r) now r
   next_put found ts answer r now i h put =
@@ -37,13 +37,14 @@ module _ {A : Type 0} (p : Parser A) (from : ℕ → List A → Parser (List A))
 
 -- what is left before and after an item, and a separator after it
 pub turn_shorter : {A : Type 0} (separator : Kind) (p : Parser A) → Local p → (found now : List A) (ts : Tokens)
-    (answer : Result A Fault) (r m : Tokens) → Reads (p ts) answer r → IsOkAnd answer (λ y. now ≡ found ++ y ∷ [])
+    (answer : Result A ReadFailure) (r m : Tokens) → Reads (p ts) answer r → IsOkAnd answer (λ y. now ≡ found ++ y ∷ [])
     → sees separator r ≡ true → m ≡ after separator r → length m < length ts
 turn_shorter separator p looks found now ts answer r m h put is_more behind =
     let w = was_put (p ts) answer r (λ y. now ≡ found ++ y ∷ []) h put in
     omega (arith, no_longer p looks ts w.0 r w.1, after_shorter separator r is_more, ap length behind)
 
-pub item_shorter : {A : Type 0} (p : Parser A) → Takes p → (found now : List A) (ts : Tokens) (answer : Result A Fault)
+pub item_shorter : {A : Type 0} (p : Parser A) → Takes p
+    → (found now : List A) (ts : Tokens) (answer : Result A ReadFailure)
     (r : Tokens) → Reads (p ts) answer r → IsOkAnd answer (λ y. now ≡ found ++ y ∷ []) → length r < length ts
 item_shorter p takes found now ts answer r h put =
     (let w = was_put (p ts) answer r (λ y. now ≡ found ++ y ∷ []) h put in takes ts w.0 r w.1)

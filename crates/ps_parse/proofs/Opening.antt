@@ -1,6 +1,7 @@
 -- What the levels that open late return, compared with those that never do and those that always did.
 use Rattle.std.proofs.Common.{◌≡◌, ℕ, zero, suc, ◌<◌, ◌≤◌, Bool, true, false, if◌then◌else◌, List, [], ◌++◌, length}
 use Rattle.std.proofs.Common.{Ok, Err, refl, ap, arith, nat_le}
+use Rattle.std.proofs.lemmas.Bool.{leb-true, leb-false}
 use Rattle.ps_text.specs.declared.Span.{Span}
 use Rattle.ps_syntax.specs.declared.program.Program.{Program}
 use Rattle.ps_parse_grammar.specs.Symbols.{Tokens}
@@ -26,12 +27,6 @@ use Rattle.ps_parse.proofs.RisingLevels.{above}
 use Rattle.ps_parse.proofs.Gated.{gate, gated_expr, gated_negated, gated_statement, gated_index, gated_type}
 use Rattle.ps_parse.proofs.Gated.{gated_formals, gated_block, gated_program, gated_derived, derived_gated}
 use Rattle.ps_parse.proofs.Decided.{looks, alone, among, above_least, ends_begins}
-
-le_is : (a b : ℕ) → nat_le a b ≡ true → a ≤ b
-le_is a b q = grind arith
-
-less_is : (a b : ℕ) → nat_le a b ≡ false → b < a
-less_is a b q = grind arith
 
 -- all return the same; or the first refuses late, and the others return the same; or it refuses early, and so does the
 -- second
@@ -79,8 +74,8 @@ module _ (left : ℕ) where
   -- below the last level
   gate_at : {A : Type 0} (p : Parser A) → Local p → (ts : Tokens) (b : Bool) → nat_le (length ts) left ≡ b
       → Opening left A (length ts) (refuse ts) (if b then p ts else refuse ts) (p ts)
-  gate_at p h ts true i = opened (length ts) (p ts) (omega arith) (le_is (length ts) left i) (stops p h ts)
-  gate_at p h ts false i = shut (length ts) (p ts) (omega arith) (less_is (length ts) left i) (stops p h ts)
+  gate_at p h ts true i = opened (length ts) (p ts) (omega arith) (leb-true (length ts) left i) (stops p h ts)
+  gate_at p h ts false i = shut (length ts) (p ts) (omega arith) (leb-false (length ts) left i) (stops p h ts)
 
   gate_opens : {A : Type 0} {p : Parser A} → Local p → Rel (Opening left) refuse (gate left p) p
   gate_opens {p = p} h = record { at = λ ts. gate_at p h ts (nat_le (length ts) left) refl }

@@ -1,8 +1,9 @@
 -- Parentheses that come one after the other are taken at once, and closed one by one.
-use Rattle.std.proofs.Common.{◌≡◌, ◌⊎◌, ℕ, zero, suc, ◌+◌, ◌-◌, ◌<◌, ◌≤◌, true, false, List, [], ◌∷◌, drop, get_or, None, Ok}
+use Rattle.std.proofs.Common.{◌≡◌, ℕ, zero, suc, ◌+◌, ◌-◌, ◌<◌, ◌≤◌, true, false, List, [], ◌∷◌, drop, get_or, None, Ok}
 use Rattle.std.proofs.Common.{Err, Result, inl, inr, refl, sym, ap, ◌∙◌, subst, arith}
 use Rattle.std.specs.Result.{result_and}
 use Rattle.std.proofs.lemmas.List.{drop-drop}
+use Rattle.std.proofs.lemmas.Bool.{cases_Bool, cases_lt}
 use Rattle.ps_text.specs.declared.Span.{Span}
 use Rattle.ps_scan.specs.declared.token.Kind.TheVariants as k
 use Rattle.ps_scan.specs.declared.token.Token.{Token}
@@ -13,13 +14,13 @@ use Rattle.ps_syntax.specs.declared.expression.Factor.TheVariants as f
 use Rattle.ps_parse_grammar.specs.Groups.{stripped, grouped}
 use Rattle.ps_parse_grammar.specs.Symbols.{Tokens, token}
 use Rattle.ps_parse_grammar.proofs.Groups.{stripped_group}
-use Rattle.ps_parse.specs.declared.error.Fault.{Fault}
+use Rattle.ps_parse.specs.declared.error.ReadFailure.{ReadFailure}
 use Rattle.ps_parse.specs.Steps.{Reads, Outcome, Parser, and_then, sees, after, expect, ◌>>=◌, ◌>>◌, pure}
 use Rattle.ps_parse.specs.ReadExpressions.{sees_operator, eat_operator, group, factor, term_from, term, simple_from}
 use Rattle.ps_parse.specs.ReadExpressions.{simple, compared_from, compared, expr_after, parentheses, read_expr}
 use Rattle.ps_parse.specs.ReadExpressions.{read_factor}
 use Rattle.ps_parse.proofs.Closed.{closed as closed_by}
-use Rattle.ps_parse.proofs.Exact.{same_is, bool_cases}
+use Rattle.ps_parse.proofs.Exact.{same_is}
 use Rattle.ps_parse.proofs.Sides.{lone_factor}
 use Rattle.ps_parse.proofs.Innermost.{behind_operator, innermost}
 
@@ -115,9 +116,6 @@ all_taken most ts r taken =
     let left : parentheses (most - most) r ≡ 0 = ap (λ (m : ℕ). parentheses m r) none in
     (omega (arith, taken.number, left), taken.left)
 
-lt_or_ge : (x y : ℕ) → (x < y) ⊎ (y ≤ x)
-lt_or_ge x y = grind arith
-
 taken_run : (n most : ℕ) (ts : Tokens) → n ≤ most → ((i : ℕ) → i < n → sees k.LeftParen (drop i ts) ≡ true)
     → Taken most ts n (drop n ts)
 taken_run zero most ts le run = nothing_taken most ts
@@ -134,7 +132,7 @@ pub run_taken : (n most : ℕ) (ts : Tokens) → n ≤ most → ((i : ℕ) → i
     → (n < most → sees k.LeftParen (drop n ts) ≡ false) → n ≡ parentheses most ts
 run_taken n most ts le run end =
     let taken = taken_run n most ts le run in
-    elim (lt_or_ge n most) [
+    elim (cases_lt n most) [
       | inl below ↦ (last_taken most n ts (drop n ts) taken (end below)).0
       | inr past ↦ (let whole : n ≡ most = omega arith in
           whole ∙ (all_taken most ts (drop n ts) (subst (λ (j : ℕ). Taken most ts j (drop n ts)) whole taken)).0)
@@ -170,7 +168,7 @@ from_here zero n i at ts us t le h = let stay : i ≡ i + 0 = omega arith in ap 
 from_here (suc m) n i at ts [] t le h = let stay : i ≡ i + 0 = omega arith in ap (opened n at ts t) stay
 from_here (suc m) n i at ts (u ∷ us) t le h =
     let here = drop_here i ts us u t h in
-    elim (bool_cases (same u.kind k.LeftParen)) [
+    elim (cases_Bool (same u.kind k.LeftParen)) [
       | inl is ↦ (let now = h ∙ ap (λ q. token q u.span ∷ us) (same_is u.kind k.LeftParen is)
           ∙ ap (λ (q : Token). token k.LeftParen q.span ∷ us) (sym here.0) in
           let more : parentheses (suc m) (u ∷ us) ≡ suc (parentheses m us) = rw is refl in
@@ -207,7 +205,7 @@ module _ (n : ℕ) (at : Span) (ts : Tokens) (t : Token) (o c m : ℕ) (x : Expr
   unfolding close
   last_level done = let none : o - c ≡ 0 = omega arith in is ∙ ap (λ (i : ℕ). close n at ts t i (m, x) r) none
 
-  pub last_ends : (end : Result Span Fault) (r' : Tokens) → o ≤ c → Reads (expect k.RightParen r) end r' → Reads g
+  pub last_ends : (end : Result Span ReadFailure) (r' : Tokens) → o ≤ c → Reads (expect k.RightParen r) end r' → Reads g
       (result_and end (Ok (f.Group at m x))) r'
   last_ends end r' done h = subst (λ (z : Outcome Factor). Reads z (result_and end (Ok (f.Group at m x))) r')
       (sym (last_level done)) (closed_by (expect k.RightParen r) end (f.Group at m x) r' h)

@@ -30,17 +30,17 @@ use Rattle.ps_parse.proofs.Local.{local_accept, local_operator}
 use Rattle.ps_parse.proofs.LocalStatements.{local_constant}
 use Rattle.ps_parse.proofs.LocalPrograms.{local_names, local_ordinal}
 
-abbrev pub Relation : Type 1
-Relation = (A : Type 0) → ℕ → Outcome A → Outcome A → Outcome A → Type 0
+abbrev pub OutcomeRelation : Type 1
+OutcomeRelation = (A : Type 0) → ℕ → Outcome A → Outcome A → Outcome A → Type 0
 
 -- kept from step to step, where n tokens are left before the first
-pub record Kept (R : Relation) : Type 1 where
+pub record Kept (R : OutcomeRelation) : Type 1 where
   pub alike : {A : Type 0} (n : ℕ) (o : Outcome A) → stop o ≤ n → R A n o o o
   pub steps : {A B : Type 0} (n : ℕ) (o o' o'' : Outcome A) (f g h : A → Parser B) → R A n o o' o''
       → ((x : A) (r : Tokens) → R B (length r) (f x r) (g x r) (h x r)) → R B n (and_then o f) (and_then o' g)
       (and_then o'' h)
 
-module _ (R : Relation) where
+module _ (R : OutcomeRelation) where
   pub record Rel {A : Type 0} (p q s : Parser A) : Type 0 where
     pub at : (ts : Tokens) → R A (length ts) (p ts) (q ts) (s ts)
 
@@ -52,7 +52,7 @@ stops {A} p h ts = go (p ts) refl
     go (Ok q) e = (let one = h.reads ts q.0 q.1 e in omega (arith, ap length one.1, length-append one.0 q.1))
     go (Err n) e = (let one = h.refuses ts n e in omega (arith, ap length one.2, length-append one.0 one.1, one.3))
 
-module _ (R : Relation) (kept : Kept R) where
+module _ (R : OutcomeRelation) (kept : Kept R) where
   pub rel_bind : {A B : Type 0} {p q s : Parser A} {f g h : A → Parser B} → Rel R p q s
       → ((x : A) → Rel R (f x) (g x) (h x)) → Rel R (p >>= f) (q >>= g) (s >>= h)
   rel_bind {p = p} {q = q} {s = s} {f = f} {g = g} {h = h} v w = record {

@@ -16,11 +16,12 @@ use Rattle.ps_parse_grammar.specs.Symbols.{Tokens}
 use Rattle.ps_parse.specs.Steps.{Outcome, Parser, if_some, ◌>>=◌, ◌<$>◌, pure, refuse_from, accept, accept_one}
 use Rattle.ps_parse.specs.ReadPrograms as g
 use Rattle.ps_parse.proofs.LocalPrograms.{local_names, looks_at_constant}
-use Rattle.ps_parse.proofs.Related.{Kept, Rel, Relation, rel_bind, rel_eat, rel_expect, rel_function_named, rel_if}
+use Rattle.ps_parse.proofs.Related.{Kept, Rel, OutcomeRelation, rel_bind, rel_eat, rel_expect, rel_function_named}
+use Rattle.ps_parse.proofs.Related.{rel_if}
 use Rattle.ps_parse.proofs.Related.{rel_if_begins, rel_many, rel_map, rel_next, rel_part, rel_past, rel_procedure}
 use Rattle.ps_parse.proofs.Related.{rel_pure, rel_refuse, rel_same, rel_separated}
 
-module _ (R : Relation) (kept : Kept R) where
+module _ (R : OutcomeRelation) (kept : Kept R) where
   -- ---- blocks
   module _ {x y z : Parser TypeDenoter} (v : Rel R x y z) where
     pub rel_type_definition : Rel R (g.type_definition x) (g.type_definition y) (g.type_definition z)

@@ -7,8 +7,8 @@ use Rattle.ps_scan.specs.declared.token.Kind.{Kind}
 use Rattle.ps_scan.specs.declared.token.Token.{Token}
 use Rattle.ps_scan.specs.Kinds.{same}
 use Rattle.ps_parse_grammar.specs.Symbols.{Tokens}
-use Rattle.ps_parse.specs.declared.error.Fault.{Fault}
-use Rattle.ps_parse.specs.declared.error.Fault.TheVariants.{OutOfMemory, Unexpected}
+use Rattle.ps_parse.specs.declared.error.ReadFailure.{ReadFailure}
+use Rattle.ps_parse.specs.declared.error.ReadFailure.TheVariants.{OutOfMemory, Unexpected}
 
 abbrev pub Outcome : Type 0 → Type 0
 Outcome A = Result (A × Tokens) ℕ
@@ -147,11 +147,11 @@ stop (Ok q) = length q.1
 stop (Err n) = n
 
 -- the number of tokens left from the one on at which a fault is reported
-abbrev pub left_of : Fault → ℕ
+abbrev pub left_of : ReadFailure → ℕ
 left_of OutOfMemory = 0
 left_of (Unexpected left) = left
 
 -- A function that parses returns what the parser reads, and refuses exactly where it refuses, unless memory runs out.
-abbrev pub Reads : {A : Type 0} → Outcome A → Result A Fault → Tokens → Type 0
+abbrev pub Reads : {A : Type 0} → Outcome A → Result A ReadFailure → Tokens → Type 0
 Reads outcome (Ok a) new = outcome ≡ Ok (a, new)
 Reads outcome (Err e) new = e ≢ OutOfMemory → outcome ≡ Err (left_of e)

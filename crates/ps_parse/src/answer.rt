@@ -1,14 +1,17 @@
 //! Combines the answers of calls that may fail. What an answer holds is passed on as it is, whatever its type.
 
 ghost use Rattle.std.specs.Prelude.{◌≡◌, ◌≢◌, ◌++◌, ◌∷◌, [], OnOk, IfOk, IfErr, IsOkAnd, Ok, Err};
-ghost use Rattle.ps_parse.specs.declared.error.Fault.TheVariants.{OutOfMemory};
+ghost use Rattle.ps_parse.specs.declared.error.ReadFailure.TheVariants.{OutOfMemory};
 
-use crate::error::Fault;
+use crate::error::ReadFailure;
 use ps_syntax::{Boxed, Items};
 use std::alloc::Global;
 
 /// Adds what an answer holds to a list.
-pub fn push_answer<A: Drop>(list: &mut Items<A>, answer: Result<A, Fault>) -> Result<(), Fault>
+pub fn push_answer<A: Drop>(
+    list: &mut Items<A>,
+    answer: Result<A, ReadFailure>,
+) -> Result<(), ReadFailure>
     ensures ok { OnOk result (IsOkAnd answer (λ item. list.new ≡ list.old ++ item ∷ [])) }
     ensures err { IfErr result (λ fault. fault ≢ OutOfMemory → answer ≡ Err fault) }
 {
@@ -17,7 +20,10 @@ pub fn push_answer<A: Drop>(list: &mut Items<A>, answer: Result<A, Fault>) -> Re
 }
 
 /// What an answer holds, on the heap.
-pub fn boxed_answer<A: Drop>(alloc: Global, answer: Result<A, Fault>) -> Result<Boxed<A>, Fault>
+pub fn boxed_answer<A: Drop>(
+    alloc: Global,
+    answer: Result<A, ReadFailure>,
+) -> Result<Boxed<A>, ReadFailure>
     ensures ok { IfOk result (λ value. answer ≡ Ok value) }
     ensures err { IfErr result (λ fault. fault ≢ OutOfMemory → answer ≡ Err fault) }
 {
@@ -25,7 +31,10 @@ pub fn boxed_answer<A: Drop>(alloc: Global, answer: Result<A, Fault>) -> Result<
 }
 
 /// A value, and what an answer holds.
-pub fn beside<A: Drop, B: Drop>(value: A, answer: Result<B, Fault>) -> Result<(A, B), Fault>
+pub fn beside<A: Drop, B: Drop>(
+    value: A,
+    answer: Result<B, ReadFailure>,
+) -> Result<(A, B), ReadFailure>
     ensures first { IfOk result (λ pair. value ≡ pair.0) }
     ensures second { IfOk result (λ pair. answer ≡ Ok pair.1) }
     ensures err { IfErr result (λ fault. answer ≡ Err fault) }

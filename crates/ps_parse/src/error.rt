@@ -103,18 +103,18 @@ impl ParseRefusal {
 /// Why a part of the parser read nothing: memory ran out, or it can't take a token, which is given by the number of
 /// tokens left from it on.
 #[derive(Clone, Copy)]
-pub enum Fault {
+pub enum ReadFailure {
     OutOfMemory,
     Unexpected(usize),
 }
 
-impl From<AllocError> for Fault {
+impl From<AllocError> for ReadFailure {
     ghost use Rattle.std.specs.Prelude.{◌≡◌};
-    ghost use Rattle.ps_parse.specs.declared.error.Fault.TheVariants.{OutOfMemory};
+    ghost use Rattle.ps_parse.specs.declared.error.ReadFailure.TheVariants.{OutOfMemory};
 
     ghost from_gives = { λ _ e. e ≡ OutOfMemory };
 
-    fn from(_: AllocError) -> Fault {
-        Fault::OutOfMemory
+    fn from(_: AllocError) -> ReadFailure {
+        ReadFailure::OutOfMemory
     }
 }

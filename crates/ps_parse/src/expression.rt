@@ -6,12 +6,12 @@ ghost use Rattle.ps_parse.specs.Steps.{Reads, sees, separated, many};
 ghost use Rattle.ps_parse.specs.ReadExpressions as read;
 
 use crate::answer::{beside, boxed_answer, push_answer};
-use crate::error::Fault;
+use crate::error::ReadFailure;
 use crate::parser::Parser;
 use ps_scan::{Kind, Token, is};
 use ps_syntax::{
-    AddedTerm, Adding, Boxed, Expr, Factor, Items, Member, MultipliedFactor, Multiplying, Relation,
-    Selector, Sign, Simple, Term, Variable,
+    AddedTerm, Adding, Boxed, Expr, Factor, Items, Member, MultipliedFactor, Multiplying,
+    Relational, Selector, Sign, Simple, Term, Variable,
 };
 use ps_text::Span;
 
@@ -33,20 +33,20 @@ fn run_of(tokens: &[Token], kind: Kind, most: u32) -> u32
 
 impl<'a> Parser<'a> {
     #[tactic(auto, unfolding(crate::specs::ReadExpressions::eat_operator))]
-    fn relation(&mut self) -> Option<(Relation, Span)>
+    fn relation(&mut self) -> Option<(Relational, Span)>
         ensures read { read.eat_operator read.relation_of self.old.rest.now ≡ Ok (result, self.new.rest.now) }
     {
         let [token, rest @ ..] = self.rest else {
             return None;
         };
         let relation = match token.kind {
-            Kind::Equal => Relation::Equal,
-            Kind::NotEqual => Relation::NotEqual,
-            Kind::Less => Relation::Less,
-            Kind::Greater => Relation::Greater,
-            Kind::LessEqual => Relation::LessEqual,
-            Kind::GreaterEqual => Relation::GreaterEqual,
-            Kind::In => Relation::In,
+            Kind::Equal => Relational::Equal,
+            Kind::NotEqual => Relational::NotEqual,
+            Kind::Less => Relational::Less,
+            Kind::Greater => Relational::Greater,
+            Kind::LessEqual => Relational::LessEqual,
+            Kind::GreaterEqual => Relational::GreaterEqual,
+            Kind::In => Relational::In,
             _ => return None,
         };
         self.rest = rest;
@@ -135,7 +135,7 @@ impl<'a> Parser<'a> {
 
     #[cycle(expression)]
     #[tactic(auto, unfolding(crate::specs::ReadExpressions::member, crate::specs::Steps::eat))]
-    fn member(&mut self, depth: u32) -> Result<Member, Fault>
+    fn member(&mut self, depth: u32) -> Result<Member, ReadFailure>
         ensures { Reads (read.member (read.read_expr depth) self.old.rest.now) result self.new.rest.now }
     {
         let first = self.boxed_expr(depth)?;
@@ -149,7 +149,7 @@ impl<'a> Parser<'a> {
     /// A factor alone is returned here, where no part is held while another is read.
     #[cycle(expression)]
     #[tactic(auto, unfolding(crate::specs::ReadExpressions::read_expr, crate::specs::ReadExpressions::compared, crate::specs::ReadExpressions::simple, crate::specs::ReadExpressions::term))]
-    pub fn expr(&mut self, depth: u32) -> Result<Expr, Fault>
+    pub fn expr(&mut self, depth: u32) -> Result<Expr, ReadFailure>
         ensures { Reads (read.read_expr depth self.old.rest.now) result self.new.rest.now }
     {
         if depth == 0 {
@@ -175,7 +175,7 @@ impl<'a> Parser<'a> {
         depth: u32,
         sign: Option<(Sign, Span)>,
         first: Factor,
-    ) -> Result<Expr, Fault>
+    ) -> Result<Expr, ReadFailure>
         ensures { Reads (read.expr_after (read.read_factor depth) sign first self.old.rest.now) result self.new.rest.now }
     {
         let left = self.simple_from(depth, sign, first)?;
@@ -191,7 +191,7 @@ impl<'a> Parser<'a> {
     /// The simple expression after a relation, allocated on the heap.
     #[cycle(expression)]
     #[tactic(auto, unfolding(crate::specs::ReadExpressions::simple, crate::specs::ReadExpressions::term))]
-    fn right_side(&mut self, depth: u32) -> Result<Boxed<Simple>, Fault>
+    fn right_side(&mut self, depth: u32) -> Result<Boxed<Simple>, ReadFailure>
         ensures { Reads (read.simple (read.term (read.read_factor depth)) self.old.rest.now) result self.new.rest.now }
     {
         let sign = self.sign();
@@ -203,7 +203,7 @@ impl<'a> Parser<'a> {
     /// parentheses passes only the factor up.
     #[cycle(expression)]
     #[tactic(auto, unfolding(crate::specs::ReadExpressions::read_expr, crate::specs::ReadExpressions::compared, crate::specs::ReadExpressions::simple, crate::specs::ReadExpressions::term))]
-    pub fn boxed_expr(&mut self, depth: u32) -> Result<Boxed<Expr>, Fault>
+    pub fn boxed_expr(&mut self, depth: u32) -> Result<Boxed<Expr>, ReadFailure>
         ensures { Reads (read.read_expr depth self.old.rest.now) result self.new.rest.now }
     {
         if depth == 0 {
@@ -231,7 +231,7 @@ impl<'a> Parser<'a> {
         depth: u32,
         sign: Option<(Sign, Span)>,
         first: Factor,
-    ) -> Result<Boxed<Expr>, Fault>
+    ) -> Result<Boxed<Expr>, ReadFailure>
         ensures { Reads (read.expr_after (read.read_factor depth) sign first self.old.rest.now) result self.new.rest.now }
     {
         boxed_answer(self.alloc, self.expr_from(depth, sign, first))
@@ -244,7 +244,7 @@ impl<'a> Parser<'a> {
         depth: u32,
         sign: Option<(Sign, Span)>,
         first: Factor,
-    ) -> Result<Simple, Fault>
+    ) -> Result<Simple, ReadFailure>
         ensures { Reads (read.simple_after (read.read_factor depth) sign first self.old.rest.now) result
             self.new.rest.now }
     {
@@ -254,7 +254,7 @@ impl<'a> Parser<'a> {
     }
 
     #[cycle(expression)]
-    fn terms(&mut self, depth: u32) -> Result<Items<AddedTerm>, Fault>
+    fn terms(&mut self, depth: u32) -> Result<Items<AddedTerm>, ReadFailure>
         ensures { Reads (many (read.added (read.term (read.read_factor depth))) self.old.rest.now) result
             self.new.rest.now }
     {
@@ -269,7 +269,7 @@ impl<'a> Parser<'a> {
 
     /// A term whose first factor has been read.
     #[cycle(expression)]
-    fn term_from(&mut self, depth: u32, first: Factor) -> Result<Term, Fault>
+    fn term_from(&mut self, depth: u32, first: Factor) -> Result<Term, ReadFailure>
         ensures { Reads (read.term_from (read.read_factor depth) first self.old.rest.now) result self.new.rest.now }
     {
         let (first, more) = beside(first, self.factors(depth))?;
@@ -277,7 +277,7 @@ impl<'a> Parser<'a> {
     }
 
     #[cycle(expression)]
-    fn factors(&mut self, depth: u32) -> Result<Items<MultipliedFactor>, Fault>
+    fn factors(&mut self, depth: u32) -> Result<Items<MultipliedFactor>, ReadFailure>
         ensures { Reads (many (read.multiplied (read.read_factor depth)) self.old.rest.now) result self.new.rest.now }
     {
         let mut found = Items::new(self.alloc);
@@ -294,7 +294,7 @@ impl<'a> Parser<'a> {
 
     #[cycle(expression)]
     #[tactic(auto, unfolding(crate::specs::ReadExpressions::factor, crate::specs::ReadExpressions::read_negated))]
-    fn factor(&mut self, depth: u32) -> Result<Factor, Fault>
+    fn factor(&mut self, depth: u32) -> Result<Factor, ReadFailure>
         ensures { Reads (read.read_factor depth self.old.rest.now) result self.new.rest.now }
     {
         let Some(token) = self.peek() else {
@@ -335,7 +335,7 @@ impl<'a> Parser<'a> {
 
     #[cycle(expression)]
     #[tactic(auto, unfolding(crate::specs::ReadExpressions::read_negated))]
-    fn negated(&mut self, depth: u32) -> Result<Boxed<Factor>, Fault>
+    fn negated(&mut self, depth: u32) -> Result<Boxed<Factor>, ReadFailure>
         ensures { Reads (read.read_negated depth self.old.rest.now) result self.new.rest.now }
     {
         if depth == 0 {
@@ -372,7 +372,7 @@ impl<'a> Parser<'a> {
     /// A group after its parenthesis. The parentheses that come next are taken at once and closed one by one, so that
     /// parentheses directly within others need no call and no memory of their own.
     #[cycle(expression)]
-    fn group(&mut self, depth: u32, at: Span) -> Result<Factor, Fault>
+    fn group(&mut self, depth: u32, at: Span) -> Result<Factor, ReadFailure>
         ensures { Reads (read.group (read.read_expr depth) at self.old.rest.now) result self.new.rest.now }
     {
         let tokens = self.rest;
@@ -396,7 +396,7 @@ impl<'a> Parser<'a> {
 
     #[cycle(expression)]
     #[tactic(auto, using(crate::proofs::Closed::closed), unfolding(crate::specs::ReadExpressions::set, crate::specs::Steps::eat))]
-    fn set(&mut self, depth: u32, at: Span) -> Result<Factor, Fault>
+    fn set(&mut self, depth: u32, at: Span) -> Result<Factor, ReadFailure>
         ensures { Reads (read.set (read.read_expr depth) at self.old.rest.now) result self.new.rest.now }
     {
         let mut members = Items::new(self.alloc);
@@ -414,7 +414,7 @@ impl<'a> Parser<'a> {
 
     #[cycle(expression)]
     #[tactic(auto, using(crate::proofs::Closed::closed), unfolding(crate::specs::ReadExpressions::named, crate::specs::ReadExpressions::call, crate::specs::ReadExpressions::variable, crate::specs::Steps::eat))]
-    fn named(&mut self, depth: u32, at: Span) -> Result<Factor, Fault>
+    fn named(&mut self, depth: u32, at: Span) -> Result<Factor, ReadFailure>
         ensures { Reads (read.named (read.read_expr depth) at self.old.rest.now) result self.new.rest.now }
     {
         if self.eat(Kind::LeftParen) {
@@ -430,7 +430,7 @@ impl<'a> Parser<'a> {
     }
 
     #[cycle(expression)]
-    pub fn selectors(&mut self, depth: u32) -> Result<Items<Selector>, Fault>
+    pub fn selectors(&mut self, depth: u32) -> Result<Items<Selector>, ReadFailure>
         ensures { Reads (many (read.selector (read.read_expr depth)) self.old.rest.now) result self.new.rest.now }
     {
         let mut found = Items::new(self.alloc);
@@ -442,7 +442,7 @@ impl<'a> Parser<'a> {
 
     #[cycle(expression)]
     #[tactic(auto, using(crate::proofs::Closed::closed_some), unfolding(crate::specs::ReadExpressions::selector, crate::specs::ReadExpressions::index))]
-    fn selector(&mut self, depth: u32) -> Result<Option<Selector>, Fault>
+    fn selector(&mut self, depth: u32) -> Result<Option<Selector>, ReadFailure>
         ensures { Reads (read.selector (read.read_expr depth) self.old.rest.now) result self.new.rest.now }
     {
         let Some(token) = self.peek() else {
@@ -468,7 +468,7 @@ impl<'a> Parser<'a> {
     }
 
     #[cycle(expression)]
-    fn exprs(&mut self, depth: u32) -> Result<Items<Expr>, Fault>
+    fn exprs(&mut self, depth: u32) -> Result<Items<Expr>, ReadFailure>
         ensures { Reads (separated k.Comma (read.read_expr depth) self.old.rest.now) result self.new.rest.now }
     {
         let mut found = Items::new(self.alloc);

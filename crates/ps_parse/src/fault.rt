@@ -1,14 +1,14 @@
 //! Why tokens are refused: some of them are read again, with the next token or with what could be in its place.
 
 ghost use Rattle.std.specs.Prelude.{◌≡◌, ◌≢◌, ◌+◌, ◌-◌, ◌≤◌, ◌↔◌, ◌++◌, true, length, IfOk};
-ghost use Rattle.ps_parse.specs.declared.error.Fault.TheVariants as faults;
+ghost use Rattle.ps_parse.specs.declared.error.ReadFailure.TheVariants as faults;
 ghost use Rattle.ps_parse.specs.Steps.{left_of, stop};
 ghost use Rattle.ps_parse.specs.Reading.{reading};
 ghost use Rattle.ps_parse.specs.Refusals.{refusal_at};
 ghost use Rattle.ps_parse.specs.Begun.{Begins};
 ghost use Rattle.ps_parse.specs.Untaken.{NoneTakesAt, IsLeftOut, IsFault, IsTold};
 
-use crate::error::{Fault, ParseFault, ParseRefusal};
+use crate::error::{ParseFault, ParseRefusal, ReadFailure};
 use crate::left_out::{followed_by, in_place_of};
 use crate::parser::Parser;
 use ps_parse_grammar::MAX_HEIGHT;
@@ -17,13 +17,18 @@ use ps_text::{Source, Span};
 use std::alloc::{AllocError, Global};
 
 /// The refusal of a fault.
-pub fn refusal_of(alloc: Global, source: &Source, tokens: &[Token], fault: Fault) -> ParseRefusal
+pub fn refusal_of(
+    alloc: Global,
+    source: &Source,
+    tokens: &[Token],
+    fault: ReadFailure,
+) -> ParseRefusal
     requires stopped { fault ≢ faults.OutOfMemory → stop (reading source.now 500 tokens.now) ≡ left_of fault }
     requires untaken { fault ≢ faults.OutOfMemory → NoneTakesAt source.now tokens.now
         (length tokens.now - left_of fault) }
     ensures { IsTold source.now tokens.now result }
 {
-    let Fault::Unexpected(left) = fault else {
+    let ReadFailure::Unexpected(left) = fault else {
         return ParseRefusal::OutOfMemory;
     };
     let at = tokens.len().saturating_sub(left);
@@ -96,8 +101,8 @@ fn begins(alloc: Global, text: &[u8], before: &[Token], more: &[Token]) -> Resul
             drop(program);
             Ok(parser.left() == 0)
         }
-        Err(Fault::Unexpected(left)) => Ok(left == 0),
-        Err(Fault::OutOfMemory) => Err(AllocError),
+        Err(ReadFailure::Unexpected(left)) => Ok(left == 0),
+        Err(ReadFailure::OutOfMemory) => Err(AllocError),
     }
 }
 

@@ -4,9 +4,9 @@ ghost use Rattle.std.specs.Prelude.{◌≡◌, ◌≢◌, ◌⊎◌, length, Som
 ghost use Rattle.ps_text.specs.declared.Span.{Span};
 ghost use Rattle.ps_parse.specs.Steps as spec;
 ghost use Rattle.ps_parse.specs.Steps.{Reads};
-ghost use Rattle.ps_parse.specs.declared.error.Fault.TheVariants.{OutOfMemory};
+ghost use Rattle.ps_parse.specs.declared.error.ReadFailure.TheVariants.{OutOfMemory};
 
-use crate::error::Fault;
+use crate::error::ReadFailure;
 use ps_scan::{Kind, Token, is};
 use ps_text::Span;
 use std::alloc::Global;
@@ -25,11 +25,11 @@ impl<'a> Parser<'a> {
     }
 
     /// The next token is one that no rule takes here.
-    pub fn refusal(&self) -> Fault
+    pub fn refusal(&self) -> ReadFailure
         ensures left { spec.left_of result ≡ length self.now.rest.now }
         ensures memory { result ≢ OutOfMemory }
     {
-        Fault::Unexpected(self.rest.len())
+        ReadFailure::Unexpected(self.rest.len())
     }
 
     pub fn peek(&self) -> Option<Token>
@@ -89,7 +89,7 @@ impl<'a> Parser<'a> {
     }
 
     #[tactic(auto, unfolding(crate::specs::Steps::expect))]
-    pub fn expect(&mut self, kind: Kind) -> Result<Span, Fault>
+    pub fn expect(&mut self, kind: Kind) -> Result<Span, ReadFailure>
         ensures read { Reads (spec.expect kind self.old.rest.now) result self.new.rest.now }
     {
         match self.rest {
@@ -102,7 +102,11 @@ impl<'a> Parser<'a> {
     }
 
     /// What was read, if a token of this kind comes next, which is taken too.
-    pub fn followed_by<A: Drop>(&mut self, kind: Kind, read: Result<A, Fault>) -> Result<A, Fault>
+    pub fn followed_by<A: Drop>(
+        &mut self,
+        kind: Kind,
+        read: Result<A, ReadFailure>,
+    ) -> Result<A, ReadFailure>
         ensures ok { IfOk result (λ value. (read ≡ Ok value) × (at : Span)
             × (spec.expect kind self.old.rest.now ≡ Ok (at, self.new.rest.now))) }
         ensures err { IfErr result (λ fault. fault ≢ OutOfMemory → (read ≡ Err fault)

@@ -9,7 +9,7 @@ ghost use Rattle.ps_parse.specs.ReadPrograms as read;
 ghost use Rattle.ps_parse_grammar.specs.Forward.{is_forward};
 
 use crate::answer::{beside, push_answer};
-use crate::error::Fault;
+use crate::error::ReadFailure;
 use crate::parser::Parser;
 use ps_scan::Kind;
 use ps_syntax::{
@@ -20,7 +20,7 @@ use ps_text::Span;
 impl<'a> Parser<'a> {
     #[cycle(heading)]
     #[tactic(auto, unfolding(crate::specs::ReadPrograms::optional_formals))]
-    fn optional_formals(&mut self, depth: u32) -> Result<Items<Section>, Fault>
+    fn optional_formals(&mut self, depth: u32) -> Result<Items<Section>, ReadFailure>
         ensures { Reads (read.optional_formals (read.read_formals depth) self.old.rest.now) result self.new.rest.now }
     {
         if self.sees(Kind::LeftParen) {
@@ -32,7 +32,7 @@ impl<'a> Parser<'a> {
 
     #[cycle(heading)]
     #[tactic(auto, unfolding(crate::specs::ReadPrograms::procedure))]
-    fn procedure(&mut self, depth: u32) -> Result<Heading, Fault>
+    fn procedure(&mut self, depth: u32) -> Result<Heading, ReadFailure>
         ensures { Reads (read.procedure (read.read_formals depth) self.old.rest.now) result self.new.rest.now }
     {
         let name = self.expect(Kind::Name)?;
@@ -41,7 +41,7 @@ impl<'a> Parser<'a> {
 
     #[cycle(heading)]
     #[tactic(auto, unfolding(crate::specs::ReadPrograms::function_named))]
-    fn function_named(&mut self, depth: u32, name: Span) -> Result<Heading, Fault>
+    fn function_named(&mut self, depth: u32, name: Span) -> Result<Heading, ReadFailure>
         ensures { Reads (read.function_named (read.read_formals depth) name self.old.rest.now) result self.new.rest.now }
     {
         let read = self.optional_formals(depth);
@@ -50,7 +50,7 @@ impl<'a> Parser<'a> {
     }
 
     /// A section of names and their type, after the word `var` if they are variable parameters.
-    fn plain_section(&mut self, depth: u32, are_variable: bool) -> Result<Section, Fault>
+    fn plain_section(&mut self, depth: u32, are_variable: bool) -> Result<Section, ReadFailure>
         ensures { Reads (read.plain_section (read.read_formals depth)
             (if are_variable then x.Variable else x.Value) self.old.rest.now) result self.new.rest.now }
     {
@@ -66,7 +66,7 @@ impl<'a> Parser<'a> {
 
     #[cycle(heading)]
     #[tactic(auto, unfolding(crate::specs::ReadPrograms::section, crate::specs::ReadPrograms::function, crate::specs::ReadPrograms::value_section, crate::specs::ReadPrograms::variable_section))]
-    fn section(&mut self, depth: u32) -> Result<Section, Fault>
+    fn section(&mut self, depth: u32) -> Result<Section, ReadFailure>
         ensures { Reads (read.section (read.read_formals depth) self.old.rest.now) result self.new.rest.now }
     {
         let Some(token) = self.peek() else {
@@ -92,7 +92,7 @@ impl<'a> Parser<'a> {
 
     #[cycle(heading)]
     #[tactic(auto, unfolding(crate::specs::ReadPrograms::read_formals, crate::specs::ReadPrograms::formal_list))]
-    fn formals(&mut self, depth: u32) -> Result<Items<Section>, Fault>
+    fn formals(&mut self, depth: u32) -> Result<Items<Section>, ReadFailure>
         ensures { Reads (read.read_formals depth self.old.rest.now) result self.new.rest.now }
     {
         if depth == 0 {
@@ -110,7 +110,7 @@ impl<'a> Parser<'a> {
     }
 
     #[tactic(auto, using(crate::proofs::Closed::closed), unfolding(crate::specs::ReadPrograms::constant_definition))]
-    fn constant_definition(&mut self) -> Result<ConstantDefinition, Fault>
+    fn constant_definition(&mut self) -> Result<ConstantDefinition, ReadFailure>
         ensures { Reads (read.constant_definition self.old.rest.now) result self.new.rest.now }
     {
         let read = self.expect(Kind::Name);
@@ -121,7 +121,7 @@ impl<'a> Parser<'a> {
     }
 
     #[tactic(auto, using(crate::proofs::Closed::closed), unfolding(crate::specs::ReadPrograms::type_definition))]
-    fn type_definition(&mut self, depth: u32) -> Result<TypeDefinition, Fault>
+    fn type_definition(&mut self, depth: u32) -> Result<TypeDefinition, ReadFailure>
         ensures { Reads (read.type_definition (read.read_type depth) self.old.rest.now) result self.new.rest.now }
     {
         let read = self.expect(Kind::Name);
@@ -132,7 +132,7 @@ impl<'a> Parser<'a> {
     }
 
     #[tactic(auto, using(crate::proofs::Closed::closed), unfolding(crate::specs::ReadPrograms::variables))]
-    fn declared_variables(&mut self, depth: u32) -> Result<Variables, Fault>
+    fn declared_variables(&mut self, depth: u32) -> Result<Variables, ReadFailure>
         ensures { Reads (read.variables (read.read_type depth) self.old.rest.now) result self.new.rest.now }
     {
         let read = self.names();
@@ -142,7 +142,7 @@ impl<'a> Parser<'a> {
         end.and(Ok(Variables { names, ty }))
     }
 
-    fn constant_part(&mut self) -> Result<Items<ConstantDefinition>, Fault>
+    fn constant_part(&mut self) -> Result<Items<ConstantDefinition>, ReadFailure>
         ensures { Reads (part k.Const read.begins_name read.constant_definition self.old.rest.now) result
             self.new.rest.now }
     {
@@ -155,7 +155,7 @@ impl<'a> Parser<'a> {
         Ok(found)
     }
 
-    fn type_part(&mut self, depth: u32) -> Result<Items<TypeDefinition>, Fault>
+    fn type_part(&mut self, depth: u32) -> Result<Items<TypeDefinition>, ReadFailure>
         ensures { Reads (part k.Type read.begins_name (read.type_definition (read.read_type depth)) self.old.rest.now)
             result self.new.rest.now }
     {
@@ -168,7 +168,7 @@ impl<'a> Parser<'a> {
         Ok(found)
     }
 
-    fn variable_part(&mut self, depth: u32) -> Result<Items<Variables>, Fault>
+    fn variable_part(&mut self, depth: u32) -> Result<Items<Variables>, ReadFailure>
         ensures { Reads (part k.Var read.begins_name (read.variables (read.read_type depth)) self.old.rest.now) result
             self.new.rest.now }
     {
@@ -189,14 +189,19 @@ impl<'a> Parser<'a> {
 
     #[cycle(block)]
     #[tactic(auto, unfolding(crate::specs::ReadPrograms::after_heading))]
-    fn after_heading(&mut self, text: &[u8], depth: u32, heading: Heading) -> Result<Routine, Fault>
+    fn after_heading(
+        &mut self,
+        text: &[u8],
+        depth: u32,
+        heading: Heading,
+    ) -> Result<Routine, ReadFailure>
         ensures { Reads (read.after_heading (is_forward text.now) (read.read_formals depth)
             (read.read_block (is_forward text.now) depth) heading self.old.rest.now) result self.new.rest.now }
     {
         let left = self.left();
         match self.accept(Kind::Name) {
             Some(at) if names_forward(text, at) => Ok(Routine::Forward(heading)),
-            Some(_) => Err(Fault::Unexpected(left)),
+            Some(_) => Err(ReadFailure::Unexpected(left)),
             None => {
                 let (heading, block) = beside(heading, self.block(text, depth))?;
                 Ok(Routine::Whole(heading, block))
@@ -206,7 +211,7 @@ impl<'a> Parser<'a> {
 
     #[cycle(block)]
     #[tactic(auto, unfolding(crate::specs::ReadPrograms::procedure_routine))]
-    fn procedure_routine(&mut self, text: &[u8], depth: u32) -> Result<Routine, Fault>
+    fn procedure_routine(&mut self, text: &[u8], depth: u32) -> Result<Routine, ReadFailure>
         ensures { Reads (read.procedure_routine (is_forward text.now) (read.read_formals depth)
             (read.read_block (is_forward text.now) depth) self.old.rest.now) result self.new.rest.now }
     {
@@ -217,7 +222,7 @@ impl<'a> Parser<'a> {
 
     #[cycle(block)]
     #[tactic(auto, unfolding(crate::specs::ReadPrograms::function_routine, crate::specs::Steps::eat))]
-    fn function_routine(&mut self, text: &[u8], depth: u32) -> Result<Routine, Fault>
+    fn function_routine(&mut self, text: &[u8], depth: u32) -> Result<Routine, ReadFailure>
         ensures { Reads (read.function_routine (is_forward text.now) (read.read_formals depth)
             (read.read_block (is_forward text.now) depth) self.old.rest.now) result self.new.rest.now }
     {
@@ -232,7 +237,7 @@ impl<'a> Parser<'a> {
 
     #[cycle(block)]
     #[tactic(auto, unfolding(crate::specs::ReadPrograms::routine_head))]
-    fn routine_head(&mut self, text: &[u8], depth: u32) -> Result<Routine, Fault>
+    fn routine_head(&mut self, text: &[u8], depth: u32) -> Result<Routine, ReadFailure>
         ensures { Reads (read.routine_head (is_forward text.now) (read.read_formals depth)
             (read.read_block (is_forward text.now) depth) self.old.rest.now) result self.new.rest.now }
     {
@@ -254,7 +259,7 @@ impl<'a> Parser<'a> {
 
     #[cycle(block)]
     #[tactic(auto, using(crate::proofs::Closed::closed), unfolding(crate::specs::ReadPrograms::routine))]
-    fn routine(&mut self, text: &[u8], depth: u32) -> Result<Routine, Fault>
+    fn routine(&mut self, text: &[u8], depth: u32) -> Result<Routine, ReadFailure>
         ensures { Reads (read.routine (is_forward text.now) (read.read_formals depth)
             (read.read_block (is_forward text.now) depth) self.old.rest.now) result self.new.rest.now }
     {
@@ -264,7 +269,7 @@ impl<'a> Parser<'a> {
     }
 
     #[cycle(block)]
-    fn routines(&mut self, text: &[u8], depth: u32) -> Result<Items<Routine>, Fault>
+    fn routines(&mut self, text: &[u8], depth: u32) -> Result<Items<Routine>, ReadFailure>
         ensures { Reads (many (if_begins read.begins_routine
             (read.routine (is_forward text.now) (read.read_formals depth)
             (read.read_block (is_forward text.now) depth))) self.old.rest.now) result self.new.rest.now }
@@ -278,7 +283,7 @@ impl<'a> Parser<'a> {
 
     #[cycle(block)]
     #[tactic(auto, using(crate::proofs::Closed::closed), unfolding(crate::specs::ReadPrograms::any_block))]
-    fn any_block(&mut self, text: &[u8], depth: u32) -> Result<Block, Fault>
+    fn any_block(&mut self, text: &[u8], depth: u32) -> Result<Block, ReadFailure>
         ensures { Reads (read.any_block (is_forward text.now) (read.read_type depth) (read.read_formals depth)
             (read_statement depth) (read.read_block (is_forward text.now) depth) self.old.rest.now) result
             self.new.rest.now }
@@ -302,7 +307,7 @@ impl<'a> Parser<'a> {
 
     #[cycle(block)]
     #[tactic(auto, unfolding(crate::specs::ReadPrograms::read_block))]
-    fn block(&mut self, text: &[u8], depth: u32) -> Result<Block, Fault>
+    fn block(&mut self, text: &[u8], depth: u32) -> Result<Block, ReadFailure>
         ensures { Reads (read.read_block (is_forward text.now) depth self.old.rest.now) result self.new.rest.now }
     {
         if depth == 0 {
@@ -312,7 +317,7 @@ impl<'a> Parser<'a> {
     }
 
     #[tactic(auto, using(crate::proofs::Closed::closed), unfolding(crate::specs::ReadPrograms::program_names, crate::specs::Steps::eat))]
-    fn program_names(&mut self, text: &[u8], depth: u32) -> Result<Items<Span>, Fault>
+    fn program_names(&mut self, text: &[u8], depth: u32) -> Result<Items<Span>, ReadFailure>
         ensures { Reads (read.program_names (is_forward text.now)
             (read.read_block (is_forward text.now) depth) self.old.rest.now) result self.new.rest.now }
     {
@@ -325,7 +330,7 @@ impl<'a> Parser<'a> {
     }
 
     #[tactic(auto, using(crate::proofs::Closed::closed), unfolding(crate::specs::ReadPrograms::program))]
-    pub fn program(&mut self, text: &[u8], depth: u32) -> Result<Program, Fault>
+    pub fn program(&mut self, text: &[u8], depth: u32) -> Result<Program, ReadFailure>
         ensures { Reads (read.program (is_forward text.now)
             (read.read_block (is_forward text.now) depth) self.old.rest.now) result self.new.rest.now }
     {

@@ -2,13 +2,13 @@
 
 ghost use Rattle.std.specs.Prelude.{◌≡◌, ◌≢◌, ◌-◌, length, IfOk, IfErr};
 ghost use Rattle.ps_syntax.specs.declared.program.Program.{Program};
-ghost use Rattle.ps_parse.specs.declared.error.Fault.TheVariants.{OutOfMemory};
+ghost use Rattle.ps_parse.specs.declared.error.ReadFailure.TheVariants.{OutOfMemory};
 ghost use Rattle.ps_parse_grammar.specs.Trees.{IsTreeOf};
 ghost use Rattle.ps_parse.specs.Steps.{left_of, stop};
 ghost use Rattle.ps_parse.specs.Reading.{reading};
 ghost use Rattle.ps_parse.specs.Untaken.{NoneTakesAt, IsTold};
 
-use crate::error::{Fault, ParseRefusal};
+use crate::error::{ParseRefusal, ReadFailure};
 use crate::fault::refusal_of;
 use crate::parser::Parser;
 use ps_parse_grammar::MAX_HEIGHT;
@@ -42,7 +42,7 @@ pub fn release(tree: Program) {
 }
 
 /// The program that all the tokens together are.
-fn whole_program(alloc: Global, text: &[u8], tokens: &[Token]) -> Result<Program, Fault>
+fn whole_program(alloc: Global, text: &[u8], tokens: &[Token]) -> Result<Program, ReadFailure>
     ensures derives { IfOk result (IsTreeOf text.now tokens.now) }
     ensures only { IfOk result (λ p. (other : Program) → IsTreeOf text.now tokens.now other → other ≡ p) }
     ensures stopped { IfErr result (λ e. e ≢ OutOfMemory → stop (reading text.now 500 tokens.now) ≡ left_of e) }

@@ -7,7 +7,7 @@ ghost use Rattle.ps_parse.specs.ReadExpressions as expression;
 ghost use Rattle.ps_parse.specs.ReadStatements as read;
 
 use crate::answer::{beside, boxed_answer, push_answer};
-use crate::error::Fault;
+use crate::error::ReadFailure;
 use crate::parser::Parser;
 use ps_scan::{Kind, Token};
 use ps_syntax::{Boxed, Constant, Direction, Element, Items, Parameter, Statement, Variable};
@@ -31,7 +31,7 @@ impl<'a> Parser<'a> {
     }
 
     #[tactic(auto, unfolding(crate::specs::ReadStatements::constant, crate::specs::ReadStatements::operand))]
-    pub fn constant(&mut self) -> Result<Constant, Fault>
+    pub fn constant(&mut self) -> Result<Constant, ReadFailure>
         ensures { Reads (read.constant self.old.rest.now) result self.new.rest.now }
     {
         if let Some(at) = self.accept(Kind::Text) {
@@ -54,7 +54,7 @@ impl<'a> Parser<'a> {
         }
     }
 
-    pub fn constants(&mut self) -> Result<Items<Constant>, Fault>
+    pub fn constants(&mut self) -> Result<Items<Constant>, ReadFailure>
         ensures { Reads (separated k.Comma read.constant self.old.rest.now) result self.new.rest.now }
     {
         let mut found = Items::new(self.alloc);
@@ -67,7 +67,7 @@ impl<'a> Parser<'a> {
     }
 
     #[tactic(auto, unfolding(crate::specs::ReadStatements::parameter, crate::specs::Steps::eat))]
-    fn parameter(&mut self, depth: u32) -> Result<Parameter, Fault>
+    fn parameter(&mut self, depth: u32) -> Result<Parameter, ReadFailure>
         ensures { Reads (read.parameter (expression.read_expr depth) self.old.rest.now) result self.new.rest.now }
     {
         let value = self.expr(depth)?;
@@ -78,7 +78,7 @@ impl<'a> Parser<'a> {
         Ok(Parameter::Width(value, width))
     }
 
-    fn parameters(&mut self, depth: u32) -> Result<Items<Parameter>, Fault>
+    fn parameters(&mut self, depth: u32) -> Result<Items<Parameter>, ReadFailure>
         ensures { Reads (separated k.Comma (read.parameter (expression.read_expr depth)) self.old.rest.now) result
             self.new.rest.now }
     {
@@ -92,7 +92,7 @@ impl<'a> Parser<'a> {
     }
 
     #[tactic(auto, unfolding(crate::specs::ReadStatements::named_variable, crate::specs::ReadExpressions::variable))]
-    fn named_variable(&mut self, depth: u32) -> Result<Variable, Fault>
+    fn named_variable(&mut self, depth: u32) -> Result<Variable, ReadFailure>
         ensures { Reads (read.named_variable (expression.read_expr depth) self.old.rest.now) result self.new.rest.now }
     {
         let name = self.expect(Kind::Name)?;
@@ -100,7 +100,7 @@ impl<'a> Parser<'a> {
         Ok(Variable { name, selectors })
     }
 
-    fn variables(&mut self, depth: u32) -> Result<Items<Variable>, Fault>
+    fn variables(&mut self, depth: u32) -> Result<Items<Variable>, ReadFailure>
         ensures { Reads (separated k.Comma (read.named_variable (expression.read_expr depth)) self.old.rest.now) result
             self.new.rest.now }
     {
@@ -114,7 +114,7 @@ impl<'a> Parser<'a> {
     }
 
     #[tactic(auto, using(crate::proofs::Closed::closed), unfolding(crate::specs::ReadStatements::after_name, crate::specs::Steps::eat))]
-    fn after_name(&mut self, depth: u32, name: Span) -> Result<Statement, Fault>
+    fn after_name(&mut self, depth: u32, name: Span) -> Result<Statement, ReadFailure>
         ensures { Reads (read.after_name (expression.read_expr depth) name self.old.rest.now) result self.new.rest.now }
     {
         if self.eat(Kind::LeftParen) {
@@ -133,7 +133,7 @@ impl<'a> Parser<'a> {
         name: Span,
         selectors: Items<ps_syntax::Selector>,
         becomes: Option<Span>,
-    ) -> Result<Statement, Fault>
+    ) -> Result<Statement, ReadFailure>
         ensures { Reads (read.assigned (expression.read_expr depth) name selectors becomes self.old.rest.now) result
             self.new.rest.now }
     {
@@ -149,7 +149,7 @@ impl<'a> Parser<'a> {
 
     #[cycle(statement)]
     #[tactic(auto, unfolding(crate::specs::ReadStatements::read_statement, crate::specs::ReadStatements::any_statement))]
-    pub fn statement(&mut self, depth: u32) -> Result<Statement, Fault>
+    pub fn statement(&mut self, depth: u32) -> Result<Statement, ReadFailure>
         ensures { Reads (read.read_statement depth self.old.rest.now) result self.new.rest.now }
     {
         if depth == 0 {
@@ -169,14 +169,14 @@ impl<'a> Parser<'a> {
 
     /// Like `statement`, with the value allocated on the heap.
     #[cycle(statement)]
-    fn boxed_statement(&mut self, depth: u32) -> Result<Boxed<Statement>, Fault>
+    fn boxed_statement(&mut self, depth: u32) -> Result<Boxed<Statement>, ReadFailure>
         ensures { Reads (read.read_statement depth self.old.rest.now) result self.new.rest.now }
     {
         boxed_answer(self.alloc, self.statement(depth))
     }
 
     #[cycle(statement)]
-    fn unnamed_statement(&mut self, depth: u32, token: Token) -> Result<Statement, Fault>
+    fn unnamed_statement(&mut self, depth: u32, token: Token) -> Result<Statement, ReadFailure>
         ensures { Reads (read.unnamed_by (expression.read_expr depth)
             (read.read_statement depth) token.kind token.span self.old.rest.now) result self.new.rest.now }
     {
@@ -214,7 +214,7 @@ impl<'a> Parser<'a> {
     }
 
     #[cycle(statement)]
-    pub fn sequence(&mut self, depth: u32) -> Result<Items<Statement>, Fault>
+    pub fn sequence(&mut self, depth: u32) -> Result<Items<Statement>, ReadFailure>
         ensures { Reads (separated k.Semicolon (read.read_statement depth) self.old.rest.now) result self.new.rest.now }
     {
         // most sequences are of one statement
@@ -229,7 +229,7 @@ impl<'a> Parser<'a> {
 
     #[cycle(statement)]
     #[tactic(auto, using(crate::proofs::Closed::closed), unfolding(crate::specs::ReadStatements::compound, crate::specs::ReadStatements::sequence))]
-    fn compound(&mut self, depth: u32) -> Result<Statement, Fault>
+    fn compound(&mut self, depth: u32) -> Result<Statement, ReadFailure>
         ensures { Reads (read.compound (expression.read_expr depth) (read.read_statement depth) self.old.rest.now)
             result self.new.rest.now }
     {
@@ -240,7 +240,7 @@ impl<'a> Parser<'a> {
 
     #[cycle(statement)]
     #[tactic(auto, unfolding(crate::specs::ReadStatements::if_statement, crate::specs::Steps::eat))]
-    fn if_statement(&mut self, depth: u32) -> Result<Statement, Fault>
+    fn if_statement(&mut self, depth: u32) -> Result<Statement, ReadFailure>
         ensures { Reads (read.if_statement (expression.read_expr depth) (read.read_statement depth) self.old.rest.now)
             result self.new.rest.now }
     {
@@ -256,7 +256,7 @@ impl<'a> Parser<'a> {
 
     #[cycle(statement)]
     #[tactic(auto, unfolding(crate::specs::ReadStatements::element))]
-    fn element(&mut self, depth: u32) -> Result<Element, Fault>
+    fn element(&mut self, depth: u32) -> Result<Element, ReadFailure>
         ensures { Reads (read.element (expression.read_expr depth) (read.read_statement depth) self.old.rest.now) result
             self.new.rest.now }
     {
@@ -270,7 +270,7 @@ impl<'a> Parser<'a> {
     }
 
     #[cycle(statement)]
-    fn elements(&mut self, depth: u32) -> Result<Items<Element>, Fault>
+    fn elements(&mut self, depth: u32) -> Result<Items<Element>, ReadFailure>
         ensures { Reads (terminated k.Semicolon k.End
             (read.element (expression.read_expr depth) (read.read_statement depth)) self.old.rest.now) result
             self.new.rest.now }
@@ -289,7 +289,7 @@ impl<'a> Parser<'a> {
 
     #[cycle(statement)]
     #[tactic(auto, using(crate::proofs::Closed::closed), unfolding(crate::specs::ReadStatements::case_statement))]
-    fn case_statement(&mut self, depth: u32, at: Span) -> Result<Statement, Fault>
+    fn case_statement(&mut self, depth: u32, at: Span) -> Result<Statement, ReadFailure>
         ensures { Reads (read.case_statement (expression.read_expr depth)
             (read.read_statement depth) at self.old.rest.now) result self.new.rest.now }
     {
@@ -302,7 +302,7 @@ impl<'a> Parser<'a> {
 
     #[cycle(statement)]
     #[tactic(auto, unfolding(crate::specs::ReadStatements::while_statement))]
-    fn while_statement(&mut self, depth: u32) -> Result<Statement, Fault>
+    fn while_statement(&mut self, depth: u32) -> Result<Statement, ReadFailure>
         ensures { Reads (read.while_statement (expression.read_expr depth)
             (read.read_statement depth) self.old.rest.now) result self.new.rest.now }
     {
@@ -314,7 +314,7 @@ impl<'a> Parser<'a> {
 
     #[cycle(statement)]
     #[tactic(auto, unfolding(crate::specs::ReadStatements::repeat_statement, crate::specs::ReadStatements::sequence))]
-    fn repeat_statement(&mut self, depth: u32) -> Result<Statement, Fault>
+    fn repeat_statement(&mut self, depth: u32) -> Result<Statement, ReadFailure>
         ensures { Reads (read.repeat_statement (expression.read_expr depth)
             (read.read_statement depth) self.old.rest.now) result self.new.rest.now }
     {
@@ -326,7 +326,7 @@ impl<'a> Parser<'a> {
 
     #[cycle(statement)]
     #[tactic(auto, unfolding(crate::specs::ReadStatements::for_statement))]
-    fn for_statement(&mut self, depth: u32) -> Result<Statement, Fault>
+    fn for_statement(&mut self, depth: u32) -> Result<Statement, ReadFailure>
         ensures { Reads (read.for_statement (expression.read_expr depth) (read.read_statement depth) self.old.rest.now)
             result self.new.rest.now }
     {
@@ -350,7 +350,7 @@ impl<'a> Parser<'a> {
 
     #[cycle(statement)]
     #[tactic(auto, unfolding(crate::specs::ReadStatements::with_statement))]
-    fn with_statement(&mut self, depth: u32) -> Result<Statement, Fault>
+    fn with_statement(&mut self, depth: u32) -> Result<Statement, ReadFailure>
         ensures { Reads (read.with_statement (expression.read_expr depth) (read.read_statement depth) self.old.rest.now)
             result self.new.rest.now }
     {

@@ -6,14 +6,14 @@ ghost use Rattle.ps_parse.specs.Steps.{Reads, separated, terminated};
 ghost use Rattle.ps_parse.specs.ReadPrograms as read;
 
 use crate::answer::{boxed_answer, push_answer};
-use crate::error::Fault;
+use crate::error::ReadFailure;
 use crate::parser::Parser;
 use ps_scan::Kind;
 use ps_syntax::{Constant, Fields, Items, Ordinal, Structure, TypeDenoter};
 use ps_text::Span;
 
 impl<'a> Parser<'a> {
-    pub fn names(&mut self) -> Result<Items<Span>, Fault>
+    pub fn names(&mut self) -> Result<Items<Span>, ReadFailure>
         ensures { Reads (read.names self.old.rest.now) result self.new.rest.now }
     {
         let mut found = Items::new(self.alloc);
@@ -26,7 +26,7 @@ impl<'a> Parser<'a> {
     }
 
     #[tactic(auto, unfolding(crate::specs::Steps::eat))]
-    fn after_constant(&mut self, first: Constant) -> Result<Ordinal, Fault>
+    fn after_constant(&mut self, first: Constant) -> Result<Ordinal, ReadFailure>
         ensures { Reads (read.after_constant first self.old.rest.now) result self.new.rest.now }
     {
         match first {
@@ -45,7 +45,7 @@ impl<'a> Parser<'a> {
     }
 
     #[tactic(auto, using(crate::proofs::Closed::closed), unfolding(crate::specs::ReadPrograms::ordinal, crate::specs::ReadPrograms::enumeration))]
-    fn ordinal(&mut self) -> Result<Ordinal, Fault>
+    fn ordinal(&mut self) -> Result<Ordinal, ReadFailure>
         ensures { Reads (read.ordinal self.old.rest.now) result self.new.rest.now }
     {
         if let Some(at) = self.accept(Kind::LeftParen) {
@@ -58,7 +58,7 @@ impl<'a> Parser<'a> {
     }
 
     #[tactic(auto, unfolding(crate::specs::ReadPrograms::read_index))]
-    fn index(&mut self, depth: u32) -> Result<Ordinal, Fault>
+    fn index(&mut self, depth: u32) -> Result<Ordinal, ReadFailure>
         ensures { Reads (read.read_index depth self.old.rest.now) result self.new.rest.now }
     {
         if depth == 0 {
@@ -67,7 +67,7 @@ impl<'a> Parser<'a> {
         self.ordinal()
     }
 
-    fn indices(&mut self, depth: u32) -> Result<Items<Ordinal>, Fault>
+    fn indices(&mut self, depth: u32) -> Result<Items<Ordinal>, ReadFailure>
         ensures { Reads (separated k.Comma (read.read_index depth) self.old.rest.now) result self.new.rest.now }
     {
         let mut found = Items::new(self.alloc);
@@ -81,7 +81,7 @@ impl<'a> Parser<'a> {
 
     #[cycle(ty)]
     #[tactic(auto, unfolding(crate::specs::ReadPrograms::read_type, crate::specs::ReadPrograms::any_type))]
-    pub fn type_denoter(&mut self, depth: u32) -> Result<TypeDenoter, Fault>
+    pub fn type_denoter(&mut self, depth: u32) -> Result<TypeDenoter, ReadFailure>
         ensures { Reads (read.read_type depth self.old.rest.now) result self.new.rest.now }
     {
         if depth == 0 {
@@ -108,7 +108,7 @@ impl<'a> Parser<'a> {
 
     #[cycle(ty)]
     #[tactic(auto, unfolding(crate::specs::ReadPrograms::structure, crate::specs::ReadPrograms::set_of))]
-    fn structure(&mut self, depth: u32) -> Result<Structure, Fault>
+    fn structure(&mut self, depth: u32) -> Result<Structure, ReadFailure>
         ensures { Reads (read.structure (read.read_index depth) (read.read_type depth) self.old.rest.now) result
             self.new.rest.now }
     {
@@ -135,7 +135,7 @@ impl<'a> Parser<'a> {
 
     #[cycle(ty)]
     #[tactic(auto, unfolding(crate::specs::ReadPrograms::array))]
-    fn array(&mut self, depth: u32, at: Span) -> Result<Structure, Fault>
+    fn array(&mut self, depth: u32, at: Span) -> Result<Structure, ReadFailure>
         ensures { Reads (read.array (read.read_index depth) (read.read_type depth) at self.old.rest.now) result
             self.new.rest.now }
     {
@@ -149,7 +149,7 @@ impl<'a> Parser<'a> {
 
     #[cycle(ty)]
     #[tactic(auto, using(crate::proofs::Closed::closed), unfolding(crate::specs::ReadPrograms::record_of, crate::specs::Steps::eat))]
-    fn record(&mut self, depth: u32, at: Span) -> Result<Structure, Fault>
+    fn record(&mut self, depth: u32, at: Span) -> Result<Structure, ReadFailure>
         ensures { Reads (read.record_of (read.read_index depth) (read.read_type depth) at self.old.rest.now) result
             self.new.rest.now }
     {
@@ -163,7 +163,7 @@ impl<'a> Parser<'a> {
 
     #[cycle(ty)]
     #[tactic(auto, unfolding(crate::specs::ReadPrograms::fields))]
-    fn fields(&mut self, depth: u32) -> Result<Fields, Fault>
+    fn fields(&mut self, depth: u32) -> Result<Fields, ReadFailure>
         ensures { Reads (read.fields (read.read_index depth) (read.read_type depth) self.old.rest.now) result
             self.new.rest.now }
     {
@@ -174,7 +174,7 @@ impl<'a> Parser<'a> {
     }
 
     #[cycle(ty)]
-    fn sections_of_record(&mut self, depth: u32) -> Result<Items<Fields>, Fault>
+    fn sections_of_record(&mut self, depth: u32) -> Result<Items<Fields>, ReadFailure>
         ensures { Reads (terminated k.Semicolon k.End
             (read.fields (read.read_index depth) (read.read_type depth)) self.old.rest.now) result self.new.rest.now }
     {

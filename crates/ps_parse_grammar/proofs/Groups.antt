@@ -3,7 +3,7 @@ use Rattle.std.proofs.Common.{◌≡◌, ℕ, zero, suc, ◌+◌, max, List, [],
 use Rattle.std.proofs.Common.{subst, arith}
 use Rattle.ps_text.specs.declared.Span.{Span}
 use Rattle.ps_scan.specs.declared.token.Kind.TheVariants as k
-use Rattle.ps_syntax.specs.declared.expression.Relation.{Relation}
+use Rattle.ps_syntax.specs.declared.expression.Relational.{Relational}
 use Rattle.ps_syntax.specs.declared.expression.Sign.{Sign}
 use Rattle.ps_syntax.specs.declared.expression.Expr.{Expr, roll-Expr, out-Expr, roll-out-Expr}
 use Rattle.ps_syntax.specs.declared.expression.Expr.TheVariants as e
@@ -138,7 +138,7 @@ pub inside_group : (at : Span) (n : ℕ) (x : Expr) → inside (only (f.Group at
 inside_group at n x = only_seen (f.Group at n x) ∙ ap (λ y. inside_factor (out-Factor y)) (sym (f.rolls-Group at n x))
     ∙ ap inside_factor (out-roll-Factor (Factor-F.Group at n x))
 
-pub inside_compare : (x : Simple) (op : Relation) (at : Span) (y : Simple) → inside (e.Compare x op at y) ≡ None
+pub inside_compare : (x : Simple) (op : Relational) (at : Span) (y : Simple) → inside (e.Compare x op at y) ≡ None
 unfolding inside views.out-Expr denote.Hole.Carrier.out
 inside_compare x op at y = refl
 

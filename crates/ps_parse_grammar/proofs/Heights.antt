@@ -8,7 +8,7 @@ use Rattle.ps_syntax.specs.declared.expression.Factor.{Factor}
 use Rattle.ps_syntax.specs.declared.expression.Member.{Member}
 use Rattle.ps_syntax.specs.declared.expression.MultipliedFactor.{MultipliedFactor}
 use Rattle.ps_syntax.specs.declared.expression.Multiplying.{Multiplying}
-use Rattle.ps_syntax.specs.declared.expression.Relation.{Relation}
+use Rattle.ps_syntax.specs.declared.expression.Relational.{Relational}
 use Rattle.ps_syntax.specs.declared.expression.Selector.{Selector}
 use Rattle.ps_syntax.specs.declared.expression.Sign.{Sign}
 use Rattle.ps_syntax.specs.declared.expression.Simple.{Simple, roll-Simple}
@@ -69,7 +69,7 @@ height-simple_expr x = ap height_of_expr (sym (e.rolls-Simple x))
     ∙ fold-roll-Expr ℕ ℕ ℕ ℕ ℕ ℕ ℕ ℕ ℕ expr_step factor_step member_step selector_step added_step multiplied_step
     simple_step term_step variable_step (Expr-F.Simple x)
 
-pub height-comparison : (x : Simple) (op : Relation) (at : Span) (y : Simple) → height_of_expr (e.Compare x op at y)
+pub height-comparison : (x : Simple) (op : Relational) (at : Span) (y : Simple) → height_of_expr (e.Compare x op at y)
     ≡ suc (max (height_of_simple x) (height_of_simple y))
 height-comparison x op at y = ap height_of_expr (sym (e.rolls-Compare x op at y))
     ∙ fold-roll-Expr ℕ ℕ ℕ ℕ ℕ ℕ ℕ ℕ ℕ expr_step factor_step member_step selector_step added_step multiplied_step

@@ -4,8 +4,8 @@ use Rattle.std.specs.Prelude.{ℕ, zero, suc, List, [], ◌∷◌, Some, None}
 use Rattle.ps_text.specs.declared.Span.{Span}
 use Rattle.ps_scan.specs.declared.token.Kind.{Kind}
 use Rattle.ps_scan.specs.declared.token.Kind.TheVariants as k
-use Rattle.ps_syntax.specs.declared.expression.Relation.{Relation}
-use Rattle.ps_syntax.specs.declared.expression.Relation.TheVariants as relation
+use Rattle.ps_syntax.specs.declared.expression.Relational.{Relational}
+use Rattle.ps_syntax.specs.declared.expression.Relational.TheVariants as relation
 use Rattle.ps_syntax.specs.declared.expression.Sign.{Sign}
 use Rattle.ps_syntax.specs.declared.expression.Sign.TheVariants as sign
 use Rattle.ps_syntax.specs.declared.expression.Adding.{Adding}
@@ -29,7 +29,7 @@ use Rattle.ps_parse_grammar.specs.Groups.{grouped}
 use Rattle.ps_parse_grammar.specs.Symbols.{Tokens, Symbol, nothing, token, Many, Separated}
 
 -- how an operator is written
-abbrev pub relation_kind : Relation → Kind
+abbrev pub relation_kind : Relational → Kind
 relation_kind relation.Equal = k.Equal
 relation_kind relation.NotEqual = k.NotEqual
 relation_kind relation.Less = k.Less
@@ -113,8 +113,8 @@ pub data IsSimple (term : Symbol Term) : Simple → Tokens → Tokens → Type 0
 -- expr = simple [relation simple]
 pub data IsExpr (simple : Symbol Simple) : Expr → Tokens → Tokens → Type 0 where
   alone : {x : Simple} {ts r : Tokens} → simple x ts r → IsExpr simple (e.Simple x) ts r
-  compare : (op : Relation) (at : Span) (x y : Simple) {ts m r : Tokens} → simple x ts (token (relation_kind op) at ∷ m)
-      → simple y m r → IsExpr simple (e.Compare x op at y) ts r
+  compare : (op : Relational) (at : Span) (x y : Simple) {ts m r : Tokens}
+      → simple x ts (token (relation_kind op) at ∷ m) → simple y m r → IsExpr simple (e.Compare x op at y) ts r
 
 -- a factor in which nothing is higher than n
 abbrev pub factor_within : ℕ → Symbol Factor

@@ -4,7 +4,7 @@ use Rattle.std.proofs.Common.{arith}
 use Rattle.std.specs.Ordering.{nat_cmp, ord_max}
 use Rattle.std.proofs.lemmas.Bool.Decides.{nat_tests}
 use Rattle.ps_text.specs.declared.Span.{Span}
-use Rattle.ps_syntax.specs.declared.expression.Relation.{Relation}
+use Rattle.ps_syntax.specs.declared.expression.Relational.{Relational}
 use Rattle.ps_syntax.specs.declared.expression.Expr.{Expr}
 use Rattle.ps_syntax.specs.declared.expression.Expr.TheVariants as e
 use Rattle.ps_syntax.specs.declared.expression.Factor.{Factor}
@@ -116,7 +116,7 @@ expr_Simple it x is = sym (ap height_of_expr (is ∙ sym (e.rolls-Simple x))
     ∙ fold-roll-Expr ℕ ℕ ℕ ℕ ℕ ℕ ℕ ℕ ℕ expr_step factor_step member_step selector_step added_step multiplied_step
     simple_step term_step variable_step (Expr-F.Simple x))
 
-pub expr_Compare : (it : Expr) (x : Simple) (relation : Relation) (at : Span) (y : Simple) → it
+pub expr_Compare : (it : Expr) (x : Simple) (relation : Relational) (at : Span) (y : Simple) → it
     ≡ e.Compare x relation at y → suc (max (height_of_simple x) (height_of_simple y)) ≡ height_of_expr it
 expr_Compare it x relation at y is = sym (ap height_of_expr (is ∙ sym (e.rolls-Compare x relation at y))
     ∙ fold-roll-Expr ℕ ℕ ℕ ℕ ℕ ℕ ℕ ℕ ℕ expr_step factor_step member_step selector_step added_step multiplied_step
@@ -276,7 +276,7 @@ pub expr_Simple_told : (it : Expr) (x : Simple) (n1 : ℕ) (n3 : ℕ) → it ≡
 expr_Simple_told it x n1 n3 is p2 p4 = told_as n3 (suc (height_of_simple x)) (height_of_expr it)
     (above (height_of_simple x) n1 n3 p2 p4) (expr_Simple it x is)
 
-pub expr_Compare_told : (it : Expr) (x : Simple) (relation : Relation) (at : Span) (y : Simple) (n1 : ℕ) (z3 : Simple)
+pub expr_Compare_told : (it : Expr) (x : Simple) (relation : Relational) (at : Span) (y : Simple) (n1 : ℕ) (z3 : Simple)
     (n4 : ℕ) (n7 : ℕ) (n9 : ℕ) → it ≡ e.Compare x relation at y → n1 ≡ told (height_of_simple x) → z3 ≡ y → n4 ≡ told
     (height_of_simple z3) → n7 ≡ max n1 n4 → n9 ≡ min (n7 + 1) limit → n9 ≡ told (height_of_expr it)
 expr_Compare_told it x relation at y n1 z3 n4 n7 n9 is p2 p5 p6 p8 p10 = told_as n9

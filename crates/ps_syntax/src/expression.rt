@@ -9,7 +9,7 @@ use sqlite_items::{Boxed, Items};
 
 /// A relational operator (ISO 7185, 6.7.2.5).
 #[derive(Clone, Copy)]
-pub enum Relation {
+pub enum Relational {
     Equal,
     NotEqual,
     Less,
@@ -48,7 +48,7 @@ pub enum Multiplying {
 #[derive(Drop)]
 pub enum Expr {
     Simple(Simple),
-    Compare(Simple, Relation, Span, Boxed<Simple>),
+    Compare(Simple, Relational, Span, Boxed<Simple>),
 }
 
 /// Terms with operators between them. A sign in front applies to the first term.

@@ -12,7 +12,7 @@ mod program;
 mod statement;
 
 pub use expression::{
-    AddedTerm, Adding, Expr, Factor, Member, MultipliedFactor, Multiplying, Relation, Selector,
+    AddedTerm, Adding, Expr, Factor, Member, MultipliedFactor, Multiplying, Relational, Selector,
     Sign, Simple, Term, Variable,
 };
 pub use heights::height;

@@ -37,14 +37,14 @@ decreases-expressions::take_actuals l = 16 * l.here.depth + 4
 
 abbrev pub invariant-expressions::evaluate_members-loop-member
     : goal.invariant-expressions::evaluate_members-loop-member
-invariant-expressions::evaluate_members-loop-member l = members_left (caller l.here.job.now l.here.fuel)
+invariant-expressions::evaluate_members-loop-member l = members_left (caller l.here.setup.now l.here.fuel)
     (context_of l.here.context.now) l.members l.member-index l.tests.items (world_of l.world) ≡ e.members_value
-    (caller l.here.job.now l.here.fuel) (members_of l.members) (context_of l.here.context.now) (world_of l.fn.world)
+    (caller l.here.setup.now l.here.fuel) (members_of l.members) (context_of l.here.context.now) (world_of l.fn.world)
 
 abbrev pub invariant-expressions::take_actuals-loop-argument : goal.invariant-expressions::take_actuals-loop-argument
-invariant-expressions::take_actuals-loop-argument l = actuals_left (caller l.here.job.now l.here.fuel)
+invariant-expressions::take_actuals-loop-argument l = actuals_left (caller l.here.setup.now l.here.fuel)
     (context_of l.here.context.now) l.arguments l.argument-index (map actual_of l.actuals.items) (world_of l.world)
-    ≡ e.actuals_of (caller l.here.job.now l.here.fuel) (arguments_of l.arguments) (context_of l.here.context.now)
+    ≡ e.actuals_of (caller l.here.setup.now l.here.fuel) (arguments_of l.arguments) (context_of l.here.context.now)
     (world_of l.fn.world)
 
 abbrev pub decreases-calls::call_value : goal.decreases-calls::call_value
@@ -69,15 +69,15 @@ abbrev pub decreases-loops::turns : goal.decreases-loops::turns
 decreases-loops::turns l = 16 * l.here.depth + 1
 
 abbrev pub invariant-statements::act_all-loop-statement : goal.invariant-statements::act_all-loop-statement
-invariant-statements::act_all-loop-statement l = acting_all l.here.job.now l.here.fuel
+invariant-statements::act_all-loop-statement l = acting_all l.here.setup.now l.here.fuel
     (statements_of (drop l.statement-index l.statements)) (context_of l.here.context.now) (world_of l.world)
-    ≡ acting_all l.here.job.now l.here.fuel (statements_of l.statements) (context_of l.here.context.now)
+    ≡ acting_all l.here.setup.now l.here.fuel (statements_of l.statements) (context_of l.here.context.now)
     (world_of l.fn.world)
 
 abbrev pub invariant-loops::repeat_while-loop-world : goal.invariant-loops::repeat_while-loop-world
 invariant-loops::repeat_while-loop-world l = record {
-  same : acting l.here.job.now l.left (Tree.While (expr_of l.condition) (statement_of l.body))
-      (context_of l.here.context.now) (world_of l.world) ≡ acting l.here.job.now l.here.fuel
+  same : acting l.here.setup.now l.left (Tree.While (expr_of l.condition) (statement_of l.body))
+      (context_of l.here.context.now) (world_of l.world) ≡ acting l.here.setup.now l.here.fuel
       (Tree.While (expr_of l.condition) (statement_of l.body)) (context_of l.here.context.now) (world_of l.fn.world);
   left : l.left ≤ l.here.fuel;
 }
@@ -87,8 +87,8 @@ decreases-loops::repeat_while-loop-world l = l.left
 
 abbrev pub invariant-loops::repeat_until-loop-world : goal.invariant-loops::repeat_until-loop-world
 invariant-loops::repeat_until-loop-world l = record {
-  same : acting l.here.job.now l.left (Tree.Repeat (statements_of l.body) (expr_of l.condition))
-      (context_of l.here.context.now) (world_of l.world) ≡ acting l.here.job.now l.here.fuel
+  same : acting l.here.setup.now l.left (Tree.Repeat (statements_of l.body) (expr_of l.condition))
+      (context_of l.here.context.now) (world_of l.world) ≡ acting l.here.setup.now l.here.fuel
       (Tree.Repeat (statements_of l.body) (expr_of l.condition)) (context_of l.here.context.now) (world_of l.fn.world);
   left : l.left ≤ l.here.fuel;
 }
@@ -98,8 +98,8 @@ decreases-loops::repeat_until-loop-world l = l.left
 
 abbrev pub invariant-loops::turns-loop-world : goal.invariant-loops::turns-loop-world
 invariant-loops::turns-loop-world l = record {
-  same : turning l.here.job.now l.left l.variable l.direction (number_of (value_of l.last)) (statement_of l.body)
-      (context_of l.here.context.now) (world_of l.world) ≡ turning l.here.job.now l.here.fuel l.variable l.direction
+  same : turning l.here.setup.now l.left l.variable l.direction (number_of (value_of l.last)) (statement_of l.body)
+      (context_of l.here.context.now) (world_of l.world) ≡ turning l.here.setup.now l.here.fuel l.variable l.direction
       (number_of (value_of l.last)) (statement_of l.body) (context_of l.here.context.now) (world_of l.fn.world);
   left : l.left ≤ l.here.fuel;
 }
@@ -129,21 +129,21 @@ abbrev pub decreases-calls::do_block : goal.decreases-calls::do_block
 decreases-calls::do_block l = 16 * l.here.depth + 2
 
 abbrev pub invariant-transfers::read_all-loop-variable : goal.invariant-transfers::read_all-loop-variable
-invariant-transfers::read_all-loop-variable l = reading_all l.here.job.now l.here.fuel
+invariant-transfers::read_all-loop-variable l = reading_all l.here.setup.now l.here.fuel
     (map read_of (drop l.variable-index l.variables)) (context_of l.here.context.now) (world_of l.world)
-    ≡ reading_all l.here.job.now l.here.fuel (map read_of l.variables) (context_of l.here.context.now)
+    ≡ reading_all l.here.setup.now l.here.fuel (map read_of l.variables) (context_of l.here.context.now)
     (world_of l.fn.world)
 
 abbrev pub invariant-transfers::write_all-loop-parameter : goal.invariant-transfers::write_all-loop-parameter
-invariant-transfers::write_all-loop-parameter l = writing_all l.here.job.now l.here.fuel
+invariant-transfers::write_all-loop-parameter l = writing_all l.here.setup.now l.here.fuel
     (map write_of (drop l.parameter-index l.parameters)) (context_of l.here.context.now) (world_of l.world)
-    ≡ writing_all l.here.job.now l.here.fuel (map write_of l.parameters) (context_of l.here.context.now)
+    ≡ writing_all l.here.setup.now l.here.fuel (map write_of l.parameters) (context_of l.here.context.now)
     (world_of l.fn.world)
 
 abbrev pub invariant-statements::act_with-loop-place : goal.invariant-statements::act_with-loop-place
 invariant-statements::act_with-loop-place l = record {
-  rest : opening_all l.here.job.now l.here.fuel (map place_of (drop l.place-index l.places)) (context_of l.inner)
-      (world_of l.world) ≡ opening_all l.here.job.now l.here.fuel (map place_of l.places)
+  rest : opening_all l.here.setup.now l.here.fuel (map place_of (drop l.place-index l.places)) (context_of l.inner)
+      (world_of l.world) ≡ opening_all l.here.setup.now l.here.fuel (map place_of l.places)
       (context_of l.here.context.now) (world_of l.fn.world);
   kept : context_of l.inner ≡ with_opened (opened_in l.inner) (context_of l.here.context.now);
 }
@@ -206,25 +206,25 @@ abbrev pub decreases-expressions::combine_all : goal.decreases-expressions::comb
 decreases-expressions::combine_all l = 16 * l.here.depth + 1
 
 abbrev pub invariant-expressions::access-loop-selector : goal.invariant-expressions::access-loop-selector
-invariant-expressions::access-loop-selector l = e.accesses (caller l.here.job.now l.here.fuel)
+invariant-expressions::access-loop-selector l = e.accesses (caller l.here.setup.now l.here.fuel)
     (selectors_of (drop l.selector-index l.selector-items)) (spot_of l.spot) (context_of l.here.context.now)
-    (world_of l.world) ≡ e.access (caller l.here.job.now l.here.fuel) (place_of l.place) (context_of l.here.context.now)
-    (world_of l.fn.world)
+    (world_of l.world) ≡ e.access (caller l.here.setup.now l.here.fuel) (place_of l.place)
+    (context_of l.here.context.now) (world_of l.fn.world)
 
 abbrev pub invariant-expressions::combine_all-loop-step : goal.invariant-expressions::combine_all-loop-step
-invariant-expressions::combine_all-loop-step l = e.sets_combined (caller l.here.job.now l.here.fuel)
+invariant-expressions::combine_all-loop-step l = e.sets_combined (caller l.here.setup.now l.here.fuel)
     (set_steps_of (drop l.step-index l.steps)) (listed l.tests.items) (context_of l.here.context.now) (world_of l.world)
-    ≡ e.set_value (caller l.here.job.now l.here.fuel) (Tree.Combine (set_of l.first) (set_steps_of l.steps))
+    ≡ e.set_value (caller l.here.setup.now l.here.fuel) (Tree.Combine (set_of l.first) (set_steps_of l.steps))
     (context_of l.here.context.now) (world_of l.fn.world)
 
 abbrev pub invariant-operations::calculate-loop-step : goal.invariant-operations::calculate-loop-step
-invariant-operations::calculate-loop-step l = e.computed (caller l.here.job.now l.here.fuel)
+invariant-operations::calculate-loop-step l = e.computed (caller l.here.setup.now l.here.fuel)
     (arithmetic_of (drop l.step-index l.steps)) (number_of (value_of l.x)) (context_of l.here.context.now)
-    (world_of l.world) ≡ e.value (caller l.here.job.now l.here.fuel)
+    (world_of l.world) ≡ e.value (caller l.here.setup.now l.here.fuel)
     (Tree.Arithmetic (expr_of l.first) (arithmetic_of l.steps)) (context_of l.here.context.now) (world_of l.fn.world)
 
 abbrev pub invariant-operations::combine-loop-operand : goal.invariant-operations::combine-loop-operand
-invariant-operations::combine-loop-operand l = e.combined (caller l.here.job.now l.here.fuel) l.operator
+invariant-operations::combine-loop-operand l = e.combined (caller l.here.setup.now l.here.fuel) l.operator
     (operands_of (drop l.operand-index l.rest)) l.x (context_of l.here.context.now) (world_of l.world) ≡ e.value
-    (caller l.here.job.now l.here.fuel) (Tree.Logic l.operator (expr_of l.first) (operands_of l.rest))
+    (caller l.here.setup.now l.here.fuel) (Tree.Logic l.operator (expr_of l.first) (operands_of l.rest))
     (context_of l.here.context.now) (world_of l.fn.world)

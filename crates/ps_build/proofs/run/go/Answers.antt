@@ -1,9 +1,9 @@
 -- The image that was built is read as itself, so what was run does what the program means.
 use Rattle.std.proofs.Common.{inl, inr, sym, subst}
+use Rattle.std.proofs.lemmas.Result.{IfOk-weaker, IfErr-weaker}
 use Rattle.risc_image.specs.Format.{IsImage}
 use Rattle.ps_build.specs.Runs.{Runs, IsLoadRefused}
 use Rattle.ps_build.specs.Goes.{Goes, IsGoRefused}
-use Rattle.ps_build.proofs.Results.{if_ok, if_err}
 use Rattle.ps_build.proofs.run.go.Goals as goal
 
 pub returns-in-Err-clause-refused : goal.returns-in-Err-clause-refused
@@ -22,7 +22,7 @@ returns-clause-runs g c =
     let new = g.C.Console.world c.run_view.new.console in
     let same = c.in-Ok-read.ensures.exact made.image
     (subst (λ bytes. IsImage bytes made.image) (sym c.bytes.ensures) made.is_image) in
-    if_ok c.run_view.result (Runs c.in-Ok-read.view c.args.budget c.args.max_steps old new)
+    IfOk-weaker c.run_view.result (Runs c.in-Ok-read.view c.args.budget c.args.max_steps old new)
     (Goes c.args.text.now c.args.budget c.args.max_steps old new) (λ outcome runs. record {
       bytes = c.in-Ok.built;
       built = c.in-Ok.ensures.built;
@@ -35,7 +35,7 @@ returns-clause-refused g c =
     let made = c.in-Ok.ensures.compiles in
     let same = c.in-Ok-read.ensures.exact made.image
     (subst (λ bytes. IsImage bytes made.image) (sym c.bytes.ensures) made.is_image) in
-    if_err c.run_view.result (IsLoadRefused c.in-Ok-read.view c.args.budget) (IsGoRefused c.args.text.now c.args.budget)
+    IfErr-weaker c.run_view.result (IsLoadRefused c.in-Ok-read.view c.args.budget) (IsGoRefused c.args.text.now c.args.budget)
     (λ refusal h. inr (record {
       bytes = c.in-Ok.built;
       built = c.in-Ok.ensures.built;

@@ -1,11 +1,12 @@
 -- The image that was built is read as itself, so what was run does what the program means.
 use Rattle.std.proofs.Common.{inl, inr, sym, subst}
+use Rattle.std.proofs.lemmas.Result.{IfErr-weaker}
 use Rattle.risc_image.specs.Format.{IsImage}
 use Rattle.ps_build.specs.declared.outcome.Outcome.TheVariants.{Steps}
 use Rattle.ps_build.specs.Runs.{Runs, IsLoadRefused}
 use Rattle.ps_build.specs.Goes.{Goes, IsGoRefused}
 use Rattle.ps_build.specs.Slices.{IsRunLeft, IsGoLeft}
-use Rattle.ps_build.proofs.Results.{if_ended, if_left, if_err}
+use Rattle.ps_build.proofs.Results.{if_ended, if_left}
 use Rattle.ps_build.proofs.slices.go_in_slices.Goals as goal
 
 pub returns-in-Err-clause-refused : goal.returns-in-Err-clause-refused
@@ -56,7 +57,7 @@ returns-clause-refused g c =
     let made = c.in-Ok.ensures.compiles in
     let same = c.in-Ok-read.ensures.exact made.image
     (subst (λ bytes. IsImage bytes made.image) (sym c.bytes.ensures) made.is_image) in
-    if_err c.run_view_in_slices.result (IsLoadRefused c.in-Ok-read.view c.args.budget)
+    IfErr-weaker c.run_view_in_slices.result (IsLoadRefused c.in-Ok-read.view c.args.budget)
     (IsGoRefused c.args.text.now c.args.budget) (λ refusal h. inr (record {
       bytes = c.in-Ok.built;
       built = c.in-Ok.ensures.built;

@@ -8,25 +8,25 @@ use Rattle.ps_meaning_runner.proofs.Heights.{element_within}
 use Rattle.ps_meaning_runner.proofs.choices.selected.Goals as goal
 
 pub loop-element-init : goal.loop-element-init
-loop-element-init c = λ job n line d w. refl
+loop-element-init c = λ setup n line d w. refl
 
 pub loop-element-preserved : goal.loop-element-preserved
 loop-element-preserved c =
     let h : is_among (number_of (value_of c.args.x.now)) (out-CaseElement c.element-item.result).constants.items
     ≡ false = ap (is_among (number_of (value_of c.args.x.now))) (sym c.as_slice.ensures.value)
     ∙ sym c.has_constant.ensures ∙ c.if-has_constant.false in
-    λ job n line d w. a.selects_next job n d c.args.elements.now c.loop-element.element-index c.element-item.result
+    λ setup n line d w. a.selects_next setup n d c.args.elements.now c.loop-element.element-index c.element-item.result
     (number_of (value_of c.args.x.now)) line w _
-    (c.loop-element.invariant job n line d w) h c.element-item.is c.loop-element-test.true
+    (c.loop-element.invariant setup n line d w) h c.element-item.is c.loop-element-test.true
 
 pub returns-then-has_constant-clause-chosen : goal.returns-then-has_constant-clause-chosen
 returns-then-has_constant-clause-chosen c =
     let h : is_among (number_of (value_of c.args.x.now)) (out-CaseElement c.element-item.result).constants.items
     ≡ true = ap (is_among (number_of (value_of c.args.x.now))) (sym c.as_slice.ensures.value)
     ∙ sym c.has_constant.ensures ∙ c.if-has_constant.true in
-    λ job n line d w. sym (a.selects job n d c.args.elements.now c.loop-element.element-index c.element-item.result
+    λ setup n line d w. sym (a.selects setup n d c.args.elements.now c.loop-element.element-index c.element-item.result
     (number_of (value_of c.args.x.now)) line w _
-    (c.loop-element.invariant job n line d w) h c.element-item.is c.loop-element-test.true)
+    (c.loop-element.invariant setup n line d w) h c.element-item.is c.loop-element-test.true)
 
 pub returns-then-has_constant-clause-within : goal.returns-then-has_constant-clause-within
 returns-then-has_constant-clause-within c = element_within c.args.elements.now c.loop-element.element-index
@@ -34,5 +34,5 @@ returns-then-has_constant-clause-within c = element_within c.args.elements.now c
 
 pub returns-clause-chosen : goal.returns-clause-chosen
 returns-clause-chosen c =
-    λ job n line d w. a.selects_none job n d c.args.elements.now c.loop-element.element-index
-    (number_of (value_of c.args.x.now)) line w _ (c.loop-element.invariant job n line d w) (omega arith)
+    λ setup n line d w. a.selects_none setup n d c.args.elements.now c.loop-element.element-index
+    (number_of (value_of c.args.x.now)) line w _ (c.loop-element.invariant setup n line d w) (omega arith)

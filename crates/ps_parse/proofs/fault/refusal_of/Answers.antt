@@ -1,5 +1,5 @@
 use Rattle.std.proofs.Common.{◌≡◌, ◌≢◌, ◌-◌, length, take, drop, ap, sym, ◌∙◌, subst}
-use Rattle.ps_parse.specs.declared.error.Fault.TheVariants.{OutOfMemory}
+use Rattle.ps_parse.specs.declared.error.ReadFailure.TheVariants.{OutOfMemory}
 use Rattle.ps_parse.specs.Steps.{stop, left_of}
 use Rattle.ps_parse.specs.Reading.{reading}
 use Rattle.ps_parse.specs.Untaken.{NoneTakesAt, IsFault}

@@ -8,13 +8,13 @@ use Rattle.ps_meaning_runner.proofs.world.World.enter_with.Goals as goal
 
 pub returns-then-passes_stack-clause-stopped : goal.returns-then-passes_stack-clause-stopped
 returns-then-passes_stack-clause-stopped c =
-    let passes : passes_stack (costs_in c.args.job.now) (c.args.routine ∷ numbers_of c.args.c.now.active.value)
-    ≡ true = ap (passes_stack (costs_in c.args.job.now)) (sym c.in_ok-active.ensures)
-    ∙ ap (λ numbers. passes_stack (costs_in c.args.job.now) (numbers_of numbers)) (sym c.deref.ensures)
+    let passes : passes_stack (costs_in c.args.setup.now) (c.args.routine ∷ numbers_of c.args.outer.now.active.value)
+    ≡ true = ap (passes_stack (costs_in c.args.setup.now)) (sym c.in_ok-active.ensures)
+    ∙ ap (λ numbers. passes_stack (costs_in c.args.setup.now) (numbers_of numbers)) (sym c.deref.ensures)
     ∙ sym c.passes_stack.ensures ∙ c.if-passes_stack.true in
     λ n. stops _ (Stack c.routine_numbered-called.result.line) c.ended.result c.args.self.now c.ended.ensures
-    (stack_passed c.args.job.now n c.args.routine (env_of c.args.parent.value) (map actual_of c.args.actuals.now)
-    (with_calls (numbers_of c.args.calls.value) (context_of c.args.c.now))
+    (stack_passed c.args.setup.now n c.args.routine (env_of c.args.parent.value) (map actual_of c.args.actuals.now)
+    (with_calls (numbers_of c.args.calls.value) (context_of c.args.outer.now))
     (world_of c.args.self.now) c.routine_numbered-called.result.line c.routine_numbered-called.ensures.line passes)
 
 pub returns-clause-entered : goal.returns-clause-entered
