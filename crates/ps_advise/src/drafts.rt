@@ -2,7 +2,7 @@
 
 use crate::foreign::draft_by_table;
 use crate::places::piece;
-use ps_diagnose::{Draft, Fault, written};
+use ps_diagnose::{Draft, ReportedFault, written};
 use ps_parse::{ParseRefusal, parse, release};
 use ps_scan::Kind;
 use std::alloc::{AllocError, Global};
@@ -16,7 +16,7 @@ fn is_of_rules(number: u8) -> bool {
 }
 
 // What is told by the names of the text, if it has a tree.
-fn draft_of_names(alloc: Global, fault: &Fault<'_>) -> Result<Option<Draft>, AllocError> {
+fn draft_of_names(alloc: Global, fault: &ReportedFault<'_>) -> Result<Option<Draft>, AllocError> {
     match parse(alloc, fault.source, fault.tokens) {
         Ok(program) => {
             let draft = ps_diagnose_names::drafted(alloc, fault, &program);
@@ -29,7 +29,7 @@ fn draft_of_names(alloc: Global, fault: &Fault<'_>) -> Result<Option<Draft>, All
 }
 
 // What is told where no reason is known.
-fn sentence(alloc: Global, fault: &Fault<'_>) -> Result<String, AllocError> {
+fn sentence(alloc: Global, fault: &ReportedFault<'_>) -> Result<String, AllocError> {
     let token = piece(fault.source.bytes(), fault.place);
     match fault.number {
         20 => format!(in alloc; "`{token}` cannot stand here"),
@@ -39,7 +39,7 @@ fn sentence(alloc: Global, fault: &Fault<'_>) -> Result<String, AllocError> {
     }
 }
 
-fn plain_draft(alloc: Global, fault: &Fault<'_>) -> Result<Draft, AllocError> {
+fn plain_draft(alloc: Global, fault: &ReportedFault<'_>) -> Result<Draft, AllocError> {
     Ok(Draft {
         text: sentence(alloc, fault)?,
         labels: Vec::new(alloc),
@@ -63,7 +63,7 @@ pub(crate) fn is_advised(draft: &Draft) -> bool {
 /// Tells that a token of a kind is missing before the place.
 pub(crate) fn tell_missing(
     alloc: Global,
-    fault: &Fault<'_>,
+    fault: &ReportedFault<'_>,
     kind: Kind,
     draft: &mut Draft,
 ) -> Result<(), AllocError> {
@@ -71,7 +71,7 @@ pub(crate) fn tell_missing(
 }
 
 /// What is told of a fault before mends are tried.
-pub(crate) fn draft_of(alloc: Global, fault: &Fault<'_>) -> Result<Draft, AllocError> {
+pub(crate) fn draft_of(alloc: Global, fault: &ReportedFault<'_>) -> Result<Draft, AllocError> {
     if let Some(draft) = ps_diagnose_tokens::drafted(alloc, fault)? {
         return Ok(draft);
     }

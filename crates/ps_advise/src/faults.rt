@@ -11,7 +11,7 @@ use crate::possible::{Around, around_place, expected};
 use crate::routines::{function_of, routine_around};
 use crate::steps::step_of;
 use ps_build::{ParseFault, Refusal, Rule};
-use ps_diagnose::{Draft, Fault, Trial};
+use ps_diagnose::{Draft, ReportedFault, Trial};
 use ps_diagnostic::{Diagnostic, Edit, Expected, Mend, Severity};
 use ps_scan::Kind;
 use ps_text::Span;
@@ -81,7 +81,7 @@ fn take_in(drafted: &mut Drafted, found: Option<Found>) -> Result<(), AllocError
 fn drafted_by_reason(
     alloc: Global,
     faulty: Faulty<'_>,
-    fault: &Fault<'_>,
+    fault: &ReportedFault<'_>,
     budget: &mut Budget,
 ) -> Result<Drafted, AllocError>
     ensures { IfOk result (λ drafted. AreGradedOf faulty.entry.source.now drafted.mends.items) }
@@ -95,7 +95,7 @@ fn drafted_by_reason(
 // Tells which token is missing, where one is and no reason is known.
 fn tell_kind(
     alloc: Global,
-    fault: &Fault<'_>,
+    fault: &ReportedFault<'_>,
     missing: Option<Kind>,
     draft: &mut Draft,
 ) -> Result<(), AllocError> {
@@ -109,7 +109,7 @@ fn tell_kind(
 fn drafted_by_grammar(
     alloc: Global,
     faulty: Faulty<'_>,
-    fault: &Fault<'_>,
+    fault: &ReportedFault<'_>,
     around: &Option<Around>,
     budget: &mut Budget,
 ) -> Result<Drafted, AllocError>
@@ -186,7 +186,7 @@ fn home_of(alloc: Global, faulty: Faulty<'_>) -> Result<u32, AllocError> {
 fn told_by_grammar(
     alloc: Global,
     faulty: Faulty<'_>,
-    fault: &Fault<'_>,
+    fault: &ReportedFault<'_>,
     budget: &mut Budget,
 ) -> Result<Told, AllocError>
     ensures mends { IfOk result (λ told. HasMendsOf faulty.entry.source.now told.diagnostic) }
@@ -217,7 +217,7 @@ fn told_by_grammar(
 fn told_by_reason(
     alloc: Global,
     faulty: Faulty<'_>,
-    fault: &Fault<'_>,
+    fault: &ReportedFault<'_>,
     budget: &mut Budget,
 ) -> Result<Told, AllocError>
     ensures mends { IfOk result (λ told. HasMendsOf faulty.entry.source.now told.diagnostic) }
@@ -246,7 +246,7 @@ pub(crate) fn told_of_fault(
     ensures names { IfOk result (λ told. Names faulty.entry.refusal told.diagnostic) }
     ensures place { IfOk result (λ told. told.diagnostic.place ≡ Some place) }
 {
-    let fault = Fault {
+    let fault = ReportedFault {
         source: faulty.source,
         tokens: faulty.tokens,
         number: faulty.refusal.number(),

@@ -2,7 +2,7 @@
 
 use crate::places::{piece, position, slice, token_at};
 use crate::routines::{name_of, routine_around};
-use ps_diagnose::{Draft, Fault, Trial};
+use ps_diagnose::{Draft, ReportedFault, Trial};
 use ps_diagnose_tokens::{Part, Row, other_pascal, part_at};
 use ps_diagnostic::Edit;
 use ps_scan::{Kind, Token, is_same_name};
@@ -28,7 +28,7 @@ fn row_of(part: Part, words: &str) -> Option<Row> {
 // The row of the name at the number of a token.
 fn row_at(
     alloc: Global,
-    fault: &Fault<'_>,
+    fault: &ReportedFault<'_>,
     at: usize,
     name: &str,
 ) -> Result<Option<Row>, AllocError> {
@@ -186,7 +186,7 @@ fn sign_of(word: &str) -> Option<&'static str> {
 // The change of a call that counts into an assignment, if it is one.
 fn assignment(
     alloc: Global,
-    fault: &Fault<'_>,
+    fault: &ReportedFault<'_>,
     at: usize,
     row: Row,
 ) -> Result<Option<Trial>, AllocError> {
@@ -213,7 +213,11 @@ fn assignment(
 }
 
 // The name of the function around the number of a token, if that is one.
-fn function_around<'a>(alloc: Global, fault: &Fault<'a>, at: usize) -> Result<&'a str, AllocError> {
+fn function_around<'a>(
+    alloc: Global,
+    fault: &ReportedFault<'a>,
+    at: usize,
+) -> Result<&'a str, AllocError> {
     match routine_around(alloc, fault.tokens, at)? {
         Some(word) => Ok(name_of(fault.source.bytes(), fault.tokens, word)),
         None => Ok(""),
@@ -223,7 +227,7 @@ fn function_around<'a>(alloc: Global, fault: &Fault<'a>, at: usize) -> Result<&'
 // What is put in the place of the name, if that is all that is to be done.
 fn put_for<'a>(
     alloc: Global,
-    fault: &Fault<'a>,
+    fault: &ReportedFault<'a>,
     at: usize,
     row: Row,
 ) -> Result<&'a str, AllocError> {
@@ -236,7 +240,7 @@ fn put_for<'a>(
 // Adds what is worth a trial.
 fn add_trials(
     alloc: Global,
-    fault: &Fault<'_>,
+    fault: &ReportedFault<'_>,
     at: usize,
     row: Row,
     uses: &[Span],
@@ -272,7 +276,12 @@ fn add_note(
 }
 
 // What is told of a name by its row.
-fn told_by(alloc: Global, fault: &Fault<'_>, at: usize, row: Row) -> Result<Draft, AllocError> {
+fn told_by(
+    alloc: Global,
+    fault: &ReportedFault<'_>,
+    at: usize,
+    row: Row,
+) -> Result<Draft, AllocError> {
     let text = fault.source.bytes();
     let name = piece(text, fault.place);
     let origin = row.origin();
@@ -294,7 +303,7 @@ fn told_by(alloc: Global, fault: &Fault<'_>, at: usize, row: Row) -> Result<Draf
 /// What is told of a name that is not declared and stands in the table of other Pascals; none of another fault.
 pub(crate) fn draft_by_table(
     alloc: Global,
-    fault: &Fault<'_>,
+    fault: &ReportedFault<'_>,
 ) -> Result<Option<Draft>, AllocError> {
     if fault.number != UNKNOWN {
         return Ok(None);

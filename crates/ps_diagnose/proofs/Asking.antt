@@ -26,15 +26,15 @@ use Rattle.std.proofs.Common.{
   map,
   ⊎_elim,
 }
-use Rattle.std.specs.Prelude.{All}
 use Rattle.std.specs.List.{Contains}
 use Rattle.std.proofs.lemmas.List.{take_more, length-take, length_push, get_or-take, get_or_default}
 use Rattle.std.proofs.lemmas.List.{get_or_append_left, get_or_push}
 use Rattle.std.proofs.lemmas.List.Elements.{All-nil, All-push, Contains-append_left, Contains-push, Contains-push_cases}
+use Rattle.std.proofs.lemmas.Bool.{cases_lt}
 use Rattle.ps_scan.specs.declared.token.Kind.{Kind}
 use Rattle.ps_scan.specs.declared.token.Kind.TheVariants as k
 use Rattle.ps_parse_grammar.specs.Symbols.{Tokens}
-use Rattle.ps_diagnose.specs.Begun.{Tells, LieTooDeep, one_more, CouldStand, IsSettled, AreApart, Asked, Expects}
+use Rattle.ps_diagnose.specs.Begun.{Tells, one_more, CouldStand, IsSettled, AreApart, Asked, Expects}
 use Rattle.ps_diagnose.specs.declared.begun.Answer.TheVariants.{Begun, NotBegun, Unknown}
 use Rattle.ps_diagnose.specs.declared.kinds.TheConstants.{ALL}
 
@@ -53,12 +53,6 @@ still_settled : (text : List ℕ) (ts : Tokens) (given : List Kind) (more kind :
 still_settled text ts given more kind (inl given') = inl (Contains-append_left given (more ∷ []) kind given')
 still_settled text ts given more kind (inr other) = inr other
 
-below_or_not : (a b : ℕ) → (a < b) ⊎ (b ≤ a)
-below_or_not a zero = inr (omega arith)
-below_or_not zero (suc b) = inl (omega arith)
-below_or_not (suc a) (suc b) =
-    ⊎_elim (λ below. inl (omega (arith, below))) (λ above. inr (omega (arith, above))) (below_or_not a b)
-
 -- one more that isn't given yet
 apart_push : (given : List Kind) (more : Kind) → AreApart given → (Contains given more → ⊥)
     → AreApart (given ++ more ∷ [])
@@ -71,7 +65,7 @@ apart_push given more apart fresh i j d lt within same =
     (λ inside. apart i j d lt inside (before ∙ same ∙ get_or_append_left given (more ∷ []) d j inside))
     (λ past. (let last : length given ≡ j = omega (arith, long, past, within) in
     fresh (i, first, get_or_default given i more d first ∙ before ∙ same ∙ get_or_push given more d j last)))
-    (below_or_not j (length given))
+    (cases_lt j (length given))
 
 among_push : (asked given : List Kind) (more kind : Kind) → ((k : Kind) → Contains given k → Contains asked k)
     → Contains (given ++ more ∷ []) kind → Contains (asked ++ more ∷ []) kind

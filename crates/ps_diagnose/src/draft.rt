@@ -7,7 +7,7 @@ use ps_text::{Source, Span};
 /// What a message is made of: the text, its tokens (those before the place where the scanner refuses it), and the number and the
 /// place of the refusal.
 #[derive(Clone, Copy)]
-pub struct Fault<'a> {
+pub struct ReportedFault<'a> {
     pub source: &'a Source<'a>,
     pub tokens: &'a [Token],
     pub number: u8,

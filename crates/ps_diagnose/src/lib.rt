@@ -11,7 +11,7 @@ mod near;
 
 pub use begun::{Answer, begins};
 pub use changes::changed;
-pub use draft::{Draft, Fault, Trial};
+pub use draft::{Draft, ReportedFault, Trial};
 pub use expected::{could_stand, expected_at};
 pub use groups::grouped;
 pub use kinds::written;

@@ -5,7 +5,7 @@ use crate::facts::{factor_in_simple, relation_word};
 use crate::required::Known;
 use crate::why::{Change, Help, Mark, Why};
 use ps_diagnose_outline::{Form, Type};
-use ps_syntax::{Factor, Relation, Simple};
+use ps_syntax::{Factor, Relational, Simple};
 use ps_text::Span;
 
 impl<'a> Context<'a> {
@@ -13,7 +13,7 @@ impl<'a> Context<'a> {
     pub(crate) fn wrong_compare(
         &self,
         left: &Simple,
-        relation: Relation,
+        relation: Relational,
         right: &Simple,
         why: &mut Why,
     ) -> bool {
@@ -30,10 +30,11 @@ impl<'a> Context<'a> {
             left: self.simple_span(left),
             right: self.simple_span(right),
         };
-        if matches!(relation, Relation::In) {
+        if matches!(relation, Relational::In) {
             return self.wrong_in(pair, right, why);
         }
         self.strings_compared(pair, why)
+            || self.pointed_compared(pair, why)
             || self.structure_compared(relation, pair.left, first, why)
             || self.structure_compared(relation, pair.right, second, why)
             || self.order_compared(pair, why)
@@ -96,8 +97,30 @@ impl<'a> Context<'a> {
         true
     }
 
+    // What a pointer points to, beside `nil`.
+    fn pointed_compared(&self, pair: Pair, why: &mut Why) -> bool {
+        let is_nil = matches!(self.outline.form(pair.second), Some(Form::Nil));
+        if !is_nil || !self.outline.bytes(pair.left).ends_with(b"^") {
+            return false;
+        }
+        why.form = "`@x` is what a pointer points to, and `nil` is a pointer";
+        why.text = pair.left;
+        why.mark = Mark::Declared(pair.left);
+        why.change = Change::Without(Span {
+            from: pair.left.to.saturating_sub(1),
+            to: pair.left.to,
+        });
+        true
+    }
+
     // An array or a record.
-    fn structure_compared(&self, relation: Relation, text: Span, ty: Type, why: &mut Why) -> bool {
+    fn structure_compared(
+        &self,
+        relation: Relational,
+        text: Span,
+        ty: Type,
+        why: &mut Why,
+    ) -> bool {
         let help = match self.outline.form(ty) {
             Some(Form::Array { .. }) if !self.is_string(ty) => {
                 "compare its components one by one, in a loop"
@@ -120,8 +143,10 @@ impl<'a> Context<'a> {
             (Some(Form::Pointer(_) | Form::Nil), relation) if !is_equality(relation) => {
                 "`@w` cannot compare pointers: `=` and `<>` can"
             }
-            (Some(Form::Set(_)), Relation::Less | Relation::Greater) if self.is_set(pair.second) =>
-                { "`@w` cannot compare sets: `=`, `<>`, `<=` and `>=` can" }
+            (Some(Form::Set(_)), Relational::Less | Relational::Greater)
+                if self.is_set(pair.second) => {
+                "`@w` cannot compare sets: `=`, `<>`, `<=` and `>=` can"
+            }
             _ => return false,
         };
         why.form = form;
@@ -150,10 +175,21 @@ impl<'a> Context<'a> {
             why.help = self.conversion(pair.first, pair.second, pair.right);
             why.next_help = self.conversion(pair.second, pair.first, pair.left);
         }
+        if self.is_set(pair.second) && matches!(pair.relation, Relational::Equal) {
+            self.with_in(pair, why);
+        }
         if matches!(self.known(pair.right), Known::End) {
             why.help = Help::Of("`@a` is a condition by itself, as in `not @a`", pair.right);
         }
         true
+    }
+
+    // Tries `in` for a relation before a set.
+    fn with_in(&self, pair: Pair, why: &mut Why) {
+        why.help = Help::Is("whether a value is a member of a set is asked by `in`");
+        if let Some(sign) = self.outline.token_before(pair.right.from) {
+            why.change = Change::For(sign.span, "in");
+        }
     }
 
     // Whether a Boolean is compared by `=` or `<>`.
@@ -186,7 +222,7 @@ impl<'a> Context<'a> {
             from: pair.left.from,
             to: pair.right.to,
         };
-        if is_one == matches!(pair.relation, Relation::Equal) {
+        if is_one == matches!(pair.relation, Relational::Equal) {
             Change::For(whole, "@x")
         } else {
             Change::For(whole, "not @x")
@@ -197,7 +233,7 @@ impl<'a> Context<'a> {
 /// Two operands of a relation, with what is known of them.
 #[derive(Clone, Copy)]
 pub(crate) struct Pair {
-    relation: Relation,
+    relation: Relational,
     first: Type,
     second: Type,
     left: Span,
@@ -205,6 +241,6 @@ pub(crate) struct Pair {
 }
 
 // Whether a relation asks for equality alone.
-fn is_equality(relation: Relation) -> bool {
-    matches!(relation, Relation::Equal | Relation::NotEqual)
+fn is_equality(relation: Relational) -> bool {
+    matches!(relation, Relational::Equal | Relational::NotEqual)
 }

@@ -3,7 +3,7 @@
 use crate::spot::{Seen, Spot};
 use crate::text::Text;
 use crate::why::Why;
-use ps_diagnose::Fault;
+use ps_diagnose::ReportedFault;
 use ps_diagnose_outline::{Outline, PointKind, Type};
 use ps_text::Span;
 use std::alloc::Global;
@@ -12,7 +12,7 @@ use std::alloc::Global;
 #[derive(Drop)]
 pub(crate) struct Context<'a> {
     pub(crate) alloc: Global,
-    pub(crate) fault: Fault<'a>,
+    pub(crate) fault: ReportedFault<'a>,
     pub(crate) outline: Outline<'a>,
     /// What the place may be the place of, from the outside in.
     pub(crate) spots: Vec<Spot<'a>>,

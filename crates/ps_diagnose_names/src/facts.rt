@@ -4,7 +4,7 @@ use crate::context::Context;
 use crate::required::{Known, known_of};
 use ps_diagnose_outline::{Denoted, Form, Part, Point, PointKind, Required, RequiredKind, Type};
 use ps_scan::Token;
-use ps_syntax::{Expr, Factor, Relation, Simple, Term, Variable};
+use ps_syntax::{Expr, Factor, Relational, Simple, Term, Variable};
 use ps_text::Span;
 
 impl<'a> Context<'a> {
@@ -233,15 +233,15 @@ pub(crate) fn is_text(expr: &Expr) -> bool {
 }
 
 /// The sign of a relation.
-pub(crate) fn relation_word(relation: Relation) -> &'static str {
+pub(crate) fn relation_word(relation: Relational) -> &'static str {
     match relation {
-        Relation::Equal => "=",
-        Relation::NotEqual => "<>",
-        Relation::Less => "<",
-        Relation::Greater => ">",
-        Relation::LessEqual => "<=",
-        Relation::GreaterEqual => ">=",
-        Relation::In => "in",
+        Relational::Equal => "=",
+        Relational::NotEqual => "<>",
+        Relational::Less => "<",
+        Relational::Greater => ">",
+        Relational::LessEqual => "<=",
+        Relational::GreaterEqual => ">=",
+        Relational::In => "in",
     }
 }
 

@@ -1,13 +1,12 @@
 //! The sentence of a refusal.
 
 use crate::context::Context;
-use crate::routines::no_result;
 use crate::spot::{Spot, seen_among};
 use crate::tell::{Told, untold};
 use crate::uses::other_uses;
 use crate::walk::Walk;
 use crate::why::Why;
-use ps_diagnose::{Draft, Fault};
+use ps_diagnose::{Draft, ReportedFault};
 use ps_diagnose_outline::Outline;
 use ps_syntax::Program;
 use ps_text::Span;
@@ -42,7 +41,7 @@ fn looked_for<'a>(
 // What is known of a refusal.
 fn context_of<'a>(
     alloc: Global,
-    fault: Fault<'a>,
+    fault: ReportedFault<'a>,
     program: &'a Program,
 ) -> Result<Context<'a>, AllocError> {
     let outline = Outline::new(alloc, fault.source, fault.tokens, program)?;
@@ -79,7 +78,7 @@ impl<'a> Context<'a> {
             40 => self.packed_variable(why),
             41 => self.not_congruous(why),
             42 => self.forward_open(why),
-            43 => no_result(why),
+            43 => self.no_result(why),
             44 => self.no_file(why),
             45 => self.limit(why),
             _ => false,
@@ -114,10 +113,10 @@ fn draft_of(out: Told, is_told: bool) -> Result<Option<Draft>, AllocError> {
 /// What is told of a refusal of the numbers 30 to 45 of a program, before its mends are tried; nothing where no reason is known.
 pub fn drafted(
     alloc: Global,
-    fault: &Fault<'_>,
+    fault: &ReportedFault<'_>,
     program: &Program,
 ) -> Result<Option<Draft>, AllocError> {
-    let own = Fault {
+    let own = ReportedFault {
         source: &*fault.source,
         tokens: &*fault.tokens,
         number: fault.number,

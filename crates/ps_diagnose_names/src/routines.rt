@@ -2,7 +2,8 @@
 
 use crate::context::Context;
 use crate::required::Known;
-use crate::why::{Change, Help, Why};
+use crate::why::{Change, Help, Mark, Why};
+use ps_diagnose_outline::Point;
 use ps_scan::Kind;
 
 impl<'a> Context<'a> {
@@ -111,6 +112,23 @@ impl<'a> Context<'a> {
         }
         depth
     }
+
+    /// A function without a result.
+    pub(crate) fn no_result(&self, why: &mut Why) -> bool {
+        why.form = "nothing in the block of `@p` assigns its result";
+        why.help = Help::Is("assign it to the name of the function: `@p := ..`");
+        if let Some(hiding) = self.hiding_function() {
+            why.mark = Mark::At("this hides the function", hiding.name);
+            why.help = Help::Is("take this declaration away: `@p := ..` assigns the result then");
+        }
+        true
+    }
+
+    // What is declared by the name of the function at the place in its own block.
+    fn hiding_function(&self) -> Option<Point> {
+        let function = self.declared_here()?;
+        self.outline.point_in(function.formals?, function.spelling)
+    }
 }
 
 // Whether a required name needs the output, or the input.
@@ -120,11 +138,4 @@ fn file_of(known: Known) -> Option<bool> {
         Known::Read | Known::Readln | Known::End | Known::Input => Some(false),
         _ => None,
     }
-}
-
-/// A function without a result.
-pub(crate) fn no_result(why: &mut Why) -> bool {
-    why.form = "nothing in the block of `@p` assigns its result";
-    why.help = Help::Is("assign it to the name of the function: `@p := ..`");
-    true
 }

@@ -2,7 +2,7 @@
 
 use ps_diagnose_outline::count_of;
 use ps_syntax::{
-    Constant, Element, Expr, Factor, Member, Ordinal, Parameter, Relation, Simple, Term, Variable,
+    Constant, Element, Expr, Factor, Member, Ordinal, Parameter, Relational, Simple, Term, Variable,
 };
 use ps_text::Span;
 
@@ -38,7 +38,7 @@ pub(crate) enum Spot<'a> {
     Selected(&'a Variable, u32),
     /// An index: the variable, how many selectors and how many indices stand before it.
     Index(&'a Variable, u32, u32, &'a Expr),
-    Compare(&'a Simple, Relation, &'a Simple),
+    Compare(&'a Simple, Relational, &'a Simple),
     /// An operand of adding operators, by its number from 0.
     Added(&'a Simple, u32),
     /// An operand of multiplying operators, by its number from 0.
@@ -77,7 +77,7 @@ pub(crate) struct Seen<'a> {
     /// What is called, or stands as a variable, and how many parameters it is given.
     pub(crate) called: Option<(Span, u32)>,
     pub(crate) selected: Option<(&'a Variable, u32)>,
-    pub(crate) compared: Option<(&'a Simple, Relation, &'a Simple)>,
+    pub(crate) compared: Option<(&'a Simple, Relational, &'a Simple)>,
     pub(crate) sum: Option<&'a Simple>,
     pub(crate) range: Option<(Constant, Constant)>,
     pub(crate) case_constant: Option<(Constant, &'a [Element])>,

@@ -7,7 +7,7 @@ use crate::why::{Change, Help, Mark, NOWHERE, Why};
 use ps_diagnose::{Draft, Trial};
 use ps_diagnostic::{Edit, Label};
 use ps_scan::Kind;
-use ps_syntax::Relation;
+use ps_syntax::Relational;
 use ps_text::Span;
 use std::alloc::Global;
 
@@ -333,7 +333,7 @@ impl<'a> Context<'a> {
     }
 
     // Puts a comparison between parentheses.
-    fn put_compared(&self, put: &mut Text, left: Span, relation: Relation, right: Span) {
+    fn put_compared(&self, put: &mut Text, left: Span, relation: Relational, right: Span) {
         let mut why = Why::new();
         why.text = left;
         why.other = right;

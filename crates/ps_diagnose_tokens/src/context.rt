@@ -3,7 +3,7 @@
 use crate::kinds::ROUTINES;
 use crate::tell::shown;
 use crate::walk::{Block, Open, Opened, opened_before};
-use ps_diagnose::Fault;
+use ps_diagnose::ReportedFault;
 use ps_scan::{Kind, Token};
 use ps_text::Span;
 use std::alloc::{AllocError, Global};
@@ -21,7 +21,10 @@ pub(crate) struct Context<'a> {
 }
 
 /// The context of a refusal.
-pub(crate) fn context_of<'a>(alloc: Global, fault: &Fault<'a>) -> Result<Context<'a>, AllocError> {
+pub(crate) fn context_of<'a>(
+    alloc: Global,
+    fault: &ReportedFault<'a>,
+) -> Result<Context<'a>, AllocError> {
     let bytes = fault.source.bytes();
     let at = number_at(fault.tokens, fault.place.from);
     let opened = opened_before(alloc, bytes, fault.tokens, at)?;

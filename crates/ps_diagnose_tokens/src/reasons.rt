@@ -16,7 +16,7 @@ use crate::telling::tell_rule;
 use crate::{
     assigned, bounds, compared, declaring, ended, habits, left_out, lists, missing, parts, slips,
 };
-use ps_diagnose::{Draft, Fault};
+use ps_diagnose::{Draft, ReportedFault};
 use std::alloc::{AllocError, Global};
 use std::mem::replace;
 
@@ -108,7 +108,7 @@ fn answer(to: Telling) -> Result<Draft, AllocError> {
 }
 
 // What is told of a refusal by the scanner or the parser.
-fn told(alloc: Global, fault: &Fault<'_>) -> Result<Draft, AllocError> {
+fn told(alloc: Global, fault: &ReportedFault<'_>) -> Result<Draft, AllocError> {
     let cx = context_of(alloc, fault)?;
     let mut to = Telling {
         draft: nothing(alloc),
@@ -130,7 +130,7 @@ fn is_of_tokens(number: u8) -> bool
 
 /// What is told of a refusal by the scanner or the parser (10 to 16 and 20 to 22), made of the tokens round its place;
 /// none of another number.
-pub fn drafted(alloc: Global, fault: &Fault<'_>) -> Result<Option<Draft>, AllocError>
+pub fn drafted(alloc: Global, fault: &ReportedFault<'_>) -> Result<Option<Draft>, AllocError>
     ensures { IfOk result (λ draft. IsSome draft ↔ IsOfTokens fault.now.number) }
 {
     if !is_of_tokens(fault.number) {
@@ -155,7 +155,7 @@ fn tell_missing(cx: &Context<'_>, to: &mut Telling, token: &str) {
 /// place. It stands for the sentence of a draft that tells only that the token cannot stand there.
 pub fn missing_before(
     alloc: Global,
-    fault: &Fault<'_>,
+    fault: &ReportedFault<'_>,
     token: &str,
     draft: &mut Draft,
 ) -> Result<(), AllocError> {
@@ -170,7 +170,7 @@ pub fn missing_before(
 }
 
 /// The part of the table of other Pascals that is told at the place of a refusal.
-pub fn part_at(alloc: Global, fault: &Fault<'_>) -> Result<Part, AllocError> {
+pub fn part_at(alloc: Global, fault: &ReportedFault<'_>) -> Result<Part, AllocError> {
     let cx = context_of(alloc, fault)?;
     Ok(part_here(&cx))
 }

@@ -11,7 +11,7 @@ ghost use Rattle.std.specs.Prelude.{◌≡◌};
 ghost use Rattle.ps_diagnostic.specs.Head.{word};
 
 pub use object::object_of;
-pub use people::told;
+pub use people::render;
 use ps_text::Span;
 pub use view::View;
 

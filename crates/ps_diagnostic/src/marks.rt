@@ -41,6 +41,14 @@ struct Piece {
     end: usize,
 }
 
+/// What all lines are shown by: the text, and how many columns the numbers of lines take.
+#[derive(Clone, Copy)]
+struct Layout<'a> {
+    alloc: Global,
+    view: &'a View<'a>,
+    room: usize,
+}
+
 // What is shown before anything is.
 const NOTHING: Piece = Piece {
     line: 0,
@@ -132,9 +140,9 @@ fn room_of(alloc: Global, lines: &[usize]) -> Result<usize, AllocError> {
 }
 
 // Puts a line's number, and what stands between it and the line.
-fn put_number(alloc: Global, out: &mut String, room: usize, line: usize) -> Result<(), AllocError> {
-    let number = format!(in alloc; "{line}")?;
-    put_times(out, ' ', room.saturating_sub(number.len()))?;
+fn put_number(layout: Layout<'_>, out: &mut String, line: usize) -> Result<(), AllocError> {
+    let number = format!(in layout.alloc; "{line}")?;
+    put_times(out, ' ', layout.room.saturating_sub(number.len()))?;
     out.push_str(number.as_str())?;
     out.push_str(" |")
 }
@@ -152,19 +160,17 @@ fn put_piece(out: &mut String, text: &[u8], piece: Piece) -> Result<(), AllocErr
 
 // Puts the piece of a line round what is marked or changed there, if the piece that was put last doesn't have it.
 fn put_round(
-    alloc: Global,
+    layout: Layout<'_>,
     out: &mut String,
-    view: &View<'_>,
-    room: usize,
     last: Piece,
     reach: Reach,
 ) -> Result<Piece, AllocError> {
     if has(last, reach) {
         return Ok(last);
     }
-    let text = view.line(reach.line);
+    let text = layout.view.line(reach.line);
     let piece = piece_round(text, reach.line, reach.from);
-    put_number(alloc, out, room, reach.line)?;
+    put_number(layout, out, reach.line)?;
     put_piece(out, text, piece)?;
     Ok(piece)
 }
@@ -179,17 +185,17 @@ fn put_lead(out: &mut String, lead: &[u8], is_cut: bool) -> Result<(), AllocErro
 
 // Puts a line with a mark below what a span has of a piece, and a text behind it.
 fn put_mark(
+    layout: Layout<'_>,
     out: &mut String,
-    line: &[u8],
-    room: usize,
     piece: Piece,
     reach: Reach,
     sign: char,
     text: &str,
 ) -> Result<(), AllocError> {
+    let line = layout.view.line(reach.line);
     let lead = line.get(piece.from..reach.from).unwrap_or(&[]);
     let marked = line.get(reach.from..reach.to.min(piece.to)).unwrap_or(&[]);
-    put_times(out, ' ', room)?;
+    put_times(out, ' ', layout.room)?;
     out.push_str(" | ")?;
     put_lead(out, lead, piece.from > 0)?;
     put_times(out, sign, width(marked).max(1))?;
@@ -202,21 +208,18 @@ fn put_mark(
 
 // Puts the marks of the labels that belong to a line, with what is shown of it for them.
 fn put_labels(
-    alloc: Global,
+    layout: Layout<'_>,
     out: &mut String,
-    view: &View<'_>,
-    room: usize,
     first: Piece,
     line: usize,
     labels: &[Label],
 ) -> Result<Piece, AllocError> {
     let mut piece = first;
     for label in labels.iter() {
-        if view.line_of(label.span.from) == line {
-            let reach = view.reach_of(label.span);
-            piece = put_round(alloc, out, view, room, piece, reach)?;
-            let text = label.text.as_str();
-            put_mark(out, view.line(line), room, piece, reach, '-', text)?;
+        if layout.view.line_of(label.span.from) == line {
+            let reach = layout.view.reach_of(label.span);
+            piece = put_round(layout, out, piece, reach)?;
+            put_mark(layout, out, piece, reach, '-', label.text.as_str())?;
         }
     }
     Ok(piece)
@@ -224,10 +227,8 @@ fn put_labels(
 
 // Puts what is shown of a line for the first changes of a mend, beside the piece of the place and the one that was put last.
 fn put_edits(
-    alloc: Global,
+    layout: Layout<'_>,
     out: &mut String,
-    view: &View<'_>,
-    room: usize,
     main: Piece,
     last: Piece,
     line: usize,
@@ -235,9 +236,9 @@ fn put_edits(
 ) -> Result<(), AllocError> {
     let mut piece = last;
     for edit in edits.iter().take(MOST_EDITS) {
-        let reach = view.reach_of(edit.span);
+        let reach = layout.view.reach_of(edit.span);
         if reach.line == line && !has(main, reach) {
-            piece = put_round(alloc, out, view, room, piece, reach)?;
+            piece = put_round(layout, out, piece, reach)?;
         }
     }
     Ok(())
@@ -245,24 +246,21 @@ fn put_edits(
 
 // Puts what is shown of a line, with all its marks.
 fn put_line(
-    alloc: Global,
+    layout: Layout<'_>,
     out: &mut String,
-    view: &View<'_>,
     diagnostic: &Diagnostic,
-    room: usize,
     line: usize,
     place: Span,
 ) -> Result<(), AllocError> {
     let mut main = NOTHING;
-    if line == view.line_of(place.from) {
-        let reach = view.reach_of(place);
-        main = put_round(alloc, out, view, room, main, reach)?;
-        put_mark(out, view.line(line), room, main, reach, '^', "")?;
+    if line == layout.view.line_of(place.from) {
+        let reach = layout.view.reach_of(place);
+        main = put_round(layout, out, main, reach)?;
+        put_mark(layout, out, main, reach, '^', "")?;
     }
-    let labels = diagnostic.labels.as_slice();
-    let last = put_labels(alloc, out, view, room, main, line, labels)?;
+    let last = put_labels(layout, out, main, line, diagnostic.labels.as_slice())?;
     let edits = edits_of(diagnostic.mends.as_slice());
-    put_edits(alloc, out, view, room, main, last, line, edits)
+    put_edits(layout, out, main, last, line, edits)
 }
 
 /// Puts the lines of the source that are shown with a diagnostic, with the marks below them: those of its place, of its
@@ -278,11 +276,15 @@ pub(crate) fn put_source(
         return Ok(());
     };
     let lines = lines_of(alloc, view, diagnostic, place)?;
-    let room = room_of(alloc, lines.as_slice())?;
+    let layout = Layout {
+        alloc,
+        view,
+        room: room_of(alloc, lines.as_slice())?,
+    };
     let mut last = 0;
     for line in lines.iter().copied() {
         if line != last {
-            put_line(alloc, out, view, diagnostic, room, line, place)?;
+            put_line(layout, out, diagnostic, line, place)?;
             last = line;
         }
     }

@@ -161,7 +161,7 @@ fn rest(alloc: Global, view: &View<'_>, diagnostic: &Diagnostic) -> Result<Strin
 /// whole. Of a longer one pieces of at most 100 bytes are shown, each from 40 bytes before what is marked or changed there
 /// on, or the last ones of the line, with `...` at a side where the line goes on; a mark ends with its piece. Of the
 /// first mend the lines of its first eight changes are shown.
-pub fn told(
+pub fn render(
     alloc: Global,
     file: &str,
     view: &View<'_>,
