@@ -16,7 +16,7 @@ differing olds found = differences facts olds
 
 -- each fact that differs is told
 abbrev pub IsTold : Names → List Text → Found → Comparison → Type 0
-IsTold names olds found comparison = comparison.told.items ≡ verdict_text names (differing olds found) found.is_built
+IsTold names olds found comparison = comparison.verdict.items ≡ verdict_text names (differing olds found) found.is_built
 
 -- it holds where no fact differs and the image is that of the source
 abbrev pub holds : List Text → Found → Bool

@@ -8,7 +8,7 @@ ghost use Rattle.pascal_certificate.specs.Verdict.{verdict_text};
 
 use crate::compare::changes;
 use crate::made::{Seal, values_of};
-use crate::verdict::{Names, told};
+use crate::verdict::{Names, verdict_text};
 use std::alloc::{AllocError, Global};
 
 /// What is found beside a certificate.
@@ -28,7 +28,7 @@ pub struct Comparison {
     /// Whether each fact is as it was, and the image is that of the source.
     pub holds: bool,
     /// What is told of each file.
-    pub told: Vec<u8>,
+    pub verdict: Vec<u8>,
 }
 
 // Compares values that were with those that are now.
@@ -39,16 +39,16 @@ fn compared_values(
     news: &[&[u8]],
     is_built: bool,
 ) -> Result<Comparison, AllocError>
-    ensures told { IfOk result (λ c. c.told.items ≡ verdict_text names.now
+    ensures told { IfOk result (λ c. c.verdict.items ≡ verdict_text names.now
         (differences facts (map (λ value. value.now) olds.now) (map (λ value. value.now) news.now)) is_built) }
     ensures holds { IfOk result (λ c. c.holds ≡ (is_built
         && (length (differences facts (map (λ value. value.now) olds.now) (map (λ value. value.now) news.now)) == 0))) }
 {
     let changes = changes(alloc, olds, news)?;
-    let told = told(alloc, names, &changes, is_built)?;
+    let verdict = verdict_text(alloc, names, &changes, is_built)?;
     Ok(Comparison {
         holds: is_built && changes.is_empty(),
-        told,
+        verdict,
     })
 }
 

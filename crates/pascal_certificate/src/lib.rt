@@ -16,4 +16,4 @@ pub use damage::{Damage, damage_of};
 pub use fact::{FACTS, Fact, NOT_KNOWN, fits, label};
 pub use made::{Seal, certificate_of, seal_of};
 pub use read::parse;
-pub use verdict::{Names, told};
+pub use verdict::{Names, verdict_text};

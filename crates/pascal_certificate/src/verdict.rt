@@ -125,7 +125,7 @@ fn has_program(changes: &[Change<'_, '_>]) -> bool
 }
 
 /// A line for each fact that differs, and then what each file is, and whether the image is that of the source.
-pub fn told(
+pub fn verdict_text(
     alloc: Global,
     names: &Names<'_>,
     changes: &[Change<'_, '_>],

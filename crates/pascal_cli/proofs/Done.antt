@@ -10,7 +10,7 @@ use Rattle.pascal_command.specs.Command.{Request, Text, Work, request_of}
 use Rattle.pascal_cli.specs.Explain.{AreThePages, asked_pages, has_page, shown}
 use Rattle.pascal_cli.specs.Jobs.{AreAccepted, IsAccepted, IsDone, IsStatus}
 use Rattle.pascal_command.specs.Options.{plain_words}
-use Rattle.pascal_cli.specs.Session.{asks_version}
+use Rattle.pascal_session.specs.Session.{asks_version}
 use Rattle.pascal_command.proofs.GivenRows.{same_text}
 
 -- a job that failed, or did its work

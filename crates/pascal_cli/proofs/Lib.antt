@@ -1,9 +1,7 @@
 pub mod Answered
-pub mod Called
 pub mod Certified
 pub mod Done
 pub mod Failed
-pub mod Fronts
 pub mod Made
 pub mod NeededLines
 pub mod Ran

@@ -8,7 +8,7 @@ use Rattle.ps_build.specs.declared.outcome.Outcome.{Outcome}
 use Rattle.ps_build.specs.declared.refusal.Refusal.{Refusal}
 use Rattle.pascal_command.specs.Command.{Limits}
 use Rattle.pascal_cli.specs.Jobs.{RanImage, RanOf, budget_of}
-use Rattle.pascal_cli.specs.Report.{status_of}
+use Rattle.pascal_session.specs.Report.{status_of}
 use Rattle.pascal_cli.specs.Runs.{RunsThrough}
 
 pub ran_of : (text bytes : List ℕ) (limits : Limits) (old new : World) (held : List ℕ) (failed : Bool) (status : ℕ)

@@ -6,13 +6,11 @@ use Rattle.std.proofs.lemmas.List.{append-nil, map-append}
 use Rattle.std.proofs.lemmas.List.Elements.{filter-append}
 use Rattle.std.proofs.lemmas.List.Sums.{fold-append}
 use Rattle.std.specs.Prelude.{slice_get}
+use Rattle.std.proofs.lemmas.Option.{same_Some}
 use Rattle.pascal_pages.specs.Asked.{Names, asks, names_of}
 use Rattle.pascal_pages.specs.Pages.{pages}
 use Rattle.pascal_pages.specs.declared.Page.{Page}
 use Rattle.pascal_cli.specs.Explain.{asked_pages, shown, with_page}
-
-some_is : {X : Type 0} (a b : X) → Some a ≡ Some b → a ≡ b
-some_is a b e = cc
 
 no_some : {X : Type 0} (a : X) → Some a ≡ None → ⊥
 no_some a e = cc
@@ -20,7 +18,7 @@ no_some a e = cc
 -- one more is taken
 take_suc : {X : Type 0} (xs : List X) (k : ℕ) (x : X) → Some x ≡ slice_get xs k → take (suc k) xs ≡ take k xs ++ x ∷ []
 take_suc [] k x e = absurd (no_some x e)
-take_suc (y ∷ ys) zero x e = ap (λ z. z ∷ []) (sym (some_is x y e))
+take_suc (y ∷ ys) zero x e = ap (λ z. z ∷ []) (sym (same_Some x y e))
 take_suc (y ∷ ys) (suc k) x e = ap (λ rest. y ∷ rest) (take_suc ys k x e)
 
 take_next : {X : Type 0} (xs : List X) (k : ℕ) (x : X) → Some x ≡ slice_get xs k → take (k + 1) xs ≡ take k xs ++ x ∷ []

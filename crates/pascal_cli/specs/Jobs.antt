@@ -15,7 +15,7 @@ use Rattle.pascal_cli.specs.Certificates.{SomeCertificate, SomeHolding}
 use Rattle.pascal_command.specs.Command.{Limits, Request, Work, certify, check, compile, explain, go, go_standard_input}
 use Rattle.pascal_command.specs.Command.{list, needs, request_in, run, verify, watch}
 use Rattle.pascal_cli.specs.Explain.{has_page}
-use Rattle.pascal_cli.specs.Report.{status_of}
+use Rattle.pascal_session.specs.Report.{status_of}
 use Rattle.pascal_cli.specs.Runs.{GoesThrough, RunsThrough}
 use Rattle.pascal_cli.specs.declared.image_file.Content.{Content}
 use Rattle.pascal_cli.specs.declared.image_file.Content.TheVariants.{Image, Map}

@@ -1,13 +1,8 @@
-pub mod Ahead
 pub mod Certificates
-pub mod Console
 pub mod Explain
 pub mod Failures
 pub mod Files
 pub mod Jobs
 pub mod NeedLines
-pub mod Report
 pub mod Runs
-pub mod Session
-pub mod Transfers
 pub mod Watched

@@ -2,4 +2,4 @@
 
 /// The sum.
 pub(crate) const BELIEVED: &str =
-    "631e49a56ec38282bf8d133c2640691550481059162f6575efa6a5b635972b6e";
+    "73013d68d36de13503bc1a4c85c684f7807db00ee164e9323ec67ffec789bb19";

@@ -7,10 +7,10 @@ ghost use Rattle.pascal_cli.specs.Failures.{Answers, HasRefusal, Keeps, Tells, h
 ghost use Rattle.pascal_cli.specs.Jobs.{AreAccepted, IsAccepted, IsStatus, SomeAccepted, SomeRefused};
 
 use crate::failures::Failures;
-use crate::session::TEXT_LIMIT;
 use pascal_command::{Job, Telling};
+use pascal_session::TEXT_LIMIT;
 use ps_advise::{Advice, Wants, advised};
-use ps_diagnostic::{Diagnostic, View, object_of, told};
+use ps_diagnostic::{Diagnostic, View, object_of, render};
 use ps_text::Source;
 use std::alloc::{AllocError, Global};
 use std::rt::Files;
@@ -68,7 +68,7 @@ fn lines(
         if is_behind || !out.is_empty() {
             out.push('\n')?;
         }
-        let text = told(alloc, path, view, diagnostic)?;
+        let text = render(alloc, path, view, diagnostic)?;
         out.push_str(text.as_str())?;
     }
     Ok(out)

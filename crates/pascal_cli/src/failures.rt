@@ -5,7 +5,7 @@ ghost use Rattle.pascal_cli.specs.Failures.{Keeps, Notes, NotesFault, TellsRefus
 ghost use Rattle.pascal_cli.specs.Failures.{is_named_twice, made, status_after};
 
 use crate::jobs::print_all;
-use crate::session::{FAILED, STANDARD_INPUT, is_standard, out_of_memory, read_at, tell};
+use pascal_session::{FAILED, STANDARD_INPUT, is_standard, out_of_memory, read_at, report_end};
 use ps_build::Refusal;
 use std::alloc::AllocError;
 use std::rt::Files;
@@ -121,7 +121,7 @@ impl Failures {
                 false
             }
             refusal => {
-                let _ = tell(rt, &Err(refusal));
+                let _ = report_end(rt, &Err(refusal));
                 true
             }
         }
@@ -133,7 +133,7 @@ impl Failures {
         ensures noted { has_failed self.new ≡ true }
     {
         self.is_any = true;
-        tell(rt, &Err(refusal))
+        report_end(rt, &Err(refusal))
     }
 
     /// Writes to standard output. Where that fails, it is told.

@@ -5,8 +5,7 @@ ghost use Rattle.pascal_cli.specs.declared.image_file.WriteFault.TheVariants.{Ou
 ghost use Rattle.pascal_cli.specs.Files.{way_of};
 ghost use Rattle.pascal_cli.specs.Jobs.{IsBuilt, IsContent};
 
-use crate::counted::Counted;
-use crate::transfer::{put_all, put_at_once};
+use pascal_session::{Counted, put_all, put_at_once};
 use std::alloc::AllocError;
 use std::fs::{File, Metadata, OpenOptions};
 use std::io::ErrorKind;

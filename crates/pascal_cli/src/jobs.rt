@@ -8,7 +8,7 @@ mod listing;
 ghost use Rattle.std.specs.Prelude.{◌≡◌, ◌≤◌, ◌<◌, ◌⊎◌, ℕ, IfErr, IfOk, List, length, true};
 ghost use Rattle.pascal_command.specs.Command as work;
 ghost use Rattle.pascal_command.specs.Command.{request_in, work_of};
-ghost use Rattle.pascal_cli.specs.Console.{console_world, has_failed, held_of};
+ghost use Rattle.pascal_session.specs.Console.{console_world, has_failed, held_of};
 ghost use Rattle.pascal_cli.specs.Explain.{has_page};
 ghost use Rattle.pascal_cli.specs.Jobs.{IsBuilt, IsRefusedText, IsStatus, RanImage, RanOf, RanText};
 ghost use Rattle.pascal_cli.specs.Jobs.{budget_of, limits_in};
@@ -16,33 +16,30 @@ ghost use Rattle.pascal_cli.specs.Jobs.{status_of_write};
 
 use crate::certificates::{certify, verify};
 use crate::checks::check;
-use crate::console::BlockConsole;
 use crate::explain::{pages_on, titles};
 use crate::failures::Failures;
 use crate::image_file::{WriteFault, write_image, write_map};
 use crate::jobs::listing::list_text;
 use crate::needs::needs;
 use crate::runs::{go_through, run_through, usage_through};
-use crate::session::{
-    FAILED, TEXT_LIMIT, cannot, is_standard, out_of_memory, read_file, read_standard_input,
-    read_text, tell,
-};
 use crate::watched::watch;
 pub(crate) use listing::print_all;
 use pascal_command::{Job, Options, Task};
+use pascal_session::{
+    BlockConsole, FAILED, TEXT_LIMIT, cannot, is_standard, out_of_memory, read_file,
+    read_standard_input, read_text, report_end,
+};
 use ps_build::{Budget, Built, Mapped, Variables, build, build_and_leave, build_mapped};
 use ps_map::written;
 use ps_map_maker::map_of_text;
-use ps_trace::{Usage, usage_told};
+use ps_trace::{Usage, usage_line};
+use risc_image::MAX_COUNT;
 use std::alloc::{AllocError, Global};
 use std::io::{self, BufRead, Write};
 use std::rt::{Env, Files};
 
-// The most words that an image has, and rows that each of its tables has.
-const MOST_WORDS: usize = 1_048_576;
-
 // The bytes of the longest image: those of its head, and of words and of rows of frames, objects, traps and calls.
-const LONGEST_IMAGE: usize = 28 + (4 + 8 + 8 + 12 + 8) * MOST_WORDS;
+const LONGEST_IMAGE: usize = 28 + (4 + 8 + 8 + 12 + 8) * MAX_COUNT as usize;
 
 // One byte more than the longest image.
 pub(crate) const IMAGE_LIMIT: usize = LONGEST_IMAGE + 1;
@@ -108,7 +105,7 @@ fn build_text<R: Files + Eprint + Input + AllocGlobal>(rt: &R, path: &str) -> Re
     let text = read_text(rt, path)?;
     match build_and_leave(rt.alloc(), &text) {
         Ok(built) => Ok(built),
-        Err(refusal) => Err(tell(rt, &Err(refusal))),
+        Err(refusal) => Err(report_end(rt, &Err(refusal))),
     }
 }
 
@@ -151,7 +148,7 @@ fn compile_mapped<R: Files + Print + Eprint + Input + AllocGlobal>(
     };
     match build_mapped(rt.alloc(), &text, Variables::InTemporaries) {
         Ok(mapped) => put_mapped(rt, source, image, map, &text, &mapped),
-        Err(refusal) => tell(rt, &Err(refusal)),
+        Err(refusal) => report_end(rt, &Err(refusal)),
     }
 }
 
@@ -264,7 +261,7 @@ fn run_image<R: Eprint + AllocGlobal, I: BufRead, O: Write>(
         (console_world I.remaining O.contents console.new) (held_of console.new) (has_failed console.new) result }
 {
     let end = run_through(rt.alloc(), image, budget_of(job), console, job.steps);
-    tell(rt, &end)
+    report_end(rt, &end)
 }
 
 // The same of a text.
@@ -278,7 +275,7 @@ fn go_text<R: Eprint + AllocGlobal, I: BufRead, O: Write>(
         (console_world I.remaining O.contents console.new) (held_of console.new) (has_failed console.new) result }
 {
     let end = go_through(rt.alloc(), text, budget_of(job), console, job.steps);
-    tell(rt, &end)
+    report_end(rt, &end)
 }
 
 fn run_file<R: Files + Print + Eprint + Input + AllocGlobal>(
@@ -325,17 +322,17 @@ fn measure_image<R: Eprint + AllocGlobal, I: BufRead, O: Write>(
 {
     match usage_through(rt.alloc(), image, budget_of(job), console, job.steps) {
         Ok(used) => {
-            let status = tell(rt, &Ok(used.outcome));
+            let status = report_end(rt, &Ok(used.outcome));
             tell_usage(rt, used.usage);
             status
         }
-        Err(refusal) => tell(rt, &Err(refusal)),
+        Err(refusal) => report_end(rt, &Err(refusal)),
     }
 }
 
 // Tells what a run took.
 fn tell_usage<R: Eprint + AllocGlobal>(rt: &R, usage: Usage) {
-    if let Ok(told) = usage_told(rt.alloc(), usage) {
+    if let Ok(told) = usage_line(rt.alloc(), usage) {
         let _ = rt.eprint(told.as_str());
     }
 }
@@ -346,7 +343,7 @@ fn measure_text<R: Print + Eprint + Input + AllocGlobal>(rt: &R, job: &Job<'_>, 
 {
     match build(rt.alloc(), text) {
         Ok(built) => measure_image(rt, job, built.bytes(), &mut console(rt)),
-        Err(refusal) => tell(rt, &Err(refusal)),
+        Err(refusal) => report_end(rt, &Err(refusal)),
     }
 }
 

@@ -9,8 +9,8 @@ ghost use Rattle.pascal_cli.specs.NeedLines.{needed_lines};
 
 use crate::failures::Failures;
 use crate::need_lines::needed_lines;
-use crate::session::TEXT_LIMIT;
 use pascal_command::Job;
+use pascal_session::TEXT_LIMIT;
 use ps_needs_image::{Needed, needs_of};
 use std::rt::Files;
 

@@ -6,10 +6,10 @@ ghost use Rattle.ps_build.specs.Accepts.{IsRefused};
 ghost use Rattle.ps_build.specs.Runs.{IsRunRefused};
 ghost use Rattle.ps_build.specs.declared.refusal.Refusal.TheVariants.{OutOfMemory};
 ghost use Rattle.ps_build.specs.Goes.{IsGoRefused};
-ghost use Rattle.pascal_cli.specs.Console.{input_of, held_of, has_failed, faults_of, output_of, console_world};
+ghost use Rattle.pascal_session.specs.Console.{input_of, held_of, has_failed, faults_of, output_of, console_world};
 ghost use Rattle.pascal_cli.specs.Runs.{IsSettled, GoesThrough, RunsThrough};
 
-use crate::console::BlockConsole;
+use pascal_session::BlockConsole;
 use ps_build::{
     Budget, Ended, Outcome, Refusal, go_in_slices, run_image_in_slices, run_image_to_end,
 };

@@ -8,28 +8,28 @@ ghost use Rattle.std.specs.Prelude.{◌≡◌, IfSome, false, is_some};
 ghost use Rattle.ps_build.specs.Headline.{Compiles};
 ghost use Rattle.pascal_command.specs.Command as work;
 ghost use Rattle.pascal_command.specs.Command.{request_in, work_of};
-ghost use Rattle.pascal_cli.specs.Console as block;
-ghost use Rattle.pascal_cli.specs.Console.{console_world, held_of};
+ghost use Rattle.pascal_session.specs.Console as block;
+ghost use Rattle.pascal_session.specs.Console.{console_world, held_of};
 ghost use Rattle.pascal_cli.specs.Failures.{Notes, has_failed};
 ghost use Rattle.pascal_cli.specs.Jobs.{IsStatus, RanImage, limits_in};
 ghost use Rattle.pascal_cli.specs.Watched.{IsRun, IsTraced, IsWatched, IsWatchedFile, IsWatchedText};
 ghost use Rattle.pascal_cli.specs.Watched.{has_routine, lacks_routine, names_routine, routine_of};
 
-use crate::console::BlockConsole;
 use crate::failures::Failures;
 use crate::jobs::{budget_of, console};
-use crate::report::status;
 use crate::runs::{Left, Tracing, end_through, trace_through};
-use crate::session::{FAILED, TEXT_LIMIT, out_of_memory, read_file, tell};
 use crate::watched::covered::{count, cover, tell_counts};
 use pascal_command::{Job, Options, Watch};
+use pascal_session::{
+    BlockConsole, FAILED, TEXT_LIMIT, out_of_memory, read_file, report_end, status,
+};
 use ps_build::{Ended, Mapped, Outcome, Variables, build_mapped};
 use ps_diagnose::nearest;
 use ps_map::Map;
 use ps_map_maker::{MappedText, map_of_text};
 use ps_scene::Length;
-use ps_trace::{Choice, Prepared, Teller, no_counts, profile_told};
-use ps_why::{account_of, object_of, told};
+use ps_trace::{Choice, Prepared, Teller, no_counts, profile_report};
+use ps_why::{account_of, object_of, render};
 use std::alloc::{AllocError, Global};
 use std::io::{BufRead, Write};
 use std::rt::Files;
@@ -168,7 +168,7 @@ fn why<R: Eprint + AllocGlobal, I: BufRead, O: Write>(
             tell_why(rt, job, program, options, &left);
             status(&Ok(left.outcome))
         }
-        Err(refusal) => tell(rt, &Err(refusal)),
+        Err(refusal) => report_end(rt, &Err(refusal)),
     }
 }
 
@@ -182,7 +182,7 @@ fn tell_why<R: Eprint + AllocGlobal>(
 ) {
     match left.outcome {
         Outcome::OutputFault => {
-            let _ = tell(rt, &Ok(left.outcome));
+            let _ = report_end(rt, &Ok(left.outcome));
         }
         _ => tell_ended(rt, job, program, options, &left.ended),
     }
@@ -222,7 +222,7 @@ fn account_told(
     let mapped = &program.prepared.text.mapped;
     let account = account_of(alloc, program.text, mapped, ended, job.steps, length)?;
     if !options.telling.json {
-        return told(alloc, program.path, program.text, &account);
+        return render(alloc, program.path, program.text, &account);
     }
     let Ok(mut object) = object_of(alloc, program.path, &account) else {
         return Err(AllocError);
@@ -362,7 +362,7 @@ fn trace_run<R: Eprint + AllocGlobal, I: BufRead, O: Write>(
         job.steps,
         Lines { rt },
     ) {
-        Ok(outcome) => tell(rt, &Ok(outcome)),
+        Ok(outcome) => report_end(rt, &Ok(outcome)),
         Err(refusal) => failures.no_run(rt, refusal),
     }
 }
@@ -406,7 +406,7 @@ fn profile<R: Print + Eprint + Input + AllocGlobal>(
     let status = count(rt, job, program, &mut console(rt), &mut counts, voice);
     tell_counts(
         rt,
-        profile_told(rt.alloc(), program.text, program.prepared, &counts),
+        profile_report(rt.alloc(), program.text, program.prepared, &counts),
     );
     status
 }

@@ -1,6 +1,6 @@
 // The phases of the compiler, one after another, up to one of them: `bench/phases` tells their shares of the time by it.
 
-use pascal_cli::{TEXT_LIMIT, read_standard_input};
+use pascal_session::{TEXT_LIMIT, read_standard_input};
 use ps_build::{Refusal, code_of_text};
 use ps_parse::release;
 use ps_scan::scan;

@@ -1,6 +1,6 @@
 // What the placers of temporaries make of a text: of each how many words the code of its image has, and whether a copy of its homes is taken.
 
-use pascal_cli::{TEXT_LIMIT, read_standard_input};
+use pascal_session::{TEXT_LIMIT, read_standard_input};
 use ps_build::{Refusal, code_of_text};
 use risc_alloc::homes::Raw;
 use risc_alloc::placement::Placement;

@@ -118,9 +118,9 @@ fn table_named(name: &str) -> Table {
 #[derive(Drop)]
 struct Rows {
     table: Table,
-    language: test_language::Job,
-    code: test_code::Job,
-    command: command::Job,
+    language: test_language::RunSettings,
+    code: test_code::RowSettings,
+    command: command::CallSettings,
 }
 
 impl Answers for Rows {
@@ -128,13 +128,13 @@ impl Answers for Rows {
         self.table = table_named(table);
     }
 
-    fn tell(&mut self, word: &str, rest: &str, text: Vec<u8>) -> Result<(), AllocError> {
+    fn set(&mut self, word: &str, rest: &str, text: Vec<u8>) -> Result<(), AllocError> {
         match self.table {
             Table::Unknown => Ok(()),
-            Table::Language(_) => self.language.tell(word, rest, text),
-            Table::Code(_) => self.code.tell(word, rest, text),
+            Table::Language(_) => self.language.set(word, rest, text),
+            Table::Code(_) => self.code.set(word, rest, text),
             Table::Command(_) => {
-                self.command.tell(word, rest);
+                self.command.set(word, rest);
                 Ok(())
             }
         }
@@ -143,10 +143,10 @@ impl Answers for Rows {
     fn answer(&mut self, alloc: Global, text: &[u8]) -> Result<String, AllocError> {
         let mut line = Line::new(alloc);
         self.put_answer(alloc, &mut line, text)?;
-        self.language = test_language::untold(alloc);
-        self.code = test_code::untold(alloc);
-        self.command = command::untold();
-        line.told()
+        self.language = test_language::defaults(alloc);
+        self.code = test_code::defaults(alloc);
+        self.command = command::defaults();
+        line.into_text()
     }
 }
 
@@ -175,9 +175,9 @@ pub fn answer_all<R: Input + Print + AllocGlobal>(rt: &R) -> io::Result<()> {
     let alloc = rt.alloc();
     let mut rows = Rows {
         table: Table::Unknown,
-        language: test_language::untold(alloc),
-        code: test_code::untold(alloc),
-        command: command::untold(),
+        language: test_language::defaults(alloc),
+        code: test_code::defaults(alloc),
+        command: command::defaults(),
     };
     answer_rows(rt, &mut rows)
 }

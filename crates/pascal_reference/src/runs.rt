@@ -40,7 +40,7 @@ pub struct Shown {
 
 /// Why a run shows nothing.
 #[derive(Clone, Copy)]
-pub enum Fault {
+pub enum Failure {
     Refused(Refusal),
     /// Calls, statements and expressions lie too deep in one another for the host.
     TooDeep,
@@ -50,32 +50,32 @@ pub enum Fault {
     NoTranscript,
 }
 
-impl From<AllocError> for Fault {
-    fn from(_error: AllocError) -> Fault {
-        Fault::Refused(Refusal::OutOfMemory)
+impl From<AllocError> for Failure {
+    fn from(_error: AllocError) -> Failure {
+        Failure::Refused(Refusal::OutOfMemory)
     }
 }
 
-impl From<Refusal> for Fault {
-    fn from(refusal: Refusal) -> Fault {
-        Fault::Refused(refusal)
+impl From<Refusal> for Failure {
+    fn from(refusal: Refusal) -> Failure {
+        Failure::Refused(refusal)
     }
 }
 
-impl From<MeaningRefusal> for Fault {
-    fn from(refusal: MeaningRefusal) -> Fault {
+impl From<MeaningRefusal> for Failure {
+    fn from(refusal: MeaningRefusal) -> Failure {
         match refusal {
-            MeaningRefusal::OutOfMemory => Fault::Refused(Refusal::OutOfMemory),
-            MeaningRefusal::TooDeep => Fault::TooDeep,
+            MeaningRefusal::OutOfMemory => Failure::Refused(Refusal::OutOfMemory),
+            MeaningRefusal::TooDeep => Failure::TooDeep,
         }
     }
 }
 
-impl From<TranscriptFault> for Fault {
-    fn from(fault: TranscriptFault) -> Fault {
+impl From<TranscriptFault> for Failure {
+    fn from(fault: TranscriptFault) -> Failure {
         match fault {
-            TranscriptFault::OutOfMemory => Fault::Refused(Refusal::OutOfMemory),
-            TranscriptFault::NoByteAndNoMark => Fault::NoTranscript,
+            TranscriptFault::OutOfMemory => Failure::Refused(Refusal::OutOfMemory),
+            TranscriptFault::NoByteAndNoMark => Failure::NoTranscript,
         }
     }
 }
@@ -96,7 +96,7 @@ pub fn run_text(
     text: &[u8],
     input: &[u8],
     limits: Limits,
-) -> Result<Shown, Fault> {
+) -> Result<Shown, Failure> {
     let ran = match runner {
         Runner::Meaning => by_meaning(alloc, text, input, limits.steps)?,
         Runner::Code => by_code(alloc, text, input, limits.steps)?,
@@ -111,7 +111,7 @@ pub fn run_text(
     })
 }
 
-fn by_slots(alloc: Global, text: &[u8], input: &[u8], limits: Limits) -> Result<Shown, Fault> {
+fn by_slots(alloc: Global, text: &[u8], input: &[u8], limits: Limits) -> Result<Shown, Failure> {
     let built = build_placed(alloc, text, &EverySlot, Variables::InFrames)?;
     let mut console = Fused::new(alloc, input, OUTPUT_LIMIT, 0, 0)?;
     let budget = ImageBudget {
@@ -129,7 +129,7 @@ fn by_slots(alloc: Global, text: &[u8], input: &[u8], limits: Limits) -> Result<
     })
 }
 
-fn by_meaning(alloc: Global, text: &[u8], input: &[u8], steps: u64) -> Result<Ran, Fault> {
+fn by_meaning(alloc: Global, text: &[u8], input: &[u8], steps: u64) -> Result<Ran, Failure> {
     let program = checked(alloc, text)?;
     let free = Budget {
         frames: &[],
@@ -141,7 +141,7 @@ fn by_meaning(alloc: Global, text: &[u8], input: &[u8], steps: u64) -> Result<Ra
     Ok(ran)
 }
 
-fn by_code(alloc: Global, text: &[u8], input: &[u8], steps: u64) -> Result<Ran, Fault> {
+fn by_code(alloc: Global, text: &[u8], input: &[u8], steps: u64) -> Result<Ran, Failure> {
     let tac = code_of_text(alloc, text)?;
     let free = code::Budget {
         frames: &[],
@@ -154,7 +154,7 @@ fn by_code(alloc: Global, text: &[u8], input: &[u8], steps: u64) -> Result<Ran, 
 }
 
 // A run of code, as a run of the meaning.
-fn ran_of(alloc: Global, report: code::Report) -> Result<Ran, Fault> {
+fn ran_of(alloc: Global, report: code::Report) -> Result<Ran, Failure> {
     let ending = ending_of(report.ending)?;
     let calls = report
         .calls
@@ -169,7 +169,7 @@ fn ran_of(alloc: Global, report: code::Report) -> Result<Ran, Fault> {
 }
 
 // The end of a run of code, as that of a run of the meaning.
-fn ending_of(ending: code::Ending) -> Result<Ending, Fault> {
+fn ending_of(ending: code::Ending) -> Result<Ending, Failure> {
     match ending {
         code::Ending::Normal => Ok(Ending::Normal),
         code::Ending::Error { number, line } => Ok(Ending::Error {
@@ -179,7 +179,7 @@ fn ending_of(ending: code::Ending) -> Result<Ending, Fault> {
         code::Ending::OutOfStack { line } => Ok(Ending::Stack { line }),
         code::Ending::OutOfHeap { line } => Ok(Ending::Heap { line }),
         code::Ending::More => Ok(Ending::More),
-        code::Ending::Stuck => Err(Fault::Stuck),
+        code::Ending::Stuck => Err(Failure::Stuck),
     }
 }
 

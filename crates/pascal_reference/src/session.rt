@@ -3,11 +3,11 @@
 use crate::phases::take_standard_input;
 use crate::places::tell_of_standard_input;
 use crate::rows::answer_all;
-use crate::runs::{Fault, Limits, Runner, Shown, run_text};
-use pascal_cli::{
-    Counted, TEXT_LIMIT, asked, put_all, read_file, read_standard_input, tell, texts, words,
-};
+use crate::runs::{Failure, Limits, Runner, Shown, run_text};
 use pascal_command::Task;
+use pascal_session::{
+    Counted, TEXT_LIMIT, asked, put_all, read_file, read_standard_input, report_end, texts, words,
+};
 use ps_build::Outcome;
 use std::io;
 use std::rt::{Env, Files};
@@ -111,11 +111,11 @@ fn go<R: Print + Eprint + AllocGlobal>(
     limits: Limits,
 ) -> u8 {
     match run_text(rt.alloc(), runner, &given.text, &given.input, limits) {
-        Ok(shown) => tell(rt, &Ok(written(rt, &shown))),
-        Err(Fault::Refused(refusal)) => tell(rt, &Err(refusal)),
-        Err(Fault::TooDeep) => give_up(rt, "too deep for the host's stack"),
-        Err(Fault::Stuck) => give_up(rt, "no next step"),
-        Err(Fault::NoTranscript) => give_up(rt, "no transcript of a run"),
+        Ok(shown) => report_end(rt, &Ok(written(rt, &shown))),
+        Err(Failure::Refused(refusal)) => report_end(rt, &Err(refusal)),
+        Err(Failure::TooDeep) => give_up(rt, "too deep for the host's stack"),
+        Err(Failure::Stuck) => give_up(rt, "no next step"),
+        Err(Failure::NoTranscript) => give_up(rt, "no transcript of a run"),
     }
 }
 

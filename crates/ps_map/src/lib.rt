@@ -14,7 +14,7 @@ mod writing;
 
 pub use blocks::{Block, blocks_of};
 pub use characters::readable;
-pub use listing::{listing_with_source, run_time_told};
+pub use listing::{listing_with_source, run_time_description};
 pub use map::{Map, Owner, Routine, Row};
 pub use places::{Lines, Place, small};
 pub use variables::{Denoters, Role, Variable, variables_of};

@@ -38,7 +38,7 @@ const RUN_TIME: [&str; 17] = [
 ];
 
 /// What a routine of the run-time library does, by its number.
-pub fn run_time_told(number: u32) -> &'static str {
+pub fn run_time_description(number: u32) -> &'static str {
     RUN_TIME.get(number as usize).copied().unwrap_or("")
 }
 
@@ -118,7 +118,7 @@ fn owner_told<'a>(map: &'a Map, owner: Owner) -> &'a str {
     match owner {
         Owner::Start => "start",
         Owner::Routine(number) => map.name_of(number).unwrap_or("?"),
-        Owner::RunTime(number) => run_time_told(number),
+        Owner::RunTime(number) => run_time_description(number),
         Owner::Strings => "strings",
     }
 }

@@ -8,6 +8,7 @@
 use crate::words::{Act, Right, act_at};
 use risc_image::ImageView;
 use risc_machine::Machine;
+use risc_machine::limits::SIGN_BIT;
 use risc_word::{Condition, Operation};
 
 // The register that is free between instructions, and that of links.
@@ -147,7 +148,7 @@ fn signed(value: i64) -> i64 {
     } else {
         value
     };
-    if word >= 2_147_483_648 {
+    if word >= i64::from(SIGN_BIT) {
         word - 4_294_967_296
     } else {
         word

@@ -19,6 +19,6 @@ pub use found::{Bounds, Found, found_at};
 pub use frames::Standing;
 pub use memory::word_at;
 pub use names::Text;
-pub use parts::{ordinal_told, value_at};
+pub use parts::{ordinal_text, value_at};
 pub use scene::{Activation, Scene, Surroundings, Value, scene_of};
 pub use values::{Length, Object, ordinal_in};

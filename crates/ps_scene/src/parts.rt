@@ -25,7 +25,7 @@ impl<'a> Surroundings<'a> {
 }
 
 /// A value of an ordinal type.
-pub fn ordinal_told(
+pub fn ordinal_text(
     alloc: Global,
     around: &Surroundings<'_>,
     host: Host,

@@ -2,14 +2,12 @@
 
 use risc_image::ImageView;
 use risc_machine::Machine;
+use risc_machine::limits::ADDRESSES;
 use risc_word::{Condition, Instr, Width, decode};
 use std::alloc::{AllocError, Global};
 
 // The address at which a byte is taken and put.
 const CONSOLE: u32 = 0xFF_FFC8;
-
-// Addresses are below it.
-const ADDRESSES: u32 = 0x100_0000;
 
 /// What a word does to memory. Registers are told by their numbers.
 #[derive(Clone, Copy)]

@@ -86,7 +86,7 @@ fn put_sum(alloc: Global, out: &mut String, counts: &Counts) -> Result<(), Alloc
 /// statements there are and how many were never done. A line with a statement that was never done has a `!`.
 ///
 /// A statement without code of its own, as an empty one or `begin` with its `end`, has no count.
-pub fn coverage_told(
+pub fn coverage_report(
     alloc: Global,
     text: &[u8],
     prepared: &Prepared,
@@ -176,7 +176,7 @@ fn put_lines(alloc: Global, out: &mut String, counts: &Counts) -> Result<(), All
 
 /// The same in the form that `lcov` and `genhtml` read. `name` is the path of the text. A line with several statements
 /// has the count of the one that was done most.
-pub fn lcov_told(
+pub fn lcov_report(
     alloc: Global,
     name: &str,
     prepared: &Prepared,

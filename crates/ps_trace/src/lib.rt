@@ -21,10 +21,10 @@ mod usage;
 mod watch;
 
 pub use counts::{Counts, no_counts, run_counted};
-pub use cover::{coverage_told, lcov_told};
+pub use cover::{coverage_report, lcov_report};
 pub use prepared::{Prepared, prepare};
-pub use profile::profile_told;
+pub use profile::profile_report;
 pub use traced::{Traced, run_traced};
 pub use tracer::{Choice, Teller};
-pub use usage::{Measured, Usage, run_measured, usage_told};
+pub use usage::{Measured, Usage, run_measured, usage_line};
 pub use watch::{Watch, run_image_watched};

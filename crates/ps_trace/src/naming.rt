@@ -1,7 +1,7 @@
 //! What stands at addresses of memory, in the words of the text.
 
 use ps_map::{Role, Variable};
-use ps_scene::{Object, Surroundings, ordinal_told, word_at};
+use ps_scene::{Object, Surroundings, ordinal_text, word_at};
 use ps_tree::tree::{Formal, Routine};
 use ps_tree::types::{Fields, Ordinal, Ty};
 use risc_machine::Machine;
@@ -254,7 +254,7 @@ fn element<'a>(
         return Ok((outer, false));
     }
     let value = i64::from(index.low).saturating_add(i64::from(number));
-    let told = ordinal_told(alloc, around, index.host, value)?;
+    let told = ordinal_text(alloc, around, index.host, value)?;
     let (name, told) = (outer.name.as_str(), told.as_str());
     let inner = Named {
         name: format!(in alloc; "{name}[{told}]")?,

@@ -3,7 +3,7 @@
 use crate::counts::Counts;
 use crate::lines::{line_at, lines_of, share_told};
 use crate::prepared::Prepared;
-use ps_map::{Map, Owner, Row, readable, run_time_told};
+use ps_map::{Map, Owner, Row, readable, run_time_description};
 use std::alloc::{AllocError, Global};
 
 // Steps of a routine, or of a line, by its number.
@@ -31,9 +31,9 @@ fn name_of<'a>(map: &'a Map, number: usize) -> &'a str {
     };
     match map.routines.get(routine) {
         Some(routine) => routine.name.as_str(),
-        None => run_time_told(u32::try_from(routine.saturating_sub(map.routines.len())).unwrap_or(
-            u32::MAX,
-        )),
+        None => run_time_description(u32::try_from(routine.saturating_sub(
+            map.routines.len(),
+        )).unwrap_or(u32::MAX)),
     }
 }
 
@@ -173,7 +173,7 @@ fn put_lines(
 
 /// The steps of the runs by routine, those of the run-time library among them, and then by line, where what the library
 /// does is counted at the line that calls it. Both add up to all steps, which the first line tells.
-pub fn profile_told(
+pub fn profile_report(
     alloc: Global,
     text: &[u8],
     prepared: &Prepared,

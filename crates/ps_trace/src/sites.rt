@@ -100,11 +100,12 @@ fn firsts_of(alloc: Global, map: &Map, keys: &[u64]) -> Result<Vec<u32>, AllocEr
     firsts.resize(map.routines.len(), u32::MAX)?;
     for row in map.rows.iter() {
         let number = number_of(keys, row.statement);
-        if let Owner::Routine(routine) = row.owner {
-            if let Some(first) = firsts.get_mut(routine as usize) {
-                if 0 < number && number < *first {
-                    *first = number;
-                }
+        let Owner::Routine(routine) = row.owner else {
+            continue;
+        };
+        if let Some(first) = firsts.get_mut(routine as usize) {
+            if 0 < number && number < *first {
+                *first = number;
             }
         }
     }

@@ -155,7 +155,7 @@ pub fn run_measured<C: Paced>(
 }
 
 /// What a run took, as a line.
-pub fn usage_told(alloc: Global, usage: Usage) -> Result<String, AllocError> {
+pub fn usage_line(alloc: Global, usage: Usage) -> Result<String, AllocError> {
     let Usage { steps, stack, heap } = usage;
     format!(in alloc; "steps {steps}, most stack {stack} bytes, most heap {heap} bytes\n")
 }

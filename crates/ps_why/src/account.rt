@@ -85,6 +85,14 @@ struct Facts {
     length: Length,
 }
 
+// A run that ended, with the program that ran.
+#[derive(Clone, Copy)]
+struct Run<'a> {
+    mapped: &'a Mapped,
+    machine: &'a Machine,
+    facts: Facts,
+}
+
 // How a run ended; where its console failed between two slices as where it took no byte.
 fn ending_of(ended: &Ended) -> Ending {
     match &ended.outcome {
@@ -196,26 +204,17 @@ fn text_of<'a>(
 }
 
 // The account of a run of an image as far as that tells it.
-fn account_of_image<'a>(
+fn account_of_image(
     alloc: Global,
-    source: &'a Source<'a>,
-    tokens: &'a [Token],
-    checked: &'a Checked,
-    map: &'a Map,
-    image: &'a ImageView<'a>,
-    machine: &'a Machine,
+    around: &Surroundings<'_>,
+    image: &ImageView<'_>,
+    machine: &Machine,
     facts: Facts,
 ) -> Result<Account, AllocError> {
-    let around = Surroundings {
-        source,
-        tokens,
-        checked,
-        map,
-    };
     let stop = facts.stop.unwrap_or(Stop::Steps);
     let most = most_calls(facts.length);
-    let scene = scene_of(alloc, &around, image, machine, stop, most, facts.length)?;
-    let text = text_of(alloc, map, image, machine, &scene, facts)?;
+    let scene = scene_of(alloc, around, image, machine, stop, most, facts.length)?;
+    let text = text_of(alloc, around.map, image, machine, &scene, facts)?;
     Ok(Account {
         ending: facts.ending,
         number: facts.number,
@@ -237,24 +236,19 @@ fn account_of_map(
     source: &Source<'_>,
     tokens: &[Token],
     map: &Map,
-    mapped: &Mapped,
-    machine: &Machine,
-    facts: Facts,
+    run: Run<'_>,
 ) -> Result<Account, AllocError> {
-    let image = match ImageView::read(mapped.built.bytes()) {
+    let image = match ImageView::read(run.mapped.built.bytes()) {
         Ok(image) => image,
         Err(_) => return Err(AllocError),
     };
-    account_of_image(
-        alloc,
+    let around = Surroundings {
         source,
         tokens,
-        &mapped.checked,
+        checked: &run.mapped.checked,
         map,
-        &image,
-        machine,
-        facts,
-    )
+    };
+    account_of_image(alloc, &around, &image, run.machine, run.facts)
 }
 
 // Adds the offsets of the token that an account is told at.
@@ -351,14 +345,11 @@ fn account_of_outline(
     source: &Source<'_>,
     tree: &Program,
     outline: &Outline<'_>,
-    mapped: &Mapped,
-    machine: &Machine,
-    facts: Facts,
+    run: Run<'_>,
 ) -> Result<Account, AllocError> {
     let lines = Lines::new(alloc, source.bytes())?;
-    let map = map_of(alloc, source, outline, mapped)?;
-    let tokens = outline.tokens();
-    let mut account = account_of_map(alloc, source, tokens, &map, mapped, machine, facts)?;
+    let map = map_of(alloc, source, outline, run.mapped)?;
+    let mut account = account_of_map(alloc, source, outline.tokens(), &map, run)?;
     add_span(outline, &lines, &mut account);
     add_value(alloc, source, outline, &lines, &mut account)?;
     add_round(alloc, source, tree, outline, &lines, &mut account)?;
@@ -372,12 +363,10 @@ fn account_of_tree(
     source: &Source<'_>,
     tokens: &[Token],
     tree: &Program,
-    mapped: &Mapped,
-    machine: &Machine,
-    facts: Facts,
+    run: Run<'_>,
 ) -> Result<Account, AllocError> {
     let outline = Outline::new(alloc, source, tokens, tree)?;
-    account_of_outline(alloc, source, tree, &outline, mapped, machine, facts)
+    account_of_outline(alloc, source, tree, &outline, run)
 }
 
 // The account of a run of a text with these tokens.
@@ -385,15 +374,13 @@ fn account_of_tokens(
     alloc: Global,
     source: &Source<'_>,
     tokens: &[Token],
-    mapped: &Mapped,
-    machine: &Machine,
-    facts: Facts,
+    run: Run<'_>,
 ) -> Result<Account, AllocError> {
     let tree = match parse(alloc, source, tokens) {
         Ok(tree) => tree,
         Err(_) => return Err(AllocError),
     };
-    let account = account_of_tree(alloc, source, tokens, &tree, mapped, machine, facts);
+    let account = account_of_tree(alloc, source, tokens, &tree, run);
     release(tree);
     account
 }
@@ -424,5 +411,10 @@ pub fn account_of(
         steps,
         length,
     };
-    account_of_tokens(alloc, &source, &tokens, mapped, &ended.machine, facts)
+    let run = Run {
+        mapped,
+        machine: &ended.machine,
+        facts,
+    };
+    account_of_tokens(alloc, &source, &tokens, run)
 }

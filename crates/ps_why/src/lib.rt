@@ -16,4 +16,4 @@ mod targets;
 pub use account::{Account, Ending, account_of};
 pub use loops::Loop;
 pub use object::object_of;
-pub use people::told;
+pub use people::render;

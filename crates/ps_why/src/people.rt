@@ -233,7 +233,7 @@ fn put_source(
 /// open calls with the values of their variables, what objects hold, and notes.
 ///
 /// The file's name is told as it is.
-pub fn told(
+pub fn render(
     alloc: Global,
     file: &str,
     text: &[u8],

@@ -1,6 +1,6 @@
 //! Lines of a text with a mark below a token.
 
-use ps_diagnostic::{Diagnostic, Severity, View, told};
+use ps_diagnostic::{Diagnostic, Severity, View, render};
 use ps_scene::copy_of;
 use ps_text::{Source, Span};
 use std::alloc::{AllocError, Global};
@@ -20,7 +20,7 @@ pub(crate) fn marked(alloc: Global, source: &Source<'_>, span: Span) -> Result<S
         notes: Vec::new(alloc),
         helps: Vec::new(alloc),
     };
-    let shown = told(alloc, "", &view, &diagnostic)?;
+    let shown = render(alloc, "", &view, &diagnostic)?;
     match shown.as_str().split_once('\n') {
         Some((_, lines)) => copy_of(alloc, lines),
         None => Ok(String::new(alloc)),

@@ -1,19 +1,19 @@
 //! Images, read, written and loaded.
 
-use crate::job::Job;
 use crate::runs::put_machine;
+use crate::settings::RowSettings;
 use risc_image::{CallRow, FrameRow, ImageView, Parts, write};
 use risc_load::{Budget, load};
 use std::alloc::{AllocError, Global};
 use test_tables::Line;
 
 /// Puts the parts of an image: its counts, a row of each table, what is found by a link, and the bytes of its code; or the number of its refusal.
-pub(crate) fn put_read(line: &mut Line, bytes: &[u8], job: &Job) {
+pub(crate) fn put_read(line: &mut Line, bytes: &[u8], settings: &RowSettings) {
     match ImageView::read(bytes) {
         Ok(image) => {
             put_counts(line, &image);
-            put_rows(line, &image, job.row as usize);
-            put_found(line, &image, job.link);
+            put_rows(line, &image, settings.row as usize);
+            put_found(line, &image, settings.link);
             line.bracketed(image.code());
         }
         Err(refusal) => line.numbered("refused ", u64::from(refusal.number())),
@@ -69,13 +69,13 @@ pub(crate) fn put_written(alloc: Global, line: &mut Line) -> Result<(), AllocErr
 }
 
 /// Puts what the machine of a loaded image holds, or the number of the load's refusal.
-pub(crate) fn put_loaded(alloc: Global, line: &mut Line, bytes: &[u8], job: &Job) {
+pub(crate) fn put_loaded(alloc: Global, line: &mut Line, bytes: &[u8], settings: &RowSettings) {
     let Ok(image) = ImageView::read(bytes) else {
         return line.word("no image");
     };
     let budget = Budget {
-        stack: job.stack,
-        heap: job.heap,
+        stack: settings.stack,
+        heap: settings.heap,
     };
     match load(alloc, &image, budget) {
         Ok(machine) => {

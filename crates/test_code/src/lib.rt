@@ -6,15 +6,15 @@ mod fields;
 mod homes;
 mod images;
 mod instructions;
-mod job;
 mod machines;
 pub mod programs;
 mod runs;
+mod settings;
 mod steps;
 mod texts;
 mod words;
 
-pub use job::{Job, untold};
+pub use settings::{RowSettings, defaults};
 use std::alloc::{AllocError, Global};
 use test_tables::Line;
 use test_tables::words::letters;
@@ -40,18 +40,18 @@ pub fn answer(
     line: &mut Line,
     table: Table,
     text: &[u8],
-    job: &Job,
+    settings: &RowSettings,
 ) -> Result<(), AllocError> {
     let row = letters(text);
     match table {
-        Table::Programs(asked) => return programs::answer(alloc, line, row, asked, job),
-        Table::Runs => return runs::put_runs(alloc, line, row, job),
-        Table::Streamed => return runs::put_streamed(alloc, line, row, job),
-        Table::Started => return runs::put_started(alloc, line, text, job),
+        Table::Programs(asked) => return programs::answer(alloc, line, row, asked, settings),
+        Table::Runs => return runs::put_runs(alloc, line, row, settings),
+        Table::Streamed => return runs::put_streamed(alloc, line, row, settings),
+        Table::Started => return runs::put_started(alloc, line, text, settings),
         Table::Steps => return steps::put_step(alloc, line, row),
         Table::Written => return images::put_written(alloc, line),
-        Table::Loaded => images::put_loaded(alloc, line, text, job),
-        Table::Images => images::put_read(line, text, job),
+        Table::Loaded => images::put_loaded(alloc, line, text, settings),
+        Table::Images => images::put_read(line, text, settings),
         Table::Words => words::put_decoded(alloc, line, row),
         Table::Devices => devices::put_called(line, row),
     }

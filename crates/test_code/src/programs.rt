@@ -2,7 +2,7 @@
 
 use crate::homes::{put_placement, put_verdict};
 use crate::instructions::instruction;
-use crate::job::Job;
+use crate::settings::RowSettings;
 use crate::texts::word;
 use risc_alloc::placer::{EverySlot, Placer};
 use risc_alloc::scan::Scan;
@@ -70,13 +70,13 @@ fn put_asked(
     line: &mut Line,
     tac: &Tac,
     asked: Asked,
-    job: &Job,
+    settings: &RowSettings,
 ) -> Result<(), AllocError> {
     match asked {
         Asked::Kept => line.word("code"),
         Asked::Printed => line.text(print(alloc, tac)),
-        Asked::Ran => return put_run(alloc, line, tac, job),
-        Asked::Tried => return put_verdict(alloc, line, tac, &job.homes),
+        Asked::Ran => return put_run(alloc, line, tac, settings),
+        Asked::Tried => return put_verdict(alloc, line, tac, &settings.homes),
         Asked::Scanned => return put_placement(alloc, line, tac, &Scan.place(alloc, tac)?),
         Asked::Slotted => return put_placement(alloc, line, tac, &EverySlot.place(alloc, tac)?),
     }
@@ -89,13 +89,13 @@ pub(crate) fn answer(
     line: &mut Line,
     row: &str,
     asked: Asked,
-    job: &Job,
+    settings: &RowSettings,
 ) -> Result<(), AllocError> {
     let Some(tac) = code(alloc, row)? else {
         line.word("no code");
         return Ok(());
     };
-    put_asked(alloc, line, &tac, asked, job)
+    put_asked(alloc, line, &tac, asked, settings)
 }
 
 fn put_numbers(line: &mut Line, numbers: &[u16]) {
@@ -128,13 +128,21 @@ fn put_report(line: &mut Line, report: &Report) {
 }
 
 /// Puts how a run of code ends, the lines of its open calls, and its transcript, 256 a mark. Each frame costs 40 bytes, and so does each object, of which one fits.
-fn put_run(alloc: Global, line: &mut Line, tac: &Tac, job: &Job) -> Result<(), AllocError> {
+fn put_run(
+    alloc: Global,
+    line: &mut Line,
+    tac: &Tac,
+    settings: &RowSettings,
+) -> Result<(), AllocError> {
     let budget = Budget {
         frames: &[40, 40, 40],
         objects: &[40],
-        stack: job.stack,
+        stack: settings.stack,
         heap: 40,
     };
-    put_report(line, &run(alloc, tac, budget, &job.input, job.limit())?);
+    put_report(
+        line,
+        &run(alloc, tac, budget, &settings.input, settings.limit())?,
+    );
     Ok(())
 }

@@ -1,7 +1,7 @@
 //! Runs of the processor.
 
-use crate::job::Job;
 use crate::machines::{NOTHING, State, machine_of, memory_of, put_held, state_of};
+use crate::settings::RowSettings;
 use crate::texts::hexadecimals;
 use risc_machine::{Fused, Machine, Stop, Streams, run};
 use std::alloc::{AllocError, Global};
@@ -29,9 +29,9 @@ fn put_stop(line: &mut Line, stop: Stop, before: State<'_>, machine: &Machine, o
 }
 
 // The machine with the words of a row.
-fn machine_told(alloc: Global, row: &str, job: &Job) -> Result<Machine, AllocError> {
+fn machine_told(alloc: Global, row: &str, settings: &RowSettings) -> Result<Machine, AllocError> {
     let words = hexadecimals(alloc, row)?;
-    let machine = machine_of(alloc, &words, job.globals)?;
+    let machine = machine_of(alloc, &words, settings.globals)?;
     Ok(machine)
 }
 
@@ -40,10 +40,10 @@ pub(crate) fn put_runs(
     alloc: Global,
     line: &mut Line,
     row: &str,
-    job: &Job,
+    settings: &RowSettings,
 ) -> Result<(), AllocError> {
-    let mut machine = machine_told(alloc, row, job)?;
-    let end = put_runs_of(alloc, line, &mut machine, job);
+    let mut machine = machine_told(alloc, row, settings)?;
+    let end = put_runs_of(alloc, line, &mut machine, settings);
     drop(machine);
     end
 }
@@ -52,13 +52,19 @@ fn put_runs_of(
     alloc: Global,
     line: &mut Line,
     machine: &mut Machine,
-    job: &Job,
+    settings: &RowSettings,
 ) -> Result<(), AllocError> {
     let memory = memory_of(alloc, machine)?;
     let before = state_of(machine, &memory);
-    let mut console = Fused::new(alloc, &job.input, usize::from(job.room), job.take, job.put)?;
-    for limit in &job.limits {
-        let stop = if job.is_stepped {
+    let mut console = Fused::new(
+        alloc,
+        &settings.input,
+        usize::from(settings.room),
+        settings.take,
+        settings.put,
+    )?;
+    for limit in &settings.limits {
+        let stop = if settings.is_stepped {
             step_by_step(machine, &mut console, *limit)
         } else {
             run(machine, &mut console, *limit)
@@ -73,12 +79,12 @@ pub(crate) fn put_streamed(
     alloc: Global,
     line: &mut Line,
     row: &str,
-    job: &Job,
+    settings: &RowSettings,
 ) -> Result<(), AllocError> {
-    let mut machine = machine_told(alloc, row, job)?;
-    let input: &[u8] = &job.input;
+    let mut machine = machine_told(alloc, row, settings)?;
+    let input: &[u8] = &settings.input;
     let mut console = Streams::new(input, Vec::new(alloc));
-    let stop = run(&mut machine, &mut console, job.limit());
+    let stop = run(&mut machine, &mut console, settings.limit());
     line.seen("", &stop);
     line.valued(" at ", &machine.pc());
     drop(machine);
@@ -94,13 +100,13 @@ pub(crate) fn put_started(
     alloc: Global,
     line: &mut Line,
     code: &[u8],
-    job: &Job,
+    settings: &RowSettings,
 ) -> Result<(), AllocError> {
     let front = code.len().min(1024);
     let (globals, heap, stack) = (
-        job.globals.min(1024),
-        job.heap.min(1024),
-        job.stack.min(1024),
+        settings.globals.min(1024),
+        settings.heap.min(1024),
+        settings.stack.min(1024),
     );
     let machine = Machine::start(alloc, &code[..front], globals, heap, stack)?;
     put_machine(line, &machine);

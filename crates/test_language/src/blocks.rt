@@ -11,9 +11,10 @@ use ps_check_expressions::inner::Inner;
 use ps_check_expressions::site::Site;
 use ps_check_expressions::value::TypedValue;
 use ps_check_judgement::change::Change;
-use ps_check_judgement::refusal::Fault;
+use ps_check_judgement::refusal::CheckFault;
 use ps_check_names::constants::{BOOLEAN, CHAR, INTEGER};
 use ps_check_names::meaning::Meaning;
+use ps_check_names::meanings::Meanings;
 use ps_check_names::reading::Reading;
 use ps_check_names::scope::Scope;
 use ps_check_names::wides::Wides;
@@ -108,7 +109,7 @@ fn put_relation_in(
     site: Site<'_>,
     variable: &Variable,
     value: &Expr,
-) -> Result<(), Fault> {
+) -> Result<(), CheckFault> {
     let mut changes = Vec::new(site.alloc);
     let variable = variable_place(variable, site, &mut changes)?;
     let end = put_relation_to(line, site, value, &variable.ty);
@@ -116,7 +117,12 @@ fn put_relation_in(
     end
 }
 
-fn put_relation_to(line: &mut Line, site: Site<'_>, value: &Expr, ty: &Ty) -> Result<(), Fault> {
+fn put_relation_to(
+    line: &mut Line,
+    site: Site<'_>,
+    value: &Expr,
+    ty: &Ty,
+) -> Result<(), CheckFault> {
     let mut changes = Vec::new(site.alloc);
     let value = expr_value(value, site, &mut changes)?;
     put_relation(line, type_of(&value), ty);
@@ -133,7 +139,7 @@ fn form_of(value: &TypedValue) -> &'static str {
     }
 }
 
-fn put_form(line: &mut Line, site: Site<'_>, value: &Expr) -> Result<(), Fault> {
+fn put_form(line: &mut Line, site: Site<'_>, value: &Expr) -> Result<(), CheckFault> {
     let mut changes = Vec::new(site.alloc);
     let value = expr_value(value, site, &mut changes)?;
     line.word(form_of(&value));
@@ -141,7 +147,11 @@ fn put_form(line: &mut Line, site: Site<'_>, value: &Expr) -> Result<(), Fault> 
     Ok(())
 }
 
-fn put_statements(line: &mut Line, site: Site<'_>, written: &[Statement]) -> Result<(), Fault> {
+fn put_statements(
+    line: &mut Line,
+    site: Site<'_>,
+    written: &[Statement],
+) -> Result<(), CheckFault> {
     let mut changes: Vec<Change> = Vec::new(site.alloc);
     for statement in &statements(written, site, &mut changes)? {
         let is_empty = matches!(statement, Checked::Empty);
@@ -158,7 +168,7 @@ fn put_asked(
     declared: &Declared,
     site: Site<'_>,
     written: &[Statement],
-) -> Result<(), Fault> {
+) -> Result<(), CheckFault> {
     match (asked, assignment(written)) {
         (Asked::Declarations, _) => put_counts(line, declared),
         (Asked::Sizes, _) => put_sizes(line, &declared.variables),
@@ -187,7 +197,7 @@ fn declare(
     block: &Block,
     names: &Names,
     declared: &mut Declared,
-) -> Result<(), Fault> {
+) -> Result<(), CheckFault> {
     let begun = Names::new(around.alloc, around.reading.seed);
     let frame = Frame {
         reading: around.reading,
@@ -199,20 +209,19 @@ fn declare(
     declarations(&frame, around.alloc, 0, declared, &parts_of(block))
 }
 
-/// Puts what is asked of a block whose names are known.
-fn put_below(
+/// Puts what is asked of a block whose names and declarations are known.
+fn put_declared<'a>(
     line: &mut Line,
-    around: Site<'_>,
+    around: Site<'a>,
     block: &Block,
     asked: Asked,
-    names: &Names,
-    declared: &mut Declared,
-) -> Result<(), Fault> {
-    declare(around, block, names, declared)?;
+    names: &'a Names,
+    declared: &'a Declared,
+) -> Result<(), CheckFault> {
     let scope = Scope::Block {
         routine: 0,
         names,
-        known: &declared.known,
+        known: Meanings::new(&declared.known),
         outer: around.scope,
     };
     let reading = Reading {
@@ -234,6 +243,19 @@ fn put_below(
     put_asked(line, asked, declared, site, block.statements.as_slice())
 }
 
+/// Puts what is asked of a block whose names are known.
+fn put_below(
+    line: &mut Line,
+    around: Site<'_>,
+    block: &Block,
+    asked: Asked,
+    names: &Names,
+    declared: &mut Declared,
+) -> Result<(), CheckFault> {
+    declare(around, block, names, declared)?;
+    put_declared(line, around, block, asked, names, declared)
+}
+
 /// Puts what is asked of a block.
 fn put_within(
     line: &mut Line,
@@ -242,13 +264,13 @@ fn put_within(
     block: &Block,
     asked: Asked,
     known: &mut Known,
-) -> Result<(), Fault> {
+) -> Result<(), CheckFault> {
     add_required(alloc, known)?;
     add_block(reading, alloc, &mut known.names, &parts_of(block))?;
     let scope = Scope::Block {
         routine: 0,
         names: &known.required,
-        known: &known.meanings,
+        known: Meanings::new(&known.meanings),
         outer: &Scope::Outside,
     };
     let inner = Inner::new(alloc, &[])?;
@@ -269,10 +291,10 @@ fn put_within(
     )
 }
 
-fn put_fault(line: &mut Line, fault: Fault) {
+fn put_fault(line: &mut Line, fault: CheckFault) {
     match fault {
-        Fault::OutOfMemory => line.fall_short(),
-        Fault::Broken { rule, at } => {
+        CheckFault::OutOfMemory => line.fall_short(),
+        CheckFault::Broken { rule, at } => {
             line.numbered("", rule.number() as u64);
             line.valued(" ", &rule);
             line.numbered(" at byte ", u64::from(at));

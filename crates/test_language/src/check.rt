@@ -2,7 +2,7 @@
 
 use crate::front::put_refusal;
 use crate::program::checked;
-use crate::runs::{Job, put_output, put_run, put_trail};
+use crate::runs::{RunSettings, put_output, put_run, put_trail};
 use ps_tree::program::Checked;
 use std::alloc::Global;
 use test_tables::Line;
@@ -32,21 +32,33 @@ fn put_counts(line: &mut Line, program: &Checked) {
     line.valued(", domains ", &program.domains().len());
 }
 
-fn put_asked(alloc: Global, line: &mut Line, program: &Checked, asked: Asked, job: &Job) {
+fn put_asked(
+    alloc: Global,
+    line: &mut Line,
+    program: &Checked,
+    asked: Asked,
+    settings: &RunSettings,
+) {
     match asked {
         Asked::Verdict => line.word("accepted"),
         Asked::Counts => put_counts(line, program),
-        Asked::Run => put_run(alloc, line, program, job),
-        Asked::Output => put_output(alloc, line, program, job),
-        Asked::Trail => put_trail(alloc, line, program, job),
+        Asked::Run => put_run(alloc, line, program, settings),
+        Asked::Output => put_output(alloc, line, program, settings),
+        Asked::Trail => put_trail(alloc, line, program, settings),
     }
 }
 
 /// Puts what is asked of the program of a text, or the text's refusal.
-pub(crate) fn answer(alloc: Global, line: &mut Line, text: &[u8], asked: Asked, job: &Job) {
+pub(crate) fn answer(
+    alloc: Global,
+    line: &mut Line,
+    text: &[u8],
+    asked: Asked,
+    settings: &RunSettings,
+) {
     match checked(alloc, text) {
         Ok(program) => {
-            put_asked(alloc, line, &program, asked, job);
+            put_asked(alloc, line, &program, asked, settings);
             drop(program);
         }
         Err(refusal) => put_refusal(line, refusal),

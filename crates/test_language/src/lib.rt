@@ -13,7 +13,7 @@ pub mod tokens;
 mod types;
 
 pub use program::{checked, parsed};
-pub use runs::{Job, untold};
+pub use runs::{RunSettings, defaults};
 use std::alloc::Global;
 use test_tables::Line;
 
@@ -31,7 +31,7 @@ pub enum Table {
 }
 
 /// Puts what is to be shown of a row.
-pub fn answer(alloc: Global, line: &mut Line, table: Table, text: &[u8], job: &Job) {
+pub fn answer(alloc: Global, line: &mut Line, table: Table, text: &[u8], settings: &RunSettings) {
     match table {
         Table::Lengths => texts::put_length(alloc, line, text),
         Table::Lines => texts::put_lines(alloc, line, text),
@@ -40,6 +40,6 @@ pub fn answer(alloc: Global, line: &mut Line, table: Table, text: &[u8], job: &J
         Table::Values => tokens::put_value(alloc, line, text),
         Table::Tree(asked) => front::answer(alloc, line, text, asked),
         Table::Regions => regions::put_found(alloc, line, text),
-        Table::Program(asked) => check::answer(alloc, line, text, asked, job),
+        Table::Program(asked) => check::answer(alloc, line, text, asked, settings),
     }
 }

@@ -12,7 +12,7 @@ use test_tables::words::{number, u64_of};
 
 /// What is told of a run: its input, its fuel, the levels that it may take, and its costs and budget if it has any.
 #[derive(Drop)]
-pub struct Job {
+pub struct RunSettings {
     fuel: u64,
     levels: Option<u32>,
     is_within: bool,
@@ -24,8 +24,8 @@ pub struct Job {
 }
 
 /// A run of which nothing is told.
-pub fn untold(alloc: Global) -> Job {
-    Job {
+pub fn defaults(alloc: Global) -> RunSettings {
+    RunSettings {
         fuel: 1_000_000,
         levels: None,
         is_within: false,
@@ -47,9 +47,9 @@ fn add_costs(costs: &mut Vec<u32>, word: Option<&str>) -> Result<(), AllocError>
     Ok(())
 }
 
-impl Job {
+impl RunSettings {
     /// Takes what a line tells of the run.
-    pub fn tell(&mut self, word: &str, rest: &str, text: Vec<u8>) -> Result<(), AllocError> {
+    pub fn set(&mut self, word: &str, rest: &str, text: Vec<u8>) -> Result<(), AllocError> {
         match word {
             "input" => self.input = text,
             "fuel" => self.fuel = u64_of(rest),
@@ -70,19 +70,26 @@ impl Job {
     }
 }
 
-fn run(alloc: Global, program: &Checked, job: &Job) -> Result<Ran, Refusal> {
-    if !job.is_within && job.levels.is_none() {
-        return reference(alloc, program, &job.input, job.fuel);
+fn run(alloc: Global, program: &Checked, settings: &RunSettings) -> Result<Ran, Refusal> {
+    if !settings.is_within && settings.levels.is_none() {
+        return reference(alloc, program, &settings.input, settings.fuel);
     }
     let budget = Budget {
-        frames: &job.frames,
-        objects: &job.objects,
-        stack: job.stack,
-        heap: job.heap,
+        frames: &settings.frames,
+        objects: &settings.objects,
+        stack: settings.stack,
+        heap: settings.heap,
     };
-    match job.levels {
-        None => reference_within(alloc, program, &budget, &job.input, job.fuel),
-        Some(levels) => reference_to_depth(alloc, program, &budget, &job.input, job.fuel, levels),
+    match settings.levels {
+        None => reference_within(alloc, program, &budget, &settings.input, settings.fuel),
+        Some(levels) => reference_to_depth(
+            alloc,
+            program,
+            &budget,
+            &settings.input,
+            settings.fuel,
+            levels,
+        ),
     }
 }
 
@@ -134,8 +141,8 @@ fn put_refusal(line: &mut Line, refusal: Refusal) {
 }
 
 /// Puts how the run of a program ends, the calls that are open there, and what it shows.
-pub(crate) fn put_run(alloc: Global, line: &mut Line, program: &Checked, job: &Job) {
-    match run(alloc, program, job) {
+pub(crate) fn put_run(alloc: Global, line: &mut Line, program: &Checked, settings: &RunSettings) {
+    match run(alloc, program, settings) {
         Ok(ran) => {
             put_ending(line, ran.ending);
             put_calls(line, &ran);
@@ -148,8 +155,13 @@ pub(crate) fn put_run(alloc: Global, line: &mut Line, program: &Checked, job: &J
 }
 
 /// Puts the bytes that `output` makes of the transcript of a run.
-pub(crate) fn put_output(alloc: Global, line: &mut Line, program: &Checked, job: &Job) {
-    match run(alloc, program, job) {
+pub(crate) fn put_output(
+    alloc: Global,
+    line: &mut Line,
+    program: &Checked,
+    settings: &RunSettings,
+) {
+    match run(alloc, program, settings) {
         Ok(ran) => {
             let bytes = output(alloc, &ran.transcript);
             drop(ran);
@@ -167,8 +179,8 @@ fn put_bytes(line: &mut Line, bytes: Result<Vec<u8>, TranscriptFault>) {
 }
 
 /// Puts the lines that `trail` tells of a run.
-pub(crate) fn put_trail(alloc: Global, line: &mut Line, program: &Checked, job: &Job) {
-    match trail(alloc, program, &job.input, job.fuel) {
+pub(crate) fn put_trail(alloc: Global, line: &mut Line, program: &Checked, settings: &RunSettings) {
+    match trail(alloc, program, &settings.input, settings.fuel) {
         Ok(lines) => {
             put_lines(line, &lines);
             line.none_if_empty();

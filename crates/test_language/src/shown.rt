@@ -1,7 +1,7 @@
 //! The statements of a tree, with brackets round what belongs together.
 
 use ps_syntax::{
-    Adding, Constant, Direction, Element, Expr, Factor, Member, Multiplying, Parameter, Relation,
+    Adding, Constant, Direction, Element, Expr, Factor, Member, Multiplying, Parameter, Relational,
     Selector, Sign, Simple, Statement, Term, Variable,
 };
 use ps_text::Span;
@@ -22,15 +22,15 @@ fn sign_of(sign: Option<(Sign, Span)>) -> &'static str {
     }
 }
 
-fn relation_of(relation: Relation) -> &'static str {
+fn relation_of(relation: Relational) -> &'static str {
     match relation {
-        Relation::Equal => " = ",
-        Relation::NotEqual => " <> ",
-        Relation::Less => " < ",
-        Relation::Greater => " > ",
-        Relation::LessEqual => " <= ",
-        Relation::GreaterEqual => " >= ",
-        Relation::In => " in ",
+        Relational::Equal => " = ",
+        Relational::NotEqual => " <> ",
+        Relational::Less => " < ",
+        Relational::Greater => " > ",
+        Relational::LessEqual => " <= ",
+        Relational::GreaterEqual => " >= ",
+        Relational::In => " in ",
     }
 }
 

@@ -25,7 +25,7 @@ pub trait Answers {
     fn begin(&mut self, table: &str);
 
     /// A line tells something of the next row, by a word and by what stands behind it, as it is written and as a text.
-    fn tell(&mut self, word: &str, rest: &str, text: Vec<u8>) -> Result<(), AllocError>;
+    fn set(&mut self, word: &str, rest: &str, text: Vec<u8>) -> Result<(), AllocError>;
 
     /// What is to be shown of a row. What was told of it is told of no other.
     fn answer(&mut self, alloc: Global, text: &[u8]) -> Result<String, AllocError>;
@@ -69,7 +69,7 @@ fn take_other<R: Print + AllocGlobal, T: Answers>(
         answers.begin(table);
     } else if let Some(told) = line.strip_prefix("- ") {
         let (word, rest) = told.split_once(' ').unwrap_or((told, ""));
-        answers.tell(word, rest, text_of(rt.alloc(), rest)?)?;
+        answers.set(word, rest, text_of(rt.alloc(), rest)?)?;
     }
     rt.println(line)
 }

@@ -28,7 +28,7 @@ impl Line {
     }
 
     /// The text of the line, if memory was never short for it.
-    pub fn told(self) -> Result<String, AllocError> {
+    pub fn into_text(self) -> Result<String, AllocError> {
         let Line { text, is_short } = self;
         if is_short { Err(AllocError) } else { Ok(text) }
     }

@@ -39,8 +39,8 @@ fn tell_comparison<R: Print + Eprint>(rt: &R, failures: &mut Failures, compariso
     ensures { Keeps (has_failed failures.old) (has_failed failures.new) }
 {
     if comparison.holds {
-        failures.print(rt, &comparison.told);
-    } else if let Ok(text) = str::from_utf8(&comparison.told) {
+        failures.print(rt, &comparison.verdict);
+    } else if let Ok(text) = str::from_utf8(&comparison.verdict) {
         let _ = rt.eprint(text);
     }
 }

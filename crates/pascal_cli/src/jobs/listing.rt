@@ -8,12 +8,13 @@ ghost use Rattle.ps_map.specs.Shown.{Shows};
 ghost use Rattle.pascal_command.specs.Command as work;
 ghost use Rattle.pascal_command.specs.Command.{request_in, work_of};
 ghost use Rattle.pascal_cli.specs.Jobs.{IsBuilt, IsStatus, IsWritten};
-ghost use Rattle.pascal_cli.specs.Transfers.{device_of, faults_of};
+ghost use Rattle.pascal_session.specs.Transfers.{device_of, faults_of};
 
 use crate::jobs::build_text;
-use crate::session::{FAILED, STANDARD_OUTPUT, cannot, out_of_memory, read_text, tell};
-use crate::transfer::{Counted, put_all};
 use pascal_command::Job;
+use pascal_session::{
+    Counted, FAILED, STANDARD_OUTPUT, cannot, out_of_memory, put_all, read_text, report_end,
+};
 use ps_build::{Built, Mapped, Variables, build_mapped, list};
 use ps_map::listing_with_source;
 use ps_map_maker::map_of_text;
@@ -52,7 +53,7 @@ fn list_with_source<R: Files + Print + Eprint + Input + AllocGlobal>(rt: &R, sou
     };
     match build_mapped(rt.alloc(), &text, Variables::InTemporaries) {
         Ok(mapped) => put_source_listing(rt, &text, &mapped),
-        Err(refusal) => tell(rt, &Err(refusal)),
+        Err(refusal) => report_end(rt, &Err(refusal)),
     }
 }
 

@@ -2,26 +2,26 @@
 
 ghost use Rattle.std.specs.Prelude.{◌≡◌, ◌<◌, IfErr, length};
 ghost use Rattle.ps_build.specs.Headline.{Compiles};
-ghost use Rattle.pascal_cli.specs.Console as block;
-ghost use Rattle.pascal_cli.specs.Console.{console_world, held_of};
+ghost use Rattle.pascal_session.specs.Console as block;
+ghost use Rattle.pascal_session.specs.Console.{console_world, held_of};
 ghost use Rattle.pascal_cli.specs.Failures.{Keeps, has_failed};
 ghost use Rattle.pascal_cli.specs.Jobs.{RanImage, limits_in};
-ghost use Rattle.pascal_cli.specs.Report.{status_of};
+ghost use Rattle.pascal_session.specs.Report.{status_of};
 ghost use Rattle.pascal_cli.specs.Watched.{Covers, IsRun};
 ghost use Rattle.pascal_cli.specs.Watched.{first_failed};
 
-use crate::console::BlockConsole;
 use crate::failures::Failures;
 use crate::jobs::{budget_of, console};
-use crate::report::{message, status};
 use crate::runs::counts_through;
-use crate::session::{FAILED, out_of_memory, tell};
-use crate::transfer::{Counted, ReadFault, read_up_to};
 use crate::watched::{COMMENT, INPUT_LIMIT, InputFile, Program, Voice};
 use pascal_command::{Job, Options};
+use pascal_session::{
+    BlockConsole, Counted, FAILED, ReadFault, message, out_of_memory, read_up_to, report_end,
+    status,
+};
 use ps_build::{Outcome, Refusal};
-use ps_trace::{Counts, coverage_told, lcov_told, no_counts};
-use ps_why::told;
+use ps_trace::{Counts, coverage_report, lcov_report, no_counts};
+use ps_why::render;
 use std::alloc::AllocError;
 use std::fs;
 use std::io::{self, BufRead, Write};
@@ -47,7 +47,7 @@ fn tell_end<R: Eprint + AllocGlobal>(rt: &R, voice: Voice<'_>, end: &Result<Outc
             tell_lines(rt, voice, lines.as_str());
             status(end)
         }
-        Err(_) => tell(rt, end),
+        Err(_) => report_end(rt, end),
     }
 }
 
@@ -212,9 +212,9 @@ fn tell_coverage<R: Eprint + AllocGlobal>(
     counts: &Counts,
 ) {
     let told = if options.lcov {
-        lcov_told(rt.alloc(), program.path, program.prepared, counts)
+        lcov_report(rt.alloc(), program.path, program.prepared, counts)
     } else {
-        coverage_told(rt.alloc(), program.text, program.prepared, counts)
+        coverage_report(rt.alloc(), program.text, program.prepared, counts)
     };
     tell_counts(rt, told);
 }

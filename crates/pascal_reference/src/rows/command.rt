@@ -6,7 +6,7 @@ pub(crate) mod programs;
 mod reports;
 mod transfers;
 
-pub(crate) use programs::{Job, untold};
+pub(crate) use programs::{CallSettings, defaults};
 use std::alloc::{AllocError, Global};
 use test_tables::Line;
 use test_tables::words::letters;
@@ -32,17 +32,17 @@ pub(crate) fn answer(
     line: &mut Line,
     table: Table,
     text: &[u8],
-    job: Job,
+    settings: CallSettings,
 ) -> Result<(), AllocError> {
     let words = letters(text);
     match table {
-        Table::Built(asked) => return programs::answer(alloc, line, text, asked, job),
-        Table::Go => return programs::put_gone(alloc, line, text, job),
-        Table::Images => return programs::put_run(alloc, line, text, job),
-        Table::Calls => return programs::put_reported(alloc, line, text, job),
+        Table::Built(asked) => return programs::answer(alloc, line, text, asked, settings),
+        Table::Go => return programs::put_gone(alloc, line, text, settings),
+        Table::Images => return programs::put_run(alloc, line, text, settings),
+        Table::Calls => return programs::put_reported(alloc, line, text, settings),
         Table::Words => return command_line::put_asked(alloc, line, words),
         Table::Reads => transfers::put_read(alloc, line, words),
-        Table::Writers => programs::put_written(alloc, line, text, job),
+        Table::Writers => programs::put_written(alloc, line, text, settings),
         Table::Reports => reports::put_report(alloc, line, words),
         Table::Puts => transfers::put_taken(alloc, line, words),
         Table::Texts => transfers::put_gone(alloc, line, words),

@@ -1,6 +1,6 @@
 use Rattle.std.proofs.Common.{ap}
-use Rattle.pascal_cli.specs.Ahead.{ahead_bytes}
-use Rattle.pascal_cli.specs.Console.{held_of, has_failed, console_world}
+use Rattle.pascal_session.specs.Ahead.{ahead_bytes}
+use Rattle.pascal_session.specs.Console.{held_of, has_failed, console_world}
 use Rattle.ps_build.proofs.Kept.{Same}
 use Rattle.pascal_cli.proofs.Settled.{kept_input, runs_through}
 use Rattle.pascal_cli.proofs.runs.end_through.Goals as goal

@@ -7,4 +7,4 @@ returns-in-Ok g c = ended_ok _ _ _ _ _ _ _ _ _ c.in-Ok.left.outcome c.bytes-imag
 
 pub returns-in-Err : goal.returns-in-Err
 returns-in-Err g c = ended_err _ _ _ _ _ _ _ _ _ c.in-Err.refusal c.bytes-image.ensures c.budget_of.ensures
-    c.in-Err.ensures.refused c.in-Err.ensures.unchanged c.tell.ensures
+    c.in-Err.ensures.refused c.in-Err.ensures.unchanged c.report_end.ensures

@@ -1,6 +1,6 @@
 //! Programs that are built and run, and images that are run.
 
-use pascal_cli::message;
+use pascal_session::message;
 use ps_build::{Budget, Built, Outcome, Refusal, build, go, list, run_image};
 use risc_machine::{Fused, Streams};
 use std::alloc::{AllocError, Global};
@@ -9,15 +9,15 @@ use test_tables::words::{u32_of, u64_of};
 
 /// What is told of a run: its budget, its steps, and the put that fails.
 #[derive(Clone, Copy)]
-pub(crate) struct Job {
+pub(crate) struct CallSettings {
     budget: Budget,
     steps: u64,
     failing_put: u64,
 }
 
 /// A run of which nothing is told: with the default budget, and no put fails.
-pub(crate) fn untold() -> Job {
-    Job {
+pub(crate) fn defaults() -> CallSettings {
+    CallSettings {
         budget: Budget {
             stack: 4_194_304,
             heap: 1_048_576,
@@ -27,9 +27,9 @@ pub(crate) fn untold() -> Job {
     }
 }
 
-impl Job {
+impl CallSettings {
     /// Takes what a line tells of the run.
-    pub(crate) fn tell(&mut self, word: &str, rest: &str) {
+    pub(crate) fn set(&mut self, word: &str, rest: &str) {
         match word {
             "stack" => self.budget.stack = u32_of(rest),
             "heap" => self.budget.heap = u32_of(rest),
@@ -53,10 +53,13 @@ pub(crate) fn put_gone(
     alloc: Global,
     line: &mut Line,
     text: &[u8],
-    job: Job,
+    settings: CallSettings,
 ) -> Result<(), AllocError> {
-    let mut console = Fused::new(alloc, b"", 100, 0, job.failing_put)?;
-    put_end(line, go(alloc, text, job.budget, &mut console, job.steps));
+    let mut console = Fused::new(alloc, b"", 100, 0, settings.failing_put)?;
+    put_end(
+        line,
+        go(alloc, text, settings.budget, &mut console, settings.steps),
+    );
     line.word(" ");
     line.bracketed(console.output());
     Ok(())
@@ -67,12 +70,12 @@ pub(crate) fn put_run(
     alloc: Global,
     line: &mut Line,
     image: &[u8],
-    job: Job,
+    settings: CallSettings,
 ) -> Result<(), AllocError> {
-    let mut console = Fused::new(alloc, b"", 100, 0, job.failing_put)?;
+    let mut console = Fused::new(alloc, b"", 100, 0, settings.failing_put)?;
     put_end(
         line,
-        run_image(alloc, image, job.budget, &mut console, job.steps),
+        run_image(alloc, image, settings.budget, &mut console, settings.steps),
     );
     line.word(" ");
     line.bracketed(console.output());
@@ -84,10 +87,10 @@ pub(crate) fn put_reported(
     alloc: Global,
     line: &mut Line,
     image: &[u8],
-    job: Job,
+    settings: CallSettings,
 ) -> Result<(), AllocError> {
-    let mut console = Fused::new(alloc, b"", 100, 0, job.failing_put)?;
-    let end = run_image(alloc, image, job.budget, &mut console, job.steps);
+    let mut console = Fused::new(alloc, b"", 100, 0, settings.failing_put)?;
+    let end = run_image(alloc, image, settings.budget, &mut console, settings.steps);
     line.text(message(alloc, &end));
     Ok(())
 }
@@ -109,11 +112,11 @@ pub(crate) fn answer(
     line: &mut Line,
     text: &[u8],
     asked: Asked,
-    job: Job,
+    settings: CallSettings,
 ) -> Result<(), AllocError> {
     match build(alloc, text) {
         Ok(built) => {
-            let end = put_asked(alloc, line, &built, asked, job);
+            let end = put_asked(alloc, line, &built, asked, settings);
             drop(built);
             end
         }
@@ -129,21 +132,24 @@ fn put_asked(
     line: &mut Line,
     built: &Built,
     asked: Asked,
-    job: Job,
+    settings: CallSettings,
 ) -> Result<(), AllocError> {
     match asked {
         Asked::Built => line.word("built"),
         Asked::Listed => line.text(list(alloc, built)),
-        Asked::Ran => return put_run(alloc, line, built.bytes(), job),
+        Asked::Ran => return put_run(alloc, line, built.bytes(), settings),
     }
     Ok(())
 }
 
 /// Puts how a text goes whose output is written by a writer, and what is written, in brackets.
-pub(crate) fn put_written(alloc: Global, line: &mut Line, text: &[u8], job: Job) {
+pub(crate) fn put_written(alloc: Global, line: &mut Line, text: &[u8], settings: CallSettings) {
     let input: &[u8] = b"";
     let mut console = Streams::new(input, Vec::new(alloc));
-    put_end(line, go(alloc, text, job.budget, &mut console, job.steps));
+    put_end(
+        line,
+        go(alloc, text, settings.budget, &mut console, settings.steps),
+    );
     let (_, output) = console.into_parts();
     line.word(" ");
     line.bracketed(&output);

@@ -1,6 +1,6 @@
 //! Statuses and messages.
 
-use pascal_cli::{message, status};
+use pascal_session::{message, status};
 use ps_build::{FaultKind, Outcome, Place, Refusal, Rule, Trail};
 use std::alloc::Global;
 use test_tables::Line;

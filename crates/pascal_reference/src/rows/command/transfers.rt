@@ -2,7 +2,7 @@
 
 use crate::rows::command::devices::{Drip, Narrow};
 use crate::rows::command::programs::put_end;
-use pascal_cli::{Counted, ReadFault, put_all, read_up_to};
+use pascal_session::{Counted, ReadFault, put_all, read_up_to};
 use ps_build::{Budget, go};
 use risc_machine::Streams;
 use std::alloc::Global;

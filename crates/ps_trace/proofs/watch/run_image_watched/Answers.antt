@@ -1,8 +1,9 @@
 -- The run of the image that was read is that of the bytes.
 use Rattle.std.proofs.Common.{sym, subst}
+use Rattle.std.proofs.lemmas.Result.{IfErr-weaker}
 use Rattle.ps_build.specs.Runs.{Runs, RunsImage, IsLoadRefused, IsRunRefused}
 use Rattle.ps_build.specs.Slices.{IsRunLeft, IsImageLeft}
-use Rattle.ps_build.proofs.Results.{if_ended_in, if_left_in, if_err, no_image, not_loaded}
+use Rattle.ps_build.proofs.Results.{if_ended_in, if_left_in, no_image, not_loaded}
 use Rattle.ps_trace.proofs.watch.run_image_watched.Goals as goal
 
 pub returns-in-Err-clause-refused : goal.returns-in-Err-clause-refused
@@ -40,7 +41,7 @@ returns-clause-left g c =
 
 pub returns-clause-refused : goal.returns-clause-refused
 returns-clause-refused g c =
-    if_err c.run_view_watched.result (IsLoadRefused c.in-Ok.view c.args.budget)
+    IfErr-weaker c.run_view_watched.result (IsLoadRefused c.in-Ok.view c.args.budget)
     (IsRunRefused c.args.image.now c.args.budget)
     (λ refusal h. not_loaded c.args.image.now c.args.budget c.in-Ok.view refusal c.in-Ok.ensures.ok h)
     c.run_view_watched.ensures.refused

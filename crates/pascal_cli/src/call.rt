@@ -1,0 +1,99 @@
+//! One call of the program: from its words to its status.
+
+ghost use Rattle.std.specs.Prelude.{◌≡◌, ◌≤◌, Some, map, string_bytes};
+ghost use Rattle.pascal_command.specs.Command.{Request, request_of};
+ghost use Rattle.pascal_command.specs.Options.{plain_words};
+ghost use Rattle.pascal_command.specs.Wanted.{wanted_in, wanted_of};
+ghost use Rattle.pascal_cli.specs.Jobs.{IsStatus};
+
+use crate::jobs::do_job;
+use crate::version::print_version;
+use pascal_command::{OptionFault, Options, options_of, plain_words};
+use pascal_session::{
+    FAILED, STANDARD_OUTPUT, asked, asks_version, cannot, out_of_memory, texts, words,
+};
+use std::rt::{Env, Files};
+
+/// Does what the program's words ask for, and gives the program's status.
+///
+/// Faults are met in this order: the words, reading, refusals by their phases, the run, writing. Each is told on standard error.
+pub fn run<R: Files + Print + Eprint + Input + Env + AllocGlobal>(rt: &R) -> u8 {
+    match words(rt) {
+        Ok(words) => run_words(rt, &words),
+        Err(status) => status,
+    }
+}
+
+// Does what words ask for.
+fn run_words<R: Files + Print + Eprint + Input + Env + AllocGlobal>(rt: &R, words: &[String]) -> u8
+    ensures { (request : Request) → request_of (plain_words (map string_bytes words.now)) ≡ Some request
+        → IsStatus request result }
+{
+    match texts(rt, words) {
+        Ok(texts) => run_texts(rt, &texts),
+        Err(status) => status,
+    }
+}
+
+// Does what texts ask for.
+fn run_texts<R: Files + Print + Eprint + Input + Env + AllocGlobal>(rt: &R, texts: &[&str]) -> u8
+    ensures { (request : Request) → request_of (plain_words (map (λ text. text.now) texts.now)) ≡ Some request
+        → IsStatus request result }
+{
+    if asks_version(texts) {
+        return tell_version(rt);
+    }
+    match options_of(rt.alloc(), texts) {
+        Ok(options) => run_with(rt, texts, &options),
+        Err(fault) => tell_option(rt, fault),
+    }
+}
+
+// Tells what is wrong with an option.
+fn tell_option<R: Eprint>(rt: &R, fault: OptionFault<'_>) -> u8
+    ensures { result ≡ FAILED }
+{
+    let _ = rt.eprint(fault);
+    FAILED
+}
+
+// Does what texts ask for, with the options among them.
+fn run_with<R: Files + Print + Eprint + Input + Env + AllocGlobal>(
+    rt: &R,
+    texts: &[&str],
+    options: &Options<'_>,
+) -> u8
+    requires { wanted_of (map (λ text. text.now) texts.now) ≡ Some (wanted_in options.now) }
+    ensures { (request : Request) → request_of (plain_words (map (λ text. text.now) texts.now)) ≡ Some request
+        → IsStatus request result }
+{
+    match plain_words(rt.alloc(), texts) {
+        Ok(plain) => run_plain(rt, &plain, options),
+        Err(_) => out_of_memory(rt),
+    }
+}
+
+// Does what texts ask for that have no such options, as these want it.
+fn run_plain<R: Files + Print + Eprint + Input + Env + AllocGlobal>(
+    rt: &R,
+    texts: &[&str],
+    options: &Options<'_>,
+) -> u8
+    ensures { (request : Request) → request_of (map (λ text. text.now) texts.now) ≡ Some request
+        → IsStatus request result }
+{
+    match asked(rt, texts) {
+        Ok(job) => do_job(rt, &job, options),
+        Err(status) => status,
+    }
+}
+
+// Tells the version, and gives the status of that.
+fn tell_version<R: Print + Eprint + Env + AllocGlobal>(rt: &R) -> u8
+    ensures { result ≤ FAILED }
+{
+    match print_version(rt) {
+        Ok(()) => 0,
+        Err(_) => cannot(rt, "write", STANDARD_OUTPUT),
+    }
+}

@@ -1,0 +1,20 @@
+//! Code: what a call of the command is given and what it tells: its words, what it reads and writes, its statuses and its
+//! messages.
+#![tactic(auto)]
+
+mod ahead;
+mod console;
+mod counted;
+mod report;
+mod session;
+mod transfer;
+
+pub use ahead::Ahead;
+pub use console::BlockConsole;
+pub use report::{Lines, OutOfMemory, lines_of, message, status};
+pub use session::{
+    FAILED, STANDARD_INPUT, STANDARD_OUTPUT, TEXT_LIMIT, asked, asks_version, cannot, is_standard,
+    out_of_memory, read_all, read_at, read_file, read_standard_input, read_text, report_end, texts,
+    words,
+};
+pub use transfer::{Counted, ReadFault, put_all, put_at_once, read_up_to};
