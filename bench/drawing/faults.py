@@ -187,556 +187,556 @@ def way(number: Any) -> Any:
 
 
 @way(30)
-def an_operand(d: Drawing, b: Block) -> None:
-    d.use(b, f"@{d.fresh('u')}")
+def an_operand(draw: Drawing, block: Block) -> None:
+    draw.use(block, f"@{draw.fresh('u')}")
 
 
 @way(30)
-def a_target(d: Drawing, b: Block) -> None:
-    d.add(b, f"@{d.fresh('u')} := {d.number()}")
+def a_target(draw: Drawing, block: Block) -> None:
+    draw.add(block, f"@{draw.fresh('u')} := {draw.number()}")
 
 
 @way(30)
-def a_procedure(d: Drawing, b: Block) -> None:
-    d.add(b, f"@{d.fresh('u')}{d.choice('', '(1)')}")
+def a_procedure(draw: Drawing, block: Block) -> None:
+    draw.add(block, f"@{draw.fresh('u')}{draw.choice('', '(1)')}")
 
 
 @way(30)
-def a_field(d: Drawing, b: Block) -> None:
-    d.add(b, f"gr.@{d.fresh('u')} := 1")
+def a_field(draw: Drawing, block: Block) -> None:
+    draw.add(block, f"gr.@{draw.fresh('u')} := 1")
 
 
 @way(30)
-def a_type(d: Drawing, b: Block) -> None:
-    d.declare(b.variables, f"{d.fresh()}: {d.choice('@{}', 'array [1..3] of @{}', 'record f: @{} end').format(d.fresh('u'))}")
+def a_type(draw: Drawing, block: Block) -> None:
+    draw.declare(block.variables, f"{draw.fresh()}: {draw.choice('@{}', 'array [1..3] of @{}', 'record f: @{} end').format(draw.fresh('u'))}")
 
 
 @way(30)
-def a_domain(d: Drawing, b: Block) -> None:
-    d.declare(b.types, f"{d.fresh()} = ^ @{d.fresh('u')}")
-    b.types_end += "!"
+def a_domain(draw: Drawing, block: Block) -> None:
+    draw.declare(block.types, f"{draw.fresh()} = ^ @{draw.fresh('u')}")
+    block.types_end += "!"
 
 
 @way(30)
-def a_constant(d: Drawing, b: Block) -> None:
-    d.declare(b.constants, f"{d.fresh()} = {d.choice('', '-')}@{d.fresh('u')}")
+def a_constant(draw: Drawing, block: Block) -> None:
+    draw.declare(block.constants, f"{draw.fresh()} = {draw.choice('', '-')}@{draw.fresh('u')}")
 
 
 @way(30)
-def a_function_without_heading(d: Drawing, b: Block) -> None:
-    d.declare(b.routines, f"function @{d.fresh('u')}; begin end")
+def a_function_without_heading(draw: Drawing, block: Block) -> None:
+    draw.declare(block.routines, f"function @{draw.fresh('u')}; begin end")
 
 
 @way(30)
-def a_parameter_type(d: Drawing, b: Block) -> None:
-    d.declare(b.routines, f"procedure {d.fresh()}(a: integer; b: @{d.fresh('u')}); begin end")
+def a_parameter_type(draw: Drawing, block: Block) -> None:
+    draw.declare(block.routines, f"procedure {draw.fresh()}(a: integer; b: @{draw.fresh('u')}); begin end")
 
 
 @way(31)
-def variables(d: Drawing, b: Block) -> None:
-    name = d.fresh()
-    d.declare(b.variables, f"{name}: integer", f"{d.fresh()}, @{name}: char")
+def variables(draw: Drawing, block: Block) -> None:
+    name = draw.fresh()
+    draw.declare(block.variables, f"{name}: integer", f"{draw.fresh()}, @{name}: char")
 
 
 @way(31)
-def variables_of_one_list(d: Drawing, b: Block) -> None:
-    name = d.fresh()
-    d.declare(b.variables, f"{name}, {d.fresh()}, @{name}: integer")
+def variables_of_one_list(draw: Drawing, block: Block) -> None:
+    name = draw.fresh()
+    draw.declare(block.variables, f"{name}, {draw.fresh()}, @{name}: integer")
 
 
 @way(31)
-def constants(d: Drawing, b: Block) -> None:
-    name = d.fresh()
-    d.declare(b.constants, f"{name} = 1", f"@{name} = 2")
+def constants(draw: Drawing, block: Block) -> None:
+    name = draw.fresh()
+    draw.declare(block.constants, f"{name} = 1", f"@{name} = 2")
 
 
 @way(31)
-def types(d: Drawing, b: Block) -> None:
-    name = d.fresh()
-    d.declare_behind(b.types, f"{name} = char", f"@{name} = small")
+def types(draw: Drawing, block: Block) -> None:
+    name = draw.fresh()
+    draw.declare_behind(block.types, f"{name} = char", f"@{name} = small")
 
 
 @way(31)
-def a_constant_and_a_variable(d: Drawing, b: Block) -> None:
-    name = d.fresh()
-    d.declare(b.constants, f"{name} = 1")
-    d.declare(b.variables, f"@{name}: char")
+def a_constant_and_a_variable(draw: Drawing, block: Block) -> None:
+    name = draw.fresh()
+    draw.declare(block.constants, f"{name} = 1")
+    draw.declare(block.variables, f"@{name}: char")
 
 
 @way(31)
-def fields(d: Drawing, b: Block) -> None:
-    name = d.fresh()
-    d.declare(b.types, f"{d.fresh()} = record {name}: integer; {d.fresh()}, @{name}: char end")
+def fields(draw: Drawing, block: Block) -> None:
+    name = draw.fresh()
+    draw.declare(block.types, f"{draw.fresh()} = record {name}: integer; {draw.fresh()}, @{name}: char end")
 
 
 @way(31)
-def inner_fields(d: Drawing, b: Block) -> None:
-    name = d.fresh()
-    d.declare(b.variables, f"{d.fresh()}: record {name}: array [1..2] of record {name}, @{name}: char end end")
+def inner_fields(draw: Drawing, block: Block) -> None:
+    name = draw.fresh()
+    draw.declare(block.variables, f"{draw.fresh()}: record {name}: array [1..2] of record {name}, @{name}: char end end")
 
 
 @way(31)
-def constants_of_an_enumeration(d: Drawing, b: Block) -> None:
-    name = d.fresh()
-    d.declare(b.types, f"{d.fresh()} = ({name}, {d.fresh()}, @{name})")
+def constants_of_an_enumeration(draw: Drawing, block: Block) -> None:
+    name = draw.fresh()
+    draw.declare(block.types, f"{draw.fresh()} = ({name}, {draw.fresh()}, @{name})")
 
 
 @way(31)
-def a_type_and_its_constant(d: Drawing, b: Block) -> None:
-    name = d.fresh()
-    d.declare(b.types, f"{name} = ({d.fresh()}, @{name})")
+def a_type_and_its_constant(draw: Drawing, block: Block) -> None:
+    name = draw.fresh()
+    draw.declare(block.types, f"{name} = ({draw.fresh()}, @{name})")
 
 
 @way(31)
-def a_variable_and_its_constant(d: Drawing, b: Block) -> None:
-    name = d.fresh()
-    d.declare(b.variables, f"{name}: ({d.fresh()}, @{name})")
+def a_variable_and_its_constant(draw: Drawing, block: Block) -> None:
+    name = draw.fresh()
+    draw.declare(block.variables, f"{name}: ({draw.fresh()}, @{name})")
 
 
 @way(31)
-def a_constant_in_a_record(d: Drawing, b: Block) -> None:
-    name = d.fresh()
-    d.declare(b.types, f"{d.fresh()} = record {d.fresh()}: ({name}) end", f"{d.fresh()} = set of (@{name})")
+def a_constant_in_a_record(draw: Drawing, block: Block) -> None:
+    name = draw.fresh()
+    draw.declare(block.types, f"{draw.fresh()} = record {draw.fresh()}: ({name}) end", f"{draw.fresh()} = set of (@{name})")
 
 
 @way(31)
-def formal_parameters(d: Drawing, b: Block) -> None:
-    name = d.fresh()
-    d.declare(b.routines, f"procedure {d.fresh()}({name}: integer; {d.choice('', 'var ')}@{name}: char); begin end")
+def formal_parameters(draw: Drawing, block: Block) -> None:
+    name = draw.fresh()
+    draw.declare(block.routines, f"procedure {draw.fresh()}({name}: integer; {draw.choice('', 'var ')}@{name}: char); begin end")
 
 
 @way(31)
-def formal_parameters_of_a_formal(d: Drawing, b: Block) -> None:
-    name = d.fresh()
-    d.declare(b.routines, f"procedure {d.fresh()}({name}: integer; procedure q({name}, @{name}: char)); begin end")
+def formal_parameters_of_a_formal(draw: Drawing, block: Block) -> None:
+    name = draw.fresh()
+    draw.declare(block.routines, f"procedure {draw.fresh()}({name}: integer; procedure q({name}, @{name}: char)); begin end")
 
 
 @way(31)
-def a_formal_parameter_and_a_variable(d: Drawing, b: Block) -> None:
-    name = d.fresh()
-    d.declare(b.routines, f"function {(f := d.fresh())}({name}: integer): integer; var @{name}: char; begin {f} := 1 end")
+def a_formal_parameter_and_a_variable(draw: Drawing, block: Block) -> None:
+    name = draw.fresh()
+    draw.declare(block.routines, f"function {(f := draw.fresh())}({name}: integer): integer; var @{name}: char; begin {f} := 1 end")
 
 
 @way(31)
-def a_formal_parameter_of_a_forward_heading(d: Drawing, b: Block) -> None:
-    name, p = d.fresh(), d.fresh()
-    d.declare(b.routines, f"procedure {p}({name}: integer); forward", f"procedure {p}; var @{name}: char; begin end")
+def a_formal_parameter_of_a_forward_heading(draw: Drawing, block: Block) -> None:
+    name, p = draw.fresh(), draw.fresh()
+    draw.declare(block.routines, f"procedure {p}({name}: integer); forward", f"procedure {p}; var @{name}: char; begin end")
 
 
 @way(31)
-def a_routine_and_a_variable(d: Drawing, b: Block) -> None:
-    name = d.fresh()
-    d.declare(b.variables, f"{name}: integer")
-    d.declare(b.routines, f"procedure @{name}{d.choice('', '(n: integer)')}; begin end")
+def a_routine_and_a_variable(draw: Drawing, block: Block) -> None:
+    name = draw.fresh()
+    draw.declare(block.variables, f"{name}: integer")
+    draw.declare(block.routines, f"procedure @{name}{draw.choice('', '(n: integer)')}; begin end")
 
 
 @way(31)
-def a_block_and_a_variable(d: Drawing, b: Block) -> None:
-    name = d.fresh()
-    d.declare(b.variables, f"{name}: integer")
-    d.declare(b.routines, f"function @{name}; begin end")
+def a_block_and_a_variable(draw: Drawing, block: Block) -> None:
+    name = draw.fresh()
+    draw.declare(block.variables, f"{name}: integer")
+    draw.declare(block.routines, f"function @{name}; begin end")
 
 
 @way(31)
-def routines(d: Drawing, b: Block) -> None:
-    name = d.fresh()
-    d.declare(b.routines, f"procedure {name}; begin end", f"procedure @{name}{d.choice('', '(n: integer)')}; begin end")
+def routines(draw: Drawing, block: Block) -> None:
+    name = draw.fresh()
+    draw.declare(block.routines, f"procedure {name}; begin end", f"procedure @{name}{draw.choice('', '(n: integer)')}; begin end")
 
 
 @way(31)
-def blocks_of_a_forward_heading(d: Drawing, b: Block) -> None:
-    name = d.fresh()
-    d.declare(b.routines, f"procedure {name}; forward", f"procedure {name}; begin end", f"procedure @{name}; begin end")
+def blocks_of_a_forward_heading(draw: Drawing, block: Block) -> None:
+    name = draw.fresh()
+    draw.declare(block.routines, f"procedure {name}; forward", f"procedure {name}; begin end", f"procedure @{name}; begin end")
 
 
 @way(31)
-def forward_headings(d: Drawing, b: Block) -> None:
-    name = d.fresh()
-    d.declare(b.routines, f"procedure {name}; forward", f"procedure @{name}; forward", f"procedure {name}; begin end")
+def forward_headings(draw: Drawing, block: Block) -> None:
+    name = draw.fresh()
+    draw.declare(block.routines, f"procedure {name}; forward", f"procedure @{name}; forward", f"procedure {name}; begin end")
 
 
 @way(31)
-def a_block_of_another_kind(d: Drawing, b: Block) -> None:
-    name = d.fresh()
-    d.declare(b.routines, f"procedure {name}; forward", f"function @{name}; begin {name} := 1 end")
+def a_block_of_another_kind(draw: Drawing, block: Block) -> None:
+    name = draw.fresh()
+    draw.declare(block.routines, f"procedure {name}; forward", f"function @{name}; begin {name} := 1 end")
 
 
 @way(31)
-def a_list_that_is_repeated(d: Drawing, b: Block) -> None:
-    name = d.fresh()
-    d.declare(b.routines, f"procedure {name}(n: integer); forward", f"procedure @{name}(n: integer); begin end")
+def a_list_that_is_repeated(draw: Drawing, block: Block) -> None:
+    name = draw.fresh()
+    draw.declare(block.routines, f"procedure {name}(n: integer); forward", f"procedure @{name}(n: integer); begin end")
 
 
 @way(31)
-def files(d: Drawing, b: Block) -> None:
-    d.parameters = "input, output, @output"
+def files(draw: Drawing, block: Block) -> None:
+    draw.parameters = "input, output, @output"
 
 
 @way(32)
-def a_later_type(d: Drawing, b: Block) -> None:
-    name = d.fresh()
-    d.declare(b.types, f"{d.fresh()} = {d.choice('array [1..3] of ', '', 'set of ')}@{name}", f"{name} = {d.choice('char', '1..5')}")
+def a_later_type(draw: Drawing, block: Block) -> None:
+    name = draw.fresh()
+    draw.declare(block.types, f"{draw.fresh()} = {draw.choice('array [1..3] of ', '', 'set of ')}@{name}", f"{name} = {draw.choice('char', '1..5')}")
 
 
 @way(32)
-def a_later_constant(d: Drawing, b: Block) -> None:
-    name = d.fresh()
-    d.declare(b.constants, f"{d.fresh()} = @{name}", f"{name} = 5")
+def a_later_constant(draw: Drawing, block: Block) -> None:
+    name = draw.fresh()
+    draw.declare(block.constants, f"{draw.fresh()} = @{name}", f"{name} = 5")
 
 
 @way(32)
-def its_own_type(d: Drawing, b: Block) -> None:
-    name = d.fresh()
-    d.declare(b.types, f"{name} = {d.choice('record f: @{} end', 'array [1..3] of @{}', 'record f: integer; g: array [char] of @{} end').format(name)}")
+def its_own_type(draw: Drawing, block: Block) -> None:
+    name = draw.fresh()
+    draw.declare(block.types, f"{name} = {draw.choice('record f: @{} end', 'array [1..3] of @{}', 'record f: integer; g: array [char] of @{} end').format(name)}")
 
 
 @way(32)
-def its_own_constant(d: Drawing, b: Block) -> None:
-    name = d.fresh()
-    d.declare(b.constants, f"{name} = @{name}")
+def its_own_constant(draw: Drawing, block: Block) -> None:
+    name = draw.fresh()
+    draw.declare(block.constants, f"{name} = @{name}")
 
 
 @way(32)
-def a_type_that_is_hidden_later(d: Drawing, b: Block) -> None:
-    routine = d.block(f"procedure {d.fresh()}", DEEPEST)
-    routine.types[:] = [f"{d.fresh()} = array [1..3] of @small", "small = char"]
-    d.declare_behind(b.routines, routine)
+def a_type_that_is_hidden_later(draw: Drawing, block: Block) -> None:
+    routine = draw.block(f"procedure {draw.fresh()}", DEEPEST)
+    routine.types[:] = [f"{draw.fresh()} = array [1..3] of @small", "small = char"]
+    draw.declare_behind(block.routines, routine)
 
 
 @way(32)
-def a_constant_that_is_hidden_later(d: Drawing, b: Block) -> None:
-    routine = d.block(f"procedure {d.fresh()}", DEEPEST)
-    routine.constants[:] = [f"{d.fresh()} = @three", "three = 4"]
-    d.declare_behind(b.routines, routine)
+def a_constant_that_is_hidden_later(draw: Drawing, block: Block) -> None:
+    routine = draw.block(f"procedure {draw.fresh()}", DEEPEST)
+    routine.constants[:] = [f"{draw.fresh()} = @three", "three = 4"]
+    draw.declare_behind(block.routines, routine)
 
 
 @way(32)
-def a_later_formal_parameter(d: Drawing, b: Block) -> None:
-    d.declare_behind(b.routines, f"procedure {d.fresh()}(a: @small; small: char); begin end")
+def a_later_formal_parameter(draw: Drawing, block: Block) -> None:
+    draw.declare_behind(block.routines, f"procedure {draw.fresh()}(a: @small; small: char); begin end")
 
 
 @way(32)
-def a_later_constant_as_a_domain(d: Drawing, b: Block) -> None:
-    name = d.fresh()
-    d.declare(b.types, f"{d.fresh()} = ^ @{name}", f"{d.fresh()} = ({d.fresh()}, {name})")
-    b.types_end += "!"
+def a_later_constant_as_a_domain(draw: Drawing, block: Block) -> None:
+    name = draw.fresh()
+    draw.declare(block.types, f"{draw.fresh()} = ^ @{name}", f"{draw.fresh()} = ({draw.fresh()}, {name})")
+    block.types_end += "!"
 
 
 @way(33)
-def its_own_heading(d: Drawing, b: Block) -> None:
-    name = d.fresh()
-    heading = d.choice(f"function {name}(a: @{name}): integer", f"function {name}: @{name}", f"procedure {name}(procedure q(a: @{name}))")
-    d.declare(b.routines, f"{heading}; begin {'' if heading.startswith('procedure') else f'{name} := 1'} end")
+def its_own_heading(draw: Drawing, block: Block) -> None:
+    name = draw.fresh()
+    heading = draw.choice(f"function {name}(a: @{name}): integer", f"function {name}: @{name}", f"procedure {name}(procedure q(a: @{name}))")
+    draw.declare(block.routines, f"{heading}; begin {'' if heading.startswith('procedure') else f'{name} := 1'} end")
 
 
 @way(32)
-def a_block_before_its_heading(d: Drawing, b: Block) -> None:
-    name = d.fresh()
-    d.declare(b.routines, f"function @{name}; begin {name} := 1 end", f"function {name}: integer; begin {name} := 1 end")
+def a_block_before_its_heading(draw: Drawing, block: Block) -> None:
+    name = draw.fresh()
+    draw.declare(block.routines, f"function @{name}; begin {name} := 1 end", f"function {name}: integer; begin {name} := 1 end")
 
 
 @way(33)
-def an_earlier_constant_as_a_domain(d: Drawing, b: Block) -> None:
-    name = d.fresh()
-    d.declare(b.types, f"{d.fresh()} = ({d.fresh()}, {name})", f"{d.fresh()} = ^ @{name}")
-    b.types_end += "!"
+def an_earlier_constant_as_a_domain(draw: Drawing, block: Block) -> None:
+    name = draw.fresh()
+    draw.declare(block.types, f"{draw.fresh()} = ({draw.fresh()}, {name})", f"{draw.fresh()} = ^ @{name}")
+    block.types_end += "!"
 
 
 @way(33)
-def its_own_variable(d: Drawing, b: Block) -> None:
-    name = d.fresh()
-    d.declare(b.variables, f"{d.fresh()}, {name}: {d.choice('', '^ ', 'array [1..2] of ')}@{name}")
+def its_own_variable(draw: Drawing, block: Block) -> None:
+    name = draw.fresh()
+    draw.declare(block.variables, f"{draw.fresh()}, {name}: {draw.choice('', '^ ', 'array [1..2] of ')}@{name}")
 
 
 @way(33)
-def its_own_field(d: Drawing, b: Block) -> None:
-    name = d.fresh()
-    d.declare(b.types, f"{d.fresh()} = record {name}: integer; {d.fresh()}: {d.choice('', '^ ')}@{name} end")
+def its_own_field(draw: Drawing, block: Block) -> None:
+    name = draw.fresh()
+    draw.declare(block.types, f"{draw.fresh()} = record {name}: integer; {draw.fresh()}: {draw.choice('', '^ ')}@{name} end")
 
 
 @way(33)
-def a_procedure_for_a_value(d: Drawing, b: Block) -> None:
-    d.use(b, "@pv")
+def a_procedure_for_a_value(draw: Drawing, block: Block) -> None:
+    draw.use(block, "@pv")
 
 
 @way(33)
-def a_type_for_a_value(d: Drawing, b: Block) -> None:
-    d.use(b, d.choice("@small", "@integer", "@node"))
+def a_type_for_a_value(draw: Drawing, block: Block) -> None:
+    draw.use(block, draw.choice("@small", "@integer", "@node"))
 
 
 @way(33)
-def a_constant_for_a_variable(d: Drawing, b: Block) -> None:
-    d.add(b, d.choice("@three := 3", "@red := green", "read(@three)", "pr(@three)"))
+def a_constant_for_a_variable(draw: Drawing, block: Block) -> None:
+    draw.add(block, draw.choice("@three := 3", "@red := green", "read(@three)", "pr(@three)"))
 
 
 @way(33)
-def a_variable_for_a_type(d: Drawing, b: Block) -> None:
-    d.declare_behind(b.variables, f"{(name := d.fresh())}: integer", f"{d.fresh()}: {d.choice('', 'array [1..2] of ')}@{name}")
+def a_variable_for_a_type(draw: Drawing, block: Block) -> None:
+    draw.declare_behind(block.variables, f"{(name := draw.fresh())}: integer", f"{draw.fresh()}: {draw.choice('', 'array [1..2] of ')}@{name}")
 
 
 @way(33)
-def a_variable_for_a_constant(d: Drawing, b: Block) -> None:
-    routine = d.block(f"procedure {d.fresh()}", DEEPEST)
-    routine.constants[:] = [f"{d.fresh()} = @gi"]
-    d.declare_behind(b.routines, routine)
+def a_variable_for_a_constant(draw: Drawing, block: Block) -> None:
+    routine = draw.block(f"procedure {draw.fresh()}", DEEPEST)
+    routine.constants[:] = [f"{draw.fresh()} = @gi"]
+    draw.declare_behind(block.routines, routine)
 
 
 @way(33)
-def a_variable_for_a_procedure(d: Drawing, b: Block) -> None:
-    d.add(b, d.choice("@gi", "@gi(1)", "@small", "@three(gi, 2)"))
+def a_variable_for_a_procedure(draw: Drawing, block: Block) -> None:
+    draw.add(block, draw.choice("@gi", "@gi(1)", "@small", "@three(gi, 2)"))
 
 
 @way(33)
-def a_value_for_a_variable(d: Drawing, b: Block) -> None:
-    d.add(b, d.choice("pr(@1)", "pr(@gi + 1)", "pr(@(gi))", "pc(@'a')", "pr(@fn(1))"))
+def a_value_for_a_variable(draw: Drawing, block: Block) -> None:
+    draw.add(block, draw.choice("pr(@1)", "pr(@gi + 1)", "pr(@(gi))", "pc(@'a')", "pr(@fn(1))"))
 
 
 @way(33)
-def a_function_of_another_block(d: Drawing, b: Block) -> None:
-    d.add(b, "@fn := 1")
+def a_function_of_another_block(draw: Drawing, block: Block) -> None:
+    draw.add(block, "@fn := 1")
 
 
 @way(34)
-def a_condition(d: Drawing, b: Block) -> None:
-    d.add(b, d.choice("if @gi + 1 then gj := 1", "while @gc do gj := 1", "repeat gj := 1 until @ge", "if @fn(1) then", "while @gr.one do gi := 1"))
+def a_condition(draw: Drawing, block: Block) -> None:
+    draw.add(block, draw.choice("if @gi + 1 then gj := 1", "while @gc do gj := 1", "repeat gj := 1 until @ge", "if @fn(1) then", "while @gr.one do gi := 1"))
 
 
 @way(34)
-def an_operand_of_a_wrong_type(d: Drawing, b: Block) -> None:
-    d.use(b, d.choice("1 + @gc", "@gc + 1", "@gb * 2", "2 div @'a'", "gi * (gj + @ge)", "(1 + @ga) * 2", "(-@gc)", "gi mod @gp"))
+def an_operand_of_a_wrong_type(draw: Drawing, block: Block) -> None:
+    draw.use(block, draw.choice("1 + @gc", "@gc + 1", "@gb * 2", "2 div @'a'", "gi * (gj + @ge)", "(1 + @ga) * 2", "(-@gc)", "gi mod @gp"))
 
 
 @way(34)
-def an_operand_of_a_condition(d: Drawing, b: Block) -> None:
-    operand = d.choice("gb and @gi", "@gi or gb", "not @gi", "not @gc", "(gi < 1) and @ga[1]")
-    d.add(b, d.choice("gb := {}", "if {} then gi := 1", "while {} do gi := 1").format(operand))
+def an_operand_of_a_condition(draw: Drawing, block: Block) -> None:
+    operand = draw.choice("gb and @gi", "@gi or gb", "not @gi", "not @gc", "(gi < 1) and @ga[1]")
+    draw.add(block, draw.choice("gb := {}", "if {} then gi := 1", "while {} do gi := 1").format(operand))
 
 
 @way(34)
-def an_index(d: Drawing, b: Block) -> None:
-    d.add(b, d.choice("ga[@gc] := 1", "ga[@gb] := 1", "gl[@ge] := 'a'", "gi := ga[@gc]"))
+def an_index(draw: Drawing, block: Block) -> None:
+    draw.add(block, draw.choice("ga[@gc] := 1", "ga[@gb] := 1", "gl[@ge] := 'a'", "gi := ga[@gc]"))
 
 
 @way(34)
-def a_structured_result(d: Drawing, b: Block) -> None:
-    d.declare_behind(b.routines, f"function {(f := d.fresh())}(n: integer): @{d.choice('row', 'node', 'some')}; begin end")
+def a_structured_result(draw: Drawing, block: Block) -> None:
+    draw.declare_behind(block.routines, f"function {(f := draw.fresh())}(n: integer): @{draw.choice('row', 'node', 'some')}; begin end")
 
 
 @way(34)
-def an_index_type(d: Drawing, b: Block) -> None:
-    routine = d.block(f"procedure {d.fresh()}", DEEPEST)
-    routine.types[:] = [d.choice(f"{d.fresh()} = array [@row] of char", f"{d.fresh()} = array [small, @node] of char", f"{d.fresh()} = set of @row")]
-    d.declare_behind(b.routines, routine)
+def an_index_type(draw: Drawing, block: Block) -> None:
+    routine = draw.block(f"procedure {draw.fresh()}", DEEPEST)
+    routine.types[:] = [draw.choice(f"{draw.fresh()} = array [@row] of char", f"{draw.fresh()} = array [small, @node] of char", f"{draw.fresh()} = set of @row")]
+    draw.declare_behind(block.routines, routine)
 
 
 @way(35)
-def an_assignment(d: Drawing, b: Block) -> None:
-    d.add(b, d.choice("gi @:= gc", "gc @:= gi + 1", "gb @:= gi", "ga[gi] @:= 'a'", "gr.two @:= 1", "ge @:= 1", "gp^.one @:= gb", "gs @:= ['a']", "gl @:= 'abc'"))
+def an_assignment(draw: Drawing, block: Block) -> None:
+    draw.add(block, draw.choice("gi @:= gc", "gc @:= gi + 1", "gb @:= gi", "ga[gi] @:= 'a'", "gr.two @:= 1", "ge @:= 1", "gp^.one @:= gb", "gs @:= ['a']", "gl @:= 'abc'"))
 
 
 @way(35)
-def a_value_parameter(d: Drawing, b: Block) -> None:
-    d.add(b, d.choice("pv(@gc)", "pv(@'a')", "pt(1, @2 + gi)", "pt(@gb, 'a')", "gi := fn(@ge)", "pt(gi, @gi)"))
+def a_value_parameter(draw: Drawing, block: Block) -> None:
+    draw.add(block, draw.choice("pv(@gc)", "pv(@'a')", "pt(1, @2 + gi)", "pt(@gb, 'a')", "gi := fn(@ge)", "pt(gi, @gi)"))
 
 
 @way(36)
-def a_subrange_type(d: Drawing, b: Block) -> None:
-    d.declare(b.types, f"{d.fresh()} = {d.choice('@5..2', '@0..-1', chr(64) + chr(39) + 'z' + chr(39) + '..' + chr(39) + 'a' + chr(39), '@1..-1')}")
+def a_subrange_type(draw: Drawing, block: Block) -> None:
+    draw.declare(block.types, f"{draw.fresh()} = {draw.choice('@5..2', '@0..-1', chr(64) + chr(39) + 'z' + chr(39) + '..' + chr(39) + 'a' + chr(39), '@1..-1')}")
 
 
 @way(36)
-def a_subrange_of_constants(d: Drawing, b: Block) -> None:
-    routine = d.block(f"procedure {d.fresh()}", DEEPEST)
-    routine.types[:] = [f"{d.fresh()} = {d.choice('@three..1', '@blue..red', '@true..false', '@maxint..1')}"]
-    d.declare_behind(b.routines, routine)
+def a_subrange_of_constants(draw: Drawing, block: Block) -> None:
+    routine = draw.block(f"procedure {draw.fresh()}", DEEPEST)
+    routine.types[:] = [f"{draw.fresh()} = {draw.choice('@three..1', '@blue..red', '@true..false', '@maxint..1')}"]
+    draw.declare_behind(block.routines, routine)
 
 
 @way(36)
-def an_index_range(d: Drawing, b: Block) -> None:
-    d.declare(b.variables, f"{d.fresh()}: {d.choice('array [@9..1] of char', 'array [1..3, @2..1] of integer', 'set of @3..1', 'record f: @2..1 end')}")
+def an_index_range(draw: Drawing, block: Block) -> None:
+    draw.declare(block.variables, f"{draw.fresh()}: {draw.choice('array [@9..1] of char', 'array [1..3, @2..1] of integer', 'set of @3..1', 'record f: @2..1 end')}")
 
 
 @way(37)
-def a_base(d: Drawing, b: Block) -> None:
-    base = d.choice("integer", "0..256", "-1..5", "200..300")
-    d.declare(b.types, f"{d.fresh()} = {d.choice('', 'packed ')}@set of {base}")
+def a_base(draw: Drawing, block: Block) -> None:
+    base = draw.choice("integer", "0..256", "-1..5", "200..300")
+    draw.declare(block.types, f"{draw.fresh()} = {draw.choice('', 'packed ')}@set of {base}")
 
 
 @way(37)
-def a_base_of_a_variable(d: Drawing, b: Block) -> None:
-    d.declare(b.variables, f"{d.fresh()}: {d.choice('array [1..2] of @set of integer', 'record f: @set of 1..256 end', '@set of integer')}")
+def a_base_of_a_variable(draw: Drawing, block: Block) -> None:
+    draw.declare(block.variables, f"{draw.fresh()}: {draw.choice('array [1..2] of @set of integer', 'record f: @set of 1..256 end', '@set of integer')}")
 
 
 @way(38)
-def case_constants(d: Drawing, b: Block) -> None:
+def case_constants(draw: Drawing, block: Block) -> None:
     ways = ["case gi of 1: gj := 1; 2, @1: gj := 2 end", "case gi of 1, @1: gj := 1 end", "case gc of 'a': gi := 1; cross: ; @'x': end"]
     ways += ["case gi of 3: ; 4: gj := 2; @three: gi := 1 end", "case ge of red, green: ; blue, @red: gi := 1 end", "case gb of true: ; false, @true: end"]
     ways += ["case gi of 1: case gj of 1: ; @1: end; 2: end", "case gi of -3: ; 1: ; @-three: end"]
-    d.add(b, d.draw.choice(ways))
+    draw.add(block, draw.draw.choice(ways))
 
 
-def loop(d: Drawing, b: Block, body: str, control: Any = None) -> None:
-    d.add(b, f"for {control or b.control} := {d.choice('1 to 3', '3 downto 1', 'gi to gi + 2')} do {body}")
-
-
-@way(39)
-def an_assignment_in_the_loop(d: Drawing, b: Block) -> None:
-    loop(d, b, d.around(f"@{b.control} := {d.number()}"))
+def loop(draw: Drawing, block: Block, body: str, control: Any = None) -> None:
+    draw.add(block, f"for {control or block.control} := {draw.choice('1 to 3', '3 downto 1', 'gi to gi + 2')} do {body}")
 
 
 @way(39)
-def a_variable_parameter_in_the_loop(d: Drawing, b: Block) -> None:
-    loop(d, b, d.around(d.choice(f"pr(@{b.control})", f"begin gi := 2; pr(@{b.control}) end")))
+def an_assignment_in_the_loop(draw: Drawing, block: Block) -> None:
+    loop(draw, block, draw.around(f"@{block.control} := {draw.number()}"))
 
 
 @way(39)
-def a_read_in_the_loop(d: Drawing, b: Block) -> None:
-    loop(d, b, d.around(d.choice(f"read(@{b.control})", f"readln(gi, @{b.control})", f"read(input, gj, @{b.control})")))
+def a_variable_parameter_in_the_loop(draw: Drawing, block: Block) -> None:
+    loop(draw, block, draw.around(draw.choice(f"pr(@{block.control})", f"begin gi := 2; pr(@{block.control}) end")))
 
 
 @way(39)
-def a_loop_in_the_loop(d: Drawing, b: Block) -> None:
-    loop(d, b, d.around(f"for @{b.control} := 1 to 2 do gi := 1"))
+def a_read_in_the_loop(draw: Drawing, block: Block) -> None:
+    loop(draw, block, draw.around(draw.choice(f"read(@{block.control})", f"readln(gi, @{block.control})", f"read(input, gj, @{block.control})")))
 
 
-def variable_function(d: Drawing) -> str:
+@way(39)
+def a_loop_in_the_loop(draw: Drawing, block: Block) -> None:
+    loop(draw, block, draw.around(f"for @{block.control} := 1 to 2 do gi := 1"))
+
+
+def variable_function(draw: Drawing) -> str:
     """A function of the program with a variable parameter, and its name."""
-    name = d.fresh("f")
-    d.program.routines.insert(0, f"function {name}(var n: integer; m: integer): integer; begin {name} := n + m end")
+    name = draw.fresh("f")
+    draw.program.routines.insert(0, f"function {name}(var n: integer; m: integer): integer; begin {name} := n + m end")
     return name
 
 
 @way(39)
-def a_function_in_the_loop(d: Drawing, b: Block) -> None:
-    name, control = variable_function(d), b.control
+def a_function_in_the_loop(draw: Drawing, block: Block) -> None:
+    name, control = variable_function(draw), block.control
     ways = f"gi := {name}(@{control}, 1)", f"gi := fn({control}) + fn(2 * {name}(@{control}, {control}))", f"gi := {name}(gj, {control}) + {name}(@{control}, 1)"
-    loop(d, b, d.around(d.draw.choice(ways)))
+    loop(draw, block, draw.around(draw.draw.choice(ways)))
 
 
 @way(39)
-def a_routine_of_the_block(d: Drawing, b: Block) -> None:
-    body = d.choice("@{} := 3", "pr(@{})", "read(@{})", "for gi2 := 1 to 2 do begin @{} := 3 end").format(b.control)
+def a_routine_of_the_block(draw: Drawing, block: Block) -> None:
+    body = draw.choice("@{} := 3", "pr(@{})", "read(@{})", "for gi2 := 1 to 2 do begin @{} := 3 end").format(block.control)
     declared = " var gi2: integer;" if "gi2" in body else ""
-    d.declare_behind(b.routines, f"procedure {d.fresh()};{declared} begin {body} end")
-    loop(d, b, "gi := 1")
-    b.loop += "!"
+    draw.declare_behind(block.routines, f"procedure {draw.fresh()};{declared} begin {body} end")
+    loop(draw, block, "gi := 1")
+    block.loop += "!"
 
 
 @way(39)
-def a_routine_beside_another(d: Drawing, b: Block) -> None:
-    b.routines.insert(0, f"procedure {d.fresh()}; var {b.control}: integer; begin {b.control} := 1 end")
-    b.routines.append(f"procedure {d.fresh()}; begin gi := {b.control}; @{b.control} := 1 end")
-    loop(d, b, "gi := 1")
-    b.loop += "!"
+def a_routine_beside_another(draw: Drawing, block: Block) -> None:
+    block.routines.insert(0, f"procedure {draw.fresh()}; var {block.control}: integer; begin {block.control} := 1 end")
+    block.routines.append(f"procedure {draw.fresh()}; begin gi := {block.control}; @{block.control} := 1 end")
+    loop(draw, block, "gi := 1")
+    block.loop += "!"
 
 
 @way(39)
-def a_variable_of_another_block(d: Drawing, b: Block) -> None:
-    d.declare_behind(b.routines, f"procedure {d.fresh()}; var a: char; begin for @{d.choice('gi', b.control)} := 1 to 2 do gj := 1 end")
+def a_variable_of_another_block(draw: Drawing, block: Block) -> None:
+    draw.declare_behind(block.routines, f"procedure {draw.fresh()}; var a: char; begin for @{draw.choice('gi', block.control)} := 1 to 2 do gj := 1 end")
 
 
 @way(39)
-def a_formal_parameter(d: Drawing, b: Block) -> None:
-    d.declare_behind(b.routines, f"procedure {d.fresh()}({d.choice('', 'var ')}a: integer); begin for @a := 1 to 2 do gj := 1 end")
+def a_formal_parameter(draw: Drawing, block: Block) -> None:
+    draw.declare_behind(block.routines, f"procedure {draw.fresh()}({draw.choice('', 'var ')}a: integer); begin for @a := 1 to 2 do gj := 1 end")
 
 
 @way(40)
-def a_component(d: Drawing, b: Block) -> None:
-    d.add(b, d.choice("pc(@gl[1])", "pc(@gt.left)", "pc(@gl[gi])"))
+def a_component(draw: Drawing, block: Block) -> None:
+    draw.add(block, draw.choice("pc(@gl[1])", "pc(@gt.left)", "pc(@gl[gi])"))
 
 
 @way(40)
-def a_component_in_with(d: Drawing, b: Block) -> None:
-    d.add(b, "with gt do pc(@left)")
+def a_component_in_with(draw: Drawing, block: Block) -> None:
+    draw.add(block, "with gt do pc(@left)")
 
 
 @way(41)
-def too_many(d: Drawing, b: Block) -> None:
-    d.add(b, d.choice("@pv(1, 2)", "@pv", "@pt(1)", "@pr(gi, gj)", "@hp", "gi := @fn(1, 2)", "gi := 2 * @fn", "@pt(gi, 'a', gj)"))
+def too_many(draw: Drawing, block: Block) -> None:
+    draw.add(block, draw.choice("@pv(1, 2)", "@pv", "@pt(1)", "@pr(gi, gj)", "@hp", "gi := @fn(1, 2)", "gi := 2 * @fn", "@pt(gi, 'a', gj)"))
 
 
 @way(41)
-def lists(d: Drawing, b: Block) -> None:
-    d.add(b, d.choice("hp(@pr)", "hp(@pt)", "hf(@fz)", "hp(@pz)"))
-    d.program.routines.insert(0, "function fz(n: integer): char; begin fz := 'a' end")
-    d.program.routines.insert(0, "procedure pz; begin end")
+def lists(draw: Drawing, block: Block) -> None:
+    draw.add(block, draw.choice("hp(@pr)", "hp(@pt)", "hf(@fz)", "hp(@pz)"))
+    draw.program.routines.insert(0, "function fz(n: integer): char; begin fz := 'a' end")
+    draw.program.routines.insert(0, "procedure pz; begin end")
 
 
 @way(42)
-def a_procedure_heading(d: Drawing, b: Block) -> None:
-    d.declare(b.routines, f"procedure @{d.fresh()}{d.choice('', '(n: integer)')}; forward")
-    b.routines_end += "!"
+def a_procedure_heading(draw: Drawing, block: Block) -> None:
+    draw.declare(block.routines, f"procedure @{draw.fresh()}{draw.choice('', '(n: integer)')}; forward")
+    block.routines_end += "!"
 
 
 @way(42)
-def a_function_heading(d: Drawing, b: Block) -> None:
-    d.declare(b.routines, f"function @{d.fresh()}{d.choice('', '(var n: char)')}: integer; forward")
-    b.routines_end += "!"
+def a_function_heading(draw: Drawing, block: Block) -> None:
+    draw.declare(block.routines, f"function @{draw.fresh()}{draw.choice('', '(var n: char)')}: integer; forward")
+    block.routines_end += "!"
 
 
 @way(42)
-def a_heading_between_others(d: Drawing, b: Block) -> None:
-    name, other = d.fresh(), d.fresh()
-    d.declare(b.routines, f"procedure {other}; forward", f"procedure @{name}; forward", f"procedure {other}; begin {name} end")
-    b.routines_end += "!"
+def a_heading_between_others(draw: Drawing, block: Block) -> None:
+    name, other = draw.fresh(), draw.fresh()
+    draw.declare(block.routines, f"procedure {other}; forward", f"procedure @{name}; forward", f"procedure {other}; begin {name} end")
+    block.routines_end += "!"
 
 
 @way(43)
-def a_function_of_nothing(d: Drawing, b: Block) -> None:
-    d.declare(b.routines, f"function @{d.fresh()}{d.choice('', '(n: integer)')}: integer; begin {d.choice('', 'gj := 1')} !end")
+def a_function_of_nothing(draw: Drawing, block: Block) -> None:
+    draw.declare(block.routines, f"function @{draw.fresh()}{draw.choice('', '(n: integer)')}: integer; begin {draw.choice('', 'gj := 1')} !end")
 
 
 @way(43)
-def a_forward_function(d: Drawing, b: Block) -> None:
-    name = d.fresh()
-    d.declare_behind(b.routines, f"function {name}(n: integer): char; forward", f"function @{name}; begin gi := n !end")
+def a_forward_function(draw: Drawing, block: Block) -> None:
+    name = draw.fresh()
+    draw.declare_behind(block.routines, f"function {name}(n: integer): char; forward", f"function @{name}; begin gi := n !end")
 
 
 @way(43)
-def a_function_that_another_hides(d: Drawing, b: Block) -> None:
-    name = d.fresh()
-    d.declare_behind(b.routines, f"function @{name}: integer; var a: char; procedure q; var {name}: integer; begin {name} := 1 end; begin q !end")
+def a_function_that_another_hides(draw: Drawing, block: Block) -> None:
+    name = draw.fresh()
+    draw.declare_behind(block.routines, f"function @{name}: integer; var a: char; procedure q; var {name}: integer; begin {name} := 1 end; begin q !end")
 
 
 @way(44)
-def no_output(d: Drawing, b: Block) -> None:
-    d.parameters, d.writes = d.choice("input", ""), False
-    d.reads = d.parameters == "input"
-    d.add(b, d.choice("@writeln", "@write(1)", "@writeln(gi: 3)", "write(@output, 'abc')", "writeln(@output)"))
+def no_output(draw: Drawing, block: Block) -> None:
+    draw.parameters, draw.writes = draw.choice("input", ""), False
+    draw.reads = draw.parameters == "input"
+    draw.add(block, draw.choice("@writeln", "@write(1)", "@writeln(gi: 3)", "write(@output, 'abc')", "writeln(@output)"))
 
 
 @way(44)
-def no_input(d: Drawing, b: Block) -> None:
-    d.parameters, d.reads = d.choice("output", ""), False
-    d.writes = d.parameters == "output"
-    d.add(b, d.choice("@read(gi)", "@readln", "gb := @eof", "while not @eoln do gi := 1", "read(@input, gi)", "gb := eof(@input)", "readln(@input)"))
+def no_input(draw: Drawing, block: Block) -> None:
+    draw.parameters, draw.reads = draw.choice("output", ""), False
+    draw.writes = draw.parameters == "output"
+    draw.add(block, draw.choice("@read(gi)", "@readln", "gb := @eof", "while not @eoln do gi := 1", "read(@input, gi)", "gb := eof(@input)", "readln(@input)"))
 
 
 @way(45)
-def a_long_type(d: Drawing, b: Block) -> None:
-    d.declare(b.types, d.choice(f"@{d.fresh()} = array [1..100001] of char", f"@{d.fresh()} = array [1..400, 1..400] of Boolean"))
+def a_long_type(draw: Drawing, block: Block) -> None:
+    draw.declare(block.types, draw.choice(f"@{draw.fresh()} = array [1..100001] of char", f"@{draw.fresh()} = array [1..400, 1..400] of Boolean"))
 
 
 @way(45)
-def a_long_part(d: Drawing, b: Block) -> None:
-    d.declare(b.variables, f"{d.fresh()}: {d.choice('@array [1..100001] of char', 'record f: @array [1..200000] of integer end', '@packed array [char, 1..1000] of char')}")
+def a_long_part(draw: Drawing, block: Block) -> None:
+    draw.declare(block.variables, f"{draw.fresh()}: {draw.choice('@array [1..100001] of char', 'record f: @array [1..200000] of integer end', '@packed array [char, 1..1000] of char')}")
 
 
 @way(45)
-def many_variables(d: Drawing, b: Block) -> None:
-    d.declare(b.routines, f"procedure @{d.fresh()}; var a, b: array [1..60000] of char; begin !end")
+def many_variables(draw: Drawing, block: Block) -> None:
+    draw.declare(block.routines, f"procedure @{draw.fresh()}; var a, b: array [1..60000] of char; begin !end")
 
 
 @way(45)
-def many_parameters(d: Drawing, b: Block) -> None:
-    d.declare(b.routines, f"procedure @{d.fresh()}({', '.join(f'q{k}' for k in range(33))}: integer); begin end")
+def many_parameters(draw: Drawing, block: Block) -> None:
+    draw.declare(block.routines, f"procedure @{draw.fresh()}({', '.join(f'q{k}' for k in range(33))}: integer); begin end")
 
 
 @way(45)
-def nested(d: Drawing, b: Block) -> None:
-    names = [d.fresh() for _ in range(16 - b.depth)]
+def nested(draw: Drawing, block: Block) -> None:
+    names = [draw.fresh() for _ in range(16 - block.depth)]
     heads = "; ".join(f"procedure {'@' if name == names[-1] else ''}{name}" for name in names)
-    d.declare(b.routines, f"{heads}; {'begin end; ' * len(names)}".rstrip("; "))
+    draw.declare(block.routines, f"{heads}; {'begin end; ' * len(names)}".rstrip("; "))
 
 
 # ---- the text

@@ -14,37 +14,40 @@ programs drawn.
 
 from __future__ import annotations
 
-import argparse, json, os, random, re, subprocess, sys, tempfile
+import argparse
+import json
+import os
+import random
+import re
+import subprocess
+import sys
+import tempfile
+from typing import Any, Dict, List, Optional, Set, Tuple
 
 sys.dont_write_bytecode = True
 HERE = os.path.dirname(os.path.abspath(__file__))
 sys.path.insert(0, os.path.dirname(HERE))
 sys.path.insert(0, HERE)
 import reference
+from drawing.changed import changed
 from drawing.programs import drawn
+from reading import Bad
 
-NUMBERS = [0, 0, 1, 2, 3, 7, 10, 100, 255, 256, 1000, 32768, 70000, 2147483647]
 STEPS = "3000000"
 CHANGES = 6  # of each program that is drawn
-ANY = object()  # what the words don't tell, as a character that isn't shown
+MOST_CHANGED = 8  # numbers of a program
+# the ordinals that a name may stand for
+Constants = Dict[str, Set[int]]
+# a value: None for nil, a list of components, or a pair of its kind and what it is
+Value = Any
+# a routine's number, and the values of its variables
+Frame = Tuple[int, List[Value]]
 
 
-class Bad(Exception):
-    pass
-
-
-def changed(draw, text):
-    """A text in which some numbers are others."""
-    places = list(re.finditer(r"(?<![\w.])\d+(?!\w)", text))
-    for found in sorted(draw.sample(places, min(len(places), draw.randint(1, 8))), key=re.Match.start, reverse=True):
-        text = text[: found.start()] + str(draw.choice(NUMBERS)) + text[found.end() :]
-    return text
-
-
-def constants_of(text):
+def constants_of(text: str) -> Constants:
     """The ordinals of the constants of enumerated types, by their names in small letters; several where a name stands
     for several."""
-    found = {"false": {0}, "true": {1}}
+    found: Constants = {"false": {0}, "true": {1}}
     for match in re.finditer(r"(?:[=:\[]|\bof|,)\s*\(\s*([A-Za-z]\w*(?:\s*,\s*[A-Za-z]\w*)*)\s*\)", re.sub(r":=", "  ", text)):
         for number, name in enumerate(re.split(r"\s*,\s*", match[1])):
             found.setdefault(name.lower(), set()).add(number)
@@ -57,22 +60,23 @@ WORD = re.compile(r"\s*('(?:[^']|'')*'|-?\d+|\.\.|[A-Za-z]\w*|[()\[\],:?])")
 class Values:
     """Reads a value off the words that tell it."""
 
-    def __init__(self, told, constants):
-        self.words, self.at, self.constants = WORD.findall(told), 0, constants
-        if "".join(self.words) != re.sub(r"\s", "", told) and "'" not in told:
-            raise Bad(f"words of {told}")
+    def __init__(self, shown: str, constants: Constants) -> None:
+        self.words, self.at, self.constants = WORD.findall(shown), 0, constants
+        if "".join(self.words) != re.sub(r"\s", "", shown) and "'" not in shown:
+            raise Bad(f"words of {shown}")
 
-    def word(self, ahead=0):
+    def word(self, ahead: int = 0) -> str:
         return self.words[self.at + ahead] if self.at + ahead < len(self.words) else ""
 
-    def take(self, word=None):
+    def take(self, word: Optional[str] = None) -> str:
         found = self.word()
         if word is not None and found != word:
             raise Bad(f"{word} wanted in {self.words}")
         self.at += 1
         return found
 
-    def ordinal(self):
+    def ordinal(self) -> Set[int]:
+        """The numbers that the words may stand for."""
         word = self.take()
         if re.fullmatch(r"-?\d+", word):
             return {int(word)}
@@ -87,8 +91,8 @@ class Values:
             return self.constants[word.lower()]
         raise Bad(f"no value: {word}")
 
-    def members(self):
-        found = []
+    def members(self) -> Value:
+        found: List[Tuple[Set[int], Set[int]]] = []
         self.take("[")
         while self.word() != "]":
             low = high = self.ordinal()
@@ -101,7 +105,7 @@ class Values:
         self.take("]")
         return ("set", found)
 
-    def value(self):
+    def value(self) -> Value:
         word = self.word()
         if word == "nil":
             self.take()
@@ -128,7 +132,7 @@ class Values:
         return ("ordinal", self.ordinal())
 
 
-def raw(words):
+def raw(words: List[str]) -> Value:
     """A value as the reference tells it: a number, `nil`, `@OBJECT`, `{ MEMBERS }` or `[ PARTS ]`."""
     word = words.pop(0)
     if word == "nil":
@@ -150,7 +154,7 @@ def raw(words):
     return ("ordinal", int(word))
 
 
-def same(told, real, objects, todo):
+def same(told: Value, real: Value, objects: Dict[int, int], todo: List[int]) -> bool:
     """Whether a value that was told is one that the reference has. Objects are put beside one another."""
     if told is None or real is None:
         return told is None and real is None
@@ -177,10 +181,12 @@ def same(told, real, objects, todo):
     return found == real[1] or any(len(low) > 1 for low, _ in told[1]) and found >= real[1]
 
 
-def reference_of(told):
+def reference_of(answer: str) -> Tuple[List[str], List[int], List[Frame], Dict[int, Value]]:
     """The ending, the lines of the open calls, the frames with the values of their entries, and the objects."""
-    lines = told.splitlines()
-    ending, calls, frames, objects = lines[0].split(), [], [], {}
+    lines = answer.splitlines()
+    ending, calls = lines[0].split(), []
+    frames: List[Frame] = []
+    objects: Dict[int, Value] = {}
     for line in lines[1:]:
         words = line.split()
         if words[0] == "called":
@@ -196,9 +202,9 @@ def reference_of(told):
     return ending, calls, frames, objects
 
 
-def names_of(shown):
+def names_of(shown: str) -> List[Tuple[str, List[str]]]:
     """The names of the routines of a map, and of their variables."""
-    routines = []
+    routines: List[Tuple[str, List[str]]] = []
     for line in shown.splitlines():
         words = line.split(" ")
         if words[0] == "routine":
@@ -208,7 +214,15 @@ def names_of(shown):
     return routines
 
 
-def compare_frame(call, frame, routines, constants, objects, todo):
+def compare_frame(
+    call: Dict[str, Any],
+    frame: Frame,
+    routines: List[Tuple[str, List[str]]],
+    constants: Constants,
+    objects: Dict[int, int],
+    todo: List[int],
+) -> None:
+    """Whether an open call is of the routine of a frame, and its variables have the values of that."""
     routine, values = frame
     name, variables = routines[routine]
     if call["routine"] != name:
@@ -223,7 +237,7 @@ def compare_frame(call, frame, routines, constants, objects, todo):
             raise Bad(f"{name}: {told}, and not {real}")
 
 
-def compare_found(told):
+def compare_found(told: Dict[str, Any]) -> None:
     """Whether the value that the error found is one that is such an error."""
     value, number = told.get("value"), told["number"]
     if value is None:
@@ -237,8 +251,8 @@ def compare_found(told):
         raise Bad(f"{told['text']}: {value} is no such error")
 
 
-def compare(text, told, real, shown):
-    """Compares what is told with what the reference has."""
+def compare(text: str, told: Dict[str, Any], real: Any, shown: str) -> int:
+    """Compares what is told with what the reference has, and gives how many values that were."""
     ending, calls, frames, made = real
     if told["ending"] != "error" or [told["number"], told["line"]] != [int(ending[1]), int(ending[2])]:
         raise Bad(f"{told['ending']} {told.get('number')} at {told.get('line')}, and not {ending}")
@@ -262,15 +276,16 @@ def compare(text, told, real, shown):
     return sum(len(frame[1]) for frame in frames) + len(done)
 
 
-def told_of(program, path, given):
+def account_of(program: str, path: str, given: bytes) -> Optional[Dict[str, Any]]:
     """What `why` tells, or None where the text has no run that ends with an error."""
     run = subprocess.run([program, "why", "--json", "--all", "--steps", STEPS, path], input=given, capture_output=True)
     if run.returncode != 2:
         return None
-    return json.loads(run.stderr.decode("latin-1").strip().split("\n")[-1])
+    account: Dict[str, Any] = json.loads(run.stderr.decode("latin-1").strip().split("\n")[-1])
+    return account
 
 
-def map_of(program, path):
+def map_of(program: str, path: str) -> str:
     subprocess.run([program, "compile", "--map", f"{path}.map", path, f"{path}.img"], check=True, capture_output=True)
     return open(f"{path}.map", encoding="latin-1").read()
 
@@ -278,34 +293,35 @@ def map_of(program, path):
 class End:
     """A drawn program that ended with an error: its name, its text and input, what `why` tells, and its map."""
 
-    def __init__(self, name, text, given, told, shown):
+    def __init__(self, name: str, text: str, given: str, told: Dict[str, Any], shown: str) -> None:
         self.name, self.text, self.given, self.told, self.shown = name, text, given, told, shown
 
-    def keep(self, folder):
+    def keep(self, folder: str) -> None:
         os.makedirs(folder, exist_ok=True)
         for ending, content in (("pas", self.text), ("in", self.given), ("json", json.dumps(self.told, indent=1))):
             with open(f"{folder}/{self.name}.{ending}", "w", encoding="latin-1") as file:
                 file.write(content)
 
 
-def ends_of(asked, work):
-    """So many drawn programs that ended with an error, and how many were drawn."""
-    found, number = [], 0
+def ends_of(asked: argparse.Namespace, work: str) -> Tuple[List[End], int]:
+    """As many drawn programs that ended with an error as are asked for, and how many were drawn."""
+    found: List[End] = []
+    number = 0
     while len(found) < asked.count:
         if number % CHANGES == 0:
             whole, given = drawn(random.Random(f"{asked.seed}-{number // CHANGES}"))
-        text = changed(random.Random(f"{asked.seed}-{number}"), whole)
+        text = changed(random.Random(f"{asked.seed}-{number}"), whole, MOST_CHANGED)
         path = f"{work}/p.pas"
         with open(path, "w", encoding="latin-1") as file:
             file.write(text)
-        told = told_of(asked.program, path, given.encode())
-        if told is not None:
-            found.append(End(f"{asked.seed}-{number}", text, given, told, map_of(asked.program, path)))
+        account = account_of(asked.program, path, given.encode())
+        if account is not None:
+            found.append(End(f"{asked.seed}-{number}", text, given, account, map_of(asked.program, path)))
         number += 1
     return found, number
 
 
-def main():
+def main() -> int:
     words = argparse.ArgumentParser()
     words.add_argument("seed", nargs="?", type=int, default=1)
     words.add_argument("count", nargs="?", type=int, default=100)
@@ -330,8 +346,8 @@ def main():
                 if asked.keep:
                     end.keep(asked.keep)
     print(f"seed {asked.seed}: {len(ends)} ends with an error of {tried} programs, {values} values and objects; {bad} differ, {late} are too long for the reference")
-    sys.exit(bad != 0)
+    return int(bad != 0)
 
 
 if __name__ == "__main__":
-    main()
+    sys.exit(main())

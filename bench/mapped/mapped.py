@@ -15,363 +15,200 @@ parameters, its variables and its `begin`, and each statement with its extent. T
 - each statement that does something has words;
 - where the listing tells a line of a stop, the row of that word has a token in that line.
 """
-import argparse, os, re, subprocess, sys, tempfile
 
-TOKEN = re.compile(rb"""(?P<space>[ \t\r\n\f]+|\{[^}]*?(?:\}|\*\))|\(\*.*?(?:\*\)|\}))|(?P<word>[A-Za-z][A-Za-z0-9_]*)|(?P<number>[0-9]+)
-|(?P<text>'(?:[^'\n]|'')*')|(?P<sign>:=|<>|<=|>=|\.\.|\(\.|\.\)|[-+*/=<>()\[\]{},;:.^@])""", re.X | re.S)
+from __future__ import annotations
 
-# Words that end an expression where nothing is open.
-ENDS = {";", "then", "do", "of", "to", "downto", "end", "until", "else"}
+import argparse
+import os
+import re
+import subprocess
+import sys
+import tempfile
+from typing import Dict, List, NamedTuple, Optional, Tuple
 
+sys.dont_write_bytecode = True
+from reading import Bad, Declared, Statement, blocks_of, place_of, tokens_of
 
-class Bad(Exception):
-    pass
+TOP = os.path.dirname(os.path.dirname(os.path.dirname(os.path.abspath(__file__))))
 
-
-def tokens_of(text):
-    """The tokens of a text as pairs of their spelling in small letters and their offset."""
-    found, at = [], 0
-    while at < len(text):
-        match = TOKEN.match(text, at)
-        if not match:
-            raise Bad(f"no token at {at}")
-        if match.lastgroup != "space":
-            word = match.group().decode("latin-1")
-            found.append((word if match.lastgroup == "text" else word.lower(), at))
-        at = match.end()
-    return found
+# the line and the column of a token
+Place = Tuple[int, int]
 
 
-class Statement:
-    """A statement: its number in its block, its first token, the one behind it, and whether it does something."""
+class Routine(NamedTuple):
+    """A routine of a map: its first word, the words of its frame, the place of its `begin`, its name, and its variables
+    as (role, name, type)."""
 
-    def __init__(self, number, first):
-        self.number, self.first, self.end, self.acts, self.parts = number, first, first, False, []
-
-
-class Reader:
-    """Reads the statements of one block, token by token."""
-
-    def __init__(self, tokens, at):
-        self.tokens, self.at, self.all = tokens, at, []
-
-    def word(self):
-        return self.tokens[self.at][0] if self.at < len(self.tokens) else "."
-
-    def take(self, word=None):
-        if word is not None and self.word() != word:
-            raise Bad(f"{word} wanted at {self.tokens[self.at]}")
-        self.at += 1
-
-    def skip(self, ends):
-        """Goes behind an expression, a variable or parameters: to the next of some words that isn't in parentheses."""
-        open_ = 0
-        while open_ or self.word() not in ends:
-            if self.word() in ("(", "[", "(."):
-                open_ += 1
-            elif self.word() in (")", "]", ".)"):
-                open_ -= 1
-            self.take()
-
-    def statement(self):
-        one = Statement(len(self.all) + 1, self.at)
-        self.all.append(one)
-        head = self.word()
-        if head == "begin":
-            self.take()
-            self.sequence(one, "end")
-        elif head == "repeat":
-            self.take()
-            self.sequence(one, "until")
-            self.skip(ENDS)
-            one.acts = True
-        elif head == "if":
-            self.skip({"then"}); self.take()
-            one.parts.append(self.statement())
-            if self.word() == "else":
-                self.take()
-                one.parts.append(self.statement())
-            one.acts = True
-        elif head in ("while", "with", "for"):
-            self.skip({"do"}); self.take()
-            one.parts.append(self.statement())
-            one.acts = head != "with"
-        elif head == "case":
-            self.skip({"of"}); self.take()
-            while self.word() != "end":
-                self.skip({":"}); self.take()
-                one.parts.append(self.statement())
-                if self.word() == ";":
-                    self.take()
-            self.take("end")
-            one.acts = True
-        elif head not in ENDS:
-            self.skip(ENDS)
-            one.acts = True
-        one.end = self.at
-        return one
-
-    def sequence(self, one, last):
-        one.parts.append(self.statement())
-        while self.word() == ";":
-            self.take()
-            one.parts.append(self.statement())
-        self.take(last)
+    word: int
+    frame: int
+    begin: Optional[Place]
+    name: str
+    entries: List[Tuple[str, str, str]]
 
 
-class Declared:
-    """What is declared of a routine: its name, and its result, parameters and variables as (role, name, words of the
-    type)."""
+class Row(NamedTuple):
+    """A row of a map: a word, what it belongs to, and the places of the statement and of the token."""
 
-    def __init__(self, name, entries):
-        self.name, self.entries = name, entries
-
-
-class Declarations:
-    """Reads the headings and the declarations of variables."""
-
-    def __init__(self, tokens):
-        self.tokens, self.open, self.forward, self.blocks = tokens, [], {}, {}
-
-    def word(self, at):
-        return self.tokens[at][0]
-
-    def denoter(self, at, ends):
-        """The token behind a type, and its words."""
-        words, open_ = [], 0
-        while open_ or self.word(at) not in ends:
-            open_ += (self.word(at) in ("(", "[", "record")) - (self.word(at) in (")", "]", "end"))
-            words.append(self.word(at))
-            at += 1
-        return at, words
-
-    def names(self, at):
-        """Names with commas between them, and the token behind the colon."""
-        found = [self.word(at)]
-        while self.word(at + 1) == ",":
-            at += 2
-            found.append(self.word(at))
-        return at + 2, found
-
-    def past(self, at):
-        """The token behind the parenthesis that is open there, and behind a result."""
-        open_ = 1
-        while open_:
-            open_ += (self.word(at) == "(") - (self.word(at) == ")")
-            at += 1
-        return at
-
-    def formals(self, at):
-        """Formal parameters behind their parenthesis: the token behind the closing one, and the entries."""
-        entries = []
-        while True:
-            head = self.word(at)
-            if head in ("procedure", "function"):
-                entries.append(("routine", self.word(at + 1), []))
-                at += 2
-                if self.word(at) == "(":
-                    at = self.past(at + 1)
-                if head == "function":
-                    at, _ = self.denoter(at + 1, (";", ")"))
-            else:
-                role = "reference" if head == "var" else "value"
-                at, names = self.names(at + (head == "var"))
-                at, words = self.denoter(at, (";", ")"))
-                entries += [(role, name, words) for name in names]
-            if self.word(at) == ")":
-                return at + 1, entries
-            at += 1
-
-    def heading(self, at):
-        """The heading at a token: the token behind its semicolon, or behind `forward`."""
-        head, name, entries = self.word(at), self.word(at + 1), []
-        at += 2
-        key = (len(self.open), name)
-        if self.word(at) == "(":
-            at, entries = (self.denoter(at, (";",))[0], []) if head == "program" else self.formals(at + 1)
-        if self.word(at) == ":":
-            at, words = self.denoter(at + 1, (";",))
-            entries.insert(0, ("result", name, words))
-        elif key in self.forward and not entries:
-            entries = self.forward[key]
-        if self.word(at + 1) == "forward":
-            self.forward[key] = entries
-            return at + 3
-        self.open.append(Declared(name, list(entries)))
-        return at + 1
-
-    def variables(self, at):
-        """The variables behind `var`: the token behind them."""
-        while re.match(r"[a-z]", self.word(at)) and self.word(at) not in ("procedure", "function", "begin"):
-            at, names = self.names(at)
-            at, words = self.denoter(at, (";",))
-            self.open[-1].entries += [("own", name, words) for name in names]
-            at += 1
-        return at
-
-    def read(self):
-        at = 0
-        while at < len(self.tokens):
-            word = self.word(at)
-            if word in ("program", "procedure", "function"):
-                at = self.heading(at)
-            elif word == "var":
-                at = self.variables(at + 1)
-            elif word == "begin":
-                reader = Reader(self.tokens, at)
-                top = Statement(0, at)
-                reader.take()
-                reader.sequence(top, "end")
-                self.blocks[at] = (self.open.pop(), reader.all)
-                at = reader.at
-            else:
-                at += 1
-        return self.blocks
+    word: int
+    owner: Tuple[str, ...]
+    statement: Optional[Place]
+    token: Optional[Place]
 
 
-def blocks_of(tokens):
-    """The blocks: the token of each `begin` with what is declared, and the statements."""
-    return Declarations(tokens).read()
+
+def place_in(word: str) -> Optional[Place]:
+    if word == "-":
+        return None
+    line, column = word.split(":")
+    return int(line), int(column)
 
 
-def place_of(text, offset):
-    before = text[:offset]
-    return (before.count(b"\n") + 1, offset - (before.rfind(b"\n") + 1) + 1)
-
-
-def place_in(word):
-    return None if word == "-" else tuple(int(part) for part in word.split(":"))
-
-
-def map_in(lines):
+def map_in(lines: List[str]) -> Tuple[List[Routine], List[Row]]:
     """Routines and rows of a map."""
     if lines[0] != "pascal map 1":
         raise Bad("no map")
-    routines, rows = [], []
+    routines: List[Routine] = []
+    rows: List[Row] = []
     for line in lines[1:]:
         words = line.split(" ")
         if words[0] == "routine":
             if int(words[1]) != len(routines) or rows:
                 raise Bad(line)
-            routines.append((int(words[2]), int(words[3]), place_in(words[4]), words[5].lower(), []))
+            routines.append(Routine(int(words[2]), int(words[3]), place_in(words[4]), words[5].lower(), []))
             homes = [4]
         elif words[0] == "variable":
             if int(words[1]) + 1 != len(routines) or int(words[2]) != homes[-1]:
                 raise Bad(line)
             homes.append(int(words[2]) + int(words[3]))
-            routines[-1][4].append((words[4], words[5].lower(), " ".join(words[6:])))
+            routines[-1].entries.append((words[4], words[5].lower(), " ".join(words[6:])))
         elif words[0] == "word":
             owner = tuple(words[2:4]) if words[2] in ("routine", "run-time") else (words[2],)
-            places = [None, None]
+            places: List[Optional[Place]] = [None, None]
             if words[2] == "routine":
                 places = [place_in(word) for word in words[4:6]]
             elif words[2] == "start":
                 places[1] = place_in(words[3])
-            rows.append((int(words[1]), owner, *places))
+            rows.append(Row(int(words[1]), owner, *places))
         else:
             raise Bad(line)
     return routines, rows
 
 
-def is_type(shown, words):
+def is_type(shown: str, words: List[str]) -> bool:
     """Whether a type is told by these words; a long one is cut short, with ` ..` at its end."""
     if shown.endswith(" .."):
         return "".join(words).lower().startswith(re.sub(r"\s", "", shown[:-3]).lower())
     return [word for word, _ in tokens_of(shown.encode("latin-1"))] == words
 
 
-def compare_entries(declared, told):
+def compare_entries(declared: Declared, mapped: List[Tuple[str, str, str]]) -> None:
     """Whether the variables of a routine are those that are declared."""
-    if [(role, name) for role, name, _ in declared.entries] != [(role, name) for role, name, _ in told]:
-        raise Bad(f"{declared.name} has {told}, and not {declared.entries}")
-    for (_, name, words), (_, _, shown) in zip(declared.entries, told):
+    if [(role, name) for role, name, _ in declared.entries] != [(role, name) for role, name, _ in mapped]:
+        raise Bad(f"{declared.name} has {mapped}, and not {declared.entries}")
+    for (_, name, words), (_, _, shown) in zip(declared.entries, mapped):
         if words and not is_type(shown, words):
             raise Bad(f"{name} of {declared.name} is of type {shown}, and not {words}")
 
 
-def compare(text, shown, listing):
-    routines, rows = map_in(shown.splitlines())
-    tokens = tokens_of(text)
-    at_place = {place_of(text, offset): number for number, (_, offset) in enumerate(tokens)}
-    blocks = blocks_of(tokens)
-    begins = [at_place[routine[2]] for routine in routines]
+def compare_routines(routines: List[Routine], begins: List[int], blocks: Dict[int, Tuple[Declared, List[Statement]]]) -> None:
+    """Whether the routines are the blocks, with their names and variables."""
     if sorted(begins) != sorted(blocks):
         raise Bad(f"blocks {sorted(blocks)}, routines {sorted(begins)}")
-    for (_, _, _, name, entries), begin in zip(routines, begins):
-        if blocks[begin][0].name != name:
-            raise Bad(f"{name} is {blocks[begin][0].name}")
-        compare_entries(blocks[begin][0], entries)
+    for routine, begin in zip(routines, begins):
+        declared, _ = blocks[begin]
+        if declared.name != routine.name:
+            raise Bad(f"{routine.name} is {declared.name}")
+        compare_entries(declared, routine.entries)
+
+
+def compare_order(routines: List[Routine], rows: List[Row]) -> None:
+    """Whether the rows rise, and the routines stand one after another in the order of their numbers."""
     previous = -1
-    for word, owner, _, _ in rows:
-        if word <= previous:
-            raise Bad(f"row {word} behind {previous}")
-        previous = word
-    order = [owner for _, owner, _, _ in rows]
+    for row in rows:
+        if row.word <= previous:
+            raise Bad(f"row {row.word} behind {previous}")
+        previous = row.word
+    order = [row.owner for row in rows]
     seen = [owner for number, owner in enumerate(order) if number == 0 or order[number - 1] != owner]
     numbers = [int(owner[1]) for owner in seen if owner[0] == "routine"]
     if seen[0] != ("start",) or numbers != list(range(len(routines))) or len(set(seen)) != len(seen):
         raise Bad(f"owners {seen}")
-    found = {}
-    for word, owner, statement, token in rows:
-        if owner[0] != "routine":
+
+
+def statement_of(row: Row, statements: Dict[int, Statement], token_at: Dict[Place, int]) -> Optional[Statement]:
+    """The statement of a row; its token lies in that."""
+    if row.token is not None and row.token not in token_at:
+        raise Bad(f"no token at {row.token}")
+    if row.statement is None:
+        return None
+    # (a compound statement and the first of its sequence begin at different tokens, and only empty ones share an `end`)
+    if token_at.get(row.statement) not in statements:
+        raise Bad(f"no statement at {row.statement}")
+    statement = statements[token_at[row.statement]]
+    if row.token is not None and not statement.first <= token_at[row.token] < statement.end:
+        raise Bad(f"token {row.token} outside the statement at {row.statement}")
+    return statement
+
+
+def compare(text: bytes, shown: str, listing: str) -> int:
+    """Compares the map of a text, and gives how many stops its listing tells."""
+    routines, rows = map_in(shown.splitlines())
+    tokens = tokens_of(text)
+    token_at = {place_of(text, offset): number for number, (_, offset) in enumerate(tokens)}
+    blocks = blocks_of(tokens)
+    begins = [token_at[routine.begin] for routine in routines if routine.begin]
+    compare_routines(routines, begins, blocks)
+    compare_order(routines, rows)
+    firsts: List[List[int]] = [[] for _ in routines]
+    for row in rows:
+        if row.owner[0] != "routine":
             continue
-        number = int(owner[1])
-        if routines[number][0] > word:
-            raise Bad(f"word {word} before its routine")
-        every = {one.first: one for one in blocks[begins[number]][1]}
-        # several statements may begin at one token, as a compound one and ... no two do, but empty ones at an `end`
-        if statement is not None and at_place.get(statement) not in every:
-            raise Bad(f"no statement at {statement}")
-        if token is not None and token not in at_place:
-            raise Bad(f"no token at {token}")
+        number = int(row.owner[1])
+        if routines[number].word > row.word:
+            raise Bad(f"word {row.word} before its routine")
+        statement = statement_of(row, {each.first: each for each in blocks[begins[number]][1]}, token_at)
         if statement is not None:
-            one = every[at_place[statement]]
-            found.setdefault(number, []).append(one)
-            if token is not None and not one.first <= at_place[token] < one.end:
-                raise Bad(f"token {token} outside the statement at {statement}")
+            firsts[number].append(statement.first)
     for number, begin in enumerate(begins):
-        rows_of = [one.first for one in found.get(number, [])]
-        check_block(blocks[begin][1], rows_of)
+        check_block(blocks[begin][1], firsts[number])
     return check_lines(rows, listing)
 
 
-def check_block(statements, firsts):
+def check_block(statements: List[Statement], firsts: List[int]) -> None:
     """The words of each statement stand together, and what acts has words."""
-    by = {one.first: one for one in statements}
-    for one in statements:
-        inside = [one.first <= first < max(one.end, one.first + 1) for first in firsts]
+    for statement in statements:
+        inside = [statement.first <= first < max(statement.end, statement.first + 1) for first in firsts]
         if True in inside:
             low, high = inside.index(True), len(inside) - inside[::-1].index(True)
             if not all(inside[low:high]):
-                raise Bad(f"the words of the statement at token {one.first} don't stand together")
-        elif one.acts:
-            raise Bad(f"no word of the statement at token {one.first}")
-    return by
+                raise Bad(f"the words of the statement at token {statement.first} don't stand together")
+        elif statement.acts:
+            raise Bad(f"no word of the statement at token {statement.first}")
 
 
-def check_lines(rows, listing):
+def check_lines(rows: List[Row], listing: str) -> int:
     """Each stop's line is that of the token of its word. Gives how many there are."""
     at, count = -1, 0
     for number, line in enumerate(listing.splitlines()):
-        while at + 1 < len(rows) and rows[at + 1][0] <= number:
+        while at + 1 < len(rows) and rows[at + 1].word <= number:
             at += 1
-        told = re.search(r" ; line (\d+)$", line)
-        if not told or rows[at][1][0] == "run-time":
+        stop = re.search(r" ; line (\d+)$", line)
+        if not stop or rows[at].owner[0] == "run-time":
             continue
-        token = rows[at][3]
-        if token is None and told[1] == "1":  # a stop that never comes: of the look-up of a member in a set
+        token = rows[at].token
+        if token is None and stop[1] == "1":  # a stop that never comes: of the look-up of a member in a set
             continue
         count += 1
-        if token is None or token[0] != int(told[1]):
-            raise Bad(f"word {number}: line {told[1]}, token {token}")
+        if token is None or token[0] != int(stop[1]):
+            raise Bad(f"word {number}: line {stop[1]}, token {token}")
     return count
 
 
-def run(words):
+def run(words: List[str]) -> "subprocess.CompletedProcess[bytes]":
     return subprocess.run(words, capture_output=True)
 
 
-def told_of(program, path, work):
+def map_and_listing(program: str, path: str, work: str) -> Optional[Tuple[str, str]]:
     """The map and the listing of a text, or None where it is refused."""
     made = run([program, "compile", "--map", f"{work}/map", path, f"{work}/image"])
     listed = run([program, "list", path])
@@ -380,27 +217,28 @@ def told_of(program, path, work):
     return open(f"{work}/map", encoding="latin-1").read(), listed.stdout.decode("latin-1")
 
 
-def main():
+def main() -> int:
     words = argparse.ArgumentParser()
-    words.add_argument("--program", default=os.path.join(os.path.dirname(os.path.abspath(__file__)), "..", "..", "pascal"))
+    words.add_argument("--program", default=f"{TOP}/pascal")
     words.add_argument("files", nargs="+")
     asked = words.parse_args()
     good = bad = refused = stops = 0
     with tempfile.TemporaryDirectory(prefix="mapped-") as work:
         for name in asked.files:
             text = open(name, "rb").read()
-            told = told_of(asked.program, name, work)
-            if told is None:
+            both = map_and_listing(asked.program, name, work)
+            if both is None:
                 refused += 1
                 continue
             try:
-                stops += compare(text, *told)
+                stops += compare(text, *both)
                 good += 1
             except (Bad, KeyError, IndexError) as fault:
                 bad += 1
                 print(f"{name}: {type(fault).__name__} {fault}")
     print(f"{good} maps as they are read here, {bad} not, {refused} texts refused, {stops} stops")
-    sys.exit(bad != 0)
+    return int(bad != 0)
 
 
-main()
+if __name__ == "__main__":
+    sys.exit(main())

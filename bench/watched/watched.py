@@ -15,57 +15,68 @@ draws so many programs with their inputs (bench/drawing), or takes the FILEs, wi
 --changed changes numbers of drawn programs at random, so that many end with an error: of these only usage, profile and
 trace are compared.
 """
-import argparse, collections, itertools, json, os, random, re, subprocess, sys, tempfile
+
+from __future__ import annotations
+
+import argparse
+import collections
+import itertools
+import json
+import os
+import random
+import re
+import subprocess
+import sys
+import tempfile
+from typing import Callable, Counter, Dict, List, Set, Tuple
 
 sys.dont_write_bytecode = True
 HERE = os.path.dirname(os.path.abspath(__file__))
 BENCH = os.path.dirname(HERE)
-sys.path.insert(0, BENCH)
+sys.path[:0] = [BENCH, f"{BENCH}/mapped", f"{os.path.dirname(BENCH)}/tests/library"]
+from built import current_program
+from drawing.changed import changed
 from drawing.programs import drawn
+from reading import Bad, Statement, blocks_of, place_of, tokens_of
 
-NUMBERS = [0, 0, 1, 2, 3, 7, 10, 100, 255, 256, 1000, 32768, 70000, 2147483647]
 STEPS = 20_000_000
 STACK = HEAP = 4_194_304
 SECONDS = 120
 STOPPED_FOR = {"stack": "out of stack", "heap": "out of heap", "steps": "step limit"}
 
 
-def parser():
-    """The module that reads texts with a parser of its own, without what it does as a program."""
-    path = f"{BENCH}/mapped/mapped.py"
-    source = open(path).read()
-    module = type(sys)("mapped")
-    exec(compile(re.sub(r"\nmain\(\)\n\Z", "\n", source), path, "exec"), module.__dict__)
-    return module
-
-
-mapped = parser()
+# the status, the output and what was said on standard error
+Ended = Tuple[int, bytes, str]
+# an offset, where it goes among the pieces at that offset, and a text that is put in there
+Piece = Tuple[int, int, bytes]
 
 
 class Differs(Exception):
-    pass
+    """What is told is not what is there."""
 
 
 class Program:
     """The command, or the program that tries ps_trace by itself (--bare), which takes other words."""
 
-    def __init__(self, path, bare):
+    def __init__(self, path: str, bare: bool) -> None:
         self.path, self.bare = path, bare
 
-    def call(self, mode, source, given, stack=STACK, heap=HEAP, steps=STEPS):
+    def call(self, mode: str, source: str, given: bytes, stack: int = STACK, heap: int = HEAP, steps: int = STEPS) -> Ended:
+        """A run of a text, watched in a mode, or by `go` without being watched."""
         limits = ["--stack", str(stack), "--heap", str(heap), "--steps", str(steps)]
         words = {"go": ["go", *limits, source], "usage": ["go", "--usage", *limits, source], "json": ["trace", "--json", *limits, source]}
-        told = words.get(mode, [mode, *limits, source])
+        asked = words.get(mode, [mode, *limits, source])
         if self.bare:
-            told = [{"go": "usage"}.get(mode, mode), str(stack), str(heap), str(steps), source]
-        ran = subprocess.run([self.path, *told], input=given, capture_output=True, timeout=SECONDS)
+            asked = [{"go": "usage"}.get(mode, mode), str(stack), str(heap), str(steps), source]
+        ran = subprocess.run([self.path, *asked], input=given, capture_output=True, timeout=SECONDS)
         message = ran.stderr.decode("latin-1")
         if mode == "go":
             message = re.sub(r"(?m)^steps \d+, most stack .*\n", "", message)
         return ran.returncode, ran.stdout, message
 
 
-def compare_usage(program, source, given):
+def compare_usage(program: Program, source: str, given: bytes) -> bool:
+    """Whether just the steps, the stack and the heap that are told are enough."""
     status, output, message = program.call("usage", source, given)
     told = re.search(r"(?m)^steps (\d+), most stack (\d+) bytes, most heap (\d+) bytes$", message)
     if not told:
@@ -84,12 +95,15 @@ def compare_usage(program, source, given):
                 raise Differs(f"with less {name} than {told.group()} it is the same run")
             if STOPPED_FOR[name] not in ended[2]:
                 raise Differs(f"with less {name}: {ended[2]}")
+    return True
 
 
-def compare_profile(program, source, given):
+def compare_profile(program: Program, source: str, given: bytes) -> bool:
+    """Whether the steps by routine and those by line add up to all."""
     _, _, message = program.call("profile", source, given)
     lines = message[message.index(" steps\n") - 14 :].splitlines()
-    steps, parts, sums = int(lines[0].split()[0]), 0, []
+    steps = int(lines[0].split()[0])
+    sums: List[int] = []
     for line in lines[1:]:
         if line.startswith("         steps"):
             sums.append(0)
@@ -97,75 +111,78 @@ def compare_profile(program, source, given):
             sums[-1] += int(line.split()[0])
     if sums != [steps, steps]:
         raise Differs(f"{steps} steps are {sums}")
+    return True
 
 
 class Text:
     """A text with its statements, by a parser that shares nothing with the compiler."""
 
-    def __init__(self, text):
+    def __init__(self, text: bytes) -> None:
         self.text = text
-        self.tokens = mapped.tokens_of(text)
-        self.blocks = mapped.blocks_of(self.tokens)
-        self.statements = sorted((one for _, all in self.blocks.values() for one in all), key=lambda one: one.first)
+        self.tokens = tokens_of(text)
+        self.blocks = blocks_of(self.tokens)
+        read = (statement for _, statements in self.blocks.values() for statement in statements)
+        self.statements = sorted(read, key=lambda statement: statement.first)
 
-    def offset(self, token):
+    def offset(self, token: int) -> int:
         return self.tokens[token][1]
 
-    def is_with(self, one):
-        return self.tokens[one.first][0] == "with"
+    def is_with(self, statement: Statement) -> bool:
+        return self.tokens[statement.first][0] == "with"
 
-    def place(self, one):
-        return mapped.place_of(self.text, self.offset(one.first))
+    def place(self, statement: Statement) -> Tuple[int, int]:
+        return place_of(self.text, self.offset(statement.first))
 
-    def behind(self, one):
+    def behind(self, statement: Statement) -> int:
         """The offset behind a statement's last token."""
-        last = one.end - 1
+        last = statement.end - 1
         spelled, at = self.tokens[last]
         return at + len(spelled)
 
-    def with_pieces(self, pieces):
+    def with_pieces(self, pieces: List[Piece]) -> bytes:
         """The text with pieces put in at offsets; of those at one offset the first in the list is first."""
         out, at = b"", 0
-        for offset, _, piece in sorted(pieces, key=lambda p: p[:2]):
+        for offset, _, piece in sorted(pieces, key=lambda piece: piece[:2]):
             out += self.text[at:offset] + piece
             at = offset
         return out + self.text[at:]
 
 
-def wrapped(text, ones, before, behind):
+def wrapped(
+    text: Text, statements: List[Statement], before: Callable[[Statement], bytes], behind: Callable[[Statement], bytes]
+) -> List[Piece]:
     """The pieces that put text before and behind statements, the outer ones outside."""
-    pieces = []
-    for one in ones:
-        if one.end == one.first:  # an empty one
+    pieces: List[Piece] = []
+    for statement in statements:
+        first, end = statement.first, statement.end
+        if end == first:  # an empty one
             continue
-        pieces.append((text.offset(one.first), one.first * 1000 + len(text.tokens) - one.end, b"begin " + before(one)))
-        pieces.append((text.behind(one), -one.first, behind(one) + b" end"))
+        pieces.append((text.offset(first), first * 1000 + len(text.tokens) - end, b"begin " + before(statement)))
+        pieces.append((text.behind(statement), -first, behind(statement) + b" end"))
     return pieces
 
 
-def counting(text, ones):
+def counting(text: Text, statements: List[Statement]) -> bytes:
     """The program in which each of these statements counts how often it is done."""
-    number = {id(one): k for k, one in enumerate(ones)}
-    last = max(one.end for one in text.statements)
-    pieces = wrapped(text, ones, lambda one: b"zzc[%d] := zzc[%d] + 1; " % (number[id(one)], number[id(one)]), lambda one: b"")
-    head = next(k for k, (word, _) in enumerate(text.tokens) if word == ";")
-    begin = max(at for at in text.blocks)
-    first_part = next((at for k, (word, at) in enumerate(text.tokens) if k > head and word in ("procedure", "function")), None)
-    declared = b" zzc: array [0..%d] of integer; zzk: integer; " % max(len(ones) - 1, 0)
+    number = {id(statement): index for index, statement in enumerate(statements)}
+    last = max(statement.end for statement in text.statements)
+    pieces = wrapped(text, statements, lambda done: b"zzc[%d] := zzc[%d] + 1; " % (2 * (number[id(done)],)), lambda _: b"")
     words = [word for word, _ in text.tokens]
-    depth_var = next((k for k in range(head, len(words)) if words[k] in ("var", "procedure", "function") or k == begin), begin)
-    at = text.offset(depth_var)
-    if words[depth_var] == "var":
+    head, begin = words.index(";"), max(text.blocks)
+    declared = b" zzc: array [0..%d] of integer; zzk: integer; " % max(len(statements) - 1, 0)
+    part = next((token for token in range(head, begin) if words[token] in ("var", "procedure", "function")), begin)
+    at = text.offset(part)
+    if words[part] == "var":
         pieces.append((at + 3, 0, declared))
     else:
         pieces.append((at, -10**9, b"var" + declared))
-    pieces.append((text.offset(begin) + 5, -1, b" for zzk := 0 to %d do zzc[zzk] := 0; " % max(len(ones) - 1, 0)))
+    pieces.append((text.offset(begin) + 5, -1, b" for zzk := 0 to %d do zzc[zzk] := 0; " % max(len(statements) - 1, 0)))
     final = text.offset(last) if last < len(text.tokens) else len(text.text)
-    pieces.append((final, 10**9, b"; for zzk := 0 to %d do write(chr(1), zzc[zzk]:1, chr(2)) " % max(len(ones) - 1, 0)))
+    pieces.append((final, 10**9, b"; for zzk := 0 to %d do write(chr(1), zzc[zzk]:1, chr(2)) " % max(len(statements) - 1, 0)))
     return text.with_pieces(pieces)
 
 
-def counts_told(message, lines):
+def counts_told(message: str, lines: int) -> Tuple[List[List[int]], str]:
     """For each line of the text the counts that stand beside it, and the last line."""
     told = message.splitlines()
     shown = told[-1 - lines : -1]
@@ -173,15 +190,16 @@ def counts_told(message, lines):
     return [[0 if word == "never" else int(word) for word in words] for words in counts], told[-1]
 
 
-def compare_cover(program, source, given):
+def compare_cover(program: Program, source: str, given: bytes) -> bool:
+    """Whether the counts that are told are those of a program that counts by itself."""
     text = Text(open(source, "rb").read())
     status, output, message = program.call("cover", source, given)
     if status:
         return False
-    ones = [one for one in text.statements if one.acts or text.is_with(one)]
+    statements = [statement for statement in text.statements if statement.acts or text.is_with(statement)]
     other = source[:-4] + "_counting.pas"
     with open(other, "wb") as file:
-        file.write(counting(text, ones))
+        file.write(counting(text, statements))
     ended = program.call("go", other, given, steps=10 * STEPS)
     if ended[0]:
         raise Differs(f"the counting program: {ended[2]}")
@@ -191,20 +209,20 @@ def compare_cover(program, source, given):
     lines = text.text.decode("latin-1").split("\n")
     lines = lines[:-1] if lines[-1] == "" else lines
     shown, last = counts_told(message, len(lines))
-    by_line = collections.defaultdict(list)
-    for one, count in zip(ones, wanted):
-        by_line[text.place(one)[0]].append((count, text.is_with(one)))
+    by_line: Dict[int, List[Tuple[int, bool]]] = collections.defaultdict(list)
+    for statement, count in zip(statements, wanted):
+        by_line[text.place(statement)[0]].append((count, text.is_with(statement)))
     for number, counts in enumerate(shown, 1):
         if not are_told(counts, by_line[number]):
             raise Differs(f"line {number}: {counts}, wanted {by_line[number]}")
     found = re.fullmatch(r"(\d+) statements, (\d+) never done", last)
-    sure = [count for one, count in zip(ones, wanted) if not text.is_with(one)]
+    sure = [count for statement, count in zip(statements, wanted) if not text.is_with(statement)]
     if not found or not (len(sure) <= int(found[1]) <= len(wanted) and sure.count(0) <= int(found[2]) <= wanted.count(0)):
         raise Differs(last)
     return True
 
 
-def are_told(counts, wanted):
+def are_told(counts: List[int], wanted: List[Tuple[int, bool]]) -> bool:
     """Whether a line's counts are these; those of `with` may be left out, since it may need no code."""
     options = [(False, True) if may else (True,) for _, may in wanted]
     for chosen in itertools.product(*options):
@@ -214,36 +232,38 @@ def are_told(counts, wanted):
     return False
 
 
-def telling(text, ones):
+def telling(text: Text, statements: List[Statement]) -> bytes:
     """The program in which each of these assignments tells its place and the value."""
-    def behind(one):
-        name = text.tokens[one.first][0].encode()
-        line, column = text.place(one)
+
+    def behind(done: Statement) -> bytes:
+        name = text.tokens[done.first][0].encode()
+        line, column = text.place(done)
         return b"; write(chr(1), '%d:%d=', ord(%s):1, chr(2))" % (line, column, name)
-    return text.with_pieces(wrapped(text, ones, lambda one: b"", behind))
+
+    return text.with_pieces(wrapped(text, statements, lambda _: b"", behind))
 
 
-def ordinal_names(text):
+def ordinal_names(text: Text) -> Set[str]:
     """Names that are declared only with the types that any value of can be told as a number: `integer`, `char`,
     `Boolean`."""
-    kinds = collections.defaultdict(set)
+    kinds: Dict[str, Set[str]] = collections.defaultdict(set)
     words = [word for word, _ in text.tokens]
-    for k, word in enumerate(words):
-        if word != ":" or k + 1 >= len(words) or words[k + 1] == "=":
+    for token, word in enumerate(words):
+        if word != ":" or token + 1 >= len(words) or words[token + 1] == "=":
             continue
-        names, at = [], k - 1
+        names, at = [], token - 1
         while at >= 0 and re.match(r"[a-z][a-z0-9_]*$", words[at]):
             names.append(words[at])
             if words[at - 1] != ",":
                 break
             at -= 2
         for name in names:
-            kinds[name].add(words[k + 1])
-    routines = {words[k + 1] for k, word in enumerate(words[:-1]) if word in ("function", "procedure", "program")}
+            kinds[name].add(words[token + 1])
+    routines = {words[token + 1] for token, word in enumerate(words[:-1]) if word in ("function", "procedure", "program")}
     return {name for name, types in kinds.items() if types <= {"integer", "char", "boolean"} and name not in routines}
 
 
-def number_of(value):
+def number_of(value: str) -> int:
     """The number of a value as it is told."""
     if value in ("false", "true"):
         return int(value == "true")
@@ -255,10 +275,12 @@ def number_of(value):
     return int(value)
 
 
-def compare_trace(program, source, given):
+def compare_trace(program: Program, source: str, given: bytes) -> bool:
+    """Whether the values that are told are those of a program that writes them by itself."""
     text = Text(open(source, "rb").read())
     names = ordinal_names(text)
-    ones = [one for one in text.statements if text.tokens[one.first][0] in names and one.first + 1 < len(text.tokens) and text.tokens[one.first + 1][0] == ":="]
+    words = [word for word, _ in text.tokens]
+    statements = [each for each in text.statements if words[each.first] in names and words[each.first + 1 : each.first + 2] == [":="]]
     status, output, message = program.call("json", source, given)
     if status == 4:  # the other program would be cut off elsewhere
         return False
@@ -270,44 +292,41 @@ def compare_trace(program, source, given):
         raise Differs("the trace reads something else")
     other = source[:-4] + "_telling.pas"
     with open(other, "wb") as file:
-        file.write(telling(text, ones))
+        file.write(telling(text, statements))
     ended = program.call("go", other, given, steps=10 * STEPS)
     if re.sub(rb"\x01[^\x02]*\x02", b"", ended[1]) != output:
         raise Differs("the telling program writes something else")
-    wanted = [(int(a), int(b), int(c)) for a, b, c in re.findall(rb"\x01(\d+):(\d+)=(-?\d+)\x02", ended[1])]
-    places = {text.place(one) for one in ones}
-    got = []
+    written = re.findall(rb"\x01(\d+):(\d+)=(-?\d+)\x02", ended[1])
+    wanted = [(int(line), int(column), int(value)) for line, column, value in written]
+    assigned = {text.place(statement): words[statement.first] for statement in statements}
+    traced: List[Tuple[int, int, int]] = []
     for line in told:
         place = (line["line"], line["column"])
-        if place in places and line["changed"]:
-            name = text.tokens[next(one.first for one in ones if text.place(one) == place)][0]
-            values = [change["value"] for change in line["changed"] if change["name"].lower().split(".")[-1] == name]
-            got += [(*place, number_of(value)) for value in values]
-    if got != wanted:
-        first = next((k for k, pair in enumerate(zip(got, wanted)) if pair[0] != pair[1]), min(len(got), len(wanted)))
-        raise Differs(f"value {first}: {got[first:first+1]}, wanted {wanted[first:first+1]}; {len(got)} and {len(wanted)} values")
+        if place in assigned:
+            changes = [change for change in line["changed"] if change["name"].lower().split(".")[-1] == assigned[place]]
+            traced += [(*place, number_of(change["value"])) for change in changes]
+    if traced != wanted:
+        first = next((index for index, pair in enumerate(zip(traced, wanted)) if pair[0] != pair[1]), min(len(traced), len(wanted)))
+        both = f"{len(traced)} and {len(wanted)} values"
+        raise Differs(f"value {first}: {traced[first:first+1]}, wanted {wanted[first:first+1]}; {both}")
     return True
 
 
-def changed(draw, text):
-    places = list(re.finditer(r"(?<![\w.])\d+(?!\w)", text))
-    for found in sorted(draw.sample(places, min(len(places), draw.randint(1, 3))), key=re.Match.start, reverse=True):
-        text = text[: found.start()] + str(draw.choice(NUMBERS)) + text[found.end() :]
-    return text
+# how often something that is compared came out in a way
+Sums = Counter[Tuple[str, str]]
+COMPARED: Dict[str, Callable[[Program, str, bytes], bool]] = {"usage": compare_usage, "profile": compare_profile, "cover": compare_cover, "trace": compare_trace}
 
 
-COMPARED = {"usage": compare_usage, "profile": compare_profile, "cover": compare_cover, "trace": compare_trace}
-
-
-def compared(program, name, source, given, asked, sums):
+def compared(program: Program, name: str, source: str, given: bytes, asked: argparse.Namespace, sums: Sums) -> None:
+    """Compares all that is asked for, and counts how it came out."""
     for kind, compare in COMPARED.items():
         if (asked.only and kind != asked.only) or (asked.changed and kind == "cover"):
             continue
         try:
-            sums[kind, compare(program, source, given) is not False] += 1
+            sums[kind, "agrees" if compare(program, source, given) else "not compared"] += 1
         except subprocess.TimeoutExpired:
             sums[kind, "late"] += 1
-        except (Differs, mapped.Bad, KeyError, IndexError, ValueError) as fault:
+        except (Differs, Bad, KeyError, IndexError, ValueError) as fault:
             sums[kind, "differs"] += 1
             print(f"{name}: {kind}: {type(fault).__name__} {fault}", flush=True)
             if asked.keep:
@@ -317,7 +336,7 @@ def compared(program, name, source, given, asked, sums):
                         file.write(content)
 
 
-def main():
+def main() -> int:
     words = argparse.ArgumentParser()
     words.add_argument("seed", nargs="?", type=int, default=1)
     words.add_argument("count", nargs="?", type=int, default=100)
@@ -328,10 +347,8 @@ def main():
     words.add_argument("--keep")
     words.add_argument("--files", nargs="*", default=[])
     asked = words.parse_args()
-    if not asked.program:
-        from built import current_program
-        asked.program = current_program()
-    program, sums = Program(asked.program, asked.bare), collections.Counter()
+    program = Program(asked.program or current_program(), asked.bare)
+    sums: Sums = collections.Counter()
     with tempfile.TemporaryDirectory(prefix="watched-") as work:
         cases = [(os.path.basename(path)[:-4], open(path, "rb").read(), b"") for path in asked.files]
         for number in range(0 if asked.files else asked.count):
@@ -343,12 +360,12 @@ def main():
             with open(source, "wb") as file:
                 file.write(text)
             if program.call("go", source, given)[0] == 1:
-                sums["refused", True] += 1
+                sums["all", "refused"] += 1
                 continue
             compared(program, name, source, given, asked, sums)
-    print(", ".join(f"{kind} {word if isinstance(word, str) else 'agrees' if word else 'not compared'}: {count}" for (kind, word), count in sorted(sums.items(), key=str)))
-    sys.exit(any(word == "differs" for _, word in sums))
+    print(", ".join(f"{kind} {word}: {count}" for (kind, word), count in sorted(sums.items())))
+    return int(any(word == "differs" for _, word in sums))
 
 
 if __name__ == "__main__":
-    main()
+    sys.exit(main())

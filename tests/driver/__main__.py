@@ -21,6 +21,7 @@ from types import ModuleType
 from typing import Callable, List, NoReturn, Optional
 
 sys.dont_write_bytecode = True
+sys.path.insert(0, f"{os.path.dirname(os.path.dirname(os.path.realpath(__file__)))}/library")
 
 import damaged  # noqa: E402
 import editors  # noqa: E402

@@ -11,22 +11,11 @@ from typing import Iterator, List, Tuple
 
 import processor
 import runs
+from damaging import HEADER, OWN_WORDS, TEXT
 from explained import Trial
 from images import Image
 
 PLACE = "tests/driver/damaged.py"
-# writes, and ends with an index out of range
-TEXT = """program p(output);
-var a: array [1..3] of integer;
-i: integer;
-begin
-i := 4;
-write('x');
-a[i] := 1 end.
-"""
-# the words of the program itself; the run-time routines follow
-OWN_WORDS = 56
-HEADER = 28  # bytes before the code
 HEAP, STACK, STEPS = 4096, 65536, 1000
 LIMITS = ["--heap", str(HEAP), "--stack", str(STACK), "--steps", str(STEPS)]
 # each 13th cut, and each 7th bit, so that each bit of a word is met

@@ -250,6 +250,14 @@ def records_within(length: int) -> str:
 
 
 @shape(is_deep=True)
+def records_within_indices(length: int) -> str:
+    """Indices of an array within records that lie in one another as deep as may be."""
+    depth = 485
+    head, tail = f"program p; type t=1..1; var v:{'record f:' * depth}array[t", "]of char" + " end" * depth + "; begin end.\n"
+    return filled(head, ",t", tail, length)
+
+
+@shape(is_deep=True)
 def arrays_within(length: int) -> str:
     """Variables of arrays that lie within one another as deep as may be."""
     return filled("program p; var ", lambda k: f"a{k}:{'array[1..1]of ' * 240}char;", " begin end.\n", length)
@@ -769,6 +777,67 @@ def with_lists_names(length: int) -> str:
     return filled(head, f"with {','.join(LETTERS)} do;", " end.\n", length)
 
 
+def long_type(length: int) -> str:
+    """A program's beginning: a type of 64 fields with names that are half of a text of this length."""
+    return f"program p; type tt=record {long_names(64, length // 2)}:char end; "
+
+
+@shape()
+def with_lists_sections(length: int) -> str:
+    """The same of variables that are each declared by itself."""
+    head = long_type(length) + f"var {';'.join(f'{letter}:tt' for letter in LETTERS)}; begin "
+    return filled(head, f"with {','.join(LETTERS)} do;", " end.\n", length)
+
+
+@shape()
+def with_lists_fields(length: int) -> str:
+    """`with` statements that open a record and its 26 fields of such a type."""
+    head = long_type(length) + f"var aa:record {','.join(LETTERS)}:tt end; begin "
+    return filled(head, f"with aa,{','.join(LETTERS)} do;", " end.\n", length)
+
+
+@shape()
+def with_lists_of_fields(length: int) -> str:
+    """`with` statements that open the 26 fields of such a type of 50 variables of one record type."""
+    names = fields(50)
+    head = long_type(length) + f"rr=record {','.join(LETTERS)}:tt end; var {','.join(names)}:rr; begin "
+    return filled(head, lambda k: f"with {names[k % 50]},{','.join(LETTERS)} do;", " end.\n", length)
+
+
+@shape()
+def with_lists_of_fields_within(length: int) -> str:
+    """`with` statements that open the 26 fields of such a type of a record that is open round them."""
+    head = long_type(length) + f"var aa:record {','.join(LETTERS)}:tt end; begin with aa do begin "
+    return filled(head, f"with {','.join(LETTERS)} do;", " end end.\n", length)
+
+
+@shape()
+def with_lists_in_lists(length: int) -> str:
+    """`with` statements in one another, each of which opens 26 variables of such a type."""
+    head = long_type(length) + f"var {','.join(LETTERS)}:tt; begin "
+    return filled(head, f"with {','.join(LETTERS)} do " * 100 + ";", " end.\n", length)
+
+
+@shape()
+def with_lists_of_parameters(length: int) -> str:
+    """Routines that open their 26 parameters of such a type."""
+    letters = ",".join(LETTERS)
+    routine = numbered(f"procedure p#(var {letters}:tt);begin with {letters} do end;")
+    return filled(long_type(length), routine, "begin end.\n", length)
+
+
+@shape()
+def routines_of_a_long_type(length: int) -> str:
+    """Routines with 26 variables of such a type."""
+    return filled(long_type(length), numbered(f"procedure p#;var {','.join(LETTERS)}:tt;begin end;"), "begin end.\n", length)
+
+
+@shape()
+def records_of_a_long_type(length: int) -> str:
+    """Record types with 26 fields of such a type."""
+    return filled(long_type(length), numbered(f"r#=record {','.join(LETTERS)}:tt end;"), "begin end.\n", length)
+
+
 @shape()
 def with_list_129(length: int) -> str:
     """Records of 129 fields of one `with` list."""
@@ -973,6 +1042,20 @@ def with_lists_within(length: int) -> str:
     """`with` statements of 40 records, within one of 60."""
     head = f"program p; var a:record x:char end; begin with {','.join('a' * 60)} do begin "
     return filled(head, f"with {','.join('a' * 40)} do;", " end end.\n", length)
+
+
+@shape()
+def with_list_again(length: int) -> str:
+    """`with` statements within a `with` of records that are a quarter of the text."""
+    return within_list(length, length // 8, "a:r", "a", "with a do;")
+
+
+@shape(is_deep=True)
+def with_deep_long(length: int) -> str:
+    """Assignments within as many `with` statements as may be, of a record whose fields have nearly all marks."""
+    fields = names("a", min(60_000, length // 16))
+    head = f"program p; var a:record {fields}:char end;y:char; begin {'with a do ' * 485}begin "
+    return filled(head, "y:=y;", " end end.\n", length)
 
 
 @shape()

@@ -6,7 +6,7 @@ import os
 import subprocess
 import sys
 
-top = os.path.dirname(os.path.dirname(os.path.abspath(__file__)))
+TOP = os.path.dirname(os.path.dirname(os.path.dirname(os.path.abspath(__file__))))
 
 
 def current_program() -> str:
@@ -14,9 +14,9 @@ def current_program() -> str:
     as it is."""
     if os.environ.get("PASCAL_BUILT"):
         return f"{os.environ['PASCAL_BUILT']}/pascal/out/pascal"
-    subprocess.run([f"{top}/pascal", "--help"], stdout=subprocess.DEVNULL, check=True)
-    wanted = subprocess.run([f"{top}/tools/sources_sum", "pascal"], stdout=subprocess.PIPE, check=True).stdout
-    for path in (f"{top}/released/pascal", f"{top}/crates/pascal/out/pascal"):
+    subprocess.run([f"{TOP}/pascal", "--help"], stdout=subprocess.DEVNULL, check=True)
+    wanted = subprocess.run([f"{TOP}/tools/sources_sum", "pascal"], stdout=subprocess.PIPE, check=True).stdout
+    for path in (f"{TOP}/released/pascal", f"{TOP}/crates/pascal/out/pascal"):
         if os.path.exists(f"{path}.sum") and open(f"{path}.sum", "rb").readline() == wanted:
             return path
     sys.exit("the launcher runs no program of these sources")
