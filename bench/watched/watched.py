@@ -314,7 +314,12 @@ def compare_trace(program: Program, source: str, given: bytes) -> bool:
 
 # how often something that is compared came out in a way
 Sums = Counter[Tuple[str, str]]
-COMPARED: Dict[str, Callable[[Program, str, bytes], bool]] = {"usage": compare_usage, "profile": compare_profile, "cover": compare_cover, "trace": compare_trace}
+COMPARED: Dict[str, Callable[[Program, str, bytes], bool]] = {
+    "usage": compare_usage,
+    "profile": compare_profile,
+    "cover": compare_cover,
+    "trace": compare_trace,
+}
 
 
 def compared(program: Program, name: str, source: str, given: bytes, asked: argparse.Namespace, sums: Sums) -> None:
