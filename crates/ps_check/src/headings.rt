@@ -16,6 +16,7 @@ ghost use Rattle.ps_check.specs.Views.{routines_of};
 use crate::state::{Gathered, Local};
 use ps_check_declarations::frame::{Frame, Hidden, Place};
 use ps_check_declarations::headings::{Signature, heading};
+use ps_check_declarations::hiding::HidingNames;
 use ps_check_judgement::answer::broken;
 use ps_check_judgement::refusal::{CheckFault, Rule};
 use ps_check_names::meaning::{Heading, Meaning};
@@ -179,7 +180,7 @@ fn own_name(written: &HeadingDenoter, frame: &Frame, alloc: Global) -> Result<Na
 }
 
 /// What a new heading says of its parameters and its result.
-#[tactic(auto, unfolding(ps_check_declarations::specs::Views::hidden_of))]
+#[tactic(auto, using(ps_check_declarations::proofs::HidingLemmas::covers_first), unfolding(ps_check_declarations::specs::Views::hidden_of))]
 fn own_signature(
     written: &HeadingDenoter,
     frame: &Frame,
@@ -200,7 +201,9 @@ fn own_signature(
             outer: &Hidden::Nothing,
         },
     };
-    heading(written, &place, known)
+    let mut hiding = HidingNames::new(alloc, frame.reading.seed);
+    hiding.enter(alloc, &own)?;
+    heading(written, &place, &mut hiding, known)
 }
 
 /// A new heading, with the next number.

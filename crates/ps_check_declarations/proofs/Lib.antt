@@ -4,5 +4,6 @@ pub mod Steps
 pub mod DomainLemmas
 pub mod FoldLemmas
 pub mod HiddenLemmas
+pub mod HidingLemmas
 pub mod DenoterLemmas
 pub mod HeadingLemmas

@@ -12,10 +12,12 @@ ghost use Rattle.ps_check_declarations.specs.Declarations.{meaning_of_constant, 
 ghost use Rattle.ps_check_declarations.specs.Declarations.{define_constant, define_type, resolve_domain};
 ghost use Rattle.ps_check_declarations.specs.Declarations.{resolve_domains, declare_variable, declare_variables};
 ghost use Rattle.ps_check_declarations.specs.Declarations.{declarations};
+ghost use Rattle.ps_check_declarations.specs.Hiding.{Covers};
 ghost use Rattle.ps_check_declarations.specs.Views.{frame_of, declared_of, hidden_of};
 
 use crate::denoters::{constant_in, denoter};
 use crate::frame::{Declared, Frame, Hidden, Parts, Place};
+use crate::hiding::HidingNames;
 use crate::points::is_later;
 use ps_check_judgement::answer::broken;
 use ps_check_judgement::refusal::{CheckFault, Rule};
@@ -93,7 +95,7 @@ fn begin_one(
 }
 
 /// A constant definition.
-#[tactic(auto, unfolding(crate::specs::Declarations::define_constant, crate::specs::Views::hidden_of))]
+#[tactic(auto, using(crate::proofs::HidingLemmas::nothing_covered), unfolding(crate::specs::Declarations::define_constant, crate::specs::Views::hidden_of))]
 fn define_constant(
     frame: &Frame,
     alloc: Global,
@@ -110,7 +112,8 @@ fn define_constant(
         frame: *frame,
         hidden: Hidden::Nothing,
     };
-    let value = constant_in(&place, known, definition.value)?;
+    let hiding = HidingNames::new(alloc, frame.reading.seed);
+    let value = constant_in(&place, &hiding, known, definition.value)?;
     declared.known.push(meaning_of_constant(value))?;
     Ok(())
 }
@@ -134,14 +137,16 @@ fn told_at_name(fault: CheckFault, first: u32, name: u32) -> CheckFault
 #[tactic(auto, unfolding(crate::specs::Declarations::told_at_name))]
 fn defined_type(
     place: &Place,
+    hiding: &mut HidingNames,
     declared: &mut Declared,
     definition: &TypeDefinition,
 ) -> Result<Ty, CheckFault>
+    requires { Covers hiding.old (hidden_of place.now.hidden) }
     ensures { Answers result (λ ty. (type_of ty, declared_of declared.new))
         (told_at_name (first_of_type definition.now.ty) definition.now.name.from
         (denoter (frame_of place.now.frame) definition.now.ty (hidden_of place.now.hidden) (declared_of declared.old))) }
 {
-    match denoter(&definition.ty, place, declared) {
+    match denoter(&definition.ty, place, hiding, declared) {
         Ok(ty) => Ok(ty),
         Err(fault) => {
             let first = definition.ty.first_token();
@@ -151,7 +156,7 @@ fn defined_type(
 }
 
 /// A type definition.
-#[tactic(auto, unfolding(crate::specs::Declarations::define_type, crate::specs::Views::hidden_of, ps_check_names::specs::Views::meaning_of))]
+#[tactic(auto, using(crate::proofs::HidingLemmas::nothing_covered), unfolding(crate::specs::Declarations::define_type, crate::specs::Views::hidden_of, ps_check_names::specs::Views::meaning_of))]
 fn define_type(
     frame: &Frame,
     alloc: Global,
@@ -174,7 +179,8 @@ fn define_type(
         },
         hidden,
     };
-    let ty = defined_type(&place, declared, definition)?;
+    let mut hiding = HidingNames::new(alloc, frame.reading.seed);
+    let ty = defined_type(&place, &mut hiding, declared, definition)?;
     declared.known.push(Meaning::Type(ty))?;
     Ok(())
 }
@@ -293,7 +299,7 @@ fn declare_names(
 }
 
 /// A declaration of variables.
-#[tactic(auto, unfolding(crate::specs::Declarations::declare_variables, crate::specs::Views::hidden_of))]
+#[tactic(auto, using(crate::proofs::HidingLemmas::covers_first), unfolding(crate::specs::Declarations::declare_variables, crate::specs::Views::hidden_of))]
 fn declare_variables(
     frame: &Frame,
     alloc: Global,
@@ -321,7 +327,9 @@ fn declare_variables(
             outer: &Hidden::Nothing,
         },
     };
-    let ty = denoter(&declaration.ty, &place, declared)?;
+    let mut hiding = HidingNames::new(alloc, frame.reading.seed);
+    hiding.enter(alloc, &begun)?;
+    let ty = denoter(&declaration.ty, &place, &mut hiding, declared)?;
     declare_names(first, &ty, declared, names)
 }
 

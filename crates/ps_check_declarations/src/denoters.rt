@@ -12,11 +12,13 @@ ghost use Rattle.ps_check_declarations.specs.Denoters.{index_begins, pointer, sm
 ghost use Rattle.ps_check_declarations.specs.Denoters.{array_of, fields_of_type, set_of, add_fields, record_names};
 ghost use Rattle.ps_check_declarations.specs.Denoters.{array_type, record_type, set_type, denoter};
 ghost use Rattle.ps_check_declarations.specs.Denoters.{structure, fields, section_names};
+ghost use Rattle.ps_check_declarations.specs.Hiding.{Covers, HasAll};
 ghost use Rattle.ps_check_declarations.specs.Views.{frame_of, declared_of, hidden_of};
 
 use crate::denoters::named::pass_hidden;
 use crate::denoters::ordinals::{ordinal, simple_type};
 use crate::frame::{Declared, Frame, Hidden, Place};
+use crate::hiding::HidingNames;
 use crate::points::{add_points, new_points};
 pub(crate) use named::{constant_in, type_in};
 use ps_check_judgement::answer::broken;
@@ -33,11 +35,18 @@ use std::rc::Rc;
 
 /// A pointer type, whose domain type is resolved later.
 #[tactic(auto, unfolding(ps_tree::specs::View::type_of))]
-fn pointer(place: &Place, declared: &mut Declared, domain: Span) -> Result<Ty, CheckFault>
+fn pointer(
+    place: &Place,
+    hiding: &HidingNames,
+    declared: &mut Declared,
+    domain: Span,
+) -> Result<Ty, CheckFault>
+    requires { Covers hiding.now (hidden_of place.now.hidden) }
     ensures { Answers result (λ ty. (type_of ty, declared_of declared.new))
         (pointer (frame_of place.now.frame) (hidden_of place.now.hidden) (declared_of declared.old) domain) }
 {
-    pass_hidden(place.frame.reading, place.alloc, &place.hidden, domain)?;
+    let reading = place.frame.reading;
+    pass_hidden(reading, place.alloc, &place.hidden, hiding, domain)?;
     let settled = declared.domains.len();
     let pending = declared.pending.len();
     if settled >= MAX_ROUTINES || pending >= MAX_ROUTINES - settled {
@@ -78,17 +87,19 @@ fn is_packed(packed: Option<u32>) -> bool
 /// One more index type.
 fn index_type(
     place: &Place,
+    hiding: &HidingNames,
     declared: &mut Declared,
     at: u32,
     done: &mut Vec<(u32, Ordinal)>,
     index: &OrdinalDenoter,
 ) -> Result<(), CheckFault>
+    requires { Covers hiding.now (hidden_of place.now.hidden) }
     ensures { Answers result (λ _. (done.new.items, declared_of declared.new))
         (index_type (frame_of place.now.frame) (hidden_of place.now.hidden) at
         (done.old.items, declared_of declared.old) index.now) }
 {
     let begin = index_begins(at, done.as_slice(), index);
-    let ordinal = ordinal(place, declared, index)?;
+    let ordinal = ordinal(place, hiding, declared, index)?;
     done.push((begin, ordinal))?;
     Ok(())
 }
@@ -107,17 +118,19 @@ fn index_begins(at: u32, done: &[(u32, Ordinal)], index: &OrdinalDenoter) -> u32
 #[tactic(auto, using(ps_check_judgement::proofs::Lists::stepped_start, ps_check_judgement::proofs::Lists::stepped_next, ps_check_judgement::proofs::Lists::stepped_fault, ps_check_judgement::proofs::Lists::stepped_end))]
 fn index_types(
     place: &Place,
+    hiding: &HidingNames,
     declared: &mut Declared,
     at: u32,
     indices: &[OrdinalDenoter],
 ) -> Result<Vec<(u32, Ordinal)>, CheckFault>
+    requires { Covers hiding.now (hidden_of place.now.hidden) }
     ensures { Answers result (λ done. (done.items, declared_of declared.new))
         (steps (index_type (frame_of place.now.frame) (hidden_of place.now.hidden) at)
         ([], declared_of declared.old) indices.now) }
 {
     let mut done = Vec::new(place.alloc);
     for index in indices {
-        index_type(place, declared, at, &mut done, index)?;
+        index_type(place, hiding, declared, at, &mut done, index)?;
     }
     Ok(done)
 }
@@ -185,15 +198,17 @@ fn set_of(word: u32, at: u32, packed: bool, base: Ordinal) -> Result<Ty, CheckFa
 #[tactic(auto, unfolding(crate::specs::Denoters::set_type))]
 fn set_type(
     place: &Place,
+    hiding: &HidingNames,
     declared: &mut Declared,
     packed: Option<u32>,
     at: u32,
     base: &OrdinalDenoter,
 ) -> Result<Ty, CheckFault>
+    requires { Covers hiding.now (hidden_of place.now.hidden) }
     ensures { Answers result (λ ty. (type_of ty, declared_of declared.new))
         (set_type (frame_of place.now.frame) packed (hidden_of place.now.hidden) (declared_of declared.old) at base.now) }
 {
-    let base = ordinal(place, declared, base)?;
+    let base = ordinal(place, hiding, declared, base)?;
     set_of(at, begins(packed, at), is_packed(packed), base)
 }
 
@@ -203,16 +218,19 @@ fn set_type(
 pub(crate) fn denoter(
     ty: &TypeDenoter,
     place: &Place,
+    hiding: &mut HidingNames,
     declared: &mut Declared,
 ) -> Result<Ty, CheckFault>
-    ensures { Answers result (λ made. (type_of made, declared_of declared.new))
+    requires { Covers hiding.old (hidden_of place.now.hidden) }
+    ensures kept { OnOk result (hiding.new ≡ hiding.old) }
+    ensures judged { Answers result (λ made. (type_of made, declared_of declared.new))
         (denoter (frame_of place.now.frame) ty.now (hidden_of place.now.hidden) (declared_of declared.old)) }
 {
     match ty {
-        TypeDenoter::Ordinal(ordinal) => simple_type(place, declared, ordinal),
-        TypeDenoter::Pointer(_, domain) => pointer(place, declared, *domain),
-        TypeDenoter::Structure(made) => structure(made, place, declared, None),
-        TypeDenoter::Packed(at, made) => structure(made, place, declared, Some(at.from)),
+        TypeDenoter::Ordinal(ordinal) => simple_type(place, hiding, declared, ordinal),
+        TypeDenoter::Pointer(_, domain) => pointer(place, hiding, declared, *domain),
+        TypeDenoter::Structure(made) => structure(made, place, hiding, declared, None),
+        TypeDenoter::Packed(at, made) => structure(made, place, hiding, declared, Some(at.from)),
     }
 }
 
@@ -221,10 +239,13 @@ pub(crate) fn denoter(
 fn structure(
     made: &Structure,
     place: &Place,
+    hiding: &mut HidingNames,
     declared: &mut Declared,
     packed: Option<u32>,
 ) -> Result<Ty, CheckFault>
-    ensures { Answers result (λ ty. (type_of ty, declared_of declared.new))
+    requires { Covers hiding.old (hidden_of place.now.hidden) }
+    ensures kept { OnOk result (hiding.new ≡ hiding.old) }
+    ensures judged { Answers result (λ ty. (type_of ty, declared_of declared.new))
         (structure (frame_of place.now.frame) made.now packed (hidden_of place.now.hidden) (declared_of declared.old)) }
 {
     match made {
@@ -232,14 +253,22 @@ fn structure(
             indices.as_slice(),
             component.get(),
             place,
+            hiding,
             declared,
             packed,
             at.from,
         ),
         Structure::Record(at, sections) => {
-            record_type(sections.as_slice(), place, declared, packed, at.from)
+            record_type(
+                sections.as_slice(),
+                place,
+                hiding,
+                declared,
+                packed,
+                at.from,
+            )
         }
-        Structure::Set(at, base) => set_type(place, declared, packed, at.from, base),
+        Structure::Set(at, base) => set_type(place, hiding, declared, packed, at.from, base),
     }
 }
 
@@ -249,16 +278,19 @@ fn array_type(
     indices: &[OrdinalDenoter],
     component: &TypeDenoter,
     place: &Place,
+    hiding: &mut HidingNames,
     declared: &mut Declared,
     packed: Option<u32>,
     at: u32,
 ) -> Result<Ty, CheckFault>
-    ensures { Answers result (λ ty. (type_of ty, declared_of declared.new))
+    requires { Covers hiding.old (hidden_of place.now.hidden) }
+    ensures kept { OnOk result (hiding.new ≡ hiding.old) }
+    ensures judged { Answers result (λ ty. (type_of ty, declared_of declared.new))
         (array_type (frame_of place.now.frame) packed (hidden_of place.now.hidden)
         (declared_of declared.old) at indices.now (denoter (frame_of place.now.frame) component.now)) }
 {
-    let mut indices = index_types(place, declared, begins(packed, at), indices)?;
-    let component = denoter(component, place, declared)?;
+    let mut indices = index_types(place, hiding, declared, begins(packed, at), indices)?;
+    let component = denoter(component, place, hiding, declared)?;
     array_of(place.alloc, is_packed(packed), &mut indices, component)
 }
 
@@ -331,15 +363,19 @@ pub(crate) fn own_points(
 
 /// One more section of fields of a record with these names.
 #[cycle(denoter)]
-#[tactic(auto, unfolding(crate::specs::Views::hidden_of))]
+#[tactic(auto, using(crate::proofs::HidingLemmas::covers_one_more), unfolding(crate::specs::Views::hidden_of))]
 fn add_fields(
     section: &Fields,
     place: &Place,
+    hiding: &mut HidingNames,
     declared: &mut Declared,
     names: &Names,
     done: &mut Vec<Ty>,
 ) -> Result<(), CheckFault>
-    ensures { Answers result (λ _. (map type_of done.new.items, declared_of declared.new))
+    requires covers { Covers hiding.old (hidden_of place.now.hidden) }
+    requires names { HasAll hiding.old names.now }
+    ensures kept { OnOk result (hiding.new ≡ hiding.old) }
+    ensures judged { Answers result (λ _. (map type_of done.new.items, declared_of declared.new))
         (add_fields (frame_of place.now.frame) names.now (hidden_of place.now.hidden)
         (map type_of done.old.items, declared_of declared.old) (fields (frame_of place.now.frame) section.now)) }
 {
@@ -354,29 +390,56 @@ fn add_fields(
             outer: &place.hidden,
         },
     };
-    let ty = denoter(&section.ty, &inside, declared)?;
+    let ty = denoter(&section.ty, &inside, hiding, declared)?;
     fields_of_type(done, &ty, points)?;
     Ok(())
 }
 
 /// The types of the fields of a record with these names.
 #[cycle(denoter)]
-#[tactic(auto, using(crate::proofs::Steps::mapped_start, crate::proofs::Steps::mapped_next, crate::proofs::Steps::mapped_fault, crate::proofs::Steps::mapped_end))]
+#[tactic(auto, using(crate::proofs::Steps::mapped_start, crate::proofs::Steps::mapped_next, crate::proofs::Steps::mapped_fault, crate::proofs::Steps::mapped_end, crate::proofs::HidingLemmas::covers_still, crate::proofs::HidingLemmas::has_still))]
 fn all_fields(
     sections: &[Fields],
     place: &Place,
+    hiding: &mut HidingNames,
     declared: &mut Declared,
     names: &Names,
 ) -> Result<Vec<Ty>, CheckFault>
-    ensures { Answers result (λ done. (map type_of done.items, declared_of declared.new))
+    requires covers { Covers hiding.old (hidden_of place.now.hidden) }
+    requires names { HasAll hiding.old names.now }
+    ensures kept { OnOk result (hiding.new ≡ hiding.old) }
+    ensures judged { Answers result (λ done. (map type_of done.items, declared_of declared.new))
         (steps (add_fields (frame_of place.now.frame) names.now (hidden_of place.now.hidden))
         ([], declared_of declared.old) (map (fields (frame_of place.now.frame)) sections.now)) }
 {
     let mut done = Vec::new(place.alloc);
     for section in sections {
-        add_fields(section, place, declared, names, &mut done)?;
+        add_fields(section, place, hiding, declared, names, &mut done)?;
     }
     Ok(done)
+}
+
+/// The same, where these names hide others in the record alone.
+#[cycle(denoter)]
+#[tactic(auto, using(crate::proofs::HidingLemmas::has_entered, crate::proofs::HidingLemmas::covers_entered))]
+fn own_fields(
+    sections: &[Fields],
+    place: &Place,
+    hiding: &mut HidingNames,
+    declared: &mut Declared,
+    names: &Names,
+) -> Result<Vec<Ty>, CheckFault>
+    requires { Covers hiding.old (hidden_of place.now.hidden) }
+    ensures kept { OnOk result (hiding.new ≡ hiding.old) }
+    ensures judged { Answers result (λ done. (map type_of done.items, declared_of declared.new))
+        (steps (add_fields (frame_of place.now.frame) names.now (hidden_of place.now.hidden))
+        ([], declared_of declared.old) (map (fields (frame_of place.now.frame)) sections.now)) }
+{
+    let outside = hiding.len();
+    hiding.enter(place.alloc, names)?;
+    let types = all_fields(sections, place, hiding, declared, names)?;
+    hiding.leave(outside);
+    Ok(types)
 }
 
 /// A record type whose fields have these names and types.
@@ -409,16 +472,19 @@ fn note_type(alloc: Global, seed: Seed, declared: &mut Declared, ty: &Ty) -> Res
 fn record_type(
     sections: &[Fields],
     place: &Place,
+    hiding: &mut HidingNames,
     declared: &mut Declared,
     packed: Option<u32>,
     at: u32,
 ) -> Result<Ty, CheckFault>
-    ensures { Answers result (λ ty. (type_of ty, declared_of declared.new))
+    requires { Covers hiding.old (hidden_of place.now.hidden) }
+    ensures kept { OnOk result (hiding.new ≡ hiding.old) }
+    ensures judged { Answers result (λ ty. (type_of ty, declared_of declared.new))
         (record_type (frame_of place.now.frame) packed (hidden_of place.now.hidden) (declared_of declared.old) at
         (map (fields (frame_of place.now.frame)) sections.now)) }
 {
     let names = record_names(&place.frame, place.alloc, sections)?;
-    let types = all_fields(sections, place, declared, &names)?;
+    let types = own_fields(sections, place, hiding, declared, &names)?;
     let ty = one_record(
         place.alloc,
         is_packed(packed),

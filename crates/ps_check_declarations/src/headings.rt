@@ -8,10 +8,12 @@ ghost use Rattle.ps_check_names.specs.Views.{meaning_of};
 ghost use Rattle.ps_check_declarations.specs.Points.{add_points, new_points};
 ghost use Rattle.ps_check_declarations.specs.Headings.{is_result, few, add_section, list_names, sections_of};
 ghost use Rattle.ps_check_declarations.specs.Headings.{result_type, section, heading, section_points};
+ghost use Rattle.ps_check_declarations.specs.Hiding.{Covers, HasAll};
 ghost use Rattle.ps_check_declarations.specs.Views.{frame_of, hidden_of, signature_of};
 
 use crate::denoters::{own_points, type_in};
 use crate::frame::{Hidden, Place};
+use crate::hiding::HidingNames;
 use crate::points::add_points;
 use ps_check_judgement::answer::broken;
 use ps_check_judgement::refusal::{CheckFault, Rule};
@@ -57,11 +59,17 @@ fn is_result(ty: &Ty) -> bool
 }
 
 /// The type of a function's result, which is the name of an ordinal or pointer type.
-fn result_type(place: &Place, known: &[Meaning], name: Span) -> Result<Ty, CheckFault>
+fn result_type(
+    place: &Place,
+    hiding: &HidingNames,
+    known: &[Meaning],
+    name: Span,
+) -> Result<Ty, CheckFault>
+    requires { Covers hiding.now (hidden_of place.now.hidden) }
     ensures { Answers result (λ ty. type_of ty)
         (result_type (frame_of place.now.frame) (map meaning_of known.now) (hidden_of place.now.hidden) name) }
 {
-    let ty = type_in(place, known, name)?;
+    let ty = type_in(place, hiding, known, name)?;
     if is_result(&ty) {
         Ok(ty)
     } else {
@@ -71,22 +79,29 @@ fn result_type(place: &Place, known: &[Meaning], name: Span) -> Result<Ty, Check
 
 /// The content of a heading.
 #[cycle(heading)]
-#[tactic(auto, using(crate::proofs::HeadingLemmas::heading_Procedure, crate::proofs::HeadingLemmas::heading_Function))]
-pub fn heading(written: &Heading, place: &Place, known: &[Meaning]) -> Result<Signature, CheckFault>
-    ensures { Answers result (λ s. signature_of s)
+#[tactic(auto, using(crate::proofs::HeadingLemmas::heading_Procedure, crate::proofs::HeadingLemmas::heading_Function, crate::proofs::HidingLemmas::covers_still))]
+pub fn heading(
+    written: &Heading,
+    place: &Place,
+    hiding: &mut HidingNames,
+    known: &[Meaning],
+) -> Result<Signature, CheckFault>
+    requires { Covers hiding.old (hidden_of place.now.hidden) }
+    ensures kept { OnOk result (hiding.new ≡ hiding.old) }
+    ensures judged { Answers result (λ s. signature_of s)
         ((heading (frame_of place.now.frame) (map meaning_of known.now) written.now).1 (hidden_of place.now.hidden)) }
 {
     match written {
         Heading::Procedure(name, list) => {
-            let sections = sections(list.as_slice(), place, known, name.from)?;
+            let sections = sections(list.as_slice(), place, hiding, known, name.from)?;
             Ok(Signature {
                 sections,
                 result: None,
             })
         }
         Heading::Function(name, list, ty) => {
-            let sections = sections(list.as_slice(), place, known, name.from)?;
-            let ty = result_type(place, known, *ty)?;
+            let sections = sections(list.as_slice(), place, hiding, known, name.from)?;
+            let ty = result_type(place, hiding, known, *ty)?;
             Ok(Signature {
                 sections,
                 result: Some(ty),
@@ -101,29 +116,36 @@ pub fn heading(written: &Heading, place: &Place, known: &[Meaning]) -> Result<Si
 fn sections(
     list: &[SectionDenoter],
     place: &Place,
+    hiding: &mut HidingNames,
     known: &[Meaning],
     at: u32,
 ) -> Result<Vec<Section>, CheckFault>
-    ensures { Answers result (λ done. map section_of done.items)
+    requires { Covers hiding.old (hidden_of place.now.hidden) }
+    ensures kept { OnOk result (hiding.new ≡ hiding.old) }
+    ensures judged { Answers result (λ done. map section_of done.items)
         (sections_of (frame_of place.now.frame) (map meaning_of known.now)
         (map (section (frame_of place.now.frame) (map meaning_of known.now)) list.now) at (hidden_of place.now.hidden)) }
 {
     let names = list_names(list, place, known)?;
     let _count = few(names.len(), at)?;
-    let (sections, _count) = all_sections(list, place, known, &names)?;
+    let (sections, _count) = own_sections(list, place, hiding, known, &names)?;
     Ok(sections)
 }
 
 /// The sections of a list whose parameters have these names, and their number.
 #[cycle(heading)]
-#[tactic(auto, using(crate::proofs::Steps::mapped_start, crate::proofs::Steps::mapped_next, crate::proofs::Steps::mapped_fault, crate::proofs::Steps::mapped_end))]
+#[tactic(auto, using(crate::proofs::Steps::mapped_start, crate::proofs::Steps::mapped_next, crate::proofs::Steps::mapped_fault, crate::proofs::Steps::mapped_end, crate::proofs::HidingLemmas::covers_still, crate::proofs::HidingLemmas::has_still))]
 fn all_sections(
     list: &[SectionDenoter],
     place: &Place,
+    hiding: &mut HidingNames,
     known: &[Meaning],
     names: &Names,
 ) -> Result<(Vec<Section>, usize), CheckFault>
-    ensures { Answers result (λ done. (map section_of done.0.items, done.1))
+    requires covers { Covers hiding.old (hidden_of place.now.hidden) }
+    requires names { HasAll hiding.old names.now }
+    ensures kept { OnOk result (hiding.new ≡ hiding.old) }
+    ensures judged { Answers result (λ done. (map section_of done.0.items, done.1))
         (steps (add_section (frame_of place.now.frame) (map meaning_of known.now) names.now
         (hidden_of place.now.hidden)) ([], 0) (map
         (section (frame_of place.now.frame) (map meaning_of known.now)) list.now)) }
@@ -131,24 +153,52 @@ fn all_sections(
     let mut done = Vec::new(place.alloc);
     let mut defined = 0;
     for written in list {
-        defined = add_section(written, place, known, names, defined, &mut done)?;
+        defined = add_section(written, place, hiding, known, names, defined, &mut done)?;
     }
     Ok((done, defined))
+}
+
+/// The same, where these names hide others in the list alone.
+#[cycle(heading)]
+#[tactic(auto, using(crate::proofs::HidingLemmas::has_entered, crate::proofs::HidingLemmas::covers_entered))]
+fn own_sections(
+    list: &[SectionDenoter],
+    place: &Place,
+    hiding: &mut HidingNames,
+    known: &[Meaning],
+    names: &Names,
+) -> Result<(Vec<Section>, usize), CheckFault>
+    requires { Covers hiding.old (hidden_of place.now.hidden) }
+    ensures kept { OnOk result (hiding.new ≡ hiding.old) }
+    ensures judged { Answers result (λ done. (map section_of done.0.items, done.1))
+        (steps (add_section (frame_of place.now.frame) (map meaning_of known.now) names.now
+        (hidden_of place.now.hidden)) ([], 0) (map
+        (section (frame_of place.now.frame) (map meaning_of known.now)) list.now)) }
+{
+    let outside = hiding.len();
+    hiding.enter(place.alloc, names)?;
+    let sections = all_sections(list, place, hiding, known, names)?;
+    hiding.leave(outside);
+    Ok(sections)
 }
 
 /// One more section, after those that have the first `count` names of the list. Returns how many come before what
 /// follows.
 #[cycle(heading)]
-#[tactic(auto, unfolding(crate::specs::Headings::section_points, crate::specs::Views::hidden_of))]
+#[tactic(auto, using(crate::proofs::HidingLemmas::covers_one_more), unfolding(crate::specs::Headings::section_points, crate::specs::Views::hidden_of))]
 fn add_section(
     written: &SectionDenoter,
     place: &Place,
+    hiding: &mut HidingNames,
     known: &[Meaning],
     names: &Names,
     count: usize,
     done: &mut Vec<Section>,
 ) -> Result<usize, CheckFault>
-    ensures { Answers result (λ n. (map section_of done.new.items, n))
+    requires covers { Covers hiding.old (hidden_of place.now.hidden) }
+    requires names { HasAll hiding.old names.now }
+    ensures kept { OnOk result (hiding.new ≡ hiding.old) }
+    ensures judged { Answers result (λ n. (map section_of done.new.items, n))
         (add_section (frame_of place.now.frame) (map meaning_of known.now) names.now (hidden_of place.now.hidden)
         (map section_of done.old.items, count) (section (frame_of place.now.frame)
         (map meaning_of known.now) written.now)) }
@@ -163,7 +213,7 @@ fn add_section(
             outer: &place.hidden,
         },
     };
-    let section = section(written, &inside, known)?;
+    let section = section(written, &inside, hiding, known)?;
     done.push(section)?;
     Ok(defined)
 }
@@ -173,24 +223,27 @@ fn add_section(
 fn section(
     written: &SectionDenoter,
     place: &Place,
+    hiding: &mut HidingNames,
     known: &[Meaning],
 ) -> Result<Section, CheckFault>
-    ensures { Answers result (λ s. section_of s)
+    requires { Covers hiding.old (hidden_of place.now.hidden) }
+    ensures kept { OnOk result (hiding.new ≡ hiding.old) }
+    ensures judged { Answers result (λ s. section_of s)
         ((section (frame_of place.now.frame) (map meaning_of known.now) written.now).1 (hidden_of place.now.hidden)) }
 {
     match written {
         SectionDenoter::Value(names, name) => {
             let count = few(names.len(), name.from)?;
-            let ty = type_in(place, known, *name)?;
+            let ty = type_in(place, hiding, known, *name)?;
             Ok(Section::Value { count, ty })
         }
         SectionDenoter::Variable(names, name) => {
             let count = few(names.len(), name.from)?;
-            let ty = type_in(place, known, *name)?;
+            let ty = type_in(place, hiding, known, *name)?;
             Ok(Section::Variable { count, ty })
         }
         SectionDenoter::Routine(inner) => {
-            let Signature { sections, result } = heading(inner, place, known)?;
+            let Signature { sections, result } = heading(inner, place, hiding, known)?;
             Ok(Section::Routine {
                 sections: SectionList::shared(place.alloc, sections)?,
                 result,

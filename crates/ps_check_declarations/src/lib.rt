@@ -5,4 +5,5 @@ pub mod declarations;
 pub mod denoters;
 pub mod frame;
 pub mod headings;
+pub mod hiding;
 pub mod points;

@@ -8,3 +8,4 @@ pub mod WideLemmas
 pub mod MarkLemmas
 pub mod LengthLemmas
 pub mod AlikeLemmas
+pub mod NestLemmas

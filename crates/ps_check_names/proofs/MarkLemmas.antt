@@ -1,11 +1,9 @@
 -- Marks of the names of fields.
-use Rattle.std.proofs.Common.{◌≡◌, ◌+◌, ◌<◌, ◌≤◌, ◌⊎◌, inl, inr, ℕ, Bool, true, false, arith}
-use Rattle.std.proofs.Common.{List, [], ◌∷◌, ◌++◌, length, Option, Some, None, refl, sym, ap, subst, ◌∙◌, slice_get, get_or}
-use Rattle.std.specs.Prelude.{IsTrue, nat_lt, is_some}
+use Rattle.std.proofs.Common.{◌≡◌, ◌≢◌, ◌+◌, ◌<◌, ◌≤◌, ◌⊎◌, inl, inr, ℕ, Bool, false, arith}
+use Rattle.std.proofs.Common.{List, [], ◌∷◌, ◌++◌, length, Option, Some, None, refl, sym, ap, subst, ◌∙◌, slice_get}
+use Rattle.std.specs.Prelude.{IsTrue, nat_lt, is_some, option_and_then}
 use Rattle.std.proofs.lemmas.Bool.{ltb-true}
 use Rattle.std.proofs.Math.Nat.{eq-or-lt_of_le}
-use Rattle.std.proofs.Math.Seq.{get_or-append_seam}
-use Rattle.std.proofs.lemmas.List.{length-append, get_or_append_left}
 use Rattle.std.proofs.lemmas.Option.{slice_get_within}
 use Rattle.std.specs.Hash.FoldHasher as folding
 use Rattle.std.specs.declared.hash.FoldHasher.{FoldHasher}
@@ -14,11 +12,12 @@ use Rattle.ps_tree.specs.Types.{DataType, field_in, outline}
 use Rattle.ps_tree.specs.Names.{place}
 use Rattle.ps_tree.specs.View.{type_of}
 use Rattle.ps_check_names.specs.Regions.{fields_of}
-use Rattle.ps_check_names.specs.Opened.{HasField, StandsIn, NoneBehind}
-use Rattle.ps_check_names.specs.Sets.{Holds}
-use Rattle.ps_check_names.specs.Marks.{mark_of, IsMark, MarkedFor, Marked, MarkedTypes}
-use Rattle.ps_check_names.proofs.NoteLemmas.{none_some, inside, last_or, placed}
-use Rattle.ps_check_names.proofs.PlaceLemmas.{got_or, has_some, same_outline, stands_there}
+use Rattle.ps_check_names.specs.Opened.{HasField, StandsIn, NoneBehind, Placed, Reaching, Narrow}
+use Rattle.ps_check_names.specs.Sets.{Holds, Apart, Passed, Reached}
+use Rattle.ps_check_names.specs.Wides.{kind_of, Listed}
+use Rattle.ps_check_names.specs.Marks.{mark_of, IsMark, MarkedFor, Marked, Shown}
+use Rattle.ps_check_names.proofs.NoteLemmas.{none_some, some_none, inside, never, last_or, placed}
+use Rattle.ps_check_names.proofs.PlaceLemmas.{got_or, kept_there, end_there, has_some, same_outline, stands_there}
 
 -- ---- marks
 
@@ -69,80 +68,113 @@ names_marked ty start marks names has there = λ s h. let m = has s h in there s
 
 -- ---- records
 
-pub marked_none : (records : List Ty) (start : FoldHasher) (marks : List ℕ) → records ≡ [] → Marked records start marks
-marked_none records start marks e = λ k ty is. absurd (none_some (ap (λ l. slice_get l k) (sym e) ∙ is))
+pub marked_none : (records : List Ty) (places : List (Option ℕ)) (start : FoldHasher) (marks : List ℕ) → records ≡ []
+    → Marked records places start marks
+marked_none records places start marks e = λ k ty is. absurd (none_some (ap (λ l. slice_get l k) (sym e) ∙ is))
 
--- one more
-pub marked_more : (records : List Ty) (ty : Ty) (start : FoldHasher) (marks marks' : List ℕ) → Marked records start marks
-    → ((n : ℕ) → Holds marks n → Holds marks' n) → MarkedFor ty start marks' → Marked (records ++ ty ∷ []) start marks'
-marked_more records ty start marks marks' marked kept there = λ k t is s h. last_or records ty k t _ is
-    (λ e. kept (mark_of start s) (marked k t e s h)) (λ e f. there s (subst (λ u. HasField u s) (sym f) h))
+module _ (records : List Ty) (ty : Ty) (places : List (Option ℕ)) (start : FoldHasher) (marks : List ℕ) (even : length places ≡ length records) (marked : Marked records places start marks) where
+  earlier : (last : Option ℕ) (k : ℕ) (t : Ty) → slice_get records k ≡ Some t → slice_get (places ++ last ∷ []) k
+      ≡ slice_get places k
+  earlier last k t e = let l = slice_get_within records k t e in kept_there places last k (omega (arith, l, even))
 
--- one with the fields of another
-pub marked_like : (records : List Ty) (another : Ty) (start : FoldHasher) (marks : List ℕ) (like : ℕ)
-    → Marked records start marks → like < length records
-    → ((other : Ty) → slice_get records like ≡ Some other → outline (type_of another) ≡ outline (type_of other))
-    → MarkedFor another start marks
-marked_like records another start marks like marked l same = λ s h. let o = got_or records like l in
-    marked like o.0 o.1 s (has_some o.0 s (sym (same_outline another o.0 (same o.0 o.1) s) ∙ ap is_some h.1))
+  -- one more
+  pub marked_more : (last : Option ℕ) (marks' : List ℕ) → ((n : ℕ) → Holds marks n → Holds marks' n)
+      → MarkedFor ty start marks' → Marked (records ++ ty ∷ []) (places ++ last ∷ []) start marks'
+  marked_more last marks' kept there = λ k t is narrow s h. last_or records ty k t _ is
+      (λ e. kept (mark_of start s) (marked k t e (sym (earlier last k t e) ∙ narrow) s h))
+      (λ e f. there s (subst (λ u. HasField u s) (sym f) h))
 
--- one of a wide type, whose set is joined
-pub marked_type : (ty : Ty) (types : List Ty) (start : FoldHasher) (sets : List (List ℕ)) (marks : List ℕ) (number : ℕ)
-    → MarkedTypes types start sets → StandsIn ty types number
-    → ((n : ℕ) → Holds (get_or sets number []) n → Holds marks n) → MarkedFor ty start marks
-marked_type ty types start sets marks number marked stands joined = λ s h. let o = stands_there ty types number stands s h in
-    joined (mark_of start s) (marked.1 number o.0 o.1 s o.2)
+  -- one of a wide type
+  pub marked_wide : (last : Option ℕ) (number : ℕ) → last ≡ Some number → Marked (records ++ ty ∷ [])
+      (places ++ last ∷ []) start marks
+  marked_wide last number wide = λ k t is narrow s h. last_or records ty k t _ is
+      (λ e. marked k t e (sym (earlier last k t e) ∙ narrow) s h)
+      (λ e f. absurd (some_none (sym wide ∙ inside last None (sym (end_there places last)
+      ∙ ap (slice_get (places ++ last ∷ [])) (even ∙ sym e) ∙ narrow))))
 
--- ---- types
+  none_there : (o : Option ℕ) (i : ℕ) → slice_get places i ≡ Some o
+      → ((place : ℕ) → slice_get places i ≢ Some (Some place)) → slice_get places i ≡ Some None
+  none_there None i e not = e
+  none_there (Some p) i e not = absurd (not p e)
 
-pub no_types : (types : List Ty) (start : FoldHasher) (sets : List (List ℕ)) → types ≡ [] → sets ≡ [] → MarkedTypes types
-    start sets
-no_types types start sets e f = (
-  ap length f ∙ sym (ap length e),
-  (λ n ty is. absurd (none_some (ap (λ l. slice_get l n) (sym e) ∙ is))),
-)
+  -- one with the fields of another that is of no wide type
+  pub marked_like : (like : ℕ) → ((place : ℕ) → slice_get places like ≢ Some (Some place)) → like < length records
+      → ((other : Ty) → slice_get records like ≡ Some other → outline (type_of ty) ≡ outline (type_of other))
+      → MarkedFor ty start marks
+  marked_like like narrow l same = λ s h.
+      let o = got_or records like l in
+      let p = got_or places like (omega (arith, l, even)) in
+      marked like o.0 o.1 (none_there p.0 like p.1 narrow) s
+      (has_some o.0 s (sym (same_outline ty o.0 (same o.0 o.1) s) ∙ ap is_some h.1))
 
-pub types_more : (types : List Ty) (ty' ty : Ty) (start : FoldHasher) (sets : List (List ℕ)) (more : List ℕ)
-    → MarkedTypes types start sets → ((s : List ℕ) → HasField ty' s → HasField ty s) → MarkedFor ty start more
-    → MarkedTypes (types ++ ty' ∷ []) start (sets ++ more ∷ [])
-types_more types ty' ty start sets more marked same there = (
-  (let a = length-append sets (more ∷ []) in
-      let b = length-append types (ty' ∷ []) in
-      let e = marked.0 in
-      omega (arith, a, b, e)),
-  (λ n t is s h. last_or types ty' n t _ is
-      (λ e.
-      let l = slice_get_within types n t e in
-      let q = marked.0 in
-      subst (λ set. Holds set (mark_of start s)) (sym (get_or_append_left sets (more ∷ []) [] n (omega (arith, l, q))))
-      (marked.1 n t e s h))
-      (λ e f. subst (λ set. Holds set (mark_of start s))
-      (sym (ap (λ i. get_or (sets ++ more ∷ []) i []) (e ∙ sym marked.0) ∙ get_or-append_seam sets more [] []))
-      (there s (same s (subst (λ u. HasField u s) (sym f) h))))),
-)
+  -- if there is one
+  pub marked_if_there : (like : ℕ) (all : List Ty) → all ≡ records
+      → ((place : ℕ) → slice_get places like ≢ Some (Some place))
+      → ((other : Ty) → slice_get records like ≡ Some other → outline (type_of ty) ≡ outline (type_of other))
+      → IsTrue (nat_lt like (length all)) → MarkedFor ty start marks
+  marked_if_there like all e narrow same t = marked_like like narrow
+      (let n = ap length e in let l : like < length all = ltb-true _ _ t in omega (arith, l, n)) same
 
 -- ---- names
 
--- a name whose mark is not there is that of no field
-pub unmarked : (records : List Ty) (start : FoldHasher) (marks : List ℕ) (state number : ℕ) (s : List ℕ) (b : Bool)
-    → Marked records start marks → IsMark state number s → state ≡ folding.finish start
-    → (Holds marks number → IsTrue b) → b ≡ false → NoneBehind records 0 s
-unmarked records start marks state number s b marked is own there off = λ k ty e. by k ty e
+off_true : (b : Bool) → b ≡ false → IsTrue b → ⊥
+off_true b off on = never (sym off ∙ on)
+
+abbrev asks : List ℕ → Option Ty → Bool
+asks s o = is_some (option_and_then (λ ty. field_in (fields_of (type_of ty)) s) o)
+
+-- what is known of the records that a `with` opens
+module _ (records : List Ty) (places : List (Option ℕ)) (types : List Ty) (start : FoldHasher) (marks : List ℕ) (names kinds : List (List ℕ)) (present latest : List ℕ) (marked : Marked records places start marks) (placed_so : Placed records places types) (listed : Listed types names kinds) (reaching : Reaching places present latest) where
+  -- a record with a field of the name has its mark, or is of a wide type that has the name and reaches behind it
+  mark_or_type : (s : List ℕ) (k : ℕ) (ty : Ty) → slice_get records k ≡ Some ty → HasField ty s → (o : Option ℕ)
+      → slice_get places k ≡ Some o → Holds marks (mark_of start s) ⊎ Reached (kind_of names kinds s) present latest k
+  mark_or_type s k ty is h None e = inl (marked k ty is e s h)
+  mark_or_type s k ty is h (Some n) e =
+      let stands = placed_so.1 k n e in
+      let like : StandsIn ty types n = (stands.0, (λ t. sym (ap (asks t) is) ∙ stands.1 t)) in
+      let other = stands_there ty types n like s h in
+      let r = reaching k n e in
+      inr (n, listed s n other.0 other.1 other.2, r.0, r.1)
+
+  either : (s : List ℕ) (k : ℕ) (ty : Ty) → slice_get records k ≡ Some ty → HasField ty s → Holds marks (mark_of start s)
+      ⊎ Reached (kind_of names kinds s) present latest k
+  either s k ty is h =
+      let l = slice_get_within records k ty is in
+      let e = placed_so.0 in
+      let o = got_or places k (omega (arith, l, e)) in
+      mark_or_type s k ty is h o.0 o.1
+
+  -- so a name without its mark there is that of no field behind the last of each wide type that has it
+  pub narrow_off : (state number : ℕ) (s : List ℕ) (b : Bool) (n : ℕ) → IsMark state number s → state
+      ≡ folding.finish start → (Holds marks number → IsTrue b) → b ≡ false → Narrow records (kind_of names kinds) present
+      latest s n
+  narrow_off state number s b n is own there off = λ k ty e h passed. by k passed (either s k ty e h)
+    where
+      by : (k : ℕ) → Passed (kind_of names kinds s) present latest k → Holds marks (mark_of start s)
+          ⊎ Reached (kind_of names kinds s) present latest k → k < n
+      by k passed (inl m) = absurd (off_true b off
+          (there (subst (λ n. Holds marks n) (sym (is start (sym own))) m)))
+      by k passed (inr r) = absurd (let z = passed r.0 r.1 r.2 in let l = r.3 in omega (arith, z, l))
+
+  -- all their names are shown
+  pub all_shown : Shown records start marks (kind_of names kinds) present
+  all_shown = λ s k ty is h apart. by s k apart (either s k ty is h)
+    where
+      by : (s : List ℕ) (k : ℕ) → Apart (kind_of names kinds s) present → Holds marks (mark_of start s)
+          ⊎ Reached (kind_of names kinds s) present latest k → Holds marks (mark_of start s)
+      by s k apart (inl m) = m
+      by s k apart (inr r) = absurd (apart r.0 r.1 r.2)
+
+-- a name that is not shown is that of no field
+pub unshown : (records : List Ty) (start : FoldHasher) (marks : List ℕ) (kinds : List ℕ → List ℕ) (present : List ℕ)
+    (state number : ℕ) (s : List ℕ) (b : Bool) → Shown records start marks kinds present → IsMark state number s
+    → state ≡ folding.finish start → (Holds marks number → IsTrue b) → b ≡ false → Apart (kinds s) present
+    → NoneBehind records 0 s
+unshown records start marks kinds present state number s b shown is own there off apart = λ k ty e. by k ty e
     (field_in (fields_of (type_of ty)) s) refl
   where
-    off_true : false ≡ true → ⊥
-    off_true q = cc
-
     by : (k : ℕ) (ty : Ty) → slice_get records (0 + k) ≡ Some ty → (o : Option (ℕ × DataType)) → field_in
         (fields_of (type_of ty)) s ≡ o → field_in (fields_of (type_of ty)) s ≡ None
     by k ty e None q = q
-    by k ty e (Some f) q = absurd
-        (off_true (sym off ∙ there (subst (λ n. Holds marks n) (sym (is start (sym own))) (marked (0 + k) ty e s (f, q)))))
-
--- one with the fields of a record with this number, if there is one
-pub marked_if_there : (records : List Ty) (another : Ty) (start : FoldHasher) (marks : List ℕ) (like : ℕ) (all : List Ty)
-    → Marked records start marks → all ≡ records
-    → ((other : Ty) → slice_get records like ≡ Some other → outline (type_of another) ≡ outline (type_of other))
-    → IsTrue (nat_lt like (length all)) → MarkedFor another start marks
-marked_if_there records another start marks like all marked e same t = marked_like records another start marks like marked
-    (let n = ap length e in let l : like < length all = ltb-true _ _ t in omega (arith, l, n)) same
+    by k ty e (Some f) q = absurd (off_true b off
+        (there (subst (λ n. Holds marks n) (sym (is start (sym own))) (shown s (0 + k) ty e (f, q) apart))))

@@ -15,7 +15,7 @@ use Rattle.ps_tree.specs.Types.{type_at, type_count, HaveSameNames}
 use Rattle.ps_tree.specs.Names.{same, has, place}
 use Rattle.ps_tree.specs.View.{type_of}
 use Rattle.ps_check_names.specs.Regions.{fields_of}
-use Rattle.ps_check_names.specs.Opened.{HasField, at_place, reach_of, Covers, Keeps, NoneBehind}
+use Rattle.ps_check_names.specs.Opened.{HasField, at_place, reach_of, Covers, Keeps, Narrow, NoneBehind}
 use Rattle.ps_check_names.specs.Sets.{Holds, Passed, Reached}
 
 pub none_some : {A : Type 0} {x : A} → (let n : Option A = None in n) ≡ Some x → ⊥
@@ -348,33 +348,47 @@ module _ (names : List (List ℕ)) (reaches : List ℕ) (s : List ℕ) (k n : �
 
 -- ---- the records up to the last that may have the field
 
-module _ (records : List Ty) (asked : ℕ) (names : List (List ℕ)) (reaches : List ℕ) (kinds : List ℕ → List ℕ) (present latest : List ℕ) (covers : Covers records asked names reaches kinds present latest) (s : List ℕ) (a b c n : ℕ) where
-  pub none_behind : ((k : ℕ) → k < reach_of names reaches s → k < a) → ((k : ℕ) → Reached (kinds s) present latest k → k < b)
-      → ((k : ℕ) (ty : Ty) → k < asked → slice_get records k ≡ Some ty → HasField ty s → k < c)
-      → ((k : ℕ) → k < length records → (k < a) ⊎ ((k < b) ⊎ (k < c)) → k < n) → NoneBehind records n s
-  none_behind noted wide first all = λ k ty e. by k ty e (field_in (fields_of (type_of ty)) s) refl
-    where
-      -- what is passed, or a type that isn't
-      within : (k m : ℕ) → (m ≤ k) ⊎ (k < m) → (k < b → m ≤ k) → (k < m → k < b) → m ≤ k
-      within k m (inl l) f g = l
-      within k m (inr l) f g = f (g l)
+-- behind the last of each wide type that has the name
+pub narrow_noted : (records : List Ty) (asked : ℕ) (names : List (List ℕ)) (reaches : List ℕ) (kinds : List ℕ → List ℕ)
+    (present latest : List ℕ) (s : List ℕ) (a c n : ℕ) → Covers records asked names reaches kinds present latest
+    → ((k : ℕ) → k < reach_of names reaches s → k < a)
+    → ((k : ℕ) (ty : Ty) → k < asked → slice_get records k ≡ Some ty → HasField ty s → k < c) → a ≤ n → c ≤ n → Narrow
+    records kinds present latest s n
+narrow_noted records asked names reaches kinds present latest s a c n covers noted first more also = λ k ty e h passed. by
+    k ty e h passed (cases_lt k asked)
+  where
+    by : (k : ℕ) (ty : Ty) → slice_get records k ≡ Some ty → HasField ty s → Passed (kinds s) present latest k
+        → (k < asked) ⊎ (asked ≤ k) → k < n
+    by k ty e h passed (inl l) = let z = first k ty l e h in omega (arith, z, also)
+    by k ty e h passed (inr l) = let z = noted k (covers s k ty e h l passed) in omega (arith, z, more)
 
-      before : (k : ℕ) (ty : Ty) → slice_get records k ≡ Some ty → HasField ty s → (k < asked) ⊎ (asked ≤ k) → n ≤ k → ⊥
-      before k ty e h (inl l) over = let z = all k (slice_get_within records k ty e) (inr (inr (first k ty l e h))) in
-          omega (arith, z, over)
-      before k ty e h (inr l) over =
-          let passed : Passed (kinds s) present latest k = λ m kind here. within k (get_or latest m 0)
-          (le-or-lt (get_or latest m 0) k)
-          (λ less. absurd (let z = all k (slice_get_within records k ty e) (inr (inl less)) in omega (arith, z, over)))
-          (λ more. wide k (m, kind, here, more)) in
-          let z = all k (slice_get_within records k ty e) (inl (noted k (covers s k ty e h l passed))) in
-          omega (arith, z, over)
+-- and among them
+pub none_behind : (records : List Ty) (kinds : List ℕ → List ℕ) (present latest : List ℕ) (s : List ℕ) (a b reach n : ℕ)
+    → Narrow records kinds present latest s a → ((k : ℕ) → Reached (kinds s) present latest k → k < b) → a ≤ reach → b
+    ≤ reach → ((k : ℕ) → k < length records → k < reach → k < n) → NoneBehind records n s
+none_behind records kinds present latest s a b reach n narrow wide more also all = λ k ty e. by k ty e
+    (field_in (fields_of (type_of ty)) s) refl
+  where
+    -- what is passed, or a type that isn't
+    within : (k m : ℕ) → (m ≤ k) ⊎ (k < m) → (k < b → m ≤ k) → (k < m → k < b) → m ≤ k
+    within k m (inl l) f g = l
+    within k m (inr l) f g = f (g l)
 
-      by : (k : ℕ) (ty : Ty) → slice_get records (n + k) ≡ Some ty → (o : Option (ℕ × DataType)) → field_in
-          (fields_of (type_of ty)) s ≡ o → field_in (fields_of (type_of ty)) s ≡ None
-      by k ty e None q = q
-      by k ty e (Some f) q = absurd
-          (before (n + k) ty e (f, q) (cases_lt (n + k) asked) (omega arith))
+    before : (k : ℕ) (ty : Ty) → slice_get records k ≡ Some ty → HasField ty s → n ≤ k → ⊥
+    before k ty e h over =
+        let room = slice_get_within records k ty e in
+        let passed : Passed (kinds s) present latest k = λ m kind here. within k (get_or latest m 0)
+        (le-or-lt (get_or latest m 0) k)
+        (λ less. absurd (let z = all k room (omega (arith, less, also)) in omega (arith, z, over)))
+        (λ more. wide k (m, kind, here, more)) in
+        let l = narrow k ty e h passed in
+        let z = all k room (omega (arith, l, more)) in
+        omega (arith, z, over)
+
+    by : (k : ℕ) (ty : Ty) → slice_get records (n + k) ≡ Some ty → (o : Option (ℕ × DataType)) → field_in
+        (fields_of (type_of ty)) s ≡ o → field_in (fields_of (type_of ty)) s ≡ None
+    by k ty e None q = q
+    by k ty e (Some f) q = absurd (before (n + k) ty e (f, q) (omega arith))
 
 -- what is noted of one record more
 pub record_noted : (ty : Ty) (fields names : List (List ℕ)) (reaches : List ℕ) (reach asked : ℕ)
@@ -395,13 +409,6 @@ on_ok (Err e) h f = h
 pub on_ok_both : {X E A B C : Type 0} (r : Result X E) → OnOk r A → OnOk r B → (A → B → C) → OnOk r C
 on_ok_both (Ok x) h g f = f h g
 on_ok_both (Err e) h g f = h
-
--- each of three is before the greatest
-pub before_all : (a b c noted reach k : ℕ) → a ≤ noted → b ≤ noted → noted ≤ reach → c ≤ reach → (k < a)
-    ⊎ ((k < b) ⊎ (k < c)) → k < reach
-before_all a b c noted reach k p q r s (inl l) = omega (arith, p, r, l)
-before_all a b c noted reach k p q r s (inr (inl l)) = omega (arith, q, r, l)
-before_all a b c noted reach k p q r s (inr (inr l)) = omega (arith, s, l)
 
 -- the first i of the records are asked
 abbrev pub AskedTo : (records : List Ty) (s : List ℕ) (i n : ℕ) → Type 0

@@ -1,6 +1,6 @@
 -- The places of what is asked for opened records.
-use Rattle.std.proofs.Common.{◌≡◌, ◌<◌, ℕ, zero, suc, Bool, true, false, List, [], ◌∷◌, ◌++◌, length}
-use Rattle.std.proofs.Common.{Option, Some, None, refl, sym, ap, ◌∙◌, arith, slice_get}
+use Rattle.std.proofs.Common.{◌≡◌, ◌+◌, ◌<◌, ◌≤◌, ℕ, zero, suc, Bool, true, false, List, [], ◌∷◌, ◌++◌, length}
+use Rattle.std.proofs.Common.{Option, Some, None, refl, sym, ap, subst, ◌∙◌, arith, slice_get, get_or}
 use Rattle.std.specs.Prelude.{is_some, option_and_then}
 use Rattle.std.proofs.lemmas.List.{length-append}
 use Rattle.std.proofs.lemmas.Option.{slice_get_within}
@@ -10,7 +10,8 @@ use Rattle.ps_tree.specs.Types.{RecordType, field_in, field_names, field_types, 
 use Rattle.ps_tree.specs.Types.{outline}
 use Rattle.ps_tree.specs.View.{type_of}
 use Rattle.ps_check_names.specs.Regions.{fields_of}
-use Rattle.ps_check_names.specs.Opened.{HasField, has_field, IsLike, has_field_at, StandsIn, Placed}
+use Rattle.ps_check_names.specs.Opened.{HasField, has_field, IsLike, has_field_at, StandsIn, Placed, Reaching}
+use Rattle.ps_check_names.specs.Sets.{Holds}
 use Rattle.ps_check_names.proofs.NoteLemmas.{none_some, inside, never, last_or, has_fields}
 
 -- ---- records that are like one another
@@ -74,12 +75,12 @@ got_or [] i l = absurd (omega (arith, l))
 got_or (x ∷ xs) zero l = (x, refl)
 got_or (x ∷ xs) (suc i) l = got_or xs i (omega (arith, l))
 
-kept_there : {A : Type 0} (xs : List A) (y : A) (i : ℕ) → i < length xs → slice_get (xs ++ y ∷ []) i ≡ slice_get xs i
+pub kept_there : {A : Type 0} (xs : List A) (y : A) (i : ℕ) → i < length xs → slice_get (xs ++ y ∷ []) i ≡ slice_get xs i
 kept_there [] y i l = absurd (omega (arith, l))
 kept_there (z ∷ xs) y zero l = refl
 kept_there (z ∷ xs) y (suc i) l = kept_there xs y i (omega (arith, l))
 
-end_there : {A : Type 0} (xs : List A) (y : A) → slice_get (xs ++ y ∷ []) (length xs) ≡ Some y
+pub end_there : {A : Type 0} (xs : List A) (y : A) → slice_get (xs ++ y ∷ []) (length xs) ≡ Some y
 end_there [] y = refl
 end_there (z ∷ xs) y = end_there xs y
 
@@ -149,6 +150,31 @@ module _ (records : List Ty) (ty : Ty) (places : List (Option ℕ)) (types : Lis
         h.0,
         (λ s. same_outline ty o.0 (one o.0 o.1) s ∙ sym (ap (asks s) o.1) ∙ h.1 s),
       )
+
+-- ---- how far wide types reach
+
+pub reaching_none : (places : List (Option ℕ)) (present latest : List ℕ) → places ≡ [] → Reaching places present latest
+reaching_none places present latest e = λ k place is. absurd (none_some (ap (λ l. slice_get l k) (sym e) ∙ is))
+
+-- one record more that is of no wide type
+pub reaching_narrow : (places : List (Option ℕ)) (present latest : List ℕ) (last : Option ℕ) → last ≡ None → Reaching places
+    present latest → Reaching (places ++ last ∷ []) present latest
+reaching_narrow places present latest last none reaching = λ k place is. last_or places last k (Some place) _ is
+    (λ e. reaching k place e) (λ q e. absurd (none_some (sym none ∙ e)))
+
+-- one that is
+pub reaching_wide : (places : List (Option ℕ)) (present latest present' latest' : List ℕ) (number before : ℕ)
+    (last : Option ℕ) → last ≡ Some number → before ≡ length places → Reaching places present latest
+    → ((n : ℕ) → Holds present n → Holds present' n) → Holds present' number
+    → ((n : ℕ) → get_or latest n 0 ≤ get_or latest' n 0) → before + 1 ≤ get_or latest' number 0 → Reaching
+    (places ++ last ∷ []) present' latest'
+reaching_wide places present latest present' latest' number before last one is_last reaching kept there further reach =
+    λ k place is. last_or places last k (Some place) _ is
+    (λ e. let r = reaching k place e in let f = further place in let l = r.1 in (kept place r.0, (omega (arith, f, l))))
+    (λ q e. let same = inside number place (sym one ∙ e) in (
+      subst (λ n. Holds present' n) same there,
+      (let z = ap (λ n. get_or latest' n 0) same in omega (arith, q, is_last, reach, z)),
+    ))
 
 -- a field of a record is one of the type that stands for it
 pub stands_there : (ty : Ty) (types : List Ty) (number : ℕ) → StandsIn ty types number → (s : List ℕ) → HasField ty s

@@ -16,7 +16,7 @@ use Rattle.ps_tree.specs.Names.{has, place}
 use Rattle.ps_tree.specs.View.{type_of}
 use Rattle.ps_check_names.specs.Regions.{fields_of}
 use Rattle.ps_check_names.specs.Opened.{HasField}
-use Rattle.ps_check_names.specs.Sets.{Holds, Reached}
+use Rattle.ps_check_names.specs.Sets.{Holds, Reached, Apart}
 use Rattle.ps_check_names.specs.Wides.{kind_at, kind_of, Listed, KeepsKinds}
 use Rattle.ps_check_names.proofs.NoteLemmas.{none_some, inside, eq-or-not, last_or, within_from, kept_from, new_from}
 use Rattle.ps_check_names.proofs.NoteLemmas.{none_any, placed}
@@ -342,3 +342,41 @@ common_end kind present latest i reach end so_far = λ k r.
 -- nothing is reached where nothing is opened
 pub none_reached : (kind present latest : List ℕ) (k : ℕ) → length latest ≡ 0 → Reached kind present latest k → k < 0
 none_reached kind present latest k none r = absurd (let w = not_past latest r.0 k r.3 in omega (arith, w, none))
+
+-- ---- sets that have no number in common
+
+-- up to word i
+abbrev pub ApartTo : (kind present : List ℕ) (i : ℕ) → Type 0
+ApartTo kind present i = (n : ℕ) → n / 64 < i → Holds kind n → Holds present n → ⊥
+
+pub apart_start : (kind present : List ℕ) → ApartTo kind present 0
+apart_start kind present = λ n l. absurd (omega (arith, l))
+
+pub apart_next : (kind present : List ℕ) (a b i : ℕ) → ApartTo kind present i → a ≡ get_or kind i 0 → b
+    ≡ get_or present i 0 → bit_and a b ≡ 0 → ApartTo kind present (i + 1)
+apart_next kind present a b i so_far is is' none = λ n l there too. by n there too
+    (eq-or-lt_of_le (let z : n / 64 ≤ i = omega (arith, l) in z))
+  where
+    by : (n : ℕ) → Holds kind n → Holds present n → (n / 64 ≡ i) ⊎ (n / 64 < i) → ⊥
+    by n there too (inr h) = so_far n h there too
+    by n there too (inl e) =
+        let bit = in_both kind present n a b (is ∙ ap (λ j. get_or kind j 0) (sym e)) (is' ∙ ap (λ j. get_or present j 0)
+        (sym e)) there too in
+        let z = sym bit ∙ ap (λ w. bit_at w (n % 64)) none ∙ bit_at-zero (n % 64) in
+        omega (arith, z)
+
+pub apart_end : (kind present : List ℕ) (i : ℕ) → length kind ≤ i → ApartTo kind present i → Apart kind present
+apart_end kind present i end so_far = λ n there too. by n there too (eq-or-not (get_or kind (n / 64) 0) 0)
+  where
+    by : (n : ℕ) → Holds kind n → Holds present n → (get_or kind (n / 64) 0 ≡ 0) ⊎ (get_or kind (n / 64) 0 ≢ 0) → ⊥
+    by n there too (inl e) = let z = sym there ∙ ap (λ w. bit_at w (n % 64)) e ∙ bit_at-zero (n % 64) in omega (arith, z)
+    by n there too (inr d) = so_far n
+        (let z = not_past kind (n / 64) 0 (omega (arith, d)) in omega (arith, z, end)) there too
+
+-- none is in an empty set
+pub apart_none : (kind present : List ℕ) → length present ≡ 0 → Apart kind present
+apart_none kind present none = λ n there too. by n too (eq-or-not (get_or present (n / 64) 0) 0)
+  where
+    by : (n : ℕ) → Holds present n → (get_or present (n / 64) 0 ≡ 0) ⊎ (get_or present (n / 64) 0 ≢ 0) → ⊥
+    by n too (inl e) = let z = sym too ∙ ap (λ w. bit_at w (n % 64)) e ∙ bit_at-zero (n % 64) in omega (arith, z)
+    by n too (inr d) = let z = not_past present (n / 64) 0 (omega (arith, d)) in omega (arith, z, none)

@@ -21,7 +21,7 @@ abbrev pub AreAlike : List Meaning → (places : List ℕ) → Type 0
 AreAlike known places = (i j : ℕ) → slice_get places i ≡ Some j → (i < length known) × (j < length known)
     × (outline_in known j ≡ outline_in known i)
 
--- the block that is so many blocks out: its names, and what is known of them
+-- the block that is a number of blocks out: its names, and what is known of them
 abbrev pub block_at : ℕ → List Region → Option (List (List ℕ) × List Meaning)
 block_at up [] = None
 block_at zero (BlockRegion routine names known ∷ Γ) = Some (names, known)
@@ -29,7 +29,7 @@ block_at (suc up) (BlockRegion routine names known ∷ Γ) = block_at up Γ
 block_at up (RecordRegion type fields ∷ Γ) = block_at up Γ
 block_at up (OwnNames names defined ∷ Γ) = block_at up Γ
 
--- the record that is so many opened records out, by its type
+-- the record that is a number of opened records out, by its type
 abbrev pub record_at : ℕ → List Region → Option DataType
 record_at which [] = None
 record_at zero (RecordRegion type fields ∷ Γ) = Some type

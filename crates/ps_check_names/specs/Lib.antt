@@ -13,3 +13,4 @@ pub mod Alike
 pub mod Sets
 pub mod Wides
 pub mod Marks
+pub mod Nests

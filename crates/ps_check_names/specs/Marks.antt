@@ -1,10 +1,10 @@
 -- Marks of names: small numbers, of which one is made of a name once, and is then looked for in many sets.
-use Rattle.std.specs.Prelude.{◌≡◌, ◌%◌, ℕ, List, [], length, Some, slice_get, get_or}
+use Rattle.std.specs.Prelude.{◌≡◌, ◌%◌, ℕ, List, Option, None, Some, slice_get}
 use Rattle.std.specs.Hash.FoldHasher as folding
 use Rattle.std.specs.declared.hash.FoldHasher.{FoldHasher}
 use Rattle.ps_tree.specs.declared.types.Ty.{Ty}
 use Rattle.ps_check_names.specs.Opened.{HasField}
-use Rattle.ps_check_names.specs.Sets.{Holds}
+use Rattle.ps_check_names.specs.Sets.{Holds, Apart}
 
 -- the mark of a name, where hashes begin so
 abbrev pub mark_of : FoldHasher → List ℕ → ℕ
@@ -18,10 +18,12 @@ IsMark state number s = (start : FoldHasher) → folding.finish start ≡ state 
 abbrev pub MarkedFor : Ty → FoldHasher → (marks : List ℕ) → Type 0
 MarkedFor ty start marks = (s : List ℕ) → HasField ty s → Holds marks (mark_of start s)
 
--- so have those of all records
-abbrev pub Marked : List Ty → FoldHasher → (marks : List ℕ) → Type 0
-Marked records start marks = (k : ℕ) (ty : Ty) → slice_get records k ≡ Some ty → MarkedFor ty start marks
+-- so have those of all records that are of no wide type
+abbrev pub Marked : List Ty → (places : List (Option ℕ)) → FoldHasher → (marks : List ℕ) → Type 0
+Marked records places start marks = (k : ℕ) (ty : Ty) → slice_get records k ≡ Some ty → slice_get places k ≡ Some None
+    → MarkedFor ty start marks
 
--- each type has a set of its own
-abbrev pub MarkedTypes : List Ty → FoldHasher → (sets : List (List ℕ)) → Type 0
-MarkedTypes types start sets = (length sets ≡ length types) × ((n : ℕ) (ty : Ty) → slice_get types n ≡ Some ty → MarkedFor ty start (get_or sets n []))
+-- a name that no wide type in the set has is that of no field of the records, unless it has its mark in the other set
+abbrev pub Shown : List Ty → FoldHasher → (marks : List ℕ) → (kinds : List ℕ → List ℕ) → (present : List ℕ) → Type 0
+Shown records start marks kinds present = (s : List ℕ) (k : ℕ) (ty : Ty) → slice_get records k ≡ Some ty → HasField ty s
+    → Apart (kinds s) present → Holds marks (mark_of start s)

@@ -6,7 +6,7 @@ use Rattle.ps_tree.specs.Types.{DataType, field_in, field_names}
 use Rattle.ps_tree.specs.Names.{place}
 use Rattle.ps_tree.specs.View.{type_of}
 use Rattle.ps_check_names.specs.Regions.{fields_of}
-use Rattle.ps_check_names.specs.Sets.{Passed}
+use Rattle.ps_check_names.specs.Sets.{Holds, Passed}
 
 -- a record of this type has a field of this name
 abbrev pub HasField : Ty → List ℕ → Type 0
@@ -26,6 +26,12 @@ abbrev pub Covers : List Ty → (asked : ℕ) (names : List (List ℕ)) (reaches
     (present latest : List ℕ) → Type 0
 Covers records asked names reaches kinds present latest = (s : List ℕ) (k : ℕ) (ty : Ty) → slice_get records k ≡ Some ty
     → HasField ty s → asked ≤ k → Passed (kinds s) present latest k → k < reach_of names reaches s
+
+-- a record that has a field of the name is one of the first n, if it is behind the last of each wide type that has the
+-- name
+abbrev pub Narrow : List Ty → (kinds : List ℕ → List ℕ) → (present latest : List ℕ) → List ℕ → ℕ → Type 0
+Narrow records kinds present latest s n = (k : ℕ) (ty : Ty) → slice_get records k ≡ Some ty → HasField ty s → Passed
+    (kinds s) present latest k → k < n
 
 -- how many characters names take, each with a comma
 abbrev pub written_length : List (List ℕ) → ℕ
@@ -59,6 +65,11 @@ abbrev pub Placed : List Ty → (places : List (Option ℕ)) → (types : List T
 Placed records places types = (length places ≡ length records) × ((k place : ℕ) → slice_get places k
     ≡ Some (Some place) → (place < length types) × ((s : List ℕ) → has_field_at records k s
     ≡ has_field_at types place s))
+
+-- a wide type that a record has is in the set, and reaches behind the record
+abbrev pub Reaching : (places : List (Option ℕ)) → (present latest : List ℕ) → Type 0
+Reaching places present latest = (k place : ℕ) → slice_get places k ≡ Some (Some place) → Holds present place
+    × (k < get_or latest place 0)
 
 -- what is noted stays so
 abbrev pub Keeps : (names : List (List ℕ)) (reaches : List ℕ) (names' : List (List ℕ)) (reaches' : List ℕ) → Type 0

@@ -5,7 +5,8 @@ unfoldable pub use Rattle.ps_check_names.specs.MeaningViews.{meaning_of}
 use Rattle.std.specs.Prelude.{ℕ, List, [], ◌∷◌, map}
 use Rattle.ps_tree.specs.declared.types.Ty.{Ty}
 use Rattle.ps_tree.specs.View.{type_of}
-use Rattle.ps_check_names.specs.declared.scope.Scope.{Scope, Outside, Block', Opened', Own'}
+use Rattle.ps_check_names.specs.declared.scope.Scope.{Scope, Outside, Block', Opened', Nested', Own'}
+use Rattle.ps_check_names.specs.declared.wides.Wides.{Wides}
 use Rattle.ps_check_names.specs.declared.scope.Lookup.{Lookup}
 use Rattle.ps_check_names.specs.declared.scope.Lookup.TheVariants as l
 use Rattle.ps_check_names.specs.declared.scope.Found.{Found}
@@ -14,6 +15,7 @@ use Rattle.ps_check_names.specs.declared.reading.Reading.{Reading}
 use Rattle.ps_check_names.specs.declared.constants.ConstantValue as RustConstant
 use Rattle.ps_check_names.specs.declared.constants.ConstantValue.TheVariants as c
 use Rattle.ps_check_judgement.specs.Judged.{Judged, Yes, No}
+use Rattle.ps_check_names.specs.Nests.{levels_of, records_in}
 use Rattle.ps_check_names.specs.Constants.{ConstantValue, OrdinalConstant, TextConstant}
 use Rattle.ps_check_names.specs.Regions.{Region, BlockRegion, RecordRegion, OwnNames, fields_of, Point, BlockPoint}
 use Rattle.ps_check_names.specs.Regions.{FieldPoint, Context}
@@ -28,7 +30,13 @@ scope_of Outside = []
 scope_of (Block' routine names known p outer) = BlockRegion routine names.now (map meaning_of known.all.now)
     ∷ scope_of outer
 scope_of (Opened' records p outer) = opened_in (scope_of outer) records.now.records.items
+scope_of (Nested' nest p outer) = opened_in (scope_of outer) (records_in (levels_of nest.now.levels))
 scope_of (Own' names defined p outer) = OwnNames names.now defined ∷ scope_of outer
+
+-- the wide types by which a `with` statement within these regions opens records: those of the one round it, or else these
+unfoldable pub wides_within : Scope → Wides → Wides
+wides_within (Nested' nest p outer) wides = nest.now.wides.now
+wides_within _ wides = wides
 
 abbrev pub point_of : Found → Point
 point_of (f.Name up meaning) = BlockPoint up (meaning_of meaning.now)

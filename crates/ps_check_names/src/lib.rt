@@ -5,6 +5,7 @@ pub mod constants;
 pub mod marks;
 pub mod meaning;
 pub mod meanings;
+pub mod nests;
 pub mod opened;
 pub mod reading;
 pub mod scope;

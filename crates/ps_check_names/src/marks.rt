@@ -11,7 +11,7 @@ use crate::sets::{insert, number_at};
 use std::alloc::AllocError;
 use std::hash::{FoldHasher, Hasher};
 
-// How many marks there are: so many that the sets of 490 `with` statements round a name, which share a text, are sparse.
+// How many marks there are: the sets of 490 `with` statements round a name, which share a text, are sparse then.
 const MARKS: u64 = 16384;
 
 /// The mark of a name, and the state in which its hash began.

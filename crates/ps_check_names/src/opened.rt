@@ -1,19 +1,19 @@
 //! The records that a `with` opens (ISO 7185, 6.8.3.10).
 
-ghost use Rattle.std.specs.Prelude.{◌≡◌, ◌≤◌, ◌<◌, ◌++◌, [], ◌∷◌, ℕ, List, length, map, set, get_or, slice_get, IfOk};
-ghost use Rattle.std.specs.Prelude.{OnOk, IfSome, IsTrue, Option, Some, None, option_map};
+ghost use Rattle.std.specs.Prelude.{◌≡◌, ◌≢◌, ◌≤◌, ◌<◌, ◌++◌, [], ◌∷◌, ℕ, List, length, map, set, get_or, slice_get, IfOk};
+ghost use Rattle.std.specs.Prelude.{OnOk, IfSome, IfNone, IsTrue, Option, Some, None, option_map};
 ghost use Rattle.ps_tree.specs.Names.{place};
 ghost use Rattle.ps_tree.specs.Types.{DataType, field_in, outline};
 ghost use Rattle.ps_tree.specs.View.{type_of};
 ghost use Rattle.ps_check_names.specs.Regions.{fields_of};
-ghost use Rattle.ps_check_names.specs.Opened.{HasField, reach_of, Covers, Keeps, NoneBehind, StandsIn, Placed};
+ghost use Rattle.ps_check_names.specs.Opened.{HasField, Narrow, reach_of, Covers, Keeps, NoneBehind, StandsIn, Placed, Reaching};
 ghost use Rattle.ps_check_names.specs.Sets.{Holds, Reached};
 ghost use Rattle.ps_check_names.specs.Wides.{kind_of};
 ghost use Rattle.ps_check_names.specs.Marks.{IsMark, MarkedFor, Marked};
 ghost use Rattle.std.specs.Hash.FoldHasher.{finish};
 
 use crate::marks::{Mark, mark_all};
-use crate::sets::{insert, join};
+use crate::sets::insert;
 use crate::wides::{Wides, common_reach, larger, names_of, raise_at};
 use ps_tree::names::{Names, Seed};
 use ps_tree::types::Ty;
@@ -26,28 +26,29 @@ use std::hash::FoldHasher;
 /// So that a name needs not be looked for in each of them, the names of their fields are noted. For a record of a wide
 /// type that was done when its type was made, and it is only noted how far the last record of the type reaches. The
 /// first record of a `with` is asked, unless its type is wide: most have no other. So that a name needs not be looked
-/// for in each of many `with` statements round it, the marks of all these names are noted: most names without a field
-/// here have a mark that is not among them.
+/// for in each of many `with` statements round it, the marks of those are noted that are not of wide types: most names
+/// without such a field have a mark that is not among them.
 #[derive(Drop)]
 pub struct Opened<'a> {
     pub records: Vec<Ty>,
     // the wide types
-    wides: &'a Wides,
+    pub wides: &'a Wides,
     // how many of the records are asked
     asked: usize,
     // the names of fields, and how many of the records there are up to the last that has the field
     names: Names,
     reaches: Vec<usize>,
-    // the marks of the names of fields
-    marks: Vec<usize>,
+    // the marks of the names of the fields of records that are of no wide type
+    pub(crate) marks: Vec<usize>,
     // the set of the wide types that are opened, and how many records there are up to the last of each
-    present: Vec<usize>,
+    pub(crate) present: Vec<usize>,
     latest: Vec<usize>,
     // for each record the number of its type, if that is wide
     places: Vec<Option<usize>>,
     ghost covers: { Covers records.items asked names reaches.items (kind_of wides.now.names
         (map (λ v. v.items) wides.now.kinds.items)) present.items latest.items },
-    ghost marked: { Marked records.items wides.now.start marks.items },
+    ghost marked: { Marked records.items places.items wides.now.start marks.items },
+    ghost reaching: { Reaching places.items present.items latest.items },
     ghost even: { length reaches.items ≡ length names },
     ghost placed: { Placed records.items places.items wides.now.types.items },
 }
@@ -76,7 +77,7 @@ fn raise(numbers: &mut Vec<usize>, index: usize, least: usize) -> usize
     raised
 }
 
-/// Notes that so many records there are up to one that has a field of this name, which is new.
+/// Notes that `reach` records lead up to one that has a field of this name, which is new.
 #[tactic(auto, using(crate::proofs::NoteLemmas::more_even))]
 fn note_new(
     alloc: Global,
@@ -96,7 +97,7 @@ fn note_new(
     Ok(())
 }
 
-/// Notes that so many records there are up to one that has a field of this name.
+/// Notes that `reach` records lead up to one that has a field of this name.
 #[tactic(auto, using(crate::proofs::NoteLemmas::further_keeps, crate::proofs::NoteLemmas::further_noted, crate::proofs::NoteLemmas::further_room, crate::proofs::NoteLemmas::further_even))]
 fn note(
     alloc: Global,
@@ -140,7 +141,7 @@ fn note_all(
     Ok(())
 }
 
-/// Notes the fields of the last of so many records, or that it is to be asked.
+/// Notes the fields of the last of `reach` records, or that it is to be asked.
 #[tactic(auto, using(crate::proofs::NoteLemmas::record_noted, crate::proofs::NoteLemmas::record_asked, crate::proofs::NoteLemmas::keeps_same))]
 fn note_record(
     alloc: Global,
@@ -197,7 +198,8 @@ fn smaller(a: usize, b: usize) -> usize
 
 /// The number of the type of the record with this number, if that is wide.
 fn place_at(places: &[Option<usize>], number: usize) -> Option<usize>
-    ensures { IfSome result (λ place. slice_get places.now number ≡ Some (Some place)) }
+    ensures some { IfSome result (λ place. slice_get places.now number ≡ Some (Some place)) }
+    ensures none { IfNone result ((place : ℕ) → slice_get places.now number ≢ Some (Some place)) }
 {
     match places.get(number) {
         None => None,
@@ -207,9 +209,10 @@ fn place_at(places: &[Option<usize>], number: usize) -> Option<usize>
 
 impl<'a> Opened<'a> {
     /// No records, of a text with this seed and these wide types.
-    #[tactic(auto, using(crate::proofs::NoteLemmas::covers_none, crate::proofs::MarkLemmas::marked_none, crate::proofs::PlaceLemmas::placed_none))]
+    #[tactic(auto, using(crate::proofs::NoteLemmas::covers_none, crate::proofs::MarkLemmas::marked_none, crate::proofs::PlaceLemmas::placed_none, crate::proofs::PlaceLemmas::reaching_none))]
     pub fn new(alloc: Global, seed: Seed, wides: &'a Wides) -> Opened<'a>
-        ensures { result.records.items ≡ [] }
+        ensures records { result.records.items ≡ [] }
+        ensures wides { result.wides.now ≡ wides.now }
     {
         Opened {
             records: Vec::new(alloc),
@@ -226,7 +229,8 @@ impl<'a> Opened<'a> {
 
     /// One record more, within these.
     pub fn with(self, alloc: Global, ty: Ty) -> Result<Opened<'a>, AllocError>
-        ensures { IfOk result (λ opened. opened.records.items ≡ self.entry.records.items ++ ty ∷ []) }
+        ensures records { IfOk result (λ opened. opened.records.items ≡ self.entry.records.items ++ ty ∷ []) }
+        ensures wides { IfOk result (λ opened. opened.wides.now ≡ self.entry.wides.now) }
     {
         match self.wides.number_of(&ty) {
             Some(number) => self.with_wide(ty, number),
@@ -237,7 +241,8 @@ impl<'a> Opened<'a> {
     /// The same of a record whose fields are noted with it, and perhaps are marked already.
     fn with_narrow(self, alloc: Global, ty: Ty, is_marked: bool) -> Result<Opened<'a>, AllocError>
         requires { IsTrue is_marked → MarkedFor ty self.wides.now.start self.marks.items }
-        ensures { IfOk result (λ opened. opened.records.items ≡ self.entry.records.items ++ ty ∷ []) }
+        ensures records { IfOk result (λ opened. opened.records.items ≡ self.entry.records.items ++ ty ∷ []) }
+        ensures wides { IfOk result (λ opened. opened.wides.now ≡ self.entry.wides.now) }
     {
         let Opened {
             mut records,
@@ -271,7 +276,8 @@ impl<'a> Opened<'a> {
     /// The same of a record of the type with this number.
     fn with_wide(self, ty: Ty, number: usize) -> Result<Opened<'a>, AllocError>
         requires { StandsIn ty self.wides.now.types.items number }
-        ensures { IfOk result (λ opened. opened.records.items ≡ self.entry.records.items ++ ty ∷ []) }
+        ensures records { IfOk result (λ opened. opened.records.items ≡ self.entry.records.items ++ ty ∷ []) }
+        ensures wides { IfOk result (λ opened. opened.wides.now ≡ self.entry.wides.now) }
     {
         let Opened {
             mut records,
@@ -279,13 +285,12 @@ impl<'a> Opened<'a> {
             asked,
             names,
             reaches,
-            mut marks,
+            marks,
             mut present,
             mut latest,
             mut places,
         } = self;
         let before = records.as_slice().len();
-        join(&mut marks, wides.marks_of(number))?;
         insert(&mut present, number)?;
         raise_at(&mut latest, number, before + 1)?;
         places.push(Some(number))?;
@@ -313,7 +318,8 @@ impl<'a> Opened<'a> {
     ) -> Result<Opened<'a>, AllocError>
         requires { (other : Ty) → slice_get self.records.items like ≡ Some other
             → outline (type_of another) ≡ outline (type_of other) }
-        ensures { IfOk result (λ opened. opened.records.items ≡ self.entry.records.items ++ another ∷ []) }
+        ensures records { IfOk result (λ opened. opened.records.items ≡ self.entry.records.items ++ another ∷ []) }
+        ensures wides { IfOk result (λ opened. opened.wides.now ≡ self.entry.wides.now) }
     {
         match place_at(self.places.as_slice(), like) {
             Some(number) => self.with_wide(another, number),
@@ -383,29 +389,32 @@ impl<'a> Opened<'a> {
         reach
     }
 
-    /// The number of records up to the last that may have a field of this name.
-    fn marked_reach(&self, name: &[u8]) -> usize
-        ensures within { result ≤ length self.now.records.items }
-        ensures none { NoneBehind self.now.records.items result name.now }
+    /// The number of records up to the last that has a field of this name, behind the last of each wide type that has it:
+    /// none where no such field has the mark of the name.
+    fn narrow_reach(&self, name: &[u8], mark: Mark) -> usize
+        requires mark { IsMark mark.state mark.number name.now }
+        requires own { mark.state ≡ finish self.now.wides.now.start }
+        ensures { Narrow self.now.records.items (kind_of self.now.wides.now.names
+            (map (λ v. v.items) self.now.wides.now.kinds.items)) self.now.present.items self.now.latest.items name.now
+            result }
     {
-        let noted = larger(self.noted_reach(name), self.wide_reach(name));
-        let reach = larger(noted, self.asked_reach(name));
-        let count = self.records.as_slice().len();
-        smaller(reach, count)
+        if mark.is_in(self.marks.as_slice()) {
+            larger(self.noted_reach(name), self.asked_reach(name))
+        } else {
+            0
+        }
     }
 
-    /// The same, at once where no field has the mark of the name.
+    /// The number of records up to the last that may have a field of this name.
     pub(crate) fn reach(&self, name: &[u8], mark: Mark) -> usize
         requires mark { IsMark mark.state mark.number name.now }
         requires own { mark.state ≡ finish self.now.wides.now.start }
         ensures within { result ≤ length self.now.records.items }
         ensures none { NoneBehind self.now.records.items result name.now }
     {
-        if mark.is_in(self.marks.as_slice()) {
-            self.marked_reach(name)
-        } else {
-            0
-        }
+        let reach = larger(self.narrow_reach(name, mark), self.wide_reach(name));
+        let count = self.records.as_slice().len();
+        smaller(reach, count)
     }
 
     /// The mark of a name by which it is looked for here: the one that is known of it, if that is the same.

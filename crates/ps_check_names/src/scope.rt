@@ -5,7 +5,8 @@ ghost use Rattle.std.specs.Prelude.{if◌then◌else◌, nat_lt};
 ghost use Rattle.ps_check_judgement.specs.Judged.{Answers};
 ghost use Rattle.ps_check_judgement.specs.declared.refusal.Rule.TheVariants.{WrongKind, UsedBefore};
 ghost use Rattle.ps_check_names.specs.Regions.{Region, BlockRegion, one_more, missing, find_past, find};
-ghost use Rattle.ps_check_names.specs.Views.{meaning_of, opened_in, scope_of, point_of, found};
+ghost use Rattle.ps_check_names.specs.Views.{meaning_of, opened_in, scope_of, point_of, found, wides_within};
+ghost use Rattle.ps_check_names.specs.Nests.{levels_of, records_in, StartWith};
 ghost use Rattle.ps_check_names.specs.Denotes.{FindsWhatIsDenoted};
 ghost use Rattle.ps_check_names.specs.Alike.{IsPlace, block_at};
 ghost use Rattle.ps_check_names.specs.Marks.{IsMark};
@@ -14,11 +15,14 @@ ghost use Rattle.std.specs.Hash.FoldHasher.{finish};
 use crate::marks::Mark;
 use crate::meaning::Meaning;
 use crate::meanings::Meanings;
+use crate::nests::{Levels, Nest};
 use crate::opened::{Opened, field_of};
+use crate::wides::Wides;
 use ps_check_judgement::answer::broken;
 use ps_check_judgement::refusal::{CheckFault, Rule};
 use ps_tree::names::Names;
 use ps_tree::types::Ty;
+use std::alloc::{AllocError, Global};
 
 /// The regions that enclose a place, from the inside out.
 #[derive(Clone, Copy)]
@@ -36,6 +40,11 @@ pub enum Scope<'a> {
     /// has no fields.
     Opened {
         records: &'a Opened<'a>,
+        outer: &'a Scope<'a>,
+    },
+    /// The records that some `with` statements open, each of which stands within the one before it.
+    Nested {
+        nest: &'a Nest<'a>,
         outer: &'a Scope<'a>,
     },
     /// A record within its own denoter, a list of formal parameters, or the variables of a declaration: their names,
@@ -170,6 +179,55 @@ fn past_records<'a>(records: &'a [Ty], which: u32, name: &[u8]) -> Result<u32, L
     Ok(passed)
 }
 
+/// The same of the records of statements, the last of which is the innermost.
+fn past_levels<'a>(
+    levels: &'a Levels<'a>,
+    which: u32,
+    name: &[u8],
+    mark: Mark,
+) -> Result<u32, Lookup<'a>>
+    requires mark { IsMark mark.state mark.number name.now }
+    requires own { StartWith (levels_of levels.now) mark.state }
+    ensures ok { IfOk result (λ n. (up at : ℕ) (Γ : List Region) → find_past up which
+        (opened_in Γ (records_in (levels_of levels.now))) name.now at ≡ find_past up n Γ name.now at) }
+    ensures err { IfErr result (λ end. (up at : ℕ) (Γ : List Region) → find_past up which
+        (opened_in Γ (records_in (levels_of levels.now))) name.now at ≡ found at end) }
+{
+    let mut left = levels;
+    let mut passed = which;
+    loop {
+        match left {
+            Levels::One { opened } => return past_opened(opened, passed, name, mark),
+            Levels::Within { opened, outer } => {
+                match past_opened(opened, passed, name, mark) {
+                    Ok(further) => passed = further,
+                    Err(end) => return Err(end),
+                }
+                left = outer;
+            }
+        }
+    }
+}
+
+/// The same of a nest of statements, which are passed at once where none has a field of the name.
+#[tactic(auto, using(crate::proofs::NestLemmas::nest_uncounted))]
+fn past_nest<'a>(nest: &'a Nest<'a>, which: u32, name: &[u8], mark: Mark) -> Result<u32, Lookup<'a>>
+    requires mark { IsMark mark.state mark.number name.now }
+    requires own { mark.state ≡ finish nest.now.wides.now.start }
+    ensures ok { IfOk result (λ n. (up at : ℕ) (Γ : List Region) → find_past up which
+        (opened_in Γ (records_in (levels_of nest.now.levels))) name.now at ≡ find_past up n Γ name.now at) }
+    ensures err { IfErr result (λ end. (up at : ℕ) (Γ : List Region) → find_past up which
+        (opened_in Γ (records_in (levels_of nest.now.levels))) name.now at ≡ found at end) }
+{
+    if nest.may_have(name, mark) {
+        return past_levels(&nest.levels, which, name, mark);
+    }
+    match more(which, nest.count) {
+        None => Err(Lookup::Broken(missing(name))),
+        Some(passed) => Ok(passed),
+    }
+}
+
 /// The defining point that a name denotes at a place that these regions enclose.
 #[tactic(auto, unfolding(crate::specs::Regions::find_past, crate::specs::Views::scope_of))]
 pub fn find<'a>(scope: &'a Scope<'a>, name: &[u8]) -> Lookup<'a>
@@ -197,6 +255,15 @@ pub fn find<'a>(scope: &'a Scope<'a>, name: &[u8]) -> Lookup<'a>
             Scope::Opened { records, outer } => {
                 let mark = records.mark(name, known_mark);
                 match past_opened(records, which, name, mark) {
+                    Ok(further) => which = further,
+                    Err(end) => return end,
+                }
+                known_mark = Some(mark);
+                here = outer;
+            }
+            Scope::Nested { nest, outer } => {
+                let mark = nest.mark(name, known_mark);
+                match past_nest(nest, which, name, mark) {
                     Ok(further) => which = further,
                     Err(end) => return end,
                 }
@@ -236,7 +303,7 @@ fn place_alike(names: &Names, known: Meanings<'_>, name: &[u8]) -> Option<usize>
     Some(known.alike(place))
 }
 
-/// The place of a name, or of one that is alike, in the block that is so many blocks out.
+/// The place of a name, or of one that is alike, in the block that is `up` blocks out.
 pub fn place_in_block(scope: &Scope, up: u32, name: &[u8]) -> Option<usize>
     ensures { IfSome result (λ n. IsPlace (block_at up (scope_of scope.now)) name.now n) }
 {
@@ -258,6 +325,7 @@ pub fn place_in_block(scope: &Scope, up: u32, name: &[u8]) -> Option<usize>
                 here = outer;
             }
             Scope::Opened { outer, .. } => here = outer,
+            Scope::Nested { outer, .. } => here = outer,
             Scope::Own { outer, .. } => here = outer,
         }
     }
@@ -293,3 +361,36 @@ fn missing(name: &[u8]) -> Rule
 pub fn scope_rules()
     ensures { FindsWhatIsDenoted }
 {}
+
+/// The wide types by which the records of a `with` within these regions are opened: those of the statement round it, or
+/// else these.
+#[tactic(auto, unfolding(crate::specs::Views::wides_within))]
+pub fn wides_within<'a>(scope: &'a Scope<'a>, wides: &'a Wides) -> &'a Wides
+    ensures { result.now ≡ wides_within scope.now wides.now }
+{
+    match scope {
+        Scope::Nested { nest, .. } => nest.wides,
+        _ => wides,
+    }
+}
+
+/// The statements round the statements of a `with` that opens these records within these regions, and the regions round
+/// them.
+#[tactic(auto, using(crate::proofs::NestLemmas::nest_more, crate::proofs::NestLemmas::nest_one), unfolding(crate::specs::Views::scope_of, crate::specs::Views::wides_within))]
+pub fn nest_within<'a>(
+    alloc: Global,
+    scope: &'a Scope<'a>,
+    wides: &'a Wides,
+    opened: &'a Opened<'a>,
+) -> Result<(Nest<'a>, &'a Scope<'a>), AllocError>
+    requires { opened.now.wides.now ≡ wides_within scope.now wides.now }
+    ensures { IfOk result (λ r. opened_in (scope_of r.1.now) (records_in (levels_of r.0.levels))
+        ≡ opened_in (scope_of scope.now) opened.now.records.items) }
+{
+    match scope {
+        Scope::Nested { nest, outer } if nest.has_room(opened) => {
+            Ok((nest.with(alloc, opened)?, *outer))
+        }
+        _ => Ok((Nest::new(alloc, opened)?, scope)),
+    }
+}

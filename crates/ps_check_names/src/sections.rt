@@ -134,7 +134,7 @@ fn host(ty: &Ty) -> Option<u32>
     }
 }
 
-/// The word of so many parameters of a type, if it fits.
+/// The word of `count` parameters of a type, if it fits.
 fn first_word(ty: &Ty, count: u32, kind: u32) -> Option<u32>
     requires { kind ≤ 8 }
     ensures { result ≡ (if fits_type count (type_of ty.now) then Some (first_word count kind (type_of ty.now))
@@ -147,7 +147,7 @@ fn first_word(ty: &Ty, count: u32, kind: u32) -> Option<u32>
     Some((number as u32 * 32 + (count - 1)) * 16 + (form + kind))
 }
 
-/// Adds the words of so many parameters of a type. Returns whether they fit.
+/// Adds the words of `count` parameters of a type. Returns whether they fit.
 fn add_type(ty: &Ty, count: u32, kind: u32, code: &mut Vec<u32>) -> Result<bool, AllocError>
     requires { kind ≤ 8 }
     ensures fits { IfOk result (λ fits. fits ≡ fits_type count (type_of ty.now)) }

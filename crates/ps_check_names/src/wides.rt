@@ -1,18 +1,16 @@
 //! The wide record types of a program, of which the names of the fields are long together, and which of them have a field
 //! of a name.
 
-ghost use Rattle.std.specs.Prelude.{◌≡◌, ◌+◌, ◌≤◌, ◌<◌, ℕ, List, [], length, map, get_or, Some, None, set, IfSome, IfNone, OnOk, IsTrue, nat_lt};
+ghost use Rattle.std.specs.Prelude.{◌≡◌, ◌+◌, ◌≤◌, ◌<◌, ℕ, List, [], length, map, get_or, Some, None, set, IfSome, IfNone, OnOk, IsTrue, nat_lt, false};
 ghost use Rattle.std.specs.Int.{bit_at};
 ghost use Rattle.ps_tree.specs.Names.{place};
 ghost use Rattle.ps_tree.specs.Types.{DataType, field_in};
 ghost use Rattle.ps_tree.specs.View.{type_of};
 ghost use Rattle.ps_check_names.specs.Regions.{fields_of};
 ghost use Rattle.ps_check_names.specs.Opened.{HasField, IsLike, StandsIn, is_wide, written_length};
-ghost use Rattle.ps_check_names.specs.Sets.{Holds, Reached};
+ghost use Rattle.ps_check_names.specs.Sets.{Holds, Reached, Apart};
 ghost use Rattle.ps_check_names.specs.Wides.{kind_of, Listed, KeepsKinds};
-ghost use Rattle.ps_check_names.specs.Marks.{MarkedFor, MarkedTypes};
 
-use crate::marks::mark_all;
 use crate::sets::{insert, lengthen, number_at, put};
 use ps_tree::names::{Names, Seed};
 use ps_tree::types::{Fields, Ty};
@@ -177,6 +175,19 @@ pub(crate) fn common_reach(kind: &[usize], present: &[usize], latest: &[usize]) 
     reach
 }
 
+/// Whether a number may be in two sets.
+#[tactic(auto, using(crate::proofs::WideLemmas::apart_start, crate::proofs::WideLemmas::apart_next, crate::proofs::WideLemmas::apart_end))]
+pub(crate) fn meet(kind: &[usize], present: &[usize]) -> bool
+    ensures { result ≡ false → Apart kind.now present.now }
+{
+    for i in 0..kind.len() {
+        if number_at(kind, i) & number_at(present, i) != 0 {
+            return true;
+        }
+    }
+    false
+}
+
 /// Notes that the type with this number has a field of this name, which is new.
 fn note_new(
     alloc: Global,
@@ -257,7 +268,7 @@ fn key_of(at: u32) -> [u8; 4] {
 
 /// The wide record types of a program so far, by their numbers. Each has an offset of its own, by which
 /// it is found. For the name of a field there is the set of the types that have it, so that none of them is asked for a
-/// name, and for each type there is the set of the marks of its fields' names.
+/// name.
 #[derive(Drop)]
 pub struct Wides {
     pub(crate) types: Vec<Ty>,
@@ -266,10 +277,8 @@ pub struct Wides {
     pub(crate) kinds: Vec<Vec<usize>>,
     // how the hashes begin by which marks are made
     pub(crate) start: FoldHasher,
-    pub(crate) marks: Vec<Vec<usize>>,
     ghost listed: { Listed types.items names (map (λ v. v.items) kinds.items) },
     ghost even: { length kinds.items ≡ length names },
-    ghost marked: { MarkedTypes types.items start (map (λ v. v.items) marks.items) },
 }
 
 impl Wides {
@@ -281,7 +290,6 @@ impl Wides {
             names: Names::new(alloc, seed),
             kinds: Vec::new(alloc),
             start: seed.build_hasher(),
-            marks: Vec::new(alloc),
         }
     }
 
@@ -304,13 +312,9 @@ impl Wides {
             mut names,
             mut kinds,
             start,
-            mut marks,
         } = self;
         let number = types.as_slice().len();
         note_all(alloc, &mut names, &mut kinds, fields, number)?;
-        let mut marked = Vec::new(alloc);
-        mark_all(&mut marked, start, fields)?;
-        marks.push(marked)?;
         let _added = keys.add(Vec::from_slice(alloc, key_of(at).as_slice())?)?;
         let copy = ty.copy()?;
         types.push(copy)?;
@@ -320,7 +324,6 @@ impl Wides {
             names,
             kinds,
             start,
-            marks,
         })
     }
 
@@ -352,16 +355,6 @@ impl Wides {
         match self.kinds.get(index) {
             None => &[],
             Some(kind) => kind.as_slice(),
-        }
-    }
-
-    /// The set of the marks of the names of the fields of the type with this number.
-    pub(crate) fn marks_of(&self, number: usize) -> &[usize]
-        ensures { result.now ≡ get_or (map (λ v. v.items) self.now.marks.items) number [] }
-    {
-        match self.marks.get(number) {
-            None => &[],
-            Some(marked) => marked.as_slice(),
         }
     }
 }

@@ -15,8 +15,9 @@ use Rattle.ps_check_names.specs.Regions.{BlockPoint, FieldPoint, one_more, missi
 use Rattle.ps_check_names.specs.Regions.{in_own, find_past}
 use Rattle.ps_check_names.specs.Spelling.{place}
 use Rattle.ps_check_names.specs.Views.{opened_in, scope_of}
+use Rattle.ps_check_names.specs.Nests.{levels_of, records_in}
 use Rattle.ps_check_names.specs.Alike.{block_at, record_at, outline_in_record}
-use Rattle.ps_check_names.specs.declared.scope.Scope.{Scope, Outside, Block', Opened', Own'}
+use Rattle.ps_check_names.specs.declared.scope.Scope.{Scope, Outside, Block', Opened', Nested', Own'}
 use Rattle.ps_check_names.proofs.NoteLemmas.{none_some}
 use Rattle.ps_check_names.proofs.OpenedLemmas.{opened_region}
 
@@ -83,6 +84,8 @@ unfolding scope_of Formed
 formed_scope Outside = tt
 formed_scope (Block' routine names known p outer) = formed_scope outer
 formed_scope (Opened' records p outer) = formed_opened records.now.records.items (scope_of outer) (formed_scope outer)
+formed_scope (Nested' nest p outer) = formed_opened (records_in (levels_of nest.now.levels)) (scope_of outer)
+    (formed_scope outer)
 formed_scope (Own' names defined p outer) = formed_scope outer
 
 -- a field by its number

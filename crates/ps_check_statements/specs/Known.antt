@@ -63,7 +63,7 @@ Targets _ pointer = ⊥
 abbrev pub IsLikeField : DataType → (number field : ℕ) → Type 0
 IsLikeField type number field = outline_in_record (Some type) field ≡ outline_in_record (Some type) number
 
--- what a name denotes by itself, within so many records
+-- what a name denotes by itself, within a number of records
 abbrev pub IsBase : List ℕ → List Region → Tree.PlaceBase → (count : ℕ) → Source → Type 0
 IsBase name Γ (Tree.Entry up index) count (src.Variable v place) = (v ≡ up) × IsPlace (block_at up Γ) name place
 IsBase name Γ (Tree.Opened which type number) count (src.Own record_number field) = (which + record_number + 1 ≡ count)

@@ -77,7 +77,8 @@ fn routine_out(scope: &Scope<'_>, further: u32) -> Option<u32>
                 left -= 1;
                 here = outer;
             }
-            Scope::Opened { outer, .. } | Scope::Own { outer, .. } => here = outer,
+            Scope::Opened { outer, .. } | Scope::Nested { outer, .. } | Scope::Own { outer, .. } =>
+                here = outer,
         }
     }
 }

@@ -8,11 +8,11 @@ use std::alloc::{AllocError, Global};
 /// What gives a record that a variable opens the fields of its type.
 #[derive(Clone, Copy)]
 pub(crate) enum Source {
-    /// A variable of the block that is so many blocks out: the place there of its name, or of one that is alike.
+    /// A variable of the block that is `up` blocks out: the place there of its name, or of one that is alike.
     Variable { up: u32, place: usize },
     /// A field of the record of the list with this number: its own number, or that of one that is alike.
     Own { record: usize, field: usize },
-    /// The same of a record so many records outside of the list.
+    /// The same of the record that is `which` records outside of the list.
     Outer { which: usize, field: usize },
     /// The pointer type with this number, whose domain it is.
     Pointed(u32),

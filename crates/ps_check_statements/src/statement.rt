@@ -21,7 +21,7 @@ use ps_check_expressions::value::{TypedValue, is_boolean};
 use ps_check_judgement::answer::{boxed_answer, broken, paired, push_answer};
 use ps_check_judgement::change::Change;
 use ps_check_judgement::refusal::{CheckFault, Rule};
-use ps_check_names::scope::Scope;
+use ps_check_names::scope::{Scope, nest_within, wides_within};
 use ps_syntax::{Direction as Way, Element, Expr as SyntaxExpr, Statement as Syntax, Variable};
 use ps_text::Span;
 use ps_tree::names::Seed;
@@ -328,11 +328,10 @@ fn with_statement(
         (spec.with_behind (context_at site.entry) ([], regions_at site.entry) records.now
         (spec.statement x.now) changes.old.items) }
 {
-    let (places, opened) = open_all(records, site, changes)?;
-    let scope = Scope::Opened {
-        records: &opened,
-        outer: site.scope,
-    };
+    let wides = wides_within(site.scope, site.reading.wides);
+    let (places, opened) = open_all(records, site, wides, changes)?;
+    let (nest, outer) = nest_within(site.alloc, site.scope, site.reading.wides, &opened)?;
+    let scope = Scope::Nested { nest: &nest, outer };
     let body = boxed(x, site.within(&scope), changes)?;
     Ok(Statement::With { places, body })
 }

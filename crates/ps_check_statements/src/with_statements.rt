@@ -24,7 +24,7 @@ use ps_check_judgement::change::Change;
 use ps_check_judgement::refusal::{CheckFault, Rule};
 use ps_check_names::opened::Opened;
 use ps_check_names::scope::{Scope, place_in_block};
-use ps_check_names::wides::is_wide;
+use ps_check_names::wides::{Wides, is_wide};
 use ps_syntax::{Selector as Syntax, Variable};
 use ps_text::Span;
 use ps_tree::tree::{OpenedField, Place, PlaceBase, Selector};
@@ -69,7 +69,7 @@ fn alike_field(ty: &Ty, number: u32) -> usize
     }
 }
 
-/// What gives a field of an opened record its type, within so many records.
+/// What gives a field of an opened record its type, within `count` records.
 fn source_of_field(field: &OpenedField, count: usize) -> Source
     ensures { (name : List ℕ) (Γ : List Region) → IsBase name Γ
         (Tree.Opened field.now.which (type_of field.now.ty) field.now.number) count result }
@@ -88,7 +88,7 @@ fn source_of_field(field: &OpenedField, count: usize) -> Source
     }
 }
 
-/// What gives a variable its type that a name denotes by itself, within so many records.
+/// What gives a variable its type that a name denotes by itself, within `count` records.
 fn source_of_name(
     name: Span,
     base: &PlaceBase,
@@ -129,7 +129,7 @@ fn source_of_target(place: &Place) -> Option<Source>
     Some(Source::Pointed(pointer))
 }
 
-/// What gives a record its type, within so many others: a name alone, or what the pointer that it denotes identifies.
+/// What gives a record its type, within `count` others: a name alone, or what the pointer that it denotes identifies.
 fn source_of(
     x: &Variable,
     place: &Place,
@@ -159,6 +159,7 @@ fn open_again<'a>(
     ensures records { IfOk result (λ all. all.0.records.items ≡ opened.entry.records.items ++ ty ∷ []) }
     ensures known { IfOk result (λ all. Knows (context_at site.entry).domains (regions_at site.entry)
         all.0.records.items all.1) }
+    ensures wides { IfOk result (λ all. all.0.wides.now ≡ opened.entry.wides.now) }
 {
     let key = key_of(site.alloc, source)?;
     match known.find(key.as_slice(), source) {
@@ -186,6 +187,7 @@ fn open_within<'a>(
     ensures records { IfOk result (λ all. all.0.records.items ≡ opened.entry.records.items ++ ty ∷ []) }
     ensures known { IfOk result (λ all. Knows (context_at site.entry).domains (regions_at site.entry)
         all.0.records.items all.1) }
+    ensures wides { IfOk result (λ all. all.0.wides.now ≡ opened.entry.wides.now) }
 {
     if is_wide(&ty) {
         let count = opened.records.as_slice().len();
@@ -223,6 +225,7 @@ fn open_next<'a>(
         ) x.now changes.old.items) }
     ensures known { IfOk result (λ all. Knows (context_at site.entry).domains (regions_at site.entry)
         all.0.records.items all.1) }
+    ensures wides { IfOk result (λ all. all.0.wides.now ≡ opened.entry.wides.now) }
 {
     let scope = Scope::Opened {
         records: &opened,
@@ -234,20 +237,22 @@ fn open_next<'a>(
     Ok(all)
 }
 
-/// Opens records one after the other, each within those before it: their places, and the records.
+/// Opens records one after the other, each within those before it, by these wide types: their places, and the records.
 pub(crate) fn open_all<'a>(
     records: &[Variable],
     site: Site<'a>,
+    wides: &'a Wides,
     changes: &mut Vec<Change>,
 ) -> Result<(Vec<Place>, Opened<'a>), CheckFault>
-    ensures { Answers result (λ p. (
+    ensures opened { Answers result (λ p. (
       (map place_of p.0.items, opened_in (regions_at site.entry) p.1.records.items),
       changes.new.items,
     )) (through (open_next (context_at site.entry))
         ([], regions_at site.entry) records.now changes.old.items) }
+    ensures wides { IfOk result (λ p. p.1.wides.now ≡ wides.now) }
 {
     let mut places = Vec::with_capacity(site.alloc, records.len())?;
-    let mut opened = Opened::new(site.alloc, site.reading.seed, site.reading.wides);
+    let mut opened = Opened::new(site.alloc, site.reading.seed, wides);
     let mut known = Known::new(site.alloc, site.reading.seed);
     for x in records {
         (opened, known) = open_next(x, site, changes, &mut places, opened, known)?;

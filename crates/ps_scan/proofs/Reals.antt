@@ -1,8 +1,8 @@
 -- Real literals: what comes after the first digits shows whether there is one, and how far it extends.
-use Rattle.std.proofs.Common.{◌≡◌, ℕ, ◌+◌, ◌<◌, ◌≤◌, Bool, true, false, ◌==◌, ◌&&◌, ◌⊎◌, inl, inr, [], ◌∷◌, ◌++◌}
+use Rattle.std.proofs.Common.{◌≡◌, ℕ, ◌+◌, ◌<◌, ◌≤◌, true, false, ◌==◌, ◌&&◌, ◌⊎◌, inl, inr, [], ◌∷◌, ◌++◌}
 use Rattle.std.proofs.Common.{length, take, drop, slice_index, refl, sym, ap, ◌∙◌, subst, arith, append_assoc}
 use Rattle.std.proofs.Common.{length-append, eq-eqb, take-append-drop}
-use Rattle.std.proofs.lemmas.Bool.{and_parts, or_cases, or_left, or_right, and_from}
+use Rattle.std.proofs.lemmas.Bool.{and_parts, or_cases, or_left, or_right, and_from, cases_Bool}
 use Rattle.std.proofs.lemmas.Bool.Decides.{Decides-eqb, nat_tests}
 use Rattle.std.proofs.lemmas.List.{drop_at}
 use Rattle.std.specs.Char.{is_ascii_digit, to_ascii_lowercase}
@@ -32,11 +32,6 @@ real_begins u v b bs (with_both a f s d _ _) e = digits_begin a _ b bs d (sym (a
 real_begins u v b bs (with_scale a s d _) e = digits_begin a _ b bs d (sym (append_assoc a _ v) ∙ e)
 
 -- ---- how far real literals reach
-
--- which way a test goes
-decided : (b : Bool) → (b ≡ true) ⊎ (b ≡ false)
-decided true = inl refl
-decided false = inr refl
 
 first_digit : (w rest : Bytes) → IsDigits w → is_ascii_digit (slice_index (w ++ rest) 0) ≡ true
 first_digit [] rest d = absurd d
@@ -184,7 +179,7 @@ record Scaled (bs : Bytes) : Type 0 where
 unsigned_at : (e : ℕ) (next : Bytes) → is_sign (slice_index next 0) ≡ false
     → (scale_len (e ∷ next) ≡ 0) ⊎ Scaled (e ∷ next)
 unfolding scale_len scale_by
-unsigned_at e next no_sign = elim (decided (to_ascii_lowercase e == 101 && is_ascii_digit (slice_index next 0))) [
+unsigned_at e next no_sign = elim (cases_Bool (to_ascii_lowercase e == 101 && is_ascii_digit (slice_index next 0))) [
   | inl both ↦ (let parts = and_parts (to_ascii_lowercase e == 101) _ both in
       let d = digits_of next parts.1 in
       inr (record {
@@ -200,7 +195,7 @@ unsigned_at e next no_sign = elim (decided (to_ascii_lowercase e == 101 && is_as
 signed_at : (e sign : ℕ) (next : Bytes) → is_sign sign ≡ true
     → (scale_len (e ∷ sign ∷ next) ≡ 0) ⊎ Scaled (e ∷ sign ∷ next)
 unfolding scale_len scale_by
-signed_at e sign next is = elim (decided (to_ascii_lowercase e == 101 && is_ascii_digit (slice_index next 0))) [
+signed_at e sign next is = elim (cases_Bool (to_ascii_lowercase e == 101 && is_ascii_digit (slice_index next 0))) [
   | inl both ↦ (let parts = and_parts (to_ascii_lowercase e == 101) _ both in
       let d = digits_of next parts.1 in
       inr (record {
@@ -229,7 +224,7 @@ scaled : (bs : Bytes) → (scale_len bs ≡ 0) ⊎ Scaled bs
 scaled [] = inl no_scale
 scaled (e ∷ []) = unsigned_at e [] refl
 scaled (e ∷ sign ∷ next) =
-    elim (decided (is_sign sign)) [ inl is ↦ signed_at e sign next is | inr other ↦ unsigned_at e (sign ∷ next) other ]
+    elim (cases_Bool (is_sign sign)) [ inl is ↦ signed_at e sign next is | inr other ↦ unsigned_at e (sign ∷ next) other ]
 
 -- the real literal that w begins
 pub record Real (w rest : Bytes) : Type 0 where
@@ -283,7 +278,7 @@ real_by_fraction w next d digit =
 pub real_is : (w rest : Bytes) → IsDigits w → 0 < real_len rest → Real w rest
 unfolding fraction_len
 real_is w [] d some = real_by_scale w [] d refl some
-real_is w (b ∷ next) d some = elim (decided (b == 46 && is_ascii_digit (slice_index next 0))) [
+real_is w (b ∷ next) d some = elim (cases_Bool (b == 46 && is_ascii_digit (slice_index next 0))) [
   | inl both ↦ (let parts = and_parts (b == 46) _ both in
       subst (λ z. Real w (z ∷ next)) (sym ((Decides-eqb b 46).0 parts.0)) (real_by_fraction w next d parts.1))
   | inr none ↦ real_by_scale w (b ∷ next) d (rw none refl) some

@@ -1,19 +1,13 @@
 -- Types that have the same fields, by their places in a list.
-use Rattle.std.proofs.Common.{◌≡◌, ◌<◌, ℕ, zero, suc, List, [], ◌∷◌, ◌++◌, length, Option, Some, None}
+use Rattle.std.proofs.Common.{◌≡◌, ◌<◌, ℕ, zero, suc, List, [], ◌∷◌, ◌++◌, length, Some, None}
 use Rattle.std.proofs.Common.{get_or, slice_get, refl, sym, ap, ◌∙◌, arith}
+use Rattle.std.proofs.lemmas.Option.{same_Some}
 use Rattle.ps_tree.specs.declared.types.Ty.{Ty}
 use Rattle.ps_tree.specs.Types.{DataTypes, outline, outline_at, AreAlike}
 use Rattle.ps_tree.specs.TypeView.{type_of, types_of}
 
 none_some : {A B : Type 0} {x : A} → None ≡ Some x → B
 none_some e = absurd (cc)
-
-some_inside : {A : Type 0} (x y : A) → Some x ≡ Some y → x ≡ y
-some_inside x y e = ap (or x) e
-  where
-    or : {A : Type 0} → A → Option A → A
-    or d (Some z) = z
-    or d None = d
 
 outline_there : (types : List Ty) (n : ℕ) (t : Ty) → n < length types → t ≡ get_or types n t → outline_at
     (types_of types) n ≡ Some (outline (type_of t))
@@ -30,7 +24,7 @@ alike_types types n m a b l e k f same =
 -- one more number
 last_or : (xs : List ℕ) (y i z : ℕ) (P : Type 0) → slice_get (xs ++ y ∷ []) i ≡ Some z → (slice_get xs i ≡ Some z → P)
     → (i ≡ length xs → y ≡ z → P) → P
-last_or [] y zero z P e before last = last refl (some_inside y z e)
+last_or [] y zero z P e before last = last refl (same_Some y z e)
 last_or [] y (suc i) z P e before last = none_some e
 last_or (x ∷ xs) y zero z P e before last = before e
 last_or (x ∷ xs) y (suc i) z P e before last = last_or xs y i z P e before (λ q. last (ap suc q))

@@ -4,6 +4,7 @@ use Rattle.std.proofs.Common.{if◌then◌else◌, ◌&&◌, nat_le, nat_lt, Lis
 use Rattle.std.proofs.Common.{refl, sym, ap, subst, ◌∙◌, append_assoc, append-nil, arith, rules}
 use Rattle.std.proofs.Math.Seq.{drop-cons}
 use Rattle.std.proofs.lemmas.List.{drop_all}
+use Rattle.std.proofs.lemmas.Bool.{cases_lt}
 use Rattle.ps_tree.specs.NameCode.{symbol, name_symbols, names_symbols, fits, joined, packed, names_code}
 
 behind : (i : ℕ) → suc i ≡ i + 1
@@ -31,9 +32,6 @@ symbol_own b l m =
     let nor : nat_le 48 b && nat_le b 57 ≡ false = grind (arith, rules) in
     λ i. chosen (no i) (nor i) b
 
-below : (w n : ℕ) → (w < n) ⊎ (n ≤ w)
-below w n = grind arith
-
 -- what a symbol can be, and the byte that has it
 abbrev byte_with : ℕ → ℕ
 byte_with n = if nat_lt n 27 then n + 96 else if nat_lt n 64000 then n + 21 else n - 64000
@@ -45,7 +43,7 @@ abbrev told_by : (low middle : Bool) (n : ℕ) → ℕ
 told_by low middle n = if low then n + 96 else if middle then n + 21 else n - 64000
 
 symbol_tells : (b : ℕ) → Tells b (symbol b)
-symbol_tells b = by (below b 48) (below b 58) (below b 97) (below b 123)
+symbol_tells b = by (cases_lt b 48) (cases_lt b 58) (cases_lt b 97) (cases_lt b 123)
   where
     own : (97 ≤ b → b ≤ 122 → ⊥) → (48 ≤ b → b ≤ 57 → ⊥) → Tells b (symbol b)
     own l m =
@@ -230,7 +228,7 @@ module _ (s : ℕ) (some : 0 < s) (whole : (s < 40) ⊎ (64000 ≤ s)) where
       by (inr l) = in_own s l
 
   in_joined : (word : ℕ) → word < 1600 → s < 40 → symbols_in (40 * word + s) ≡ symbols_in word ++ s ∷ []
-  in_joined word l m = by (below word 1) (below word 40)
+  in_joined word l m = by (cases_lt word 1) (cases_lt word 40)
     where
       by : (word < 1) ⊎ (1 ≤ word) → (word < 40) ⊎ (40 ≤ word) → symbols_in (40 * word + s) ≡ symbols_in word ++ s ∷ []
       by (inl p) q =

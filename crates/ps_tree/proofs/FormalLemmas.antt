@@ -4,7 +4,7 @@ use Rattle.std.proofs.Common.{map, Option, option_map, Vec, Global, nat_le, IsTr
 use Rattle.std.proofs.Common.{arith}
 use Rattle.std.proofs.Math.Seq.{drop-cons}
 use Rattle.std.proofs.lemmas.List.{drop_all, get_or-map, length-map}
-use Rattle.std.proofs.lemmas.Bool.{leb-true}
+use Rattle.std.proofs.lemmas.Bool.{leb-true, and_left}
 use Rattle.ps_tree.specs.Tree as Tree
 use Rattle.ps_tree.specs.declared.count.Extent.{Extent}
 use Rattle.ps_tree.specs.declared.types.Ty.{Ty}
@@ -65,10 +65,6 @@ and_true : (a b : Bool) → a ≡ true → (a && b) ≡ b
 and_true true b h = refl
 and_true false b h = absurd (cc)
 
-and_false : (a b : Bool) → a ≡ false → (a && b) ≡ false
-and_false true b h = absurd (cc)
-and_false false b h = refl
-
 pub passed_start : {A : Type 0} (whole : List A → Bool) (items : List A) → Passed whole items 0
 passed_start whole items = record { left = refl }
 
@@ -88,7 +84,7 @@ pub passed_fails : {A : Type 0} (whole : List A → Bool) (one : A → Bool)
     → ((x : A) (xs : List A) → whole (x ∷ xs) ≡ (one x && whole xs)) → (items : List A) (i : ℕ) (d : A)
     → i < length items → Passed whole items i → one (get_or items i d) ≡ false → false ≡ whole items
 passed_fails whole one law items i d h p t =
-    sym (p.left ∙ ap whole (drop-cons items i d h) ∙ law (get_or items i d) (drop (suc i) items) ∙ and_false
+    sym (p.left ∙ ap whole (drop-cons items i d h) ∙ law (get_or items i d) (drop (suc i) items) ∙ and_left
     (one (get_or items i d)) (whole (drop (suc i) items)) t)
 
 pub passed_end : {A : Type 0} (whole : List A → Bool) → whole [] ≡ true → (items : List A) (i : ℕ) → length items ≤ i

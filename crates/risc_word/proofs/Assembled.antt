@@ -1,8 +1,9 @@
 -- The table with the top four bits of a word as one field: an instruction is read back from what it is assembled to.
-use Rattle.std.proofs.Common.{ℕ, ◌+◌, ◌-◌, ◌*◌, ◌/◌, ◌%◌, ◌<◌, ◌≤◌, Bool, true, false, eqb, ltb, Some, ℤ, pos, negsuc}
+use Rattle.std.proofs.Common.{ℕ, ◌+◌, ◌-◌, ◌*◌, ◌/◌, ◌%◌, ◌<◌, ◌≤◌, Bool, true, false, eqb, Some, ℤ, pos, negsuc}
 use Rattle.std.proofs.Common.{refl, ap, ◌∙◌, arith, ◌≡◌}
 use Rattle.std.specs.Prelude.{◌≤ℤ◌}
 use Rattle.std.proofs.lemmas.Int.{ints}
+use Rattle.std.proofs.lemmas.Bool.{lt-ltb, le-ltb}
 use Rattle.risc_word.specs.declared.instr.Operation.{Operation}
 use Rattle.risc_word.specs.declared.instr.Operation.TheVariants.{Lsl, Asr, Ror, And, Ann, Ior, Xor, Add, Sub, Mul, Div}
 use Rattle.risc_word.specs.declared.instr.Operation.TheVariants.{Adc, Sbc}
@@ -90,12 +91,6 @@ fields_back top a b op low ha hb hop hlow =
 abbrev is_carry : Operation → Bool
 is_carry op = eqb (carry_of op) 1
 
-below : (n m : ℕ) → n < m → ltb n m ≡ true
-below n m h = grind arith
-
-not_below : (n m : ℕ) → m ≤ n → ltb n m ≡ false
-not_below n m h = grind arith
-
 operation_back : (op : Operation) → operation_at (is_carry op) (code_of op) ≡ Some op
 operation_back Lsl = refl
 operation_back _ = refl
@@ -118,7 +113,7 @@ condition_back _ = refl
 
 register_back : (op : Operation) (a b c : ℕ) → c < 16 → register_form (is_carry op) a b (code_of op) c ≡ Some
     (Operate op a b (Content c))
-register_back op a b c h = rw (code_above op, below c 16 h, operation_back op)
+register_back op a b c h = rw (code_above op, lt-ltb c 16 h, operation_back op)
 
 immediate_back : (op : Operation) (a b low : ℕ) (sign : Bool) → immediate_form (is_carry op) sign a b (code_of op) low
     ≡ Some (Operate op a b (Constant (immediate_at sign low)))
@@ -192,7 +187,7 @@ operand_below (Constant (negsuc n)) h = omega arith
 
 move_back : (a : ℕ) (n : Operand) (x y : ℕ) → IsOperand n → of_fields (operand_top n) a 0 0 (operand_low n) x y ≡ Some
     (Move a n)
-move_back a (Content c) x y h = rw (below c 16 h)
+move_back a (Content c) x y h = rw (lt-ltb c 16 h)
 move_back a (Constant (pos n)) x y h = refl
 move_back a (Constant (negsuc n)) x y h =
     let same : 65535 - (65535 - n) ≡ n = omega (arith, ints, h.0) in
@@ -201,12 +196,12 @@ move_back a (Constant (negsuc n)) x y h =
 signed_back : (half : ℕ) (z : ℤ) → 0 < half → negsuc (half - 1) ≤ℤ z → z ≤ℤ pos (half - 1) → signed_at half
     (bits_of (2 * half) z) ≡ z
 signed_back half (pos n) h low high =
-    let b : n < half = omega (arith, ints) in rw (below n half b)
+    let b : n < half = omega (arith, ints) in rw (lt-ltb n half b)
 signed_back half (negsuc n) h low high =
     let b : n < half = omega (arith, ints) in
     let m : half ≤ 2 * half - 1 - n = omega arith in
     let e : 2 * half - 1 - (2 * half - 1 - n) ≡ n = omega arith in
-    rw (not_below (2 * half - 1 - n) half m) (ap negsuc e)
+    rw (le-ltb (2 * half - 1 - n) half m) (ap negsuc e)
 
 pub bits_below : (half : ℕ) (z : ℤ) → 0 < half → z ≤ℤ pos (half - 1) → bits_of (2 * half) z < 2 * half
 bits_below half (pos n) h high = omega (arith, ints)
@@ -241,7 +236,7 @@ distance_fields top a bits ha h =
 
 absolute_back : (link : Bool) (con : Condition) (c far : ℕ) → far ≡ c → c < 16 → absolute_form link
     (condition_code con) far ≡ Some (Branch con link (Absolute c))
-absolute_back link con c far e h = rw (e, below c 16 h, condition_back con)
+absolute_back link con c far e h = rw (e, lt-ltb c 16 h, condition_back con)
 
 -- the word of an instruction is read back as that instruction
 pub assembled_back : (i : Instr) → IsInstr i → instr_at (assembled i) ≡ Some i

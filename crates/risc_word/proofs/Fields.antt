@@ -3,6 +3,7 @@ use Rattle.std.proofs.Common.{ℕ, ◌+◌, ◌-◌, ◌*◌, ◌<◌, ◌≤◌
 use Rattle.std.proofs.Common.{negsuc, refl, sym, ap, ◌∙◌, subst, arith, ◌≡◌}
 use Rattle.std.specs.Prelude.{◌≤ℤ◌}
 use Rattle.std.proofs.lemmas.Int.{ints}
+use Rattle.std.proofs.lemmas.Bool.{eqb-true, ltb-true}
 use Rattle.risc_word.specs.declared.instr.Operation.{Operation}
 use Rattle.risc_word.specs.declared.instr.Operation.TheVariants.{Lsl, Asr, Ror, And, Ann, Ior, Xor, Add, Sub, Mul, Div}
 use Rattle.risc_word.specs.declared.instr.Operation.TheVariants.{Adc, Sbc}
@@ -25,9 +26,6 @@ use Rattle.risc_word.proofs.Assembled.{Spells, assemble, operand_low, operand_to
 
 -- ---- from the word to the instruction
 
-eqb_is : (n k : ℕ) → eqb n k ≡ true → n ≡ k
-eqb_is n k h = grind arith
-
 -- a choice that gave a value
 pick : {A : Type 0} (b : Bool) (x : A) (rest : Option A) (o : A) → cond b (Some x) rest ≡ Some o → (P : Type 0)
     → (b ≡ true → x ≡ o → P) → (rest ≡ Some o → P) → P
@@ -48,10 +46,10 @@ IsOperation carry n o = (code_of o ≡ n) × (carry_of o ≡ link_of carry)
 
 operation_leaf : (carry : Bool) (n k : ℕ) (x o : Operation) → eqb n k ≡ true → x ≡ o → IsOperation carry k x
     → IsOperation carry n o
-operation_leaf carry n k x o e f h = subst (IsOperation carry n) f (h.0 ∙ sym (eqb_is n k e), h.1)
+operation_leaf carry n k x o e f h = subst (IsOperation carry n) f (h.0 ∙ sym (eqb-true n k e), h.1)
 
 condition_leaf : (n k : ℕ) (x o : Condition) → eqb n k ≡ true → x ≡ o → condition_code x ≡ k → condition_code o ≡ n
-condition_leaf n k x o e f h = subst (λ c. condition_code c ≡ n) f (h ∙ sym (eqb_is n k e))
+condition_leaf n k x o e f h = subst (λ c. condition_code c ≡ n) f (h ∙ sym (eqb-true n k e))
 
 operation_is : (carry : Bool) (n : ℕ) (o : Operation) → operation_at carry n ≡ Some o → IsOperation carry n o
 operation_is true n o h = pick {A = Operation} (eqb n 8) Adc (cond (eqb n 9) (Some Sbc) None) o h (IsOperation true n o)
@@ -196,21 +194,18 @@ branch_is code link t i h = go (condition_at code) refl h
     go None e h = absurd (none_some i h)
     go (Some c) e h = (c, condition_is code c e, cc h)
 
-less_is : (n m : ℕ) → ltb n m ≡ true → n < m
-less_is n m h = grind arith
-
 -- F0
 register_denotes : (carry : Bool) (a b op low : ℕ) (i : Instr) → a < 16 → b < 16 → register_form carry a b op low
     ≡ Some i → Spells (assemble (2 * link_of carry) a b op low) i
 register_denotes carry a b op low i ha hb h =
     fork (eqb op 0) _ _ i h (Spells (assemble (2 * link_of carry) a b op low) i)
     (λ e h1. fork (eqb b 0) _ _ i h1 (Spells (assemble (2 * link_of carry) a b op low) i)
-    (λ f h2. moves carry (eqb_is op 0 e) (eqb_is b 0 f) h2)
+    (λ f h2. moves carry (eqb-true op 0 e) (eqb-true b 0 f) h2)
     (λ f h2. absurd (none_some i h2)))
     (λ e h1. fork (ltb low 16) _ _ i h1 (Spells (assemble (2 * link_of carry) a b op low) i)
     (λ f h2.
     let x = operate_is carry op a b (Content low) i h2 in
-    let lt = less_is low 16 f in
+    let lt = ltb-true low 16 f in
     let table : assemble (2 * carry_of x.0 + 0) a b (code_of x.0) low ≡ assemble
     (2 * link_of carry) a b op low = same_fields x.1.1 x.1.0 in
     subst (Spells (assemble (2 * link_of carry) a b op low)) (sym x.2) (record {
@@ -227,7 +222,7 @@ register_denotes carry a b op low i ha hb h =
         (assemble (2 * link_of carry) a b op low) i
     moves true e f h =
         fork (eqb low 0) _ _ i h (Spells (assemble 2 a b op low) i)
-        (λ g k. let z = eqb_is low 0 g in let same : MoveHigh a ≡ i = cc k in subst
+        (λ g k. let z = eqb-true low 0 g in let same : MoveHigh a ≡ i = cc k in subst
         (Spells (assemble 2 a b op low)) same (record {
           ranges = ha;
           table = zeros e f z;
@@ -238,7 +233,7 @@ register_denotes carry a b op low i ha hb h =
         zeros e f z = omega arith
     moves false e f h =
         fork (ltb low 16) _ _ i h (Spells (assemble 0 a b op low) i)
-        (λ g k. let lt = less_is low 16 g in let same : Move a (Content low) ≡ i = cc k in subst
+        (λ g k. let lt = ltb-true low 16 g in let same : Move a (Content low) ≡ i = cc k in subst
         (Spells (assemble 0 a b op low)) same (record {
           ranges = (ha, lt);
           table = zeros e f;
@@ -255,7 +250,7 @@ immediate_denotes : (carry sign : Bool) (a b op low : ℕ) (i : Instr) → a < 1
 immediate_denotes carry sign a b op low i ha hb hl h =
     fork (eqb op 0) _ _ i h (Spells (assemble (4 + 2 * link_of carry + link_of sign) a b op low) i)
     (λ e h1. fork (eqb b 0) _ _ i h1 (Spells (assemble (4 + 2 * link_of carry + link_of sign) a b op low) i)
-    (λ f h2. moves carry sign (eqb_is op 0 e) (eqb_is b 0 f) h2)
+    (λ f h2. moves carry sign (eqb-true op 0 e) (eqb-true b 0 f) h2)
     (λ f h2. absurd (none_some i h2)))
     (λ e h1.
     let x = operate_is carry op a b (Constant (immediate_at sign low)) i h1 in
@@ -303,7 +298,7 @@ signed_low half n h lt = go (ltb n half) refl
   where
     go : (b : Bool) → ltb n half ≡ b → (negsuc (half - 1) ≤ℤ cond b (pos n) (negsuc (2 * half - 1 - n)))
         × (cond b (pos n) (negsuc (2 * half - 1 - n)) ≤ℤ pos (half - 1))
-    go true e = let l = less_is n half e in (omega (arith, ints), omega (arith, ints))
+    go true e = let l = ltb-true n half e in (omega (arith, ints), omega (arith, ints))
     go false e = let l = not_less n half e in (omega (arith, ints), omega (arith, ints))
       where
         not_less : (n m : ℕ) → ltb n m ≡ false → m ≤ n
@@ -318,7 +313,7 @@ absolute_denotes link a far i h =
     let t : assemble (12 + link_of link) (condition_code x.0) 0 0 far ≡ (12 + link_of link) * 268435456 + a * 16777216
     + far = omega (arith, x.1) in
     subst (Spells ((12 + link_of link) * 268435456 + a * 16777216 + far)) (sym x.2) (record {
-      ranges = less_is far 16 e;
+      ranges = ltb-true far 16 e;
       table = t;
     }))
     (λ e h1. absurd (none_some i h1))
@@ -361,32 +356,32 @@ pub fields_denote : (w top a b op low mem far : ℕ) (i : Instr) → a < 16 → 
     → far < 16777216 → w ≡ assemble top a b op low → mem ≡ op * 65536 + low → far ≡ b * 1048576 + mem
     → of_fields top a b op low mem far ≡ Some i → Spells w i
 fields_denote w top a b op low mem far i ha hb hl hm hf hw em ef h =
-    fork (eqb top 0) _ _ i h (Spells w i) (λ e h. let t = eqb_is top 0 e in let q : assemble (2 * 0) a b op low
+    fork (eqb top 0) _ _ i h (Spells w i) (λ e h. let t = eqb-true top 0 e in let q : assemble (2 * 0) a b op low
     ≡ w = omega arith in same_word q (register_denotes false a b op low i ha hb h)) (λ e0 h.
-    fork (eqb top 2) _ _ i h (Spells w i) (λ e h. let t = eqb_is top 2 e in let q : assemble (2 * 1) a b op low
+    fork (eqb top 2) _ _ i h (Spells w i) (λ e h. let t = eqb-true top 2 e in let q : assemble (2 * 1) a b op low
     ≡ w = omega arith in same_word q (register_denotes true a b op low i ha hb h)) (λ e2 h.
-    fork (eqb top 4) _ _ i h (Spells w i) (λ e h. let t = eqb_is top 4 e in let q : assemble (4 + 2 * 0 + 0) a b op low
+    fork (eqb top 4) _ _ i h (Spells w i) (λ e h. let t = eqb-true top 4 e in let q : assemble (4 + 2 * 0 + 0) a b op low
     ≡ w = omega arith in same_word q (immediate_denotes false false a b op low i ha hb hl h)) (λ e4 h.
-    fork (eqb top 5) _ _ i h (Spells w i) (λ e h. let t = eqb_is top 5 e in let q : assemble (4 + 2 * 0 + 1) a b op low
+    fork (eqb top 5) _ _ i h (Spells w i) (λ e h. let t = eqb-true top 5 e in let q : assemble (4 + 2 * 0 + 1) a b op low
     ≡ w = omega arith in same_word q (immediate_denotes false true a b op low i ha hb hl h)) (λ e5 h.
-    fork (eqb top 6) _ _ i h (Spells w i) (λ e h. let t = eqb_is top 6 e in let q : assemble (4 + 2 * 1 + 0) a b op low
+    fork (eqb top 6) _ _ i h (Spells w i) (λ e h. let t = eqb-true top 6 e in let q : assemble (4 + 2 * 1 + 0) a b op low
     ≡ w = omega arith in same_word q (immediate_denotes true false a b op low i ha hb hl h)) (λ e6 h.
-    fork (eqb top 7) _ _ i h (Spells w i) (λ e h. let t = eqb_is top 7 e in let q : assemble (4 + 2 * 1 + 1) a b op low
+    fork (eqb top 7) _ _ i h (Spells w i) (λ e h. let t = eqb-true top 7 e in let q : assemble (4 + 2 * 1 + 1) a b op low
     ≡ w = omega arith in same_word q (immediate_denotes true true a b op low i ha hb hl h)) (λ e7 h.
-    fork (eqb top 8) _ _ i h (Spells w i) (λ e h. let t = eqb_is top 8 e in let q : with_offset (8 + 0) a b mem
+    fork (eqb top 8) _ _ i h (Spells w i) (λ e h. let t = eqb-true top 8 e in let q : with_offset (8 + 0) a b mem
     ≡ w = omega arith in same_word q (load_denotes Word a b mem i ha hb hm h)) (λ e8 h.
-    fork (eqb top 9) _ _ i h (Spells w i) (λ e h. let t = eqb_is top 9 e in let q : with_offset (8 + 1) a b mem
+    fork (eqb top 9) _ _ i h (Spells w i) (λ e h. let t = eqb-true top 9 e in let q : with_offset (8 + 1) a b mem
     ≡ w = omega arith in same_word q (load_denotes Byte a b mem i ha hb hm h)) (λ e9 h.
-    fork (eqb top 10) _ _ i h (Spells w i) (λ e h. let t = eqb_is top 10 e in let q : with_offset (10 + 0) a b mem
+    fork (eqb top 10) _ _ i h (Spells w i) (λ e h. let t = eqb-true top 10 e in let q : with_offset (10 + 0) a b mem
     ≡ w = omega arith in same_word q (store_denotes Word a b mem i ha hb hm h)) (λ e10 h.
-    fork (eqb top 11) _ _ i h (Spells w i) (λ e h. let t = eqb_is top 11 e in let q : with_offset (10 + 1) a b mem
+    fork (eqb top 11) _ _ i h (Spells w i) (λ e h. let t = eqb-true top 11 e in let q : with_offset (10 + 1) a b mem
     ≡ w = omega arith in same_word q (store_denotes Byte a b mem i ha hb hm h)) (λ e11 h.
-    fork (eqb top 12) _ _ i h (Spells w i) (λ e h. let t = eqb_is top 12 e in let q : (12 + 0) * 268435456
+    fork (eqb top 12) _ _ i h (Spells w i) (λ e h. let t = eqb-true top 12 e in let q : (12 + 0) * 268435456
     + a * 16777216 + far ≡ w = omega arith in same_word q (absolute_denotes false a far i h)) (λ e12 h.
-    fork (eqb top 13) _ _ i h (Spells w i) (λ e h. let t = eqb_is top 13 e in let q : (12 + 1) * 268435456
+    fork (eqb top 13) _ _ i h (Spells w i) (λ e h. let t = eqb-true top 13 e in let q : (12 + 1) * 268435456
     + a * 16777216 + far ≡ w = omega arith in same_word q (absolute_denotes true a far i h)) (λ e13 h.
-    fork (eqb top 14) _ _ i h (Spells w i) (λ e h. let t = eqb_is top 14 e in let q : (14 + 0) * 268435456
+    fork (eqb top 14) _ _ i h (Spells w i) (λ e h. let t = eqb-true top 14 e in let q : (14 + 0) * 268435456
     + a * 16777216 + far ≡ w = omega arith in same_word q (relative_denotes false a far i hf h)) (λ e14 h.
-    fork (eqb top 15) _ _ i h (Spells w i) (λ e h. let t = eqb_is top 15 e in let q : (14 + 1) * 268435456
+    fork (eqb top 15) _ _ i h (Spells w i) (λ e h. let t = eqb-true top 15 e in let q : (14 + 1) * 268435456
     + a * 16777216 + far ≡ w = omega arith in same_word q (relative_denotes true a far i hf h)) (λ e15 h.
     absurd (none_some i h)))))))))))))))

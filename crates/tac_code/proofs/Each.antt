@@ -1,7 +1,7 @@
 -- A fact of each element of a list, found element by element.
 use Rattle.std.proofs.Common.{◌≡◌, ℕ, ◌+◌, ◌<◌, ◌≤◌, ◌⊎◌, Bool, true, false, IsTrue, nat_lt, inl, inr, List, length}
 use Rattle.std.proofs.Common.{get_or, slice_get, Some, ap, sym, subst, ◌∙◌, refl, arith}
-use Rattle.std.proofs.lemmas.Option.{slice_get_read, slice_get_within}
+use Rattle.std.proofs.lemmas.Option.{slice_get_read, slice_get_within, same_Some}
 use Rattle.std.proofs.lemmas.Bool.{ltb-true, ltb-false}
 use Rattle.tac_code.specs.Sound.{Each}
 
@@ -24,9 +24,6 @@ below_or_at i k lt = nat_cases (nat_lt i k) refl
     nat_cases true e = inl (ltb-true i k e)
     nat_cases false e = inr (let le : k ≤ i = ltb-false i k e in omega arith)
 
-some-injective : {X : Type 0} (x y : X) → Some x ≡ Some y → x ≡ y
-some-injective x y e = cc
-
 pub each_below_more : {X : Type 0} (P : ℕ → X → Type 0) (xs : List X) (k : ℕ) (x : X) → slice_get xs k ≡ Some x
     → EachBelow P xs k → P k x → EachBelow P xs (k + 1)
 each_below_more {X} P xs k x here h p = λ i y lt e. at_or_below i y lt e (split i lt)
@@ -38,7 +35,7 @@ each_below_more {X} P xs k x here h p = λ i y lt e. at_or_below i y lt e (split
     at_or_below i y lt e (inl below) = h i y below e
     at_or_below i y lt e (inr at) =
         let same : slice_get xs k ≡ Some y = ap (λ (j : ℕ). slice_get xs j) (sym at) ∙ e in let eq : x
-        ≡ y = some-injective x y (sym here ∙ same) in subst (λ (j : ℕ). P j y) (sym at)
+        ≡ y = same_Some x y (sym here ∙ same) in subst (λ (j : ℕ). P j y) (sym at)
         (subst (λ (z : X). P k z) eq p)
 
 -- one more element, whose fact a test showed

@@ -56,7 +56,7 @@ pub record Known : Type 0 where
   pub kinds : List Kind
   pub orders : Orders
 
--- nothing is known of so many temporaries
+-- nothing is known of a number of temporaries
 abbrev pub nothing : ℕ → List Kind
 nothing count = replicate count Unknown
 

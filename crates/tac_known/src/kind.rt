@@ -137,7 +137,7 @@ impl Model for Kinds {
 }
 
 impl Kinds {
-    /// Nothing is known of so many temporaries.
+    /// Nothing is known of `count` temporaries.
     pub fn new(alloc: Global, count: usize) -> Result<Kinds, OutOfMemory>
         ensures { IfOk result (λ all. all ≡ nothing count) }
     {

@@ -53,7 +53,7 @@ own_word _ n = None
 abbrev pub bounded : ℕ → ℕ → Reach
 bounded low high = if nat_lt high 4294967296 then Within low high else Anywhere
 
--- so many bytes further, or up to so many
+-- some bytes further, or up to some
 abbrev pub shifted : ℕ → Reach → Reach
 shifted n Anywhere = Anywhere
 shifted n (Within low high) = if nat_lt low high then bounded (low + n) (high + n) else nowhere

@@ -123,7 +123,7 @@ base_reach r base.Scratch table = nowhere
 base_reach r base.Program table = if nat_eq r 0 then Within 0 1 else nowhere
 base_reach r (base.Temporary u) table = (known_in table u).reach
 
--- whether what lies so many bytes behind it may be part of a word
+-- whether what lies some bytes behind it may be part of a word
 abbrev pub may_hit : Reach → (bytes word : ℕ) → Bool
 may_hit Anywhere n k = true
 may_hit (Within low high) n k = nat_lt (low + n) (4 * k + 4) && nat_lt (4 * k) (high + n)

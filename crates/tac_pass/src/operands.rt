@@ -90,7 +90,7 @@ pub fn shifted(bytes: u32, reach: Reach) -> Reach
     }
 }
 
-/// Up to so many bytes further.
+/// Up to `bytes` bytes further.
 pub fn stretched(bytes: u64, reach: Reach) -> Reach
     ensures { result ≡ act.stretched bytes reach }
 {

@@ -316,14 +316,14 @@ impl Rows {
         );
     }
 
-    /// Whether no part of what lies so many bytes behind an address is stale.
+    /// Whether no part of what lies `bytes` bytes behind an address is stale.
     pub fn is_seen(&self, minded: &[u32], reach: Reach, bytes: u32) -> bool
         ensures { result ≡ table.is_seen minded.now reach bytes self.now }
     {
         sees_all(reach, bytes, minded, self.words.as_slice())
     }
 
-    /// A store of both codes so many bytes behind an address.
+    /// A store of both codes `bytes` bytes behind an address.
     pub fn write(&mut self, minded: &[u32], reach: Reach, bytes: u32)
         ensures { self.new ≡ table.write minded.now reach bytes self.old }
     {

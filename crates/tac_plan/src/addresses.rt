@@ -17,7 +17,7 @@ const MOST_TERMS: usize = 12;
 // The numbers of words stand behind those of temporaries, and that of what is none.
 const FIRST_WORD: usize = CONSIDERED as usize + 1;
 
-// A chain ends so many places behind its begin.
+// How many places behind its begin a chain ends.
 const FAR: usize = 64;
 
 // The most places of a chain behind the first one; a quarter of that, and a sixteenth, where there is no room.

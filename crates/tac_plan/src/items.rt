@@ -45,7 +45,7 @@ impl Item {
         self.last == 0
     }
 
-    // In a body without loops, behind so many calls and one more: a store that waited until a call had to be made there.
+    // In a body without loops, behind `calls` calls and one more: a store that waited for a call had to be made there.
     pub(crate) fn settle(&mut self, calls: u32) {
         if self.waits != 0 && self.waits < calls {
             self.won = self.won.saturating_sub(1);

@@ -186,7 +186,7 @@ impl<'a> Look<'a> {
         }
     }
 
-    // an address of the own frame so many bytes further
+    // an address of the own frame, further by `least` to `most` bytes
     fn go_further(
         &mut self,
         to: u32,
@@ -212,7 +212,7 @@ impl<'a> Look<'a> {
         Ok(())
     }
 
-    // memory is read or written so many bytes behind a base
+    // memory is read or written `offset` bytes behind a base
     fn touch(&mut self, base: Base, offset: u32, writes: bool) -> Result<(), OutOfMemory> {
         if self.is_wild(base) {
             self.is_lost = self.is_lost || writes;

@@ -22,7 +22,7 @@ use tac_known::walk::lean_body;
 use tac_pass::plan::Plan;
 use tac_pass::walk::{starts_of, walk};
 
-// Plans are chosen for so many places, and for an eighth of all that there are: to choose and to walk takes some 2,000
+// For how many places plans are chosen, beside an eighth of all that there are: to choose and to walk takes some 2,000
 // instructions of the host a place, where the rest of the compiler takes 4,500.
 const CHOSEN: usize = 384;
 

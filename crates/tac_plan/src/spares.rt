@@ -75,7 +75,7 @@ fn action_of(ways: &[Way], place: usize, instruction: &Instruction) -> Action {
     }
 }
 
-/// A plan for a body of so many temporaries, all of which are considered.
+/// A plan for a body of `temporaries` temporaries, all of which are considered.
 pub fn spares_of(
     alloc: Global,
     temporaries: u32,

@@ -7,9 +7,11 @@ ghost use Rattle.ps_check_names.specs.Spelling.{spelled};
 ghost use Rattle.ps_check_names.specs.Constants.{constant};
 ghost use Rattle.ps_check_names.specs.Views.{scope_of, point_of, meaning_of, constant_of};
 ghost use Rattle.ps_check_declarations.specs.Denoters.{regions, passes, passes_in, type_at, type_named};
+ghost use Rattle.ps_check_declarations.specs.Hiding.{Covers};
 ghost use Rattle.ps_check_declarations.specs.Views.{frame_of, hidden_of};
 
 use crate::frame::{Frame, Hidden, Place};
+use crate::hiding::HidingNames;
 use ps_check_judgement::answer::broken;
 use ps_check_judgement::refusal::CheckFault;
 use ps_check_names::constants::{ConstantValue, constant, misplacement};
@@ -40,21 +42,41 @@ fn passes(hidden: &Hidden, name: &[u8], at: u32) -> Result<(), CheckFault>
     }
 }
 
+/// The same, where these are the names that hide others: only what is among them is looked for in region after region.
+#[tactic(auto, using(crate::proofs::HidingLemmas::uncovered_passes))]
+fn pass_hiding(
+    hidden: &Hidden,
+    hiding: &HidingNames,
+    name: &[u8],
+    at: u32,
+) -> Result<(), CheckFault>
+    requires { Covers hiding.now (hidden_of hidden.now) }
+    ensures { Answers result (λ _. tt) (passes (hidden_of hidden.now) name.now at) }
+{
+    if hiding.contains(name) {
+        passes(hidden, name, at)
+    } else {
+        Ok(())
+    }
+}
+
 /// The same for the name at this place.
 #[tactic(auto, unfolding(crate::specs::Denoters::passes, crate::specs::Views::hidden_of))]
 pub(super) fn pass_hidden(
     reading: &Reading,
     alloc: Global,
     hidden: &Hidden,
+    hiding: &HidingNames,
     name: Span,
 ) -> Result<(), CheckFault>
+    requires { Covers hiding.now (hidden_of hidden.now) }
     ensures { Answers result (λ _. tt) (passes (hidden_of hidden.now) (spelled reading.now.source.now name) name.from) }
 {
     match hidden {
         Hidden::Nothing => Ok(()),
         Hidden::Own { .. } => {
             let spelling = reading.spelling(alloc, name)?;
-            passes(hidden, spelling.as_slice(), name.from)
+            pass_hiding(hidden, hiding, spelling.as_slice(), name.from)
         }
     }
 }
@@ -91,7 +113,13 @@ fn type_named(reading: &Reading, alloc: Global, scope: &Scope, name: Span) -> Re
 
 /// The type that a name denotes at a place of a block.
 #[tactic(auto, using(crate::proofs::HiddenLemmas::type_named_past), unfolding(ps_check_names::specs::Views::scope_of))]
-pub(crate) fn type_in(place: &Place, known: &[Meaning], name: Span) -> Result<Ty, CheckFault>
+pub(crate) fn type_in(
+    place: &Place,
+    hiding: &HidingNames,
+    known: &[Meaning],
+    name: Span,
+) -> Result<Ty, CheckFault>
+    requires { Covers hiding.now (hidden_of place.now.hidden) }
     ensures { Answers result (λ ty. type_of ty)
         (type_named place.now.frame.reading.now.source.now
         (regions (frame_of place.now.frame) (hidden_of place.now.hidden) (map meaning_of known.now)) name) }
@@ -103,7 +131,7 @@ pub(crate) fn type_in(place: &Place, known: &[Meaning], name: Span) -> Result<Ty
         outer,
         ..
     } = place.frame;
-    pass_hidden(reading, place.alloc, &place.hidden, name)?;
+    pass_hidden(reading, place.alloc, &place.hidden, hiding, name)?;
     let scope = Scope::Block {
         routine,
         names,
@@ -119,13 +147,15 @@ fn pass_hidden_in(
     reading: &Reading,
     alloc: Global,
     hidden: &Hidden,
+    hiding: &HidingNames,
     written: Constant,
 ) -> Result<(), CheckFault>
+    requires { Covers hiding.now (hidden_of hidden.now) }
     ensures { Answers result (λ _. tt) (passes_in reading.now.source.now (hidden_of hidden.now) written) }
 {
     match written {
         Constant::Number(..) | Constant::Text(_) => Ok(()),
-        Constant::Name(_, name) => pass_hidden(reading, alloc, hidden, name),
+        Constant::Name(_, name) => pass_hidden(reading, alloc, hidden, hiding, name),
     }
 }
 
@@ -133,9 +163,11 @@ fn pass_hidden_in(
 #[tactic(auto, using(crate::proofs::HiddenLemmas::constant_past), unfolding(ps_check_names::specs::Views::scope_of))]
 pub(crate) fn constant_in(
     place: &Place,
+    hiding: &HidingNames,
     known: &[Meaning],
     written: Constant,
 ) -> Result<ConstantValue, CheckFault>
+    requires { Covers hiding.now (hidden_of place.now.hidden) }
     ensures { Answers result (λ value. constant_of value)
         (constant place.now.frame.reading.now.source.now
         (regions (frame_of place.now.frame) (hidden_of place.now.hidden) (map meaning_of known.now)) written) }
@@ -147,7 +179,7 @@ pub(crate) fn constant_in(
         outer,
         ..
     } = place.frame;
-    pass_hidden_in(reading, place.alloc, &place.hidden, written)?;
+    pass_hidden_in(reading, place.alloc, &place.hidden, hiding, written)?;
     let scope = Scope::Block {
         routine,
         names,

@@ -8,10 +8,12 @@ ghost use Rattle.ps_check_names.specs.Views.{meaning_of, constant_of};
 ghost use Rattle.ps_check_declarations.specs.Denoters.{ordinal_at};
 ghost use Rattle.ps_check_declarations.specs.Denoters.{constants_from, enumeration, subrange, subrange_of, ordinal};
 ghost use Rattle.ps_check_declarations.specs.Denoters.{simple_type, denoter};
+ghost use Rattle.ps_check_declarations.specs.Hiding.{Covers};
 ghost use Rattle.ps_check_declarations.specs.Views.{frame_of, declared_of, hidden_of};
 
 use crate::denoters::named::{constant_in, type_in};
 use crate::frame::{Declared, Frame, Place};
+use crate::hiding::HidingNames;
 use crate::points::new_points;
 use ps_check_judgement::answer::broken;
 use ps_check_judgement::refusal::{CheckFault, Rule};
@@ -127,16 +129,18 @@ fn enumeration(
 /// The subrange of two constants.
 fn subrange_of(
     place: &Place,
+    hiding: &HidingNames,
     known: &[Meaning],
     at: u32,
     low: Constant,
     high: Constant,
 ) -> Result<Ordinal, CheckFault>
+    requires { Covers hiding.now (hidden_of place.now.hidden) }
     ensures { Answers result (λ o. o) (subrange_of (frame_of place.now.frame) (hidden_of place.now.hidden)
         (map meaning_of known.now) at low high) }
 {
-    let first = constant_in(place, known, low)?;
-    let second = constant_in(place, known, high)?;
+    let first = constant_in(place, hiding, known, low)?;
+    let second = constant_in(place, hiding, known, high)?;
     subrange(at, &first, &second)
 }
 
@@ -144,15 +148,17 @@ fn subrange_of(
 #[tactic(auto, unfolding(crate::specs::Denoters::ordinal))]
 pub(super) fn ordinal(
     place: &Place,
+    hiding: &HidingNames,
     declared: &mut Declared,
     denoter: &OrdinalDenoter,
 ) -> Result<Ordinal, CheckFault>
+    requires { Covers hiding.now (hidden_of place.now.hidden) }
     ensures { Answers result (λ o. (o, declared_of declared.new))
         (ordinal (frame_of place.now.frame) (hidden_of place.now.hidden) (declared_of declared.old) denoter.now) }
 {
     match denoter {
         OrdinalDenoter::Name(at) => {
-            let ty = type_in(place, declared.known.as_slice(), *at)?;
+            let ty = type_in(place, hiding, declared.known.as_slice(), *at)?;
             ordinal_at(&ty, at.from)
         }
         OrdinalDenoter::Enumeration(at, names) => {
@@ -160,7 +166,7 @@ pub(super) fn ordinal(
         }
         OrdinalDenoter::Subrange(low, high) => {
             let known = declared.known.as_slice();
-            subrange_of(place, known, denoter.first_token(), *low, *high)
+            subrange_of(place, hiding, known, denoter.first_token(), *low, *high)
         }
     }
 }
@@ -169,16 +175,18 @@ pub(super) fn ordinal(
 #[tactic(auto, unfolding(crate::specs::Denoters::simple_type, ps_tree::specs::View::type_of))]
 pub(super) fn simple_type(
     place: &Place,
+    hiding: &HidingNames,
     declared: &mut Declared,
     denoter: &OrdinalDenoter,
 ) -> Result<Ty, CheckFault>
+    requires { Covers hiding.now (hidden_of place.now.hidden) }
     ensures { Answers result (λ ty. (type_of ty, declared_of declared.new))
         (simple_type (frame_of place.now.frame) (hidden_of place.now.hidden) (declared_of declared.old) denoter.now) }
 {
     match denoter {
-        OrdinalDenoter::Name(at) => type_in(place, declared.known.as_slice(), *at),
+        OrdinalDenoter::Name(at) => type_in(place, hiding, declared.known.as_slice(), *at),
         OrdinalDenoter::Enumeration(..) | OrdinalDenoter::Subrange(..) => {
-            let ordinal = ordinal(place, declared, denoter)?;
+            let ordinal = ordinal(place, hiding, declared, denoter)?;
             Ok(Ty::Simple(ordinal))
         }
     }

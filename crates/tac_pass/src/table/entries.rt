@@ -69,7 +69,7 @@ pub(super) fn free_words(words: &mut [Word], temporary: u32)
     }
 }
 
-/// Whether what lies so many bytes behind an address may be part of a word.
+/// Whether what lies `bytes` bytes behind an address may be part of a word.
 pub fn may_hit(reach: Reach, bytes: u32, word: u32) -> bool
     ensures { result ≡ table.may_hit reach bytes word }
 {

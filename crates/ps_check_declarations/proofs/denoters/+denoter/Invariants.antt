@@ -1,4 +1,4 @@
-use Rattle.std.proofs.Common.{[], map}
+use Rattle.std.proofs.Common.{◌≡◌, [], map}
 use Rattle.ps_tree.specs.View.{type_of}
 use Rattle.ps_check_judgement.proofs.Lists.{Stepped}
 use Rattle.ps_check_declarations.specs.Denoters.{add_fields, fields}
@@ -8,4 +8,4 @@ use Rattle.ps_check_declarations.proofs.denoters.+denoter.Given as goal
 abbrev pub invariant-all_fields-loop-section : goal.invariant-all_fields-loop-section
 invariant-all_fields-loop-section l = Stepped (add_fields (frame_of l.place.frame) l.names (hidden_of l.place.hidden))
     ([], declared_of l.fn.declared) (map (fields (frame_of l.place.frame)) l.sections) l.section-index
-    (map type_of l.done.items, declared_of l.declared)
+    (map type_of l.done.items, declared_of l.declared) × (l.hiding ≡ l.fn.hiding)

@@ -26,6 +26,11 @@ unfolding scope_of
 loop-here-preserved-in-Opened c = sym (block_past c.loop-here.left _ (scope_of c.in-Opened.outer.now))
     ∙ (rw c.in-Opened.is at c.loop-here.invariant)
 
+pub loop-here-preserved-in-Nested : goal.loop-here-preserved-in-Nested
+unfolding scope_of
+loop-here-preserved-in-Nested c = sym (block_past c.loop-here.left _ (scope_of c.in-Nested.outer.now))
+    ∙ (rw c.in-Nested.is at c.loop-here.invariant)
+
 pub loop-here-preserved : goal.loop-here-preserved
 unfolding scope_of
 loop-here-preserved c = rw c.in-Own.is at c.loop-here.invariant

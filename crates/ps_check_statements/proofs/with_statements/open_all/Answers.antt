@@ -1,4 +1,4 @@
-use Rattle.std.proofs.Common.{[]}
+use Rattle.std.proofs.Common.{[], ◌∙◌}
 use Rattle.ps_check_judgement.proofs.Lists.{handed_on, stepped_start, stepped_next, stepped_fault, stepped_end}
 use Rattle.ps_check_names.specs.Views.{opened_in, scope_of}
 use Rattle.ps_check_expressions.specs.View.{context_at, regions_at}
@@ -8,10 +8,11 @@ use Rattle.ps_check_statements.proofs.with_statements.open_all.Goals as goal
 pub loop-x-init : goal.loop-x-init
 unfolding opened_in scope_of
 loop-x-init c = (
-  rw (c.in_ok-places.ensures.items, c.new-opened.ensures)
+  rw (c.in_ok-places.ensures.items, c.new-opened.ensures.records)
       (stepped_start (λ t x. open_next (context_at c.args.site) t.0 x t.1)
       (([], regions_at c.args.site), c.args.changes.now.items) c.args.records.now),
   c.new-known.ensures (context_at c.args.site).domains (regions_at c.args.site) _,
+  c.new-opened.ensures.wides,
 )
 
 pub open_next-requires : goal.open_next-requires
@@ -22,12 +23,13 @@ loop-x-preserved c = (
   stepped_next _ _ _ _ _ c.x-item.result _ c.loop-x-test.true c.x-item.is c.loop-x.invariant.0
       c.in_ok-opened.ensures.opened,
   c.in_ok-opened.ensures.known,
+  c.in_ok-opened.ensures.wides ∙ c.loop-x.invariant.2,
 )
 
-pub returns-in_err-opened : goal.returns-in_err-opened
-returns-in_err-opened c = handed_on _ _ _ _ c.from_residual-in_err-opened.ensures.1
+pub returns-in_err-opened-clause-opened : goal.returns-in_err-opened-clause-opened
+returns-in_err-opened-clause-opened c = handed_on _ _ _ _ c.from_residual-in_err-opened.ensures.1
     (stepped_fault _ _ _ _ _ c.x-item.result _ c.loop-x-test.true c.x-item.is c.loop-x.invariant.0
     c.in_err-opened.ensures.opened)
 
-pub returns : goal.returns
-returns c = stepped_end _ _ _ _ _ c.loop-x-test.false c.loop-x.invariant.0
+pub returns-clause-opened : goal.returns-clause-opened
+returns-clause-opened c = stepped_end _ _ _ _ _ c.loop-x-test.false c.loop-x.invariant.0

@@ -1,4 +1,4 @@
-use Rattle.std.proofs.Common.{[], map}
+use Rattle.std.proofs.Common.{◌≡◌, [], map}
 use Rattle.ps_tree.specs.View.{place_of}
 use Rattle.ps_check_judgement.proofs.Lists.{Stepped}
 use Rattle.ps_check_names.specs.Views.{opened_in}
@@ -12,4 +12,4 @@ abbrev pub invariant-loop-x : goal.invariant-loop-x
 invariant-loop-x l = Stepped (λ t x. open_next (context_at l.site) t.0 x t.1)
     (([], regions_at l.site), l.fn.changes.items) l.records l.x-index
     ((map place_of l.places.items, opened_in (regions_at l.site) l.opened.records.items), l.changes.items) × Knows
-    (context_at l.site).domains (regions_at l.site) l.opened.records.items l.known
+    (context_at l.site).domains (regions_at l.site) l.opened.records.items l.known × (l.opened.wides.now ≡ l.wides)

@@ -1,0 +1,21 @@
+-- The records of `with` statements, each of which stands within the one before it.
+use Rattle.std.specs.Prelude.{◌≡◌, List, [], ◌∷◌, ◌++◌, ℕ, Some, slice_get}
+use Rattle.std.specs.Hash.FoldHasher.{finish}
+use Rattle.ps_tree.specs.declared.types.Ty.{Ty}
+use Rattle.ps_check_names.specs.declared.opened.Opened.{Opened}
+use Rattle.ps_check_names.specs.declared.nests.Levels.{Levels, One, Within'}
+
+-- the statements, the last of which is the innermost
+unfoldable pub levels_of : Levels → List Opened
+levels_of (One opened) = opened.now ∷ []
+levels_of (Within' opened p outer) = levels_of outer ++ opened.now ∷ []
+
+-- the records of all of them, the last of which is the innermost
+unfoldable pub records_in : List Opened → List Ty
+records_in [] = []
+records_in (level ∷ levels) = level.records.items ++ records_in levels
+
+-- hashes begin with this state in each of them
+abbrev pub StartWith : List Opened → (state : ℕ) → Type 0
+StartWith levels state = (k : ℕ) (level : Opened) → slice_get levels k ≡ Some level → state
+    ≡ finish level.wides.now.start

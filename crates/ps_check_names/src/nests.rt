@@ -1,0 +1,145 @@
+//! `with` statements, each of which stands within the one before it.
+
+ghost use Rattle.std.specs.Prelude.{◌≡◌, ◌≤◌, ◌+◌, ◌++◌, [], ◌∷◌, false, length, map, IfOk, IfSome, IsTrue};
+ghost use Rattle.ps_check_names.specs.Opened.{NoneBehind};
+ghost use Rattle.ps_check_names.specs.Nests.{levels_of, records_in, StartWith};
+ghost use Rattle.ps_check_names.specs.Sets.{Apart};
+ghost use Rattle.ps_check_names.specs.Wides.{kind_of};
+ghost use Rattle.ps_check_names.specs.Marks.{IsMark, Shown};
+ghost use Rattle.std.specs.Hash.FoldHasher.{finish};
+
+use crate::marks::Mark;
+use crate::opened::Opened;
+use crate::sets::join;
+use crate::wides::{Wides, meet};
+use std::alloc::{AllocError, Global};
+
+// So many statements are passed at once where none of them has a field of a name: of 490, which can stand round a name,
+// there are 31 nests then, and what is noted of one is joined with that of few others.
+const MOST_LEVELS: usize = 16;
+
+// A nest has at most twice so many records, so that they can be counted.
+const MOST_RECORDS: usize = 1048576;
+
+/// Some `with` statements, each of which stands within the one before it, from the inside out.
+#[derive(Clone, Copy)]
+pub enum Levels<'a> {
+    /// The outermost.
+    One {
+        opened: &'a Opened<'a>,
+    },
+    Within {
+        opened: &'a Opened<'a>,
+        outer: &'a Levels<'a>,
+    },
+}
+
+/// The records of some `with` statements, each of which stands within the one before it, and what is noted of all of them
+/// together: the marks of the names of their fields, and the set of their wide types. So a name that none of them has is
+/// not looked for in each.
+#[derive(Drop)]
+pub struct Nest<'a> {
+    pub levels: Levels<'a>,
+    // how many statements there are
+    depth: usize,
+    // the wide types, which are those of each statement
+    pub wides: &'a Wides,
+    // how many records there are
+    pub(crate) count: usize,
+    // the marks of the names of the fields of records that are of no wide type
+    marks: Vec<usize>,
+    // the set of the wide types that are opened
+    present: Vec<usize>,
+    ghost counted: { count ≡ length (records_in (levels_of levels)) },
+    ghost shown: { Shown (records_in (levels_of levels)) wides.now.start marks.items
+        (kind_of wides.now.names (map (λ v. v.items) wides.now.kinds.items)) present.items },
+    ghost own: { StartWith (levels_of levels) (finish wides.now.start) },
+}
+
+impl<'a> Nest<'a> {
+    /// One statement.
+    #[tactic(auto, unfolding(crate::specs::Nests::levels_of))]
+    pub(crate) fn new(alloc: Global, opened: &'a Opened<'a>) -> Result<Nest<'a>, AllocError>
+        ensures { IfOk result (λ nest. levels_of nest.levels ≡ opened.now ∷ []) }
+    {
+        let marks = Vec::from_slice(alloc, opened.marks.as_slice())?;
+        let present = Vec::from_slice(alloc, opened.present.as_slice())?;
+        Ok(Nest {
+            levels: Levels::One { opened },
+            depth: 1,
+            wides: opened.wides,
+            count: opened.records.as_slice().len(),
+            marks,
+            present,
+        })
+    }
+
+    /// Whether one statement more can stand within these.
+    pub(crate) fn has_room(&self, opened: &Opened<'_>) -> bool
+        ensures { IsTrue result → self.now.count + length opened.now.records.items ≤ 2097152 }
+    {
+        let further = opened.records.as_slice().len();
+        self.depth < MOST_LEVELS && self.count <= MOST_RECORDS && further <= MOST_RECORDS
+    }
+
+    /// One statement more, within these.
+    #[tactic(auto, unfolding(crate::specs::Nests::levels_of))]
+    pub(crate) fn with(
+        &'a self,
+        alloc: Global,
+        opened: &'a Opened<'a>,
+    ) -> Result<Nest<'a>, AllocError>
+        requires wides { opened.now.wides.now ≡ self.now.wides.now }
+        requires few { self.now.count + length opened.now.records.items ≤ 2097152 }
+        ensures { IfOk result (λ nest. levels_of nest.levels ≡ levels_of self.now.levels ++ opened.now ∷ []) }
+    {
+        let mut marks = Vec::from_slice(alloc, self.marks.as_slice())?;
+        join(&mut marks, opened.marks.as_slice())?;
+        let mut present = Vec::from_slice(alloc, self.present.as_slice())?;
+        join(&mut present, opened.present.as_slice())?;
+        Ok(Nest {
+            levels: Levels::Within {
+                opened,
+                outer: &self.levels,
+            },
+            depth: self.depth.saturating_add(1),
+            wides: self.wides,
+            count: self.count + opened.records.as_slice().len(),
+            marks,
+            present,
+        })
+    }
+
+    /// Whether a wide type that is opened may have a field of this name.
+    #[tactic(auto, using(crate::proofs::WideLemmas::apart_none))]
+    fn may_be_wide(&self, name: &[u8]) -> bool
+        ensures { result ≡ false → Apart (kind_of self.now.wides.now.names
+            (map (λ v. v.items) self.now.wides.now.kinds.items) name.now) self.now.present.items }
+    {
+        if self.present.as_slice().len() == 0 {
+            return false;
+        }
+        meet(self.wides.kind(name), self.present.as_slice())
+    }
+
+    /// Whether a record may have a field of this name.
+    pub(crate) fn may_have(&self, name: &[u8], mark: Mark) -> bool
+        requires mark { IsMark mark.state mark.number name.now }
+        requires own { mark.state ≡ finish self.now.wides.now.start }
+        ensures { result ≡ false → NoneBehind (records_in (levels_of self.now.levels)) 0 name.now }
+    {
+        if mark.is_in(self.marks.as_slice()) {
+            return true;
+        }
+        self.may_be_wide(name)
+    }
+
+    /// The mark of a name by which it is looked for here: the one that is known of it, if that is the same.
+    pub(crate) fn mark(&self, name: &[u8], known: Option<Mark>) -> Mark
+        requires { IfSome known (λ mark. IsMark mark.state mark.number name.now) }
+        ensures mark { IsMark result.state result.number name.now }
+        ensures own { result.state ≡ finish self.now.wides.now.start }
+    {
+        Mark::of(self.wides.start, name, known)
+    }
+}
