@@ -1,11 +1,9 @@
 -- `with`: records that are opened one after another.
-use Rattle.std.proofs.Common.{◌≡◌, ℕ, suc, ◌+◌, ◌-◌, ◌<◌, ◌≤◌, Bool, List, [], ◌∷◌, ◌++◌, length, map, drop, get_or}
-use Rattle.std.proofs.Common.{slice_get, Some, None, refl, sym, ap, subst, ◌∙◌, append_assoc, arith}
+use Rattle.std.proofs.Common.{◌≡◌, ℕ, suc, ◌+◌, ◌<◌, ◌≤◌, Bool, List, [], ◌∷◌, ◌++◌, length, map, drop, get_or}
+use Rattle.std.proofs.Common.{refl, sym, ap, subst, ◌∙◌, append_assoc, arith}
 use Rattle.std.specs.Prelude.{reverse}
 use Rattle.std.proofs.Math.Seq.{drop-cons}
-use Rattle.std.proofs.lemmas.List.{append-nil, drop_all, map-append, reverse-append, length-map, length-reverse}
-use Rattle.std.proofs.lemmas.List.{get_or-map, get_or-reverse}
-use Rattle.std.proofs.lemmas.Option.{slice_get-get_or, slice_get_past}
+use Rattle.std.proofs.lemmas.List.{append-nil, drop_all, map-append, reverse-append}
 use Rattle.ps_tree.specs.Tree as t
 use Rattle.ps_tree.specs.declared.tree.Place.{Place}
 use Rattle.ps_tree.specs.View.{place_of}
@@ -15,35 +13,21 @@ use Rattle.ps_lower_code.specs.Values.{place_code, place_site, place_temporary}
 use Rattle.ps_lower_code.specs.Statements.{within_site, with_code, with_scope, with_depth}
 use Rattle.ps_lower_bounds.specs.Weights.{place_weight, with_weight}
 use Rattle.ps_lower.specs.declared.site.Site.{Site}
-use Rattle.ps_lower.specs.Levels.{site_of, within}
+use Rattle.ps_lower.specs.Levels.{site_of, opened_within, where_open, within}
 
--- the innermost is the last
-pub turned : (l : List Site) (w n : ℕ) (s d : Site) → w < length l → n ≡ length l - 1 - w → s ≡ get_or l n d → Some
-    (site_of s) ≡ slice_get (reverse (map site_of l)) w
-turned l w n s d h e is =
-    let m : length (map site_of l) ≡ length l = length-map l site_of in
-    let inside : w < length (map site_of l) = omega (arith, m, h) in
-    let r : length (reverse (map site_of l)) ≡ length (map site_of l) = length-reverse (map site_of l) in
-    let turned_inside : w < length (reverse (map site_of l)) = omega (arith, r, inside) in
-    let place : length (map site_of l) - 1 - w ≡ n = omega (arith, m, e) in
-    let small : n < length l = omega (arith, h, e) in
-    sym (slice_get-get_or (reverse (map site_of l)) w (site_of d) turned_inside
-    ∙ ap Some (get_or-reverse (map site_of l) w (site_of d) inside
-    ∙ ap (λ j. get_or (map site_of l) j (site_of d)) place ∙ get_or-map site_of l n d (site_of d) small ∙ ap site_of
-    (sym is)))
-
-pub not_opened : (l : List Site) (w : ℕ) → length l ≤ w → None ≡ slice_get (reverse (map site_of l)) w
-not_opened l w h =
-    let m : length (map site_of l) ≡ length l = length-map l site_of in
-    let r : length (reverse (map site_of l)) ≡ length (map site_of l) = length-reverse (map site_of l) in
-    sym (slice_get_past (reverse (map site_of l)) w (omega (arith, m, r, h)))
-
-abbrev pub with_open : Scope → List CodeSite → Scope
-with_open k l = record { program = k.program; chain = k.chain; opened = l }
+-- records of two lists, the first of which were open before
+pub joined : (outer opened : List CodeSite) (before own all : List Site) → opened_within outer before ≡ opened → all
+    ≡ before ++ own → opened_within outer all ≡ opened_within opened own
+joined outer opened before own all e is =
+    ap (opened_within outer) is
+    ∙ ap (λ l. reverse l ++ outer) (map-append site_of before own)
+    ∙ ap (λ l. l ++ outer) (reverse-append (map site_of before) (map site_of own))
+    ∙ append_assoc (reverse (map site_of own)) (reverse (map site_of before)) outer
+    ∙ ap (λ l. reverse (map site_of own) ++ l) e
 
 further_in : (k : Scope) (l : List Site) (s : Site) → within k (l ++ s ∷ []) ≡ within_site (within k l) (site_of s)
-further_in k l s = ap (with_open k) (ap reverse (map-append site_of l (s ∷ [])) ∙ reverse-append (map site_of l)
-    (site_of s ∷ []))
+further_in k l s = ap (λ m. where_open k (m ++ k.opened)) (ap reverse (map-append site_of l (s ∷ [])) ∙ reverse-append
+    (map site_of l) (site_of s ∷ []))
 
 abbrev pub records_code : Scope → Bool → List Place → ℕ → List Instruction
 records_code k c l d = with_code k (map place_of l) c d

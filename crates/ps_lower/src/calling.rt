@@ -100,7 +100,7 @@ fn expr_calls_in(e: &Expr, levels: u32) -> bool
     part_calls(e, levels - 1)
 }
 
-/// Whether the code of an expression calls, of whose parts so many levels are looked at.
+/// Whether the code of an expression calls, of whose parts `levels` levels are looked at.
 #[cycle(calling)]
 #[tactic(auto, using(ps_tree::proofs::TreeLemmas::expr_of_Load, ps_tree::proofs::TreeLemmas::expr_of_Call, ps_tree::proofs::TreeLemmas::expr_of_CallFormal), unfolding(ps_tree::specs::View::expr_of))]
 fn part_calls(e: &Expr, levels: u32) -> bool
@@ -220,7 +220,7 @@ fn statement_calls_in(statement: &Statement, levels: u32) -> bool
     action_calls(statement, levels - 1)
 }
 
-/// Whether the code of a statement calls, of whose parts so many levels are looked at.
+/// Whether the code of a statement calls, of whose parts `levels` levels are looked at.
 #[cycle(calling_statements)]
 #[tactic(auto, using(ps_tree::proofs::StatementLemmas::statement_of_Compound, ps_tree::proofs::StatementLemmas::statement_of_Repeat, ps_tree::proofs::StatementLemmas::statement_of_Case), unfolding(ps_tree::specs::View::statement_of))]
 fn action_calls(statement: &Statement, levels: u32) -> bool

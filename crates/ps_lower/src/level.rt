@@ -3,11 +3,22 @@
 use crate::frames::Frames;
 use crate::site::Site;
 
+/// The records that are open. Those of a `with` are not copied for the ones within it: there may be very many of each.
+#[derive(Clone, Copy)]
+pub enum Records<'a> {
+    Outside,
+    /// Those that one `with` opened, innermost last, and those that were open before it.
+    Inside {
+        sites: &'a [Site],
+        outer: &'a Records<'a>,
+    },
+}
+
 /// A program with its frames, the numbers of a routine and of those enclosing it, innermost first, and the records that
-/// are open, innermost last.
+/// are open.
 #[derive(Clone, Copy)]
 pub struct Level<'a> {
     pub checked: &'a Frames<'a>,
     pub chain: &'a [u32],
-    pub opened: &'a [Site],
+    pub opened: Records<'a>,
 }

@@ -14,7 +14,7 @@ ghost use Rattle.tac_code.specs.declared.code.Instruction.TheVariants as i;
 
 use crate::calling::selectors_call;
 use crate::depth::{MAX_NUMBER, kept};
-use crate::level::Level;
+use crate::level::{Level, Records};
 use crate::levels::{entry, frame};
 use crate::out::Code;
 use crate::shapes::{component_bytes, field_offset, index_of, is_byte_array};
@@ -92,16 +92,24 @@ fn reference(
 }
 
 /// Where a record is that `with` opened, if there is one with this number; the innermost is 0.
-#[tactic(auto, using(crate::proofs::Opening::turned, crate::proofs::Opening::not_opened))]
 fn opened(level: &Level, which: u32) -> Option<Site>
     ensures { option_map site_of result ≡ slice_get (scope_of level.now).opened which }
 {
-    let count = level.opened.len();
-    let further = which as usize;
-    if count <= further {
-        return None;
+    let mut here = &level.opened;
+    let mut left = which as usize;
+    loop {
+        match here {
+            Records::Outside => return None,
+            Records::Inside { sites, outer } => {
+                let count = sites.len();
+                if left < count {
+                    return Some(sites[count - 1 - left]);
+                }
+                left -= count;
+                here = outer;
+            }
+        }
     }
-    Some(level.opened[count - 1 - further])
 }
 
 /// A field of a record that `with` opened.

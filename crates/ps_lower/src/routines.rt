@@ -17,7 +17,7 @@ use crate::count::{scratch_in, temporaries_in};
 use crate::depth::MAX_NUMBER;
 use crate::firsts::{first_at, firsts};
 use crate::frames::{Frames, table};
-use crate::level::Level;
+use crate::level::{Level, Records};
 use crate::marks::Mark;
 use crate::numbers::{larger, narrow};
 use crate::out::Code;
@@ -43,7 +43,7 @@ fn level<'a>(checked: &'a Frames<'a>, routine: &'a Routine) -> Level<'a>
     Level {
         checked,
         chain: routine.chain.as_slice(),
-        opened: &[],
+        opened: Records::Outside,
     }
 }
 

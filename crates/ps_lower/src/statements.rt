@@ -16,9 +16,9 @@ use crate::calling::{statement_calls, with_calls};
 use crate::cases::{close_elements, close_tests, tests};
 use crate::depth::MAX_NUMBER;
 use crate::known::{left_in, opposite, relation_in, right_in};
-use crate::level::Level;
+use crate::level::{Level, Records};
 use crate::objects::create;
-use crate::openings::open_all;
+use crate::openings::open_within;
 use crate::out::Code;
 use crate::packing::{Array, pack, unpack};
 use crate::procedures::{call_formal_procedure, call_procedure};
@@ -413,11 +413,14 @@ fn act_with(
         (tree.With (map place_of places.now) (statement_of body.now)) d) }
 {
     let calls = with_calls(body, places);
-    let opened = open_all(out, level, places, calls, d)?;
+    let opened = open_within(out, &*level, places, calls, d)?;
     let inner = Level {
         checked: level.checked,
         chain: level.chain,
-        opened: opened.sites.as_slice(),
+        opened: Records::Inside {
+            sites: opened.sites.as_slice(),
+            outer: opened.outer,
+        },
     };
     statement(out, &inner, body, opened.depth)
 }

@@ -11,7 +11,7 @@ use Rattle.ps_needs_least.specs.declared.least.Need.TheVariants.{Least, Endless}
 abbrev pub IsPath : Program → List ℕ → Type 0
 IsPath program rs = Path program (reverse rs)
 
--- the frames of these routines take so many bytes
+-- the bytes that the frames of these routines take
 abbrev pub Takes : (F : List ℕ) → List ℕ → (bytes : ℕ) → Type 0
 Takes F rs bytes = sum_by (λ r. get_or F r 0) rs ≡ bytes
 

@@ -45,8 +45,8 @@ fn depths_of(alloc: Global, nodes: &Nodes, frames: &[u32]) -> Result<Vec<Option<
     Ok(depths)
 }
 
-/// The least stack that holds each path of calls of a program, whose routines have frames of so many bytes each; or that there is no
-/// such stack.
+/// The least stack that holds each path of calls of a program whose routines have frames of these sizes in bytes; or that
+/// there is no such stack.
 pub fn least_stack(alloc: Global, checked: &Checked, frames: &[u32]) -> Result<Need, AllocError>
     requires count { length frames.now ≡ length checked.now.routines }
     requires positive { (r : ℕ) → r < length frames.now → 1 ≤ get_or frames.now r 0 }

@@ -60,7 +60,7 @@ returns-clause-depth c = opening_end (scope_of c.args.level.now) c.args.calls c.
 
 pub loop-variable-init : goal.loop-variable-init
 loop-variable-init c =
-    let e = ap (within (scope_of c.args.level.now)) c.in_ok-sites.ensures.items in (
+    let e = ap (within (scope_of c.args.level.now)) c.new-sites.ensures.items in (
       opening_start (scope_of c.args.level.now) c.args.calls c.args.d c.args.out.now c.args.records.now _ e,
       widening_start
           (scope_of c.args.level.now) c.args.calls c.args.records.now _ c.args.d e c.requires,

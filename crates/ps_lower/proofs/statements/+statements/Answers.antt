@@ -5,7 +5,7 @@ use Rattle.ps_tree.specs.View.{expr_of, place_of, statement_of, statements_of, e
 use Rattle.ps_tree.specs.declared.tree.CaseElement.{out-CaseElement}
 use Rattle.ps_lower_code.specs.Values.{front_code, opposite}
 use Rattle.ps_lower_code.specs.Statements.{statement_code, statements_code}
-use Rattle.ps_lower.specs.Levels.{scope_of, within}
+use Rattle.ps_lower.specs.Levels.{scope_of, opened_of, opened_within, where_open}
 use Rattle.ps_lower.proofs.Gathering.{assign_set_is}
 use Rattle.ps_lower.proofs.Deeds.{assign_structure_is, procedure_is, formal_procedure_is, with_is, with_told}
 use Rattle.ps_lower.proofs.Doings.{new_is, pack_is, unpack_is, read_is, readln_is}
@@ -182,10 +182,12 @@ pub act_with-returns : goal.act_with-returns
 act_with-returns t c =
     with_told (scope_of c.args.level.now) (map place_of c.args.places.now)
     (statement_of c.args.body.now) c.with_calls-calls.result c.args.d c.in_ok-opened.opened.depth
-    (within (scope_of c.args.level.now) c.as_slice.result.now) c.statement.result c.statement.new.out c.open_all.new.out
-    c.args.out.now
+    (where_open (scope_of c.args.level.now)
+    (opened_within (opened_of c.in_ok-opened.opened.outer.now) c.as_slice.result.now))
+    c.statement.result c.statement.new.out c.open_within.new.out c.args.out.now
     c.with_calls-calls.ensures c.in_ok-opened.ensures.code
-    (ap (within (scope_of c.args.level.now)) c.as_slice.ensures.value ∙ c.in_ok-opened.ensures.scope)
+    (ap (λ l. where_open (scope_of c.args.level.now) (opened_within (opened_of c.in_ok-opened.opened.outer.now) l))
+    c.as_slice.ensures.value ∙ c.in_ok-opened.ensures.scope)
     c.in_ok-opened.ensures.depth c.statement.ensures
 
 pub act-returns-in-AssignSet : goal.act-returns-in-AssignSet
@@ -296,8 +298,10 @@ act_with-statement-requires t c = (
   search (rules, the_lemmas, get_or_read),
   body_room (scope_of c.args.level.now) (map place_of c.args.places.now)
       (statement_of c.args.body.now) c.with_calls-calls.result c.args.d c.in_ok-opened.opened.depth
-      (within (scope_of c.args.level.now) c.as_slice.result.now)
-      c.with_calls-calls.ensures (ap (within (scope_of c.args.level.now)) c.as_slice.ensures.value
+      (where_open (scope_of c.args.level.now)
+      (opened_within (opened_of c.in_ok-opened.opened.outer.now) c.as_slice.result.now))
+      c.with_calls-calls.ensures (ap (λ l. where_open (scope_of c.args.level.now)
+      (opened_within (opened_of c.in_ok-opened.opened.outer.now) l)) c.as_slice.ensures.value
       ∙ c.in_ok-opened.ensures.scope) c.in_ok-opened.ensures.depth c.requires,
 )
 
