@@ -34,37 +34,22 @@ fn start_of(before: &[Token]) -> usize {
     0
 }
 
-// How a statement goes on: the constructions in it that need an end, and those of its `if`s that have no `else` yet.
-#[derive(Clone, Copy)]
-struct Within {
-    depth: u32,
-    ifs: u32,
-}
-
-impl Within {
-    // Whether a token ends the statement; else it is of it.
-    fn is_ended_by(&mut self, kind: Kind) -> bool {
-        match kind {
-            Kind::Begin | Kind::Case | Kind::Repeat => self.depth = self.depth.saturating_add(1),
-            Kind::End | Kind::Until if self.depth == 0 => return true,
-            Kind::End | Kind::Until => self.depth = self.depth.saturating_sub(1),
-            _ if self.depth > 0 => (),
-            Kind::Semicolon => return true,
-            Kind::Else if self.ifs == 0 => return true,
-            Kind::Else => self.ifs = self.ifs.saturating_sub(1),
-            Kind::If => self.ifs = self.ifs.saturating_add(1),
-            _ => (),
-        }
-        false
-    }
-}
-
 // How many tokens a statement has that they begin with.
 fn length_of(tokens: &[Token]) -> usize {
-    let mut within = Within { depth: 0, ifs: 0 };
+    // the constructions in it that need an end, and those of its `if`s that have no `else` yet
+    let mut depth: u32 = 0;
+    let mut ifs: u32 = 0;
     for (count, token) in tokens.iter().enumerate() {
-        if within.is_ended_by(token.kind) {
-            return count;
+        match token.kind {
+            Kind::Begin | Kind::Case | Kind::Repeat => depth = depth.saturating_add(1),
+            Kind::End | Kind::Until if depth == 0 => return count,
+            Kind::End | Kind::Until => depth = depth.saturating_sub(1),
+            _ if depth > 0 => (),
+            Kind::Semicolon => return count,
+            Kind::Else if ifs == 0 => return count,
+            Kind::Else => ifs = ifs.saturating_sub(1),
+            Kind::If => ifs = ifs.saturating_add(1),
+            _ => (),
         }
     }
     tokens.len()

@@ -1,5 +1,6 @@
 //! Changes of one token near a place, and how far each leads.
 
+use crate::places::token_before;
 use crate::possible::{Around, taken};
 use crate::reduced::made;
 use ps_diagnose::written;
@@ -196,16 +197,17 @@ fn is_word(text: &str) -> bool {
 // What is put into the text for a token of a kind, behind another one.
 fn put_text(alloc: Global, kind: Kind, touches: bool) -> Result<String, AllocError> {
     let text = written(kind).unwrap_or("");
-    match kind {
-        Kind::Assign | Kind::Equal => format!(in alloc; " {text}"),
-        _ if !is_word(text) => String::from_str(alloc, text),
-        _ if touches => format!(in alloc; " {text} "),
-        _ => format!(in alloc; " {text}"),
-    }
+    let (before, behind) = match kind {
+        Kind::Assign | Kind::Equal => (" ", ""),
+        _ if !is_word(text) => ("", ""),
+        _ if touches => (" ", " "),
+        _ => (" ", ""),
+    };
+    format!(in alloc; "{before}{text}{behind}")
 }
 
 fn edit_behind(alloc: Global, tokens: &[Token], at: usize, kind: Kind) -> Result<Edit, AllocError> {
-    let from = match at.checked_sub(1).and_then(|before| tokens.get(before)) {
+    let from = match token_before(tokens, at) {
         Some(token) => token.span.to,
         None => 0,
     };

@@ -31,12 +31,13 @@ fn draft_of_names(alloc: Global, fault: &ReportedFault<'_>) -> Result<Option<Dra
 // What is told where no reason is known.
 fn sentence(alloc: Global, fault: &ReportedFault<'_>) -> Result<String, AllocError> {
     let token = piece(fault.source.bytes(), fault.place);
-    match fault.number {
-        20 => format!(in alloc; "`{token}` cannot stand here"),
-        30 => format!(in alloc; "`{token}` is not declared"),
-        31 => format!(in alloc; "`{token}` is declared twice in this block"),
-        _ => format!(in alloc; "`{token}` is refused here"),
-    }
+    let told = match fault.number {
+        20 => "cannot stand here",
+        30 => "is not declared",
+        31 => "is declared twice in this block",
+        _ => "is refused here",
+    };
+    format!(in alloc; "`{token}` {told}")
 }
 
 fn plain_draft(alloc: Global, fault: &ReportedFault<'_>) -> Result<Draft, AllocError> {
@@ -53,11 +54,6 @@ fn plain_draft(alloc: Global, fault: &ReportedFault<'_>) -> Result<Draft, AllocE
 /// Whether a draft tells nothing but that a token is refused.
 pub(crate) fn is_plain(draft: &Draft) -> bool {
     draft.text.ends_with(PLAIN)
-}
-
-/// Whether a draft tells what to do, so that a change which says something else is none to be shown beside it.
-pub(crate) fn is_advised(draft: &Draft) -> bool {
-    !draft.helps.is_empty()
 }
 
 /// Tells that a token of a kind is missing before the place.

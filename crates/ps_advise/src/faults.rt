@@ -5,7 +5,7 @@ ghost use Rattle.ps_advise.specs.Trials.{AreGradedOf, HasMendsOf, IsMendOf, Name
 
 use crate::budget::Budget;
 use crate::candidates::Change;
-use crate::drafts::{draft_of, is_advised, is_plain, tell_missing};
+use crate::drafts::{draft_of, is_plain, tell_missing};
 use crate::mends::{Faulty, Found, Graded, best_of, is_meant, mends_of, nearest_mend};
 use crate::possible::{Around, around_place, expected};
 use crate::routines::{function_of, routine_around};
@@ -29,10 +29,13 @@ pub(crate) struct Told {
 
 // Whether a refusal tells a token that no program has there.
 fn is_of_grammar(refusal: Refusal) -> bool {
-    match refusal {
-        Refusal::Parse { fault, .. } => matches!(fault, ParseFault::NotAProgram),
-        _ => false,
-    }
+    matches!(
+        refusal,
+        Refusal::Parse {
+            fault: ParseFault::NotAProgram,
+            ..
+        }
+    )
 }
 
 // Whether the text is accepted with one of the mends.
@@ -119,7 +122,8 @@ fn drafted_by_grammar(
     let Some(around) = around else {
         return Ok(drafted);
     };
-    if has_accepted(drafted.mends.as_slice()) || is_advised(&drafted.draft) {
+    // (a change that says something else than what is advised is none to be shown beside it)
+    if has_accepted(drafted.mends.as_slice()) || !drafted.draft.helps.is_empty() {
         return Ok(drafted);
     }
     let found = nearest_mend(alloc, faulty, around, budget)?;
@@ -173,11 +177,12 @@ fn home_of(alloc: Global, faulty: Faulty<'_>) -> Result<u32, AllocError> {
         } => function_of(faulty.tokens, faulty.at),
         _ => routine_around(alloc, faulty.tokens, faulty.at)?,
     };
-    Ok(match word {
-        Some(word) => faulty
-            .tokens
-            .get(word)
-            .map_or(u32::MAX, |token| token.span.from),
+    let token = match word {
+        Some(word) => faulty.tokens.get(word),
+        None => None,
+    };
+    Ok(match token {
+        Some(token) => token.span.from,
         None => u32::MAX,
     })
 }

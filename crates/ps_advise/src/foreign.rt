@@ -1,6 +1,6 @@
 //! Names that are not declared, and that other Pascals and other languages have.
 
-use crate::places::{piece, position, slice, token_at};
+use crate::places::{kind_at, piece, position, slice, token_at};
 use crate::routines::{name_of, routine_around};
 use ps_diagnose::{Draft, ReportedFault, Trial};
 use ps_diagnose_tokens::{Part, Row, other_pascal, part_at};
@@ -18,11 +18,14 @@ const UNKNOWN: u8 = 30;
 // The row of words in a part, and among statements for those of a function, if it tells of a name that is not declared.
 fn row_of(part: Part, words: &str) -> Option<Row> {
     let row = match other_pascal(part, words) {
-        Some(row) => Some(row),
-        None if part == Part::Function => other_pascal(Part::Statements, words),
-        None => None,
+        None if matches!(part, Part::Function) => other_pascal(Part::Statements, words)?,
+        row => row?,
     };
-    row.filter(|row| row.number == Some(UNKNOWN))
+    if matches!(row.number, Some(UNKNOWN)) {
+        Some(row)
+    } else {
+        None
+    }
 }
 
 // The row of the name at the number of a token.
@@ -43,13 +46,6 @@ fn row_at(
         }
     }
     Ok(row_of(part, name))
-}
-
-fn kind_at(tokens: &[Token], at: usize) -> Option<Kind> {
-    match tokens.get(at) {
-        Some(token) => Some(token.kind),
-        None => None,
-    }
 }
 
 // The uses of a name from the number of a token on, as far as they are told and one more.
@@ -188,7 +184,7 @@ fn assignment(
     alloc: Global,
     fault: &ReportedFault<'_>,
     at: usize,
-    row: Row,
+    row: &Row,
 ) -> Result<Option<Trial>, AllocError> {
     let text = fault.source.bytes();
     let (Some(sign), Some((actuals, to))) = (sign_of(row.word), actuals_of(fault.tokens, at)) else {
@@ -199,17 +195,9 @@ fn assignment(
     };
     let from = fault.place.from;
     let span = Span { from, to };
-    let call = piece(text, span);
-    let place = position(alloc, text, from)?;
     let put = format!(in alloc; "{variable} := {variable} {sign} {step}")?;
-    let words = format!(in alloc; "write `{put}` for `{call}` at {place}")?;
-    let mut edits = Vec::new(alloc);
-    edits.push(Edit { span, put })?;
-    Ok(Some(Trial {
-        text: words,
-        edits,
-        cost: 0,
-    }))
+    let trial = exchange(alloc, text, &[span], piece(text, span), put.as_str())?;
+    Ok(Some(trial))
 }
 
 // The name of the function around the number of a token, if that is one.
@@ -229,7 +217,7 @@ fn put_for<'a>(
     alloc: Global,
     fault: &ReportedFault<'a>,
     at: usize,
-    row: Row,
+    row: &Row,
 ) -> Result<&'a str, AllocError> {
     if row.word == "result" {
         return function_around(alloc, fault, at);
@@ -242,7 +230,7 @@ fn add_trials(
     alloc: Global,
     fault: &ReportedFault<'_>,
     at: usize,
-    row: Row,
+    row: &Row,
     uses: &[Span],
     draft: &mut Draft,
 ) -> Result<(), AllocError> {
@@ -280,7 +268,7 @@ fn told_by(
     alloc: Global,
     fault: &ReportedFault<'_>,
     at: usize,
-    row: Row,
+    row: &Row,
 ) -> Result<Draft, AllocError> {
     let text = fault.source.bytes();
     let name = piece(text, fault.place);
@@ -311,7 +299,7 @@ pub(crate) fn draft_by_table(
     let at = token_at(fault.tokens, fault.place.from);
     let name = piece(fault.source.bytes(), fault.place);
     match row_at(alloc, fault, at, name)? {
-        Some(row) => Ok(Some(told_by(alloc, fault, at, row)?)),
+        Some(row) => Ok(Some(told_by(alloc, fault, at, &row)?)),
         None => Ok(None),
     }
 }

@@ -7,7 +7,7 @@ ghost use Rattle.ps_advise.specs.Trials.{AreGradedOf, AreMendsOf, IsMendOf, Says
 
 use crate::budget::Budget;
 use crate::candidates::{Candidate, Change, NEAREST, PUT_HERE, candidates_near, edit_of, reach_of};
-use crate::places::{piece, position};
+use crate::places::{piece, position, token_before};
 use crate::possible::Around;
 use crate::trial::{Verdict, tried};
 use ps_build::Refusal;
@@ -173,23 +173,32 @@ pub(crate) fn tried_mends(
 
 // A change of one token, in words.
 fn words_of(alloc: Global, faulty: Faulty<'_>, candidate: Candidate) -> Result<String, AllocError> {
+    match candidate.change {
+        Change::LeaveOut => words_of_exchange(alloc, faulty, candidate.at, None),
+        Change::Exchange(kind) => {
+            let new = written(kind).unwrap_or("");
+            words_of_exchange(alloc, faulty, candidate.at, Some(new))
+        }
+        Change::PutIn(kind) => words_of_put(alloc, faulty, candidate.at, kind),
+    }
+}
+
+// What a token is exchanged for, in words; where that is nothing it is taken away.
+fn words_of_exchange(
+    alloc: Global,
+    faulty: Faulty<'_>,
+    at: usize,
+    new: Option<&str>,
+) -> Result<String, AllocError> {
     let text = faulty.source.bytes();
-    let token = faulty.tokens.get(candidate.at);
-    let (old, from) = match token {
+    let (old, from) = match faulty.tokens.get(at) {
         Some(token) => (piece(text, token.span), token.span.from),
         None => ("", 0),
     };
-    match candidate.change {
-        Change::LeaveOut => {
-            let place = position(alloc, text, from)?;
-            format!(in alloc; "take away `{old}` at {place}")
-        }
-        Change::Exchange(kind) => {
-            let place = position(alloc, text, from)?;
-            let new = written(kind).unwrap_or("");
-            format!(in alloc; "write `{new}` for `{old}` at {place}")
-        }
-        Change::PutIn(kind) => words_of_put(alloc, faulty, candidate.at, kind),
+    let place = position(alloc, text, from)?;
+    match new {
+        Some(new) => format!(in alloc; "write `{new}` for `{old}` at {place}"),
+        None => format!(in alloc; "take away `{old}` at {place}"),
     }
 }
 
@@ -202,10 +211,7 @@ fn words_of_put(
 ) -> Result<String, AllocError> {
     let text = faulty.source.bytes();
     let new = written(kind).unwrap_or("");
-    match at
-        .checked_sub(1)
-        .and_then(|before| faulty.tokens.get(before))
-    {
+    match token_before(faulty.tokens, at) {
         Some(token) => {
             let old = piece(text, token.span);
             let place = position(alloc, text, token.span.to)?;

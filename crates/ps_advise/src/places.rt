@@ -3,13 +3,26 @@
 ghost use Rattle.ps_advise.specs.Trials.{Shows};
 
 use ps_build::Place;
-use ps_scan::Token;
+use ps_scan::{Kind, Token};
 use ps_text::Span;
 use std::alloc::{AllocError, Global};
 
 /// The number of the first token that doesn't begin before an offset.
 pub(crate) fn token_at(tokens: &[Token], offset: u32) -> usize {
     tokens.partition_point(|token| token.span.from < offset)
+}
+
+/// The kind of the token of a number, if there is one.
+pub(crate) fn kind_at(tokens: &[Token], at: usize) -> Option<Kind> {
+    match tokens.get(at) {
+        Some(token) => Some(token.kind),
+        None => None,
+    }
+}
+
+/// The token before that of a number, if there is one.
+pub(crate) fn token_before(tokens: &[Token], at: usize) -> Option<&Token> {
+    tokens.get(at.checked_sub(1)?)
 }
 
 /// The bytes of a span; none where it is not of the text.

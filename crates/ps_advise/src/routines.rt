@@ -1,6 +1,6 @@
 //! Routines of a text by their tokens: which one is around a place, and what can stand in its block for all that it does.
 
-use crate::places::{piece, slice};
+use crate::places::{kind_at, piece, slice};
 use ps_scan::{Kind, Token, is_same_name};
 use std::alloc::{AllocError, Global};
 
@@ -146,14 +146,6 @@ pub(crate) fn routine_at(
         }
     }
     Ok(None)
-}
-
-// The kind of a token, if there is one.
-fn kind_at(tokens: &[Token], at: usize) -> Option<Kind> {
-    match tokens.get(at) {
-        Some(token) => Some(token.kind),
-        None => None,
-    }
 }
 
 // Where the names of parameters are told.

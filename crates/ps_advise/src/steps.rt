@@ -31,6 +31,14 @@ fn mended(alloc: Global, mends: &[Mend]) -> Result<Vec<Edit>, AllocError> {
     }
 }
 
+// Where the last of some edits ends.
+fn end_of(edits: &[Edit]) -> u32 {
+    match edits.last() {
+        Some(edit) => edit.span.to,
+        None => 0,
+    }
+}
+
 // Adds the edit that takes a statement out, behind others.
 fn add_blank(
     alloc: Global,
@@ -39,12 +47,8 @@ fn add_blank(
     at: usize,
     edits: &mut Vec<Edit>,
 ) -> Result<(), AllocError> {
-    let behind = match edits.last() {
-        Some(edit) => edit.span.to,
-        None => 0,
-    };
     match statement_around(tokens, at) {
-        Some(span) if span.from >= behind => {
+        Some(span) if span.from >= end_of(edits.as_slice()) => {
             edits.push(blanked(alloc, text, span)?)?;
         }
         _ => (),
@@ -74,8 +78,7 @@ fn without_uses(alloc: Global, faulty: Faulty<'_>) -> Result<Vec<Edit>, AllocErr
     for (at, token) in faulty.tokens.iter().enumerate().skip(faulty.at) {
         let is_use = matches!(token.kind, Kind::Name)
             && is_same_name(slice(text, token.span), name);
-        let behind = edits.last().map_or(0, |edit: &Edit| edit.span.to);
-        if is_use && token.span.from >= behind {
+        if is_use && token.span.from >= end_of(edits.as_slice()) {
             add_blank(alloc, text, faulty.tokens, at, &mut edits)?;
         }
     }

@@ -1,7 +1,7 @@
 //! Values that cannot be assigned (35).
 
 use crate::context::Context;
-use crate::facts::{is_text, variable_in};
+use crate::facts::{ARRAY, BOOLEAN, CHAR, INTEGER, SET, is_text, variable_in};
 use crate::spot::Passed;
 use crate::why::{Change, Help, Mark, Why};
 use ps_diagnose_outline::{Form, Point, Type};
@@ -88,7 +88,7 @@ impl<'a> Context<'a> {
                     why.help = Help::Is("`@y` takes it as a packed array [1..@N] of char");
                 }
             }
-            _ if self.is_char(target.wanted) => {
+            _ if self.is(target.wanted, CHAR) => {
                 why.form = "a string of @N characters is not assignable to `@y`, a char";
                 why.help = Help::Is(
                     "a char is one character; a string is a packed array [1..@N] of char",
@@ -211,14 +211,22 @@ impl<'a> Context<'a> {
             return change;
         }
         match (self.outline.form(wanted), self.outline.form(given)) {
-            (Some(Form::Boolean), Some(Form::Integer)) => self.boolean_change(text),
+            (Some(Form::Boolean), Some(Form::Integer)) => match self.outline.bytes(text) {
+                b"1" => Change::For(text, "true"),
+                b"0" => Change::For(text, "false"),
+                _ => Change::Behind(text, " ", "<> 0"),
+            },
             (
                 Some(Form::Integer),
                 Some(Form::Integer | Form::Boolean | Form::Char | Form::Enumeration(_)),
             ) => Change::For(text, "ord(@a)"),
             (Some(Form::Char), Some(Form::Integer)) => Change::For(text, "chr(@a)"),
             (Some(Form::Boolean), Some(Form::Text(_) | Form::Array { .. })) => {
-                self.truth_text_change(text)
+                match self.outline.bytes(text) {
+                    bytes if bytes.eq_ignore_ascii_case(b"'true'") => Change::For(text, "true"),
+                    bytes if bytes.eq_ignore_ascii_case(b"'false'") => Change::For(text, "false"),
+                    _ => Change::None,
+                }
             }
             (Some(Form::Pointer(_)), _) if matches!(self.outline.bytes(text), b"0") => {
                 Change::For(text, "nil")
@@ -235,43 +243,27 @@ impl<'a> Context<'a> {
 
     // How a value is made one of another type, where that isn't told by a change alone.
     fn value_help(&self, wanted: Type, given: Type, text: Span) -> Help {
-        let is_told = self.is_boolean(wanted) && (self.is_integer(given) || self.is_string(given));
+        let is_told = self.is(wanted, BOOLEAN)
+            && (self.is(given, INTEGER) || self.is_string(given));
         if is_told && matches!(self.literal_change(wanted, given, text), Change::None) {
             return Help::None;
         }
         self.conversion(wanted, given, text)
     }
 
-    // Tries `true` and `false` without apostrophes.
-    fn truth_text_change(&self, text: Span) -> Change {
-        let bytes = self.outline.bytes(text);
-        if bytes.eq_ignore_ascii_case(b"'true'") {
-            return Change::For(text, "true");
-        }
-        if bytes.eq_ignore_ascii_case(b"'false'") {
-            return Change::For(text, "false");
-        }
-        Change::None
-    }
-
-    // Tries a Boolean for an integer.
-    fn boolean_change(&self, text: Span) -> Change {
-        match self.outline.bytes(text) {
-            b"1" => Change::For(text, "true"),
-            b"0" => Change::For(text, "false"),
-            _ => Change::Behind(text, " ", "<> 0"),
-        }
-    }
-
     // What is done with arrays, records and pointers in place of an assignment.
     fn with_structure(&self, target: Target, value: &Expr, why: &mut Why) {
         match self.outline.form(target.wanted) {
             Some(Form::Array { index, .. }) => {
-                if self.is_commented(target.text.to) {
+                let gap = Span {
+                    from: target.text.to,
+                    to: self.fault.place.from,
+                };
+                if self.outline.bytes(gap).contains(&b'{') {
                     why.add_help(Help::Is(COMMENTED));
                 } else if is_text(value) {
                     self.with_packed(target.wanted, why);
-                } else if self.is_set(target.given) {
+                } else if self.is(target.given, SET) {
                     why.add_help(Help::Is("its components are assigned one by one"));
                 } else {
                     self.with_components(index, self.expr_span(value), why);
@@ -291,15 +283,6 @@ impl<'a> Context<'a> {
             Some(Form::Enumeration(denoter)) => why.add_help(self.values_of(denoter)),
             _ => {}
         }
-    }
-
-    // Whether a comment stands between an offset and the place.
-    fn is_commented(&self, from: u32) -> bool {
-        let gap = Span {
-            from,
-            to: self.fault.place.from,
-        };
-        self.outline.bytes(gap).contains(&b'{')
     }
 
     // A string for an array that is no string type.
@@ -359,7 +342,7 @@ impl<'a> Context<'a> {
         why.mark = Mark::Here(formal.name);
         why.change = self.value_change(wanted, given, text);
         why.help = self.value_help(wanted, given, text);
-        if self.is_set(given) && matches!(self.outline.form(wanted), Some(Form::Array { .. })) {
+        if self.is(given, SET) && self.is(wanted, ARRAY) {
             why.help = Help::Is("its components are assigned one by one, before it is passed");
         }
         true

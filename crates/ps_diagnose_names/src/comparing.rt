@@ -1,10 +1,9 @@
 //! Operands that cannot be compared (34).
 
 use crate::context::Context;
-use crate::facts::{factor_in_simple, relation_word};
-use crate::required::Known;
+use crate::facts::{BOOLEAN, SET, SIMPLE, factor_in_simple, relation_word};
 use crate::why::{Change, Help, Mark, Why};
-use ps_diagnose_outline::{Form, Type};
+use ps_diagnose_outline::{Form, Known, Type};
 use ps_syntax::{Factor, Relational, Simple};
 use ps_text::Span;
 
@@ -43,12 +42,12 @@ impl<'a> Context<'a> {
 
     // `in` behind which no set stands, or no member before it.
     fn wrong_in(&self, pair: Pair, right: &Simple, why: &mut Why) -> bool {
-        if !self.is_set(pair.second) {
+        if !self.is(pair.second, SET) {
             why.form = "behind `in` stands a set, and `@x` is @t";
             why.text = pair.right;
             why.ty = pair.second;
             why.mark = Mark::Declared(pair.right);
-            if self.is_simple(pair.second) {
+            if self.is(pair.second, SIMPLE) {
                 why.change = Change::For(pair.right, "[@a]");
             } else if self.is_string(pair.second) {
                 why.help = Help::Is("a set of characters is written as ['a', 'b']");
@@ -144,7 +143,7 @@ impl<'a> Context<'a> {
                 "`@w` cannot compare pointers: `=` and `<>` can"
             }
             (Some(Form::Set(_)), Relational::Less | Relational::Greater)
-                if self.is_set(pair.second) => {
+                if self.is(pair.second, SET) => {
                 "`@w` cannot compare sets: `=`, `<>`, `<=` and `>=` can"
             }
             _ => return false,
@@ -175,8 +174,11 @@ impl<'a> Context<'a> {
             why.help = self.conversion(pair.first, pair.second, pair.right);
             why.next_help = self.conversion(pair.second, pair.first, pair.left);
         }
-        if self.is_set(pair.second) && matches!(pair.relation, Relational::Equal) {
-            self.with_in(pair, why);
+        if self.is(pair.second, SET) && matches!(pair.relation, Relational::Equal) {
+            why.help = Help::Is("whether a value is a member of a set is asked by `in`");
+            if let Some(sign) = self.outline.token_before(pair.right.from) {
+                why.change = Change::For(sign.span, "in");
+            }
         }
         if matches!(self.known(pair.right), Known::End) {
             why.help = Help::Of("`@a` is a condition by itself, as in `not @a`", pair.right);
@@ -184,17 +186,9 @@ impl<'a> Context<'a> {
         true
     }
 
-    // Tries `in` for a relation before a set.
-    fn with_in(&self, pair: Pair, why: &mut Why) {
-        why.help = Help::Is("whether a value is a member of a set is asked by `in`");
-        if let Some(sign) = self.outline.token_before(pair.right.from) {
-            why.change = Change::For(sign.span, "in");
-        }
-    }
-
     // Whether a Boolean is compared by `=` or `<>`.
     fn is_truth(&self, pair: Pair) -> bool {
-        self.is_boolean(pair.first) && is_equality(pair.relation)
+        self.is(pair.first, BOOLEAN) && is_equality(pair.relation)
     }
 
     // What makes both sides of one type.

@@ -89,14 +89,6 @@ impl<'a> Context<'a> {
         out.put_made(number.to_string(self.alloc));
     }
 
-    // Puts a number of things.
-    fn put_count(&self, out: &mut Text, count: i64) {
-        match count {
-            0 => out.put("none"),
-            _ => self.put_number(out, count),
-        }
-    }
-
     /// Puts a place as line and column.
     pub(crate) fn put_place(&self, out: &mut Text, offset: u32) {
         let within = offset.min(self.fault.source.len());
@@ -141,10 +133,10 @@ impl<'a> Context<'a> {
             'p' => self.put_span(out, self.fault.place, own),
             't' => self.put_type(out, why.ty),
             'u' => self.put_type(out, why.second),
-            'n' => self.put_number(out, why.number),
-            'm' => self.put_number(out, why.further),
-            'N' => self.put_count(out, why.number),
-            'M' => self.put_count(out, why.further),
+            'N' if why.number == 0 => out.put("none"),
+            'M' if why.further == 0 => out.put("none"),
+            'n' | 'N' => self.put_number(out, why.number),
+            'm' | 'M' => self.put_number(out, why.further),
             'w' => out.put(why.word),
             'k' => out.put(kind_words(why.kind)),
             'l' => self.put_place(out, why.other.from),

@@ -1,23 +1,28 @@
 //! Control variables (39), and parts of packed variables (40).
 
 use crate::context::Context;
-use crate::required::Known;
 use crate::spot::Passed;
 use crate::why::{Help, Mark, Why};
-use ps_diagnose_outline::{Point, PointKind};
+use ps_diagnose_outline::{Known, Point, PointKind};
 use ps_scan::Kind;
 use ps_text::Span;
 
 impl<'a> Context<'a> {
     /// A variable that controls a `for`.
     pub(crate) fn control_variable(&self, why: &mut Why) -> bool {
-        let Some(point) = self.point_here() else {
+        let Some(point) = self.outline.declared(self.fault.place) else {
             return false;
         };
         match self.open_control(point) {
             Some(control) => self.changed_within(control, why),
             None if self.seen.is_control => self.foreign_control(point, why),
-            None => self.changed_elsewhere(point, why),
+            None => {
+                why.form = "`@p` controls a `for` of the block around, and is changed here";
+                if let Some(control) = self.for_of(point) {
+                    why.mark = self.for_mark(control);
+                }
+                why.help = Help::Is("use a variable that no routine within this block changes");
+            }
         }
         true
     }
@@ -93,16 +98,6 @@ impl<'a> Context<'a> {
             Some(token) => Mark::At("that `for`", token.span),
             None => Mark::None,
         }
-    }
-
-    // A change in a routine of the block whose `for` the variable controls.
-    fn changed_elsewhere(&self, point: Point, why: &mut Why) {
-        why.form = "`@p` controls a `for` of the block around, and is changed here";
-        why.mark = match self.for_of(point) {
-            Some(control) => self.for_mark(control),
-            None => Mark::None,
-        };
-        why.help = Help::Is("use a variable that no routine within this block changes");
     }
 
     // The control variable of the first `for` that a variable controls.

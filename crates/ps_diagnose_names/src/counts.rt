@@ -1,9 +1,8 @@
 //! Numbers of parameters (41).
 
 use crate::context::Context;
-use crate::required::Known;
 use crate::why::{Help, Mark, Why};
-use ps_diagnose_outline::{Point, PointKind};
+use ps_diagnose_outline::{Known, Point, PointKind};
 use ps_text::Span;
 
 impl<'a> Context<'a> {
@@ -12,13 +11,9 @@ impl<'a> Context<'a> {
         if self.unlike_passed(why) {
             return true;
         }
-        match self.seen.called {
-            Some((name, given)) => self.wrong_count(name, given, why),
-            None => false,
-        }
-    }
-
-    fn wrong_count(&self, name: Span, given: u32, why: &mut Why) -> bool {
+        let Some((name, given)) = self.seen.called else {
+            return false;
+        };
         match self.outline.declared(name) {
             Some(routine) if routine.count == given => false,
             Some(routine) => {

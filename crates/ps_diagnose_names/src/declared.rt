@@ -2,30 +2,23 @@
 
 use crate::spot::Spot;
 use crate::walk::Walk;
-use ps_syntax::{
-    Block, Constant, Fields, Heading, Ordinal, Routine, Section, Structure, TypeDenoter,
-};
+use ps_syntax::{Block, Constant, Heading, Ordinal, Routine, Section, Structure, TypeDenoter};
 
 impl<'a> Walk<'a> {
     #[cycle(block)]
     pub(crate) fn block(&mut self, block: &'a Block) {
         self.definitions(block);
         for routine in block.routines.as_slice() {
-            self.routine(routine);
+            match routine {
+                Routine::Whole(heading, block) => {
+                    self.heading(heading);
+                    self.block(block)
+                }
+                Routine::Forward(heading) => self.heading(heading),
+                Routine::Completion(_, block) => self.block(block),
+            }
         }
         self.statements(block.statements.as_slice())
-    }
-
-    #[cycle(block)]
-    fn routine(&mut self, routine: &'a Routine) {
-        match routine {
-            Routine::Whole(heading, block) => {
-                self.heading(heading);
-                self.block(block)
-            }
-            Routine::Forward(heading) => self.heading(heading),
-            Routine::Completion(_, block) => self.block(block),
-        }
     }
 
     // The parts of a block that define constants, types and variables.
@@ -84,18 +77,15 @@ impl<'a> Walk<'a> {
                 self.index_types(indices.as_slice());
                 self.denoter(component.get())
             }
-            Structure::Record(_, fields) => self.fields(fields.as_slice()),
+            Structure::Record(_, fields) => {
+                for section in fields.as_slice() {
+                    self.denoter(&section.ty);
+                }
+            }
             Structure::Set(at, base) => {
                 self.note(at.from, Spot::SetType(base));
                 self.ordinal(base)
             }
-        }
-    }
-
-    #[cycle(denoter)]
-    fn fields(&mut self, sections: &'a [Fields]) {
-        for section in sections {
-            self.denoter(&section.ty);
         }
     }
 
@@ -110,16 +100,14 @@ impl<'a> Walk<'a> {
         match ordinal {
             Ordinal::Name(name) => self.note(name.from, Spot::TypeName(*name)),
             Ordinal::Enumeration(..) => {}
-            Ordinal::Subrange(low, high) => self.range(*low, *high),
+            Ordinal::Subrange(low, high) => {
+                let spot = Spot::Range(*low, *high);
+                self.note(low.first_token(), spot);
+                self.note(high.first_token(), spot);
+                self.note(behind_sign(*low), spot);
+                self.note(behind_sign(*high), spot)
+            }
         }
-    }
-
-    fn range(&mut self, low: Constant, high: Constant) {
-        let spot = Spot::Range(low, high);
-        self.note(low.first_token(), spot);
-        self.note(high.first_token(), spot);
-        self.note(behind_sign(low), spot);
-        self.note(behind_sign(high), spot)
     }
 }
 

@@ -1,18 +1,14 @@
 //! What is asked of a text where a sentence is made.
 
 use crate::context::Context;
-use crate::required::{Known, known_of};
-use ps_diagnose_outline::{Denoted, Form, Part, Point, PointKind, Required, RequiredKind, Type};
+use ps_diagnose_outline::{
+    Denoted, Form, Known, Part, Point, PointKind, Required, RequiredKind, Type,
+};
 use ps_scan::Token;
 use ps_syntax::{Expr, Factor, Relational, Simple, Term, Variable};
 use ps_text::Span;
 
 impl<'a> Context<'a> {
-    /// What the name at the place denotes, if it is declared.
-    pub(crate) fn point_here(&self) -> Option<Point> {
-        self.outline.declared(self.fault.place)
-    }
-
     /// The kind of what a name denotes.
     pub(crate) fn kind_of(&self, name: Span) -> Option<PointKind> {
         match self.outline.denoted(name) {
@@ -33,19 +29,14 @@ impl<'a> Context<'a> {
     /// What a required name is that a name denotes.
     pub(crate) fn known(&self, name: Span) -> Known {
         match self.outline.required(name) {
-            Some(required) => known_of(required),
+            Some(required) => required.known,
             None => Known::No,
         }
     }
 
-    /// The tokens that begin behind an offset.
-    pub(crate) fn tokens_behind(&self, offset: u32) -> &'a [Token] {
-        self.outline.tokens_from(offset)
-    }
-
     /// The token that begins at an offset or is the first behind it.
     pub(crate) fn token_at(&self, offset: u32) -> Option<Token> {
-        self.tokens_behind(offset).first().copied()
+        self.outline.tokens_from(offset).first().copied()
     }
 
     /// The span of a whole expression.
@@ -104,28 +95,19 @@ impl<'a> Context<'a> {
         }
     }
 
-    /// Whether a type is a simple one.
-    pub(crate) fn is_simple(&self, ty: Type) -> bool {
-        matches!(
-            self.outline.form(ty),
-            Some(Form::Integer | Form::Boolean | Form::Char | Form::Enumeration(_))
-        )
-    }
-
-    pub(crate) fn is_integer(&self, ty: Type) -> bool {
-        matches!(self.outline.form(ty), Some(Form::Integer))
-    }
-
-    pub(crate) fn is_boolean(&self, ty: Type) -> bool {
-        matches!(self.outline.form(ty), Some(Form::Boolean))
-    }
-
-    pub(crate) fn is_char(&self, ty: Type) -> bool {
-        matches!(self.outline.form(ty), Some(Form::Char))
-    }
-
-    pub(crate) fn is_set(&self, ty: Type) -> bool {
-        matches!(self.outline.form(ty), Some(Form::Set(_)))
+    /// Whether a type is among some.
+    pub(crate) fn is(&self, ty: Type, types: u32) -> bool {
+        let own = match self.outline.form(ty) {
+            Some(Form::Integer) => INTEGER,
+            Some(Form::Boolean) => BOOLEAN,
+            Some(Form::Char) => CHAR,
+            Some(Form::Enumeration(_)) => ENUMERATION,
+            Some(Form::Set(_)) => SET,
+            Some(Form::Pointer(_)) => POINTER,
+            Some(Form::Array { .. }) => ARRAY,
+            _ => 0,
+        };
+        types & own != 0
     }
 
     /// Whether a type is that of a string.
@@ -154,21 +136,13 @@ impl<'a> Context<'a> {
         let region = self.outline.region_at(self.fault.place.from);
         let mut best = None;
         for point in self.outline.points() {
-            if self.is_variable_like(*point, wanted, region) {
-                best = Some(*point);
+            if let (PointKind::Variable, Some(own)) = (point.kind, point.ty) {
+                if self.is_one_simple(own, wanted) && self.is_visible(region, *point) {
+                    best = Some(*point);
+                }
             }
         }
         best
-    }
-
-    // Whether a point is a variable that is visible in a region, of a type of the same form.
-    fn is_variable_like(&self, point: Point, wanted: Type, region: u32) -> bool {
-        match (point.kind, point.ty) {
-            (PointKind::Variable, Some(ty)) => {
-                self.is_one_simple(ty, wanted) && self.is_visible(region, point)
-            }
-            _ => false,
-        }
     }
 
     /// Whether a point is what its spelling denotes in a region.
@@ -245,10 +219,59 @@ pub(crate) fn relation_word(relation: Relational) -> &'static str {
     }
 }
 
+// Types, as sets of bits.
+pub(crate) const INTEGER: u32 = 1;
+
+pub(crate) const BOOLEAN: u32 = 2;
+
+pub(crate) const CHAR: u32 = 4;
+
+pub(crate) const ENUMERATION: u32 = 8;
+/// The simple types.
+pub(crate) const SIMPLE: u32 = 15;
+
+pub(crate) const SET: u32 = 16;
+
+pub(crate) const POINTER: u32 = 32;
+
+pub(crate) const ARRAY: u32 = 64;
+
+// Kinds of names, as sets of bits.
+pub(crate) const CONSTANTS: u32 = 1;
+
+pub(crate) const TYPES: u32 = 2;
+/// Parameters that are variables too.
+pub(crate) const VARIABLES: u32 = 4;
+
+pub(crate) const FIELDS: u32 = 8;
+/// Parameters that are procedures too.
+pub(crate) const PROCEDURES: u32 = 16;
+
+pub(crate) const FUNCTIONS: u32 = 32;
+
+pub(crate) const FUNCTION_PARAMETERS: u32 = 64;
+/// Functions, and parameters that are functions.
+pub(crate) const ALL_FUNCTIONS: u32 = 96;
+/// Constants, variables and fields.
+pub(crate) const VALUES: u32 = 13;
+
+pub(crate) const ALL: u32 = 127;
+
+/// Whether a kind of name is among some.
+pub(crate) fn is_among(kind: PointKind, kinds: u32) -> bool {
+    let own = match kind {
+        PointKind::Constant | PointKind::Member => CONSTANTS,
+        PointKind::Type => TYPES,
+        PointKind::Variable | PointKind::ValueParameter | PointKind::VariableParameter => VARIABLES,
+        PointKind::Field => FIELDS,
+        PointKind::Procedure | PointKind::ProcedureParameter => PROCEDURES,
+        PointKind::Function => FUNCTIONS,
+        PointKind::FunctionParameter => FUNCTION_PARAMETERS,
+    };
+    kinds & own != 0
+}
+
 /// Whether a kind of name is a variable.
 pub(crate) fn is_variable(kind: PointKind) -> bool {
-    matches!(
-        kind,
-        PointKind::Variable | PointKind::ValueParameter | PointKind::VariableParameter
-    )
+    is_among(kind, VARIABLES)
 }

@@ -1,11 +1,13 @@
 //! Names of a kind that cannot stand there (33).
 
 use crate::context::Context;
-use crate::facts::{is_text, is_variable, variable_in};
-use crate::required::Known;
+use crate::facts::{
+    ALL, ALL_FUNCTIONS, CONSTANTS, FUNCTION_PARAMETERS, FUNCTIONS, PROCEDURES, TYPES, VALUES,
+    is_among, is_text, is_variable, variable_in,
+};
 use crate::spot::{Passed, Spot};
 use crate::why::{Change, Help, Mark, Why};
-use ps_diagnose_outline::{Form, Part, Point, PointKind, Type, required_names};
+use ps_diagnose_outline::{Form, Known, Part, Point, PointKind, Type, required_names};
 use ps_scan::Kind;
 use ps_syntax::{Constant, Expr, Parameter, Selector, Variable};
 use ps_text::Span;
@@ -35,7 +37,7 @@ impl<'a> Context<'a> {
     fn kind_told(&self, why: &mut Why) -> bool {
         let is_found = match (self.seen.passed, self.seen.target) {
             (Some(passed), _) => self.wrong_parameter(passed, why),
-            (None, Some(name)) => self.wrong_target(name, why),
+            (None, Some(name)) => self.kind_in(name, &TARGET, why),
             (None, None) => false,
         };
         if is_found {
@@ -46,7 +48,7 @@ impl<'a> Context<'a> {
                 return true;
             }
         }
-        self.kind_of_name(self.fault.place, "`@x` is @k", why)
+        self.kind_in(self.fault.place, &ANYWHERE, why)
     }
 
     // One construct.
@@ -55,90 +57,59 @@ impl<'a> Context<'a> {
             Spot::Named(variable) => self.no_value(variable, why),
             Spot::Statement(name, parameters) => self.no_procedure(name, parameters, why),
             Spot::Call(name, parameters) => self.no_function(name, parameters, why),
-            Spot::Control(name) => {
-                self.kind_of_name(name, "`@x` is @k, and a `for` takes a variable", why)
-            }
+            Spot::Control(name) => self.kind_in(name, &CONTROL, why),
             Spot::Opened(variable) => {
-                self.no_record_variable(variable, why);
+                why.form = "`@x` is no variable, and `with` takes one";
+                why.text = self.variable_span(variable);
+                why.mark = Mark::Declared(variable.name);
                 true
             }
             Spot::Range(low, _) => self.no_bound(low, why),
             Spot::Definition(..) | Spot::CaseConstant(..) => self.no_constant(why),
-            Spot::TypeName(name) | Spot::Result(_, name) => {
-                self.kind_of_name(name, "`@x` is @k, and no type", why)
-            }
+            Spot::TypeName(name) | Spot::Result(_, name) => self.kind_in(name, &TYPE, why),
             _ => false,
         }
     }
 
-    // What kind of name it is, in a sentence.
-    fn kind_of_name(&self, name: Span, form: &'static str, why: &mut Why) -> bool {
-        match self.kind_of(name) {
-            Some(kind) => {
-                name_of_kind(name, kind, form, Help::None, why);
-                true
-            }
-            None => false,
-        }
-    }
-
-    // What stands before `:=`.
-    fn wrong_target(&self, name: Span, why: &mut Why) -> bool {
+    // What kind of name it is, in the words of the first row that has its kind.
+    fn kind_in(&self, name: Span, rows: &'static [Row], why: &mut Why) -> bool {
         let Some(kind) = self.kind_of(name) else {
             return false;
         };
-        let (form, help) = match kind {
-            PointKind::Type => ("`@x` is @k, and no variable", VARIABLE_OF),
-            PointKind::Function => (
-                "`@x` is @k, and gets its result in its own block alone",
-                Help::None,
-            ),
-            PointKind::Constant | PointKind::Member => (
-                NOT_ASSIGNED,
-                Help::Is("what changes is a variable, declared in the `var` part"),
-            ),
-            PointKind::Procedure | PointKind::ProcedureParameter | PointKind::FunctionParameter => {
-                (NOT_ASSIGNED, Help::None)
+        for row in rows {
+            if is_among(kind, row.kinds) {
+                why.form = row.form;
+                why.text = name;
+                why.kind = kind;
+                why.mark = Mark::Declared(name);
+                why.help = row.help;
+                return true;
             }
-            _ => return false,
-        };
-        name_of_kind(name, kind, form, help, why);
-        true
+        }
+        false
     }
 
     // A name in an expression that stands for no value.
     fn no_value(&self, variable: &Variable, why: &mut Why) -> bool {
-        let name = variable.name;
-        let is_alone = variable.selectors.is_empty();
-        let Some(kind) = self.kind_of(name) else {
-            return false;
+        let is_told = if variable.selectors.is_empty() {
+            self.kind_in(variable.name, &ALONE, why)
+        } else {
+            self.kind_in(variable.name, &SELECTED, why)
         };
-        match kind {
-            PointKind::Constant
-            | PointKind::Member
-            | PointKind::Function
-            | PointKind::FunctionParameter
-                if !is_alone => {
-                name_of_kind(name, kind, "`@x` is @k, and no variable", Help::None, why);
-                if let (PointKind::Function, Some(Selector::Index(_))) = (
-                    kind,
-                    variable.selectors.as_slice().first(),
-                ) {
-                    why.help = Help::Is("parameters stand between `(` and `)`");
-                }
-                true
-            }
-            PointKind::Procedure | PointKind::ProcedureParameter => {
-                self.valueless(name, kind, why);
-                true
-            }
-            PointKind::Type => {
-                name_of_kind(name, kind, "`@x` is @k, and no value", VARIABLE_OF, why);
-                self.with_values(variable, why);
-                true
-            }
-            _ => false,
+        if !is_told {
+            return false;
         }
+        match (why.kind, variable.selectors.as_slice().first()) {
+            (PointKind::Type, _) => self.with_values(variable, why),
+            (PointKind::Procedure | PointKind::ProcedureParameter, _) => {
+                self.with_statement(variable.name, why);
+            }
+            (PointKind::Function, Some(Selector::Index(_))) => {
+                why.help = Help::Is("parameters stand between `(` and `)`");
+            }
+            _ => {}
+        }
+        true
     }
 
     // What may be meant by a type: the constant behind its point, or the set of its values behind `in`.
@@ -152,61 +123,42 @@ impl<'a> Context<'a> {
                 why.help = Help::Of("a constant of an enumeration stands alone: `@a`", *field);
                 why.change = Change::With(self.variable_span(variable), *field, "@b");
             }
-            (None, Some(_)) if self.is_behind_in(variable.name) => {
-                why.help = Help::Is("behind `in` stands a set of values, as `[a..b]`");
-                if let Some(at) = self.denoter_of(ty) {
-                    why.change = Change::With(variable.name, at, "[@b]");
-                }
-            }
+            (None, Some(_)) => self.with_set(variable.name, ty, why),
             _ => {}
         }
     }
 
-    // Whether `in` stands before a name.
-    fn is_behind_in(&self, name: Span) -> bool {
+    // The set of a type's values, where its name stands behind `in`.
+    fn with_set(&self, name: Span, ty: Option<Type>, why: &mut Why) {
         match self.outline.token_before(name.from) {
-            Some(token) => matches!(token.kind, Kind::In),
-            None => false,
+            Some(before) if matches!(before.kind, Kind::In) => {}
+            _ => return,
         }
-    }
-
-    // The denoter of a type.
-    fn denoter_of(&self, ty: Option<Type>) -> Option<Span> {
-        let from = self.outline.denoter_at(ty?)?;
-        Some(self.outline.extent(from, Part::Denoter))
+        why.help = Help::Is("behind `in` stands a set of values, as `[a..b]`");
+        let Some(ty) = ty else {
+            return;
+        };
+        if let Some(from) = self.outline.denoter_at(ty) {
+            let denoter = self.outline.extent(from, Part::Denoter);
+            why.change = Change::With(name, denoter, "[@b]");
+        }
     }
 
     // What begins a statement and is no procedure.
     fn no_procedure(&self, name: Span, parameters: &[Parameter], why: &mut Why) -> bool {
-        let Some(kind) = self.kind_of(name) else {
+        if !self.kind_in(name, &STATEMENT, why) {
             return false;
-        };
-        match kind {
-            PointKind::Function | PointKind::FunctionParameter => {
-                name_of_kind(
-                    name,
-                    kind,
-                    "`@x` is @k, and a statement begins with a procedure or a variable",
-                    self.value_used(name, parameters.is_empty()),
-                    why,
-                );
-                true
-            }
-            _ => {
-                name_of_kind(
-                    name,
-                    kind,
-                    "`@x` is @k, and no procedure",
-                    if parameters.is_empty() && is_variable(kind) {
-                        Help::Is("a value is assigned to it by `@x := ..`")
-                    } else {
-                        Help::None
-                    },
-                    why,
-                );
-                true
-            }
         }
+        match why.kind {
+            PointKind::Function | PointKind::FunctionParameter => {
+                why.help = self.value_used(name, parameters.is_empty());
+            }
+            kind if parameters.is_empty() && is_variable(kind) => {
+                why.help = Help::Is("a value is assigned to it by `@x := ..`");
+            }
+            _ => {}
+        }
+        true
     }
 
     // How the value of a function is used that stands as a statement.
@@ -226,23 +178,12 @@ impl<'a> Context<'a> {
         }
     }
 
-    // A procedure where a value is needed.
-    fn valueless(&self, name: Span, kind: PointKind, why: &mut Why) {
-        name_of_kind(
-            name,
-            kind,
-            WITHOUT_VALUE,
-            Help::Is("a `function` has a value"),
-            why,
-        );
-        if matches!(self.known(name), Known::Read | Known::Readln | Known::New) {
-            why.help = Help::Is("it gives a variable its value, as a statement: `@x(..)`");
-            self.with_statement(name, why);
-        }
-    }
-
-    // Tries a procedure as a statement, with the variable that its value seems to be assigned to.
+    // Tries a procedure that gives a variable its value as a statement, with the variable that the value seems to be assigned to.
     fn with_statement(&self, name: Span, why: &mut Why) {
+        if !matches!(self.known(name), Known::Read | Known::Readln | Known::New) {
+            return;
+        }
+        why.help = Help::Is("it gives a variable its value, as a statement: `@x(..)`");
         for spot in self.spots.iter() {
             if let Spot::Value(variable, _) = spot {
                 let text = self.variable_span(variable);
@@ -261,33 +202,15 @@ impl<'a> Context<'a> {
 
     // What stands before parameters in an expression and is no function.
     fn no_function(&self, name: Span, parameters: &[Expr], why: &mut Why) -> bool {
-        let Some(kind) = self.kind_of(name) else {
+        if !self.kind_in(name, &CALL, why) {
             return false;
-        };
-        match kind {
-            PointKind::Procedure | PointKind::ProcedureParameter => {
-                self.valueless(name, kind, why);
-                true
-            }
-            PointKind::Function | PointKind::FunctionParameter => false,
-            PointKind::Type => {
-                name_of_kind(
-                    name,
-                    kind,
-                    NO_FUNCTION,
-                    Help::Is(
-                        "a type converts nothing: `ord` gives the number of a value, `chr` the character of a number",
-                    ),
-                    why,
-                );
-                true
-            }
-            _ => {
-                name_of_kind(name, kind, NO_FUNCTION, Help::None, why);
-                self.with_index(name, parameters, why);
-                true
-            }
         }
+        match why.kind {
+            PointKind::Procedure | PointKind::ProcedureParameter => self.with_statement(name, why),
+            PointKind::Type => {}
+            _ => self.with_index(name, parameters, why),
+        }
+        true
     }
 
     // Tries brackets where an array stands before parentheses.
@@ -316,40 +239,25 @@ impl<'a> Context<'a> {
 
     // A constant's place in a range.
     fn no_bound(&self, low: Constant, why: &mut Why) -> bool {
-        let help = match self.outline.token_before(low.first_token()) {
-            Some(token) if matches!(token.kind, Kind::LeftBracket | Kind::Comma) => Help::Is(
-                "declare a constant for the largest bound that is needed, and count in a variable how many are used",
-            ),
-            _ => Help::None,
-        };
-        self.no_constant_here("a bound is a constant, and `@x` is @k", help, why)
+        let is_told = self.kind_in(self.fault.place, &BOUND, why);
+        match self.outline.token_before(low.first_token()) {
+            Some(token) if is_told && matches!(token.kind, Kind::LeftBracket | Kind::Comma) => {
+                why.help = Help::Is(
+                    "declare a constant for the largest bound that is needed, and count in a variable how many are used",
+                );
+            }
+            _ => {}
+        }
+        is_told
     }
 
     // A constant's place elsewhere.
     fn no_constant(&self, why: &mut Why) -> bool {
-        let help = if self.seen.case_constant.is_some() {
-            Help::Is("compare with variables by `if .. then .. else`")
-        } else {
-            Help::None
-        };
-        self.no_constant_here("a constant is needed here, and `@x` is @k", help, why)
-    }
-
-    fn no_constant_here(&self, form: &'static str, help: Help, why: &mut Why) -> bool {
-        match self.kind_of(self.fault.place) {
-            Some(kind) => {
-                name_of_kind(self.fault.place, kind, form, help, why);
-                true
-            }
-            None => false,
+        let is_told = self.kind_in(self.fault.place, &CONSTANT, why);
+        if is_told && self.seen.case_constant.is_some() {
+            why.help = Help::Is("compare with variables by `if .. then .. else`");
         }
-    }
-
-    // What `with` opens and is no variable.
-    fn no_record_variable(&self, variable: &Variable, why: &mut Why) {
-        why.form = "`@x` is no variable, and `with` takes one";
-        why.text = self.variable_span(variable);
-        why.mark = Mark::Declared(variable.name);
+        is_told
     }
 
     // A parameter that is no variable, or no routine, where one is needed.
@@ -434,19 +342,156 @@ impl<'a> Context<'a> {
     }
 }
 
+// What is told of names of some kinds.
+struct Row {
+    kinds: u32,
+    form: &'static str,
+    help: Help,
+}
+
 const WITHOUT_VALUE: &str = "`@x` is @k, and has no value";
 
-const NO_FUNCTION: &str = "`@x` is @k, and no function";
+const NO_VALUE: &str = "`@x` is @k, and no value";
+
+const NO_VARIABLE: &str = "`@x` is @k, and no variable";
 
 const NOT_ASSIGNED: &str = "`@x` is @k, and cannot be assigned";
 
-const VARIABLE_OF: Help = Help::Is("declare a variable of it: var name: @x;");
+const NO_FUNCTION: &str = "`@x` is @k, and no function";
 
-// A name of a kind that cannot stand there.
-fn name_of_kind(name: Span, kind: PointKind, form: &'static str, help: Help, why: &mut Why) {
-    why.form = form;
-    why.text = name;
-    why.kind = kind;
-    why.mark = Mark::Declared(name);
-    why.help = help;
-}
+const HAS_VALUE: &str = "a `function` has a value";
+
+const VARIABLE_OF: &str = "declare a variable of it: var name: @x;";
+
+// Where nothing more is known.
+static ANYWHERE: [Row; 1] = [Row {
+    kinds: ALL,
+    form: "`@x` is @k",
+    help: Help::None,
+}];
+
+// Before `:=`.
+static TARGET: [Row; 5] = [
+    Row {
+        kinds: TYPES,
+        form: NO_VARIABLE,
+        help: Help::Is(VARIABLE_OF),
+    },
+    Row {
+        kinds: FUNCTIONS,
+        form: "`@x` is @k, and gets its result in its own block alone",
+        help: Help::None,
+    },
+    Row {
+        kinds: CONSTANTS,
+        form: NOT_ASSIGNED,
+        help: Help::Is("what changes is a variable, declared in the `var` part"),
+    },
+    Row {
+        kinds: PROCEDURES,
+        form: NOT_ASSIGNED,
+        help: Help::None,
+    },
+    Row {
+        kinds: FUNCTION_PARAMETERS,
+        form: NOT_ASSIGNED,
+        help: Help::None,
+    },
+];
+
+// In an expression.
+static ALONE: [Row; 2] = [
+    Row {
+        kinds: PROCEDURES,
+        form: WITHOUT_VALUE,
+        help: Help::Is(HAS_VALUE),
+    },
+    Row {
+        kinds: TYPES,
+        form: NO_VALUE,
+        help: Help::Is(VARIABLE_OF),
+    },
+];
+
+// In an expression before selectors.
+static SELECTED: [Row; 4] = [
+    Row {
+        kinds: PROCEDURES,
+        form: WITHOUT_VALUE,
+        help: Help::Is(HAS_VALUE),
+    },
+    Row {
+        kinds: TYPES,
+        form: NO_VALUE,
+        help: Help::Is(VARIABLE_OF),
+    },
+    Row {
+        kinds: CONSTANTS,
+        form: NO_VARIABLE,
+        help: Help::None,
+    },
+    Row {
+        kinds: ALL_FUNCTIONS,
+        form: NO_VARIABLE,
+        help: Help::None,
+    },
+];
+
+// Where a statement begins.
+static STATEMENT: [Row; 2] = [
+    Row {
+        kinds: ALL_FUNCTIONS,
+        form: "`@x` is @k, and a statement begins with a procedure or a variable",
+        help: Help::None,
+    },
+    Row {
+        kinds: ALL,
+        form: "`@x` is @k, and no procedure",
+        help: Help::None,
+    },
+];
+
+// In an expression before parameters.
+static CALL: [Row; 3] = [
+    Row {
+        kinds: PROCEDURES,
+        form: WITHOUT_VALUE,
+        help: Help::Is(HAS_VALUE),
+    },
+    Row {
+        kinds: TYPES,
+        form: NO_FUNCTION,
+        help: Help::Is(
+            "a type converts nothing: `ord` gives the number of a value, `chr` the character of a number",
+        ),
+    },
+    Row {
+        kinds: VALUES,
+        form: NO_FUNCTION,
+        help: Help::None,
+    },
+];
+
+static CONTROL: [Row; 1] = [Row {
+    kinds: ALL,
+    form: "`@x` is @k, and a `for` takes a variable",
+    help: Help::None,
+}];
+
+static TYPE: [Row; 1] = [Row {
+    kinds: ALL,
+    form: "`@x` is @k, and no type",
+    help: Help::None,
+}];
+
+static BOUND: [Row; 1] = [Row {
+    kinds: ALL,
+    form: "a bound is a constant, and `@x` is @k",
+    help: Help::None,
+}];
+
+static CONSTANT: [Row; 1] = [Row {
+    kinds: ALL,
+    form: "a constant is needed here, and `@x` is @k",
+    help: Help::None,
+}];

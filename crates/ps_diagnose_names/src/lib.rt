@@ -13,7 +13,6 @@ mod operators;
 mod passed;
 mod ranges;
 mod refusals;
-mod required;
 mod routines;
 mod selected;
 mod spot;

@@ -1,26 +1,18 @@
 //! Operands of a type that their operator cannot take (34).
 
 use crate::context::Context;
-use crate::required::Known;
+use crate::facts::{BOOLEAN, CHAR, INTEGER, SET, SIMPLE};
 use crate::why::{Change, Help, Mark, Why};
-use ps_diagnose_outline::{Form, Part, Type};
+use ps_diagnose_outline::{Form, Known, Part, Type};
 use ps_scan::Kind;
 use ps_syntax::{Adding, Factor, Multiplying, Sign, Simple, Term};
 use ps_text::Span;
 
-// The multiplying operator beside an operand, by the operand's number from 0.
-fn multiplying_of(term: &Term, number: u32) -> Multiplying {
+/// The multiplying operator beside an operand, by the operand's number from 0.
+pub(crate) fn multiplying_of(term: &Term, number: u32) -> Multiplying {
     match term.more.get(number.saturating_sub(1) as usize) {
         Some(multiplied) => multiplied.operator,
         None => Multiplying::Times,
-    }
-}
-
-/// The type that the operator wants of an operand.
-pub(crate) fn type_of_operand(term: &Term, number: u32) -> Type {
-    match multiplying_of(term, number) {
-        Multiplying::And => Type::Boolean,
-        _ => Type::Integer,
     }
 }
 
@@ -45,9 +37,9 @@ fn takes(operator: &'static str, form: &'static str, text: Span, ty: Type, why: 
     why.ty = ty;
 }
 
-const BOOLEAN: &str = "`@w` takes a Boolean, and `@x` is @t";
+const A_BOOLEAN: &str = "`@w` takes a Boolean, and `@x` is @t";
 
-const INTEGER: &str = "`@w` takes an integer, and `@x` is @t";
+const AN_INTEGER: &str = "`@w` takes an integer, and `@x` is @t";
 
 const INTEGERS: &str = "`@w` takes integers, and `@x` is @t";
 
@@ -58,16 +50,16 @@ impl<'a> Context<'a> {
     pub(crate) fn wrong_not(&self, at: Span, factor: &Factor, why: &mut Why) -> bool {
         let text = self.factor_span(factor);
         let ty = match self.told(self.outline.type_of_factor(factor)) {
-            Some(ty) if !self.is_boolean(ty) => ty,
+            Some(ty) if !self.is(ty, BOOLEAN) => ty,
             _ => return false,
         };
-        takes("not", BOOLEAN, text, ty, why);
+        takes("not", A_BOOLEAN, text, ty, why);
         why.mark = Mark::Variable(text);
         match self.token_at(text.to) {
             Some(relation) if is_comparing(relation.kind) => {
                 why.change = self.parenthesized(at.from, text, relation.span.to, "not (@b)");
             }
-            _ if self.is_integer(ty) => {
+            _ if self.is(ty, INTEGER) => {
                 let whole = Span {
                     from: at.from,
                     to: text.to,
@@ -110,10 +102,10 @@ impl<'a> Context<'a> {
             return true;
         }
         let (word, form, is_taken) = match operator {
-            Multiplying::And => ("and", BOOLEAN, self.is_boolean(ty)),
-            Multiplying::Div => ("div", INTEGER, self.is_integer(ty)),
-            Multiplying::Mod => ("mod", INTEGER, self.is_integer(ty)),
-            Multiplying::Times => ("*", INTEGERS, self.is_added(ty)),
+            Multiplying::And => ("and", A_BOOLEAN, self.is(ty, BOOLEAN)),
+            Multiplying::Div => ("div", AN_INTEGER, self.is(ty, INTEGER)),
+            Multiplying::Mod => ("mod", AN_INTEGER, self.is(ty, INTEGER)),
+            Multiplying::Times => ("*", INTEGERS, self.is(ty, INTEGER | SET)),
         };
         if is_taken {
             return false;
@@ -184,11 +176,11 @@ impl<'a> Context<'a> {
     }
 
     fn wrong_or(&self, simple: &Simple, text: Span, ty: Type, why: &mut Why) -> bool {
-        if self.is_boolean(ty) {
+        if self.is(ty, BOOLEAN) {
             return false;
         }
         let first = simple.first_token();
-        takes("or", BOOLEAN, text, ty, why);
+        takes("or", A_BOOLEAN, text, ty, why);
         why.mark = Mark::Declared(text);
         if first == self.fault.place.from {
             why.change = Change::EachCompared;
@@ -207,7 +199,7 @@ impl<'a> Context<'a> {
         why: &mut Why,
     ) -> bool {
         let is_text = self.is_string(ty) || self.is_beside_text(simple);
-        if !is_text || self.is_added(ty) {
+        if !is_text || self.is(ty, INTEGER | SET) {
             return self.wrong_sum(simple, "+", text, ty, why);
         }
         why.form = "`+` cannot take a string";
@@ -221,11 +213,6 @@ impl<'a> Context<'a> {
         true
     }
 
-    // Whether values of a type are added.
-    fn is_added(&self, ty: Type) -> bool {
-        self.is_integer(ty) || self.is_set(ty)
-    }
-
     // A member of a set where a set is put together with another one.
     fn no_set(
         &self,
@@ -235,7 +222,7 @@ impl<'a> Context<'a> {
         ty: Type,
         why: &mut Why,
     ) -> bool {
-        if !matches!(self.outline.form_of(first), Some(Form::Set(_))) || !self.is_simple(ty) {
+        if !matches!(self.outline.form_of(first), Some(Form::Set(_))) || !self.is(ty, SIMPLE) {
             return false;
         }
         takes(operator, SETS, text, ty, why);
@@ -257,7 +244,7 @@ impl<'a> Context<'a> {
             return true;
         }
         let is_behind_number = matches!(self.outline.form_of(first), Some(Form::Integer));
-        if self.is_added(ty) && !(is_behind_number && self.is_set(ty)) {
+        if self.is(ty, INTEGER | SET) && !(is_behind_number && self.is(ty, SET)) {
             return false;
         }
         takes(operator, INTEGERS, text, ty, why);
@@ -281,7 +268,7 @@ impl<'a> Context<'a> {
             return;
         };
         let is_one = matches!(self.outline.bytes(self.term_span(&added.term)), b"1");
-        if self.is_char(ty) && is_one && text.from == whole.from && simple.more.len() == 1 {
+        if self.is(ty, CHAR) && is_one && text.from == whole.from && simple.more.len() == 1 {
             let form = if operator == "+" {
                 "succ(@b)"
             } else {

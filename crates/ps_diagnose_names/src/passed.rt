@@ -1,11 +1,10 @@
 //! Parameters of another type, and what cannot be read or written (34).
 
 use crate::context::Context;
-use crate::facts::variable_in;
-use crate::required::Known;
+use crate::facts::{BOOLEAN, CHAR, INTEGER, POINTER, SIMPLE, variable_in};
 use crate::spot::Passed;
 use crate::why::{Change, Help, Mark, Why};
-use ps_diagnose_outline::{Form, PointKind, Type};
+use ps_diagnose_outline::{Form, Known, PointKind, Type};
 use ps_syntax::{Expr, Selector};
 use ps_text::Span;
 
@@ -51,36 +50,34 @@ impl<'a> Context<'a> {
         }
     }
 
-    // Whether a required routine takes a value of a type.
-    fn is_taken(&self, known: Known, ty: Type) -> bool {
-        match known {
-            Known::Read | Known::Readln => self.is_integer(ty) || self.is_char(ty),
-            Known::Write | Known::Writeln => {
-                self.is_integer(ty) || self.is_char(ty) || self.is_boolean(ty) || self.is_string(ty)
-            }
-            Known::New => matches!(self.outline.form(ty), Some(Form::Pointer(_))),
-            Known::Order => self.is_simple(ty),
-            Known::Number => self.is_integer(ty),
-            _ => false,
-        }
-    }
-
     // A parameter of a required routine.
     fn wrong_for_required(&self, routine: Span, value: &Expr, why: &mut Why) -> bool {
+        let Some(ty) = self.outline.type_of(value) else {
+            return false;
+        };
         let known = self.known(routine);
-        let ty = match self.outline.type_of(value) {
-            Some(ty) if !self.is_taken(known, ty) => ty,
+        let (taken, form) = match known {
+            Known::Read | Known::Readln => (INTEGER | CHAR, ""),
+            Known::Write | Known::Writeln => (INTEGER | CHAR | BOOLEAN, ""),
+            Known::New => (POINTER, "`@w` takes a pointer, and `@x` is @t"),
+            Known::Number => (INTEGER, "`@w` takes an integer, and `@x` is @t"),
+            Known::Order => (
+                SIMPLE,
+                "`@w` takes a value of a simple type, and `@x` is @t",
+            ),
+            Known::End => (0, "`@w` takes a file, and `@x` is @t"),
             _ => return false,
         };
-        let form = match known {
+        if self.is(ty, taken) {
+            return false;
+        }
+        match known {
             Known::Read | Known::Readln => return self.cannot_be(value, ty, "read", why),
-            Known::Write | Known::Writeln => return self.cannot_be(value, ty, "written", why),
-            Known::New => "`@w` takes a pointer, and `@x` is @t",
-            Known::Number => "`@w` takes an integer, and `@x` is @t",
-            Known::Order => "`@w` takes a value of a simple type, and `@x` is @t",
-            Known::End => "`@w` takes a file, and `@x` is @t",
-            _ => return false,
-        };
+            Known::Write | Known::Writeln => {
+                return !self.is_string(ty) && self.cannot_be(value, ty, "written", why);
+            }
+            _ => {}
+        }
         let Some(ty) = self.told(Some(ty)) else {
             return false;
         };
@@ -92,7 +89,7 @@ impl<'a> Context<'a> {
         why.mark = Mark::Variable(text);
         if matches!(known, Known::New) {
             with_pointer(value, why);
-        } else if why.word == "chr" && self.is_char(ty) {
+        } else if why.word == "chr" && self.is(ty, CHAR) {
             why.help = Help::Is("it is a character already");
             why.change = Change::With(self.factor_extent(routine.from), text, "@b");
         }
@@ -109,19 +106,20 @@ impl<'a> Context<'a> {
                 true
             }
             Some(known) => {
-                self.no_transput(text, known, ty, word, why);
+                why.form = "`@x`, @t, cannot be @w";
+                why.text = text;
+                why.ty = known;
+                why.word = word;
+                why.mark = Mark::Variable(text);
+                self.with_parts(text, ty, why);
                 true
             }
             None => false,
         }
     }
 
-    fn no_transput(&self, text: Span, known: Type, ty: Type, word: &'static str, why: &mut Why) {
-        why.form = "`@x`, @t, cannot be @w";
-        why.text = text;
-        why.ty = known;
-        why.word = word;
-        why.mark = Mark::Variable(text);
+    // How a value is read or written that cannot be as it is, of an array in a loop.
+    fn with_parts(&self, text: Span, ty: Type, why: &mut Why) {
         why.help = self.transput_help(text, ty);
         match self.outline.form(ty) {
             Some(
@@ -130,7 +128,7 @@ impl<'a> Context<'a> {
                     component,
                     ..
                 },
-            ) if self.is_integer(index) => {
+            ) if self.is(index, INTEGER) => {
                 self.with_loop(self.outline.bounds(index), component, why);
             }
             Some(Form::Array { component, .. }) => {

@@ -58,7 +58,19 @@ impl<'a> Context<'a> {
             }
             Ordinal::Enumeration(at, _) => *at,
             Ordinal::Subrange(low, high) => {
-                self.with_distance(*low, *high, why);
+                let bounds = (
+                    self.outline.constant(*low).1,
+                    self.outline.constant(*high).1,
+                );
+                if let (Some(least), Some(greatest)) = bounds {
+                    why.number = least;
+                    why.further = greatest.saturating_sub(least);
+                    why.help = Help::Is(if why.further > 255 {
+                        "an array of Boolean holds more members than a set"
+                    } else {
+                        "keep the distances from @n: a set of 0..@m"
+                    });
+                }
                 Span {
                     from: low.first_token(),
                     to: constant_span(*high).to,
@@ -69,23 +81,6 @@ impl<'a> Context<'a> {
         why.text = text;
         why.mark = Mark::Declared(text);
         true
-    }
-
-    // A set of the distances from its least member.
-    fn with_distance(&self, low: Constant, high: Constant, why: &mut Why) {
-        match (self.outline.constant(low).1, self.outline.constant(high).1) {
-            (Some(least), Some(greatest)) => {
-                let distance = greatest.saturating_sub(least);
-                why.number = least;
-                why.further = distance;
-                why.help = Help::Is(if distance > 255 {
-                    "an array of Boolean holds more members than a set"
-                } else {
-                    "keep the distances from @n: a set of 0..@m"
-                });
-            }
-            _ => {}
-        }
     }
 
     /// A constant that stands twice in a `case`.

@@ -1,9 +1,8 @@
 //! Routines, files and limits (42 to 45).
 
 use crate::context::Context;
-use crate::required::Known;
 use crate::why::{Change, Help, Mark, Why};
-use ps_diagnose_outline::Point;
+use ps_diagnose_outline::{Known, Point};
 use ps_scan::Kind;
 
 impl<'a> Context<'a> {
@@ -74,7 +73,10 @@ impl<'a> Context<'a> {
             why.form = "this type has more than 100,000 cells, the most that there may be";
             return true;
         }
-        let routine = self.routine_here();
+        let routine = match self.declared_here() {
+            Some(point) if point.formals.is_some() => Some(point.count),
+            _ => None,
+        };
         why.number = i64::from(routine.unwrap_or(0));
         why.form = match routine {
             Some(count) if count > 32 => "`@p` has @N parameters, and 32 are the most",
@@ -87,14 +89,6 @@ impl<'a> Context<'a> {
             }
         };
         true
-    }
-
-    // How many parameters the routine has that is declared at the place.
-    fn routine_here(&self) -> Option<u32> {
-        match self.declared_here() {
-            Some(point) if point.formals.is_some() => Some(point.count),
-            _ => None,
-        }
     }
 
     // How many routines lie round the place.

@@ -37,7 +37,7 @@ impl<'a> Context<'a> {
     // Where the brackets end that stand behind an offset, of which one pair may close several indices.
     fn end_of_index(&self, end: u32) -> u32 {
         let mut open: u32 = 0;
-        for token in self.tokens_behind(end) {
+        for token in self.outline.tokens_from(end) {
             open = match token.kind {
                 Kind::LeftBracket | Kind::LeftParen => open.saturating_add(1),
                 Kind::RightBracket | Kind::RightParen => open.saturating_sub(1),
@@ -65,7 +65,15 @@ impl<'a> Context<'a> {
                 true
             }
             (Selector::Field(field), Some(Form::Array { .. })) => {
-                self.no_record_but_array(text, ty, *field, why)
+                let is_told = self.no_structure(text, ty, "record", why);
+                if is_told {
+                    why.help = Help::Both(
+                        "a field is one of a component: `@a[..].@b`",
+                        text,
+                        *field,
+                    );
+                }
+                is_told
             }
             (Selector::Field(_), Some(_)) => self.no_structure(text, ty, "record", why),
             (Selector::Content(_), Some(_)) => self.no_structure(text, ty, "pointer", why),
@@ -85,7 +93,15 @@ impl<'a> Context<'a> {
                     },
                 ) => ty = component,
                 Some(_) => {
-                    told_indices(text, count, given, why);
+                    why.form = if count == 1 {
+                        "`@x` has @N index, and is given @m"
+                    } else {
+                        "`@x` has @N indices, and is given @m"
+                    };
+                    why.text = text;
+                    why.number = count;
+                    why.further = long(given);
+                    why.mark = Mark::Declared(text);
                     return true;
                 }
                 None => return false,
@@ -114,15 +130,6 @@ impl<'a> Context<'a> {
             }
             None => false,
         }
-    }
-
-    // An array whose components are records.
-    fn no_record_but_array(&self, text: Span, ty: Type, field: Span, why: &mut Why) -> bool {
-        if !self.no_structure(text, ty, "record", why) {
-            return false;
-        }
-        why.help = Help::Both("a field is one of a component: `@a[..].@b`", text, field);
-        true
     }
 
     // The type of an index: behind so many selectors of a variable, and so many indices.
@@ -172,19 +179,6 @@ impl<'a> Context<'a> {
         why.help = self.conversion(index, ty, text);
         true
     }
-}
-
-// How many indices an array has, and is given.
-fn told_indices(text: Span, count: i64, given: usize, why: &mut Why) {
-    why.form = if count == 1 {
-        "`@x` has @N index, and is given @m"
-    } else {
-        "`@x` has @N indices, and is given @m"
-    };
-    why.text = text;
-    why.number = count;
-    why.further = long(given);
-    why.mark = Mark::Declared(text);
 }
 
 /// A pointer without `^`.

@@ -94,6 +94,15 @@ impl Edits {
     }
 }
 
+// Where something is put beside a span: the word that tells it, the offset, and what stands on both sides of it.
+#[derive(Clone, Copy)]
+struct Beside {
+    word: &'static str,
+    place: u32,
+    gap: &'static str,
+    next_gap: &'static str,
+}
+
 // The spans that a form has of its own.
 fn words_of(text: Span, part: Span) -> Own {
     Own {
@@ -142,27 +151,17 @@ impl<'a> Context<'a> {
 
     // Marks a second place.
     fn mark(&self, out: &mut Told, why: &Why, mark: Mark) {
-        match mark {
-            Mark::Declared(span) => self.mark_declared(out, why, span),
-            Mark::Variable(span) if self.is_variable_text(span) => {
-                self.mark_declared(out, why, span)
-            }
-            Mark::None | Mark::Variable(_) => {}
-            Mark::Here(span) => self.mark_as(out, why, HERE, span, span),
-            Mark::At(form, span) => self.mark_as(out, why, form, span, NOWHERE),
-            Mark::TypeOf(span, text) => self.mark_as(out, why, "the type of `@a`", span, text),
-        }
-    }
-
-    // Marks where the name is declared that a span begins with.
-    fn mark_declared(&self, out: &mut Told, why: &Why, span: Span) {
-        if let Some(point) = self.outline.declared(span) {
-            self.mark_as(out, why, HERE, point.name, point.name);
-        }
-    }
-
-    // Marks a place in the words of a form.
-    fn mark_as(&self, out: &mut Told, why: &Why, form: &str, span: Span, own: Span) {
+        let (form, span, own) = match mark {
+            Mark::None => return,
+            Mark::Variable(span) if !self.is_variable_text(span) => return,
+            Mark::Declared(span) | Mark::Variable(span) => match self.outline.declared(span) {
+                Some(point) => (HERE, point.name, point.name),
+                None => return,
+            },
+            Mark::Here(span) => (HERE, span, span),
+            Mark::At(form, span) => (form, span, NOWHERE),
+            Mark::TypeOf(span, text) => ("the type of `@a`", span, text),
+        };
         let words = self.formed(form, why, words_of(own, NOWHERE));
         out.is_short |= words.is_short;
         let label = Label {
@@ -176,15 +175,12 @@ impl<'a> Context<'a> {
 
     // Adds a help.
     fn help(&self, out: &mut Told, why: &Why, help: Help) {
-        match help {
-            Help::None => {}
-            Help::Is(form) => self.help_as(out, why, form, words_of(NOWHERE, NOWHERE)),
-            Help::Of(form, text) => self.help_as(out, why, form, words_of(text, NOWHERE)),
-            Help::Both(form, text, part) => self.help_as(out, why, form, words_of(text, part)),
-        }
-    }
-
-    fn help_as(&self, out: &mut Told, why: &Why, form: &str, own: Own) {
+        let (form, own) = match help {
+            Help::None => return,
+            Help::Is(form) => (form, words_of(NOWHERE, NOWHERE)),
+            Help::Of(form, text) => (form, words_of(text, NOWHERE)),
+            Help::Both(form, text, part) => (form, words_of(text, part)),
+        };
         out.help(self.formed(form, why, own));
     }
 
@@ -199,8 +195,24 @@ impl<'a> Context<'a> {
             Change::Filled(span, spaces) => {
                 self.try_for(out, why, span, "'@i@s'", edit_of(span, NOWHERE, spaces))
             }
-            Change::Behind(span, gap, put) => self.try_behind(out, why, span, gap, put),
-            Change::Before(span, gap, put) => self.try_before(out, why, span, gap, put),
+            Change::Behind(span, gap, put) => {
+                let at = Beside {
+                    word: "` behind `",
+                    place: span.to,
+                    gap,
+                    next_gap: "",
+                };
+                self.try_beside(out, why, span, put, at);
+            }
+            Change::Before(span, gap, put) => {
+                let at = Beside {
+                    word: "` before `",
+                    place: span.from,
+                    gap: "",
+                    next_gap: gap,
+                };
+                self.try_beside(out, why, span, put, at);
+            }
             Change::Without(span) => self.try_without(out, span),
             Change::Everywhere(put) => self.try_everywhere(out, why, put),
             Change::EachCompared => self.try_each_compared(out),
@@ -238,31 +250,20 @@ impl<'a> Context<'a> {
         self.try_text(out, span, self.formed(put, why, own));
     }
 
-    // Tries a form behind a span; `gap` stands before it.
-    fn try_behind(&self, out: &mut Told, why: &Why, span: Span, gap: &str, put: &str) {
+    // Tries a form beside a span.
+    fn try_beside(&self, out: &mut Told, why: &Why, span: Span, put: &str, beside: Beside) {
         let text = self.formed(put, why, edit_of(span, NOWHERE, 0));
-        let words = self.change_words("put `", text.as_str(), "` behind `", span, span.to);
+        let words = self.change_words("put `", text.as_str(), beside.word, span, beside.place);
         let mut edit = Text::new(self.alloc);
-        edit.put(gap);
+        edit.put(beside.gap);
         edit.put(text.as_str());
+        edit.put(beside.next_gap);
         edit.is_short |= text.is_short;
         let at = Span {
-            from: span.to,
-            to: span.to,
+            from: beside.place,
+            to: beside.place,
         };
         self.try_edit(out, words, at, edit);
-    }
-
-    // Tries a form before a span; `gap` stands behind it.
-    fn try_before(&self, out: &mut Told, why: &Why, span: Span, gap: &str, put: &str) {
-        let mut text = self.formed(put, why, edit_of(span, NOWHERE, 0));
-        let words = self.change_words("put `", text.as_str(), "` before `", span, span.from);
-        text.put(gap);
-        let at = Span {
-            from: span.from,
-            to: span.from,
-        };
-        self.try_edit(out, words, at, text);
     }
 
     // Tries the text without a span.
@@ -271,7 +272,7 @@ impl<'a> Context<'a> {
         self.try_edit(out, words, span, Text::new(self.alloc));
     }
 
-    // Tries a form in the place of the token that is told, and of the other places where it stands.
+    // Tries a form in the place of the token that is told, and of the other places where it stands, in the order of the text.
     fn try_everywhere(&self, out: &mut Told, why: &Why, put: &str) {
         let own = edit_of(NOWHERE, NOWHERE, 0);
         if self.uses.is_empty() {
@@ -283,17 +284,12 @@ impl<'a> Context<'a> {
         words.put("` for `");
         self.put_text(&mut words, self.fault.place);
         words.put("` wherever it stands");
-        out.attempt(words, self.edits_everywhere(why, put));
-    }
-
-    // An edit for the token that is told, and for each other place, in the order of the text.
-    fn edits_everywhere(&self, why: &Why, put: &str) -> Edits {
         let mut edits = Edits::new(self.alloc);
         let place = self.fault.place;
         self.push_between(&mut edits, 0, place.from, why, put);
         self.push_edit(&mut edits, place, why, put);
         self.push_between(&mut edits, place.to, u32::MAX, why, put);
-        edits
+        out.attempt(words, edits);
     }
 
     // Adds an edit for each other place from one offset up to another.

@@ -1,6 +1,7 @@
 //! Names that are declared twice (31), or used before they are declared (32).
 
 use crate::context::Context;
+use crate::facts::{CONSTANTS, FIELDS, TYPES, VARIABLES, is_among};
 use crate::why::{Change, Help, Mark, Why};
 use ps_diagnose_outline::{Point, PointKind};
 use ps_scan::{Kind, Token};
@@ -24,11 +25,18 @@ impl<'a> Context<'a> {
         };
         why.mark = Mark::At("here the first time", first.name);
         if first.is_forward && !is_completed {
-            self.twice_forward(why);
+            why.form = "`@p` was declared with `forward`: its parameters are not repeated";
+            if let Some(to) = end_of_heading(self.outline.tokens_from(self.fault.place.to)) {
+                why.change = Change::Without(Span {
+                    from: self.fault.place.to,
+                    to,
+                });
+            }
         } else {
-            why.form = form_of_twice(point.kind, first.kind);
+            let (form, help) = told_of_twice(point.kind, first.kind);
+            why.form = form;
+            why.help = help;
             why.change = self.without_declaration(point);
-            why.help = help_of_twice(point.kind, first.kind);
         }
         true
     }
@@ -87,32 +95,14 @@ impl<'a> Context<'a> {
         }
     }
 
-    // A heading by `forward` whose parameters are told again.
-    fn twice_forward(&self, why: &mut Why) {
-        why.form = "`@p` was declared with `forward`: its parameters are not repeated";
-        if let Some(to) = end_of_heading(self.tokens_behind(self.fault.place.to)) {
-            why.change = Change::Without(Span {
-                from: self.fault.place.to,
-                to,
-            });
-        }
-    }
-
     // Tries the text without a declaration, if it declares one name alone, or else without its name.
     fn without_declaration(&self, point: Point) -> Change {
-        match point.kind {
-            PointKind::Variable
-            | PointKind::Constant
-            | PointKind::Type
-            | PointKind::Field
-            | PointKind::ValueParameter
-            | PointKind::VariableParameter => self.without_one(),
-            PointKind::Member => self.without_comma(),
-            _ => Change::None,
+        if matches!(point.kind, PointKind::Member) {
+            return self.without_comma();
         }
-    }
-
-    fn without_one(&self) -> Change {
+        if !is_among(point.kind, CONSTANTS | TYPES | VARIABLES | FIELDS) {
+            return Change::None;
+        }
         let before = self.outline.token_before(self.fault.place.from);
         match (before, self.token_at(self.fault.place.to)) {
             (Some(before), Some(behind)) => {
@@ -128,7 +118,7 @@ impl<'a> Context<'a> {
 
     // Tries the text without what begins at the place, up to its `;`: with its `var`, `const` or `type` where it is the only one behind that.
     fn without_whole(&self, before: Token) -> Change {
-        let Some(to) = end_of_declaration(self.tokens_behind(self.fault.place.from)) else {
+        let Some(to) = end_of_declaration(self.outline.tokens_from(self.fault.place.from)) else {
             return Change::None;
         };
         let is_last = match self.token_at(to) {
@@ -146,7 +136,7 @@ impl<'a> Context<'a> {
 
     /// A name that is used before it is declared.
     pub(crate) fn used_before(&self, why: &mut Why) -> bool {
-        let Some(point) = self.point_here() else {
+        let Some(point) = self.outline.declared(self.fault.place) else {
             return false;
         };
         why.mark = Mark::Here(point.name);
@@ -197,33 +187,29 @@ impl<'a> Context<'a> {
             return None;
         };
         let from = word.span.from;
-        match end_of_heading(self.tokens_behind(from)) {
+        match end_of_heading(self.outline.tokens_from(from)) {
             Some(to) => Some(Span { from, to }),
             None => None,
         }
     }
 }
 
-fn form_of_twice(kind: PointKind, first: PointKind) -> &'static str {
+// What is told of a declaration and the first one of its name.
+fn told_of_twice(kind: PointKind, first: PointKind) -> (&'static str, Help) {
     match (kind, first) {
-        (PointKind::Field, _) => "`@p` is a field of this record already",
-        (PointKind::Member, _) => {
-            "`@p` is declared twice in this block, here as a constant of an enumeration"
-        }
+        (PointKind::Field, _) => ("`@p` is a field of this record already", Help::None),
+        (PointKind::Member, _) => (
+            "`@p` is declared twice in this block, here as a constant of an enumeration",
+            Help::None,
+        ),
         (_, PointKind::ValueParameter | PointKind::VariableParameter) => {
-            "`@p` is a parameter already"
+            ("`@p` is a parameter already", Help::None)
         }
-        _ => "`@p` is declared twice in this block",
-    }
-}
-
-// What is told of a function and a variable of one name.
-fn help_of_twice(kind: PointKind, first: PointKind) -> Help {
-    match (kind, first) {
-        (PointKind::Function, PointKind::Variable) | (PointKind::Variable, PointKind::Function) => {
-            Help::Is("a function has its result by its name, and needs no variable")
-        }
-        _ => Help::None,
+        (PointKind::Function, PointKind::Variable) | (PointKind::Variable, PointKind::Function) => (
+            "`@p` is declared twice in this block",
+            Help::Is("a function has its result by its name, and needs no variable"),
+        ),
+        _ => ("`@p` is declared twice in this block", Help::None),
     }
 }
 

@@ -1,13 +1,13 @@
 //! Names of which nothing is known, and the declarations that they may lack (30).
 
 use crate::context::Context;
-use crate::operators::{adding_of, type_of_operand};
-use crate::required::Known;
+use crate::facts::CHAR;
+use crate::operators::{adding_of, multiplying_of};
 use crate::spot::Spot;
 use crate::why::{Change, Help, Why};
-use ps_diagnose_outline::{Form, Part, PointKind, Type};
+use ps_diagnose_outline::{Form, Known, Part, PointKind, Type};
 use ps_scan::{Kind, Token};
-use ps_syntax::{Adding, Expr, Member, Simple};
+use ps_syntax::{Adding, Expr, Member, Multiplying};
 use ps_text::Span;
 
 impl<'a> Context<'a> {
@@ -35,8 +35,7 @@ impl<'a> Context<'a> {
             Some(Spot::CaseConstant(_, index, _)) => self.no_case_constant(index, why),
             Some(Spot::Definition(..) | Spot::Range(..)) => why.help = A_CONSTANT,
             _ => {
-                self.with_members(why);
-                self.with_string(why);
+                self.with_value(why);
                 self.with_variable(self.common_block(), why);
             }
         }
@@ -59,26 +58,26 @@ impl<'a> Context<'a> {
         }
     }
 
-    // The string that may be meant where a name is written once, and used nowhere else.
-    fn with_string(&self, why: &mut Why) {
+    // What may be meant: a constant of the enumeration that is wanted, or a string where the name is written once, and used nowhere else.
+    fn with_value(&self, why: &mut Why) {
         let is_writing = match self.seen.passed {
             Some(passed) => self.is_writing(passed.routine),
             None => false,
         };
-        if self.uses.is_empty() && (is_writing || self.is_text_wanted()) {
+        let mut is_text = is_writing;
+        if let Some(ty) = self.wanted_type() {
+            is_text = is_writing || self.is_string(ty) || self.is(ty, CHAR);
+            if let Some(Form::Enumeration(denoter)) = self.outline.form(ty) {
+                why.second = ty;
+                why.add_help(self.values_of(denoter));
+            }
+        }
+        if self.uses.is_empty() && is_text {
             why.add_help(Help::Is("a string stands between apostrophes: '@p'"));
             why.change = Change::For(self.fault.place, "'@p'");
         }
         if self.uses.is_empty() && is_writing {
             why.add_help(Help::Is(A_VARIABLE));
-        }
-    }
-
-    // Whether a string or a character is wanted at the place.
-    fn is_text_wanted(&self) -> bool {
-        match self.wanted_type() {
-            Some(ty) => self.is_string(ty) || self.is_char(ty),
-            None => false,
         }
     }
 
@@ -93,18 +92,7 @@ impl<'a> Context<'a> {
         }
     }
 
-    // The constants of the enumeration that is wanted at the place.
-    fn with_members(&self, why: &mut Why) {
-        let Some(ty) = self.wanted_type() else {
-            return;
-        };
-        if let Some(Form::Enumeration(denoter)) = self.outline.form(ty) {
-            why.second = ty;
-            why.add_help(self.values_of(denoter));
-        }
-    }
-
-    /// Tries a declaration of a variable in a block, if its type can be told.
+    /// Tries a declaration of a variable in a block, if its type can be told: before its first variable, or behind its declarations.
     pub(crate) fn with_variable(&self, block: u32, why: &mut Why) {
         let wanted = self.wanted_type();
         let (form, part) = match wanted {
@@ -127,7 +115,13 @@ impl<'a> Context<'a> {
             },
             _ => return why.add_help(Help::Is(A_VARIABLE)),
         };
-        self.declared_in(block, form, part, why)
+        if let Some(name) = self.first_variable(block) {
+            why.add_change(Change::Before(name, " ", form));
+        } else if let Some(region) = self.outline.region(block) {
+            if let Some(place) = first_behind(self.outline.tokens_from(region.from)) {
+                why.add_change(Change::Before(place, "\n", part));
+            }
+        }
     }
 
     // The type that the name is used with at the place.
@@ -149,10 +143,19 @@ impl<'a> Context<'a> {
             Spot::Condition(_) | Spot::Not(..) => Some(Type::Boolean),
             Spot::Control(_) => Some(self.control_type().unwrap_or(Type::Integer)),
             Spot::Bound(control, _) => self.outline.type_of_name(control),
-            Spot::Added(simple, number) => Some(type_beside(simple, number)),
-            Spot::Multiplied(term, number) => Some(type_of_operand(term, number)),
+            Spot::Added(simple, number) => Some(match adding_of(simple, number) {
+                Adding::Or => Type::Boolean,
+                Adding::Plus | Adding::Minus => Type::Integer,
+            }),
+            Spot::Multiplied(term, number) => Some(match multiplying_of(term, number) {
+                Multiplying::And => Type::Boolean,
+                _ => Type::Integer,
+            }),
             Spot::Passed(name, number, _) => self.type_passed(name, number),
-            Spot::Compare(left, _, right) => self.type_compared(left, right),
+            Spot::Compare(left, _, right) => self
+                .outline
+                .type_of_simple(left)
+                .or(self.outline.type_of_simple(right)),
             Spot::Member(members, _) => self.type_before_in(members),
             _ => None,
         }
@@ -185,14 +188,6 @@ impl<'a> Context<'a> {
         }
     }
 
-    // The type of an operand of a comparison.
-    fn type_compared(&self, left: &Simple, right: &Simple) -> Option<Type> {
-        match self.outline.type_of_simple(left) {
-            Some(ty) => Some(ty),
-            None => self.outline.type_of_simple(right),
-        }
-    }
-
     // The type that a routine wants of a parameter.
     fn type_passed(&self, name: Span, number: u32) -> Option<Type> {
         match self.outline.declared(name) {
@@ -206,17 +201,6 @@ impl<'a> Context<'a> {
                 }
                 _ => None,
             },
-        }
-    }
-
-    // Tries a declaration in a block: before its first variable, or behind its declarations.
-    fn declared_in(&self, block: u32, form: &'static str, part: &'static str, why: &mut Why) {
-        if let Some(name) = self.first_variable(block) {
-            why.add_change(Change::Before(name, " ", form));
-        } else if let Some(region) = self.outline.region(block) {
-            if let Some(place) = first_behind(self.tokens_behind(region.from)) {
-                why.add_change(Change::Before(place, "\n", part));
-            }
         }
     }
 
@@ -268,11 +252,3 @@ fn first_behind(tokens: &[Token]) -> Option<Span> {
 const A_CONSTANT: Help = Help::Is("a constant is declared in the `const` part: const @p = ..;");
 
 const A_VARIABLE: &str = "a variable is declared before it is used: var @p: ..;";
-
-// The type that adding operators want of an operand.
-fn type_beside(simple: &Simple, number: u32) -> Type {
-    match adding_of(simple, number) {
-        Adding::Or => Type::Boolean,
-        Adding::Plus | Adding::Minus => Type::Integer,
-    }
-}

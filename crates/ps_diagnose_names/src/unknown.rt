@@ -1,7 +1,10 @@
 //! Names that are not declared (30).
 
 use crate::context::{Context, long};
-use crate::facts::{is_variable, required_kind};
+use crate::facts::{
+    ALL, ALL_FUNCTIONS, CONSTANTS, PROCEDURES, TYPES, VALUES, VARIABLES, is_among, is_variable,
+    required_kind,
+};
 use crate::spot::Spot;
 use crate::tell::Told;
 use crate::text::Text;
@@ -288,48 +291,35 @@ impl<'a> Context<'a> {
                 why.kind = point.kind;
                 why.text = routine;
                 why.mark = Mark::Here(point.name);
-                self.with_block(point.kind, why);
+                if self.seen.is_control {
+                    why.help = Help::Is("declare it in this block too");
+                    self.with_variable(self.block_here(), why);
+                } else if is_variable(point.kind) {
+                    why.help = Help::Is(
+                        "declare it in the block around both, or pass it as a parameter",
+                    );
+                } else {
+                    why.help = Help::Is("declare it in the block around both");
+                }
                 true
             }
             _ => false,
         }
     }
 
-    // Where a name is declared that is meant in two blocks.
-    fn with_block(&self, kind: PointKind, why: &mut Why) {
-        if self.seen.is_control {
-            why.help = Help::Is("declare it in this block too");
-            self.with_variable(self.block_here(), why);
-        } else if is_variable(kind) {
-            why.help = Help::Is("declare it in the block around both, or pass it as a parameter");
-        } else {
-            why.help = Help::Is("declare it in the block around both");
-        }
-    }
-
     // Whether a kind of name could stand at the place.
     fn could_stand(&self, kind: PointKind) -> bool {
-        match self.spots.last() {
-            Some(Spot::Statement(_, parameters)) => {
-                matches!(kind, PointKind::Procedure | PointKind::ProcedureParameter)
-                    || (parameters.is_empty() && is_variable(kind))
-            }
-            Some(Spot::TypeName(_) | Spot::IndexType(_) | Spot::Result(..)) => {
-                matches!(kind, PointKind::Type)
-            }
-            Some(Spot::Call(..)) => {
-                matches!(kind, PointKind::Function | PointKind::FunctionParameter)
-            }
-            Some(Spot::Control(_)) => is_variable(kind),
-            Some(Spot::Definition(..) | Spot::Range(..) | Spot::CaseConstant(..)) => {
-                matches!(kind, PointKind::Constant | PointKind::Member)
-            }
-            Some(Spot::Named(_)) => !matches!(
-                kind,
-                PointKind::Type | PointKind::Procedure | PointKind::ProcedureParameter
-            ),
-            _ => true,
-        }
+        let kinds = match self.spots.last() {
+            Some(Spot::Statement(_, given)) if given.is_empty() => PROCEDURES | VARIABLES,
+            Some(Spot::Statement(..)) => PROCEDURES,
+            Some(Spot::TypeName(_) | Spot::IndexType(_) | Spot::Result(..)) => TYPES,
+            Some(Spot::Call(..)) => ALL_FUNCTIONS,
+            Some(Spot::Control(_)) => VARIABLES,
+            Some(Spot::Definition(..) | Spot::Range(..) | Spot::CaseConstant(..)) => CONSTANTS,
+            Some(Spot::Named(_)) => VALUES | ALL_FUNCTIONS,
+            _ => ALL,
+        };
+        is_among(kind, kinds)
     }
 
     // A name that is near by its spelling.

@@ -1,7 +1,7 @@
 //! Where else a name stands that is not declared.
 
 use ps_diagnose_outline::Outline;
-use ps_scan::{Kind, Token};
+use ps_scan::Kind;
 use ps_text::Span;
 use std::alloc::{AllocError, Global};
 use std::collections::HashSet;
@@ -22,13 +22,6 @@ fn places_declared(
     Ok(places)
 }
 
-// Whether a name is of a spelling, and denotes nothing.
-fn is_unknown(outline: &Outline<'_>, token: &Token, spelling: Option<u32>) -> bool {
-    token.kind == Kind::Name
-        && outline.spelling_at(token.span.from) == spelling
-        && outline.denoted(token.span).is_none()
-}
-
 // Adds the places where an unknown name stands other than that of a fault, and other than those where it is declared.
 fn add_uses(
     uses: &mut Vec<Span>,
@@ -41,7 +34,9 @@ fn add_uses(
     for token in outline.tokens() {
         if !is_field
             && token.span.from != place.from
-            && is_unknown(outline, token, spelling)
+            && token.kind == Kind::Name
+            && outline.spelling_at(token.span.from) == spelling
+            && outline.denoted(token.span).is_none()
             && !declared.contains(&token.span.from)
         {
             uses.push(token.span)?;

@@ -3,8 +3,7 @@
 use crate::declared::behind_sign;
 use crate::spot::Spot;
 use ps_syntax::{
-    AddedTerm, Element, Expr, Factor, Member, MultipliedFactor, Parameter, Selector, Simple,
-    Statement, Term, Variable,
+    Element, Expr, Factor, Member, Parameter, Selector, Simple, Statement, Term, Variable,
 };
 use ps_text::Span;
 
@@ -157,19 +156,16 @@ impl<'a> Walk<'a> {
     #[cycle(expression)]
     fn selector(&mut self, selector: &'a Selector, variable: &'a Variable, before: u32) {
         match selector {
-            Selector::Index(indices) => self.indices(indices.as_slice(), variable, before),
+            Selector::Index(indices) => {
+                let mut number: u32 = 0;
+                for index in indices.as_slice() {
+                    self.value(index, Spot::Index(variable, before, number, index));
+                    number = number.saturating_add(1);
+                }
+            }
             Selector::Field(at) | Selector::Content(at) => {
                 self.note(at.from, Spot::Selected(variable, before))
             }
-        }
-    }
-
-    #[cycle(expression)]
-    fn indices(&mut self, indices: &'a [Expr], variable: &'a Variable, before: u32) {
-        let mut number: u32 = 0;
-        for index in indices {
-            self.value(index, Spot::Index(variable, before, number, index));
-            number = number.saturating_add(1);
         }
     }
 
@@ -201,13 +197,8 @@ impl<'a> Walk<'a> {
             self.note(simple.first_token(), Spot::Added(simple, 0));
         }
         self.term(&simple.first);
-        self.added(simple.more.as_slice(), simple)
-    }
-
-    #[cycle(expression)]
-    fn added(&mut self, terms: &'a [AddedTerm], simple: &'a Simple) {
         let mut number: u32 = 1;
-        for added in terms {
+        for added in simple.more.as_slice() {
             self.note(added.term.first_token(), Spot::Added(simple, number));
             self.term(&added.term);
             number = number.saturating_add(1);
@@ -220,13 +211,8 @@ impl<'a> Walk<'a> {
             self.note(term.first_token(), Spot::Multiplied(term, 0));
         }
         self.factor(&term.first);
-        self.multiplied(term.more.as_slice(), term)
-    }
-
-    #[cycle(expression)]
-    fn multiplied(&mut self, factors: &'a [MultipliedFactor], term: &'a Term) {
         let mut number: u32 = 1;
-        for multiplied in factors {
+        for multiplied in term.more.as_slice() {
             self.note(
                 multiplied.factor.first_token(),
                 Spot::Multiplied(term, number),
@@ -264,17 +250,12 @@ impl<'a> Walk<'a> {
     #[cycle(expression)]
     fn members(&mut self, members: &'a [Member]) {
         for member in members {
-            self.member(member, members);
-        }
-    }
-
-    #[cycle(expression)]
-    fn member(&mut self, member: &'a Member, all: &'a [Member]) {
-        match member {
-            Member::One(only) => { self.value(only.get(), Spot::Member(all, only.get())) }
-            Member::Range(low, high) => {
-                self.value(low.get(), Spot::Member(all, low.get()));
-                self.value(high.get(), Spot::Member(all, high.get()))
+            match member {
+                Member::One(only) => self.value(only.get(), Spot::Member(members, only.get())),
+                Member::Range(low, high) => {
+                    self.value(low.get(), Spot::Member(members, low.get()));
+                    self.value(high.get(), Spot::Member(members, high.get()))
+                }
             }
         }
     }

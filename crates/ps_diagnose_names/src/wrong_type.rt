@@ -1,11 +1,11 @@
 //! Values of a type that cannot stand there (34), but for operators.
 
 use crate::context::Context;
-use crate::required::Known;
+use crate::facts::{BOOLEAN, CHAR, INTEGER, SIMPLE};
 use crate::selected::no_content;
 use crate::spot::{Passed, Spot};
 use crate::why::{Change, Help, Mark, Why};
-use ps_diagnose_outline::{Form, Type};
+use ps_diagnose_outline::{Form, Known, Type};
 use ps_syntax::{Constant, Expr, Member, Ordinal, Variable};
 use ps_text::Span;
 
@@ -51,7 +51,7 @@ impl<'a> Context<'a> {
             Spot::Width(name, value) => self.wrong_width(name, value, why),
             Spot::CaseIndex(value) => self.not_wanted(
                 value,
-                Wanted::Simple,
+                SIMPLE,
                 "a `case` takes a value of a simple type, and `@x` is @t",
                 Help::Is("compare by `if .. then .. else if .. then ..`"),
                 why,
@@ -78,12 +78,12 @@ impl<'a> Context<'a> {
     fn wrong_condition(&self, value: &Expr, why: &mut Why) -> bool {
         let is_wrong = self.not_wanted(
             value,
-            Wanted::Boolean,
+            BOOLEAN,
             "a condition is Boolean, and `@x` is @t",
             Help::Is("a comparison is Boolean, as `.. = ..`"),
             why,
         );
-        if is_wrong && self.is_integer(why.ty) {
+        if is_wrong && self.is(why.ty, INTEGER) {
             why.change = Change::Behind(why.text, " ", "<> 0");
             why.help = Help::None;
         }
@@ -133,7 +133,7 @@ impl<'a> Context<'a> {
     fn wrong_member(&self, all: &[Member], value: &Expr, why: &mut Why) -> bool {
         let text = self.expr_span(value);
         match (self.type_of_first(all), self.told_expr(value)) {
-            (Some(_), Some(ty)) if !self.is_simple(ty) => {
+            (Some(_), Some(ty)) if !self.is(ty, SIMPLE) => {
                 why.form = "a member of a set is of a simple type, and `@x` is @t";
                 why.text = text;
                 why.ty = ty;
@@ -175,7 +175,7 @@ impl<'a> Context<'a> {
         match self.known(name) {
             Known::Write | Known::Writeln => self.not_wanted(
                 value,
-                Wanted::Integer,
+                INTEGER,
                 "a width is an integer, and `@x` is @t",
                 Help::None,
                 why,
@@ -188,11 +188,11 @@ impl<'a> Context<'a> {
         }
     }
 
-    // A value that is not of the kind of types that is wanted.
+    // A value that is not of one of the types that are wanted.
     fn not_wanted(
         &self,
         value: &Expr,
-        wanted: Wanted,
+        wanted: u32,
         form: &'static str,
         help: Help,
         why: &mut Why,
@@ -200,12 +200,7 @@ impl<'a> Context<'a> {
         let Some(ty) = self.told_expr(value) else {
             return false;
         };
-        let is_wanted = match wanted {
-            Wanted::Integer => self.is_integer(ty),
-            Wanted::Boolean => self.is_boolean(ty),
-            Wanted::Simple => self.is_simple(ty),
-        };
-        if is_wanted {
+        if self.is(ty, wanted) {
             return false;
         }
         let text = self.expr_span(value);
@@ -237,10 +232,9 @@ impl<'a> Context<'a> {
     /// Tries a digit between apostrophes as a number, and a number of one digit between them.
     pub(crate) fn literal_change(&self, wanted: Type, given: Type, text: Span) -> Change {
         match self.outline.bytes(text) {
-            [digit] if digit.is_ascii_digit() && self.is_char(wanted) && self.is_integer(given) => {
-                Change::For(text, "'@a'")
-            }
-            [b'\'', digits @ .., b'\''] if self.is_integer(wanted) && are_digits(digits) => {
+            [digit] if digit.is_ascii_digit() && self.is(wanted, CHAR) && self.is(given, INTEGER) =>
+                { Change::For(text, "'@a'") }
+            [b'\'', digits @ .., b'\''] if self.is(wanted, INTEGER) && are_digits(digits) => {
                 Change::For(text, "@i")
             }
             _ => Change::None,
@@ -272,7 +266,7 @@ impl<'a> Context<'a> {
     // A control variable.
     fn wrong_control(&self, name: Span, why: &mut Why) -> bool {
         match self.told(self.outline.type_of_name(name)) {
-            Some(ty) if !self.is_simple(ty) => {
+            Some(ty) if !self.is(ty, SIMPLE) => {
                 why.form = "a `for` counts by a variable of a simple type, and `@x` is @t";
                 why.text = name;
                 why.ty = ty;
@@ -349,14 +343,6 @@ impl<'a> Context<'a> {
             None => false,
         }
     }
-}
-
-// A kind of types.
-#[derive(Clone, Copy)]
-enum Wanted {
-    Integer,
-    Boolean,
-    Simple,
 }
 
 /// The span of a constant with its sign.

@@ -63,13 +63,6 @@ impl<'a> Outline<'a> {
     }
 }
 
-// The number of a name's spelling, which is added if it is new.
-fn number_of(alloc: Global, outline: &mut Outline<'_>, name: &[u8]) -> Result<u32, AllocError> {
-    let spelling = ps_scan::name_spelling(alloc, name)?;
-    let (number, _) = outline.spellings.insert_full(spelling)?;
-    Ok(small(number))
-}
-
 impl<'a> Builder<'a> {
     // What was made, if all of it was kept.
     fn finished(self) -> Result<Outline<'a>, AllocError> {
@@ -93,26 +86,19 @@ impl<'a> Builder<'a> {
         }
     }
 
-    // The number of a name's spelling.
+    // The number of a name's spelling, which is added if it is new.
     fn spell(&mut self, name: &[u8]) -> u32 {
-        match number_of(self.alloc, &mut self.outline, name) {
-            Ok(number) => number,
+        let Ok(spelling) = ps_scan::name_spelling(self.alloc, name) else {
+            self.has_failed = true;
+            return 0;
+        };
+        match self.outline.spellings.insert_full(spelling) {
+            Ok((number, _)) => small(number),
             Err(_) => {
                 self.has_failed = true;
                 0
             }
         }
-    }
-
-    // Adds a token of the text.
-    fn add_token(&mut self, token: &Token) {
-        let mut spelling = u32::MAX;
-        if matches!(token.kind, Kind::Name) {
-            let name = self.outline.bytes(token.span);
-            spelling = self.spell(name);
-        }
-        self.has_failed |= self.outline.starts.push(token.span.from).is_err();
-        self.has_failed |= self.outline.spelled.push(spelling).is_err();
     }
 
     // Reads the names, the required ones first.
@@ -121,7 +107,13 @@ impl<'a> Builder<'a> {
             self.spell(required.name.as_bytes());
         }
         for token in self.outline.tokens {
-            self.add_token(token);
+            let mut spelling = u32::MAX;
+            if matches!(token.kind, Kind::Name) {
+                let name = self.outline.bytes(token.span);
+                spelling = self.spell(name);
+            }
+            self.has_failed |= self.outline.starts.push(token.span.from).is_err();
+            self.has_failed |= self.outline.spelled.push(spelling).is_err();
         }
     }
 

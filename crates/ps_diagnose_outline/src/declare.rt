@@ -2,6 +2,7 @@
 
 use crate::build::Builder;
 use crate::constructions::Construct;
+use crate::extent::Part;
 use crate::outline::Outline;
 use crate::parts::{Form, Point, PointKind, RegionKind, Type, pair, small};
 use ps_scan::Kind;
@@ -47,14 +48,6 @@ impl<'a> Outline<'a> {
             before = kind;
         }
         heading
-    }
-
-    // What the name behind the word of a heading denotes in a block.
-    fn known(&self, block: u32, at: usize) -> Option<Point> {
-        match self.spelling_of(at.saturating_add(1)) {
-            Some(spelling) => self.point_in(block, spelling),
-            None => None,
-        }
     }
 }
 
@@ -199,14 +192,16 @@ impl<'a> Builder<'a> {
         let is_directed = self.outline.is(heading.end.saturating_add(1), Kind::Name);
         let is_bare = heading.end == at.saturating_add(2) && !is_directed;
         let is_function = self.outline.is(at, Kind::Function);
-        match self.outline.known(self.block, at) {
+        let name = self.outline.span(at.saturating_add(1));
+        let known = match self.outline.spelling_of(at.saturating_add(1)) {
+            Some(spelling) => self.outline.point_in(self.block, spelling),
+            None => None,
+        };
+        match known {
             Some(point) if is_bare && (is_function || point.is_forward) => {
                 self.complete(at, &point);
             }
-            None if is_bare && is_function => {
-                let name = self.outline.span(at.saturating_add(1));
-                self.open(RegionKind::Routine, name.to, None);
-            }
+            None if is_bare && is_function => self.open(RegionKind::Routine, name.to, None),
             _ => self.open_heading(at, heading, is_directed),
         }
     }
@@ -285,7 +280,7 @@ impl<'a> Builder<'a> {
     // Opens the region of a record variable behind it, if its type is known and not too many are open, and gives the token behind it.
     fn open_record(&mut self, at: usize, opened: u32) -> usize {
         if opened >= MOST_OPENED {
-            return self.outline.behind_written(at);
+            return self.outline.end_of(at, Part::Factor);
         }
         let (ty, next) = self.outline.type_written(at);
         if let Some(Form::Record(record)) = self.outline.form_of(ty) {

@@ -42,18 +42,6 @@ fn rank_of(kind: Kind) -> u8 {
     }
 }
 
-// Whether a token goes on with a part, where nothing in it is open.
-fn goes_on(part: Part, kind: Kind) -> bool {
-    let most = match part {
-        Part::Factor => 1,
-        Part::Term => 2,
-        Part::Simple => 3,
-        Part::Expression => 4,
-        Part::Denoter => 5,
-    };
-    rank_of(kind) <= most
-}
-
 /// How many constructions are open behind a token.
 pub(crate) fn open_behind(open: u32, kind: Kind) -> u32 {
     match kind {
@@ -65,7 +53,14 @@ pub(crate) fn open_behind(open: u32, kind: Kind) -> u32 {
 
 /// Whether a part goes on with a token, where so many constructions in it are open.
 pub(crate) fn reaches(part: Part, open: u32, kind: Kind) -> bool {
-    open > 0 || goes_on(part, kind)
+    let most = match part {
+        Part::Factor => 1,
+        Part::Term => 2,
+        Part::Simple => 3,
+        Part::Expression => 4,
+        Part::Denoter => 5,
+    };
+    open > 0 || rank_of(kind) <= most
 }
 
 impl<'a> Outline<'a> {
@@ -101,5 +96,10 @@ impl<'a> Outline<'a> {
             to = token.span.to;
         }
         Span { from, to }
+    }
+    /// The token behind the part that begins with a token.
+    pub(crate) fn end_of(&self, at: usize, part: Part) -> usize {
+        let whole = self.extent(self.span(at).from, part);
+        self.token_at(whole.to)
     }
 }

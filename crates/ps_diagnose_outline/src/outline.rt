@@ -2,7 +2,7 @@
 
 use crate::constructions::Construction;
 use crate::parts::{Denoter, Held, Point, PointKind, Region, Shape, Type, pair, small};
-use crate::required::{Required, RequiredKind, required_of};
+use crate::required::{REQUIRED, Required, RequiredKind};
 use indexmap::IndexSet;
 use ps_scan::{Kind, Token};
 use ps_syntax::{Constant, Program, Sign};
@@ -260,8 +260,8 @@ impl<'a> Outline<'a> {
         };
         match self.find(self.region_at(name.from), spelling) {
             Some(point) => Some(Denoted::Declared(point)),
-            None => match required_of(spelling) {
-                Some(required) => Some(Denoted::Required(required)),
+            None => match REQUIRED.get(spelling as usize) {
+                Some(required) => Some(Denoted::Required(*required)),
                 None => None,
             },
         }

@@ -61,7 +61,7 @@ impl<'a> Builder<'a> {
             self.add_denoter(place, is_packed, shape);
             self.ordinal(index);
             place = None;
-            let end = self.outline.end_of_denoter(index);
+            let end = self.outline.end_of(index, Part::Denoter);
             self.until = end;
             if !self.outline.is(end, Kind::Comma) {
                 break;
@@ -83,7 +83,7 @@ impl<'a> Builder<'a> {
     // The constants of an enumeration, of which the first stands behind a token.
     fn add_members(&mut self, parenthesis: usize, ty: Type) {
         let mut value: i64 = 0;
-        self.until = self.outline.end_of_denoter(parenthesis);
+        self.until = self.outline.end_of(parenthesis, Part::Denoter);
         for at in parenthesis..self.until {
             if self.outline.is(at, Kind::Name) {
                 self.add_point(self.block, at, PointKind::Member, Some(ty), Some(value));
@@ -94,12 +94,6 @@ impl<'a> Builder<'a> {
 }
 
 impl<'a> Outline<'a> {
-    // The token behind the denoter that begins at a token.
-    fn end_of_denoter(&self, at: usize) -> usize {
-        let part = self.extent(self.span(at).from, Part::Denoter);
-        self.token_at(part.to)
-    }
-
     // The shape of the denoter of an ordinal type.
     fn ordinal_shape(&self, at: usize) -> Shape {
         match (self.kind(at), self.kind(at.saturating_add(1))) {

@@ -3,12 +3,9 @@
 use crate::extent::{Part, open_behind, reaches};
 use crate::outline::{Denoted, Outline};
 use crate::parts::{Form, Point, PointKind, Shape, Type};
-use crate::required::{Required, RequiredKind};
+use crate::required::{Known, RequiredKind};
 use ps_scan::Kind;
-use ps_syntax::{
-    AddedTerm, Adding, Expr, Factor, MultipliedFactor, Multiplying, Selector, Simple, Term,
-    Variable,
-};
+use ps_syntax::{Adding, Expr, Factor, Multiplying, Selector, Simple, Term, Variable};
 use ps_text::Span;
 
 // What a type is that has no denoter of its own: where an ordinal type of a range has one, it is an enumeration.
@@ -178,12 +175,6 @@ impl<'a> Outline<'a> {
         (ty, at)
     }
 
-    /// The token behind the variable that begins at a token.
-    pub(crate) fn behind_written(&self, first: usize) -> usize {
-        let written = self.extent(self.span(first).from, Part::Factor);
-        self.token_at(written.to)
-    }
-
     // The type of the value of a declared name.
     fn value_type(&self, point: Point) -> Option<Type> {
         match point.kind {
@@ -196,7 +187,11 @@ impl<'a> Outline<'a> {
     pub fn type_of_name(&self, name: Span) -> Option<Type> {
         match self.denoted(name) {
             Some(Denoted::Declared(point)) => self.value_type(point),
-            Some(Denoted::Required(required)) => value_of(required),
+            Some(Denoted::Required(required)) => match (required.kind, required.known) {
+                (RequiredKind::Constant(ty, _), _) => Some(ty),
+                (_, Known::End) => required.result,
+                _ => None,
+            },
             None => None,
         }
     }
@@ -234,9 +229,9 @@ impl<'a> Outline<'a> {
         }
         match simple.more.get(0) {
             None => self.type_of_term(&simple.first),
-            Some(added) => match added_type(added) {
-                Some(ty) => Some(ty),
-                None => self.computed(self.type_of_term(&simple.first)),
+            Some(added) => match added.operator {
+                Adding::Or => Some(Type::Boolean),
+                Adding::Plus | Adding::Minus => self.computed(self.type_of_term(&simple.first)),
             },
         }
     }
@@ -246,9 +241,10 @@ impl<'a> Outline<'a> {
     pub fn type_of_term(&self, term: &Term) -> Option<Type> {
         match term.more.get(0) {
             None => self.type_of_factor(&term.first),
-            Some(multiplied) => match multiplied_type(multiplied) {
-                Some(ty) => Some(ty),
-                None => self.computed(self.type_of_factor(&term.first)),
+            Some(multiplied) => match multiplied.operator {
+                Multiplying::Div | Multiplying::Mod => Some(Type::Integer),
+                Multiplying::And => Some(Type::Boolean),
+                Multiplying::Times => self.computed(self.type_of_factor(&term.first)),
             },
         }
     }
@@ -282,11 +278,11 @@ impl<'a> Outline<'a> {
     fn type_of_call(&self, parameters: &[Expr], name: Span) -> Option<Type> {
         match (self.denoted(name), parameters.first()) {
             (Some(Denoted::Declared(point)), _) => self.value_type(point),
-            (Some(Denoted::Required(required)), Some(first)) => match required.name {
-                "succ" | "pred" => self.ordinal(self.type_of(first)),
-                _ => result_of(required),
+            (Some(Denoted::Required(required)), Some(first)) => match required.known {
+                Known::Order if required.result.is_none() => self.ordinal(self.type_of(first)),
+                _ => required.result,
             },
-            (Some(Denoted::Required(required)), None) => result_of(required),
+            (Some(Denoted::Required(required)), None) => required.result,
             (None, _) => None,
         }
     }
@@ -303,44 +299,5 @@ impl<'a> Outline<'a> {
             },
             None => None,
         }
-    }
-}
-
-// The type of what an adding operator gives, if it is the same of all operands.
-fn added_type(added: &AddedTerm) -> Option<Type> {
-    match added.operator {
-        Adding::Or => Some(Type::Boolean),
-        Adding::Plus | Adding::Minus => None,
-    }
-}
-
-// The type of what a multiplying operator gives, if it is the same of all operands.
-fn multiplied_type(multiplied: &MultipliedFactor) -> Option<Type> {
-    match multiplied.operator {
-        Multiplying::Div | Multiplying::Mod => Some(Type::Integer),
-        Multiplying::And => Some(Type::Boolean),
-        Multiplying::Times => None,
-    }
-}
-
-// The type of a required name that stands alone.
-fn value_of(required: Required) -> Option<Type> {
-    match required.kind {
-        RequiredKind::Constant(ty, _) => Some(ty),
-        RequiredKind::Function => match required.name {
-            "eof" | "eoln" => Some(Type::Boolean),
-            _ => None,
-        },
-        _ => None,
-    }
-}
-
-// The type of a required function's result, if it is the same of all parameters.
-fn result_of(function: Required) -> Option<Type> {
-    match function.name {
-        "abs" | "sqr" | "ord" => Some(Type::Integer),
-        "odd" | "eof" | "eoln" => Some(Type::Boolean),
-        "chr" => Some(Type::Char),
-        _ => None,
     }
 }

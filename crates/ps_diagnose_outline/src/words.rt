@@ -62,24 +62,10 @@ impl<'a> Outline<'a> {
             if behind < token.span.from {
                 out.push_str(" ")?;
             }
-            out.push_str(self.written(token.span))?;
+            out.push_str(str::from_utf8(self.bytes(token.span)).unwrap_or("?"))?;
             behind = token.span.to;
         }
         Ok(out)
-    }
-
-    // The bytes of a span as text.
-    fn written(&self, span: Span) -> &'a str {
-        str::from_utf8(self.bytes(span)).unwrap_or("?")
-    }
-
-    // The denoter that begins at an offset, behind words.
-    fn denoter_behind(&self, before: &'static str, from: u32) -> Phrase {
-        Phrase {
-            before,
-            part: self.extent(from, Part::Denoter),
-            behind: "",
-        }
     }
 
     // A type's name with its article.
@@ -106,35 +92,33 @@ impl<'a> Outline<'a> {
         }
     }
 
-    // The words of a denoter with its article.
-    fn article_phrase(&self, from: u32) -> Phrase {
-        let is_vowel = begins_with_vowel(self.bytes(self.span(self.token_at(from))));
-        self.denoter_behind(if is_vowel { "an " } else { "a " }, from)
-    }
-
-    // The words of a denoter that no type definition names.
+    // The words of a denoter that no type definition names, with its article.
     fn phrase_of(&self, shape: Shape, from: u32) -> Phrase {
-        match shape {
-            Shape::Range { .. } => self.denoter_behind("a range ", from),
-            Shape::Enumeration => self.denoter_behind("an enumeration ", from),
-            Shape::Pointer(_) => self.denoter_behind("a pointer ", from),
-            Shape::Same(_) => self.same_phrase(from),
-            _ => self.article_phrase(from),
+        let before = match shape {
+            Shape::Same(_) => return self.same_phrase(from),
+            Shape::Range { .. } => "a range ",
+            Shape::Enumeration => "an enumeration ",
+            Shape::Pointer(_) => "a pointer ",
+            _ if begins_with_vowel(self.bytes(self.span(self.token_at(from)))) => "an ",
+            _ => "a ",
+        };
+        Phrase {
+            before,
+            part: self.extent(from, Part::Denoter),
+            behind: "",
         }
     }
 
-    // The words of the type that a denoter tells.
-    fn phrase_told(&self, number: u32) -> Option<Phrase> {
+    // The words of a type, but for the length of a string, if they are known.
+    fn phrase(&self, ty: Type) -> Option<Phrase> {
+        let Type::Told(number) = ty else {
+            return Some(fixed(ty));
+        };
         if let Some(name) = self.type_name(number) {
             return Some(self.name_phrase(name));
         }
-        let Some(denoter) = self.denoter(number) else {
-            return None;
-        };
-        match denoter.from {
-            Some(from) => Some(self.phrase_of(denoter.shape, from)),
-            None => None,
-        }
+        let denoter = self.denoter(number)?;
+        Some(self.phrase_of(denoter.shape, denoter.from?))
     }
 
     // The name of the type that a denoter defines, if it is one of a type definition.
@@ -151,20 +135,14 @@ impl<'a> Outline<'a> {
 
     /// A type in the words of the text, with `a` or `an`.
     pub fn words(&self, alloc: Global, ty: Type) -> Result<Option<String>, AllocError> {
-        match ty {
-            Type::Text(length) => Ok(Some(format!(in alloc; "a string of {length} characters")?)),
-            Type::Told(number) => match self.phrase_told(number) {
-                Some(phrase) => Ok(Some(self.phrase_words(alloc, phrase)?)),
-                None => Ok(None),
-            },
-            _ => Ok(Some(self.phrase_words(alloc, fixed(ty))?)),
+        if let Type::Text(length) = ty {
+            return Ok(Some(format!(in alloc; "a string of {length} characters")?));
         }
-    }
-
-    // What is said, as one text.
-    fn phrase_words(&self, alloc: Global, phrase: Phrase) -> Result<String, AllocError> {
+        let Some(phrase) = self.phrase(ty) else {
+            return Ok(None);
+        };
         let part = self.text(alloc, phrase.part)?;
         let (before, part, behind) = (phrase.before, part.as_str(), phrase.behind);
-        format!(in alloc; "{before}{part}{behind}")
+        Ok(Some(format!(in alloc; "{before}{part}{behind}")?))
     }
 }

@@ -237,12 +237,7 @@ const IN_DECLARATIONS: Steps = &[
     Advice(Part::Declarations, "NAME ="),
 ];
 
-/// The first rule that fits of those of what assigns in statements.
-pub(crate) fn in_statements(cx: &Context<'_>) -> Option<Steps> {
-    first_of(cx, IN_STATEMENTS)
-}
-
-/// The first that fits of those of what defines and declares.
-pub(crate) fn in_declarations(cx: &Context<'_>) -> Option<Steps> {
-    first_of(cx, IN_DECLARATIONS)
+/// The first rule that fits of those of what assigns in statements, and of what defines and declares.
+pub(crate) fn assigned(cx: &Context<'_>) -> Option<Steps> {
+    first_of(cx, IN_STATEMENTS).or(first_of(cx, IN_DECLARATIONS))
 }

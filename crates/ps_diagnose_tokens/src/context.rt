@@ -2,7 +2,7 @@
 
 use crate::kinds::ROUTINES;
 use crate::tell::shown;
-use crate::walk::{Block, Open, Opened, opened_before};
+use crate::walk::{Opened, opened_before};
 use ps_diagnose::ReportedFault;
 use ps_scan::{Kind, Token};
 use ps_text::Span;
@@ -119,38 +119,28 @@ impl<'a> Context<'a> {
         self.span(at).to == self.span(at.saturating_add(1)).from
     }
 
-    /// The innermost construction that is open.
-    pub(crate) fn top(&self) -> Option<Open> {
-        self.opened.top()
-    }
-
     // Whether the innermost construction that is open begins with a parenthesis.
     fn is_in_parentheses(&self) -> bool {
-        match self.top() {
+        match self.opened.top() {
             Some(open) => matches!(open.kind, Kind::LeftParen),
             None => false,
         }
     }
 
-    /// The innermost block that is open.
-    pub(crate) fn block(&self) -> Block {
-        self.opened.block()
-    }
-
     /// Whether the place is among statements.
     pub(crate) fn is_in_statements(&self) -> bool {
-        self.block().begun.is_some() && self.opened.ended.is_none()
+        self.opened.block().begun.is_some() && self.opened.ended.is_none()
     }
 
     /// Whether the place is among declarations, and in no list of parameters.
     pub(crate) fn is_in_declarations(&self) -> bool {
-        let block = self.block();
+        let block = self.opened.block();
         block.is_told && block.begun.is_none() && !self.is_in_parentheses()
     }
 
     /// Whether the place is in the heading of a routine, and there in the list of its parameters.
     pub(crate) fn is_in_parameters(&self) -> bool {
-        let block = self.block();
+        let block = self.opened.block();
         !block.is_told && block.is_routine && self.is_in_parentheses()
     }
 

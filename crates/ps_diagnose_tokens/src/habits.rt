@@ -13,7 +13,7 @@ use crate::rule::Step::{
 };
 use crate::rule::{Fact, More, Place, Steps};
 use crate::spread::statement_end;
-use crate::tell::{Telling, empty, joined, shown};
+use crate::tell::{Telling, joined, move_up};
 use crate::tests::first_of;
 use ps_scan::Kind;
 use ps_text::Span;
@@ -45,8 +45,7 @@ const IN_STATEMENTS: Steps = &[
 
     // `break;` in a `case`
     Rule,
-    InBody(&[Kind::Case]),
-    Same(Start, Back(1)),
+    Holds(Fact::BehindConstant),
     Spelled(Back(1), "break"),
     Is(Back(2), &[Kind::Semicolon]),
     Why("a `case` does one statement, and needs no `break`"),
@@ -54,8 +53,7 @@ const IN_STATEMENTS: Steps = &[
 
     // `case n of n > 1:`
     Rule,
-    InBody(&[Kind::Case]),
-    Same(Start, Back(1)),
+    Holds(Fact::BehindConstant),
     Is(Here, OPERATORS),
     Is(Back(2), BEFORE_CONSTANT),
     Or,
@@ -108,7 +106,7 @@ const BEFORE_CONSTANT: &[Kind] = &[Kind::Of, Kind::Semicolon];
 /// Proposes to move the declaration of variables that begins the statement, or at the place, before the routines or the
 /// statements of the block, with the word of their part where the block has none.
 pub(crate) fn move_variables(cx: &Context<'_>, to: &mut Telling) {
-    let block = cx.block();
+    let block = cx.opened.block();
     let first = if block.begun.is_some() {
         cx.opened.start
     } else {
@@ -124,37 +122,13 @@ pub(crate) fn move_variables(cx: &Context<'_>, to: &mut Telling) {
         } else {
             "var "
         };
-        move_with(cx, to, cx.span_of(first, last), before, word);
-    }
-}
-
-// Proposes to move what a span has before a token, behind a word.
-fn move_with(cx: &Context<'_>, to: &mut Telling, span: Span, before: usize, word: &str) {
-    let from = cx.span(before).from;
-    let moved = shown(cx.piece(span));
-    let mut words = joined(cx, &["move `", moved, "`"]);
-    if !word.is_empty() {
-        words.put_all(&[" as `", word, moved, "`"]);
-    }
-    words.put_all(&[" before `", cx.told(before), "` at "]);
-    words.put_place(cx, from);
-    to.propose(cx, 0, words);
-    let line = str::from_utf8(cx.piece(span)).unwrap_or("");
-    to.change(Span { from, to: from }, joined(cx, &[word, line, "\n"]));
-    to.change(span, empty(cx.alloc));
-}
-
-// What is put before a token to end a statement there.
-fn end_before(cx: &Context<'_>, at: usize) -> &'static str {
-    if cx.is_of(at, &[Kind::Semicolon]) {
-        " end"
-    } else {
-        "end "
+        let span = cx.span_of(first, last);
+        move_up(cx, to, span, before, word, span);
     }
 }
 
 /// Proposes `begin` before a token, and `end` before another one.
-pub(crate) fn enclose(cx: &Context<'_>, to: &mut Telling, first: Place, behind: Place) {
+pub(crate) fn enclose(cx: &Context<'_>, to: &mut Telling, first: &Place, behind: &Place) {
     let (Some(first), Some(behind)) = (number_of(cx, first), number_of(cx, behind)) else {
         return;
     };
@@ -164,14 +138,19 @@ pub(crate) fn enclose(cx: &Context<'_>, to: &mut Telling, first: Place, behind: 
     words.put_all(&[", and `end` before `", cx.told(behind), "` at "]);
     words.put_place(cx, end);
     to.propose(cx, 0, words);
-    let (begin, end) = (span_at(begin), span_at(end));
-    to.change(begin, joined(cx, &["begin "]));
-    to.change(end, joined(cx, &[end_before(cx, behind)]));
-}
-
-// The empty span at an offset.
-fn span_at(from: u32) -> Span {
-    Span { from, to: from }
+    to.change(
+        Span {
+            from: begin,
+            to: begin,
+        },
+        joined(cx, &["begin "]),
+    );
+    let put = if cx.is_of(behind, &[Kind::Semicolon]) {
+        " end"
+    } else {
+        "end "
+    };
+    to.change(Span { from: end, to: end }, joined(cx, &[put]));
 }
 
 /// The first rule that fits of those of lists, `case` statements and declarations.

@@ -1,6 +1,7 @@
 //! What is told of what this compiler leaves out.
 
 use crate::context::Context;
+use crate::reals;
 use crate::rows::{Part, other_pascal};
 use crate::rule::Place::{Ahead, Back, Here, Start, Top};
 use crate::rule::Reach::To;
@@ -12,9 +13,6 @@ use crate::rule::{Fact, More, Steps};
 use crate::tell::{Telling, exchange, joined};
 use crate::tests::first_of;
 use ps_scan::Kind;
-
-// The words of real numbers.
-const REALS: &str = "real sqrt sin cos arctan exp ln trunc round";
 
 // What is left out; the last rule fits each refusal.
 const LEFT_OUT: Steps = &[
@@ -145,7 +143,7 @@ const LEFT_OUT: Steps = &[
     Put("` is left out of this compiler"),
     Tell(More::LeftOut),
     Also,
-    Spelled(Here, REALS),
+    Spelled(Here, reals::WORDS),
     Tell(More::Reals),
 ];
 

@@ -242,12 +242,7 @@ const OF_HEADINGS: Steps = &[
     Put(")"),
 ];
 
-/// The first rule that fits of those of parentheses and values.
-pub(crate) fn of_values(cx: &Context<'_>) -> Option<Steps> {
-    first_of(cx, OF_VALUES)
-}
-
-/// The first that fits of those of headings and lists.
-pub(crate) fn of_headings(cx: &Context<'_>) -> Option<Steps> {
-    first_of(cx, OF_HEADINGS)
+/// The first rule that fits of those of parentheses and values, and of headings and lists.
+pub(crate) fn of_lists(cx: &Context<'_>) -> Option<Steps> {
+    first_of(cx, OF_VALUES).or(first_of(cx, OF_HEADINGS))
 }

@@ -138,8 +138,7 @@ const IN_STATEMENTS: Steps = &[
     Same(Start, Here),
     Is(Here, &[Kind::Begin]),
     Or,
-    InBody(&[Kind::Case]),
-    Same(Start, Back(1)),
+    Holds(Fact::BehindConstant),
     Is(Back(1), &[Kind::Name]),
     Is(
         Here,

@@ -2,17 +2,18 @@
 
 use crate::context::Context;
 use crate::rows::{Part, Row, row_of};
-use crate::spread::{expression_end, statement_end};
+use crate::rule::Place::{Ahead, Back, Here, NextExpressionEnd, TextEnd, Top};
+use crate::rule::Step::{Fails, Fits, InPart, Is, IsNot, NotBefore, Or, Rule};
+use crate::rule::{Fact, Steps};
+use crate::spread::statement_end;
 use crate::table::{numbers_of, text_at};
 use crate::tell::{Telling, Text, exchange, exchange_text, joined, refusal, shown, take_away};
-use crate::tests::is_behind_variable;
-use crate::walk::Stage;
+use crate::tests::first_of;
 use ps_scan::Kind;
-use ps_text::Span;
 
 /// The part of the table for the place.
 pub(crate) fn part_here(cx: &Context<'_>) -> Part {
-    let block = cx.block();
+    let block = cx.opened.block();
     if cx.is_in_parameters() {
         Part::Parameters
     } else if !block.is_told && !block.is_routine {
@@ -89,86 +90,127 @@ fn stands(cx: &Context<'_>, row: &Row) -> Option<usize> {
 
 // Whether what a row must stand within is there.
 fn is_within(cx: &Context<'_>, row: &Row) -> bool {
-    match cx.top() {
+    match cx.opened.top() {
         _ if row.within.is_empty() => true,
         Some(open) => cx.is_spelled(open.at, row.within),
         None => false,
     }
 }
 
-// Whether the token behind the place is of one of some kinds.
-fn is_next(cx: &Context<'_>, kinds: &[Kind]) -> bool {
-    cx.is_of(cx.at.saturating_add(1), kinds)
+// A row that is meant only where a rule fits: by the tokens round the place.
+struct Doubtful {
+    word: &'static str,
+    rule: Steps,
 }
 
-// Whether no more than an `if` ends at the place, as where it is told what is ended.
-fn is_end_of_if(cx: &Context<'_>) -> bool {
-    is_next(cx, &[Kind::Semicolon, Kind::End, Kind::Else])
-        || cx.at.saturating_add(1) >= cx.tokens.len()
-}
+// What stands in a `for`.
+const IN_FOR: Steps = &[Rule, Is(Top, &[Kind::For]), Fits];
 
-// Whether a constant is declared with a type at the place.
-fn is_type_of_constant(cx: &Context<'_>) -> bool {
-    matches!(cx.block().part, Some(Kind::Const))
-        && cx.is_of(cx.at, &[Kind::Colon])
-        && is_next(cx, &[Kind::Name])
-        && cx.is_of(cx.at.saturating_add(2), &[Kind::Equal])
-}
+// The rows that are meant only where a rule fits; those of words of blocks never, of which other reasons tell more.
+const DOUBTFUL: &[Doubtful] = &[
+    Doubtful {
+        word: "var",
+        rule: &[],
+    },
+    Doubtful {
+        word: "begin",
+        rule: &[],
+    },
+    // no more than an `if` ends, as where it is told what is ended
+    Doubtful {
+        word: "end if",
+        rule: &[
+            Rule,
+            Is(Ahead(1), &[Kind::Semicolon, Kind::End, Kind::Else]),
+            Or,
+            NotBefore(Ahead(1), TextEnd),
+            Fits,
+        ],
+    },
+    Doubtful {
+        word: "value",
+        rule: &[
+            Rule,
+            Is(
+                Ahead(1),
+                &[Kind::Number, Kind::Text, Kind::Plus, Kind::Minus],
+            ),
+            Fits,
+        ],
+    },
+    Doubtful {
+        word: "step",
+        rule: IN_FOR,
+    },
+    Doubtful {
+        word: "by",
+        rule: IN_FOR,
+    },
+    Doubtful {
+        word: "= =",
+        rule: &[Rule, Fails(Fact::BehindVariable), Fits],
+    },
+    // no arrow that assigns, or behind a constant of a `case`
+    Doubtful {
+        word: "= >",
+        rule: &[
+            Rule,
+            Fails(Fact::BehindConstant),
+            Fails(Fact::BehindVariable),
+            Fits,
+        ],
+    },
+    Doubtful {
+        word: "- >",
+        rule: &[Rule, Fails(Fact::BehindConstant), Fits],
+    },
+    Doubtful {
+        word: "; do",
+        rule: &[Rule, Is(Here, &[Kind::Do]), Fits],
+    },
+    // the `then` is not that of the `if` whose condition is open
+    Doubtful {
+        word: "and then",
+        rule: &[
+            Rule,
+            IsNot(Top, &[Kind::If]),
+            Or,
+            Is(NextExpressionEnd, &[Kind::Then]),
+            Fits,
+        ],
+    },
+    // a constant is declared with a type
+    Doubtful {
+        word: "NAME :",
+        rule: &[
+            Rule,
+            InPart(&[Kind::Const]),
+            Is(Here, &[Kind::Colon]),
+            Is(Ahead(1), &[Kind::Name]),
+            Is(Ahead(2), &[Kind::Equal]),
+            Fits,
+        ],
+    },
+    // a value of a variable or a parameter stands behind its type
+    Doubtful {
+        word: "NAME =",
+        rule: &[
+            Rule,
+            Is(Here, &[Kind::Equal]),
+            Is(Back(2), &[Kind::Colon]),
+            Fits,
+        ],
+    },
+];
 
-// Whether a value of a variable or a parameter stands at the place, behind its type.
-fn is_value_behind_type(cx: &Context<'_>) -> bool {
-    match cx.at.checked_sub(2) {
-        Some(before) => cx.is_of(cx.at, &[Kind::Equal]) && cx.is_of(before, &[Kind::Colon]),
-        None => false,
-    }
-}
-
-// Whether the place is within a `for`.
-fn is_in_for(cx: &Context<'_>) -> bool {
-    match cx.top() {
-        Some(open) => matches!(open.kind, Kind::For),
-        None => false,
-    }
-}
-
-// Whether the `then` at the place is that of the `if` whose condition is open.
-fn is_end_of_condition(cx: &Context<'_>) -> bool {
-    let end = expression_end(cx, cx.at.saturating_add(1));
-    match cx.top() {
-        Some(open) => { matches!(open.kind, Kind::If) && !cx.is_of(end, &[Kind::Then]) }
-        None => false,
-    }
-}
-
-// Whether an arrow stands at the place for what assigns, or behind a constant of a `case`.
-fn is_behind_variable_or_constant(cx: &Context<'_>, row: &Row) -> bool {
-    let is_behind_constant = match cx.top() {
-        Some(open) => {
-            matches!(open.kind, Kind::Case)
-                && matches!(open.stage, Stage::Body)
-                && cx.opened.start.saturating_add(1) == cx.at
-        }
-        None => false,
-    };
-    is_behind_constant || (row.word == "= >" && is_behind_variable(cx))
-}
-
-// Whether a row that stands at the place is meant there, by the tokens round it; words of blocks never, of which other
-// reasons tell more.
+// Whether a row that stands at the place is meant there.
 fn is_meant(cx: &Context<'_>, row: &Row) -> bool {
-    match row.word {
-        "var" | "begin" => false,
-        "end if" => is_end_of_if(cx),
-        "value" => is_next(cx, &[Kind::Number, Kind::Text, Kind::Plus, Kind::Minus]),
-        "step" | "by" => is_in_for(cx),
-        "= =" => !is_behind_variable(cx),
-        "= >" | "- >" => !is_behind_variable_or_constant(cx, row),
-        "; do" => cx.is_of(cx.at, &[Kind::Do]),
-        "and then" => !is_end_of_condition(cx),
-        "NAME :" => is_type_of_constant(cx),
-        "NAME =" => is_value_behind_type(cx),
-        _ => true,
+    for doubtful in DOUBTFUL.iter() {
+        if doubtful.word == row.word {
+            return first_of(cx, doubtful.rule).is_some();
+        }
     }
+    true
 }
 
 // Whether a row of this refusal stands at the place.
@@ -214,7 +256,10 @@ fn row_here(cx: &Context<'_>) -> Option<Row> {
 // which the second is of a value.
 fn is_else(cx: &Context<'_>, row: &Row, from: usize) -> bool {
     match row.word {
-        "+ +" | "- -" => is_next(cx, &[Kind::Name, Kind::Number, Kind::LeftParen]),
+        "+ +" | "- -" => {
+            let next = cx.at.saturating_add(1);
+            cx.is_of(next, &[Kind::Name, Kind::Number, Kind::LeftParen])
+        }
         word if word.starts_with("NAME ") => false,
         _ => cx.is_of(from, &[Kind::Name]) && cx.seems_declared(from),
     }
@@ -275,22 +320,17 @@ fn say_row(cx: &Context<'_>, to: &mut Telling, row: &Row, from: usize) {
 
 // Tells what a row stands within.
 fn label_within(cx: &Context<'_>, to: &mut Telling, row: &Row) {
-    if let Some(open) = cx.top()
+    if let Some(open) = cx.opened.top()
         && !row.within.is_empty()
     {
         to.label(cx.span(open.at), joined(cx, &["the `", row.within, "`"]));
     }
 }
 
-// The span of a row's tokens.
-fn span_of_row(cx: &Context<'_>, row: &Row, from: usize) -> Span {
-    let last = from.saturating_add(count_of(row)).saturating_sub(1);
-    cx.span_of(from, last)
-}
-
 // Proposes what a row is exchanged for.
 fn propose_mend(cx: &Context<'_>, to: &mut Telling, row: &Row, from: usize) {
-    let span = span_of_row(cx, row, from);
+    let last = from.saturating_add(count_of(row)).saturating_sub(1);
+    let span = cx.span_of(from, last);
     match row.mend {
         Some("") => take_away(cx, to, 0, span),
         Some(put) => exchange(cx, to, 0, span, put),
@@ -298,18 +338,91 @@ fn propose_mend(cx: &Context<'_>, to: &mut Telling, row: &Row, from: usize) {
     }
 }
 
+// What is proposed for a row by the tokens behind it.
+enum Proposal {
+    /// To take away the word with what stands behind it.
+    Without,
+    /// To assign the result of the function.
+    Result,
+    /// To assign without the word.
+    Assigned,
+    /// To assign what an operator makes of the variable and a value.
+    Computed(&'static str),
+    /// To assign what is one more or less.
+    Counted(&'static str),
+}
+
+// A row for which something is proposed by the tokens behind it.
+struct Proposed {
+    word: &'static str,
+    proposal: Proposal,
+}
+
+// These rows.
+const PROPOSED: &[Proposed] = &[
+    Proposed {
+        word: "uses",
+        proposal: Proposal::Without,
+    },
+    Proposed {
+        word: "import",
+        proposal: Proposal::Without,
+    },
+    Proposed {
+        word: "inline",
+        proposal: Proposal::Without,
+    },
+    Proposed {
+        word: "overload",
+        proposal: Proposal::Without,
+    },
+    Proposed {
+        word: "return",
+        proposal: Proposal::Result,
+    },
+    Proposed {
+        word: "let",
+        proposal: Proposal::Assigned,
+    },
+    Proposed {
+        word: "+ =",
+        proposal: Proposal::Computed(" + "),
+    },
+    Proposed {
+        word: "- =",
+        proposal: Proposal::Computed(" - "),
+    },
+    Proposed {
+        word: "* =",
+        proposal: Proposal::Computed(" * "),
+    },
+    Proposed {
+        word: "+ +",
+        proposal: Proposal::Counted(" + 1"),
+    },
+    Proposed {
+        word: "- -",
+        proposal: Proposal::Counted(" - 1"),
+    },
+];
+
 // Proposes what depends on the tokens behind a row.
 fn propose_by_word(cx: &Context<'_>, to: &mut Telling, row: &Row, from: usize) {
-    match row.word {
-        "uses" | "import" | "inline" | "overload" => propose_without(cx, to, from),
-        "return" => propose_result(cx, to, from),
-        "let" => propose_assigned(cx, to, from),
-        "+ =" => propose_computed(cx, to, " + ", from),
-        "- =" => propose_computed(cx, to, " - ", from),
-        "* =" => propose_computed(cx, to, " * ", from),
-        "+ +" => propose_counted(cx, to, " + 1", from),
-        "- -" => propose_counted(cx, to, " - 1", from),
-        _ => {}
+    for proposed in PROPOSED.iter() {
+        if proposed.word == row.word {
+            propose(cx, to, &proposed.proposal, from);
+        }
+    }
+}
+
+// Proposes something for a row that stands from a token on.
+fn propose(cx: &Context<'_>, to: &mut Telling, proposal: &Proposal, from: usize) {
+    match proposal {
+        Proposal::Without => propose_without(cx, to, from),
+        Proposal::Result => propose_result(cx, to, from),
+        Proposal::Assigned => propose_assigned(cx, to, from),
+        Proposal::Computed(sign) => propose_computed(cx, to, sign, from),
+        Proposal::Counted(sign) => propose_counted(cx, to, sign, from),
     }
 }
 
@@ -323,7 +436,7 @@ fn propose_without(cx: &Context<'_>, to: &mut Telling, from: usize) {
 
 // Proposes the assignment of a function's result for `return`.
 fn propose_result(cx: &Context<'_>, to: &mut Telling, from: usize) {
-    let block = cx.block();
+    let block = cx.opened.block();
     if block.is_function {
         let name = cx.told(block.head.saturating_add(1));
         exchange_text(cx, to, cx.span(from), joined(cx, &[name, " :="]));

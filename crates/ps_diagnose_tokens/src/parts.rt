@@ -264,14 +264,10 @@ const AMONG_DECLARATIONS: Steps = &[
     Tell(More::Words),
 ];
 
-/// The first rule that fits of those of parts of declarations.
-pub(crate) fn in_declarations(cx: &Context<'_>) -> Option<Steps> {
-    first_of(cx, IN_DECLARATIONS)
-}
-
-/// The first that fits of those of declarations and statements in the place of each other.
-pub(crate) fn in_statements(cx: &Context<'_>) -> Option<Steps> {
-    first_of(cx, IN_STATEMENTS)
+/// The first rule that fits of those of parts of declarations, and of declarations and statements in the place of each
+/// other.
+pub(crate) fn of_parts(cx: &Context<'_>) -> Option<Steps> {
+    first_of(cx, IN_DECLARATIONS).or(first_of(cx, IN_STATEMENTS))
 }
 
 /// The first that fits of those of statements among declarations.

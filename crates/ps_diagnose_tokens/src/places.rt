@@ -12,11 +12,11 @@ use ps_scan::Kind;
 use ps_text::Span;
 
 /// The number of the token at a place of a rule, if there is one.
-pub(crate) fn number_of(cx: &Context<'_>, place: Place) -> Option<usize> {
+pub(crate) fn number_of(cx: &Context<'_>, place: &Place) -> Option<usize> {
     match place {
         Place::Here => Some(cx.at),
-        Place::Ahead(count) => cx.at.checked_add(count),
-        Place::Back(count) => cx.at.checked_sub(count),
+        Place::Ahead(count) => cx.at.checked_add(*count),
+        Place::Back(count) => cx.at.checked_sub(*count),
         Place::TextEnd => Some(cx.tokens.len()),
         Place::Start => Some(cx.opened.start),
         Place::Assigned => cx.opened.assigned,
@@ -42,14 +42,13 @@ fn begin_of(open: Option<Open>) -> Option<usize> {
 }
 
 // The number of a token of what is open, or has ended.
-fn number_of_open(cx: &Context<'_>, place: Place) -> Option<usize> {
+fn number_of_open(cx: &Context<'_>, place: &Place) -> Option<usize> {
     match place {
-        Place::Top => begin_of(cx.top()),
-        Place::BeforeTop => begin_of(cx.top())?.checked_sub(1),
+        Place::Top => begin_of(cx.opened.top()),
+        Place::BeforeTop => begin_of(cx.opened.top())?.checked_sub(1),
         Place::TopEnd => Some(next_of(cx, cx.at, &[])),
-        Place::List => Some(list(cx)),
-        Place::Innermost(kind) => innermost(cx, Wanted::Begins(kind)),
-        Place::WaitingIf => innermost(cx, Wanted::WaitingIf),
+        Place::List => Some(list(cx, place)),
+        Place::Innermost(_) | Place::WaitingIf => innermost(cx, place),
         Place::Closed => begin_of(cx.opened.closed),
         Place::Bare => begin_of(cx.opened.bare),
         Place::ClosedHead => closed_head(cx),
@@ -66,30 +65,20 @@ fn past_if(cx: &Context<'_>) -> Option<usize> {
     }
 }
 
-// Which construction is looked for.
-#[derive(Clone, Copy)]
-enum Wanted {
-    /// One with an end of its own.
-    Ends,
-    /// An `if` that waits for its `else`.
-    WaitingIf,
-    /// One that begins with a token of a kind.
-    Begins(Kind),
-}
-
-// Whether a construction is one of those.
-fn is_wanted(open: &Open, wanted: Wanted) -> bool {
-    match wanted {
-        Wanted::Ends => open.has_end(),
-        Wanted::WaitingIf => open.waits_for_else(),
-        Wanted::Begins(kind) => open.kind == kind,
+// Whether a construction is one of those that a place asks for the innermost of.
+fn is_wanted(open: &Open, place: &Place) -> bool {
+    match place {
+        Place::List => open.has_end(),
+        Place::WaitingIf => open.waits_for_else(),
+        Place::Innermost(kind) => open.kind == *kind,
+        _ => false,
     }
 }
 
 // The innermost construction that is open and wanted.
-fn innermost(cx: &Context<'_>, wanted: Wanted) -> Option<usize> {
+fn innermost(cx: &Context<'_>, place: &Place) -> Option<usize> {
     for open in cx.opened.opens.iter().rev() {
-        if is_wanted(open, wanted) {
+        if is_wanted(open, place) {
             return Some(open.at);
         }
     }
@@ -97,10 +86,10 @@ fn innermost(cx: &Context<'_>, wanted: Wanted) -> Option<usize> {
 }
 
 // The innermost construction that is open with an end of its own, or else the block.
-fn list(cx: &Context<'_>) -> usize {
-    let block = cx.block();
+fn list(cx: &Context<'_>, place: &Place) -> usize {
+    let block = cx.opened.block();
     let at = block.begun.unwrap_or(block.head);
-    innermost(cx, Wanted::Ends).unwrap_or(at)
+    innermost(cx, place).unwrap_or(at)
 }
 
 // The heading of the routine that the last `end` ended.
@@ -112,8 +101,8 @@ fn closed_head(cx: &Context<'_>) -> Option<usize> {
 }
 
 // The number of a token of the block.
-fn number_in_block(cx: &Context<'_>, place: Place) -> Option<usize> {
-    let block = cx.block();
+fn number_in_block(cx: &Context<'_>, place: &Place) -> Option<usize> {
+    let block = cx.opened.block();
     match place {
         Place::Head => Some(block.head),
         Place::HeadName => behind(Some(block.head)),
@@ -147,11 +136,11 @@ fn later_part(block: Block, kind: Option<Kind>) -> Option<usize> {
 }
 
 // The number of a token further on, or further back.
-fn number_further(cx: &Context<'_>, place: Place) -> Option<usize> {
+fn number_further(cx: &Context<'_>, place: &Place) -> Option<usize> {
     let at = cx.at;
     match place {
         Place::StatementEnd => Some(statement_end(cx, at)),
-        Place::Last(count) => statement_end(cx, at).checked_sub(count),
+        Place::Last(count) => statement_end(cx, at).checked_sub(*count),
         Place::NextAssign => first_between(cx, at, statement_end(cx, at), &[Kind::Assign]),
         Place::NextEnd => Some(next_end(cx)),
         Place::BehindThen => behind_then(cx),
@@ -232,7 +221,7 @@ fn next_colon(cx: &Context<'_>, from: usize, end: usize) -> Option<usize> {
 
 // The token behind the last `:` before the place of the `case` that is open.
 fn chosen(cx: &Context<'_>) -> Option<usize> {
-    let mut at = begin_of(cx.top())?.saturating_add(1);
+    let mut at = begin_of(cx.opened.top())?.saturating_add(1);
     for _ in at..cx.at {
         match next_colon(cx, at, cx.at) {
             Some(colon) => at = colon.saturating_add(1),
@@ -275,13 +264,13 @@ fn last_declared(cx: &Context<'_>) -> Option<usize> {
 }
 
 // The number of a token of the expression at the place.
-fn number_in_expression(cx: &Context<'_>, place: Place) -> Option<usize> {
+fn number_in_expression(cx: &Context<'_>, place: &Place) -> Option<usize> {
     let at = cx.at;
     match place {
         Place::ExpressionStart => Some(expression_start(cx, at)),
         Place::ExpressionEnd => Some(expression_end(cx, at)),
         Place::NextExpressionEnd => Some(expression_end(cx, at.saturating_add(1))),
-        Place::First(kind) => first_between(cx, expression_start(cx, at), at, &[kind]),
+        Place::First(kind) => first_between(cx, expression_start(cx, at), at, &[*kind]),
         Place::FirstComparison => first_comparison(cx),
         Place::Joint => joint(cx),
         Place::JointLeft => joint_left(cx),
@@ -321,12 +310,12 @@ fn joint_right(cx: &Context<'_>) -> Option<usize> {
 // The numbers of the first and of the last one of several tokens.
 fn ends_of(cx: &Context<'_>, reach: &Reach) -> (Option<usize>, Option<usize>) {
     match reach {
-        Reach::One(place) => (number_of(cx, *place), number_of(cx, *place)),
-        Reach::To(first, last) => (number_of(cx, *first), number_of(cx, *last)),
-        Reach::UpTo(first, end) => (number_of(cx, *first), before(number_of(cx, *end))),
+        Reach::One(place) => (number_of(cx, place), number_of(cx, place)),
+        Reach::To(first, last) => (number_of(cx, first), number_of(cx, last)),
+        Reach::UpTo(first, end) => (number_of(cx, first), before(number_of(cx, end))),
         Reach::Between(start, end) => {
-            let first = behind(number_of(cx, *start));
-            (first, before(number_of(cx, *end)))
+            let first = behind(number_of(cx, start));
+            (first, before(number_of(cx, end)))
         }
     }
 }

@@ -3,15 +3,14 @@
 use crate::context::Context;
 use crate::letters::{Class, byte_at, end_of, is_in, span_at};
 use crate::tell::{Telling, Text, empty, shown};
+use crate::tests::is_one_of;
 use ps_text::Span;
 
 // The most uses that are told.
 const MOST: u32 = 8;
 
-// The words of real numbers.
-const WORDS: [&str; 9] = [
-    "real", "sqrt", "sin", "cos", "arctan", "exp", "ln", "trunc", "round",
-];
+/// The words of real numbers, with a space between two.
+pub(crate) const WORDS: &str = "real sqrt sin cos arctan exp ln trunc round";
 
 // A piece of a text: a word, a number or a sign.
 #[derive(Clone, Copy)]
@@ -57,22 +56,12 @@ pub(crate) fn behind(bytes: &[u8], at: usize) -> usize {
     }
 }
 
-// Whether a piece is a word of real numbers.
-fn is_real_word(text: &[u8]) -> bool {
-    for word in WORDS.iter() {
-        if text.eq_ignore_ascii_case(word.as_bytes()) {
-            return true;
-        }
-    }
-    false
-}
-
 // Whether a piece is a word or a number of real numbers.
 fn is_real(text: &[u8]) -> bool {
     if byte_at(text, 0).is_ascii_digit() {
         text.contains(&b'.')
     } else {
-        is_real_word(text)
+        is_one_of(text, WORDS)
     }
 }
 
@@ -80,14 +69,9 @@ fn is_real(text: &[u8]) -> bool {
 fn is_second_width(before: &[Piece<'_>; 3], piece: Piece<'_>) -> bool {
     let [colon, width, other] = before;
     byte_at(piece.text, 0).is_ascii_digit()
-        && is_colon(colon.text)
-        && is_colon(other.text)
+        && matches!(colon.text, [b':'])
+        && matches!(other.text, [b':'])
         && is_in(Class::Name, byte_at(width.text, 0))
-}
-
-// Whether a piece is a colon.
-fn is_colon(text: &[u8]) -> bool {
-    matches!(text, [b':'])
 }
 
 // The offset at which a use of real numbers begins, if a piece is one and not at the place; the last three pieces

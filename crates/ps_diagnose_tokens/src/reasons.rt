@@ -42,10 +42,8 @@ fn rule_of_habits(cx: &Context<'_>) -> Option<Steps> {
 
 // The first rule that fits of those of assignments, declarations and parts.
 fn rule_of_parts(cx: &Context<'_>) -> Option<Steps> {
-    assigned::in_statements(cx)
-        .or(assigned::in_declarations(cx))
-        .or(parts::in_declarations(cx))
-        .or(parts::in_statements(cx))
+    assigned::assigned(cx)
+        .or(parts::of_parts(cx))
         .or(ended::of_routine_before(cx))
         .or(parts::begin_missing(cx))
 }
@@ -54,8 +52,7 @@ fn rule_of_parts(cx: &Context<'_>) -> Option<Steps> {
 fn rule_of_statements(cx: &Context<'_>) -> Option<Steps> {
     ended::at_the_end(cx)
         .or(compared::compared(cx))
-        .or(lists::of_values(cx))
-        .or(lists::of_headings(cx))
+        .or(lists::of_lists(cx))
         .or(missing::in_statements(cx))
 }
 

@@ -3,7 +3,7 @@
 use crate::table::{numbers_of, text_at};
 
 /// Where a text is refused, as docs/OTHER_PASCALS.md parts its rows.
-#[derive(Clone, Copy, PartialEq, Eq)]
+#[derive(Clone, Copy)]
 pub enum Part {
     /// Before the first `;`.
     Program,
@@ -44,17 +44,12 @@ pub struct Row {
 impl Row {
     /// Where it comes from, as it is told.
     pub fn origin(&self) -> &'static str {
-        origin_of(self.of)
-    }
-}
-
-// Where a row comes from, as it is told.
-fn origin_of(of: &'static str) -> &'static str {
-    match of {
-        "Turbo" => "Turbo Pascal",
-        "Extended" => "Extended Pascal",
-        "other" => "other languages",
-        _ => of,
+        match self.of {
+            "Turbo" => "Turbo Pascal",
+            "Extended" => "Extended Pascal",
+            "other" => "other languages",
+            of => of,
+        }
     }
 }
 
@@ -111,7 +106,7 @@ fn row_in_part(part: Part, word: &str) -> Option<Row> {
 /// declarations, where its own has none. Capital and small letters count alike.
 pub fn other_pascal(part: Part, word: &str) -> Option<Row> {
     match row_in_part(part, word) {
-        None if part == Part::Result => row_in_part(Part::Declarations, word),
+        None if matches!(part, Part::Result) => row_in_part(Part::Declarations, word),
         row => row,
     }
 }

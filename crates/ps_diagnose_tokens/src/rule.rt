@@ -8,7 +8,6 @@ use crate::signs::Sign;
 use ps_scan::Kind;
 
 /// A token, by where it stands to the place, to what is open there, or to what has ended there.
-#[derive(Clone, Copy)]
 pub(crate) enum Place {
     /// The token at the place.
     Here,
@@ -143,6 +142,8 @@ pub(crate) enum Fact {
     Inside,
     /// The tokens before it are a variable that begins a statement.
     BehindVariable,
+    /// The token before it is a constant of a `case`, and the first one there.
+    BehindConstant,
     /// The text seems to read.
     Reads,
     /// The name before it seems to be that of a procedure.
@@ -295,6 +296,8 @@ pub(crate) enum Step {
     CloseLine(&'static str, &'static str),
     /// What only code can tell.
     Tell(More),
+    /// Nothing: it is asked only whether the rule fits.
+    Fits,
 
     // Pieces of the text that stands before them.
     Put(&'static str),

@@ -11,7 +11,7 @@ use crate::rule::Step::{
 use crate::rule::{Fact, More, Steps};
 use crate::signs::rule_of_byte;
 use crate::slashes::exchange_slashes;
-use crate::tell::{Telling, exchange, exchange_text, joined, put_at, shown, take_away};
+use crate::tell::{Telling, add_change, exchange, exchange_text, joined, shown, take_away};
 use crate::telling::advise;
 use crate::tests::first_of;
 use ps_scan::Kind;
@@ -152,7 +152,7 @@ fn put_behind_word(
     put: &str,
 ) {
     let words = ["put `", told, "` behind `", word_before(cx, at), "` at "];
-    put_at(cx, to, cost, span_at(at, at).from, &words, put);
+    add_change(cx, to, cost, span_at(at, at), put, &words);
 }
 
 // The span of what seems to begin a comment within an open one.
@@ -301,7 +301,7 @@ pub(crate) fn open_earlier(cx: &Context<'_>, to: &mut Telling) {
     }
     let word = shown_from(cx, start, Class::Name);
     let words = ["put `'` before `", word, "` at "];
-    put_at(cx, to, 0, span_at(start, start).from, &words, "'");
+    add_change(cx, to, 0, span_at(start, start), "'", &words);
 }
 
 /// Proposes an apostrophe before the signs that end the line of an open string.
@@ -337,11 +337,10 @@ pub(crate) fn fill_string(cx: &Context<'_>, to: &mut Telling) {
 /// Proposes what separates the word at the place from the number before it.
 pub(crate) fn separate(cx: &Context<'_>, to: &mut Telling) {
     let from = cx.place.from;
+    let at = Span { from, to: from };
     let word = shown_from(cx, from as usize, Class::Name);
-    let words = ["put `*` before `", word, "` at "];
-    put_at(cx, to, 1, from, &words, "*");
-    let words = ["put a space before `", word, "` at "];
-    put_at(cx, to, 0, from, &words, " ");
+    add_change(cx, to, 1, at, "*", &["put `*` before `", word, "` at "]);
+    add_change(cx, to, 0, at, " ", &["put a space before `", word, "` at "]);
 }
 
 // The two slashes before the place in its line, behind which a comment of other languages stands.

@@ -200,19 +200,15 @@ const OTHERS: Steps = &[
     Put("` is not used in standard Pascal"),
 ];
 
-// The rule of a sign that the table of other Pascals has.
-fn rule_of_table(cx: &Context<'_>) -> Option<Steps> {
-    if cx.tokens.is_empty() {
-        first_of(cx, SIGNS_OF_PROGRAMS)
-    } else {
-        first_of(cx, SIGNS_OF_STATEMENTS)
-    }
-}
-
 /// The rule of a byte that begins no token.
 pub(crate) fn rule_of_byte(cx: &Context<'_>) -> Option<Steps> {
+    let of_table = if cx.tokens.is_empty() {
+        SIGNS_OF_PROGRAMS
+    } else {
+        SIGNS_OF_STATEMENTS
+    };
     first_of(cx, KNOWN)
-        .or(rule_of_table(cx))
+        .or(first_of(cx, of_table))
         .or(first_of(cx, OTHERS))
 }
 

@@ -243,8 +243,8 @@ const IN_STATEMENTS: Steps = &[
     Put(")"),
 ];
 
-// What stands in the place of another sign, or too much.
-const FURTHER: Steps = &[
+// What stands in the place of another sign or word, or too much.
+const OF_SIGNS: Steps = &[
     // `while a; do`
     Rule,
     Is(Here, &[Kind::Semicolon]),
@@ -358,8 +358,7 @@ const FURTHER: Steps = &[
 
     // `case n of 1 => a`
     Rule,
-    InBody(&[Kind::Case]),
-    Same(Start, Back(1)),
+    Holds(Fact::BehindConstant),
     Is(Here, &[Kind::Equal, Kind::Minus]),
     Is(Ahead(1), &[Kind::Greater]),
     Touches(Here),
@@ -368,8 +367,7 @@ const FURTHER: Steps = &[
 
     // `case n of 1; 2: a`
     Rule,
-    InBody(&[Kind::Case]),
-    Same(Start, Back(1)),
+    Holds(Fact::BehindConstant),
     Is(Here, &[Kind::Semicolon]),
     Is(Back(1), &[Kind::Number, Kind::Text]),
     Is(Ahead(2), &[Kind::Colon, Kind::Comma]),
@@ -412,7 +410,10 @@ const FURTHER: Steps = &[
     No(Innermost(Kind::LeftParen)),
     Why("no comment is open that `*)` could end"),
     Help("a comment ends at its first `}` or `*)`, also where another one begins in it"),
+];
 
+// What is missing between two values, statements or parameters, or stands there for another sign.
+const BETWEEN: Steps = &[
     // `writeln(a b)`
     Rule,
     Is(Here, &[Kind::Name]),
@@ -530,8 +531,7 @@ const FURTHER: Steps = &[
 
     // `case c of +: a`, `if c = + then`
     Rule,
-    InBody(&[Kind::Case]),
-    Same(Start, Back(1)),
+    Holds(Fact::BehindConstant),
     Is(Here, &[Kind::Colon, Kind::Comma]),
     Is(Back(1), &[Kind::Plus, Kind::Minus]),
     Or,
@@ -559,7 +559,10 @@ const FURTHER: Steps = &[
     Exchange(One(Here), "'"),
     Token(Here),
     Put("'"),
+];
 
+// Operators in another place, parameters without parentheses, and values that are no statements.
+const OF_VALUES: Steps = &[
     // `p(a; b)`
     Rule,
     Is(Here, &[Kind::Semicolon]),
@@ -756,5 +759,7 @@ pub(crate) fn in_statements(cx: &Context<'_>) -> Option<Steps> {
 
 /// The first that fits of those of further words and signs.
 pub(crate) fn further(cx: &Context<'_>) -> Option<Steps> {
-    first_of(cx, FURTHER)
+    first_of(cx, OF_SIGNS)
+        .or(first_of(cx, BETWEEN))
+        .or(first_of(cx, OF_VALUES))
 }

@@ -4,21 +4,14 @@ use crate::context::Context;
 use crate::kinds::{BOUNDS_EXPRESSION, ENDS_STATEMENT};
 use ps_scan::Kind;
 
-// How much deeper what stands behind a token is.
-#[derive(Clone, Copy, PartialEq, Eq)]
-enum Turn {
-    Opens,
-    Closes,
-    Stays,
+// Whether a token opens parentheses or brackets.
+fn opens(kind: Kind) -> bool {
+    matches!(kind, Kind::LeftParen | Kind::LeftBracket)
 }
 
-// Whether a token opens or closes parentheses or brackets.
-fn turn_of(kind: Kind) -> Turn {
-    match kind {
-        Kind::LeftParen | Kind::LeftBracket => Turn::Opens,
-        Kind::RightParen | Kind::RightBracket => Turn::Closes,
-        _ => Turn::Stays,
-    }
+// Whether it closes them.
+fn closes(kind: Kind) -> bool {
+    matches!(kind, Kind::RightParen | Kind::RightBracket)
 }
 
 // The depth behind a token that goes deeper, or up.
@@ -38,12 +31,11 @@ pub(crate) fn next_of(cx: &Context<'_>, from: usize, kinds: &[Kind]) -> usize {
     let mut depth: usize = 0;
     let tokens = cx.tokens.get(from..).unwrap_or(&[]);
     for (count, token) in tokens.iter().enumerate() {
-        let turn = turn_of(token.kind);
-        let ends = turn == Turn::Closes || kinds.contains(&token.kind);
-        if depth == 0 && ends {
+        let closes = closes(token.kind);
+        if depth == 0 && (closes || kinds.contains(&token.kind)) {
             return from.saturating_add(count);
         }
-        depth = depth_behind(depth, turn == Turn::Opens, turn == Turn::Closes);
+        depth = depth_behind(depth, opens(token.kind), closes);
     }
     cx.tokens.len()
 }
@@ -74,11 +66,11 @@ fn last_of(cx: &Context<'_>, before: usize, kinds: &[Kind]) -> Option<usize> {
     let mut depth: usize = 0;
     let tokens = cx.tokens.get(..before).unwrap_or(&[]);
     for (at, token) in tokens.iter().enumerate().rev() {
-        let turn = turn_of(token.kind);
-        if depth == 0 && (turn == Turn::Opens || kinds.contains(&token.kind)) {
+        let opens = opens(token.kind);
+        if depth == 0 && (opens || kinds.contains(&token.kind)) {
             return Some(at);
         }
-        depth = depth_behind(depth, turn == Turn::Closes, turn == Turn::Opens);
+        depth = depth_behind(depth, closes(token.kind), opens);
     }
     None
 }

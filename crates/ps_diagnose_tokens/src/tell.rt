@@ -147,18 +147,14 @@ pub(crate) fn joined(cx: &Context<'_>, pieces: &[&str]) -> Text {
     text
 }
 
-// Whether a character is told as it is: controls and signs that turn the direction of what is shown are not.
-fn is_told(letter: char) -> bool {
-    !matches!(
-        letter,
-        '\0'..='\u{1F}' | '\u{7F}'..='\u{9F}' | '\u{202A}'..='\u{202E}' | '\u{2066}'..='\u{2069}'
-    )
-}
-
-// Whether all characters of a text are told as they are.
-fn is_all_told(text: &str) -> bool {
+// Whether all characters of a text are told as they are: controls and signs that turn the direction of what is shown
+// are not.
+fn is_told(text: &str) -> bool {
     for letter in text.chars() {
-        if !is_told(letter) {
+        if matches!(
+            letter,
+            '\0'..='\u{1F}' | '\u{7F}'..='\u{9F}' | '\u{202A}'..='\u{202E}' | '\u{2066}'..='\u{2069}'
+        ) {
             return false;
         }
     }
@@ -168,7 +164,7 @@ fn is_all_told(text: &str) -> bool {
 /// A piece of the text as it is told: dots for one that is too long, has more than one line, or is no text.
 pub(crate) fn shown(bytes: &[u8]) -> &str {
     match str::from_utf8(bytes) {
-        Ok(text) if text.len() <= MOST && is_all_told(text) => text,
+        Ok(text) if text.len() <= MOST && is_told(text) => text,
         _ => "..",
     }
 }
@@ -208,18 +204,6 @@ pub(crate) fn add_change(
     to.change(span, joined(cx, &[put]));
 }
 
-/// Proposes to put something at an offset.
-pub(crate) fn put_at(
-    cx: &Context<'_>,
-    to: &mut Telling,
-    cost: u32,
-    from: u32,
-    words: &[&str],
-    put: &str,
-) {
-    add_change(cx, to, cost, Span { from, to: from }, put, words);
-}
-
 /// Proposes to put something behind a token.
 pub(crate) fn put_behind(
     cx: &Context<'_>,
@@ -230,13 +214,15 @@ pub(crate) fn put_behind(
     put: &str,
 ) {
     let words = ["put `", told, "` behind `", cx.told(at), "` at "];
-    put_at(cx, to, cost, cx.span(at).to, &words, put);
+    let from = cx.span(at).to;
+    add_change(cx, to, cost, Span { from, to: from }, put, &words);
 }
 
 /// Proposes to put something before a token.
 pub(crate) fn put_before(cx: &Context<'_>, to: &mut Telling, at: usize, told: &str, put: &str) {
     let words = ["put `", told, "` before `", cx.told(at), "` at "];
-    put_at(cx, to, 0, cx.span(at).from, &words, put);
+    let from = cx.span(at).from;
+    add_change(cx, to, 0, Span { from, to: from }, put, &words);
 }
 
 /// Proposes to exchange what a span has.
@@ -257,17 +243,26 @@ pub(crate) fn take_away(cx: &Context<'_>, to: &mut Telling, cost: u32, span: Spa
     add_change(cx, to, cost, span, "", &words);
 }
 
-/// Proposes to move what a span has before a token above; a piece of it is what is put there, as a line.
-pub(crate) fn move_up(cx: &Context<'_>, to: &mut Telling, span: Span, before: usize, piece: Span) {
+/// Proposes to move what a span has before a token above; what is put there, as a line, is a piece of it, behind a word
+/// that may be empty.
+pub(crate) fn move_up(
+    cx: &Context<'_>,
+    to: &mut Telling,
+    span: Span,
+    before: usize,
+    word: &str,
+    piece: Span,
+) {
     let from = cx.span(before).from;
     let moved = shown(cx.piece(span));
-    let mut words = joined(
-        cx,
-        &["move `", moved, "` before `", cx.told(before), "` at "],
-    );
+    let mut words = joined(cx, &["move `", moved, "`"]);
+    if !word.is_empty() {
+        words.put_all(&[" as `", word, moved, "`"]);
+    }
+    words.put_all(&[" before `", cx.told(before), "` at "]);
     words.put_place(cx, from);
     to.propose(cx, 0, words);
     let line = str::from_utf8(cx.piece(piece)).unwrap_or("");
-    to.change(Span { from, to: from }, joined(cx, &[line, "\n"]));
+    to.change(Span { from, to: from }, joined(cx, &[word, line, "\n"]));
     to.change(span, empty(cx.alloc));
 }

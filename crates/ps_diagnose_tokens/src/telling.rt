@@ -36,24 +36,16 @@ pub(crate) fn tell_rule(cx: &Context<'_>, to: &mut Telling, steps: Steps) {
         match step {
             Step::Rule => return,
             Step::Also => is_told = true,
-            _ if is_told => is_told = tell_step(cx, to, step, behind(steps, at)),
+            _ if is_told => match holds(cx, step) {
+                Some(holds) => is_told = holds,
+                None => tell(
+                    cx,
+                    to,
+                    step,
+                    steps.get(at.saturating_add(1)..).unwrap_or(&[]),
+                ),
+            },
             _ => {}
-        }
-    }
-}
-
-// The steps behind one.
-fn behind(steps: Steps, at: usize) -> Steps {
-    steps.get(at.saturating_add(1)..).unwrap_or(&[])
-}
-
-// Tells a step that is no test, and whether what stands behind it is told.
-fn tell_step(cx: &Context<'_>, to: &mut Telling, step: &'static Step, behind: Steps) -> bool {
-    match holds(cx, step) {
-        Some(holds) => holds,
-        None => {
-            tell(cx, to, step, behind);
-            true
         }
     }
 }
@@ -84,13 +76,13 @@ fn propose(cx: &Context<'_>, to: &mut Telling, step: &'static Step) {
     match step {
         Step::TakeAway(cost, reach) => take_away(cx, to, *cost, span_of(cx, reach)),
         Step::PutBefore(place, told, put) => {
-            put_before(cx, to, at_or_here(cx, *place), told, put)
+            put_before(cx, to, at_or_here(cx, place), told, put)
         }
         Step::PutBehind(cost, place, told, put) => {
-            put_behind(cx, to, *cost, at_or_here(cx, *place), told, put)
+            put_behind(cx, to, *cost, at_or_here(cx, place), told, put)
         }
-        Step::Move(last, before) => propose_move(cx, to, *last, *before),
-        Step::Enclose(first, behind) => enclose(cx, to, *first, *behind),
+        Step::Move(last, before) => propose_move(cx, to, last, before),
+        Step::Enclose(first, behind) => enclose(cx, to, first, behind),
         Step::ExchangeSign(sign, put) => exchange_sign(cx, to, sign, put),
         Step::CloseLine(told, put) => close_line(cx, to, told, put),
         _ => {}
@@ -138,7 +130,7 @@ fn tell_of_bytes(cx: &Context<'_>, to: &mut Telling, more: &More) {
 }
 
 // The number of a token; that at the place, where there is none.
-fn at_or_here(cx: &Context<'_>, place: Place) -> usize {
+fn at_or_here(cx: &Context<'_>, place: &Place) -> usize {
     number_of(cx, place).unwrap_or(cx.at)
 }
 
@@ -155,11 +147,13 @@ fn put_pieces(cx: &Context<'_>, out: &mut Text, steps: Steps) {
 fn put_piece(cx: &Context<'_>, out: &mut Text, step: &'static Step) -> bool {
     match step {
         Step::Put(text) => out.put(text),
-        Step::Token(place) => out.put(cx.told(at_or_here(cx, *place))),
+        Step::Token(place) => out.put(cx.told(at_or_here(cx, place))),
         Step::Tokens(reach) => out.put(shown(cx.piece(span_of(cx, reach)))),
-        Step::Where(place) => out.put_place(cx, cx.span(at_or_here(cx, *place)).from),
-        Step::Line(place) => out.put_number(line_of(cx, at_or_here(cx, *place))),
-        Step::Declares(place) => out.put(declared_by(cx.kind(at_or_here(cx, *place)))),
+        Step::Where(place) => out.put_place(cx, cx.span(at_or_here(cx, place)).from),
+        Step::Line(place) => {
+            out.put_number(place_of(cx.bytes, cx.span(at_or_here(cx, place)).from).0)
+        }
+        Step::Declares(place) => out.put(declared_by(cx.kind(at_or_here(cx, place)))),
         Step::Routine => out.put(routine(cx)),
         Step::Origin(part, word) => out.put(origin(*part, word)),
         _ => return put_bytes(cx, out, step),
@@ -178,12 +172,6 @@ fn put_bytes(cx: &Context<'_>, out: &mut Text, step: &'static Step) -> bool {
         _ => return false,
     }
     true
-}
-
-// The line of a token.
-fn line_of(cx: &Context<'_>, at: usize) -> u32 {
-    let (line, _) = place_of(cx.bytes, cx.span(at).from);
-    line
 }
 
 // The word of the routine that the last `end` ended.
@@ -234,14 +222,14 @@ fn advise_beginning(cx: &Context<'_>, to: &mut Telling) {
 }
 
 // Proposes to move declarations from the place up to a token; without their word, where their part stands above.
-fn propose_move(cx: &Context<'_>, to: &mut Telling, last: Place, before: Place) {
+fn propose_move(cx: &Context<'_>, to: &mut Telling, last: &Place, before: &Place) {
     let (Some(last), Some(before)) = (number_of(cx, last), number_of(cx, before)) else {
         return;
     };
-    let first = match part_of(cx.block(), cx.kind(cx.at)) {
+    let first = match part_of(cx.opened.block(), cx.kind(cx.at)) {
         Some(_) => cx.at.saturating_add(1),
         None => cx.at,
     };
     let piece = cx.span_of(first, last);
-    move_up(cx, to, cx.span_of(cx.at, last), before, piece);
+    move_up(cx, to, cx.span_of(cx.at, last), before, "", piece);
 }

@@ -11,45 +11,29 @@ use crate::tell::shown;
 use crate::walk::Stage;
 use ps_scan::Kind;
 
-// How far a rule fits.
-#[derive(Clone, Copy)]
-enum Fit {
-    /// One of its tests does not hold.
-    No,
-    /// All hold so far.
-    SoFar,
-    /// All before an `Or` hold.
-    Yes,
-}
-
 /// What the first rule that fits tells, if one does: the steps behind its tests.
 pub(crate) fn first_of(cx: &Context<'_>, rules: Steps) -> Option<Steps> {
-    let mut fit = Fit::No;
+    // the tests behind the last `Rule` or `Or` hold so far; those before an `Or` did
+    let mut fits = false;
+    let mut has_fitted = false;
     for (at, step) in rules.iter().enumerate() {
-        match fit_behind(cx, fit, step) {
-            Some(next) => fit = next,
-            None => return rules.get(at..),
+        match step {
+            Step::Rule => {
+                fits = true;
+                has_fitted = false;
+            }
+            Step::Or => {
+                has_fitted = has_fitted || fits;
+                fits = true;
+            }
+            _ if fits || has_fitted => match holds(cx, step) {
+                Some(holds) => fits = fits && holds,
+                None => return rules.get(at..),
+            },
+            _ => {}
         }
     }
     None
-}
-
-// How far a rule fits behind a step; none where it fits, and the step is told.
-fn fit_behind(cx: &Context<'_>, fit: Fit, step: &Step) -> Option<Fit> {
-    match (step, fit) {
-        (Step::Rule, _) | (Step::Or, Fit::No) => Some(Fit::SoFar),
-        (Step::Or, _) => Some(Fit::Yes),
-        (_, Fit::No) => Some(Fit::No),
-        _ => fit_of_test(fit, holds(cx, step)?),
-    }
-}
-
-// How far a rule fits behind a test.
-fn fit_of_test(fit: Fit, holds: bool) -> Option<Fit> {
-    match fit {
-        Fit::SoFar if !holds => Some(Fit::No),
-        _ => Some(fit),
-    }
 }
 
 /// Whether a test holds; none of a step that is no test.
@@ -57,14 +41,14 @@ pub(crate) fn holds(cx: &Context<'_>, step: &Step) -> Option<bool> {
     match step {
         Step::Holds(fact) => Some(is_so(cx, fact)),
         Step::Fails(fact) => Some(!is_so(cx, fact)),
-        Step::Is(place, kinds) => Some(is_of(cx, *place, kinds)),
-        Step::IsNot(place, kinds) => Some(!is_of(cx, *place, kinds)),
-        Step::Spelled(place, words) => Some(is_spelled(cx, *place, words)),
-        Step::Has(place) => Some(number_of(cx, *place).is_some()),
-        Step::No(place) => Some(number_of(cx, *place).is_none()),
-        Step::Same(a, b) => Some(are_same(cx, *a, *b)),
-        Step::Alike(a, b) => Some(text_at(cx, *a) == text_at(cx, *b)),
-        Step::NotBefore(later, earlier) => Some(is_from(cx, *later, *earlier)),
+        Step::Is(place, kinds) => Some(is_of(cx, place, kinds)),
+        Step::IsNot(place, kinds) => Some(!is_of(cx, place, kinds)),
+        Step::Spelled(place, words) => Some(is_one_of(text_at(cx, place), words)),
+        Step::Has(place) => Some(number_of(cx, place).is_some()),
+        Step::No(place) => Some(number_of(cx, place).is_none()),
+        Step::Same(a, b) => Some(are_same(cx, a, b)),
+        Step::Alike(a, b) => Some(text_at(cx, a) == text_at(cx, b)),
+        Step::NotBefore(later, earlier) => Some(is_from(cx, later, earlier)),
         _ => holds_further(cx, step),
     }
 }
@@ -72,8 +56,8 @@ pub(crate) fn holds(cx: &Context<'_>, step: &Step) -> Option<bool> {
 // Whether a test of another kind holds.
 fn holds_further(cx: &Context<'_>, step: &Step) -> Option<bool> {
     match step {
-        Step::SeemsDeclared(place) => Some(is_declared(cx, *place)),
-        Step::Touches(place) => Some(touches_next(cx, *place)),
+        Step::SeemsDeclared(place) => Some(is_declared(cx, place)),
+        Step::Touches(place) => Some(touches_next(cx, place)),
         Step::IsShown(reach) => Some(shown(cx.piece(span_of(cx, reach))) != ".."),
         Step::InHead(kinds) => Some(is_in(cx, kinds, true)),
         Step::InBody(kinds) => Some(is_in(cx, kinds, false)),
@@ -92,7 +76,7 @@ fn stands(cx: &Context<'_>, text: &str) -> bool {
 }
 
 // Whether a token is of one of some kinds.
-fn is_of(cx: &Context<'_>, place: Place, kinds: &[Kind]) -> bool {
+fn is_of(cx: &Context<'_>, place: &Place, kinds: &[Kind]) -> bool {
     match number_of(cx, place) {
         Some(at) => cx.is_of(at, kinds),
         None => false,
@@ -100,16 +84,15 @@ fn is_of(cx: &Context<'_>, place: Place, kinds: &[Kind]) -> bool {
 }
 
 // The bytes of a token.
-fn text_at<'a>(cx: &Context<'a>, place: Place) -> &'a [u8] {
+fn text_at<'a>(cx: &Context<'a>, place: &Place) -> &'a [u8] {
     match number_of(cx, place) {
         Some(at) => cx.text(at),
         None => &[],
     }
 }
 
-// Whether a token is spelled as one of some words, with a space between two.
-fn is_spelled(cx: &Context<'_>, place: Place, words: &str) -> bool {
-    let text = text_at(cx, place);
+/// Whether a text is one of some words, with a space between two. Capital and small letters count alike.
+pub(crate) fn is_one_of(text: &[u8], words: &str) -> bool {
     for word in words.split(' ') {
         if text.eq_ignore_ascii_case(word.as_bytes()) {
             return true;
@@ -119,7 +102,7 @@ fn is_spelled(cx: &Context<'_>, place: Place, words: &str) -> bool {
 }
 
 // Whether two tokens are one.
-fn are_same(cx: &Context<'_>, a: Place, b: Place) -> bool {
+fn are_same(cx: &Context<'_>, a: &Place, b: &Place) -> bool {
     match (number_of(cx, a), number_of(cx, b)) {
         (Some(a), Some(b)) => a == b,
         _ => false,
@@ -127,7 +110,7 @@ fn are_same(cx: &Context<'_>, a: Place, b: Place) -> bool {
 }
 
 // Whether a token stands behind another one, or is the same.
-fn is_from(cx: &Context<'_>, later: Place, earlier: Place) -> bool {
+fn is_from(cx: &Context<'_>, later: &Place, earlier: &Place) -> bool {
     match (number_of(cx, later), number_of(cx, earlier)) {
         (Some(later), Some(earlier)) => later >= earlier,
         _ => false,
@@ -135,7 +118,7 @@ fn is_from(cx: &Context<'_>, later: Place, earlier: Place) -> bool {
 }
 
 // Whether a token is a name that the text seems to declare.
-fn is_declared(cx: &Context<'_>, place: Place) -> bool {
+fn is_declared(cx: &Context<'_>, place: &Place) -> bool {
     match number_of(cx, place) {
         Some(at) => cx.is_of(at, &[Kind::Name]) && cx.seems_declared(at),
         None => false,
@@ -143,7 +126,7 @@ fn is_declared(cx: &Context<'_>, place: Place) -> bool {
 }
 
 // Whether nothing stands between a token and the one behind it.
-fn touches_next(cx: &Context<'_>, place: Place) -> bool {
+fn touches_next(cx: &Context<'_>, place: &Place) -> bool {
     match number_of(cx, place) {
         Some(at) => cx.touches_next(at),
         None => false,
@@ -152,7 +135,7 @@ fn touches_next(cx: &Context<'_>, place: Place) -> bool {
 
 // Whether the place is in the head, or behind the head, of a construction that begins with one of some kinds.
 fn is_in(cx: &Context<'_>, kinds: &[Kind], is_head: bool) -> bool {
-    match cx.top() {
+    match cx.opened.top() {
         Some(open) => matches!(open.stage, Stage::Head) == is_head && kinds.contains(&open.kind),
         None => false,
     }
@@ -160,7 +143,7 @@ fn is_in(cx: &Context<'_>, kinds: &[Kind], is_head: bool) -> bool {
 
 // Whether the open part is one of some.
 fn is_in_part(cx: &Context<'_>, kinds: &[Kind]) -> bool {
-    match cx.block().part {
+    match cx.opened.block().part {
         Some(part) => kinds.contains(&part),
         None => false,
     }
@@ -172,11 +155,11 @@ fn is_so(cx: &Context<'_>, fact: &Fact) -> bool {
         Fact::Statements => cx.is_in_statements(),
         Fact::Declarations => cx.is_in_declarations(),
         Fact::Parameters => cx.is_in_parameters(),
-        Fact::Headed => cx.block().is_told,
-        Fact::InRoutine => cx.block().is_routine,
-        Fact::InFunction => cx.block().is_function,
+        Fact::Headed => cx.opened.block().is_told,
+        Fact::InRoutine => cx.opened.block().is_routine,
+        Fact::InFunction => cx.opened.block().is_function,
         Fact::BehindHeading => is_behind_heading(cx),
-        Fact::RoutineEnded => has_routine_ended(cx),
+        Fact::RoutineEnded => matches!(cx.opened.closed_block, Some(block) if block.is_routine),
         _ => is_so_before(cx, fact),
     }
 }
@@ -186,6 +169,7 @@ fn is_so_before(cx: &Context<'_>, fact: &Fact) -> bool {
     match fact {
         Fact::Inside => is_inside(cx),
         Fact::BehindVariable => is_behind_variable(cx),
+        Fact::BehindConstant => is_behind_constant(cx),
         Fact::Reads => reads(cx),
         Fact::Procedure => seems_procedure(cx),
         Fact::OneLine => !has_before(cx, b'\n'),
@@ -203,26 +187,18 @@ fn is_so_before(cx: &Context<'_>, fact: &Fact) -> bool {
 
 // Whether the heading of a routine is open at the place, behind its name or its parameters.
 fn is_behind_heading(cx: &Context<'_>) -> bool {
-    let block = cx.block();
+    let block = cx.opened.block();
     let Some(before) = cx.at.checked_sub(1) else {
         return false;
     };
     let is_behind_name = before == block.head.saturating_add(1);
-    let is_open = block.is_routine && !block.is_told && cx.top().is_none();
+    let is_open = block.is_routine && !block.is_told && cx.opened.top().is_none();
     is_open && (is_behind_name || cx.is_of(before, &[Kind::RightParen]))
-}
-
-// Whether what the last `end` ended is a procedure or a function.
-fn has_routine_ended(cx: &Context<'_>) -> bool {
-    match cx.opened.closed_block {
-        Some(block) => block.is_routine,
-        None => false,
-    }
 }
 
 // Whether the place is in parentheses or brackets, or in the head of a statement.
 fn is_inside(cx: &Context<'_>) -> bool {
-    match cx.top() {
+    match cx.opened.top() {
         Some(open) => match open.kind {
             Kind::LeftParen | Kind::LeftBracket => true,
             Kind::If | Kind::While | Kind::For | Kind::With | Kind::Case => {
@@ -234,8 +210,13 @@ fn is_inside(cx: &Context<'_>) -> bool {
     }
 }
 
-/// Whether the tokens before the place are a variable that begins a statement.
-pub(crate) fn is_behind_variable(cx: &Context<'_>) -> bool {
+// Whether the token before the place is a constant of a `case`, and the first one there.
+fn is_behind_constant(cx: &Context<'_>) -> bool {
+    is_in(cx, &[Kind::Case], false) && cx.opened.start.saturating_add(1) == cx.at
+}
+
+// Whether the tokens before the place are a variable that begins a statement.
+fn is_behind_variable(cx: &Context<'_>) -> bool {
     let start = cx.opened.start;
     start < cx.at
         && cx.is_of(start, &[Kind::Name])
@@ -248,16 +229,11 @@ pub(crate) fn is_behind_variable(cx: &Context<'_>) -> bool {
 // Whether the text seems to read.
 fn reads(cx: &Context<'_>) -> bool {
     for at in 0..cx.tokens.len() {
-        if cx.is_of(at, &[Kind::Name]) && is_word_that_reads(cx.text(at)) {
+        if cx.is_of(at, &[Kind::Name]) && is_one_of(cx.text(at), "read readln") {
             return true;
         }
     }
     false
-}
-
-// Whether a name is that of a required procedure that reads.
-fn is_word_that_reads(text: &[u8]) -> bool {
-    text.eq_ignore_ascii_case(b"read") || text.eq_ignore_ascii_case(b"readln")
 }
 
 // Whether the name before the place seems to be that of a procedure.

@@ -120,19 +120,6 @@ impl Block {
     }
 }
 
-// Whether a token is a `begin`.
-fn is_begin(tokens: &[Token], at: usize) -> bool {
-    match tokens.get(at) {
-        Some(token) => matches!(token.kind, Kind::Begin),
-        None => false,
-    }
-}
-
-// Whether a token is the directive that stands for a block.
-fn is_forward(bytes: &[u8], span: Span) -> bool {
-    slice(bytes, span.from, span.to).eq_ignore_ascii_case(b"forward")
-}
-
 impl Opened {
     /// The innermost block.
     pub(crate) fn block(&self) -> Block {
@@ -216,7 +203,7 @@ impl Opened {
         if open.waits_for_else() {
             self.last_if = self.last_if.or(Some(open.at));
         }
-        if !is_begin(tokens, open.body) {
+        if !matches!(tokens.get(open.body), Some(token) if matches!(token.kind, Kind::Begin)) {
             self.bare = Some(open);
         }
     }
@@ -328,7 +315,8 @@ impl Opened {
     fn name(&mut self, bytes: &[u8], span: Span) {
         let block = self.block();
         let is_alone = block.is_routine && block.is_told && block.begun.is_none();
-        if is_alone && block.part.is_none() && is_forward(bytes, span) {
+        let word = slice(bytes, span.from, span.to);
+        if is_alone && block.part.is_none() && word.eq_ignore_ascii_case(b"forward") {
             let _ = self.blocks.pop();
         }
     }
@@ -384,9 +372,14 @@ impl Opened {
     }
 }
 
-// Nothing is open.
-fn nothing_opened(alloc: Global) -> Opened {
-    Opened {
+/// What is open before a token of a text, whose tokens before it begin a program.
+pub(crate) fn opened_before(
+    alloc: Global,
+    bytes: &[u8],
+    tokens: &[Token],
+    end: usize,
+) -> Result<Opened, AllocError> {
+    let mut opened = Opened {
         opens: Vec::new(alloc),
         blocks: Vec::new(alloc),
         start: 0,
@@ -398,17 +391,7 @@ fn nothing_opened(alloc: Global) -> Opened {
         past_if: None,
         bare: None,
         has_failed: false,
-    }
-}
-
-/// What is open before a token of a text, whose tokens before it begin a program.
-pub(crate) fn opened_before(
-    alloc: Global,
-    bytes: &[u8],
-    tokens: &[Token],
-    end: usize,
-) -> Result<Opened, AllocError> {
-    let mut opened = nothing_opened(alloc);
+    };
     for (at, token) in tokens.iter().enumerate().take(end) {
         match token.kind {
             Kind::Name => opened.name(bytes, token.span),

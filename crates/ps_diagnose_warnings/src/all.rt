@@ -35,18 +35,13 @@ struct Findings {
     has_failed: bool,
 }
 
-// The place of a finding among others: by where it is told, then by its row, and then by its number.
-fn key_of(found: &Finding, number: usize) -> u64 {
-    let row = count_of(found.row).saturating_mul(MOST_FOUND);
-    let low = row.saturating_add(count_of(number));
-    u64::from(found.order) * 4_294_967_296 + u64::from(low)
-}
-
 impl Findings {
-    // Adds what is found.
+    // Adds what is found: its place among others is by where it is told, then by its row, and then by its number.
     fn add(&mut self, finding: Option<Finding>) {
         if let Some(found) = finding {
-            let key = key_of(&found, self.found.len());
+            let row = count_of(found.row).saturating_mul(MOST_FOUND);
+            let low = row.saturating_add(count_of(self.found.len()));
+            let key = u64::from(found.order) * 4_294_967_296 + u64::from(low);
             let is_kept = self.found.push(found).is_ok() && self.keys.push(key).is_ok();
             self.has_failed = self.has_failed || !is_kept;
         }
@@ -76,7 +71,7 @@ impl Findings {
     // Lines that are indented as if they belonged to the statement before them, each once.
     fn find_indented(&mut self, text: &Text<'_>) {
         let mut told = 0;
-        for part in text.constructions() {
+        for part in text.outline.constructions() {
             if part.end != told {
                 let found = indented(text, part);
                 if found.is_some() {
@@ -86,14 +81,6 @@ impl Findings {
             }
             self.add(misplaced(text, part));
         }
-    }
-
-    // What is told of a construction.
-    fn find_of(&mut self, text: &Text<'_>, uses: &Uses, body: Body, part: &Construction) {
-        self.add(empty(text, uses, part));
-        self.add(unchanged(&*text, &*uses, body, part));
-        self.add(unreached(text, part));
-        self.add(undone(text, part));
     }
 
     // Constants of a block's statements that lie outside of what their places take.
@@ -110,13 +97,16 @@ impl Findings {
             end: 0,
             region: 0,
         };
-        for part in text.constructions() {
+        for part in text.outline.constructions() {
             if let Some(next) = body_of(text, part) {
                 body = next;
                 self.add(lost(text, uses, body));
                 self.find_outside(text, body);
             } else {
-                self.find_of(text, uses, body, part);
+                self.add(empty(text, uses, part));
+                self.add(unchanged(&*text, &*uses, body, part));
+                self.add(unreached(text, part));
+                self.add(undone(text, part));
             }
         }
     }

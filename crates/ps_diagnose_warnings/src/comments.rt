@@ -29,7 +29,7 @@ fn end_of(bytes: &[u8], begin: usize) -> Option<usize> {
 
 /// The first comment in a span of the text that has no tokens.
 pub(crate) fn comment_in(text: &Text<'_>, span: Span) -> Option<Span> {
-    let bytes = text.slice(span);
+    let bytes = text.outline.bytes(span);
     let Some(begin) = begin_of(bytes) else {
         return None;
     };

@@ -23,7 +23,7 @@ fn row_of(comment: &[u8]) -> Option<usize> {
 // How much of a comment is told: its first line, and not too much of that.
 fn told_part(text: &Text<'_>, comment: Span) -> Span {
     let mut to = comment.from;
-    for byte in text.slice(comment).iter() {
+    for byte in text.outline.bytes(comment).iter() {
         if to >= comment.from.saturating_add(MOST) || *byte == b'\n' || *byte == b'\r' {
             break;
         }
@@ -37,7 +37,7 @@ fn told_part(text: &Text<'_>, comment: Span) -> Span {
 
 /// A comment, if it looks like a directive.
 pub(crate) fn directive(text: &Text<'_>, comment: Span) -> Option<Finding> {
-    match row_of(text.slice(comment)) {
+    match row_of(text.outline.bytes(comment)) {
         Some(row) => Some(Finding::new(row, comment, told_part(text, comment))),
         None => None,
     }

@@ -20,18 +20,14 @@ fn has_statements(comment: &[u8]) -> bool {
     false
 }
 
-// Whether what is behind the `;` of a construction looks as if it belonged to it.
-fn is_followed(text: &Text<'_>, part: &Construction) -> bool {
-    let next = part.body.saturating_add(1);
-    text.is(next, Kind::Begin)
-        || text.is_first(next) && is_deeper(text.lead(next), text.lead(part.first))
-}
-
 // Whether a construction is ended by its `;`, and not meant so for what its condition does, as a call of a routine that
-// changes something.
+// changes something, unless what is behind the `;` looks as if it belonged to it.
 fn is_ended(text: &Text<'_>, uses: &Uses, part: &Construction) -> bool {
+    let next = part.body.saturating_add(1);
     text.is(part.body, Kind::Semicolon)
-        && (!uses.has(CALLS, part.first, part.body) || is_followed(text, part))
+        && (!uses.has(CALLS, part.first, part.body)
+            || text.is(next, Kind::Begin)
+            || text.is_first(next) && is_deeper(text.lead(next), text.lead(part.first)))
 }
 
 // The row of a construction that does nothing.
@@ -46,7 +42,7 @@ fn row_of(part: &Construction) -> usize {
 // What is told of a construction in which no statement stands: a comment without statements says that it is meant so.
 fn row_of_empty(text: &Text<'_>, uses: &Uses, part: &Construction) -> Option<usize> {
     match comment_in(text, text.gap(part.body)) {
-        Some(comment) if has_statements(text.slice(comment)) => Some(COMMENTED),
+        Some(comment) if has_statements(text.outline.bytes(comment)) => Some(COMMENTED),
         None if is_ended(text, uses, part) => Some(row_of(part)),
         _ => None,
     }

@@ -60,25 +60,21 @@ pub(crate) fn indented(text: &Text<'_>, part: &Construction) -> Option<Finding> 
     Some(found)
 }
 
-// Whether an `if` without an `else` begins the line that another line is indented as.
-fn is_alike(text: &Text<'_>, part: &Construction, lead: &[u8]) -> bool {
-    matches!(part.construct, Construct::If)
-        && !part.has_turned
-        && text.is_first(part.first)
-        && text.lead(part.first) == lead
-}
-
-// The `if` around a construction that an `else` with such blanks before it seems to be of.
+// The `if` around a construction that an `else` with such blanks before it seems to be of: it has none, and begins its line.
 fn seeming_if(text: &Text<'_>, part: &Construction, lead: &[u8]) -> Option<Construction> {
-    let mut around = text.constructions().get(part.within)?;
-    for _ in text.constructions() {
+    let mut around = text.outline.constructions().get(part.within)?;
+    for _ in text.outline.constructions() {
         if !around.is_prefix() {
             return None;
         }
-        if is_alike(text, around, lead) {
+        if matches!(around.construct, Construct::If)
+            && !around.has_turned
+            && text.is_first(around.first)
+            && text.lead(around.first) == lead
+        {
             return Some(*around);
         }
-        around = text.constructions().get(around.within)?;
+        around = text.outline.constructions().get(around.within)?;
     }
     None
 }

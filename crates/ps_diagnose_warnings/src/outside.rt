@@ -99,17 +99,12 @@ fn index(text: &Text<'_>, at: usize, written: Written) -> Option<Finding> {
     }
 }
 
-// Whether what is assigned ends before a token.
-fn ends_value(kind: Kind) -> bool {
-    matches!(
-        kind,
-        Kind::Semicolon | Kind::End | Kind::Until | Kind::Else | Kind::To | Kind::Downto
-    )
-}
-
-// A value behind `:=`.
+// A value behind `:=`, if it ends there.
 fn value(text: &Text<'_>, at: usize, written: Written) -> Option<Finding> {
-    if !ends_value(text.outline.kind(written.next)) {
+    if !matches!(
+        text.outline.kind(written.next),
+        Kind::Semicolon | Kind::End | Kind::Until | Kind::Else | Kind::To | Kind::Downto
+    ) {
         return None;
     }
     let point = named_before(text, at)?;
@@ -123,11 +118,6 @@ fn width(text: &Text<'_>, written: Written) -> Option<Finding> {
         Kind::RightParen | Kind::Comma
     );
     (is_whole && written.value < 1).then_some(Finding::new(NO_WIDTH, written.span, written.span))
-}
-
-// A divisor, if it is 0.
-fn divisor(text: &Text<'_>, at: usize, written: Written) -> Option<Finding> {
-    (written.value == 0).then_some(Finding::new(BY_ZERO, written.span, text.span(at)))
 }
 
 /// A constant behind a token of a statement, if it is an index that the array doesn't have, a value that the variable
@@ -144,7 +134,10 @@ pub(crate) fn outside(text: &Text<'_>, at: usize) -> Option<Finding> {
     match kind {
         Kind::LeftBracket => index(text, at, written),
         Kind::Assign => value(text, at, written),
-        Kind::Div | Kind::Mod => divisor(text, at, written),
+        Kind::Div | Kind::Mod if written.value == 0 => {
+            Some(Finding::new(BY_ZERO, written.span, text.span(at)))
+        }
+        Kind::Div | Kind::Mod => None,
         _ => width(text, written),
     }
 }

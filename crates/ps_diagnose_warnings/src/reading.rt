@@ -5,7 +5,7 @@ use crate::uses::{
     ASSIGNED, Body, CALLS, CHANGED, CONTENTS, DISTANT, FIELDS, GIVEN, INPUTS, LOOP_ENDS, LOOPS,
     OPENED, READ, Uses,
 };
-use ps_diagnose_outline::{Construct, Construction, Denoted, Outline, Point, PointKind, Required};
+use ps_diagnose_outline::{Construct, Construction, Denoted, Known, Outline, Point, PointKind};
 use ps_scan::Kind;
 use std::alloc::{AllocError, Global};
 
@@ -101,11 +101,6 @@ impl<'a> Reader<'a> {
         self.outline.kind(at.saturating_sub(1))
     }
 
-    // Whether a token begins a statement.
-    fn is_start(&self, at: usize) -> bool {
-        self.open.is_empty() && begins_statement(self.before(at))
-    }
-
     // What is done with a variable whose value is used.
     fn used(&self, point: u32) -> Role {
         if self.target == point && self.declared == 0 {
@@ -186,42 +181,38 @@ impl<'a> Reader<'a> {
         }
     }
 
-    // The name of a field of what a `with` opens.
-    fn field(&mut self, at: usize, point: u32) {
-        match self.role(at, point) {
-            Role::Read | Role::Update => {}
-            _ => self.uses.add(FIELDS, at),
-        }
-    }
-
     // The name of a routine.
     fn routine(&mut self, at: usize, formals: Option<u32>) {
-        if !self.is_start(at) || !self.outline.is(at.saturating_add(1), Kind::Assign) {
+        let is_start = self.open.is_empty() && begins_statement(self.before(at));
+        if !is_start || !self.outline.is(at.saturating_add(1), Kind::Assign) {
             self.uses.add(CALLS, at);
             self.callee = Callee::Declared(formals.unwrap_or(u32::MAX));
         }
     }
 
     // The name of a required routine.
-    fn required(&mut self, at: usize, required: Required) {
-        match required.name {
-            "read" | "readln" => {
+    fn required(&mut self, at: usize, known: Known) {
+        match known {
+            Known::Read | Known::Readln => {
                 self.callee = Callee::Giver;
                 self.uses.add(INPUTS, at);
             }
-            "new" => self.callee = Callee::Giver,
-            "pack" | "unpack" => self.callee = Callee::Other,
+            Known::New => self.callee = Callee::Giver,
+            Known::Pack => self.callee = Callee::Other,
             _ => {}
         }
     }
 
-    // A name that is declared.
+    // A name that is declared; that of a field stands here if a `with` opens it.
     fn declared(&mut self, at: usize, point: &Point) {
         match point.kind {
             PointKind::Variable | PointKind::ValueParameter | PointKind::VariableParameter => {
                 self.variable(at, point);
             }
-            PointKind::Field => self.field(at, point.number),
+            PointKind::Field => match self.role(at, point.number) {
+                Role::Read | Role::Update => {}
+                _ => self.uses.add(FIELDS, at),
+            },
             PointKind::Constant | PointKind::Member | PointKind::Type => {}
             _ => self.routine(at, point.formals),
         }
@@ -235,7 +226,7 @@ impl<'a> Reader<'a> {
         self.callee = Callee::Plain;
         match self.outline.denoted(self.outline.span(at)) {
             Some(Denoted::Declared(point)) => self.declared(at, &point),
-            Some(Denoted::Required(required)) => self.required(at, required),
+            Some(Denoted::Required(required)) => self.required(at, required.known),
             None => {}
         }
     }
@@ -258,13 +249,6 @@ impl<'a> Reader<'a> {
         }
     }
 
-    // A comma.
-    fn comma(&mut self) {
-        if let Some(open) = self.open.last_mut() {
-            open.index = open.index.saturating_add(1);
-        }
-    }
-
     // Reads a token.
     fn take(&mut self, kind: Kind, at: usize) {
         match kind {
@@ -272,7 +256,11 @@ impl<'a> Reader<'a> {
             Kind::LeftParen if matches!(self.before(at), Kind::Name) => self.begin(self.callee),
             Kind::LeftParen | Kind::LeftBracket => self.begin(Callee::Plain),
             Kind::RightParen | Kind::RightBracket => self.close(),
-            Kind::Comma => self.comma(),
+            Kind::Comma => {
+                if let Some(open) = self.open.last_mut() {
+                    open.index = open.index.saturating_add(1);
+                }
+            }
             Kind::Semicolon | Kind::End | Kind::Until | Kind::Else => self.target = u32::MAX,
             _ => {}
         }
@@ -290,10 +278,15 @@ impl<'a> Reader<'a> {
     // Reads the statements of all blocks, and notes the outermost loops.
     fn read_all(&mut self, text: &Text<'_>) {
         let mut end = 0;
-        for part in text.constructions() {
+        for part in text.outline.constructions() {
             if let Some(body) = body_of(text, part) {
                 self.read(body);
-            } else if is_loop(part) && part.first >= end {
+            } else if part.first >= end
+                && matches!(
+                    part.construct,
+                    Construct::While | Construct::Repeat | Construct::For
+                )
+            {
                 end = part.end;
                 self.uses.add(LOOPS, part.first);
                 self.uses.add(LOOP_ENDS, end);
@@ -321,18 +314,10 @@ impl<'a> Reader<'a> {
     }
 }
 
-// Whether a construction is a loop.
-fn is_loop(part: &Construction) -> bool {
-    matches!(
-        part.construct,
-        Construct::While | Construct::Repeat | Construct::For
-    )
-}
-
 /// The statements of a block, if a construction is those.
 pub(crate) fn body_of(text: &Text<'_>, part: &Construction) -> Option<Body> {
     let is_body = matches!(part.construct, Construct::Compound)
-        && match text.constructions().get(part.within) {
+        && match text.outline.constructions().get(part.within) {
             Some(around) => matches!(around.construct, Construct::Routine | Construct::Program),
             None => false,
         };

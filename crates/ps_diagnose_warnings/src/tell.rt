@@ -120,14 +120,6 @@ impl<'a> Teller<'a> {
         self.push_number(out, i64::from(column.saturating_add(1)));
     }
 
-    // Puts the least and the greatest value of a range.
-    fn push_range(&mut self, out: &mut String, range: (i64, i64)) {
-        let (low, high) = range;
-        self.push_number(out, low);
-        self.push(out, " to ");
-        self.push_number(out, high);
-    }
-
     // Puts names as a list in words.
     fn push_names(&mut self, out: &mut String, names: &Names) {
         for (at, token) in names.tokens().iter().enumerate() {
@@ -172,7 +164,11 @@ impl<'a> Teller<'a> {
             "@" => self.push_span(out, "", found.word, ""),
             "%" => self.push_more(out, found),
             "#" => self.push_place(out, found.at),
-            "&" => self.push_range(out, found.range),
+            "&" => {
+                self.push_number(out, found.range.0);
+                self.push(out, " to ");
+                self.push_number(out, found.range.1);
+            }
             _ => self.push(out, part),
         }
     }
@@ -248,19 +244,14 @@ impl<'a> Teller<'a> {
         self.add_trial(trials, words, edits);
     }
 
-    // Has it tried to take away what is told.
-    fn try_without(&mut self, trials: &mut Vec<Trial>, found: &Finding, words: &str) {
-        let mut edits = Vec::new(self.alloc);
-        self.add_edit(&mut edits, found.place, "");
-        let text = self.words(found, words);
-        self.add_trial(trials, text, edits);
-    }
-
-    // The changes that are to be tried.
+    // The changes that are to be tried: without what is told, or with variable parameters.
     fn trials(&mut self, found: &Finding, words: &str) -> Vec<Trial> {
         let mut trials = Vec::new(self.alloc);
         if !words.is_empty() {
-            self.try_without(&mut trials, found, words);
+            let mut edits = Vec::new(self.alloc);
+            self.add_edit(&mut edits, found.place, "");
+            let text = self.words(found, words);
+            self.add_trial(&mut trials, text, edits);
         } else if matches!(found.row, ONE_LOST | ALL_LOST)
             && are_sections_among(self.text, &found.names)
         {

@@ -65,11 +65,6 @@ impl<'a> Text<'a> {
         Ok(())
     }
 
-    /// The constructions of the text, in its order.
-    pub(crate) fn constructions(&self) -> &'a [Construction] {
-        self.outline.constructions()
-    }
-
     /// Whether a token is of this kind.
     pub(crate) fn is(&self, at: usize, kind: Kind) -> bool {
         self.outline.is(at, kind)
@@ -80,14 +75,9 @@ impl<'a> Text<'a> {
         self.outline.span(at)
     }
 
-    /// The bytes of a span.
-    pub(crate) fn slice(&self, span: Span) -> &'a [u8] {
-        self.outline.bytes(span)
-    }
-
     /// A span as it is written.
     pub(crate) fn written(&self, span: Span) -> &'a str {
-        str::from_utf8(self.slice(span)).unwrap_or("{$")
+        str::from_utf8(self.outline.bytes(span)).unwrap_or("{$")
     }
 
     /// What stands between a token and the one before it.
@@ -130,7 +120,7 @@ impl<'a> Text<'a> {
     /// The blanks that the line of a token begins with.
     pub(crate) fn lead(&self, at: usize) -> &'a [u8] {
         let offset = self.span(at).from;
-        self.slice(Span {
+        self.outline.bytes(Span {
             from: self.start_of(offset),
             to: self.lead_end(offset),
         })
@@ -144,7 +134,7 @@ impl<'a> Text<'a> {
 
     /// Whether a construction stands in a list of statements, perhaps as the end of another one.
     pub(crate) fn is_listed(&self, part: &Construction) -> bool {
-        match self.constructions().get(part.list) {
+        match self.outline.constructions().get(part.list) {
             Some(around) => around.is_list(),
             None => false,
         }

@@ -4,7 +4,7 @@ use crate::finding::{Finding, MOST, Names};
 use crate::rows::{ALL_UNCHANGED, ALL_UNCHANGED_ALONE, ONE_UNCHANGED, ONE_UNCHANGED_ALONE};
 use crate::text::Text;
 use crate::uses::{Body, CALLS, CHANGED, CONTENTS, DISTANT, FIELDS, INPUTS, Uses};
-use ps_diagnose_outline::{Construct, Construction, Denoted, Point, PointKind, Required};
+use ps_diagnose_outline::{Construct, Construction, Denoted, Known, Point, PointKind};
 use ps_scan::Kind;
 
 // A loop, the block that it stands in, and what is done there.
@@ -43,11 +43,6 @@ impl<'a> Loop<'a> {
         self.uses.has(about, self.first, self.end)
     }
 
-    // Whether a variable of the block, that goes by no other name, is surely as it was, after what the loop does.
-    fn is_near_same(&self, point: &Point) -> bool {
-        !self.has(CALLS) || !self.uses.has_of(CHANGED, point.number, 0, self.body.first)
-    }
-
     // Whether a variable is surely as it was, after what the loop does.
     fn is_same(&self, point: &Point) -> bool {
         let is_near = point.region == self.body.region
@@ -59,7 +54,7 @@ impl<'a> Loop<'a> {
         {
             false
         } else if is_near {
-            self.is_near_same(point)
+            !self.has(CALLS) || !self.uses.has_of(CHANGED, point.number, 0, self.body.first)
         } else {
             !self.has(CALLS) && !self.has(DISTANT)
         }
@@ -76,19 +71,14 @@ impl<'a> Loop<'a> {
         }
     }
 
-    // What is known of a required name: what is read of the input is another one after each reading.
-    fn seen_required(&self, required: Required) -> Seen {
-        match required.name {
-            "eof" | "eoln" | "input" => same_if(!self.has(CALLS) && !self.has(INPUTS)),
-            _ => Seen::Fixed,
-        }
-    }
-
-    // What is known of a name.
+    // What is known of a name: what is read of the input is another one after each reading.
     fn seen(&self, at: usize) -> Seen {
         match self.text.outline.denoted(self.text.span(at)) {
             Some(Denoted::Declared(point)) => self.seen_declared(&point),
-            Some(Denoted::Required(required)) => self.seen_required(required),
+            Some(Denoted::Required(required)) => match required.known {
+                Known::End | Known::Input => same_if(!self.has(CALLS) && !self.has(INPUTS)),
+                _ => Seen::Fixed,
+            },
             None => Seen::Other,
         }
     }

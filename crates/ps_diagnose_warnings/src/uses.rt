@@ -130,9 +130,4 @@ impl Uses {
     pub(crate) fn has_any(&self, about: u32, point: u32) -> bool {
         self.has_of(about, point, 0, usize::MAX)
     }
-
-    /// The first token at which something is noted of a variable.
-    pub(crate) fn first(&self, about: u32, point: u32) -> Option<usize> {
-        self.next(about.saturating_add(point), 0)
-    }
 }

@@ -4,7 +4,7 @@
 //! something that is marked or changed, with `...` where the line goes on; what lies in the piece that was shown last
 //! needs no further one. So what is shown doesn't grow with the length of a line.
 
-use crate::shown::{put, put_space, put_times, width};
+use crate::shown::{put, put_all, put_space, put_times, width};
 use crate::view::{Reach, View};
 use crate::{Diagnostic, Edit, Label, Mend};
 use ps_text::Span;
@@ -143,8 +143,7 @@ fn room_of(alloc: Global, lines: &[usize]) -> Result<usize, AllocError> {
 fn put_number(layout: Layout<'_>, out: &mut String, line: usize) -> Result<(), AllocError> {
     let number = format!(in layout.alloc; "{line}")?;
     put_times(out, ' ', layout.room.saturating_sub(number.len()))?;
-    out.push_str(number.as_str())?;
-    out.push_str(" |")
+    put_all(out, &[number.as_str(), " |"])
 }
 
 // Puts a piece of a line, with what stands for the rest of the line.
@@ -199,11 +198,8 @@ fn put_mark(
     out.push_str(" | ")?;
     put_lead(out, lead, piece.from > 0)?;
     put_times(out, sign, width(marked).max(1))?;
-    if !text.is_empty() {
-        out.push(' ')?;
-        out.push_str(text)?;
-    }
-    out.push('\n')
+    let space = if text.is_empty() { "" } else { " " };
+    put_all(out, &[space, text, "\n"])
 }
 
 // Puts the marks of the labels that belong to a line, with what is shown of it for them.

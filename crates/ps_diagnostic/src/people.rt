@@ -4,6 +4,7 @@ ghost use Rattle.std.specs.Prelude.{◌≡◌, ◌++◌, ℕ, List, codes, decim
 ghost use Rattle.ps_diagnostic.specs.Head.{head, kind_text, place_text};
 
 use crate::marks::put_source;
+use crate::shown::put_all;
 use crate::view::View;
 use crate::{Diagnostic, Expected, Mend, Outcome, word_of};
 use ps_text::Span;
@@ -77,24 +78,18 @@ fn head(
 // Puts one of what could stand at the place.
 fn put_expected(out: &mut String, expected: Expected) -> Result<(), AllocError> {
     match expected {
-        Expected::Token(text) => {
-            out.push('`')?;
-            out.push_str(text)?;
-            out.push('`')
-        }
+        Expected::Token(text) => put_all(out, &["`", text, "`"]),
         Expected::Group(text) => out.push_str(text),
     }
 }
 
 // Puts what stands between one of several and the next.
 fn put_between(out: &mut String, at: usize, count: usize) -> Result<(), AllocError> {
-    if at == 0 {
-        Ok(())
-    } else if at.saturating_add(1) == count {
-        out.push_str(" or ")
-    } else {
-        out.push_str(", ")
-    }
+    out.push_str(match at {
+        0 => "",
+        _ if at.saturating_add(1) == count => " or ",
+        _ => ", ",
+    })
 }
 
 // Puts the line of what could stand at the place, if something is told.
@@ -113,11 +108,7 @@ fn put_all_expected(out: &mut String, expected: &[Expected]) -> Result<(), Alloc
 
 // Puts a line with its word.
 fn put_remark(out: &mut String, word: &str, text: &str) -> Result<(), AllocError> {
-    out.push_str("  ")?;
-    out.push_str(word)?;
-    out.push_str(": ")?;
-    out.push_str(text)?;
-    out.push('\n')
+    put_all(out, &["  ", word, ": ", text, "\n"])
 }
 
 // Puts the line of a mend.

@@ -43,6 +43,14 @@ pub(crate) fn put_times(out: &mut String, sign: char, count: usize) -> Result<()
     Ok(())
 }
 
+/// Puts pieces behind one another.
+pub(crate) fn put_all(out: &mut String, pieces: &[&str]) -> Result<(), AllocError> {
+    for piece in pieces.iter() {
+        out.push_str(piece)?;
+    }
+    Ok(())
+}
+
 /// Puts bytes as they are shown.
 pub(crate) fn put(out: &mut String, bytes: &[u8]) -> Result<(), AllocError> {
     for letter in bytes.chars() {

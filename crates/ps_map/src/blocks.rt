@@ -17,7 +17,7 @@ pub struct Block {
 }
 
 // What is open, up to its `end` or its `until`.
-#[derive(Clone, Copy, PartialEq, Eq)]
+#[derive(Clone, Copy)]
 enum Open {
     Record,
     Case,
@@ -26,7 +26,7 @@ enum Open {
 }
 
 // Which part of a heading is to come.
-#[derive(Clone, Copy, PartialEq, Eq)]
+#[derive(Clone, Copy)]
 enum Heading {
     /// None is open.
     Closed,
@@ -178,10 +178,7 @@ impl Pass {
 
     // Whether a statement begins behind a token.
     fn leads(&self, kind: Kind) -> bool {
-        let in_case = match self.open.last() {
-            Some(open) => *open == Open::Case,
-            None => false,
-        };
+        let in_case = matches!(self.open.last(), Some(Open::Case));
         match kind {
             Kind::Begin | Kind::Repeat | Kind::Then | Kind::Else | Kind::Do => true,
             Kind::Colon => in_case && self.parentheses == 0,

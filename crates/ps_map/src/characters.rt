@@ -1,4 +1,4 @@
-//! Texts whose bytes need not be UTF-8.
+//! Texts whose bytes need not be UTF-8, and their lines.
 
 use std::alloc::{AllocError, Global};
 
@@ -12,4 +12,24 @@ pub fn readable(alloc: Global, text: &[u8]) -> Result<String, AllocError> {
         }
     }
     Ok(out)
+}
+
+/// The lines of a text, without their ends.
+pub fn lines_of(alloc: Global, text: &str) -> Result<Vec<&str>, AllocError> {
+    let mut lines = Vec::new(alloc);
+    for line in text.split('\n') {
+        lines.push(line)?;
+    }
+    if lines.last() == Some(&"") {
+        lines.pop();
+    }
+    Ok(lines)
+}
+
+/// The line of a text with a number, from 1 on.
+pub fn line_at<'a>(lines: &[&'a str], number: u32) -> &'a str {
+    match (number as usize).checked_sub(1) {
+        Some(at) => lines.get(at).copied().unwrap_or(""),
+        None => "",
+    }
 }

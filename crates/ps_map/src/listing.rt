@@ -4,11 +4,11 @@ ghost use Rattle.std.specs.Prelude.{IfOk, OnOk};
 ghost use Rattle.std.specs.String.{string_bytes};
 ghost use Rattle.ps_map.specs.Shown.{AddsLine, AddsLines, Grows, Shows};
 
-use crate::characters::readable;
+use crate::accesses::{Access, access_in};
+use crate::characters::{line_at, lines_of, readable};
 use crate::map::{Map, Owner, Row};
-use crate::variables::Variable;
+use crate::variables::{Variable, variable_before};
 use risc_image::ImageView;
-use risc_word::{Instr, decode};
 use std::alloc::{AllocError, Global};
 
 // The registers that hold where the innermost frame begins, and that of the program block.
@@ -42,73 +42,47 @@ pub fn run_time_description(number: u32) -> &'static str {
     RUN_TIME.get(number as usize).copied().unwrap_or("")
 }
 
-// The number of the base register of a load or a store, and the offset.
-fn access_of(instr: Instr) -> Option<(u8, i32)> {
-    match instr {
-        Instr::Load {
-            width: _,
-            to: _,
-            base,
-            offset,
-        } => Some((base.number(), offset.value())),
-        Instr::Store {
-            width: _,
-            from: _,
-            base,
-            offset,
-        } => Some((base.number(), offset.value())),
-        _ => None,
-    }
-}
-
-// The same of a word.
-fn access(word: u32) -> Option<(u8, i32)> {
-    match decode(word) {
-        Some(instr) => access_of(instr),
-        None => None,
-    }
-}
-
 // The variable of a routine at so many bytes from where an activation begins. Their homes follow one another.
 fn variable_at(map: &Map, routine: u32, offset: i32) -> Option<&Variable> {
-    let Some(routine) = map.routines.get(routine as usize) else {
-        return None;
-    };
-    let Ok(offset) = u64::try_from(offset) else {
+    let (Some(routine), Ok(offset)) = (map.routines.get(routine as usize), u32::try_from(offset))
+    else {
         return None;
     };
     let Some(place) = offset.checked_sub(routine.frame) else {
         return None;
     };
-    let behind = routine
-        .variables
-        .partition_point(|variable| u64::from(variable.home) <= place);
-    let Some(last) = behind.checked_sub(1) else {
+    let Some(number) = variable_before(routine.variables.as_slice(), place) else {
         return None;
     };
-    let Some(variable) = routine.variables.get(last) else {
-        return None;
-    };
-    let end = u64::from(variable.home).saturating_add(u64::from(variable.bytes));
-    if place < end { Some(variable) } else { None }
+    match routine.variables.get(number) {
+        Some(variable) if place < variable.home.saturating_add(variable.bytes) => Some(variable),
+        _ => None,
+    }
+}
+
+// The variable of a routine, or of the program, at an offset from the address in a register.
+fn variable_from(map: &Map, routine: u32, base: u8, offset: i32) -> Option<&Variable> {
+    match base {
+        FRAME => variable_at(map, routine, offset),
+        PROGRAM => variable_at(map, 0, offset),
+        _ => None,
+    }
 }
 
 // The variable that a word of a row loads or stores, as far as that is seen.
 fn variable_of(map: &Map, row: Option<Row>, word: u32) -> Option<&Variable> {
-    let Some((base, offset)) = access(word) else {
+    let Some(
+        Row {
+            owner: Owner::Routine(routine),
+            ..
+        },
+    ) = row
+    else {
         return None;
     };
-    match row {
-        Some(
-            Row {
-                owner: Owner::Routine(routine),
-                ..
-            },
-        ) => match base {
-            FRAME => variable_at(map, routine, offset),
-            PROGRAM => variable_at(map, 0, offset),
-            _ => None,
-        },
+    match access_in(word) {
+        Access::Load { base, offset, .. } => variable_from(map, routine, base, offset),
+        Access::Store { base, offset, .. } => variable_from(map, routine, base, offset),
         _ => None,
     }
 }
@@ -211,8 +185,7 @@ impl<'a> Lister<'a> {
             return Ok(());
         }
         self.line = line;
-        let at = (number as usize).saturating_sub(1);
-        let text = self.lines.get(at).copied().unwrap_or("");
+        let text = line_at(self.lines.as_slice(), number);
         let front = front_of(text);
         let more = if front.len() < text.len() { " .." } else { "" };
         let told = format!(in self.alloc; ";{number:5}  {front}{more}")?;
@@ -239,15 +212,6 @@ impl<'a> Lister<'a> {
         self.variable(row, word)?;
         self.out.push_str("\n")
     }
-}
-
-// The lines of a text, without their ends.
-fn lines_of(alloc: Global, text: &str) -> Result<Vec<&str>, AllocError> {
-    let mut lines = Vec::new(alloc);
-    for line in text.split('\n') {
-        lines.push(line)?;
-    }
-    Ok(lines)
 }
 
 // The listing of an image with the lines of its text, which is UTF-8.

@@ -4,7 +4,7 @@ use crate::places::Place;
 use crate::variables::Variable;
 
 /// What a word of the code is of.
-#[derive(Clone, Copy, PartialEq, Eq, Debug)]
+#[derive(Clone, Copy, PartialEq, Eq)]
 pub enum Owner {
     /// The start of the program, and the stub of its stops.
     Start,
@@ -17,7 +17,7 @@ pub enum Owner {
 }
 
 /// What the words from one on belong to, up to the word of the next row.
-#[derive(Clone, Copy, PartialEq, Eq, Debug)]
+#[derive(Clone, Copy)]
 pub struct Row {
     /// The first of the words, by its number in the code.
     pub word: u32,
@@ -29,7 +29,7 @@ pub struct Row {
 }
 
 /// A routine of the program.
-#[derive(Drop, Debug)]
+#[derive(Drop)]
 pub struct Routine {
     /// As it is written; of the program block that of the program.
     pub name: String,
@@ -38,13 +38,13 @@ pub struct Routine {
     /// Its first word, by its number in the code.
     pub entry: u32,
     /// Where the words of its variables begin in an activation of it, in bytes.
-    pub frame: u64,
+    pub frame: u32,
     /// Its result, its parameters and its variables, in the order of their homes.
     pub variables: Vec<Variable>,
 }
 
 /// Where the words of an image belong in its text.
-#[derive(Drop, Debug)]
+#[derive(Drop)]
 pub struct Map {
     /// By their numbers.
     pub routines: Vec<Routine>,
@@ -53,13 +53,15 @@ pub struct Map {
 }
 
 impl Map {
+    /// The rows that don't begin behind a word of the code.
+    pub fn rows_up_to(&self, word: u32) -> &[Row] {
+        let behind = self.rows.partition_point(|row| row.word <= word);
+        self.rows.get(..behind).unwrap_or(&[])
+    }
+
     /// What a word of the code belongs to: the last row that doesn't begin behind it.
     pub fn row_of(&self, word: u32) -> Option<Row> {
-        let behind = self.rows.partition_point(|row| row.word <= word);
-        match behind.checked_sub(1) {
-            Some(last) => self.rows.get(last).copied(),
-            None => None,
-        }
+        self.rows_up_to(word).last().copied()
     }
 
     /// What the word before an address belongs to. A link, as that of a call or of a stop, is the address behind its

@@ -3,7 +3,7 @@
 use std::alloc::{AllocError, Global};
 
 /// A place of a text: its line and its column, both from 1 on. Columns count bytes.
-#[derive(Clone, Copy, PartialEq, Eq, Debug)]
+#[derive(Clone, Copy, PartialEq, Eq)]
 pub struct Place {
     pub line: u32,
     pub column: u32,

@@ -5,11 +5,10 @@ use indexmap::IndexMap;
 use ps_diagnose_outline::{Outline, Part, Point, PointKind, Type};
 use ps_text::Span;
 use ps_tree::tree::{Formal, Routine};
-use ps_tree::types::Ty;
 use std::alloc::{AllocError, Global};
 
 /// What a variable is to its routine.
-#[derive(Clone, Copy, PartialEq, Eq, Debug)]
+#[derive(Clone, Copy)]
 pub enum Role {
     /// The result of a function.
     Result,
@@ -23,7 +22,7 @@ pub enum Role {
 }
 
 /// A variable of a routine, or its result, or a parameter.
-#[derive(Drop, Debug)]
+#[derive(Drop)]
 pub struct Variable {
     /// As it is written where it is declared.
     pub name: String,
@@ -50,14 +49,14 @@ fn entries_of(alloc: Global, routine: &Routine) -> Result<Vec<Entry>, AllocError
     let mut entries = Vec::new(alloc);
     let mut home: u32 = 4;
     if let Some(ty) = &routine.result {
-        home = add_entry(&mut entries, Role::Result, home, bytes_of(ty))?;
+        home = add_entry(&mut entries, Role::Result, home, ty.bytes())?;
     }
     for formal in routine.formals.iter() {
         let (role, bytes) = formal_told(formal);
         home = add_entry(&mut entries, role, home, bytes)?;
     }
     for ty in routine.variables.iter() {
-        home = add_entry(&mut entries, Role::Own, home, bytes_of(ty))?;
+        home = add_entry(&mut entries, Role::Own, home, ty.bytes())?;
     }
     Ok(entries)
 }
@@ -73,14 +72,9 @@ fn add_entry(
     Ok(home.saturating_add(bytes))
 }
 
-// The bytes of a variable, which are those of whole words.
-fn bytes_of(ty: &Ty) -> u32 {
-    ty.bytes()
-}
-
 fn formal_told(formal: &Formal) -> (Role, u32) {
     match formal {
-        Formal::Value(ty) => (Role::Value, bytes_of(ty)),
+        Formal::Value(ty) => (Role::Value, ty.bytes()),
         Formal::Variable(_) => (Role::Reference, 4),
         Formal::Routine { .. } => (Role::Routine, 8),
     }
@@ -142,6 +136,16 @@ fn extent_of(
     }
 }
 
+// The words of a required type.
+fn required_name(ty: Option<Type>) -> &'static str {
+    match ty {
+        Some(Type::Integer) => "integer",
+        Some(Type::Boolean) => "Boolean",
+        Some(Type::Char) => "char",
+        _ => "",
+    }
+}
+
 // A type in the words of the text.
 fn denoter_of(
     alloc: Global,
@@ -149,27 +153,29 @@ fn denoter_of(
     denoters: &mut Denoters,
     ty: Option<Type>,
 ) -> Result<String, AllocError> {
-    let word = match ty {
-        Some(Type::Integer) => "integer",
-        Some(Type::Boolean) => "Boolean",
-        Some(Type::Char) => "char",
-        _ => "",
+    let from = match ty {
+        Some(ty) => outline.denoter_at(ty),
+        None => None,
     };
-    if let Some(ty) = ty {
-        if let Some(from) = outline.denoter_at(ty) {
+    match from {
+        Some(from) => {
             let span = extent_of(outline, denoters, from)?;
-            return outline.text(alloc, span);
+            outline.text(alloc, span)
         }
+        None => String::from_str(alloc, required_name(ty)),
     }
-    let mut text = String::new(alloc);
-    text.push_str(word)?;
-    Ok(text)
 }
 
-fn name_of(alloc: Global, outline: &Outline<'_>, point: Point) -> Result<String, AllocError> {
-    let mut name = String::new(alloc);
-    name.push_str(str::from_utf8(outline.bytes(point.name)).unwrap_or(""))?;
-    Ok(name)
+/// A name as it is written.
+pub fn name_of(alloc: Global, outline: &Outline<'_>, name: Span) -> Result<String, AllocError> {
+    String::from_str(alloc, str::from_utf8(outline.bytes(name)).unwrap_or(""))
+}
+
+/// The number of the last of a routine's variables whose home is at a place or before it. Their homes follow one another.
+pub fn variable_before(variables: &[Variable], place: u32) -> Option<usize> {
+    variables
+        .partition_point(|variable| variable.home <= place)
+        .checked_sub(1)
 }
 
 /// The variables of the routine whose block has its `begin` at an offset, if the outline tells as many as the tree.
@@ -189,7 +195,7 @@ pub fn variables_of(
     }
     for (entry, point) in entries.iter().zip(points.iter()) {
         variables.push(Variable {
-            name: name_of(alloc, outline, *point)?,
+            name: name_of(alloc, outline, point.name)?,
             role: entry.role,
             home: entry.home,
             bytes: entry.bytes,

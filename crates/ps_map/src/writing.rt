@@ -6,39 +6,33 @@ use crate::variables::{Role, Variable};
 use std::alloc::{AllocError, Global};
 
 /// The first line of each map.
-const HEAD: &str = "pascal map 1";
+const HEAD: &str = "pascal map 1\n";
 
 // Adds a place, as `57:42`, or `-` where there is none.
-fn add_place(alloc: Global, out: &mut String, place: Option<Place>) -> Result<(), AllocError> {
+fn add_place(out: &mut String, place: Option<Place>) -> Result<(), AllocError> {
     match place {
         None => out.push_str(" -"),
-        Some(Place { line, column }) => {
-            let told = format!(in alloc; " {line}:{column}")?;
-            out.push_str(told.as_str())
-        }
+        Some(Place { line, column }) => { write!(out, " {line}:{column}") }
     }
 }
 
-fn add_routine(
-    alloc: Global,
-    out: &mut String,
-    number: usize,
-    routine: &Routine,
-) -> Result<(), AllocError> {
+fn add_routine(out: &mut String, number: usize, routine: &Routine) -> Result<(), AllocError> {
     let Place { line, column } = routine.begin;
     let entry = routine.entry;
     let frame = routine.frame;
     let name = routine.name.as_str();
-    let told = format!(in alloc; "routine {number} {entry} {frame} {line}:{column} {name}\n")?;
-    out.push_str(told.as_str())?;
+    write!(
+        out,
+        "routine {number} {entry} {frame} {line}:{column} {name}\n"
+    )?;
     for variable in routine.variables.iter() {
-        add_variable(alloc, out, number, variable)?;
+        add_variable(out, number, variable)?;
     }
     Ok(())
 }
 
-/// The word of a role.
-pub(crate) fn role_word(role: Role) -> &'static str {
+// The word of a role.
+fn role_word(role: Role) -> &'static str {
     match role {
         Role::Result => "result",
         Role::Value => "value",
@@ -48,47 +42,37 @@ pub(crate) fn role_word(role: Role) -> &'static str {
     }
 }
 
-fn add_variable(
-    alloc: Global,
-    out: &mut String,
-    routine: usize,
-    variable: &Variable,
-) -> Result<(), AllocError> {
+fn add_variable(out: &mut String, routine: usize, variable: &Variable) -> Result<(), AllocError> {
     let role = role_word(variable.role);
     let home = variable.home;
     let bytes = variable.bytes;
     let name = variable.name.as_str();
     let denoter = variable.denoter.as_str();
-    let told = format!(in alloc; "variable {routine} {home} {bytes} {role} {name} {denoter}\n")?;
-    out.push_str(told.as_str())
+    write!(
+        out,
+        "variable {routine} {home} {bytes} {role} {name} {denoter}\n"
+    )
 }
 
-fn add_owner(alloc: Global, out: &mut String, owner: Owner) -> Result<(), AllocError> {
+fn add_owner(out: &mut String, owner: Owner) -> Result<(), AllocError> {
     match owner {
         Owner::Start => out.push_str(" start"),
         Owner::Strings => out.push_str(" strings"),
-        Owner::Routine(number) => {
-            let told = format!(in alloc; " routine {number}")?;
-            out.push_str(told.as_str())
-        }
-        Owner::RunTime(number) => {
-            let told = format!(in alloc; " run-time {number}")?;
-            out.push_str(told.as_str())
-        }
+        Owner::Routine(number) => { write!(out, " routine {number}") }
+        Owner::RunTime(number) => { write!(out, " run-time {number}") }
     }
 }
 
-fn add_row(alloc: Global, out: &mut String, row: &Row) -> Result<(), AllocError> {
+fn add_row(out: &mut String, row: &Row) -> Result<(), AllocError> {
     let word = row.word;
-    let told = format!(in alloc; "word {word}")?;
-    out.push_str(told.as_str())?;
-    add_owner(alloc, out, row.owner)?;
+    write!(out, "word {word}")?;
+    add_owner(out, row.owner)?;
     match row.owner {
         Owner::Routine(_) => {
-            add_place(alloc, out, row.statement)?;
-            add_place(alloc, out, row.token)?;
+            add_place(out, row.statement)?;
+            add_place(out, row.token)?;
         }
-        Owner::Start => add_place(alloc, out, row.token)?,
+        Owner::Start => add_place(out, row.token)?,
         Owner::RunTime(_) | Owner::Strings => {}
     }
     out.push_str("\n")
@@ -106,14 +90,12 @@ fn add_row(alloc: Global, out: &mut String, row: &Row) -> Result<(), AllocError>
 ///   `start TOKEN`, `routine NUMBER STATEMENT TOKEN`, `run-time NUMBER` or `strings`. `STATEMENT` and `TOKEN` are
 ///   `LINE:COLUMN`, or `-` where there is none.
 pub fn written(alloc: Global, map: &Map) -> Result<String, AllocError> {
-    let mut out = String::new(alloc);
-    out.push_str(HEAD)?;
-    out.push_str("\n")?;
+    let mut out = String::from_str(alloc, HEAD)?;
     for (number, routine) in map.routines.iter().enumerate() {
-        add_routine(alloc, &mut out, number, routine)?;
+        add_routine(&mut out, number, routine)?;
     }
     for row in map.rows.iter() {
-        add_row(alloc, &mut out, row)?;
+        add_row(&mut out, row)?;
     }
     Ok(out)
 }

@@ -4,4 +4,4 @@
 
 mod made;
 
-pub use made::{MappedText, map_of, map_of_text, mapped_text};
+pub use made::{MappedText, map_of, map_of_text};

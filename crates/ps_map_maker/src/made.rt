@@ -1,15 +1,12 @@
 //! How a map is made.
 
-ghost use Rattle.std.specs.Prelude.{IfOk, IfErr};
-ghost use Rattle.ps_build.specs.Headline.{Compiles};
-ghost use Rattle.ps_build.specs.Accepts.{IsRefused};
-
 use indexmap::IndexMap;
-use ps_build::{Mapped, Refusal, Variables, build_mapped};
+use ps_build::Mapped;
 use ps_diagnose_outline::Outline;
 use ps_lower::marks::Mark;
 use ps_map::{
-    Block, Denoters, Lines, Map, Owner, Place, Routine, Row, blocks_of, small, variables_of,
+    Block, Denoters, Lines, Map, Owner, Place, Routine, Row, blocks_of, name_of, small,
+    variables_of,
 };
 use ps_parse::{parse, release};
 use ps_scan::{Token, scan};
@@ -53,11 +50,10 @@ impl<'a> Text<'a> {
 
     // The name of a block's routine.
     fn name(&self, alloc: Global, block: Option<&Block>) -> Result<String, AllocError> {
-        let mut text = String::new(alloc);
-        if let Some(block) = block {
-            text.push_str(str::from_utf8(self.outline.bytes(block.name)).unwrap_or(""))?;
+        match block {
+            Some(block) => name_of(alloc, self.outline, block.name),
+            None => Ok(String::new(alloc)),
         }
-        Ok(text)
     }
 
     // Where a statement of a block begins, by its number there, from 1 on.
@@ -129,7 +125,7 @@ fn routine_of(
     denoters: &mut Denoters,
     routine: &Tree,
     entry: usize,
-    frame: u64,
+    frame: u32,
 ) -> Result<Routine, AllocError> {
     let begin = routine.line.at;
     let name = text.name(alloc, text.block_at(begin))?;
@@ -218,6 +214,7 @@ fn add_program(
             return Ok(());
         };
         let frame = mapped.frames.get(number).copied().unwrap_or(0);
+        let frame = u32::try_from(frame).unwrap_or(u32::MAX);
         map.routines.push(routine_of(alloc, text, &mut denoters, routine, words.entry, frame)?)?;
         add_rows(
             &mut map.rows,
@@ -298,20 +295,4 @@ pub fn map_of_text(alloc: Global, text: &[u8], mapped: &Mapped) -> Result<Map, A
 pub struct MappedText {
     pub mapped: Mapped,
     pub map: Map,
-}
-
-/// Builds the program of a text, as `build_mapped` does, and its map.
-///
-/// # Errors
-///
-/// Those of `build`.
-pub fn mapped_text(alloc: Global, text: &[u8], variables: Variables) -> Result<MappedText, Refusal>
-    ensures compiles { IfOk result (λ built. Compiles text.now built.mapped.built) }
-    ensures refused { IfErr result (IsRefused text.now) }
-{
-    let mapped = build_mapped(alloc, text, variables)?;
-    match map_of_text(alloc, text, &mapped) {
-        Ok(map) => Ok(MappedText { mapped, map }),
-        Err(_) => Err(Refusal::OutOfMemory),
-    }
 }

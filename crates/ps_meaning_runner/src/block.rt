@@ -72,14 +72,15 @@ impl<'a> World<'a> {
             (option_map type_of (option_copied result_ty.entry)) actuals variables (world_of self.old)
             ≡ with_entries frame.items (d.bind_actuals actuals variables (world_of self.new))) }
     {
-        let mut frame = Vec::new(alloc);
         match result_ty {
             Some(ty) => {
                 let outcome = first(alloc, ty)?;
-                frame.push(self.declared(alloc, outcome)?)?;
+                let entry = self.declared(alloc, outcome)?;
+                let mut frame = Vec::new(alloc);
+                frame.push(entry)?;
                 Ok(frame)
             }
-            None => Ok(frame),
+            None => Ok(Vec::new(alloc)),
         }
     }
 

@@ -15,7 +15,7 @@ ghost use Rattle.ps_meaning_runner.specs.Heights.{structure_height, argument_hei
 ghost use Rattle.ps_meaning_runner.specs.Runs.{Runs, levels, truth_in, truth_of};
 
 use crate::calls::call_value;
-use crate::operands::{Actual, Callee, Held, index_of, keep};
+use crate::operands::{Actual, BaseType, Callee, Held, index_of, keep};
 use crate::operations::{calculate, combine, compare, compare_sets, compare_strings, test_member};
 use crate::operators::{Comparison, apply, combine_sets, is_true, negated};
 use crate::stop::Halt;
@@ -326,7 +326,11 @@ fn take_actual(world: &mut World, argument: &Argument, here: Here) -> Result<Act
             line,
         } => {
             let s = evaluate_set(world, value, here)?;
-            world.set_passed(*low, *high, s, line.number, here.context)
+            let base = BaseType {
+                low: *low,
+                high: *high,
+            };
+            world.set_passed(base, s, line.number, here.context)
         }
         Argument::Copy { value, .. } => {
             let held = take_operand(world, value, here)?;

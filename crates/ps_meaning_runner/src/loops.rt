@@ -24,6 +24,29 @@ use crate::world::{Context, Here, World, spot_in};
 use ps_tree::tree::{Direction, Expr, Range, Statement};
 use std::alloc::AllocError;
 
+/// The control variable of a for statement: the number of its entry in the frame, and the direction in which it goes.
+#[derive(Clone, Copy)]
+pub struct Control {
+    pub variable: u32,
+    pub direction: Direction,
+}
+
+/// The initial and the final value of a for statement, in the text, with the lines of their first tokens.
+#[derive(Clone, Copy)]
+pub struct Bounds<'t> {
+    pub from: &'t Expr,
+    pub from_line: u16,
+    pub to: &'t Expr,
+    pub to_line: u16,
+}
+
+/// The initial or the final value of a for statement once it is evaluated, with its line.
+#[derive(Clone, Copy)]
+struct Evaluated<'v> {
+    value: &'v Value,
+    line: u16,
+}
+
 /// Whether a for statement has no turn.
 fn is_past(direction: Direction, x: &Value, y: &Value) -> bool
     ensures { result ≡ m.is_past direction (number_of (value_of x.now)) (number_of (value_of y.now)) }
@@ -98,45 +121,41 @@ pub fn repeat_until(
     }
 }
 
-/// A for statement.
+/// A for statement, of a control variable with values from `low` to `high`.
 #[cycle(run)]
 pub fn count(
     world: &mut World,
-    variable: u32,
+    control: Control,
     low: i32,
     high: i32,
-    from: &Expr,
-    from_line: u16,
-    direction: Direction,
-    to: &Expr,
-    to_line: u16,
+    bounds: Bounds,
     body: &Statement,
     here: Here,
 ) -> Result<(), Halt>
     ensures { Runs done_of (acting here.entry.setup.now here.entry.fuel
-        (Tree.For variable low high (expr_of from.now) from_line direction (expr_of to.now) to_line
-        (statement_of body.now)) (context_of here.entry.context.now) (world_of world.old)) here.entry.depth
+        (Tree.For control.variable low high (expr_of bounds.entry.from.now) bounds.entry.from_line control.direction
+        (expr_of bounds.entry.to.now) bounds.entry.to_line (statement_of body.now))
+        (context_of here.entry.context.now) (world_of world.old)) here.entry.depth
         (levels here.entry.setup.now here.entry.fuel
-        (max (expr_height (expr_of from.now)) (max (expr_height (expr_of to.now))
+        (max (expr_height (expr_of bounds.entry.from.now)) (max (expr_height (expr_of bounds.entry.to.now))
         (statement_height (statement_of body.now))))) result world.new }
 {
-    let x = evaluate(world, from, here)?;
-    let y = evaluate(world, to, here)?;
-    if is_past(direction, &x, &y) {
+    let x = evaluate(world, bounds.from, here)?;
+    let y = evaluate(world, bounds.to, here)?;
+    if is_past(control.direction, &x, &y) {
         return Ok(());
     }
     let range = Range::Within { low, high };
-    begin_turns(
-        world,
-        variable,
-        range,
-        &x,
-        from_line,
-        &y,
-        to_line,
-        here.context,
-    )?;
-    turns(world, variable, direction, &y, body, here)
+    let first = Evaluated {
+        value: &x,
+        line: bounds.from_line,
+    };
+    let last = Evaluated {
+        value: &y,
+        line: bounds.to_line,
+    };
+    begin_turns(world, control.variable, range, first, last, here.context)?;
+    turns(world, control.variable, control.direction, &y, body, here)
 }
 
 /// Checks the bounds of a for statement, and assigns the first to its variable.
@@ -145,18 +164,17 @@ fn begin_turns(
     world: &mut World,
     variable: u32,
     range: Range,
-    x: &Value,
-    from_line: u16,
-    y: &Value,
-    to_line: u16,
+    first: Evaluated,
+    last: Evaluated,
     context: &Context,
 ) -> Result<(), Halt>
-    ensures { Answers done_of (r.beginning variable range (value_of x.now) from_line (value_of y.now) to_line
-        (context_of context.now) (world_of world.old)) result world.new }
+    ensures { Answers done_of (r.beginning variable range (value_of first.entry.value.now) first.entry.line
+        (value_of last.entry.value.now) last.entry.line (context_of context.now) (world_of world.old)) result
+        world.new }
 {
-    check_bound(world, range, x, from_line, context)?;
-    check_bound(world, range, y, to_line, context)?;
-    set_own(world, variable, x, context)
+    check_bound(world, range, first.value, first.line, context)?;
+    check_bound(world, range, last.value, last.line, context)?;
+    set_own(world, variable, first.value, context)
 }
 
 /// A bound of a for statement fits its control variable; error 4 where it does not.

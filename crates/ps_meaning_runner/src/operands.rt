@@ -77,6 +77,13 @@ impl<'t> Drop for Held<'t> {
     }
 }
 
+/// The bounds of a set type's base type.
+#[derive(Clone, Copy)]
+pub struct BaseType {
+    pub low: i32,
+    pub high: i32,
+}
+
 /// The values of an array's indices.
 #[tactic(auto, unfolding(ps_tree::specs::View::type_of))]
 pub fn index_of(ty: &Ty) -> Ordinal
@@ -119,17 +126,16 @@ impl<'a> World<'a> {
     #[tactic(auto, using(crate::proofs::Answers::stopped_then), unfolding(crate::specs::Worlds::actual_of))]
     pub fn set_passed(
         &self,
-        low: i32,
-        high: i32,
+        base: BaseType,
         tests: Vec<bool>,
         line: u16,
         context: &Context,
     ) -> Result<Actual, Halt>
         ensures { Answers actual_of
-            (and_then (m.fitting_set low high (members_of_set tests) line (context_of context.now)
+            (and_then (m.fitting_set base.low base.high (members_of_set tests) line (context_of context.now)
             (world_of self.now)) (λ x. give (m.ValueActual x))) result self.now }
     {
-        Ok(Actual::Value(self.fitting_set(low, high, tests, line, context)?))
+        Ok(Actual::Value(self.fitting_set(base, tests, line, context)?))
     }
 
     /// The actual parameter of a value parameter that takes a copy of an operand's contents.
@@ -289,16 +295,15 @@ impl<'a> World<'a> {
     #[tactic(auto, using(crate::proofs::Answers::stops), unfolding(crate::specs::View::value_of))]
     pub fn fitting_set(
         &self,
-        low: i32,
-        high: i32,
+        base: BaseType,
         tests: Vec<bool>,
         line: u16,
         context: &Context,
     ) -> Result<Value, Halt>
-        ensures { Answers value_of (m.fitting_set low high (listed tests.items) line (context_of context.now)
-            (world_of self.now)) result self.now }
+        ensures { Answers value_of (m.fitting_set base.low base.high (listed tests.items) line
+            (context_of context.now) (world_of self.now)) result self.now }
     {
-        if set_fits(low, high, tests.as_slice()) {
+        if set_fits(base.low, base.high, tests.as_slice()) {
             Ok(Value::Set(tests))
         } else {
             Err(self.fault(8, line, context))
@@ -349,16 +354,15 @@ impl<'a> World<'a> {
     pub fn put_fitting_set(
         &mut self,
         spot: &Spot,
-        low: i32,
-        high: i32,
+        base: BaseType,
         tests: Vec<bool>,
         line: u16,
         context: &Context,
     ) -> Result<(), Halt>
-        ensures { Answers done_of (putting_fitting_set (spot_of spot.now) low high (members_of_set tests) line
+        ensures { Answers done_of (putting_fitting_set (spot_of spot.now) base.low base.high (members_of_set tests) line
             (context_of context.now) (world_of self.old)) result self.new }
     {
-        let fitting = self.fitting_set(low, high, tests, line, context)?;
+        let fitting = self.fitting_set(base, tests, line, context)?;
         self.put(spot, fitting)
     }
 

@@ -17,6 +17,13 @@ use crate::world::{Context, Setup, World};
 use ps_tree::types::Ordinal;
 use std::alloc::{AllocError, Global};
 
+/// An array variable that was accessed, with the values of its indices.
+#[derive(Clone, Copy)]
+pub struct ArraySpot<'s> {
+    pub spot: &'s Spot,
+    pub index: Ordinal,
+}
+
 /// The first value of a pointer type's objects.
 #[tactic(auto, using(crate::proofs::Procedures::domain_past), unfolding(crate::specs::View::value_of))]
 fn first_object(setup: &Setup, pointer: u32) -> Result<Value, AllocError>
@@ -151,44 +158,42 @@ impl<'a> World<'a> {
     #[tactic(auto, using(crate::proofs::Answers::stops))]
     pub fn pack(
         &mut self,
-        a: &Spot,
-        from: Ordinal,
+        from: ArraySpot,
         k: u32,
-        z: &Spot,
-        to: Ordinal,
+        to: ArraySpot,
         line: u16,
         context: &Context,
     ) -> Result<(), Halt>
-        ensures { Answers done_of (r.packing (spot_of a.now) from k (spot_of z.now) to line (context_of context.now)
-            (world_of self.old)) result self.new }
+        ensures { Answers done_of (r.packing (spot_of from.entry.spot.now) from.entry.index k
+            (spot_of to.entry.spot.now) to.entry.index line (context_of context.now) (world_of self.old)) result
+            self.new }
     {
-        let count = to.value_count();
-        if from.value_count() < u64::from(k) + count {
+        let count = to.index.value_count();
+        if from.index.value_count() < u64::from(k) + count {
             return Err(self.fault(5, line, context));
         }
-        let value = self.packed(context.alloc, a, k, count)?;
-        self.put(z, value)
+        let value = self.packed(context.alloc, from.spot, k, count)?;
+        self.put(to.spot, value)
     }
 
     /// Unpacks an array into the components of another, from a place on; error 5 where there are too few of them.
     #[tactic(auto, using(crate::proofs::Answers::stops))]
     pub fn unpack(
         &mut self,
-        z: &Spot,
-        from: Ordinal,
-        a: &Spot,
-        to: Ordinal,
+        from: ArraySpot,
+        to: ArraySpot,
         k: u32,
         line: u16,
         context: &Context,
     ) -> Result<(), Halt>
-        ensures { Answers done_of (r.unpacking (spot_of z.now) from (spot_of a.now) to k line (context_of context.now)
-            (world_of self.old)) result self.new }
+        ensures { Answers done_of (r.unpacking (spot_of from.entry.spot.now) from.entry.index
+            (spot_of to.entry.spot.now) to.entry.index k line (context_of context.now) (world_of self.old)) result
+            self.new }
     {
-        if to.value_count() < u64::from(k) + from.value_count() {
+        if to.index.value_count() < u64::from(k) + from.index.value_count() {
             return Err(self.fault(5, line, context));
         }
-        let value = self.unpacked(context.alloc, z, a, k)?;
-        self.put(a, value)
+        let value = self.unpacked(context.alloc, from.spot, to.spot, k)?;
+        self.put(to.spot, value)
     }
 }

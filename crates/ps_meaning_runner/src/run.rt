@@ -84,12 +84,15 @@ fn outside(alloc: Global) -> Result<Rc<Env>, AllocError>
 fn first_context(alloc: Global) -> Result<Context, AllocError>
     ensures { IfOk result (λ k. context_of k ≡ m.first_context) }
 {
+    let env = outside(alloc)?;
+    let active = no_numbers(alloc)?;
+    let calls = no_numbers(alloc)?;
     Ok(Context {
         alloc,
-        env: outside(alloc)?,
+        env,
         opened: Vec::new(alloc),
-        active: no_numbers(alloc)?,
-        calls: no_numbers(alloc)?,
+        active,
+        calls,
     })
 }
 

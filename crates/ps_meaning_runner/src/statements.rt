@@ -11,13 +11,21 @@ ghost use Rattle.ps_meaning_runner.specs.Runs.{Runs, levels};
 use crate::calls::call_procedure;
 use crate::choices::{act_if, act_if_else, choose};
 use crate::expressions::{access, evaluate, evaluate_set, take_operand};
-use crate::loops::{count, repeat_until, repeat_while};
-use crate::operands::{Callee, index_of};
+use crate::loops::{Bounds, Control, count, repeat_until, repeat_while};
+use crate::operands::{BaseType, Callee, index_of};
+use crate::required::ArraySpot;
 use crate::stop::Halt;
 use crate::transfers::{read_all, write_all};
 use crate::world::{Context, Here, World};
 use ps_tree::tree::{Expr, Place, Range, SetExpr, Statement, Structure};
 use ps_tree::types::Ty;
+
+/// A variable of an array type in the text, with its type.
+#[derive(Clone, Copy)]
+struct Array<'t> {
+    place: &'t Place,
+    ty: &'t Ty,
+}
 
 /// Executes a statement.
 #[cycle(run)]
@@ -48,7 +56,13 @@ pub fn act(world: &mut World, statement: &Statement, here: Here) -> Result<(), H
             high,
             value,
             line,
-        } => assign_set(world, target, *low, *high, value, line.number, below),
+        } => {
+            let base = BaseType {
+                low: *low,
+                high: *high,
+            };
+            assign_set(world, target, base, value, line.number, below)
+        }
         Statement::AssignStructure { target, value } => {
             assign_structure(world, target, value, below)
         }
@@ -102,19 +116,17 @@ pub fn act(world: &mut World, statement: &Statement, here: Here) -> Result<(), H
             body,
             ..
         } => {
-            count(
-                world,
-                *variable,
-                *low,
-                *high,
+            let control = Control {
+                variable: *variable,
+                direction: *direction,
+            };
+            let bounds = Bounds {
                 from,
-                from_line.number,
-                *direction,
+                from_line: from_line.number,
                 to,
-                to_line.number,
-                body,
-                below,
-            )
+                to_line: to_line.number,
+            };
+            count(world, control, *low, *high, bounds, body, below)
         }
         Statement::With { places, body } => { act_with(world, places, body, below) }
         Statement::New {
@@ -132,7 +144,17 @@ pub fn act(world: &mut World, statement: &Statement, here: Here) -> Result<(), H
             line,
             to,
             to_ty,
-        } => pack(world, from, from_ty, index, line.number, to, to_ty, below),
+        } => {
+            let from = Array {
+                place: from,
+                ty: from_ty,
+            };
+            let to = Array {
+                place: to,
+                ty: to_ty,
+            };
+            pack(world, from, index, line.number, to, below)
+        }
         Statement::Unpack {
             from,
             from_ty,
@@ -140,7 +162,17 @@ pub fn act(world: &mut World, statement: &Statement, here: Here) -> Result<(), H
             to_ty,
             index,
             line,
-        } => unpack(world, from, from_ty, to, to_ty, index, line.number, below),
+        } => {
+            let from = Array {
+                place: from,
+                ty: from_ty,
+            };
+            let to = Array {
+                place: to,
+                ty: to_ty,
+            };
+            unpack(world, from, to, index, line.number, below)
+        }
         Statement::Read { variables } => read_all(world, variables, below),
         Statement::Readln { variables, line } => {
             read_all(world, variables, below)?;
@@ -196,20 +228,20 @@ fn assign(
 fn assign_set(
     world: &mut World,
     target: &Place,
-    low: i32,
-    high: i32,
+    base: BaseType,
     value: &SetExpr,
     line: u16,
     here: Here,
 ) -> Result<(), Halt>
     ensures { Runs done_of (acting here.entry.setup.now here.entry.fuel
-        (Tree.AssignSet (place_of target.now) low high (set_of value.now) line) (context_of here.entry.context.now)
-        (world_of world.old)) here.entry.depth (levels here.entry.setup.now here.entry.fuel
+        (Tree.AssignSet (place_of target.now) base.low base.high (set_of value.now) line)
+        (context_of here.entry.context.now) (world_of world.old)) here.entry.depth
+        (levels here.entry.setup.now here.entry.fuel
         (max (place_height (place_of target.now)) (set_height (set_of value.now)))) result world.new }
 {
     let spot = access(world, target, here)?;
     let x = evaluate_set(world, value, here)?;
-    world.put_fitting_set(&spot, low, high, x, line, here.context)
+    world.put_fitting_set(&spot, base, x, line, here.context)
 }
 
 /// Assigns to a variable of an array or record type.
@@ -260,34 +292,32 @@ fn act_with(world: &mut World, places: &[Place], body: &Statement, here: Here) -
 #[tactic(auto, using(crate::proofs::Answers::halted_then, crate::proofs::Answers::stopped_halts_then, crate::proofs::Answers::answers_run))]
 fn pack(
     world: &mut World,
-    from: &Place,
-    from_ty: &Ty,
+    from: Array,
     index: &Expr,
     line: u16,
-    to: &Place,
-    to_ty: &Ty,
+    to: Array,
     here: Here,
 ) -> Result<(), Halt>
     ensures { Runs done_of (acting here.entry.setup.now here.entry.fuel
-        (Tree.Pack (place_of from.now) (type_of from_ty.now) (expr_of index.now) line (place_of to.now)
-        (type_of to_ty.now)) (context_of here.entry.context.now) (world_of world.old)) here.entry.depth
-        (levels here.entry.setup.now here.entry.fuel
-        (max (place_height (place_of from.now)) (max (expr_height (expr_of index.now))
-        (place_height (place_of to.now))))) result world.new }
+        (Tree.Pack (place_of from.entry.place.now) (type_of from.entry.ty.now) (expr_of index.now) line
+        (place_of to.entry.place.now) (type_of to.entry.ty.now)) (context_of here.entry.context.now)
+        (world_of world.old)) here.entry.depth (levels here.entry.setup.now here.entry.fuel
+        (max (place_height (place_of from.entry.place.now)) (max (expr_height (expr_of index.now))
+        (place_height (place_of to.entry.place.now))))) result world.new }
 {
-    let a = access(world, from, here)?;
+    let a = access(world, from.place, here)?;
     let x = evaluate(world, index, here)?.number();
-    let k = world.index_place(index_of(from_ty), x, line, here.context)?;
-    let z = access(world, to, here)?;
-    world.pack(
-        &a,
-        index_of(from_ty),
-        k,
-        &z,
-        index_of(to_ty),
-        line,
-        here.context,
-    )
+    let k = world.index_place(index_of(from.ty), x, line, here.context)?;
+    let z = access(world, to.place, here)?;
+    let unpacked = ArraySpot {
+        spot: &a,
+        index: index_of(from.ty),
+    };
+    let packed = ArraySpot {
+        spot: &z,
+        index: index_of(to.ty),
+    };
+    world.pack(unpacked, k, packed, line, here.context)
 }
 
 /// unpack.
@@ -295,32 +325,30 @@ fn pack(
 #[tactic(auto, using(crate::proofs::Answers::halted_then, crate::proofs::Answers::stopped_halts_then, crate::proofs::Answers::answers_run))]
 fn unpack(
     world: &mut World,
-    from: &Place,
-    from_ty: &Ty,
-    to: &Place,
-    to_ty: &Ty,
+    from: Array,
+    to: Array,
     index: &Expr,
     line: u16,
     here: Here,
 ) -> Result<(), Halt>
     ensures { Runs done_of (acting here.entry.setup.now here.entry.fuel
-        (Tree.Unpack (place_of from.now) (type_of from_ty.now) (place_of to.now) (type_of to_ty.now)
-        (expr_of index.now) line) (context_of here.entry.context.now) (world_of world.old)) here.entry.depth
-        (levels here.entry.setup.now here.entry.fuel
-        (max (place_height (place_of from.now)) (max (place_height (place_of to.now))
+        (Tree.Unpack (place_of from.entry.place.now) (type_of from.entry.ty.now) (place_of to.entry.place.now)
+        (type_of to.entry.ty.now) (expr_of index.now) line) (context_of here.entry.context.now) (world_of world.old))
+        here.entry.depth (levels here.entry.setup.now here.entry.fuel
+        (max (place_height (place_of from.entry.place.now)) (max (place_height (place_of to.entry.place.now))
         (expr_height (expr_of index.now))))) result world.new }
 {
-    let z = access(world, from, here)?;
-    let a = access(world, to, here)?;
+    let z = access(world, from.place, here)?;
+    let a = access(world, to.place, here)?;
     let x = evaluate(world, index, here)?.number();
-    let k = world.index_place(index_of(to_ty), x, line, here.context)?;
-    world.unpack(
-        &z,
-        index_of(from_ty),
-        &a,
-        index_of(to_ty),
-        k,
-        line,
-        here.context,
-    )
+    let k = world.index_place(index_of(to.ty), x, line, here.context)?;
+    let packed = ArraySpot {
+        spot: &z,
+        index: index_of(from.ty),
+    };
+    let unpacked = ArraySpot {
+        spot: &a,
+        index: index_of(to.ty),
+    };
+    world.unpack(packed, unpacked, k, line, here.context)
 }

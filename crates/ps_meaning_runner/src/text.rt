@@ -132,11 +132,11 @@ fn magnitude(written: &[u8]) -> u64
 fn digits(alloc: Global, count: u8, number: u32) -> Result<Vec<u8>, AllocError>
     ensures { IfOk result (λ v. v.items ≡ digits count number) }
 {
-    let mut text = Vec::new(alloc);
     if count == 0 {
-        return Ok(text);
+        return Ok(Vec::new(alloc));
     }
     if number < 10 {
+        let mut text = Vec::new(alloc);
         text.push(48 + number as u8)?;
         return Ok(text);
     }

@@ -361,12 +361,15 @@ impl Context {
     pub fn copy(&self) -> Result<Context, AllocError>
         ensures { IfOk result (λ k. context_of k ≡ context_of self.now) }
     {
+        let env = self.env.clone()?;
+        let active = self.active.clone()?;
+        let calls = self.calls.clone()?;
         Ok(Context {
             alloc: self.alloc,
-            env: self.env.clone()?,
+            env,
             opened: copy_spots(self.alloc, self.opened.as_slice())?,
-            active: self.active.clone()?,
-            calls: self.calls.clone()?,
+            active,
+            calls,
         })
     }
 

@@ -5,7 +5,7 @@
 //! and a product with H; the value of a `case` by its last test. What a word put into the free register is lost at the
 //! stop, which uses that: then its operands tell it.
 
-use crate::words::{Act, Right, act_at};
+use crate::words::{Act, Operated, Right, act_at};
 use risc_image::ImageView;
 use risc_machine::Machine;
 use risc_machine::limits::SIGN_BIT;
@@ -20,14 +20,14 @@ const LINK: u8 = 15;
 const PRODUCT: usize = 6;
 
 /// The least and the greatest number of a range.
-#[derive(Clone, Copy, PartialEq, Eq, Debug)]
+#[derive(Clone, Copy)]
 pub struct Bounds {
     pub low: i64,
     pub high: i64,
 }
 
 /// The value that an error found, and the range that it is outside of, if it is an error of one.
-#[derive(Clone, Copy, PartialEq, Eq, Debug)]
+#[derive(Clone, Copy)]
 pub struct Found {
     pub value: i64,
     pub bounds: Option<Bounds>,
@@ -40,28 +40,9 @@ struct Number {
     words: usize,
 }
 
-// An operation at a place: the register that takes its result, and its operands.
-#[derive(Clone, Copy)]
-struct Operated {
-    operation: Operation,
-    to: u8,
-    left: u8,
-    right: Right,
-}
-
 fn operated_at(image: &ImageView<'_>, at: Option<usize>) -> Option<Operated> {
     match act_at(image, at) {
-        Act::Operate {
-            operation,
-            to,
-            left,
-            right,
-        } => Some(Operated {
-            operation,
-            to,
-            left,
-            right,
-        }),
+        Act::Operate(operated) => Some(operated),
         _ => None,
     }
 }
@@ -155,20 +136,12 @@ fn signed(value: i64) -> i64 {
     }
 }
 
-// The content of a register as a number with its sign.
-fn content(machine: &Machine, register: u8) -> i64 {
-    if register > LINK {
-        return 0;
-    }
-    signed(i64::from(machine.reg(register)))
-}
-
-// The content of a register, unless the stop used it.
+// The content of a register as a number with its sign, unless the stop used it.
 fn kept(machine: &Machine, register: u8) -> Option<i64> {
-    if register == FREE || register == LINK {
+    if register == FREE || register >= LINK {
         None
     } else {
-        Some(content(machine, register))
+        Some(signed(i64::from(machine.reg(register))))
     }
 }
 
@@ -211,17 +184,6 @@ fn outside(
                 low,
                 high: low.saturating_add(most.value),
             }),
-        }),
-        None => None,
-    }
-}
-
-// A value that is in no range.
-fn alone(value: Option<i64>) -> Option<Found> {
-    match value {
-        Some(value) => Some(Found {
-            value,
-            bounds: None,
         }),
         None => None,
     }
@@ -340,14 +302,21 @@ pub fn found_at(image: &ImageView<'_>, machine: &Machine, link: u32, number: u32
     else {
         return None;
     };
-    match number {
+    let value = match number {
         1 => match condition {
-            Condition::OverflowSet => alone(sum(image, machine, stop.checked_sub(1))),
-            _ => alone(product(image, machine, stop.checked_sub(PRODUCT))),
+            Condition::OverflowSet => sum(image, machine, stop.checked_sub(1)),
+            _ => product(image, machine, stop.checked_sub(PRODUCT)),
         },
-        3 => alone(subtracted(image, machine, stop.checked_sub(1))),
-        7 => alone(case_value(image, machine, stop)),
-        4 | 5 | 8 | 11 => outside(image, machine, stop, condition),
+        3 => subtracted(image, machine, stop.checked_sub(1)),
+        7 => case_value(image, machine, stop),
+        4 | 5 | 8 | 11 => return outside(image, machine, stop, condition),
         _ => None,
+    };
+    match value {
+        Some(value) => Some(Found {
+            value,
+            bounds: None,
+        }),
+        None => None,
     }
 }

@@ -67,9 +67,7 @@ fn token_of(row: Option<Row>) -> Option<Place> {
 impl Frames {
     fn new(alloc: Global, routines: usize) -> Result<Frames, AllocError> {
         let mut counts = Vec::new(alloc);
-        for _ in 0..routines {
-            counts.push(0)?;
-        }
+        counts.resize(routines, 0)?;
         Ok(Frames {
             shown: Vec::new(alloc),
             count: 0,
@@ -124,11 +122,7 @@ impl<'a> View<'a> {
 
     // Whether a statement of a routine stands at a row or before it.
     fn has_begun(&self, row: Row) -> bool {
-        let behind = self
-            .map
-            .rows
-            .partition_point(|other| other.word <= row.word);
-        for other in self.map.rows.get(..behind).unwrap_or(&[]).iter().rev() {
+        for other in self.map.rows_up_to(row.word).iter().rev() {
             if other.owner != row.owner {
                 return false;
             }

@@ -4,21 +4,21 @@
 //! It is advice: it reads any machine and any map without harm, and no contract depends on it.
 #![tactic(auto)]
 
-mod filling;
 mod found;
 mod frames;
 mod memory;
 mod names;
 mod parts;
 mod scene;
+mod types;
 mod values;
 mod words;
 
-pub use filling::copy_of;
 pub use found::{Bounds, Found, found_at};
 pub use frames::Standing;
 pub use memory::word_at;
-pub use names::Text;
+pub use names::{Text, token_at};
 pub use parts::{ordinal_text, value_at};
 pub use scene::{Activation, Scene, Surroundings, Value, scene_of};
+pub use types::{Components, components_of, type_of};
 pub use values::{Length, Object, ordinal_in};

@@ -10,13 +10,12 @@ pub struct Text<'a> {
     pub tokens: &'a [Token],
 }
 
-impl<'a> Text<'a> {
-    // The number of the token that begins at an offset or behind it.
-    fn token_at(&self, offset: u32) -> usize {
-        self.tokens
-            .partition_point(|token| token.span.from < offset)
-    }
+/// The number of the token that begins at an offset or behind it.
+pub fn token_at(tokens: &[Token], offset: u32) -> usize {
+    tokens.partition_point(|token| token.span.from < offset)
+}
 
+impl<'a> Text<'a> {
     fn written(&self, span: Span) -> &'a str {
         if span.from <= span.to && span.to <= self.source.len() {
             str::from_utf8(self.source.slice(span)).unwrap_or("?")
@@ -28,7 +27,7 @@ impl<'a> Text<'a> {
     /// The constant with a number of the enumerated type whose denoter begins at an offset: each second token behind its
     /// parenthesis is one.
     pub(crate) fn constant(&self, denoter: u32, number: u32) -> &'a str {
-        let first = self.token_at(denoter).saturating_add(1);
+        let first = token_at(self.tokens, denoter).saturating_add(1);
         let at = first.saturating_add((number as usize).saturating_mul(2));
         match self.tokens.get(at) {
             Some(token) => self.written(token.span),
@@ -41,7 +40,11 @@ impl<'a> Text<'a> {
         let mut depth: u32 = 0;
         let mut names = false;
         let mut left = number;
-        for token in self.tokens.get(self.token_at(denoter)..).unwrap_or(&[]) {
+        for token in self
+            .tokens
+            .get(token_at(self.tokens, denoter)..)
+            .unwrap_or(&[])
+        {
             match token.kind {
                 Kind::Record | Kind::LeftParen | Kind::LeftBracket => {
                     depth = depth.saturating_add(1);

@@ -1,6 +1,5 @@
 //! Parts of what is told, for what tells of runs by itself.
 
-use crate::filling::copy_of;
 use crate::names::Text;
 use crate::scene::{Surroundings, printer_of};
 use crate::values::{Length, Object, ordinal_in};
@@ -10,7 +9,7 @@ use std::alloc::{AllocError, Global};
 use std::mem::swap;
 
 impl<'a> Surroundings<'a> {
-    fn text(&self) -> Text<'a> {
+    pub(crate) fn text(&self) -> Text<'a> {
         Text {
             source: self.source,
             tokens: self.tokens,
@@ -34,21 +33,20 @@ pub fn ordinal_text(
     ordinal_in(alloc, around.text(), host, value)
 }
 
-/// The value of a variable of a type at an address. An object is told by its number among some, in their order; one
-/// that isn't among them is added.
+/// The value of a variable of a type at an address, in short. An object is told by its number among some, in their
+/// order; one that isn't among them is added.
 pub fn value_at<'a>(
     alloc: Global,
     around: &Surroundings<'a>,
     machine: &'a Machine,
     ty: &Ty,
     at: u32,
-    length: Length,
     objects: &mut Vec<Object>,
 ) -> Result<String, AllocError> {
-    let mut printer = printer_of(alloc, around, machine, length);
+    let mut printer = printer_of(alloc, around, machine, Length::Short);
     swap(&mut printer.objects, objects);
     let put = printer.put_variable(ty, at);
     swap(&mut printer.objects, objects);
     put?;
-    copy_of(alloc, printer.out.as_str())
+    Ok(printer.take())
 }

@@ -1,19 +1,22 @@
 //! Where a program stands that stopped.
 
-use crate::filling::copy_of;
 use crate::frames::{Frames, Standing, View, routine_of};
 use crate::memory::word_at;
-use crate::names::Text;
+use crate::types::type_of;
 use crate::values::{Length, Printer};
 use ps_map::{Map, Place, Role, Row, Variable};
 use ps_scan::Token;
 use ps_text::Source;
 use ps_tree::program::Checked;
-use ps_tree::tree::{Formal, Routine};
 use ps_tree::types::Ty;
 use risc_image::ImageView;
 use risc_machine::{Machine, Stop};
 use std::alloc::{AllocError, Global};
+
+// As many of the innermost open calls are told.
+const FEW_CALLS: usize = 8;
+
+const MANY_CALLS: usize = 1_000;
 
 /// A text with its program, by which values are told in its words.
 #[derive(Clone, Copy)]
@@ -25,7 +28,7 @@ pub struct Surroundings<'a> {
 }
 
 /// A variable and its value, in the words of the text.
-#[derive(Drop, Debug)]
+#[derive(Drop)]
 pub struct Value {
     pub name: String,
     /// Its type; empty where that isn't known.
@@ -36,7 +39,7 @@ pub struct Value {
 }
 
 /// An open call.
-#[derive(Drop, Debug)]
+#[derive(Drop)]
 pub struct Activation {
     /// The name of its routine; empty where it isn't known.
     pub name: String,
@@ -51,7 +54,7 @@ pub struct Activation {
 }
 
 /// Where a program stands that stopped.
-#[derive(Drop, Debug)]
+#[derive(Drop)]
 pub struct Scene {
     /// The place of the stop.
     pub at: Option<Place>,
@@ -59,7 +62,7 @@ pub struct Scene {
     pub statement: Option<Place>,
     /// The routine of the program whose words the machine stands at.
     pub routine: Option<u32>,
-    /// The open calls: the innermost ones, at most as many as were asked for, and behind them the program block.
+    /// The open calls: the innermost ones, at most as many as are told, and behind them the program block.
     pub open: Vec<Activation>,
     /// How many there are, the program block among them.
     pub count: u64,
@@ -69,24 +72,6 @@ pub struct Scene {
     pub objects: Vec<String>,
     /// Whether parts of values were left out, since so much was told before.
     pub is_cut: bool,
-}
-
-// The type of an entry of a routine's frame; none of a procedural or functional parameter.
-fn type_of(routine: &Routine, number: usize) -> Option<&Ty> {
-    let mut left = number;
-    if let Some(ty) = &routine.result {
-        if left == 0 {
-            return Some(ty);
-        }
-        left = left.saturating_sub(1);
-    }
-    match routine.formals.get(left) {
-        Some(Formal::Value(ty) | Formal::Variable(ty)) => Some(ty),
-        Some(Formal::Routine { .. }) => None,
-        None => routine
-            .variables
-            .get(left.saturating_sub(routine.formals.len())),
-    }
 }
 
 // The token that a row tells, else where its statement begins.
@@ -107,10 +92,7 @@ pub(crate) fn printer_of<'a>(
     Printer {
         alloc,
         machine,
-        text: Text {
-            source: around.source,
-            tokens: around.tokens,
-        },
+        text: around.text(),
         length,
         out: String::new(alloc),
         objects: Vec::new(alloc),
@@ -140,9 +122,9 @@ fn address_of(machine: &Machine, variable: &Variable, home: u32) -> Option<u32> 
 
 // Whether it is the result of a function with its first value.
 fn is_unset(printer: &Printer<'_>, variable: &Variable, ty: Option<&Ty>, home: u32) -> bool {
-    match ty {
-        Some(ty) => variable.role == Role::Result && printer.has_first(ty, home),
-        None => false,
+    match (variable.role, ty) {
+        (Role::Result, Some(ty)) => printer.has_first(ty, home),
+        _ => false,
     }
 }
 
@@ -162,35 +144,21 @@ fn put_value(
     }
 }
 
-// The address of a variable's home in the activation that begins at one.
-fn home_of(frame: u64, activation: u32, variable: &Variable) -> u32 {
-    let frame = u32::try_from(frame).unwrap_or(u32::MAX);
-    activation
-        .saturating_add(frame)
-        .saturating_add(variable.home)
-}
-
-// Tells the value of the entry of a routine with a number, and whether it is a result with its first value.
-fn put_entry(
+// A variable whose home is at an address, with its value.
+fn value_of(
     printer: &mut Printer<'_>,
-    around: &Surroundings<'_>,
-    routine: u32,
-    number: usize,
-    activation: u32,
-) -> Result<bool, AllocError> {
-    let (Some(told), Some(tree)) = (
-        around.map.routines.get(routine as usize),
-        around.checked.routines().get(routine as usize),
-    ) else {
-        return Ok(false);
-    };
-    let Some(variable) = told.variables.get(number) else {
-        return Ok(false);
-    };
-    let ty = type_of(tree, number);
-    let home = home_of(told.frame, activation, variable);
-    put_value(printer, around.map, variable, ty, home)?;
-    Ok(is_unset(printer, variable, ty, home))
+    map: &Map,
+    variable: &Variable,
+    ty: Option<&Ty>,
+    home: u32,
+) -> Result<Value, AllocError> {
+    put_value(printer, map, variable, ty, home)?;
+    Ok(Value {
+        name: String::from_str(printer.alloc, variable.name.as_str())?,
+        denoter: String::from_str(printer.alloc, variable.denoter.as_str())?,
+        value: printer.take(),
+        is_unset: is_unset(printer, variable, ty, home),
+    })
 }
 
 // The values of a routine's variables in an activation.
@@ -200,21 +168,18 @@ fn put_values(
     routine: u32,
     activation: u32,
 ) -> Result<Vec<Value>, AllocError> {
-    let alloc = printer.alloc;
-    let mut values = Vec::new(alloc);
-    let Some(told) = around.map.routines.get(routine as usize) else {
+    let mut values = Vec::new(printer.alloc);
+    let (Some(told), Some(tree)) = (
+        around.map.routines.get(routine as usize),
+        around.checked.routines().get(routine as usize),
+    ) else {
         return Ok(values);
     };
+    let first = activation.saturating_add(told.frame);
     for (number, variable) in told.variables.iter().enumerate() {
-        printer.out = String::new(alloc);
-        let is_unset = put_entry(printer, around, routine, number, activation)?;
-        printer.told = printer.told.saturating_add(printer.out.len());
-        values.push(Value {
-            name: copy_of(alloc, variable.name.as_str())?,
-            denoter: copy_of(alloc, variable.denoter.as_str())?,
-            value: copy_of(alloc, printer.out.as_str())?,
-            is_unset,
-        })?;
+        let home = first.saturating_add(variable.home);
+        let ty = type_of(tree, number);
+        values.push(value_of(printer, around.map, variable, ty, home)?)?;
     }
     Ok(values)
 }
@@ -225,16 +190,14 @@ fn call_of(
     around: &Surroundings<'_>,
     standing: Standing,
 ) -> Result<Activation, AllocError> {
-    let alloc = printer.alloc;
     let number = standing.routine.unwrap_or(u32::MAX);
-    let name = copy_of(alloc, around.map.name_of(number).unwrap_or(""))?;
     let values = if standing.has_begun {
         put_values(printer, around, number, standing.frame)?
     } else {
-        Vec::new(alloc)
+        Vec::new(printer.alloc)
     };
     Ok(Activation {
-        name,
+        name: String::from_str(printer.alloc, around.map.name_of(number).unwrap_or(""))?,
         at: place_of(standing.at),
         called: standing.called,
         has_begun: standing.has_begun,
@@ -255,10 +218,8 @@ fn objects_of(
         let Some(ty) = around.checked.domains().get(object.pointer as usize) else {
             break;
         };
-        printer.out = String::new(printer.alloc);
         printer.put_variable(ty, object.address)?;
-        printer.told = printer.told.saturating_add(printer.out.len());
-        objects.push(copy_of(printer.alloc, printer.out.as_str())?)?;
+        objects.push(printer.take())?;
     }
     Ok(objects)
 }
@@ -286,29 +247,39 @@ fn add_open(
     scene: &mut Scene,
     printer: &mut Printer<'_>,
     around: &Surroundings<'_>,
-    frames: &Frames,
+    frames: Frames,
 ) -> Result<(), AllocError> {
-    for standing in frames.shown.iter() {
+    let Frames {
+        shown,
+        count,
+        counts,
+    } = frames;
+    scene.count = count;
+    scene.counts = counts;
+    for standing in shown.iter() {
         scene.open.push(call_of(printer, around, *standing)?)?;
-    }
-    scene.count = frames.count;
-    for count in frames.counts.iter() {
-        scene.counts.push(*count)?;
     }
     scene.objects = objects_of(printer, around)?;
     scene.is_cut = printer.was_full();
     Ok(())
 }
 
-/// Where a program stands that was loaded from an image and stopped so, with at most so many innermost open calls and
-/// the outermost one.
+// How many of the innermost open calls are told.
+fn most_calls(length: Length) -> usize {
+    match length {
+        Length::Short => FEW_CALLS,
+        Length::All => MANY_CALLS,
+    }
+}
+
+/// Where a program stands that was loaded from an image and stopped so, with the innermost open calls, as many as are
+/// told of this length, and the outermost one.
 pub fn scene_of<'a>(
     alloc: Global,
     around: &Surroundings<'a>,
     image: &'a ImageView<'a>,
     machine: &'a Machine,
     stop: Stop,
-    most: usize,
     length: Length,
 ) -> Result<Scene, AllocError> {
     let view = View {
@@ -319,9 +290,9 @@ pub fn scene_of<'a>(
     let (here, innermost) = view.innermost(stop);
     let mut scene = empty_scene(alloc, here);
     if let Some(innermost) = innermost {
-        let frames = view.frames(alloc, innermost, most)?;
+        let frames = view.frames(alloc, innermost, most_calls(length))?;
         let mut printer = printer_of(alloc, around, machine, length);
-        add_open(&mut scene, &mut printer, around, &frames)?;
+        add_open(&mut scene, &mut printer, around, frames)?;
     }
     Ok(scene)
 }

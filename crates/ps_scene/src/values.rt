@@ -1,14 +1,16 @@
 //! Values in the words of the text.
 
-use crate::filling::copy_of;
 use crate::memory::{byte_at, word_at};
 use crate::names::Text;
+use crate::types::{Components, components_of, is_byte};
+use ps_map::small;
 use ps_tree::types::{Fields, Host, Ordinal, Ty};
 use risc_machine::Machine;
 use std::alloc::{AllocError, Global};
+use std::mem::replace;
 
 /// How much of arrays and records is told.
-#[derive(Clone, Copy, PartialEq, Eq)]
+#[derive(Clone, Copy)]
 pub enum Length {
     /// The first three components and the last one, and no more than three types deep.
     Short,
@@ -67,23 +69,10 @@ pub(crate) struct Printer<'a> {
     pub(crate) told: usize,
 }
 
-// Whether all values of an ordinal type are bytes.
-fn is_byte(ordinal: Ordinal) -> bool {
-    0 <= ordinal.low && ordinal.high <= 255
-}
-
-// The bytes of a component of an array; 1 of one whose components are bytes.
-fn stride(packed: bool, component: &Ty) -> u32 {
-    match component {
-        Ty::Simple(ordinal) if packed && is_byte(*ordinal) => 1,
-        _ => component.bytes(),
-    }
-}
-
 // A character, or `chr` and its number where it isn't shown.
 fn char_told(alloc: Global, value: i64) -> Result<String, AllocError> {
     match u8::try_from(value) {
-        Ok(b'\'') => copy_of(alloc, "''''"),
+        Ok(b'\'') => String::from_str(alloc, "''''"),
         Ok(shown) if is_shown(shown) => {
             let bytes = [shown];
             let letter = str::from_utf8(&bytes).unwrap_or("?");
@@ -102,13 +91,11 @@ pub fn ordinal_in(
 ) -> Result<String, AllocError> {
     match host {
         Host::Integer => format!(in alloc; "{value}"),
-        Host::Boolean => copy_of(alloc, if value == 0 { "false" } else { "true" }),
+        Host::Boolean => String::from_str(alloc, if value == 0 { "false" } else { "true" }),
         Host::Char => char_told(alloc, value),
         Host::Enumeration { at, .. } => {
-            copy_of(
-                alloc,
-                text.constant(at, u32::try_from(value).unwrap_or(u32::MAX)),
-            )
+            let number = u32::try_from(value).unwrap_or(u32::MAX);
+            String::from_str(alloc, text.constant(at, number))
         }
     }
 }
@@ -118,9 +105,11 @@ impl<'a> Printer<'a> {
         self.out.push_str(words)
     }
 
-    fn put_number(&mut self, number: i64) -> Result<(), AllocError> {
-        let told = format!(in self.alloc; "{number}")?;
-        self.put(told.as_str())
+    /// What was told since this was asked for the last time.
+    pub(crate) fn take(&mut self) -> String {
+        self.told = self.told.saturating_add(self.out.len());
+        let empty = String::new(self.alloc);
+        replace(&mut self.out, empty)
     }
 
     // A value that memory doesn't hold.
@@ -163,12 +152,7 @@ impl<'a> Printer<'a> {
             Ty::Set { base, .. } => self.put_set(*base, at),
             Ty::EmptySet => self.put("[]"),
             Ty::Text { length } => self.put_string(at, *length),
-            Ty::Array {
-                packed,
-                index,
-                component,
-                ..
-            } => self.put_array(ty, *packed, *index, component.ty(), at, left),
+            Ty::Array { .. } => self.put_array(ty, at, left),
             Ty::Record {
                 at: denoter,
                 fields,
@@ -249,10 +233,7 @@ impl<'a> Printer<'a> {
     // An object.
     fn put_object(&mut self, object: Object) -> Result<(), AllocError> {
         match self.number_of(object)? {
-            Some(number) => {
-                self.put("object ")?;
-                self.put_number(number)
-            }
+            Some(number) => write!(self.out, "object {number}"),
             None => self.put("another object"),
         }
     }
@@ -294,7 +275,7 @@ impl<'a> Printer<'a> {
 
     // A string of characters, quoted, and behind it `..` where it is longer than what is told.
     fn put_string(&mut self, at: u32, length: u32) -> Result<(), AllocError> {
-        let is_long = self.length == Length::Short && length > MOST_CHARACTERS;
+        let is_long = matches!(self.length, Length::Short) && length > MOST_CHARACTERS;
         let told = if is_long { MOST_CHARACTERS } else { length };
         self.put("'")?;
         for k in 0..told {
@@ -345,20 +326,14 @@ impl<'a> Printer<'a> {
 
     // An array: a string as one, else its components.
     #[cycle(values)]
-    fn put_array(
-        &mut self,
-        ty: &Ty,
-        packed: bool,
-        index: Ordinal,
-        component: &Ty,
-        at: u32,
-        left: u32,
-    ) -> Result<(), AllocError> {
+    fn put_array(&mut self, ty: &Ty, at: u32, left: u32) -> Result<(), AllocError> {
         if let Some(length) = ty.string_length() {
             return self.put_string(at, length);
         }
+        let Some(Components { index, ty, bytes }) = components_of(ty) else {
+            return Ok(());
+        };
         let count = u32::try_from(index.value_count()).unwrap_or(u32::MAX);
-        let bytes = stride(packed, component);
         self.put("(")?;
         for k in 0..count {
             if k > 0 && self.is_full() {
@@ -367,7 +342,7 @@ impl<'a> Printer<'a> {
             }
             if self.is_told(k, count) {
                 self.put_separator(k)?;
-                self.put_value(component, at.saturating_add(bytes.saturating_mul(k)), left)?;
+                self.put_value(ty, at.saturating_add(bytes.saturating_mul(k)), left)?;
             } else if k == FIRST {
                 self.put(", ..")?;
             }
@@ -377,14 +352,14 @@ impl<'a> Printer<'a> {
 
     // Whether a component of an array of so many is told.
     fn is_told(&self, k: u32, count: u32) -> bool {
-        self.length == Length::All || k < FIRST || k.saturating_add(1) == count
+        matches!(self.length, Length::All) || k < FIRST || k.saturating_add(1) == count
     }
 
     fn put_separator(&mut self, k: u32) -> Result<(), AllocError> {
         if k == 0 {
             return Ok(());
         }
-        if k > FIRST && self.length == Length::Short {
+        if k > FIRST && matches!(self.length, Length::Short) {
             self.put(" ")
         } else {
             self.put(", ")
@@ -409,9 +384,8 @@ impl<'a> Printer<'a> {
                 self.put(", ")?;
             }
             let name = self.text.field(denoter, number);
-            self.put(name)?;
-            self.put(": ")?;
-            let offset = fields.offset(u32::try_from(number).unwrap_or(u32::MAX));
+            write!(self.out, "{name}: ")?;
+            let offset = fields.offset(small(number));
             self.put_value(ty, at.saturating_add(offset), left)?;
         }
         self.put(")")

@@ -10,6 +10,15 @@ pub(crate) enum Right {
     Content(u8),
 }
 
+/// An operation: the register that takes its result, and its operands.
+#[derive(Clone, Copy)]
+pub(crate) struct Operated {
+    pub(crate) operation: Operation,
+    pub(crate) to: u8,
+    pub(crate) left: u8,
+    pub(crate) right: Right,
+}
+
 /// What a word does. Registers are told by their numbers.
 #[derive(Clone, Copy)]
 pub(crate) enum Act {
@@ -21,12 +30,7 @@ pub(crate) enum Act {
         to: u8,
         top: i64,
     },
-    Operate {
-        operation: Operation,
-        to: u8,
-        left: u8,
-        right: Right,
-    },
+    Operate(Operated),
     /// The distance is in words from the next one on; none where a register has the address.
     Branch {
         condition: Condition,
@@ -61,12 +65,12 @@ fn act_of(instr: Instr) -> Act {
             to,
             left,
             right,
-        } => Act::Operate {
+        } => Act::Operate(Operated {
             operation,
             to: to.number(),
             left: left.number(),
             right: right_of(right),
-        },
+        }),
         Instr::Branch {
             condition,
             link: _,

@@ -1,32 +1,13 @@
-//! What words of the code store and load.
+//! What happens at the steps of a run.
 
+use ps_map::{Access, access_in};
 use risc_image::ImageView;
 use risc_machine::Machine;
 use risc_machine::limits::ADDRESSES;
-use risc_word::{Condition, Instr, Width, decode};
 use std::alloc::{AllocError, Global};
 
 // The address at which a byte is taken and put.
 const CONSOLE: u32 = 0xFF_FFC8;
-
-/// What a word does to memory. Registers are told by their numbers.
-#[derive(Clone, Copy)]
-pub(crate) enum Access {
-    Nothing,
-    /// It only goes on elsewhere.
-    Go,
-    Load {
-        to: u8,
-        base: u8,
-        offset: u32,
-    },
-    Store {
-        from: u8,
-        base: u8,
-        offset: u32,
-        bytes: u32,
-    },
-}
 
 /// What happens at a step.
 #[derive(Clone, Copy)]
@@ -40,61 +21,6 @@ pub(crate) enum Event {
     Taken(u8),
 }
 
-fn bytes_of(width: Width) -> u32 {
-    match width {
-        Width::Word => 4,
-        Width::Byte => 1,
-    }
-}
-
-// What a branch does: one that comes back later, or under a condition, does more than go on elsewhere.
-fn go_of(condition: Condition, link: bool) -> Access {
-    match condition {
-        Condition::Always => { if link { Access::Nothing } else { Access::Go } }
-        _ => Access::Nothing,
-    }
-}
-
-fn access_of(instr: Instr) -> Access {
-    match instr {
-        Instr::Load {
-            width: _,
-            to,
-            base,
-            offset,
-        } => Access::Load {
-            to: to.number(),
-            base: base.number(),
-            offset: offset.value().cast_unsigned(),
-        },
-        Instr::Store {
-            width,
-            from,
-            base,
-            offset,
-        } => Access::Store {
-            from: from.number(),
-            base: base.number(),
-            offset: offset.value().cast_unsigned(),
-            bytes: bytes_of(width),
-        },
-        Instr::Branch {
-            condition,
-            link,
-            target: _,
-        } => go_of(condition, link),
-        _ => Access::Nothing,
-    }
-}
-
-// What a word does.
-fn access_in(word: u32) -> Access {
-    match decode(word) {
-        Some(instr) => access_of(instr),
-        None => Access::Nothing,
-    }
-}
-
 /// What the words of an image do to memory, by their numbers.
 pub(crate) fn accesses_of(alloc: Global, image: &ImageView<'_>) -> Result<Vec<Access>, AllocError> {
     let mut accesses = Vec::new(alloc);
@@ -105,8 +31,8 @@ pub(crate) fn accesses_of(alloc: Global, image: &ImageView<'_>) -> Result<Vec<Ac
 }
 
 // The address that a register and an offset give.
-fn address_on(machine: &Machine, base: u8, offset: u32) -> u32 {
-    content_of(machine, base).wrapping_add(offset) % ADDRESSES
+fn address_on(machine: &Machine, base: u8, offset: i32) -> u32 {
+    content_of(machine, base).wrapping_add(offset.cast_unsigned()) % ADDRESSES
 }
 
 /// What the register with a number holds.

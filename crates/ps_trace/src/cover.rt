@@ -1,10 +1,9 @@
 //! What was covered: how often each statement was done, beside the lines of the text.
 
 use crate::counts::Counts;
-use crate::lines::lines_of;
 use crate::prepared::Prepared;
-use crate::sites::{Statement, small};
-use ps_map::{Routine, readable};
+use crate::sites::Statement;
+use ps_map::{Routine, lines_of, readable, small};
 use std::alloc::{AllocError, Global};
 
 // The statements of a line, from the first of those that are left on.
@@ -14,10 +13,12 @@ fn statements_on(rest: &[Statement], line: u32) -> usize {
 
 // Whether all counts are the same one.
 fn are_same(counts: &[u64]) -> bool {
-    match counts.first() {
-        Some(first) => counts.iter().all(|count| count == first),
-        None => true,
+    for count in counts {
+        if counts.first() != Some(count) {
+            return false;
+        }
     }
+    true
 }
 
 // A count by itself.
@@ -40,19 +41,14 @@ fn counts_told(alloc: Global, counts: &[u64]) -> Result<String, AllocError> {
     let mut out = String::new(alloc);
     for (at, count) in counts.iter().enumerate() {
         let between = if at == 0 { "" } else { " " };
-        let told = format!(in alloc; "{between}{count}")?;
-        out.push_str(told.as_str())?;
+        write!(out, "{between}{count}")?;
     }
     Ok(out)
 }
 
 // The mark of a line: whether a statement on it was never done.
 fn mark_of(counts: &[u64]) -> &'static str {
-    if counts.iter().any(|count| *count == 0) {
-        "!"
-    } else {
-        "|"
-    }
+    if counts.contains(&0) { "!" } else { "|" }
 }
 
 // Adds a line with the counts of the statements on it.
@@ -60,39 +56,37 @@ fn put_line(alloc: Global, out: &mut String, line: &str, counts: &[u64]) -> Resu
     let told = counts_told(alloc, counts)?;
     let shown = told.as_str();
     let mark = mark_of(counts);
-    let told = format!(in alloc; "{shown:>12} {mark} {line}\n")?;
-    out.push_str(told.as_str())
+    write!(out, "{shown:>12} {mark} {line}\n")
 }
 
 // How many statements were never done.
-fn never_done(counts: &Counts) -> usize {
-    counts.done.iter().filter(|count| **count == 0).count()
+fn never_done(counts: &Counts) -> u64 {
+    let mut never: u64 = 0;
+    for count in counts.done.iter() {
+        if *count == 0 {
+            never = never.saturating_add(1);
+        }
+    }
+    never
 }
 
 // The last line: how many statements there are, and how many of them were never done.
-fn put_sum(alloc: Global, out: &mut String, counts: &Counts) -> Result<(), AllocError> {
+fn put_sum(out: &mut String, counts: &Counts) -> Result<(), AllocError> {
     let all = counts.done.len();
     let never = never_done(counts);
-    let told = if counts.runs == 1 {
-        format!(in alloc; "{all} statements, {never} never done\n")?
+    let runs = counts.runs;
+    if runs == 1 {
+        write!(out, "{all} statements, {never} never done\n")
     } else {
-        let runs = counts.runs;
-        format!(in alloc; "{all} statements, {never} never done in {runs} runs\n")?
-    };
-    out.push_str(told.as_str())
+        write!(out, "{all} statements, {never} never done in {runs} runs\n")
+    }
 }
 
 /// The lines of a text, each with how often the statements were done that begin on it, and in the last line how many
 /// statements there are and how many were never done. A line with a statement that was never done has a `!`.
 ///
 /// A statement without code of its own, as an empty one or `begin` with its `end`, has no count.
-pub fn coverage_report(
-    alloc: Global,
-    text: &[u8],
-    prepared: &Prepared,
-    counts: &Counts,
-) -> Result<String, AllocError> {
-    let _ = prepared;
+pub fn coverage_report(alloc: Global, text: &[u8], counts: &Counts) -> Result<String, AllocError> {
     let text = readable(alloc, text)?;
     let lines = lines_of(alloc, text.as_str())?;
     let mut out = String::new(alloc);
@@ -104,7 +98,7 @@ pub fn coverage_report(
         statements = statements.get(here..).unwrap_or(&[]);
         done = done.get(here..).unwrap_or(&[]);
     }
-    put_sum(alloc, &mut out, counts)?;
+    put_sum(&mut out, counts)?;
     Ok(out)
 }
 
@@ -118,26 +112,19 @@ fn entered(counts: &Counts, routine: &Routine) -> u64 {
 }
 
 // Adds the records of the routines.
-fn put_routines(
-    alloc: Global,
-    out: &mut String,
-    routines: &[Routine],
-    counts: &Counts,
-) -> Result<(), AllocError> {
+fn put_routines(out: &mut String, routines: &[Routine], counts: &Counts) -> Result<(), AllocError> {
     let mut hit: u64 = 0;
     for routine in routines {
         let line = routine.begin.line;
         let name = routine.name.as_str();
         let count = entered(counts, routine);
-        let told = format!(in alloc; "FN:{line},{name}\nFNDA:{count},{name}\n")?;
-        out.push_str(told.as_str())?;
+        write!(out, "FN:{line},{name}\nFNDA:{count},{name}\n")?;
         if count > 0 {
             hit = hit.saturating_add(1);
         }
     }
     let all = routines.len();
-    let told = format!(in alloc; "FNF:{all}\nFNH:{hit}\n")?;
-    out.push_str(told.as_str())
+    write!(out, "FNF:{all}\nFNH:{hit}\n")
 }
 
 // How often the statement of a line was done that was done most, where the first statement of the line is the first one.
@@ -151,7 +138,7 @@ fn most_done(statements: &[Statement], done: &[u64], line: u32) -> u64 {
 }
 
 // Adds the records of the lines that have statements.
-fn put_lines(alloc: Global, out: &mut String, counts: &Counts) -> Result<(), AllocError> {
+fn put_lines(out: &mut String, counts: &Counts) -> Result<(), AllocError> {
     let mut found: u64 = 0;
     let mut hit: u64 = 0;
     let mut line: u32 = 0;
@@ -163,15 +150,13 @@ fn put_lines(alloc: Global, out: &mut String, counts: &Counts) -> Result<(), All
         line = statement.place.line;
         let rest = statements.get(at..).unwrap_or(&[]);
         let most = most_done(rest, counts.done.get(at..).unwrap_or(&[]), line);
-        let told = format!(in alloc; "DA:{line},{most}\n")?;
-        out.push_str(told.as_str())?;
+        write!(out, "DA:{line},{most}\n")?;
         found = found.saturating_add(1);
         if most > 0 {
             hit = hit.saturating_add(1);
         }
     }
-    let told = format!(in alloc; "LF:{found}\nLH:{hit}\n")?;
-    out.push_str(told.as_str())
+    write!(out, "LF:{found}\nLH:{hit}\n")
 }
 
 /// The same in the form that `lcov` and `genhtml` read. `name` is the path of the text. A line with several statements
@@ -183,13 +168,8 @@ pub fn lcov_report(
     counts: &Counts,
 ) -> Result<String, AllocError> {
     let mut out = format!(in alloc; "TN:\nSF:{name}\n")?;
-    put_routines(
-        alloc,
-        &mut out,
-        prepared.text.map.routines.as_slice(),
-        counts,
-    )?;
-    put_lines(alloc, &mut out, counts)?;
+    put_routines(&mut out, prepared.text.map.routines.as_slice(), counts)?;
+    put_lines(&mut out, counts)?;
     out.push_str("end_of_record\n")?;
     Ok(out)
 }

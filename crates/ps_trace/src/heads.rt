@@ -3,6 +3,7 @@
 use crate::sites::Statement;
 use ps_map::{Lines, Place, readable};
 use ps_scan::{Kind, Token};
+use ps_scene::token_at;
 use ps_text::{Source, Span};
 use std::alloc::{AllocError, Global};
 
@@ -11,11 +12,6 @@ use std::alloc::{AllocError, Global};
 pub(crate) struct Head {
     pub(crate) span: Span,
     pub(crate) place: Place,
-}
-
-// The number of the token that begins at an offset or behind it.
-fn token_at(tokens: &[Token], offset: u32) -> usize {
-    tokens.partition_point(|token| token.span.from < offset)
 }
 
 // The `until` of the `repeat` at a token, whose own part begins there; any other token as it is.

@@ -1,9 +1,9 @@
 //! What stands at addresses of memory, in the words of the text.
 
-use ps_map::{Role, Variable};
-use ps_scene::{Object, Surroundings, ordinal_text, word_at};
-use ps_tree::tree::{Formal, Routine};
-use ps_tree::types::{Fields, Ordinal, Ty};
+use ps_map::{Role, Variable, small, variable_before};
+use ps_scene::{Components, Object, Surroundings, components_of, ordinal_text, type_of, word_at};
+use ps_tree::tree::Routine;
+use ps_tree::types::{Fields, Ty};
 use risc_machine::Machine;
 use std::alloc::{AllocError, Global};
 
@@ -11,7 +11,7 @@ use std::alloc::{AllocError, Global};
 const DEEP: u32 = 100;
 
 /// Bytes of memory.
-#[derive(Clone, Copy, PartialEq, Eq)]
+#[derive(Clone, Copy)]
 pub(crate) struct Stretch {
     pub(crate) from: u32,
     /// The address behind the last one.
@@ -41,35 +41,34 @@ pub(crate) struct Named<'a> {
     pub(crate) at: u32,
 }
 
-// Whether all values of an ordinal type are bytes.
-fn is_byte(ordinal: Ordinal) -> bool {
-    0 <= ordinal.low && ordinal.high <= 255
+// A variable, or a part of one: its type, and where it begins.
+#[derive(Clone, Copy)]
+struct Part<'a> {
+    ty: &'a Ty,
+    at: u32,
 }
 
-// The bytes of a component of an array; 1 of one whose components are bytes.
-fn stride(packed: bool, component: &Ty) -> u32 {
-    match component {
-        Ty::Simple(ordinal) if packed && is_byte(*ordinal) => 1,
-        _ => component.bytes(),
-    }
+// What the name of a variable begins with.
+#[derive(Clone, Copy)]
+enum Title<'a> {
+    Variable(&'a str),
+    /// An object, by its number.
+    Object(usize),
 }
 
-// The type of a routine's variable, by its number in the map; none of a procedural parameter.
-fn type_of(routine: &Routine, number: usize) -> Option<&Ty> {
-    let mut left = number;
-    if let Some(ty) = &routine.result {
-        if left == 0 {
-            return Some(ty);
-        }
-        left = left.saturating_sub(1);
-    }
-    match routine.formals.get(left) {
-        Some(Formal::Value(ty) | Formal::Variable(ty)) => Some(ty),
-        Some(Formal::Routine { .. }) => None,
-        None => routine
-            .variables
-            .get(left.saturating_sub(routine.formals.len())),
-    }
+// A variable that is part of no other, or an object.
+#[derive(Clone, Copy)]
+struct Whole<'a> {
+    title: Title<'a>,
+    part: Part<'a>,
+}
+
+// The variables of a frame, which begin at an address.
+#[derive(Clone, Copy)]
+struct Locals<'a> {
+    tree: &'a Routine,
+    variables: &'a [Variable],
+    first: u32,
 }
 
 // Whether a stretch is within so many bytes from an address on.
@@ -77,247 +76,205 @@ fn is_within(stretch: Stretch, at: u32, bytes: u32) -> bool {
     at <= stretch.from && stretch.to <= at.saturating_add(bytes)
 }
 
-// A variable as it is named.
-fn entire<'a>(
-    alloc: Global,
-    variable: &Variable,
-    ty: &'a Ty,
-    at: u32,
-) -> Result<Named<'a>, AllocError> {
-    Ok(Named {
-        name: String::from_str(alloc, variable.name.as_str())?,
-        ty,
-        at,
-    })
-}
-
-// The bytes that a frame has before its variables.
-fn bytes_before(around: &Surroundings<'_>, routine: u32) -> u32 {
-    match around.map.routines.get(routine as usize) {
-        Some(routine) => u32::try_from(routine.frame).unwrap_or(u32::MAX),
-        None => u32::MAX,
-    }
-}
-
-// A variable of a frame, by its number, if a stretch is in it.
-fn in_variable<'a>(
-    alloc: Global,
-    tree: &'a Routine,
-    variable: &Variable,
-    number: usize,
-    at: u32,
-    stretch: Stretch,
-) -> Result<Option<Named<'a>>, AllocError> {
-    match type_of(tree, number) {
-        Some(ty) if is_within(stretch, at, ty.bytes()) => {
-            Ok(Some(entire(alloc, variable, ty, at)?))
+impl<'a> Locals<'a> {
+    // A variable that is at an address, by its number, if a stretch is in it.
+    fn variable(
+        &self,
+        number: usize,
+        variable: &'a Variable,
+        at: u32,
+        stretch: Stretch,
+    ) -> Option<Whole<'a>> {
+        match type_of(self.tree, number) {
+            Some(ty) if is_within(stretch, at, ty.bytes()) => Some(Whole {
+                title: Title::Variable(variable.name.as_str()),
+                part: Part { ty, at },
+            }),
+            _ => None,
         }
-        _ => Ok(None),
     }
-}
 
-// The variable among a routine's own ones in which a stretch is. Their homes follow one another, from an address on.
-fn in_own<'a>(
-    alloc: Global,
-    tree: &'a Routine,
-    variables: &[Variable],
-    first: u32,
-    stretch: Stretch,
-) -> Result<Option<Named<'a>>, AllocError> {
-    let place = stretch.from.saturating_sub(first);
-    let behind = variables.partition_point(|variable| variable.home <= place);
-    let Some(number) = behind.checked_sub(1) else {
-        return Ok(None);
-    };
-    match variables.get(number) {
-        Some(variable) if variable.role != Role::Reference => {
-            let at = first.saturating_add(variable.home);
-            in_variable(alloc, tree, variable, number, at, stretch)
+    // The variable among the routine's own ones in which a stretch is.
+    fn own(&self, stretch: Stretch) -> Option<Whole<'a>> {
+        let place = stretch.from.saturating_sub(self.first);
+        let Some(number) = variable_before(self.variables, place) else {
+            return None;
+        };
+        match self.variables.get(number) {
+            Some(variable) if !matches!(variable.role, Role::Reference) => {
+                let at = self.first.saturating_add(variable.home);
+                self.variable(number, variable, at, stretch)
+            }
+            _ => None,
         }
-        _ => Ok(None),
     }
-}
 
-// The variable in which a stretch is among those that a routine's parameters refer to.
-fn in_referred<'a>(
-    alloc: Global,
-    tree: &'a Routine,
-    machine: &Machine,
-    variables: &[Variable],
-    first: u32,
-    stretch: Stretch,
-) -> Result<Option<Named<'a>>, AllocError> {
-    let count = tree.formals.len().saturating_add(1);
-    for (number, variable) in variables.iter().enumerate().take(count) {
-        let home = first.saturating_add(variable.home);
-        if let (Role::Reference, Some(at)) = (variable.role, word_at(machine, home)) {
-            let found = in_variable(alloc, tree, variable, number, at, stretch)?;
-            if found.is_some() {
-                return Ok(found);
+    // The variable in which a stretch is among those that the routine's parameters refer to.
+    fn referred(&self, machine: &Machine, stretch: Stretch) -> Option<Whole<'a>> {
+        let count = self.tree.formals.len().saturating_add(1);
+        for (number, variable) in self.variables.iter().enumerate().take(count) {
+            let home = self.first.saturating_add(variable.home);
+            if let (Role::Reference, Some(at)) = (variable.role, word_at(machine, home)) {
+                let found = self.variable(number, variable, at, stretch);
+                if found.is_some() {
+                    return found;
+                }
             }
         }
+        None
     }
-    Ok(None)
 }
 
 // The variable of a frame in which a stretch is, one that is referred to among them.
 fn in_frame<'a>(
-    alloc: Global,
     around: &Surroundings<'a>,
     machine: &Machine,
     frame: Frame,
     stretch: Stretch,
-) -> Result<Option<Named<'a>>, AllocError> {
+) -> Option<Whole<'a>> {
     let number = frame.routine as usize;
     let (Some(told), Some(tree)) = (
         around.map.routines.get(number),
         around.checked.routines().get(number),
     ) else {
-        return Ok(None);
+        return None;
     };
-    let first = frame.at.saturating_add(bytes_before(around, frame.routine));
-    let variables = told.variables.as_slice();
-    let found = in_referred(alloc, tree, machine, variables, first, stretch)?;
-    if found.is_some() {
-        return Ok(found);
-    }
-    in_own(alloc, tree, variables, first, stretch)
+    let locals = Locals {
+        tree,
+        variables: told.variables.as_slice(),
+        first: frame.at.saturating_add(told.frame),
+    };
+    locals.referred(machine, stretch).or(locals.own(stretch))
 }
 
-// The last of so many objects.
-fn last_of(objects: &[Object], count: usize) -> Option<Object> {
-    match count.checked_sub(1) {
-        Some(last) => objects.get(last).copied(),
-        None => None,
-    }
-}
-
-// The object in which a stretch is.
+// The object in which a stretch is. Their numbers are in the order of their addresses.
 fn in_objects<'a>(
-    alloc: Global,
     around: &Surroundings<'a>,
     objects: &[Object],
     stretch: Stretch,
-) -> Result<Option<Named<'a>>, AllocError> {
+) -> Option<Whole<'a>> {
     let number = objects.partition_point(|object| object.address <= stretch.from);
-    let Some(object) = last_of(objects, number) else {
-        return Ok(None);
+    let Some(last) = number.checked_sub(1) else {
+        return None;
+    };
+    let Some(object) = objects.get(last) else {
+        return None;
     };
     match around.checked.domains().get(object.pointer as usize) {
-        Some(ty) if is_within(stretch, object.address, ty.bytes()) => Ok(Some(Named {
-            name: format!(in alloc; "object {number}")?,
-            ty,
-            at: object.address,
-        })),
-        _ => Ok(None),
+        Some(ty) if is_within(stretch, object.address, ty.bytes()) => Some(Whole {
+            title: Title::Object(number),
+            part: Part {
+                ty,
+                at: object.address,
+            },
+        }),
+        _ => None,
     }
 }
 
 // The variable or the object in which a stretch is.
-fn whole<'a>(
-    alloc: Global,
+fn outermost<'a>(
     around: &Surroundings<'a>,
     machine: &Machine,
     frames: Frames,
     objects: &[Object],
     stretch: Stretch,
-) -> Result<Option<Named<'a>>, AllocError> {
+) -> Option<Whole<'a>> {
     if let Some(innermost) = frames.innermost {
-        let found = in_frame(alloc, around, machine, innermost, stretch)?;
+        let found = in_frame(around, machine, innermost, stretch);
         if found.is_some() {
-            return Ok(found);
+            return found;
         }
     }
     match frames.holder {
-        Some(frame) => in_frame(alloc, around, machine, frame, stretch),
-        None => in_objects(alloc, around, objects, stretch),
+        Some(frame) => in_frame(around, machine, frame, stretch),
+        None => in_objects(around, objects, stretch),
     }
 }
 
-// The component of an array in which a stretch is, if it is in one alone.
+// The number of the component of an array in which a stretch is, if it is in one alone.
+fn number_in(components: Components<'_>, array: u32, stretch: Stretch) -> Option<u32> {
+    let distance = stretch.from.saturating_sub(array);
+    let Some(number) = distance.checked_div(components.bytes) else {
+        return None;
+    };
+    let at = component_at(components, array, number);
+    if is_within(stretch, at, components.bytes) {
+        Some(number)
+    } else {
+        None
+    }
+}
+
+// Where a component of an array begins.
+fn component_at(components: Components<'_>, array: u32, number: u32) -> u32 {
+    array.saturating_add(number.saturating_mul(components.bytes))
+}
+
+// The component of an array in which a stretch is, if it is in one alone. Its index is added to the name.
 fn element<'a>(
     alloc: Global,
     around: &Surroundings<'a>,
-    outer: Named<'a>,
+    name: &mut String,
+    components: Components<'a>,
+    array: u32,
     stretch: Stretch,
-    index: Ordinal,
-    component: &'a Ty,
-    bytes: u32,
-) -> Result<(Named<'a>, bool), AllocError> {
-    let distance = stretch.from.saturating_sub(outer.at);
-    let number = match distance.checked_div(bytes) {
-        Some(number) => number,
-        None => return Ok((outer, false)),
+) -> Result<Option<Part<'a>>, AllocError> {
+    let Some(number) = number_in(components, array, stretch) else {
+        return Ok(None);
     };
-    let at = outer.at.saturating_add(number.saturating_mul(bytes));
-    if !is_within(stretch, at, bytes) {
-        return Ok((outer, false));
-    }
+    let Components {
+        index,
+        ty,
+        bytes: _,
+    } = components;
     let value = i64::from(index.low).saturating_add(i64::from(number));
     let told = ordinal_text(alloc, around, index.host, value)?;
-    let (name, told) = (outer.name.as_str(), told.as_str());
-    let inner = Named {
-        name: format!(in alloc; "{name}[{told}]")?,
-        ty: component,
-        at,
-    };
-    Ok((inner, true))
+    let told = told.as_str();
+    write!(name, "[{told}]")?;
+    Ok(Some(Part {
+        ty,
+        at: component_at(components, array, number),
+    }))
 }
 
-// The number of the field of a record in which a stretch is, with its offset.
-fn field_of(fields: &Fields, at: u32, stretch: Stretch) -> Option<(usize, u32)> {
+// The field of a record in which a stretch is, if it is in one alone, with its number.
+fn field_of(fields: &Fields, record: u32, stretch: Stretch) -> Option<(usize, Part<'_>)> {
     for (number, ty) in fields.types().iter().enumerate() {
-        let offset = fields.offset(u32::try_from(number).unwrap_or(u32::MAX));
-        if is_within(stretch, at.saturating_add(offset), ty.bytes()) {
-            return Some((number, offset));
+        let at = record.saturating_add(fields.offset(small(number)));
+        if is_within(stretch, at, ty.bytes()) {
+            return Some((number, Part { ty, at }));
         }
     }
     None
 }
 
-// The field of a record in which a stretch is, if it is in one alone.
-fn field<'a>(
-    alloc: Global,
-    around: &Surroundings<'a>,
-    outer: Named<'a>,
-    stretch: Stretch,
-    denoter: u32,
-    fields: &'a Fields,
-) -> Result<(Named<'a>, bool), AllocError> {
-    let Some((number, offset)) = field_of(fields, outer.at, stretch) else {
-        return Ok((outer, false));
-    };
-    let Some(ty) = fields.types().get(number) else {
-        return Ok((outer, false));
-    };
-    let (name, told) = (outer.name.as_str(), around.field(denoter, number));
-    let inner = Named {
-        name: format!(in alloc; "{name}.{told}")?,
-        ty,
-        at: outer.at.saturating_add(offset),
-    };
-    Ok((inner, true))
-}
-
-// The component in which a stretch is, if it is in one alone, and whether there is one.
+// The component in which a stretch is, if it is in one alone. What it is called is added to the name.
 fn component<'a>(
     alloc: Global,
     around: &Surroundings<'a>,
-    outer: Named<'a>,
+    name: &mut String,
+    outer: Part<'a>,
     stretch: Stretch,
-) -> Result<(Named<'a>, bool), AllocError> {
-    match outer.ty {
-        Ty::Array {
-            packed,
-            index,
-            component,
-            ..
-        } => {
-            let bytes = stride(*packed, component.ty());
-            element(alloc, around, outer, stretch, *index, component.ty(), bytes)
-        }
-        Ty::Record { at, fields, .. } => field(alloc, around, outer, stretch, *at, fields),
-        _ => Ok((outer, false)),
+) -> Result<Option<Part<'a>>, AllocError> {
+    if let Some(components) = components_of(outer.ty) {
+        return element(alloc, around, name, components, outer.at, stretch);
+    }
+    let Ty::Record { at, fields, .. } = outer.ty else {
+        return Ok(None);
+    };
+    let Some((number, inner)) = field_of(fields, outer.at, stretch) else {
+        return Ok(None);
+    };
+    let told = around.field(*at, number);
+    write!(name, ".{told}")?;
+    Ok(Some(inner))
+}
+
+fn title_told(alloc: Global, title: Title<'_>) -> Result<String, AllocError> {
+    match title {
+        Title::Variable(name) => String::from_str(alloc, name),
+        Title::Object(number) => format!(in alloc; "object {number}"),
     }
 }
 
@@ -330,16 +287,17 @@ pub(crate) fn found_at<'a>(
     objects: &[Object],
     stretch: Stretch,
 ) -> Result<Option<Named<'a>>, AllocError> {
-    let Some(found) = whole(alloc, around, machine, frames, objects, stretch)? else {
+    let Some(found) = outermost(around, machine, frames, objects, stretch) else {
         return Ok(None);
     };
-    let mut least = found;
+    let mut name = title_told(alloc, found.title)?;
+    let mut least = found.part;
     for _ in 0..DEEP {
-        let (inner, is_less) = component(alloc, around, least, stretch)?;
-        least = inner;
-        if !is_less {
-            break;
+        match component(alloc, around, &mut name, least, stretch)? {
+            Some(inner) => least = inner,
+            None => break,
         }
     }
-    Ok(Some(least))
+    let Part { ty, at } = least;
+    Ok(Some(Named { name, ty, at }))
 }

@@ -1,9 +1,8 @@
 //! Where the steps of runs went.
 
 use crate::counts::Counts;
-use crate::lines::{line_at, lines_of, share_told};
 use crate::prepared::Prepared;
-use ps_map::{Map, Owner, Row, readable, run_time_description};
+use ps_map::{Map, Owner, Row, line_at, lines_of, readable, run_time_description, small};
 use std::alloc::{AllocError, Global};
 
 // Steps of a routine, or of a line, by its number.
@@ -31,9 +30,7 @@ fn name_of<'a>(map: &'a Map, number: usize) -> &'a str {
     };
     match map.routines.get(routine) {
         Some(routine) => routine.name.as_str(),
-        None => run_time_description(u32::try_from(routine.saturating_sub(
-            map.routines.len(),
-        )).unwrap_or(u32::MAX)),
+        None => run_time_description(small(routine.saturating_sub(map.routines.len()))),
     }
 }
 
@@ -117,6 +114,14 @@ fn ranked(alloc: Global, steps: &[u64]) -> Result<Vec<Part>, AllocError> {
     Ok(parts)
 }
 
+// A share of a whole in percent, with one digit behind the point.
+fn share_told(alloc: Global, part: u64, whole: u64) -> Result<String, AllocError> {
+    let thousandths = part.saturating_mul(1000).checked_div(whole).unwrap_or(0);
+    let units = thousandths / 10;
+    let tenths = thousandths % 10;
+    format!(in alloc; "{units}.{tenths}")
+}
+
 // Adds a line with steps and their share.
 fn put_part(
     alloc: Global,
@@ -127,8 +132,7 @@ fn put_part(
 ) -> Result<(), AllocError> {
     let share = share_told(alloc, steps, all)?;
     let share = share.as_str();
-    let told = format!(in alloc; "{steps:>14} {share:>6}  {name}\n")?;
-    out.push_str(told.as_str())
+    write!(out, "{steps:>14} {share:>6}  {name}\n")
 }
 
 // Adds the lines of the routines.
@@ -163,7 +167,7 @@ fn put_lines(
     let lines = lines_of(alloc, text.as_str())?;
     let steps = by_line(alloc, map, counts)?;
     for part in ranked(alloc, steps.as_slice())?.iter() {
-        let number = u32::try_from(part.number).unwrap_or(u32::MAX);
+        let number = small(part.number);
         let line = line_at(lines.as_slice(), number);
         let told = format!(in alloc; "{number:>5}  {line}")?;
         put_part(alloc, out, part.steps, counts.steps, told.as_str())?;

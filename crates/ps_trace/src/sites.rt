@@ -1,6 +1,6 @@
 //! Which statement each word of the code is of, and where statements begin.
 
-use ps_map::{Map, Owner, Place, Row};
+use ps_map::{Map, Owner, Place, Row, small};
 use std::alloc::{AllocError, Global};
 
 /// A word of the code.
@@ -35,11 +35,6 @@ pub(crate) struct Sites {
     pub(crate) statements: Vec<Statement>,
 }
 
-// A count as a number of 32 bits.
-pub(crate) fn small(count: usize) -> u32 {
-    u32::try_from(count).unwrap_or(u32::MAX)
-}
-
 // A place as a number, in the order of the text.
 fn key_of(place: Place) -> u64 {
     (u64::from(place.line) << 32) | u64::from(place.column)
@@ -54,19 +49,14 @@ fn place_of(key: u64) -> Place {
 
 // The places of all statements that have words, in the order of the text, each once.
 fn keys_of(alloc: Global, rows: &[Row]) -> Result<Vec<u64>, AllocError> {
-    let mut all = Vec::new(alloc);
+    let mut keys = Vec::new(alloc);
     for row in rows {
         if let Some(place) = row.statement {
-            all.push(key_of(place))?;
+            keys.push(key_of(place))?;
         }
     }
-    all.sort()?;
-    let mut keys: Vec<u64> = Vec::new(alloc);
-    for key in all.iter() {
-        if keys.last() != Some(key) {
-            keys.push(*key)?;
-        }
-    }
+    keys.sort()?;
+    keys.dedup();
     Ok(keys)
 }
 

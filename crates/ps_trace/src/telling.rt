@@ -44,46 +44,36 @@ fn put_byte(out: &mut String, byte: u8) -> Result<(), AllocError> {
 
 // ---- for people
 
-// Adds a character that isn't shown by its number.
-fn put_number(alloc: Global, out: &mut String, byte: u8) -> Result<(), AllocError> {
-    let told = format!(in alloc; "chr({byte})")?;
-    out.push_str(told.as_str())
+// What stands before a byte, where the byte before it was within quotes or not, and it is itself.
+fn between(is_first: bool, was_quoted: bool, is_quoted: bool) -> &'static str {
+    match (was_quoted, is_quoted) {
+        (true, true) => "",
+        (true, false) => "', ",
+        (false, true) => if is_first { "'" } else { ", '" },
+        (false, false) => if is_first { "" } else { ", " },
+    }
 }
 
-// What a byte is in a line for people, where the byte before it was within quotes or not; gives whether it is.
-fn put_told(
-    alloc: Global,
-    out: &mut String,
-    byte: u8,
-    is_first: bool,
-    is_quoted: bool,
-) -> Result<bool, AllocError> {
-    let is_text = is_shown(byte);
-    if is_quoted && !is_text {
-        out.push_str("'")?;
-    }
-    if !is_first && !(is_quoted && is_text) {
-        out.push_str(", ")?;
-    }
-    if is_text && !is_quoted {
-        out.push_str("'")?;
-    }
+// Adds a byte to a line for people; one that isn't shown by its number.
+fn put_told(out: &mut String, byte: u8) -> Result<(), AllocError> {
     match byte {
-        b'\n' => out.push_str("end of line")?,
-        b'\'' => out.push_str("''")?,
-        _ if is_text => put_byte(out, byte)?,
-        _ => put_number(alloc, out, byte)?,
+        b'\n' => out.push_str("end of line"),
+        b'\'' => out.push_str("''"),
+        _ if is_shown(byte) => put_byte(out, byte),
+        _ => write!(out, "chr({byte})"),
     }
-    Ok(is_text)
 }
 
 // Adds bytes as a list of strings, of ends of lines and of characters that aren't shown.
-fn put_bytes(alloc: Global, out: &mut String, bytes: &[u8]) -> Result<(), AllocError> {
-    let mut is_quoted = false;
+fn put_bytes(out: &mut String, bytes: &[u8]) -> Result<(), AllocError> {
+    let mut was_quoted = false;
     for (at, byte) in bytes.iter().enumerate() {
-        is_quoted = put_told(alloc, out, *byte, at == 0, is_quoted)?;
+        let is_quoted = is_shown(*byte);
+        out.push_str(between(at == 0, was_quoted, is_quoted))?;
+        put_told(out, *byte)?;
+        was_quoted = is_quoted;
     }
-    if is_quoted {
+    if was_quoted {
         out.push_str("'")?;
     }
     Ok(())
@@ -104,8 +94,7 @@ fn put_head(out: &mut String, head: &str) -> Result<(), AllocError> {
 fn front_told(alloc: Global, done: &Done<'_>) -> Result<String, AllocError> {
     let mut out = String::new(alloc);
     let (line, routine) = (done.line, done.routine);
-    let told = format!(in alloc; "{line:>5} {routine:<10} ")?;
-    out.push_str(told.as_str())?;
+    write!(out, "{line:>5} {routine:<10} ")?;
     for _ in 0..done.depth.min(MOST_CALLS) {
         out.push_str("  ")?;
     }
@@ -126,33 +115,32 @@ fn put_between(out: &mut String) -> Result<(), AllocError> {
 fn put_changes(out: &mut String, changes: &[Change]) -> Result<(), AllocError> {
     for change in changes {
         put_between(out)?;
-        out.push_str(change.name.as_str())?;
-        out.push_str(" = ")?;
-        out.push_str(change.value.as_str())?;
+        let (name, value) = (change.name.as_str(), change.value.as_str());
+        write!(out, "{name} = {value}")?;
     }
     Ok(())
 }
 
 // Adds what was written or read.
-fn put_passed(alloc: Global, out: &mut String, verb: &str, bytes: &[u8]) -> Result<(), AllocError> {
+fn put_passed(out: &mut String, verb: &str, bytes: &[u8]) -> Result<(), AllocError> {
     if bytes.is_empty() {
         return Ok(());
     }
     put_between(out)?;
     out.push_str(verb)?;
-    put_bytes(alloc, out, bytes)
+    put_bytes(out, bytes)
 }
 
 /// A line for people, with its end.
 pub(crate) fn told(alloc: Global, done: &Done<'_>) -> Result<String, AllocError> {
     let mut notes = String::new(alloc);
-    put_passed(alloc, &mut notes, "reads ", done.taken)?;
+    put_passed(&mut notes, "reads ", done.taken)?;
     if done.at_end {
         put_between(&mut notes)?;
         notes.push_str("meets the end of the input")?;
     }
     put_changes(&mut notes, done.changes.as_slice())?;
-    put_passed(alloc, &mut notes, "writes ", done.written)?;
+    put_passed(&mut notes, "writes ", done.written)?;
     let front = front_told(alloc, done)?;
     let (front, notes) = (front.as_str(), notes.as_str());
     if notes.is_empty() {
@@ -164,36 +152,30 @@ pub(crate) fn told(alloc: Global, done: &Done<'_>) -> Result<String, AllocError>
 
 // ---- as JSON
 
-// Adds a byte by its number.
-fn put_code(alloc: Global, out: &mut String, byte: u8) -> Result<(), AllocError> {
-    let told = format!(in alloc; "\\u{byte:04x}")?;
-    out.push_str(told.as_str())
-}
-
 // Adds a byte of a string.
-fn put_escaped(alloc: Global, out: &mut String, byte: u8) -> Result<(), AllocError> {
+fn put_escaped(out: &mut String, byte: u8) -> Result<(), AllocError> {
     match byte {
         b'"' => out.push_str("\\\""),
         b'\\' => out.push_str("\\\\"),
         b'\n' => out.push_str("\\n"),
         _ if is_shown(byte) => put_byte(out, byte),
-        _ => put_code(alloc, out, byte),
+        _ => write!(out, "\\u{byte:04x}"),
     }
 }
 
 // Adds bytes as a string, each as the character with its number.
-fn put_string(alloc: Global, out: &mut String, bytes: &[u8]) -> Result<(), AllocError> {
+fn put_string(out: &mut String, bytes: &[u8]) -> Result<(), AllocError> {
     out.push_str("\"")?;
     for byte in bytes {
-        put_escaped(alloc, out, *byte)?;
+        put_escaped(out, *byte)?;
     }
     out.push_str("\"")
 }
 
 // Adds a character of a text; in a string of JSON only three kinds may not stand as they are.
-fn put_character(alloc: Global, out: &mut String, character: char) -> Result<(), AllocError> {
+fn put_character(out: &mut String, character: char) -> Result<(), AllocError> {
     match u8::try_from(u32::from(character)) {
-        Ok(byte) if byte < 127 => put_escaped(alloc, out, byte),
+        Ok(byte) if byte < 127 => put_escaped(out, byte),
         _ => {
             out.push(character)?;
             Ok(())
@@ -202,21 +184,21 @@ fn put_character(alloc: Global, out: &mut String, character: char) -> Result<(),
 }
 
 // Adds a text as a string.
-fn put_text(alloc: Global, out: &mut String, text: &str) -> Result<(), AllocError> {
+fn put_text(out: &mut String, text: &str) -> Result<(), AllocError> {
     out.push_str("\"")?;
     for character in text.chars() {
-        put_character(alloc, out, character)?;
+        put_character(out, character)?;
     }
     out.push_str("\"")
 }
 
 // Adds the variables that were changed.
-fn put_changed(alloc: Global, out: &mut String, changes: &[Change]) -> Result<(), AllocError> {
+fn put_changed(out: &mut String, changes: &[Change]) -> Result<(), AllocError> {
     for (at, change) in changes.iter().enumerate() {
         out.push_str(if at == 0 { "{\"name\":" } else { ",{\"name\":" })?;
-        put_text(alloc, out, change.name.as_str())?;
+        put_text(out, change.name.as_str())?;
         out.push_str(",\"value\":")?;
-        put_text(alloc, out, change.value.as_str())?;
+        put_text(out, change.value.as_str())?;
         out.push_str("}")?;
     }
     Ok(())
@@ -226,18 +208,16 @@ fn put_changed(alloc: Global, out: &mut String, changes: &[Change]) -> Result<()
 pub(crate) fn object_told(alloc: Global, done: &Done<'_>) -> Result<String, AllocError> {
     let (line, column, depth, steps) = (done.line, done.column, done.depth, done.steps);
     let mut out = format!(in alloc; "{{\"line\":{line},\"column\":{column},\"routine\":")?;
-    put_text(alloc, &mut out, done.routine)?;
-    let told = format!(in alloc; ",\"depth\":{depth},\"steps\":{steps},\"statement\":")?;
-    out.push_str(told.as_str())?;
-    put_text(alloc, &mut out, done.head.as_str())?;
+    put_text(&mut out, done.routine)?;
+    write!(out, ",\"depth\":{depth},\"steps\":{steps},\"statement\":")?;
+    put_text(&mut out, done.head.as_str())?;
     out.push_str(",\"changed\":[")?;
-    put_changed(alloc, &mut out, done.changes.as_slice())?;
+    put_changed(&mut out, done.changes.as_slice())?;
     out.push_str("],\"written\":")?;
-    put_string(alloc, &mut out, done.written)?;
+    put_string(&mut out, done.written)?;
     out.push_str(",\"read\":")?;
-    put_string(alloc, &mut out, done.taken)?;
+    put_string(&mut out, done.taken)?;
     let at_end = done.at_end;
-    let told = format!(in alloc; ",\"at_end\":{at_end}}}\n")?;
-    out.push_str(told.as_str())?;
+    write!(out, ",\"at_end\":{at_end}}}\n")?;
     Ok(out)
 }

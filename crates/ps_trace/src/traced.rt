@@ -20,8 +20,17 @@ use ps_text::Source;
 use risc_image::ImageView;
 use std::alloc::{AllocError, Global};
 
+/// Which statements of which program are told.
+#[derive(Clone, Copy)]
+pub struct Tracing<'a> {
+    /// The text that the program was built of.
+    pub text: &'a [u8],
+    pub prepared: &'a Prepared,
+    pub choice: Choice<'a>,
+}
+
 /// How a run ended that was traced.
-#[derive(Clone, Copy, Debug)]
+#[derive(Clone, Copy)]
 pub struct Traced {
     /// `None` where a fault at a pause ended the run.
     pub outcome: Option<Outcome>,
@@ -34,13 +43,12 @@ fn tracer_of<'a, T: Teller + Drop>(
     alloc: Global,
     source: &'a Source<'a>,
     tokens: &'a [Token],
-    prepared: &'a Prepared,
+    tracing: Tracing<'a>,
     image: &ImageView<'_>,
-    choice: Choice<'a>,
     teller: T,
 ) -> Result<Tracer<'a, T>, AllocError> {
-    let map = &prepared.text.map;
-    let sites = sites_of(alloc, map, image.words())?;
+    let text = &tracing.prepared.text;
+    let sites = sites_of(alloc, &text.map, image.words())?;
     let heads = heads_of(alloc, source, tokens, sites.statements.as_slice())?;
     let accesses = accesses_of(alloc, image)?;
     Ok(Tracer {
@@ -48,13 +56,13 @@ fn tracer_of<'a, T: Teller + Drop>(
         around: Surroundings {
             source,
             tokens,
-            checked: &prepared.text.mapped.checked,
-            map,
+            checked: &text.mapped.checked,
+            map: &text.map,
         },
         sites,
         accesses,
         heads,
-        choice,
+        choice: tracing.choice,
         teller,
         notes: Notes::new(alloc),
     })
@@ -109,31 +117,29 @@ fn run_followed<C: Paced, T: Teller + Drop>(
 /// Those of `run_image_in_slices`.
 pub fn run_traced<C: Paced, T: Teller + Drop>(
     alloc: Global,
-    text: &[u8],
-    prepared: &Prepared,
-    choice: Choice<'_>,
+    tracing: Tracing<'_>,
     teller: T,
     budget: Budget,
     console: &mut C,
     max_steps: u64,
 ) -> Result<Traced, Refusal>
     ensures runs { IfOk result (λ traced. IfSome traced.outcome
-        (RunsImage prepared.now.text.mapped.built budget max_steps (C.world console.old) (C.world console.new))) }
+        (RunsImage tracing.entry.prepared.now.text.mapped.built budget max_steps (C.world console.old) (C.world console.new))) }
     ensures left { IfOk result (λ traced. IfNone traced.outcome
-        (IsImageLeft prepared.now.text.mapped.built budget max_steps (C.world console.old) (C.world console.new))) }
+        (IsImageLeft tracing.entry.prepared.now.text.mapped.built budget max_steps (C.world console.old) (C.world console.new))) }
     ensures failed { IfOk result (λ traced. IfNone traced.outcome (C.has_failed console.new ≡ true)) }
-    ensures refused { IfErr result (λ refusal. IsRefused text.now refusal
-        ⊎ IsRunRefused prepared.now.text.mapped.built budget refusal
+    ensures refused { IfErr result (λ refusal. IsRefused tracing.entry.text.now refusal
+        ⊎ IsRunRefused tracing.entry.prepared.now.text.mapped.built budget refusal
         ⊎ (refusal ≡ OutOfMemory)) }
     ensures unchanged { OnErr result (C.world console.new ≡ C.world console.old) }
 {
-    let bytes = prepared.text.mapped.built.bytes();
-    let (source, tokens) = scanned(alloc, text)?;
+    let bytes = tracing.prepared.text.mapped.built.bytes();
+    let (source, tokens) = scanned(alloc, tracing.text)?;
     let view = match ImageView::read(bytes) {
         Ok(view) => view,
         Err(refusal) => return Err(Refusal::from(refusal)),
     };
-    match tracer_of(alloc, &source, &tokens, prepared, &view, choice, teller) {
+    match tracer_of(alloc, &source, &tokens, tracing, &view, teller) {
         Ok(tracer) => run_followed(alloc, bytes, tracer, budget, console, max_steps),
         Err(_) => Err(Refusal::OutOfMemory),
     }

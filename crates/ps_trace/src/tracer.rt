@@ -1,13 +1,14 @@
 //! What follows a run statement by statement.
 
-use crate::accesses::{Access, Event, content_of, event_at};
+use crate::accesses::{Event, content_of, event_at};
 use crate::heads::{Head, head_told};
 use crate::naming::{Frame, Frames, Named, Stretch, found_at};
 use crate::notes::{Act, Notes};
 use crate::sites::{Site, Sites, Statement};
 use crate::telling::{Change, Done, object_told, told};
 use crate::watch::Watch;
-use ps_scene::{Length, Object, Surroundings, value_at, word_at};
+use ps_map::Access;
+use ps_scene::{Object, Surroundings, value_at, word_at};
 use ps_tree::types::Ty;
 use risc_machine::{Machine, Stop};
 use std::alloc::{AllocError, Global};
@@ -167,36 +168,39 @@ impl<'a, T: Teller> Tracer<'a, T> {
     fn changes(&mut self, machine: &Machine, act: Act) -> Result<Vec<Change>, AllocError> {
         let mut changes: Vec<Change> = Vec::new(self.alloc);
         for at in act.stores..self.notes.stores.len() {
-            let Some(stretch) = self.notes.stores.get(at).copied() else {
-                break;
-            };
-            if let Some(found) = self.found(machine, stretch)? {
-                if changes.len() < MOST_CHANGES
-                    && !self.notes.is_fresh(found.at)
-                    && !is_told(changes.as_slice(), &found)
-                {
-                    changes.push(self.change(machine, found)?)?;
+            match self.notes.stores.get(at).copied() {
+                Some(stretch) if changes.len() < MOST_CHANGES => {
+                    self.add_change(machine, stretch, &mut changes)?;
                 }
+                _ => break,
             }
         }
         Ok(changes)
     }
 
-    // A variable with its value.
-    fn change(&mut self, machine: &Machine, found: Named<'_>) -> Result<Change, AllocError> {
+    // Adds the variable in a stretch of memory, unless it was told already.
+    fn add_change(
+        &mut self,
+        machine: &Machine,
+        stretch: Stretch,
+        changes: &mut Vec<Change>,
+    ) -> Result<(), AllocError> {
+        let Some(Named { name, ty, at }) = self.found(machine, stretch)? else {
+            return Ok(());
+        };
+        if self.notes.is_fresh(at) || is_told(changes.as_slice(), name.as_str()) {
+            return Ok(());
+        }
         let value = value_at(
             self.alloc,
             &self.around,
             machine,
-            found.ty,
-            found.at,
-            Length::Short,
+            ty,
+            at,
             &mut self.notes.objects,
         )?;
-        Ok(Change {
-            name: found.name,
-            value,
-        })
+        changes.push(Change { name, value })?;
+        Ok(())
     }
 
     // The line of an act.
@@ -363,10 +367,13 @@ impl<'a, T: Teller> Tracer<'a, T> {
 }
 
 // Whether a variable is told already.
-fn is_told(changes: &[Change], found: &Named<'_>) -> bool {
-    changes
-        .iter()
-        .any(|change| change.name.as_str() == found.name.as_str())
+fn is_told(changes: &[Change], name: &str) -> bool {
+    for change in changes {
+        if change.name.as_str() == name {
+            return true;
+        }
+    }
+    false
 }
 
 impl<'a, T: Teller> Watch for Tracer<'a, T> {

@@ -31,7 +31,7 @@ const PROGRAM_IS_NEW: u32 = 0x0D00_000C;
 const FRAME_IS_NEW: u32 = 0x0E00_000C;
 
 /// What a run took.
-#[derive(Clone, Copy, PartialEq, Eq, Debug)]
+#[derive(Clone, Copy)]
 pub struct Usage {
     /// The steps that were made, the one at which the run stopped among them.
     pub steps: u64,

@@ -1,6 +1,5 @@
 //! Accounts of runs.
 
-use crate::filling::put_number;
 use crate::loops::{Loop, Loops};
 use crate::sentences::{CUT, Sizes, found_told, heap, step_told, words_of};
 use crate::targets::{host_indexed, host_ranged, step_at};
@@ -11,7 +10,7 @@ use ps_map::{Lines, Map, Place};
 use ps_map_maker::map_of;
 use ps_parse::{parse, release};
 use ps_scan::{Token, scan};
-use ps_scene::{Found, Length, Scene, Surroundings, copy_of, found_at, scene_of, word_at};
+use ps_scene::{Found, Length, Scene, Surroundings, found_at, scene_of, word_at};
 use ps_syntax::Program;
 use ps_text::Source;
 use ps_tree::program::Checked;
@@ -20,11 +19,6 @@ use risc_image::ImageView;
 use risc_machine::{Machine, Stop};
 use std::alloc::{AllocError, Global};
 
-// As many of the innermost open calls are told.
-const FEW_CALLS: usize = 8;
-
-const MANY_CALLS: usize = 1_000;
-
 // Where the program block's frame has the heap's next address.
 const HEAP_NEXT: u32 = 272;
 
@@ -32,7 +26,7 @@ const HEAP_NEXT: u32 = 272;
 const PROGRAM: u8 = 13;
 
 /// How a run ended.
-#[derive(Clone, Copy, PartialEq, Eq, Debug)]
+#[derive(Clone, Copy)]
 pub enum Ending {
     Normal,
     /// An error of the language.
@@ -52,7 +46,7 @@ pub enum Ending {
 }
 
 /// What is told of a run that ended.
-#[derive(Drop, Debug)]
+#[derive(Drop)]
 pub struct Account {
     pub ending: Ending,
     /// The number of an error, 1 to 11, or of a stop, 12 or 13.
@@ -119,14 +113,6 @@ fn number_of(ended: &Ended) -> Option<u32> {
     }
 }
 
-// How many calls are told.
-fn most_calls(length: Length) -> usize {
-    match length {
-        Length::Short => FEW_CALLS,
-        Length::All => MANY_CALLS,
-    }
-}
-
 // What the values are of which an error is told at a token.
 fn host_at(outline: &Outline<'_>, number: u32, at: Place, lines: &Lines) -> Host {
     let token = outline.token_at(lines.offset_of(at));
@@ -166,7 +152,6 @@ fn taken(image: &ImageView<'_>, machine: &Machine) -> Option<u32> {
 fn plain_text(ending: Ending) -> &'static str {
     match ending {
         Ending::Normal => "ended normally",
-        Ending::Steps => "stopped after",
         Ending::Input => "input fault",
         Ending::Output => "output fault",
         _ => "machine fault",
@@ -175,11 +160,8 @@ fn plain_text(ending: Ending) -> &'static str {
 
 // The steps that were used up, in a sentence.
 fn steps_text(alloc: Global, steps: u64) -> Result<String, AllocError> {
-    let mut out = copy_of(alloc, plain_text(Ending::Steps))?;
-    out.push_str(" ")?;
-    put_number(alloc, &mut out, i64::try_from(steps).unwrap_or(i64::MAX))?;
-    out.push_str(" steps")?;
-    Ok(out)
+    let steps = i64::try_from(steps).unwrap_or(i64::MAX);
+    format!(in alloc; "stopped after {steps} steps")
 }
 
 // The sentence of an ending, without a value.
@@ -192,14 +174,14 @@ fn text_of<'a>(
     facts: Facts,
 ) -> Result<String, AllocError> {
     match facts.ending {
-        Ending::Error => copy_of(alloc, words_of(facts.number.unwrap_or(0))),
+        Ending::Error => String::from_str(alloc, words_of(facts.number.unwrap_or(0))),
         Ending::Stack => {
             let sizes = Sizes { alloc, map, image };
             sizes.stack(scene)
         }
         Ending::Heap => heap(alloc, taken(image, machine)),
         Ending::Steps => steps_text(alloc, facts.steps),
-        ending => copy_of(alloc, plain_text(ending)),
+        ending => String::from_str(alloc, plain_text(ending)),
     }
 }
 
@@ -212,8 +194,7 @@ fn account_of_image(
     facts: Facts,
 ) -> Result<Account, AllocError> {
     let stop = facts.stop.unwrap_or(Stop::Steps);
-    let most = most_calls(facts.length);
-    let scene = scene_of(alloc, around, image, machine, stop, most, facts.length)?;
+    let scene = scene_of(alloc, around, image, machine, stop, facts.length)?;
     let text = text_of(alloc, around.map, image, machine, &scene, facts)?;
     Ok(Account {
         ending: facts.ending,
@@ -291,8 +272,8 @@ fn add_value(
     let host = host_at(outline, number, at, lines);
     let token = outline.token_at(lines.offset_of(at));
     let told = value_told(alloc, source, outline, host, token, found)?;
-    account.text.push_str(": ")?;
-    account.text.push_str(told.as_str())
+    let told = told.as_str();
+    write!(account.text, ": {told}")
 }
 
 // Adds the loops in which a run stood.
@@ -324,7 +305,7 @@ fn add_round(
     lines: &Lines,
     account: &mut Account,
 ) -> Result<(), AllocError> {
-    if account.ending != Ending::Steps {
+    if !matches!(account.ending, Ending::Steps) {
         return Ok(());
     }
     let told = warnings(alloc, source, outline.tokens(), tree)?;
@@ -334,7 +315,7 @@ fn add_round(
 // Adds that values were left out, where some were.
 fn add_cut(alloc: Global, account: &mut Account) -> Result<(), AllocError> {
     if account.scene.is_cut {
-        account.notes.push(copy_of(alloc, CUT)?)?;
+        account.notes.push(String::from_str(alloc, CUT)?)?;
     }
     Ok(())
 }

@@ -5,7 +5,6 @@
 #![tactic(auto)]
 
 mod account;
-mod filling;
 mod loops;
 mod object;
 mod people;

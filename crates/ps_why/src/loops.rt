@@ -1,6 +1,5 @@
 //! The loops in which a run stood.
 
-use crate::filling::put_number;
 use ps_diagnose_outline::{Construct, Outline};
 use ps_diagnose_warnings::Warning;
 use ps_map::{Lines, Place};
@@ -8,7 +7,7 @@ use ps_scene::Scene;
 use std::alloc::{AllocError, Global};
 
 /// A loop of the text.
-#[derive(Clone, Copy, Debug)]
+#[derive(Clone, Copy)]
 pub struct Loop {
     /// The word that it begins with.
     pub word: &'static str,
@@ -133,31 +132,27 @@ impl<'a> Loops<'a> {
 
 // The sentence of a loop that changes nothing, with the names that a warning tells behind the loop's word.
 fn note_of(alloc: Global, found: Loop, is_told: bool, warning: &str) -> Result<String, AllocError> {
-    let mut out = String::new(alloc);
-    out.push_str("nothing in ")?;
+    let names = names_in(alloc, warning)?;
+    let names = names.as_str();
     if is_told {
-        out.push_str("this loop")?;
-    } else {
-        out.push_str("the `")?;
-        out.push_str(found.word)?;
-        out.push_str("` of line ")?;
-        put_number(alloc, &mut out, i64::from(found.at.line))?;
+        return format!(in alloc;
+            "nothing in this loop changes what its condition looks at ({names})"
+        );
     }
-    out.push_str(" changes what its condition looks at (")?;
-    put_names(&mut out, warning)?;
-    out.push_str(")")?;
-    Ok(out)
+    let (word, line) = (found.word, found.at.line);
+    format!(in alloc;
+        "nothing in the `{word}` of line {line} changes what its condition looks at ({names})"
+    )
 }
 
-// Adds the names that stand between backticks, but for the first.
-fn put_names(out: &mut String, warning: &str) -> Result<(), AllocError> {
+// The names that stand between backticks, but for the first.
+fn names_in(alloc: Global, warning: &str) -> Result<String, AllocError> {
+    let mut out = String::new(alloc);
     for (number, piece) in warning.split('`').enumerate() {
         if number >= 3 && number % 2 == 1 {
-            if number > 3 {
-                out.push_str(", ")?;
-            }
-            out.push_str(piece)?;
+            let between = if number == 3 { "" } else { ", " };
+            write!(out, "{between}{piece}")?;
         }
     }
-    Ok(())
+    Ok(out)
 }

@@ -39,13 +39,9 @@ struct CallObject<'a> {
     variables: Vec<VariableObject<'a>>,
 }
 
-#[derive(Drop, Serialize)]
-struct AccountObject<'a> {
-    file: &'a str,
-    ending: &'a str,
-    #[serde(skip_serializing_if = "Option::is_none")]
-    number: Option<u32>,
-    text: &'a str,
+// Where an account is told, each part by itself.
+#[derive(Clone, Copy, Serialize)]
+struct ToldObject {
     #[serde(skip_serializing_if = "Option::is_none")]
     from: Option<u32>,
     #[serde(skip_serializing_if = "Option::is_none")]
@@ -54,12 +50,30 @@ struct AccountObject<'a> {
     line: Option<u32>,
     #[serde(skip_serializing_if = "Option::is_none")]
     column: Option<u32>,
+}
+
+// A value that was found, and its bounds, each by itself.
+#[derive(Clone, Copy, Serialize)]
+struct FoundObject {
     #[serde(skip_serializing_if = "Option::is_none")]
     value: Option<i64>,
     #[serde(skip_serializing_if = "Option::is_none")]
     low: Option<i64>,
     #[serde(skip_serializing_if = "Option::is_none")]
     high: Option<i64>,
+}
+
+#[derive(Drop, Serialize)]
+struct AccountObject<'a> {
+    file: &'a str,
+    ending: &'a str,
+    #[serde(skip_serializing_if = "Option::is_none")]
+    number: Option<u32>,
+    text: &'a str,
+    #[serde(flatten)]
+    told: ToldObject,
+    #[serde(flatten)]
+    found: FoundObject,
     #[serde(rename = "loop", skip_serializing_if = "Option::is_none")]
     round: Option<LoopObject>,
     open: u64,
@@ -89,29 +103,21 @@ fn place_object(place: Option<Place>) -> Option<PlaceObject> {
     }
 }
 
-// A value that was found, and its bounds, each by itself.
-#[derive(Clone, Copy)]
-struct Numbers {
-    value: Option<i64>,
-    low: Option<i64>,
-    high: Option<i64>,
-}
-
-fn numbers_of(account: &Account) -> Numbers {
+fn found_object(account: &Account) -> FoundObject {
     let Some(found) = account.found else {
-        return Numbers {
+        return FoundObject {
             value: None,
             low: None,
             high: None,
         };
     };
     match found.bounds {
-        Some(bounds) => Numbers {
+        Some(bounds) => FoundObject {
             value: Some(found.value),
             low: Some(bounds.low),
             high: Some(bounds.high),
         },
-        None => Numbers {
+        None => FoundObject {
             value: Some(found.value),
             low: None,
             high: None,
@@ -163,24 +169,15 @@ fn texts_of(alloc: Global, texts: &[String]) -> Result<Vec<&'_ str>, AllocError>
     Ok(parts)
 }
 
-// Where an account is told, each part by itself.
-#[derive(Clone, Copy)]
-struct Told {
-    from: Option<u32>,
-    to: Option<u32>,
-    line: Option<u32>,
-    column: Option<u32>,
-}
-
-fn told_at(account: &Account) -> Told {
+fn told_object(account: &Account) -> ToldObject {
     match account.at {
-        Some(Place { line, column }) => Told {
+        Some(Place { line, column }) => ToldObject {
             from: Some(account.from),
             to: Some(account.to),
             line: Some(line),
             column: Some(column),
         },
-        None => Told {
+        None => ToldObject {
             from: None,
             to: None,
             line: None,
@@ -194,20 +191,13 @@ fn account_object<'a>(
     file: &'a str,
     account: &'a Account,
 ) -> Result<AccountObject<'a>, AllocError> {
-    let at = told_at(account);
-    let numbers = numbers_of(account);
     Ok(AccountObject {
         file,
         ending: word_of(account.ending),
         number: account.number,
         text: account.text.as_str(),
-        from: at.from,
-        to: at.to,
-        line: at.line,
-        column: at.column,
-        value: numbers.value,
-        low: numbers.low,
-        high: numbers.high,
+        told: told_object(account),
+        found: found_object(account),
         round: loop_object(account),
         open: account.scene.count,
         calls: calls_of(alloc, account.scene.open.as_slice())?,

@@ -1,7 +1,7 @@
 //! An account in lines for people.
 
 use crate::account::{Account, Ending};
-use crate::filling::{put_count, put_number, put_spaces};
+use crate::loops::Loop;
 use crate::shown::marked;
 use ps_map::Place;
 use ps_scene::{Activation, Scene, Value};
@@ -14,78 +14,50 @@ const WIDEST: usize = 100;
 // The widest front of a line to which others are aligned.
 const WIDEST_FRONT: usize = 40;
 
-// Adds a place behind the file's name.
-fn put_place(
-    alloc: Global,
-    out: &mut String,
-    file: &str,
-    at: Place,
-    has_column: bool,
-) -> Result<(), AllocError> {
-    out.push_str(file)?;
-    out.push_str(":")?;
-    put_number(alloc, out, i64::from(at.line))?;
-    if has_column {
-        out.push_str(":")?;
-        put_number(alloc, out, i64::from(at.column))?;
-    }
-    Ok(())
-}
-
-// Adds where a run stood whose steps were used up.
-fn put_loop(
-    alloc: Global,
-    out: &mut String,
-    file: &str,
-    account: &Account,
-) -> Result<(), AllocError> {
+// The first line where the steps were used up, without its end: it tells where the run stood.
+fn steps_head(alloc: Global, file: &str, account: &Account) -> Result<String, AllocError> {
+    let text = account.text.as_str();
     match (account.round, account.at) {
-        (Some(round), _) => {
-            out.push_str(", in the `")?;
-            out.push_str(round.word)?;
-            out.push_str("` of ")?;
-            put_place(alloc, out, file, round.at, false)
+        (Some(Loop { word, at }), _) => {
+            let line = at.line;
+            format!(in alloc; "{text}, in the `{word}` of {file}:{line}")
         }
-        (None, Some(at)) => {
-            out.push_str(", at ")?;
-            put_place(alloc, out, file, at, true)
-        }
-        (None, None) => Ok(()),
+        (None, Some(Place { line, column })) => format!(in alloc;
+            "{text}, at {file}:{line}:{column}"
+        ),
+        (None, None) => String::from_str(alloc, text),
     }
 }
 
 // The first line, without its end.
 fn head(alloc: Global, file: &str, account: &Account) -> Result<String, AllocError> {
-    let mut out = String::new(alloc);
+    let text = account.text.as_str();
     match (account.ending, account.at) {
-        (Ending::Steps, _) => {
-            out.push_str(account.text.as_str())?;
-            put_loop(alloc, &mut out, file, account)?;
-            return Ok(out);
+        (Ending::Steps, _) => steps_head(alloc, file, account),
+        (Ending::Stack, Some(Place { line, .. })) => format!(in alloc; "{file}:{line}: {text}"),
+        (Ending::Error | Ending::Heap, Some(Place { line, column })) => {
+            format!(in alloc; "{file}:{line}:{column}: {text}")
         }
-        (Ending::Stack, Some(at)) => put_place(alloc, &mut out, file, at, false)?,
-        (Ending::Error | Ending::Heap, Some(at)) => put_place(alloc, &mut out, file, at, true)?,
-        _ => out.push_str(file)?,
+        _ => format!(in alloc; "{file}: {text}"),
     }
-    out.push_str(": ")?;
-    out.push_str(account.text.as_str())?;
-    Ok(out)
 }
 
 // What stands before the values of an open call.
 fn front(alloc: Global, open: &Activation) -> Result<String, AllocError> {
-    let mut out = String::new(alloc);
-    out.push_str("  in ")?;
-    let name = open.name.as_str();
-    out.push_str(if name.is_empty() { "?" } else { name })?;
-    if let Some(called) = open.called {
-        out.push_str(", called at ")?;
-        put_number(alloc, &mut out, i64::from(called.line))?;
+    let name = if open.name.is_empty() {
+        "?"
+    } else {
+        open.name.as_str()
+    };
+    let mark = if has_told(open.values.as_slice()) || !open.has_begun {
+        ":"
+    } else {
+        ""
+    };
+    match open.called {
+        Some(Place { line, .. }) => format!(in alloc; "  in {name}, called at {line}{mark}"),
+        None => format!(in alloc; "  in {name}{mark}"),
     }
-    if has_told(open.values.as_slice()) || !open.has_begun {
-        out.push_str(":")?;
-    }
-    Ok(out)
 }
 
 // Whether one of some values is told. The result of a function is told where it has another value than its first.
@@ -110,36 +82,30 @@ fn width_of(alloc: Global, scene: &Scene) -> Result<usize, AllocError> {
     Ok(widest)
 }
 
-// A name with its value.
-fn entry(alloc: Global, value: &Value) -> Result<String, AllocError> {
-    let mut out = String::new(alloc);
-    out.push_str(value.name.as_str())?;
-    out.push_str(" = ")?;
-    out.push_str(value.value.as_str())?;
-    Ok(out)
-}
-
 // Adds values behind a front of so many columns, in as many lines as they need.
-fn put_values(
-    alloc: Global,
-    out: &mut String,
-    values: &[Value],
-    indent: usize,
-) -> Result<(), AllocError> {
+fn put_values(out: &mut String, values: &[Value], indent: usize) -> Result<(), AllocError> {
     let mut column = indent;
     let mut is_first = true;
     for value in values.iter() {
         if value.is_unset {
             continue;
         }
-        let told = entry(alloc, value)?;
-        let width = told.len().saturating_add(2);
+        let (name, told) = (value.name.as_str(), value.value.as_str());
+        let width = name.len().saturating_add(told.len()).saturating_add(5);
         if !is_first {
             column = put_comma(out, column, width, indent)?;
         }
-        out.push_str(told.as_str())?;
+        write!(out, "{name} = {told}")?;
         column = column.saturating_add(width);
         is_first = false;
+    }
+    Ok(())
+}
+
+// Adds so many spaces.
+fn put_spaces(out: &mut String, count: usize) -> Result<(), AllocError> {
+    for _ in 0..count {
+        out.push_str(" ")?;
     }
     Ok(())
 }
@@ -176,7 +142,7 @@ fn put_activation(
     let gap = width.saturating_sub(len).saturating_add(2);
     put_spaces(out, gap)?;
     if open.has_begun {
-        put_values(alloc, out, open.values.as_slice(), len.saturating_add(gap))?;
+        put_values(out, open.values.as_slice(), len.saturating_add(gap))?;
     } else {
         out.push_str("before its first statement")?;
     }
@@ -190,9 +156,7 @@ fn put_calls(alloc: Global, out: &mut String, scene: &Scene) -> Result<(), Alloc
     let hidden = scene.count.saturating_sub(shown as u64);
     for (number, open) in scene.open.iter().enumerate() {
         if hidden > 0 && number.saturating_add(1) == shown {
-            out.push_str("  .. ")?;
-            put_count(alloc, out, hidden)?;
-            out.push_str(" more\n")?;
+            write!(out, "  .. {hidden} more\n")?;
         }
         put_activation(alloc, out, open, width)?;
     }
@@ -200,13 +164,11 @@ fn put_calls(alloc: Global, out: &mut String, scene: &Scene) -> Result<(), Alloc
 }
 
 // Adds what the objects hold.
-fn put_objects(alloc: Global, out: &mut String, objects: &[String]) -> Result<(), AllocError> {
-    for (number, object) in objects.iter().enumerate() {
-        out.push_str("  object ")?;
-        put_count(alloc, out, (number as u64).saturating_add(1))?;
-        out.push_str(" = ")?;
-        out.push_str(object.as_str())?;
-        out.push_str("\n")?;
+fn put_objects(out: &mut String, objects: &[String]) -> Result<(), AllocError> {
+    for (before, object) in objects.iter().enumerate() {
+        let number = before.saturating_add(1);
+        let object = object.as_str();
+        write!(out, "  object {number} = {object}\n")?;
     }
     Ok(())
 }
@@ -245,11 +207,10 @@ pub fn render(
         put_source(alloc, &mut out, &source, account)?;
     }
     put_calls(alloc, &mut out, &account.scene)?;
-    put_objects(alloc, &mut out, account.scene.objects.as_slice())?;
+    put_objects(&mut out, account.scene.objects.as_slice())?;
     for note in account.notes.iter() {
-        out.push_str("  ")?;
-        out.push_str(note.as_str())?;
-        out.push_str("\n")?;
+        let note = note.as_str();
+        write!(out, "  {note}\n")?;
     }
     Ok(out)
 }

@@ -1,7 +1,6 @@
 //! What is told of an ending in one sentence.
 
-use crate::filling::{put_count, put_number};
-use ps_map::Map;
+use ps_map::{Map, small};
 use ps_scan::Token;
 use ps_scene::{Found, Scene, Text, ordinal_in};
 use ps_text::Source;
@@ -47,10 +46,8 @@ pub(crate) fn found_told<'a>(
     if let Some(bounds) = found.bounds {
         let low = ordinal_in(alloc, text, host, bounds.low)?;
         let high = ordinal_in(alloc, text, host, bounds.high)?;
-        out.push_str(" is not within ")?;
-        out.push_str(low.as_str())?;
-        out.push_str("..")?;
-        out.push_str(high.as_str())?;
+        let (low, high) = (low.as_str(), high.as_str());
+        write!(out, " is not within {low}..{high}")?;
     }
     Ok(out)
 }
@@ -96,19 +93,12 @@ pub(crate) struct Sizes<'a> {
 }
 
 impl<'a> Sizes<'a> {
-    // Adds the name of a routine.
-    fn put_name(&self, out: &mut String, routine: usize) -> Result<(), AllocError> {
-        let number = u32::try_from(routine).unwrap_or(u32::MAX);
-        out.push_str("`")?;
-        out.push_str(self.map.name_of(number).unwrap_or("?"))?;
-        out.push_str("`")
-    }
-
-    // The bytes of a routine's frame.
-    fn bytes_of(&self, routine: usize) -> i64 {
+    // The name of a routine, and the bytes of its frame.
+    fn told(&self, routine: usize) -> (&'a str, u32) {
+        let name = self.map.name_of(small(routine)).unwrap_or("?");
         match self.image.frame(routine) {
-            Some(row) => i64::from(row.bytes),
-            None => 0,
+            Some(row) => (name, row.bytes),
+            None => (name, 0),
         }
     }
 
@@ -120,13 +110,12 @@ impl<'a> Sizes<'a> {
         count: u64,
         is_first: bool,
     ) -> Result<(), AllocError> {
-        out.push_str(", ")?;
-        put_count(self.alloc, out, count)?;
-        out.push_str(if is_first { " calls of " } else { " of " })?;
-        self.put_name(out, routine)?;
-        out.push_str(if is_first { " open (" } else { " (" })?;
-        put_number(self.alloc, out, self.bytes_of(routine))?;
-        out.push_str(" bytes each)")
+        let (name, bytes) = self.told(routine);
+        if is_first {
+            write!(out, ", {count} calls of `{name}` open ({bytes} bytes each)")
+        } else {
+            write!(out, ", {count} of `{name}` ({bytes} bytes each)")
+        }
     }
 
     // Adds of which routines several calls are open. Gives whether there are some.
@@ -146,15 +135,10 @@ impl<'a> Sizes<'a> {
     /// What is told where the stack had no room: the routines of which several calls are open, or what the frame takes
     /// for which there was none.
     pub(crate) fn stack(&self, scene: &Scene) -> Result<String, AllocError> {
-        let mut out = String::new(self.alloc);
-        out.push_str(words_of(12))?;
+        let mut out = String::from_str(self.alloc, words_of(12))?;
         if !self.put_open(&mut out, scene.counts.as_slice())? {
-            let routine = scene.routine.unwrap_or(0) as usize;
-            out.push_str(", ")?;
-            self.put_name(&mut out, routine)?;
-            out.push_str(" takes ")?;
-            put_number(self.alloc, &mut out, self.bytes_of(routine))?;
-            out.push_str(" bytes")?;
+            let (name, bytes) = self.told(scene.routine.unwrap_or(0) as usize);
+            write!(out, ", `{name}` takes {bytes} bytes")?;
         }
         out.push_str("; `--stack` gives more")?;
         Ok(out)
@@ -163,13 +147,9 @@ impl<'a> Sizes<'a> {
 
 /// What is told where the heap had no room, of which so many bytes are taken.
 pub(crate) fn heap(alloc: Global, taken: Option<u32>) -> Result<String, AllocError> {
-    let mut out = String::new(alloc);
-    out.push_str(words_of(13))?;
-    if let Some(taken) = taken {
-        out.push_str(", ")?;
-        put_number(alloc, &mut out, i64::from(taken))?;
-        out.push_str(" bytes taken")?;
+    let words = words_of(13);
+    match taken {
+        Some(taken) => format!(in alloc; "{words}, {taken} bytes taken; `--heap` gives more"),
+        None => format!(in alloc; "{words}; `--heap` gives more"),
     }
-    out.push_str("; `--heap` gives more")?;
-    Ok(out)
 }

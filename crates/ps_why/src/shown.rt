@@ -1,7 +1,6 @@
 //! Lines of a text with a mark below a token.
 
 use ps_diagnostic::{Diagnostic, Severity, View, render};
-use ps_scene::copy_of;
 use ps_text::{Source, Span};
 use std::alloc::{AllocError, Global};
 
@@ -22,7 +21,7 @@ pub(crate) fn marked(alloc: Global, source: &Source<'_>, span: Span) -> Result<S
     };
     let shown = render(alloc, "", &view, &diagnostic)?;
     match shown.as_str().split_once('\n') {
-        Some((_, lines)) => copy_of(alloc, lines),
+        Some((_, lines)) => String::from_str(alloc, lines),
         None => Ok(String::new(alloc)),
     }
 }

@@ -17,70 +17,68 @@ use Rattle.ps_meaning_runner.proofs.+run.Goals as goal
 
 pub count-returns-in_err-x : goal.loops::count-returns-in_err-x
 count-returns-in_err-x t c =
-    let h : Halted (acting c.args.here.setup.now c.args.here.fuel
-    (Tree.For c.args.variable c.args.low c.args.high (expr_of c.args.from.now) c.args.from_line c.args.direction
-    (expr_of c.args.to.now) c.args.to_line (statement_of c.args.body.now)) (context_of c.args.here.context.now)
-    (world_of c.args.world.now)) c.args.here.depth
-    (levels c.args.here.setup.now c.args.here.fuel
-    (max (expr_height (expr_of c.args.from.now))
-    (max (expr_height (expr_of c.args.to.now)) (statement_height (statement_of c.args.body.now)))))
-    c.in_err-x.field-0.0 c.evaluate.new.world = counted.for_halt c.args.here.setup.now c.args.here.fuel c.args.variable
-    c.args.low c.args.high (expr_of c.args.from.now) c.args.from_line c.args.direction
-    (expr_of c.args.to.now) c.args.to_line (statement_of c.args.body.now) (context_of c.args.here.context.now) _
-    (world_of c.args.world.now) c.evaluate.new.world c.args.here.depth c.in_err-x.ensures in
+    let h : Halted (acting c.args.here.setup.now c.args.here.fuel (Tree.For c.args.control.variable c.args.low
+    c.args.high (expr_of c.args.bounds.from.now) c.args.bounds.from_line c.args.control.direction
+    (expr_of c.args.bounds.to.now) c.args.bounds.to_line (statement_of c.args.body.now))
+    (context_of c.args.here.context.now) (world_of c.args.world.now)) c.args.here.depth (levels c.args.here.setup.now
+    c.args.here.fuel (max (expr_height (expr_of c.args.bounds.from.now)) (max
+    (expr_height (expr_of c.args.bounds.to.now)) (statement_height (statement_of c.args.body.now)))))
+    c.in_err-x.field-0.0 c.evaluate.new.world = counted.for_halt c.args.here.setup.now c.args.here.fuel
+    c.args.control.variable c.args.low c.args.high (expr_of c.args.bounds.from.now) c.args.bounds.from_line
+    c.args.control.direction (expr_of c.args.bounds.to.now) c.args.bounds.to_line (statement_of c.args.body.now)
+    (context_of c.args.here.context.now) _ (world_of c.args.world.now) c.evaluate.new.world c.args.here.depth
+    c.in_err-x.ensures in
     handed_on _ _ _ _ _ _ _ c.from_residual.ensures.1 h
 
 pub count-returns-in_err-y : goal.loops::count-returns-in_err-y
 count-returns-in_err-y t c =
-    let h : Halted (acting c.args.here.setup.now c.args.here.fuel
-    (Tree.For c.args.variable c.args.low c.args.high (expr_of c.args.from.now) c.args.from_line c.args.direction
-    (expr_of c.args.to.now) c.args.to_line (statement_of c.args.body.now)) (context_of c.args.here.context.now)
-    (world_of c.args.world.now)) c.args.here.depth
-    (levels c.args.here.setup.now c.args.here.fuel
-    (max (expr_height (expr_of c.args.from.now))
-    (max (expr_height (expr_of c.args.to.now)) (statement_height (statement_of c.args.body.now)))))
+    let h : Halted (acting c.args.here.setup.now c.args.here.fuel (Tree.For c.args.control.variable c.args.low
+    c.args.high (expr_of c.args.bounds.from.now) c.args.bounds.from_line c.args.control.direction
+    (expr_of c.args.bounds.to.now) c.args.bounds.to_line (statement_of c.args.body.now))
+    (context_of c.args.here.context.now) (world_of c.args.world.now)) c.args.here.depth (levels c.args.here.setup.now
+    c.args.here.fuel (max (expr_height (expr_of c.args.bounds.from.now)) (max
+    (expr_height (expr_of c.args.bounds.to.now)) (statement_height (statement_of c.args.body.now)))))
     c.in_err-y.field-0.0 c.evaluate-2.new.world = counted.for_halt_second c.args.here.setup.now c.args.here.fuel
-    c.args.variable c.args.low c.args.high (expr_of c.args.from.now) c.args.from_line c.args.direction
-    (expr_of c.args.to.now) c.args.to_line (statement_of c.args.body.now) (context_of c.args.here.context.now)
-    (value_of c.in_ok-x.x) _ (world_of c.args.world.now)
+    c.args.control.variable c.args.low c.args.high (expr_of c.args.bounds.from.now) c.args.bounds.from_line
+    c.args.control.direction (expr_of c.args.bounds.to.now) c.args.bounds.to_line (statement_of c.args.body.now)
+    (context_of c.args.here.context.now) (value_of c.in_ok-x.x) _ (world_of c.args.world.now)
     (world_of c.evaluate.new.world) c.evaluate-2.new.world c.args.here.depth c.in_ok-x.ensures c.in_err-y.ensures in
     handed_on _ _ _ _ _ _ _ c.from_residual-in_err-y.ensures.1 h
 
 pub count-returns-then-is_past : goal.loops::count-returns-then-is_past
-count-returns-then-is_past t c = counted.for_past c.args.here.setup.now c.args.here.fuel c.args.variable c.args.low
-    c.args.high (expr_of c.args.from.now) c.args.from_line c.args.direction (expr_of c.args.to.now) c.args.to_line
-    (statement_of c.args.body.now) (context_of c.args.here.context.now) (value_of c.in_ok-x.x) (value_of c.in_ok-y.y)
-    (world_of c.args.world.now) (world_of c.evaluate.new.world)
-    (world_of c.evaluate-2.new.world) c.in_ok-x.ensures c.in_ok-y.ensures (sym c.is_past.ensures ∙ c.if-is_past.true)
+count-returns-then-is_past t c = counted.for_past c.args.here.setup.now c.args.here.fuel c.args.control.variable
+    c.args.low c.args.high (expr_of c.args.bounds.from.now) c.args.bounds.from_line c.args.control.direction
+    (expr_of c.args.bounds.to.now) c.args.bounds.to_line (statement_of c.args.body.now)
+    (context_of c.args.here.context.now) (value_of c.in_ok-x.x) (value_of c.in_ok-y.y) (world_of c.args.world.now)
+    (world_of c.evaluate.new.world) (world_of c.evaluate-2.new.world) c.in_ok-x.ensures c.in_ok-y.ensures
+    (sym c.is_past.ensures ∙ c.if-is_past.true)
 
 pub count-returns-in_err-begin_turns : goal.loops::count-returns-in_err-begin_turns
 count-returns-in_err-begin_turns t c =
-    let h : Halted (acting c.args.here.setup.now c.args.here.fuel
-    (Tree.For c.args.variable c.args.low c.args.high (expr_of c.args.from.now) c.args.from_line c.args.direction
-    (expr_of c.args.to.now) c.args.to_line (statement_of c.args.body.now)) (context_of c.args.here.context.now)
-    (world_of c.args.world.now)) c.args.here.depth
-    (levels c.args.here.setup.now c.args.here.fuel
-    (max (expr_height (expr_of c.args.from.now))
-    (max (expr_height (expr_of c.args.to.now)) (statement_height (statement_of c.args.body.now)))))
+    let h : Halted (acting c.args.here.setup.now c.args.here.fuel (Tree.For c.args.control.variable c.args.low
+    c.args.high (expr_of c.args.bounds.from.now) c.args.bounds.from_line c.args.control.direction
+    (expr_of c.args.bounds.to.now) c.args.bounds.to_line (statement_of c.args.body.now))
+    (context_of c.args.here.context.now) (world_of c.args.world.now)) c.args.here.depth (levels c.args.here.setup.now
+    c.args.here.fuel (max (expr_height (expr_of c.args.bounds.from.now)) (max
+    (expr_height (expr_of c.args.bounds.to.now)) (statement_height (statement_of c.args.body.now)))))
     c.in_err-begin_turns.field-0.0 c.begin_turns.new.world = counted.for_stops c.args.here.setup.now c.args.here.fuel
-    c.args.variable c.args.low c.args.high (expr_of c.args.from.now) c.args.from_line c.args.direction
-    (expr_of c.args.to.now) c.args.to_line (statement_of c.args.body.now) (context_of c.args.here.context.now)
-    (value_of c.in_ok-x.x) (value_of c.in_ok-y.y) (world_of c.args.world.now) (world_of c.evaluate.new.world)
-    (world_of c.evaluate-2.new.world) _ c.begin_turns.new.world c.args.here.depth _ c.in_ok-x.ensures
-    c.in_ok-y.ensures (sym c.is_past.ensures ∙ c.if-is_past.false) _
-    (counted.within_is c.args.low c.args.high _ _ (to_z-of_z c.ranges.low) (to_z-of_z c.ranges.high))
-    c.in_err-begin_turns.ensures in
+    c.args.control.variable c.args.low c.args.high (expr_of c.args.bounds.from.now) c.args.bounds.from_line
+    c.args.control.direction (expr_of c.args.bounds.to.now) c.args.bounds.to_line (statement_of c.args.body.now)
+    (context_of c.args.here.context.now) (value_of c.in_ok-x.x) (value_of c.in_ok-y.y) (world_of c.args.world.now)
+    (world_of c.evaluate.new.world) (world_of c.evaluate-2.new.world) _ c.begin_turns.new.world c.args.here.depth _
+    c.in_ok-x.ensures c.in_ok-y.ensures (sym c.is_past.ensures ∙ c.if-is_past.false) _ (counted.within_is c.args.low
+    c.args.high _ _ (to_z-of_z c.ranges.low) (to_z-of_z c.ranges.high)) c.in_err-begin_turns.ensures in
     handed_on _ _ _ _ _ _ _ c.from_residual-in_err-begin_turns.ensures.1 h
 
 pub count-returns : goal.loops::count-returns
-count-returns t c = counted.for_runs c.args.here.setup.now c.args.here.fuel c.args.variable c.args.low c.args.high
-    (expr_of c.args.from.now) c.args.from_line c.args.direction (expr_of c.args.to.now) c.args.to_line
-    (statement_of c.args.body.now) (context_of c.args.here.context.now) (value_of c.in_ok-x.x) (value_of c.in_ok-y.y)
-    (world_of c.args.world.now) (world_of c.evaluate.new.world) (world_of c.evaluate-2.new.world)
-    (world_of c.begin_turns.new.world) c.turns.result c.turns.new.world c.args.here.depth c.in_ok-x.ensures
-    c.in_ok-y.ensures (sym c.is_past.ensures ∙ c.if-is_past.false) _
-    (counted.within_is c.args.low c.args.high _ _ (to_z-of_z c.ranges.low) (to_z-of_z c.ranges.high))
-    c.in_ok-begin_turns.ensures c.turns.ensures
+count-returns t c = counted.for_runs c.args.here.setup.now c.args.here.fuel c.args.control.variable c.args.low
+    c.args.high (expr_of c.args.bounds.from.now) c.args.bounds.from_line c.args.control.direction
+    (expr_of c.args.bounds.to.now) c.args.bounds.to_line (statement_of c.args.body.now)
+    (context_of c.args.here.context.now) (value_of c.in_ok-x.x) (value_of c.in_ok-y.y) (world_of c.args.world.now)
+    (world_of c.evaluate.new.world) (world_of c.evaluate-2.new.world) (world_of c.begin_turns.new.world)
+    c.turns.result c.turns.new.world c.args.here.depth c.in_ok-x.ensures c.in_ok-y.ensures
+    (sym c.is_past.ensures ∙ c.if-is_past.false) _ (counted.within_is c.args.low c.args.high _ _
+    (to_z-of_z c.ranges.low) (to_z-of_z c.ranges.high)) c.in_ok-begin_turns.ensures c.turns.ensures
 
 pub repeat_while-returns-in_err-evaluate_truth : goal.loops::repeat_while-returns-in_err-evaluate_truth
 repeat_while-returns-in_err-evaluate_truth t c =

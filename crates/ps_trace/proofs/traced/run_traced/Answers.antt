@@ -7,7 +7,7 @@ use Rattle.ps_trace.proofs.traced.run_traced.Goals as goal
 
 pub returns-in-Err-clause-refused : goal.returns-in-Err-clause-refused
 returns-in-Err-clause-refused g c =
-    let built = c.args.prepared.now.text.mapped.built in
+    let built = c.args.tracing.prepared.now.text.mapped.built in
     let refusal = c.in-Err.refusal in
     let refused : IsRefused built refusal =
     subst (λ bytes. IsRefused bytes refusal) c.bytes-bytes.ensures c.in-Err.ensures.err in
