@@ -50,11 +50,14 @@ pub(crate) fn values_of<'a>(
     ensures { IfOk result (λ values. map (λ value. value.now) values.items
         ≡ sealed_values source.entry.now image.entry.now (map (λ value. value.now) maker.now)) }
 {
+    let sealed = [
+        source.sum.as_bytes(),
+        source.size.as_bytes(),
+        image.sum.as_bytes(),
+        image.size.as_bytes(),
+    ];
     let mut values = Vec::new(alloc);
-    values.push(source.sum.as_bytes())?;
-    values.push(source.size.as_bytes())?;
-    values.push(image.sum.as_bytes())?;
-    values.push(image.size.as_bytes())?;
+    values.extend_from_slice(&sealed)?;
     values.extend_from_slice(maker)?;
     Ok(values)
 }

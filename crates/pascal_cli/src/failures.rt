@@ -55,13 +55,7 @@ impl Failures {
         requires { limit < 2 ^ 32 }
         ensures { Notes result (has_failed self.old) (has_failed self.new) }
     {
-        match read_at(rt, path, limit) {
-            Ok(bytes) => Some(bytes),
-            Err(_) => {
-                self.is_any = true;
-                None
-            }
-        }
+        self.got(read_at(rt, path, limit))
     }
 
     /// What was read. Where it could not be, that was told.

@@ -13,16 +13,13 @@ use std::os::unix::fs::{MetadataExt, chown};
 use std::path::{Path, PathBuf};
 use std::rt::Files;
 use std::{fs, io};
-use thiserror::Error;
 
 /// Why an image was not written.
-#[derive(Debug, Drop, Error)]
+#[derive(Clone, Copy)]
 pub enum WriteFault {
     /// The file can't be written, or is the source.
-    #[error("write failed")]
     Device,
     /// A growth was refused.
-    #[error("out of memory")]
     OutOfMemory,
 }
 
@@ -42,7 +39,7 @@ pub struct FileNumber {
 }
 
 /// What is done where an image is to be written and something is there.
-#[derive(Clone, Copy, PartialEq, Eq)]
+#[derive(Clone, Copy)]
 pub enum Way {
     /// It is the source: nothing.
     Refused,

@@ -19,6 +19,6 @@ pub use call::run;
 pub use explain::{pages_on, titles};
 pub use image_file::{FileNumber, Way, WriteFault, way_of, write_image};
 pub use runs::{
-    Tracing, counts_through, end_through, go_through, run_through, trace_through, usage_through,
+    counts_through, end_through, go_through, run_through, trace_through, usage_through,
 };
 pub use version::VERSION;

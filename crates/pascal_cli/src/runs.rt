@@ -14,7 +14,7 @@ use ps_build::{
     Budget, Ended, Outcome, Refusal, go_in_slices, run_image_in_slices, run_image_to_end,
 };
 use ps_trace::{
-    Choice, Counts, Measured, Prepared, Teller, Usage, run_counted, run_measured, run_traced,
+    Counts, Measured, Prepared, Teller, Tracing, Usage, run_counted, run_measured, run_traced,
 };
 use std::alloc::Global;
 use std::io::{BufRead, Write};
@@ -163,14 +163,6 @@ pub fn counts_through<R: BufRead, W: Write>(
     }
 }
 
-/// Which statements of which program are told.
-#[derive(Clone, Copy)]
-pub struct Tracing<'a> {
-    pub text: &'a [u8],
-    pub prepared: &'a Prepared,
-    pub choice: Choice<'a>,
-}
-
 /// Runs a program as `run_through` runs its image, and tells each statement as it is done.
 pub fn trace_through<R: BufRead, W: Write, T: Teller + Drop>(
     alloc: Global,
@@ -189,14 +181,7 @@ pub fn trace_through<R: BufRead, W: Write, T: Teller + Drop>(
     ensures unchanged { OnErr result (console_world R.remaining W.contents console.new
         ≡ console_world R.remaining W.contents console.old) }
 {
-    let Tracing {
-        text,
-        prepared,
-        choice,
-    } = tracing;
-    match run_traced(
-        alloc, text, prepared, choice, teller, budget, console, steps,
-    ) {
+    match run_traced(alloc, tracing, teller, budget, console, steps) {
         Ok(traced) => Ok(settled(console, traced.outcome)),
         Err(refused) => Err(refused),
     }

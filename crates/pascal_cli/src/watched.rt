@@ -17,18 +17,16 @@ ghost use Rattle.pascal_cli.specs.Watched.{has_routine, lacks_routine, names_rou
 
 use crate::failures::Failures;
 use crate::jobs::{budget_of, console};
-use crate::runs::{Left, Tracing, end_through, trace_through};
-use crate::watched::covered::{count, cover, tell_counts};
+use crate::runs::{Left, end_through, trace_through};
+use crate::watched::covered::{count, cover, tell_made};
 use pascal_command::{Job, Options, Watch};
-use pascal_session::{
-    BlockConsole, FAILED, TEXT_LIMIT, out_of_memory, read_file, report_end, status,
-};
+use pascal_session::{BlockConsole, FAILED, TEXT_LIMIT, read_file, report_end, status};
 use ps_build::{Ended, Mapped, Outcome, Variables, build_mapped};
 use ps_diagnose::nearest;
 use ps_map::Map;
 use ps_map_maker::{MappedText, map_of_text};
 use ps_scene::Length;
-use ps_trace::{Choice, Prepared, Teller, no_counts, profile_report};
+use ps_trace::{Choice, Prepared, Teller, Tracing, no_counts, profile_report};
 use ps_why::{account_of, object_of, render};
 use std::alloc::{AllocError, Global};
 use std::io::{BufRead, Write};
@@ -172,7 +170,7 @@ fn why<R: Eprint + AllocGlobal, I: BufRead, O: Write>(
     }
 }
 
-// Tells how a run ended.
+// Tells how a run ended, and what the variables were.
 fn tell_why<R: Eprint + AllocGlobal>(
     rt: &R,
     job: &Job<'_>,
@@ -184,25 +182,10 @@ fn tell_why<R: Eprint + AllocGlobal>(
         Outcome::OutputFault => {
             let _ = report_end(rt, &Ok(left.outcome));
         }
-        _ => tell_ended(rt, job, program, options, &left.ended),
-    }
-}
-
-// Tells how a run ended, and what the variables were.
-fn tell_ended<R: Eprint + AllocGlobal>(
-    rt: &R,
-    job: &Job<'_>,
-    program: Program<'_>,
-    options: &Options<'_>,
-    ended: &Ended,
-) {
-    match account_told(rt.alloc(), job, program, options, ended) {
-        Ok(told) => {
-            let _ = rt.eprint(told.as_str());
-        }
-        Err(_) => {
-            let _ = out_of_memory(rt);
-        }
+        _ => tell_made(
+            rt,
+            account_told(rt.alloc(), job, program, options, &left.ended),
+        ),
     }
 }
 
@@ -252,6 +235,42 @@ fn unknown_routine<'a>(map: &Map, options: &Options<'a>) -> Option<&'a str>
     }
 }
 
+// The names of a program's routines that are compared with another one.
+fn compared_names<'a>(alloc: Global, map: &'a Map) -> Result<Vec<&'a str>, AllocError> {
+    let mut names = Vec::new(alloc);
+    for routine in map.routines.iter() {
+        let name = routine.name.as_str();
+        if name.len() <= LONGEST_COMPARED {
+            names.push(name)?;
+        }
+    }
+    Ok(names)
+}
+
+// Names in small letters.
+fn in_small_letters(alloc: Global, names: &[&str]) -> Result<Vec<String>, AllocError> {
+    let mut small = Vec::new(alloc);
+    for name in names.iter() {
+        small.push(name.to_ascii_lowercase(alloc)?)?;
+    }
+    Ok(small)
+}
+
+// The one of some names that is the nearest to another by its spelling.
+fn nearest_name<'a>(
+    alloc: Global,
+    known: &[&'a str],
+    name: &str,
+) -> Result<Option<&'a str>, AllocError> {
+    let small = in_small_letters(alloc, known)?;
+    let names: Vec<&str> = small.iter().map(|name| name.as_str()).collect(alloc)?;
+    let name = name.to_ascii_lowercase(alloc)?;
+    match nearest(alloc, name.as_str(), names.as_slice())? {
+        Some(at) => Ok(known.get(at).copied()),
+        None => Ok(None),
+    }
+}
+
 // The routine of a program whose name is the nearest one by its spelling.
 fn nearest_routine<'a>(
     alloc: Global,
@@ -261,21 +280,8 @@ fn nearest_routine<'a>(
     if name.len() > LONGEST_COMPARED {
         return Ok(None);
     }
-    let mut known = Vec::new(alloc);
-    let mut small = Vec::new(alloc);
-    for routine in map.routines.iter() {
-        let other = routine.name.as_str();
-        if other.len() <= LONGEST_COMPARED {
-            known.push(other)?;
-            small.push(other.to_ascii_lowercase(alloc)?)?;
-        }
-    }
-    let names: Vec<&str> = small.iter().map(|name| name.as_str()).collect(alloc)?;
-    let name = name.to_ascii_lowercase(alloc)?;
-    match nearest(alloc, name.as_str(), names.as_slice())? {
-        Some(at) => Ok(known.get(at).copied()),
-        None => Ok(None),
-    }
+    let known = compared_names(alloc, map)?;
+    nearest_name(alloc, known.as_slice(), name)
 }
 
 // Tells that a program has no routine of a name, and which of its routines may be meant.
@@ -404,7 +410,7 @@ fn profile<R: Print + Eprint + Input + AllocGlobal>(
         input: None,
     };
     let status = count(rt, job, program, &mut console(rt), &mut counts, voice);
-    tell_counts(
+    tell_made(
         rt,
         profile_report(rt.alloc(), program.text, program.prepared, &counts),
     );

@@ -104,14 +104,25 @@ needs_app = with_rule (new_app (codes "needs")) (path_rule (codes "SRC"))
 abbrev pub watch_app : Text → App
 watch_app name = limited (with_rule (new_app name) (path_rule (codes "SRC")))
 
+-- the commands that build and run are added
+abbrev pub with_runs : App → App
+with_runs app = with_subcommand (with_subcommand (with_subcommand (with_subcommand app compile_app.top) list_app.top)
+    run_app.top) go_app.top
+
+-- those that explain, check and compare are added
+abbrev pub with_checks : App → App
+with_checks app = with_subcommand (with_subcommand (with_subcommand (with_subcommand (with_subcommand app explain_app.top)
+    check_app.top) certify_app.top) verify_app.top) needs_app.top
+
+-- those that tell of a run are added
+abbrev pub with_watches : App → App
+with_watches app = with_subcommand (with_subcommand (with_subcommand (with_subcommand app (watch_app (codes "why")).top)
+    (watch_app (codes "trace")).top) (watch_app (codes "cover")).top) (watch_app (codes "profile")).top
+
 -- the program, whose words begin after its name
 abbrev pub pascal_app : App
-pascal_app = with_subcommand (with_subcommand (with_subcommand (with_subcommand (with_subcommand (with_subcommand
-    (with_subcommand (with_subcommand (with_subcommand (with_subcommand (with_subcommand (with_subcommand (with_subcommand
-    (on_top (λ shape. record shape { no_binary_name = true }) (new_app (codes "pascal")))
-    compile_app.top) list_app.top) run_app.top) go_app.top) explain_app.top) check_app.top) certify_app.top)
-    verify_app.top) needs_app.top) (watch_app (codes "why")).top) (watch_app (codes "trace")).top)
-    (watch_app (codes "cover")).top) (watch_app (codes "profile")).top
+pascal_app = with_watches (with_checks (with_runs
+    (on_top (λ shape. record shape { no_binary_name = true }) (new_app (codes "pascal")))))
 
 -- ---- what the rows of a parse ask for
 

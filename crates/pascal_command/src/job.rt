@@ -121,16 +121,13 @@ pub struct NumberFault<'a> {
 }
 
 /// Why the words ask for nothing.
-#[derive(Debug, Drop, Error)]
+#[derive(Drop)]
 pub enum CommandFault<'a> {
     /// The words were refused, or they ask for help: the text is `clap`'s.
-    #[error("{0}")]
     Line(clap::Error),
     /// A number is not digits alone: the text is as `clap`'s.
-    #[error("{0}")]
     Number(NumberFault<'a>),
     /// A growth was refused.
-    #[error("out of memory")]
     OutOfMemory,
 }
 
@@ -255,34 +252,33 @@ fn check_task<'a>(alloc: Global, matches: &ArgMatches<'a>) -> Result<Task<'a>, A
 fn task_of<'a>(alloc: Global, name: &str, matches: &ArgMatches<'a>) -> Result<Task<'a>, AllocError>
     ensures { IfOk result (λ task. work_of task ≡ row_work name.now (rows_of (found_of matches.now))) }
 {
-    let task = match name {
-        "compile" => Task::Compile {
+    match name {
+        "compile" => Ok(Task::Compile {
             source: path_of(matches, "SRC"),
             image: path_of(matches, "IMG"),
-        },
-        "list" => Task::List {
+        }),
+        "list" => Ok(Task::List {
             source: path_of(matches, "SRC"),
-        },
-        "run" => Task::Run {
+        }),
+        "run" => Ok(Task::Run {
             image: path_of(matches, "IMG"),
-        },
-        "explain" => return explain_task(alloc, matches),
-        "check" => return check_task(alloc, matches),
-        "certify" => Task::Certify {
+        }),
+        "explain" => explain_task(alloc, matches),
+        "check" => check_task(alloc, matches),
+        "certify" => Ok(Task::Certify {
             source: path_of(matches, "SRC"),
             image: path_of(matches, "IMG"),
-        },
-        "verify" => Task::Verify {
+        }),
+        "verify" => Ok(Task::Verify {
             certificate: path_of(matches, "CERT"),
             source: path_of(matches, "SRC"),
             image: path_of(matches, "IMG"),
-        },
-        "needs" => Task::Needs {
+        }),
+        "needs" => Ok(Task::Needs {
             source: path_of(matches, "SRC"),
-        },
-        _ => run_task(name, path_of(matches, "SRC")),
-    };
-    Ok(task)
+        }),
+        _ => Ok(run_task(name, path_of(matches, "SRC"))),
+    }
 }
 
 // The job of no words.
@@ -324,8 +320,8 @@ fn job_in<'a>(alloc: Global, matches: &ArgMatches<'a>) -> Result<Job<'a>, AllocE
     }
 }
 
-// Whether a text is decimal digits and nothing else.
-fn is_digits(text: &str) -> bool
+/// Whether a text is decimal digits and nothing else.
+pub(crate) fn is_digits(text: &str) -> bool
     ensures { result ≡ is_digits text.now }
 {
     text.as_bytes().iter().all(|byte| byte.is_ascii_digit())

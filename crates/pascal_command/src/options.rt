@@ -5,8 +5,6 @@
 mod parts;
 
 ghost use Rattle.std.specs.Prelude.{◌≡◌, ◌⊎◌, ◌++◌, IfOk, IfErr, OnOk, [], ◌∷◌, if◌then◌else◌, map, Some, None, option_map};
-ghost use Rattle.std.specs.Char.{is_ascii_digit};
-ghost use Rattle.std.specs.List.{list_all};
 ghost use Rattle.pascal_command.specs.Options.{plain_words, without_options};
 ghost use Rattle.pascal_command.specs.Wanted.{is_end, line_in, names_file, nothing_more, number_in, wanted_behind, wanted_in};
 ghost use Rattle.pascal_command.specs.Wanted.{wanted_of, with_flag, with_input, with_joined, with_named, with_next, with_value};
@@ -14,6 +12,7 @@ ghost use Rattle.pascal_command.specs.Wanted.{with_word};
 ghost use Rattle.pascal_command.specs.declared.options.OptionFault.TheVariants.{OutOfMemory};
 ghost use Rattle.pascal_command.specs.declared.options.Part.TheVariants.{Open};
 
+use crate::job::is_digits;
 use crate::options::parts::{has_value, is_flag, is_joined, next_part, stays};
 use std::alloc::{AllocError, Global};
 use thiserror::Error;
@@ -178,20 +177,13 @@ fn take_flag(options: &mut Options<'_>, word: &str)
     }
 }
 
-// Whether a text has digits alone.
-fn has_digits_alone(text: &str) -> bool
-    ensures { result ≡ list_all is_ascii_digit text.now }
-{
-    text.as_bytes().iter().all(|byte| byte.is_ascii_digit())
-}
-
 // The number that a text of digits is.
 fn number_of<'a>(option: &'a str, text: &'a str) -> Result<u64, OptionFault<'a>>
     ensures number { IfOk result (λ number. number_in text.now ≡ Some number) }
     ensures none { IfErr result (λ fault. number_in text.now ≡ None) }
 {
     let fault = OptionFault::NoNumber { option, text };
-    if !has_digits_alone(text) {
+    if !is_digits(text) {
         return Err(fault);
     }
     match text.parse::<u64>() {

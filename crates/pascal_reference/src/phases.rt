@@ -1,7 +1,7 @@
 // The phases of the compiler, one after another, up to one of them: `bench/phases` tells their shares of the time by it.
 
 use pascal_session::{TEXT_LIMIT, read_standard_input};
-use ps_build::{Refusal, code_of_text};
+use ps_build::{Refusal, accepted, code_of_text};
 use ps_parse::release;
 use ps_scan::scan;
 use ps_text::Source;
@@ -12,7 +12,7 @@ use risc_image::{Parts, write};
 use std::alloc::Global;
 use tac_code::tac::Tac;
 use tac_plan::pass::pass;
-use test_language::{checked, parsed};
+use test_language::parsed;
 
 const DONE: u8 = 0;
 
@@ -95,7 +95,7 @@ fn take_parts(alloc: Global, parts: &Parts, last: Phase) -> Result<(), Refusal> 
 fn take(alloc: Global, text: &[u8], last: Phase) -> Result<(), Refusal> {
     match last {
         Phase::Read | Phase::Scan | Phase::Parse => take_before_checker(alloc, text, last)?,
-        Phase::Check => drop(checked(alloc, text)?),
+        Phase::Check => accepted(alloc, text)?,
         Phase::Lower | Phase::Pass | Phase::Place | Phase::Emit | Phase::Write => {
             take_past_checker(alloc, text, last)?
         }

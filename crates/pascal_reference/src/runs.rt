@@ -6,14 +6,12 @@ use ps_build::{
     run_image,
 };
 use ps_meaning_runner::ending::Ending;
-use ps_meaning_runner::run::{
-    Budget, Ran, Refusal as MeaningRefusal, TranscriptFault, output, reference_to_depth,
-};
+use ps_meaning_runner::run::{Ran, Refusal as MeaningRefusal, TranscriptFault, output};
 use risc_alloc::placer::EverySlot;
 use risc_machine::Fused;
 use std::alloc::{AllocError, Global};
 use tac_code_runner as code;
-use test_language::checked;
+use test_language::run_of_text;
 
 /// How a text is run.
 #[derive(Clone, Copy)]
@@ -113,16 +111,35 @@ pub fn run_text(
 
 fn by_slots(alloc: Global, text: &[u8], input: &[u8], limits: Limits) -> Result<Shown, Failure> {
     let built = build_placed(alloc, text, &EverySlot, Variables::InFrames)?;
+    let shown = shown_by_image(alloc, built.bytes(), input, limits);
+    drop(built);
+    shown
+}
+
+// What the run of an image shows.
+fn shown_by_image(
+    alloc: Global,
+    image: &[u8],
+    input: &[u8],
+    limits: Limits,
+) -> Result<Shown, Failure> {
     let mut console = Fused::new(alloc, input, OUTPUT_LIMIT, 0, 0)?;
     let budget = ImageBudget {
         stack: limits.stack,
         heap: limits.heap,
     };
-    let outcome = run_image(alloc, built.bytes(), budget, &mut console, limits.steps);
-    drop(built);
+    let end = run_image(alloc, image, budget, &mut console, limits.steps);
     let bytes = console.output().to_vec(alloc);
     drop(console);
-    let outcome = outcome?;
+    shown_at(end, bytes)
+}
+
+// What is shown at the end of a run that wrote these bytes.
+fn shown_at(
+    end: Result<Outcome, Refusal>,
+    bytes: Result<Vec<u8>, AllocError>,
+) -> Result<Shown, Failure> {
+    let outcome = end?;
     Ok(Shown {
         bytes: bytes?,
         outcome,
@@ -130,14 +147,7 @@ fn by_slots(alloc: Global, text: &[u8], input: &[u8], limits: Limits) -> Result<
 }
 
 fn by_meaning(alloc: Global, text: &[u8], input: &[u8], steps: u64) -> Result<Ran, Failure> {
-    let program = checked(alloc, text)?;
-    let free = Budget {
-        frames: &[],
-        objects: &[],
-        stack: 0,
-        heap: 0,
-    };
-    let ran = reference_to_depth(alloc, &program, &free, input, steps, DEPTH)?;
+    let ran = run_of_text(alloc, text, input, steps, DEPTH)??;
     Ok(ran)
 }
 

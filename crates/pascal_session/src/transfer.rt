@@ -9,16 +9,13 @@ pub use crate::counted::Counted;
 use risc_machine::DeviceFault;
 use std::alloc::{AllocError, AllocFailed, Global};
 use std::io::{Read, Write};
-use thiserror::Error;
 
 /// Why a text or an image was not read.
-#[derive(Debug, Drop, Error)]
+#[derive(Clone, Copy)]
 pub enum ReadFault {
     /// The reader failed.
-    #[error("read failed")]
     Device,
     /// A growth was refused.
-    #[error("out of memory")]
     OutOfMemory,
 }
 

@@ -12,8 +12,8 @@ mod texts;
 pub mod tokens;
 mod types;
 
-pub use program::{checked, parsed};
-pub use runs::{RunSettings, defaults};
+pub use program::parsed;
+pub use runs::{RunSettings, defaults, run_of_text};
 use std::alloc::Global;
 use test_tables::Line;
 

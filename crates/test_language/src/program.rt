@@ -3,7 +3,7 @@
 use ps_build::Refusal;
 use ps_check::check;
 use ps_parse::{parse, release};
-use ps_scan::scan;
+use ps_scan::{Token, scan};
 use ps_syntax::Program;
 use ps_text::Source;
 use ps_tree::program::Checked;
@@ -17,14 +17,19 @@ pub fn parsed(alloc: Global, source: &Source) -> Result<Program, Refusal> {
 }
 
 /// The checked program of a text, or why the text is refused.
-pub fn checked(alloc: Global, text: &[u8]) -> Result<Checked, Refusal> {
+pub(crate) fn checked(alloc: Global, text: &[u8]) -> Result<Checked, Refusal> {
     let source = Source::new(text)?;
     let tokens = scan(alloc, &source)?;
-    let program = parse(alloc, &source, &tokens)?;
-    let checked = check(alloc, &source, &program);
+    checked_tokens(alloc, &source, &tokens)
+}
+
+/// The checked program of a text that has these tokens.
+fn checked_tokens(alloc: Global, source: &Source, tokens: &[Token]) -> Result<Checked, Refusal> {
+    let program = parse(alloc, source, tokens)?;
+    let checked = check(alloc, source, &program);
     release(program);
     match checked {
         Ok(checked) => Ok(checked),
-        Err(refusal) => Err(Refusal::of_check(refusal, &tokens)),
+        Err(refusal) => Err(Refusal::of_check(refusal, tokens)),
     }
 }

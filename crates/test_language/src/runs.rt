@@ -1,5 +1,7 @@
 //! What the slow runner shows of runs, and how they end.
 
+use crate::program::checked;
+use ps_build::Refusal as TextRefusal;
 use ps_meaning_runner::ending::Ending;
 use ps_meaning_runner::run::{
     Budget, Ran, Refusal, TranscriptFault, output, reference, reference_to_depth, reference_within,
@@ -91,6 +93,27 @@ fn run(alloc: Global, program: &Checked, settings: &RunSettings) -> Result<Ran, 
             levels,
         ),
     }
+}
+
+/// The run of the program of a text on an input, with so much fuel, at most so many levels deep, where frames and objects cost nothing. The
+/// outer error is the refusal of the text.
+pub fn run_of_text(
+    alloc: Global,
+    text: &[u8],
+    input: &[u8],
+    fuel: u64,
+    levels: u32,
+) -> Result<Result<Ran, Refusal>, TextRefusal> {
+    let program = checked(alloc, text)?;
+    let free = Budget {
+        frames: &[],
+        objects: &[],
+        stack: 0,
+        heap: 0,
+    };
+    let ran = reference_to_depth(alloc, &program, &free, input, fuel, levels);
+    drop(program);
+    Ok(ran)
 }
 
 /// Puts the end of a run.

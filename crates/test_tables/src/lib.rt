@@ -38,6 +38,33 @@ struct Row {
     written: String,
 }
 
+impl Row {
+    /// Begins the row with what is written behind its bar.
+    fn begin(&mut self, written: &str) -> Result<(), AllocError> {
+        self.is_begun = true;
+        self.written.push_str(written)
+    }
+
+    /// Goes on with a line.
+    fn go_on(&mut self, line: &str) -> Result<(), AllocError> {
+        self.written.push('\n')?;
+        self.written.push_str(line)
+    }
+}
+
+/// The answer to a row, as tables write it.
+fn shown_answer<T: Answers>(
+    alloc: Global,
+    answers: &mut T,
+    written: &str,
+) -> Result<String, AllocError> {
+    // the space belongs to the bar
+    let text = text_of(alloc, written.strip_prefix(" ").unwrap_or(written))?;
+    let answer = answers.answer(alloc, &text);
+    drop(text);
+    escaped(alloc, answer?.as_str())
+}
+
 /// Shows the row, if there is one; then there is none.
 fn show<R: Print + AllocGlobal, T: Answers>(
     rt: &R,
@@ -47,16 +74,18 @@ fn show<R: Print + AllocGlobal, T: Answers>(
     if !row.is_begun {
         return Ok(());
     }
-    let alloc = rt.alloc();
-    let written = row.written.as_str();
-    // the space belongs to the bar
-    let text = text_of(alloc, written.strip_prefix(" ").unwrap_or(written))?;
-    let answer = answers.answer(alloc, &text)?;
-    let shown = escaped(alloc, answer.as_str())?;
-    let line = format!(in alloc; "{shown} |{}", row.written)?;
+    let shown = shown_answer(rt.alloc(), answers, row.written.as_str())?;
+    let end = println!(rt; "{shown} |{}", row.written);
     row.is_begun = false;
-    row.written = String::new(alloc);
-    rt.println(line)
+    row.written = String::new(rt.alloc());
+    end
+}
+
+/// Tells what a line tells of the next row.
+fn tell<T: Answers>(alloc: Global, answers: &mut T, told: &str) -> Result<(), AllocError> {
+    let (word, rest) = told.split_once(' ').unwrap_or((told, ""));
+    let text = text_of(alloc, rest)?;
+    answers.set(word, rest, text)
 }
 
 /// Takes a line that is part of no row.
@@ -68,8 +97,7 @@ fn take_other<R: Print + AllocGlobal, T: Answers>(
     if let Some(table) = line.strip_prefix("== ") {
         answers.begin(table);
     } else if let Some(told) = line.strip_prefix("- ") {
-        let (word, rest) = told.split_once(' ').unwrap_or((told, ""));
-        answers.set(word, rest, text_of(rt.alloc(), rest)?)?;
+        tell(rt.alloc(), answers, told)?;
     }
     rt.println(line)
 }
@@ -81,17 +109,39 @@ fn take<R: Print + AllocGlobal, T: Answers>(
     line: &str,
 ) -> io::Result<()> {
     if row.is_begun && line.starts_with(" ") {
-        row.written.push('\n')?;
-        row.written.push_str(line)?;
+        row.go_on(line)?;
         return Ok(());
     }
     show(rt, answers, row)?;
-    if let Some(written) = line.strip_prefix("? |") {
-        row.is_begun = true;
-        row.written.push_str(written)?;
-        return Ok(());
+    match line.strip_prefix("? |") {
+        Some(written) => row.begin(written)?,
+        None => take_other(rt, answers, line)?,
     }
-    take_other(rt, answers, line)
+    Ok(())
+}
+
+/// Takes a line if it could be read.
+fn take_read<R: Print + AllocGlobal, T: Answers>(
+    rt: &R,
+    answers: &mut T,
+    row: &mut Row,
+    line: io::Result<String>,
+) -> io::Result<()> {
+    let line = line?;
+    take(rt, answers, row, line.as_str())
+}
+
+/// Takes the lines of standard input.
+fn take_all<R: Input + Print + AllocGlobal, T: Answers>(
+    rt: &R,
+    answers: &mut T,
+    row: &mut Row,
+) -> io::Result<()> {
+    let alloc = rt.alloc();
+    for line in BufReader::new(alloc, rt.reader())?.lines(alloc) {
+        take_read(rt, answers, row, line)?;
+    }
+    Ok(())
 }
 
 /// Answers the rows of the tables on standard input.
@@ -99,13 +149,10 @@ pub fn answer_rows<R: Input + Print + AllocGlobal, T: Answers>(
     rt: &R,
     answers: &mut T,
 ) -> io::Result<()> {
-    let alloc = rt.alloc();
     let mut row = Row {
         is_begun: false,
-        written: String::new(alloc),
+        written: String::new(rt.alloc()),
     };
-    for line in BufReader::new(alloc, rt.reader())?.lines(alloc) {
-        take(rt, answers, &mut row, line?.as_str())?;
-    }
+    take_all(rt, answers, &mut row)?;
     show(rt, answers, &mut row)
 }

@@ -41,19 +41,24 @@ pub(crate) fn text_of(alloc: Global, written: &str) -> Result<Vec<u8>, AllocErro
     Ok(text)
 }
 
+/// Puts a letter, which is a byte, as tables write it.
+fn put_letter(alloc: Global, shown: &mut String, letter: char) -> Result<(), AllocError> {
+    match letter {
+        '\n' => shown.push('~'),
+        ' '..='}' => shown.push(letter),
+        _ => {
+            let code = u32::from(letter);
+            let word = format!(in alloc; "\\{code:02X}")?;
+            shown.push_str(word.as_str())
+        }
+    }
+}
+
 /// An answer, whose letters are bytes, as tables write it.
 pub(crate) fn escaped(alloc: Global, answer: &str) -> Result<String, AllocError> {
     let mut shown = String::new(alloc);
     for letter in answer.chars() {
-        match letter {
-            '\n' => shown.push('~')?,
-            ' '..='}' => shown.push(letter)?,
-            _ => {
-                let code = u32::from(letter);
-                let word = format!(in alloc; "\\{code:02X}")?;
-                shown.push_str(word.as_str())?;
-            }
-        }
+        put_letter(alloc, &mut shown, letter)?;
     }
     Ok(shown)
 }

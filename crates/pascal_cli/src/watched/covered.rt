@@ -214,13 +214,13 @@ fn tell_coverage<R: Eprint + AllocGlobal>(
     let told = if options.lcov {
         lcov_report(rt.alloc(), program.path, program.prepared, counts)
     } else {
-        coverage_report(rt.alloc(), program.text, program.prepared, counts)
+        coverage_report(rt.alloc(), program.text, counts)
     };
-    tell_counts(rt, told);
+    tell_made(rt, told);
 }
 
-// Tells what was counted.
-pub(super) fn tell_counts<R: Eprint + AllocGlobal>(rt: &R, told: Result<String, AllocError>) {
+/// Tells what was made to be told, or that memory was refused for it.
+pub(super) fn tell_made<R: Eprint + AllocGlobal>(rt: &R, told: Result<String, AllocError>) {
     match told {
         Ok(told) => {
             let _ = rt.eprint(told.as_str());

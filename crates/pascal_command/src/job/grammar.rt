@@ -10,7 +10,7 @@ ghost use Rattle.pascal_command.specs.App.{check_app, compile_app, explain_app, 
 ghost use Rattle.pascal_command.specs.App.{limit_rule, limited, list_app, needs_app, pascal_app, path_rule};
 ghost use Rattle.pascal_command.specs.App.{budget_rule, run_app};
 ghost use Rattle.pascal_command.specs.App.{steps_rule};
-ghost use Rattle.pascal_command.specs.App.{verify_app, watch_app, words_rule};
+ghost use Rattle.pascal_command.specs.App.{verify_app, watch_app, with_checks, with_runs, with_watches, words_rule};
 
 use clap::{Arg, ArgAction, Command, value_parser};
 use std::alloc::{AllocError, Global};
@@ -180,8 +180,10 @@ fn with_limits<'a>(
     ensures { (app : App) → Makes app command.entry → Makes (limited app) result }
 {
     let stack = budget(alloc, "stack", "4194304", "Bytes of the stack");
+    let limited = with_arg(command, stack);
     let heap = budget(alloc, "heap", "1048576", "Bytes of the heap");
-    with_arg(with_arg(with_arg(command, stack), heap), step_limit(alloc))
+    let limited = with_arg(limited, heap);
+    with_arg(limited, step_limit(alloc))
 }
 
 fn compile_command<'a>(alloc: Global) -> Result<Command<'a>, AllocError>
@@ -189,8 +191,8 @@ fn compile_command<'a>(alloc: Global) -> Result<Command<'a>, AllocError>
 {
     let about = "Compiles a text and writes its image";
     let source = path(alloc, "SRC", "The Pascal text, or - for standard input");
-    let image = path(alloc, "IMG", "The image, or - for standard output");
     let compile = command_with(alloc, "compile", about, COMPILE_NOTES, source);
+    let image = path(alloc, "IMG", "The image, or - for standard output");
     with_arg(compile, image)
 }
 
@@ -241,8 +243,8 @@ fn certify_command<'a>(alloc: Global) -> Result<Command<'a>, AllocError>
     let about = "Writes the certificate of a text and its image to standard output";
     let example = "Example: pascal certify hello.pas hello.img > hello.cert";
     let source = path(alloc, "SRC", "The Pascal text, or - for standard input");
-    let image = path(alloc, "IMG", "The image of it, or - for standard input");
     let certify = command_with(alloc, "certify", about, example, source);
+    let image = path(alloc, "IMG", "The image of it, or - for standard input");
     with_arg(certify, image)
 }
 
@@ -252,10 +254,11 @@ fn verify_command<'a>(alloc: Global) -> Result<Command<'a>, AllocError>
     let about = "Builds a text again, and compares it and an image with a certificate";
     let example = "Example: pascal verify hello.cert hello.pas hello.img";
     let certificate = path(alloc, "CERT", "The certificate, or - for standard input");
-    let source = path(alloc, "SRC", "The Pascal text, or - for standard input");
-    let image = path(alloc, "IMG", "The image, or - for standard input");
     let verify = command_with(alloc, "verify", about, example, certificate);
-    with_arg(with_arg(verify, source), image)
+    let source = path(alloc, "SRC", "The Pascal text, or - for standard input");
+    let verify = with_arg(verify, source);
+    let image = path(alloc, "IMG", "The image, or - for standard input");
+    with_arg(verify, image)
 }
 
 fn needs_command<'a>(alloc: Global) -> Result<Command<'a>, AllocError>
@@ -315,23 +318,41 @@ fn with_subcommand<'a>(
     }
 }
 
-pub(super) fn pascal<'a>(alloc: Global) -> Result<Command<'a>, AllocError>
-    ensures { IfOk result (λ r. app_of r ≡ pascal_app) }
+// Adds the commands that build and run a text or an image.
+fn with_runs<'a>(
+    alloc: Global,
+    begun: Result<Command<'a>, AllocError>,
+) -> Result<Command<'a>, AllocError>
+    ensures { (app : App) → Makes app begun.entry → Makes (with_runs app) result }
 {
-    let pascal = Command::new(alloc, "pascal")
-        .about("A Pascal compiler whose images mean what their programs mean")
-        .no_binary_name(true)
-        .bin_name("pascal");
-    let pascal = with_subcommand(pascal, compile_command(alloc));
+    let pascal = with_subcommand(begun, compile_command(alloc));
     let pascal = with_subcommand(pascal, list_command(alloc));
     let pascal = with_subcommand(pascal, run_command(alloc));
-    let pascal = with_subcommand(pascal, go_command(alloc));
-    let pascal = with_subcommand(pascal, explain_command(alloc));
+    with_subcommand(pascal, go_command(alloc))
+}
+
+// Adds those that explain, check and compare.
+fn with_checks<'a>(
+    alloc: Global,
+    begun: Result<Command<'a>, AllocError>,
+) -> Result<Command<'a>, AllocError>
+    ensures { (app : App) → Makes app begun.entry → Makes (with_checks app) result }
+{
+    let pascal = with_subcommand(begun, explain_command(alloc));
     let pascal = with_subcommand(pascal, check_command(alloc));
     let pascal = with_subcommand(pascal, certify_command(alloc));
     let pascal = with_subcommand(pascal, verify_command(alloc));
-    let pascal = with_subcommand(pascal, needs_command(alloc));
-    let pascal = with_subcommand(pascal, watch_command(alloc, "why", WHY_ABOUT, WHY_NOTES));
+    with_subcommand(pascal, needs_command(alloc))
+}
+
+// Adds those that run a text and tell of the run.
+fn with_watches<'a>(
+    alloc: Global,
+    begun: Result<Command<'a>, AllocError>,
+) -> Result<Command<'a>, AllocError>
+    ensures { (app : App) → Makes app begun.entry → Makes (with_watches app) result }
+{
+    let pascal = with_subcommand(begun, watch_command(alloc, "why", WHY_ABOUT, WHY_NOTES));
     let pascal = with_subcommand(
         pascal,
         watch_command(alloc, "trace", TRACE_ABOUT, TRACE_NOTES),
@@ -344,4 +365,16 @@ pub(super) fn pascal<'a>(alloc: Global) -> Result<Command<'a>, AllocError>
         pascal,
         watch_command(alloc, "profile", PROFILE_ABOUT, PROFILE_NOTES),
     )
+}
+
+pub(super) fn pascal<'a>(alloc: Global) -> Result<Command<'a>, AllocError>
+    ensures { IfOk result (λ r. app_of r ≡ pascal_app) }
+{
+    let pascal = Command::new(alloc, "pascal")
+        .about("A Pascal compiler whose images mean what their programs mean")
+        .no_binary_name(true)
+        .bin_name("pascal");
+    let pascal = with_runs(alloc, pascal);
+    let pascal = with_checks(alloc, pascal);
+    with_watches(alloc, pascal)
 }

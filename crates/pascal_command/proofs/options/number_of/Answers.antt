@@ -7,5 +7,5 @@ use Rattle.pascal_command.proofs.options.number_of.Goals as goal
 pub returns-in-Err-clause-none : goal.returns-in-Err-clause-none
 returns-in-Err-clause-none c =
     let all : list_all is_ascii_digit c.args.text.now ≡ true =
-    (cc c.has_digits_alone.ensures) in
+    (cc c.is_digits.ensures) in
     (read c.args.text.now (Err c.in-Err.field-0) all c.in-Err.ensures.value.0).1
