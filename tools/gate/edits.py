@@ -20,6 +20,7 @@ import stubs
 import verdicts
 from functions import Function, functions_of, module_of
 from stubs import Place, Texts
+from together import Copy, Together
 
 # what a check ran to, and whether an edit was refused, with what was said
 Ran = subprocess.CompletedProcess
@@ -30,6 +31,13 @@ TAKEN_AWAY = r"has no field|is not in scope|has no `|was not admitted"
 # and of what is refused only for what it rests on
 OF_OTHERS = r"which (?:is|are|was|were) not (?:proved|admitted)"
 PLACE = re.compile(r"(?:(?:note|warning): )?(?:\./)?(src/\S+?\.rt):(\d+):\d+: (.*)")
+# what is said against a text
+FAULT = re.compile(r"(note: )?(\./)?(src|specs|proofs)/\S+:\d+:\d+: (error|it is not proved)")
+# the lines of Rust of a crate of which copies are checked whole
+LINES_OF_SMALL = 200
+# the edits of crates that are tried in one check, if a crate has not more by itself; and the bytes that a check takes
+# for a line of a crate more
+MOST_OF_GROUP, BYTES_OF_LINE = 75, 100_000
 
 
 def puts_body(text: str, function: Function, old: str, new: str) -> bool:
@@ -264,17 +272,25 @@ class Beside:
         self.twins.append(twin)
         self.at[key] = twin.place, re.sub(r"\w+$", twin.name, edit.names[0])
 
+    def copied(self, work: Work) -> stubs.Stubbed:
+        return stubs.Stubbed(self.crate, work.copy_at(), self.in_place, self.twins)
+
+    def asked(self) -> List[str]:
+        """The names of the twins, and of what is edited in its place."""
+        return [name for _, name in self.at.values()]
+
     def tried(self, work: Work) -> Optional[Dict[Edit, str]]:
         """Checks all of them, and returns those that are refused, each with what was said; None where the check tells
         nothing."""
         if not self.twins:
             return {}
-        stubbed = stubs.Stubbed(self.crate, work.copy_at(), self.in_place, self.twins)
+        stubbed = self.copied(work)
         texts = stubbed.texts(self.edited)
-        names = [name for _, name in self.at.values()]
-        said = work.checked(stubbed, texts, names, self.keeps)
-        if not told_something(said):
-            return None
+        said = work.checked(stubbed, texts, self.asked(), self.keeps)
+        return self.judged(said, texts) if told_something(said) else None
+
+    def judged(self, said: Ran, texts: Texts) -> Dict[Edit, str]:
+        """The edits that a check refuses, each with what it said."""
         found, done = refused_at(said.stdout, texts, self.crate), {}
         for edit, held in self.held.items():
             place, name = self.at[edit]
@@ -282,7 +298,7 @@ class Beside:
             why = found.get(place) or unproved(said, self.crate, name)
             if why and is_proved(said, self.crate, as_it_is):
                 done[edit] = why
-        print(f"of {len(self.held)} edits beside {len(self.at) - len(self.held)} functions as they are, {len(done)} are refused", flush=True)
+        print(f"{self.crate.name}: of {len(self.held)} edits beside {len(self.at) - len(self.held)} functions as they are, {len(done)} are refused", flush=True)
         return done
 
 
@@ -311,6 +327,97 @@ def is_proved(said: Ran, crate: Any, name: Optional[str]) -> bool:
 def unproved(said: Ran, crate: Any, name: str) -> Optional[str]:
     """The line that tells that no proof of a function was found, where the check says nothing more of it, or None."""
     return next((line for line in said.stdout.split("\n") if line.startswith(f"fn {crate.name}::{name}: no proof: expected ")), None)
+
+
+class Apart:
+    """Edits at functions that have no twin: those of what stands outside functions that tell one, those of several
+    bodies, and the second of one body that is edited in its place. Each is made in a copy of the crate of its own, where
+    its functions have their bodies. One copy more is as it is: with one function of those that are proved in a copy
+    since they are in the crate, and all others."""
+
+    def __init__(self, work: Work, edits: List[Edit]) -> None:
+        self.crate, self.copies, self.held, self.as_it_is = work.crate, {}, {}, None
+        for number, edit in enumerate(edits):
+            made = edit.apply({}, self.crate)
+            if made is not None:
+                self.copies[edit] = self.copy(work, f"edited{number}", made, names_in(edit))
+        alike = sorted(name for edit in self.copies for name in names_in(edit) if self.differs_by_name(edit))
+        for edit in self.copies:
+            self.held[edit] = alike[:1] if self.differs_by_name(edit) else names_in(edit)
+        if self.copies:
+            self.as_it_is = self.copy(work, "as_it_is", {}, sorted({name for names in self.held.values() for name in names}))
+
+    def differs_by_name(self, edit: Edit) -> bool:
+        """Whether a copy with an edit's functions differs from the crate by its name alone, where these are as they
+        are."""
+        sources, places = stubs.texts_of(self.crate), stubs.places_of(self.crate, names_in(edit))
+        return not stubs.lemmas_name_functions(self.crate) and all(stubs.differs_by_name(self.crate, sources, place) for place in places)
+
+    def copy(self, work: Work, name: str, made: Texts, asked: List[str]) -> Copy:
+        stubbed = stubs.Stubbed(self.crate, f"{work.copy_at()}_{name}", stubs.places_of(self.crate, asked))
+        return Copy(stubbed, f"{self.crate.name}_{name}", stubbed.texts(made), asked)
+
+    def all(self) -> List[Copy]:
+        return [self.as_it_is, *self.copies.values()] if self.copies else []
+
+    def judged(self, ran: Ran) -> Dict[Edit, str]:
+        """The edits of which a check refuses a function in its copy, and proves in the one that is as it is what shows
+        that the edit is why, each with what it said."""
+        done, held = {}, self.as_it_is.said(ran) if self.copies else None
+        for edit, copy in self.copies.items():
+            said, names = copy.said(ran), names_in(edit)
+            why = refused_for(said, copy.texts, [why for why in (unproved(said, self.crate, name) for name in names) if why])
+            if why and any(is_refused(said, self.crate, name) for name in names) and all(is_proved(held, self.crate, name) for name in self.held[edit]):
+                done[edit] = why
+        if self.copies:
+            print(f"{self.crate.name}: of {len(self.copies)} edits in copies of their own {len(done)} are refused", flush=True)
+        return done
+
+
+def is_refused(said: Ran, crate: Any, name: str) -> bool:
+    """Whether a check tells that it found no proof of a function."""
+    return bool(re.search(rf"(?m)^fn {re.escape(crate.name)}::{re.escape(name)}: (not proved|no proof)", said.stdout))
+
+
+class Shared:
+    """What a crate's edits bring into a check of several crates: a copy of the crate with all twins, where there are
+    any, and copies of single edits."""
+
+    def __init__(self, crate: Any, edits: List[Edit], flags: List[str]) -> None:
+        work = Work(crate, flags)
+        self.beside, self.copy = Beside(crate, edits, cuts=True), None
+        self.apart = Apart(work, [edit for edit in edits if names_in(edit) and edit not in self.beside.held])
+        if self.beside.twins:
+            stubbed = self.beside.copied(work)
+            self.copy = Copy(stubbed, f"{crate.name}_edited", stubbed.texts(self.beside.edited), self.beside.asked())
+
+    def copies(self) -> List[Copy]:
+        return [*([self.copy] if self.copy else []), *self.apart.all()]
+
+    def judged(self, ran: Ran) -> Dict[Edit, str]:
+        """The edits that a check refuses, each with what it said."""
+        beside = self.beside.judged(self.copy.said(ran), self.copy.texts) if self.copy else {}
+        return {**beside, **self.apart.judged(ran)}
+
+
+def is_library(crate: Any) -> bool:
+    return os.path.isfile(f"{crate.folder}/src/lib.rt")
+
+
+def tried_together(left: List[Tuple[Any, List[Edit]]], flags: List[str]) -> Dict[str, Dict[Edit, str]]:
+    """Tries edits of several crates beside their functions, and those that tell a function in copies of their own, all
+    in one check. Returns for each crate, by its name, those that are refused, each with what was said; nothing where
+    the check tells nothing, and nothing of a program, which can be no library."""
+    shared = {crate.name: Shared(crate, edits, flags) for crate, edits in left if is_library(crate)}
+    copies = [copy for share in shared.values() for copy in share.copies()]
+    if not copies:
+        return {}
+    empty = Together(f"{left[0][0].folder}/out/together", copies)
+    ran = kit.rt().checked(empty, {}, [*flags, *empty.asked()], None)
+    done = {name: share.judged(ran) for name, share in shared.items()} if told_something(ran) else {}
+    for folder in [empty.folder, *(copy.folder for copy in copies)]:
+        shutil.rmtree(folder, ignore_errors=True)
+    return done
 
 
 def round_of(stubbed: stubs.Stubbed, work: Work, edits: Iterable[Edit]) -> Dict[Edit, str]:
@@ -348,8 +455,8 @@ class Spent:
             self.parts.append(f"{what} {now - self.last:.0f} s")
         self.last = now
 
-    def tell(self) -> None:
-        print(f"gate: its edits took of a processor: {', '.join(self.parts)}", flush=True)
+    def tell(self, left: List[Tuple[Any, List[Edit]]]) -> None:
+        print(f"gate: {', '.join(f'{len(edits)} of {crate.name}' for crate, edits in left)} took of a processor: {', '.join(self.parts)}", flush=True)
 
 
 def tried(crate: Any, edit: Edit, flags: List[str]) -> Trial:
@@ -386,7 +493,7 @@ def refused_for(ran: Ran, texts: Texts, otherwise: List[str]) -> Optional[str]:
     lines = ran.stdout.split("\n")
     if ran.returncode != 1 or any(kit.rt().unread(line, texts) for line in lines):
         return None
-    errors = [line for line in lines if re.match(r"(note: )?(\./)?(src|specs|proofs)/\S+:\d+:\d+: (error|it is not proved)", line)]
+    errors = [line for line in lines if FAULT.match(line)]
     return next((line for line in errors or otherwise if not re.search(TAKEN_AWAY, line)), None)
 
 
@@ -394,28 +501,76 @@ def key_of(crate: Any, edit: Edit) -> str:
     return kit.sum_of("edit", verdicts.FORM, verdicts.facts_of(crate)["key"], edit.name, edit.text)
 
 
-def add_all(tasks: Dict[Any, Any], crate: Any, paths: List[str], *_: Any) -> Any:
-    """Adds the one task that tries a crate's edits, once it and its tests are proved, and returns what gives their
-    results, and those of earlier runs: none."""
-    key, rt = (crate.name, "edits"), kit.rt()
-    strays = [os.path.relpath(edit, crate.folder) for edit in rt.edits_of(crate)[1]]
+class Group:
+    """Crates whose edits are tried together, as the one task of a run: once all of them and their tests are proved."""
 
-    def call(given: Dict[Any, Any], jobs: int) -> Any:
-        if not (given[crate.name, "proof"] and given[crate.name, "tests"]):
-            return [(False, f"{crate.name}: its edits are not tried") for _ in paths]
-        told = try_all(crate, paths, ["--jobs", str(jobs)])
-        return [(False, f"{crate.name}: no edit, and not read: {', '.join(strays)}") for _ in paths] if strays else told
+    def __init__(self, number: int) -> None:
+        self.key, self.members = (f"edits {number}", "edits"), []
+
+    def has_room(self, paths: List[str]) -> bool:
+        return sum(len(paths) for _, paths in [*self.members, (None, paths)]) <= MOST_OF_GROUP
+
+    def task(self) -> Tuple[Any, ...]:
+        """What a task of `rt ci` is: what it waits for, its lines, its memory, and this call."""
+        crates, rt = [crate for crate, _ in self.members], kit.rt()
+        lines = [crate.count(rb"\n") for crate in crates]
+        waits = [(crate.name, part) for crate in crates for part in ("proof", "tests")]
+        # (the libraries below, which take most of what a crate needs, are loaded once)
+        memory = max(rt.need(crate) for crate in crates) + BYTES_OF_LINE * (sum(lines) - max(lines))
+        # (as many lines as one of them would have behind its proof, so that the order of the proofs stays)
+        return waits, max(lines), memory, self
+
+    def __call__(self, given: Dict[Any, Any], jobs: int) -> Dict[str, List[Trial]]:
+        proved = [(crate, paths) for crate, paths in self.members if given[crate.name, "proof"] and given[crate.name, "tests"]]
+        told = {crate.name: [(False, f"{crate.name}: its edits are not tried") for _ in paths] for crate, paths in self.members}
+        told.update(try_all(proved, ["--jobs", str(jobs)]))
+        for crate, paths in self.members:
+            strays = [os.path.relpath(edit, crate.folder) for edit in kit.rt().edits_of(crate)[1]]
+            if strays:
+                told[crate.name] = [(False, f"{crate.name}: no edit, and not read: {', '.join(strays)}") for _ in paths]
+        return told
+
+
+def add_all(tasks: Dict[Any, Any], crate: Any, paths: List[str], *_: Any) -> Any:
+    """Adds a crate's edits to a task that tries them, and returns what gives their results, and those of earlier runs:
+    none."""
+    if not paths:
+        return lambda given: [], dict
+    # (neighbours, so that those of low crates need not wait for high ones)
+    groups = [task[-1] for task in tasks.values() if isinstance(task[-1], Group)]
+    group = groups[-1] if groups and groups[-1].has_room(paths) else Group(len(groups) + 1)
+    group.members.append((crate, paths))
+    # (behind all that it waits for)
+    tasks.pop(group.key, None)
+    tasks[group.key] = group.task()
 
     def results(given: Dict[Any, Any]) -> Any:
-        told = given[key] or [(False, f"{crate.name}: trying its must-fail edits broke off") for _ in paths]
+        rt, broken = kit.rt(), [(False, f"{crate.name}: trying its must-fail edits broke off") for _ in paths]
+        told = given[group.key][crate.name] if given[group.key] else broken
         return [(rt.REFUSED if well else rt.MISSED, said) for well, said in told]
 
-    tasks[key] = ([(crate.name, "proof"), (crate.name, "tests")], crate.count(rb"\n") if paths else 0, rt.need(crate), call)
     return results, dict
 
 
-def try_all(crate: Any, paths: List[str], flags: List[str]) -> List[Trial]:
-    """What came of each edit of a crate: whether the prover refuses it, and what to say."""
+def try_all(members: List[Tuple[Any, List[str]]], flags: List[str]) -> Dict[str, List[Trial]]:
+    """What came of each edit of some crates: whether the prover refuses it, and what to say."""
+    told, left, spent = {}, [], Spent()
+    for crate, paths in members:
+        told[crate.name], anew = known(crate, paths, flags)
+        verdicts.note(crate, False, {**verdicts.facts_of(crate), "tried": len(anew)})
+        left += [(crate, anew)] if anew else []
+    done = tried_together(left, flags)
+    spent.part(f"{sum(map(len, done.values()))} of {sum(len(edits) for _, edits in left)} in one check")
+    for crate, edits in left:
+        told[crate.name].update(try_anew(crate, edits, flags, done.get(crate.name), spent))
+    if left:
+        spent.tell(left)
+    return {crate.name: [told[crate.name][path] for path in paths] for crate, paths in members}
+
+
+def known(crate: Any, paths: List[str], flags: List[str]) -> Tuple[Dict[str, Trial], List[Edit]]:
+    """What came of a crate's edits in earlier runs, and of those that cannot be applied; and the edits that are left to
+    be tried."""
     told, left = {}, []
     for edit in [Edit(path, crate) for path in paths]:
         kept = verdicts.store.facts(key_of(crate, edit))
@@ -425,10 +580,7 @@ def try_all(crate: Any, paths: List[str], flags: List[str]) -> List[Trial]:
             told[edit.path] = tried(crate, edit, flags)
         else:
             left.append(edit)
-    verdicts.note(crate, False, {**verdicts.facts_of(crate), "tried": len(left)})
-    if left:
-        told.update(try_anew(crate, left, flags))
-    return [told[path] for path in paths]
+    return told, left
 
 
 def keep(crate: Any, edit: Edit, told: Trial) -> Trial:
@@ -438,14 +590,14 @@ def keep(crate: Any, edit: Edit, told: Trial) -> Trial:
     return told
 
 
-def try_anew(crate: Any, edits: List[Edit], flags: List[str]) -> Dict[str, Trial]:
-    """Tries edits of which the store knows nothing, and keeps there those that are refused."""
-    told, spent = {}, Spent()
-    for edit, why in refused_by_name(Work(crate, flags), edits, spent):
+def try_anew(crate: Any, edits: List[Edit], flags: List[str], done: Optional[Dict[Edit, str]], spent: "Spent") -> Dict[str, Trial]:
+    """Tries edits of which the store knows nothing, and keeps there those that are refused. Where they were tried
+    together with those of other crates, these ones were refused there."""
+    told = {}
+    for edit, why in refused_by_name(Work(crate, flags), edits, done, spent):
         told[edit.path] = keep(crate, edit, refused(crate, edit, why))
     for edit, came in tried_whole(Work(crate, flags), [edit for edit in edits if edit.path not in told], spent):
         told[edit.path] = keep(crate, edit, came)
-    spent.tell()
     return told
 
 
@@ -454,9 +606,50 @@ def refused(crate: Any, edit: Edit, why: str) -> Trial:
     return True, f"must-fail {crate.name}/{edit.name}: refused, as it must be: {why[:160]}"
 
 
+class Whole:
+    """Edits that name no function, each in a copy of the whole crate, and one copy as it is, in one check."""
+
+    def __init__(self, work: Work, edits: List[Edit]) -> None:
+        self.work, self.crate, self.copies = work, work.crate, {}
+        made = {edit: edit.apply({}, self.crate) for edit in edits}
+        self.as_it_is = self.copy("as_it_is", {})
+        for number, edit in enumerate(edit for edit in edits if made[edit] is not None):
+            self.copies[edit] = self.copy(f"edited{number}", made[edit])
+
+    def copy(self, name: str, made: Texts) -> Copy:
+        places = {place for place, _ in stubs.all_functions(stubs.texts_of(self.crate))}
+        stubbed = stubs.Stubbed(self.crate, f"{self.work.copy_at()}_{name}", places)
+        return Copy(stubbed, f"{self.crate.name}_{name}", stubbed.texts(made), [])
+
+    def tried(self) -> Dict[Edit, str]:
+        """Those of which the copies are refused, where the one that is as it is is proved, each with what was said."""
+        copies = [self.as_it_is, *self.copies.values()]
+        empty = Together(f"{self.crate.folder}/out/together", copies)
+        ran, done = kit.rt().checked(empty, {}, self.work.flags, None), {}
+        if last_line(ran).startswith("logic=not-proved") and is_proved_whole(self.as_it_is.said(ran)):
+            why = {edit: refused_for(copy.said(ran), copy.texts, []) for edit, copy in self.copies.items()}
+            done = {edit: told for edit, told in why.items() if told}
+        for folder in [empty.folder, *(copy.folder for copy in copies)]:
+            shutil.rmtree(folder, ignore_errors=True)
+        return done
+
+
+def is_proved_whole(said: Ran) -> bool:
+    """Whether a check says that all functions of a copy are proved, and nothing against any other text of it."""
+    lines = said.stdout.split("\n")
+    functions = [line for line in lines if line.startswith("fn ")]
+    return bool(functions) and all(re.search(r": (proved|assumed)\b", line) for line in functions) and not any(FAULT.match(line) for line in lines)
+
+
 def tried_whole(work: Work, edits: List[Edit], spent: Spent) -> Iterator[Tuple[Edit, Trial]]:
-    """Yields edits with what came of each where the whole crate is checked: several over what the crate as it stands
-    left, if that is proved; one alone, and each that is not refused there, from nothing."""
+    """Yields edits with what came of each where the whole crate is checked: several of a small crate in copies of it;
+    several of another over what the crate as it stands left, if that is proved; one alone, and each that is not refused
+    so, from nothing."""
+    if len(edits) > 1 and is_library(work.crate) and work.crate.count(rb"\n") <= LINES_OF_SMALL:
+        done = Whole(work, edits).tried()
+        spent.part(f"{len(done)} of {len(edits)} in copies of the whole crate")
+        yield from ((edit, refused(work.crate, edit, why)) for edit, why in done.items())
+        edits = [edit for edit in edits if edit not in done]
     is_held = len(edits) > 1 and not work.checked(work, {}, []).returncode
     spent.part("the crate as it stands")
     for edit in edits:
@@ -473,11 +666,13 @@ def refused_whole(work: Work, edit: Edit) -> Optional[str]:
     return refused_for(ran, texts, []) if ran and last_line(ran).startswith("logic=not-proved") else None
 
 
-def refused_by_name(work: Work, edits: List[Edit], spent: Spent) -> Iterator[Tuple[Edit, str]]:
-    """Yields the edits that are refused at functions, each with what was said: those beside their functions first, then
-    those that are tried in their places, and at last each of those that are left by itself."""
-    done = beside(work, edits)
-    spent.part(f"{len(done)} of {len(edits)} beside their functions")
+def refused_by_name(work: Work, edits: List[Edit], done: Optional[Dict[Edit, str]], spent: Spent) -> Iterator[Tuple[Edit, str]]:
+    """Yields the edits that are refused at functions, each with what was said: those beside their functions first,
+    which these ones are where that is known, then those that are tried in their places, and at last each of those that
+    are left by itself."""
+    if done is None:
+        done = beside(work, edits)
+        spent.part(f"{len(done)} of {len(edits)} of {work.crate.name} beside their functions")
     yield from done.items()
     left = [edit for edit in edits if edit not in done and names_in(edit)]
     places = {place for edit in left for place in [*(edit.places or ()), *stubs.places_of(work.crate, names_in(edit))]}

@@ -21,9 +21,9 @@ class Report:
     def begin(self, tasks: List[Any], places: int) -> None:
         self.say(f"{len(tasks)} proofs, tests and sets of edits to look at, {places} side by side")
 
-    def facts(self, task: Any, ending: str = "") -> Dict[str, Any]:
+    def facts(self, crate: str, ending: str = "") -> Dict[str, Any]:
         try:
-            with open(f"{self.tree}/crates/{task.name}/out/facts.json{ending}", encoding="utf-8") as file:
+            with open(f"{self.tree}/crates/{crate}/out/facts.json{ending}", encoding="utf-8") as file:
                 return json.load(file)
         except OSError:
             return {}
@@ -33,7 +33,7 @@ class Report:
         part = "edits" if task.is_edits else "proof"
         self.took[task.name, part] = self.took.get((task.name, part), 0) + seconds(usage)
         self.most[task.name] = max(self.most.get(task.name, 0), usage.ru_maxrss)
-        tries = given if task.is_edits and given else []
+        tries = [trial for told in given.values() for trial in told] if task.is_edits and given else []
         is_well = not status and bool(given) and all(trial[0] for trial in tries)
         for match in re.findall("(?m)^gate: .*", said if is_well else ""):
             self.say(f"{task.name}: {match[6:]}")
@@ -42,10 +42,10 @@ class Report:
             print(said, end="" if said.endswith("\n") else "\n")
             words = "FAILED"
         elif task.is_edits:
-            tried = self.facts(task).get("tried", 0)
+            tried = sum(self.facts(name).get("tried", 0) for name in given)
             words = f"{len(tries)} edits refused ({tried} tried, the rest kept) in {spent}" if tried else f"{len(tries)} edits refused (kept)"
         else:
-            facts = self.facts(task, ".tests" if task.part == "tests" else "")
+            facts = self.facts(task.name, ".tests" if task.part == "tests" else "")
             what = "its tests are " if task.part == "tests" else ""
             words = f"{what}kept" if facts.get("kept") else f"{what}proved in {spent}"
         self.say(f"{task.name}: {words}; {left} left")

@@ -31,17 +31,18 @@ BODY = "crate::returns_never()"
 FALLS = re.compile(r"(?m)( = |^ +)\(search \([^()]*\), (.*)\)$")
 # The function that never returns, by one of C that is said to keep what nothing keeps: nothing of the copy is ever
 # built.
-NEVER = """
-unsafe extern "C" {
-    safe fn keeps_what_nothing_keeps()
-        ensures nothing { ⊥ };
-}
+KEEPS = "keeps_what_nothing_keeps"
+NEVER = f"""
+unsafe extern "C" {{
+    safe fn {KEEPS}()
+        ensures nothing {{ ⊥ }};
+}}
 
 #[tactic(auto)]
-fn returns_never() -> ! {
-    keeps_what_nothing_keeps();
+fn returns_never() -> ! {{
+    {KEEPS}();
     unreachable!()
-}
+}}
 """
 
 
