@@ -697,6 +697,12 @@ def with_list_half(length: int) -> str:
 
 
 @shape()
+def with_list_within(length: int) -> str:
+    """`with` statements within one of records that are half of the text."""
+    return within_list(length, length // 4, "a:r", "a", "with a do;")
+
+
+@shape()
 def with_list_branches(length: int) -> str:
     """Conditions in a `with` of 4,000 pointers' records."""
     return within_list(length, 4000, "a:^r;y:boolean", "a^", "if y then;")
@@ -1091,6 +1097,13 @@ def with_deep(length: int) -> str:
     """Assignments within as many `with` statements as may be."""
     head = "program p; type r=record x:integer end; var a:r; y:integer; begin " + "with a do " * DEPTH + "begin "
     return filled(head, "y:=1;", " end end.\n", length)
+
+
+@shape(is_deep=True)
+def with_deep_outermost(length: int) -> str:
+    """Assignments to a field of the outermost record within as many `with` statements as may be."""
+    head = "program p; var a:record x:integer end; b:record y:integer end; begin with a do " + "with b do " * (DEPTH - 1)
+    return filled(head + "begin ", "x:=x;", " end end.\n", length)
 
 
 @shape(is_deep=True)
