@@ -25,7 +25,7 @@ Names = List (List ℕ × Meaning)
 unfoldable pub required_types : Names
 required_types = (codes "integer", TypeMeaning (OrdinalType integer)) ∷ (codes "char", TypeMeaning (OrdinalType char))
     ∷ (codes "boolean", TypeMeaning (OrdinalType boolean))
-    ∷ (codes "maxint", ConstantMeaning integer (pos 2147483647)) ∷ (codes "false", ConstantMeaning boolean (pos 0))
+    ∷ (codes "maxint", ConstantMeaning integer integer.high) ∷ (codes "false", ConstantMeaning boolean (pos 0))
     ∷ (codes "true", ConstantMeaning boolean (pos 1)) ∷ []
 
 -- required functions (6.6.6) and procedures (6.6.5)

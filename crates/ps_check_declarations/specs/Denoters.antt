@@ -3,6 +3,7 @@ use Rattle.std.specs.Prelude.{ℕ, ◌+◌, ◌-◌, pos, int_le, Bool, true, fa
 use Rattle.std.specs.Prelude.{Option, Some, None, nat_lt, if◌then◌else◌}
 use Rattle.ps_text.specs.declared.Span.{Span}
 use Rattle.ps_tree.specs.declared.limits.TheConstants.{MAX_ROUTINES}
+use Rattle.ps_check_declarations.specs.declared.denoters.TheConstants.{CONSTANT_LIMIT}
 use Rattle.ps_syntax.specs.First.{first_of_ordinal}
 use Rattle.ps_syntax.specs.declared.program.Ordinal as syntax
 use Rattle.ps_syntax.specs.declared.program.Ordinal.TheVariants as o
@@ -94,7 +95,7 @@ ordinal_at at _ = No WrongType at
 
 -- ---- ordinal types (6.4.2)
 
--- 6.4.2.3: the type with the given number of constants, which begins there; no text has 2147483648 names
+-- 6.4.2.3: the type with the given number of constants, which begins there; no text has so many as the limit
 abbrev pub enumerated : (at count : ℕ) → Ordinal
 enumerated at count =
     record { host = Enumeration at (pos (count - 1)); subrange = None; low = pos 0; high = pos (count - 1) }
@@ -121,7 +122,7 @@ module _ (f : Frame) where
   abbrev pub enumeration : (at : ℕ) → Points → Declared → Judged (Ordinal × Declared)
   enumeration at names d = do
     count ← new_points f.text f.names f.begun (length d.known) names
-    provided (nat_lt (length names) 2147483648) Limit at
+    provided (nat_lt (length names) CONSTANT_LIMIT) Limit at
         (enumerated at (length names), with_known d (d.known ++ constants_from (enumerated at (length names)) 0 names))
 
   unfoldable pub ordinal : Hidden → Declared → syntax.Ordinal → Judged (Ordinal × Declared)

@@ -33,6 +33,9 @@ use std::alloc::{AllocError, Global};
 use std::mem;
 use std::rc::Rc;
 
+/// An enumerated type has fewer constants, so that the ordinal number of each is an integer.
+pub const CONSTANT_LIMIT: usize = 2_147_483_648;
+
 /// A pointer type, whose domain type is resolved later.
 #[tactic(auto, unfolding(ps_tree::specs::View::type_of))]
 fn pointer(
@@ -146,7 +149,7 @@ fn one_array(
 ) -> Result<Ty, CheckFault>
     ensures { Answers result (λ ty. type_of ty) (small at (ArrayType at packed index (type_of component))) }
 {
-    let component = Rc::new(alloc, Component::new(component))?;
+    let component = Rc::new(alloc, Component::new(component)?)?;
     small(
         Ty::Array {
             at,

@@ -50,13 +50,13 @@ pub(crate) fn result_type(ty: &Option<Ty>, at: u32) -> Result<Ty, CheckFault>
 
 /// The name that a term is, if it is nothing else.
 #[tactic(auto, using(crate::proofs::Judgement::term_name, crate::proofs::Equations::factor_call, crate::proofs::Equations::factor_number, crate::proofs::Equations::factor_text, crate::proofs::Equations::factor_nil, crate::proofs::Equations::factor_set, crate::proofs::Equations::factor_group, crate::proofs::Equations::factor_not))]
-fn term_name(x: &Term) -> Option<Span>
-    ensures { (c : Context) (Γ : List Region) → (term_operand c Γ x.now).name ≡ result }
+fn term_name(term: &Term) -> Option<Span>
+    ensures { (c : Context) (Γ : List Region) → (term_operand c Γ term.now).name ≡ result }
 {
-    if !x.more.is_empty() {
+    if !term.more.is_empty() {
         return None;
     }
-    match &x.first {
+    match &term.first {
         Factor::Variable(variable) => {
             if variable.selectors.is_empty() {
                 Some(variable.name)
@@ -76,10 +76,10 @@ fn term_name(x: &Term) -> Option<Span>
 
 /// The name that an expression is, if it is nothing else.
 #[tactic(auto, using(crate::proofs::Equations::operand_simple, crate::proofs::Equations::operand_compare, crate::proofs::Judgement::simple_name, crate::proofs::Judgement::simple_no_name, crate::proofs::Judgement::signed_no_name))]
-pub fn name_alone(x: &Syntax) -> Option<Span>
-    ensures { (c : Context) (Γ : List Region) → (operand c Γ x.now).name ≡ result }
+pub fn name_alone(expression: &Syntax) -> Option<Span>
+    ensures { (c : Context) (Γ : List Region) → (operand c Γ expression.now).name ≡ result }
 {
-    match x {
+    match expression {
         Syntax::Compare(..) => None,
         Syntax::Simple(simple) => match &simple.sign {
             Some(_) => None,
@@ -97,11 +97,11 @@ pub fn name_alone(x: &Syntax) -> Option<Span>
 /// Whether an expression is the name of the input.
 #[inline(never)]
 #[tactic(auto)]
-pub(crate) fn is_the_input(site: Site<'_>, x: &Syntax) -> Result<bool, AllocError>
+pub(crate) fn is_the_input(site: Site<'_>, expression: &Syntax) -> Result<bool, AllocError>
     ensures { IfOk result (λ b. b ≡ names_input (context_at site.entry) (regions_at site.entry)
-        (operand (context_at site.entry) (regions_at site.entry) x.now)) }
+        (operand (context_at site.entry) (regions_at site.entry) expression.now)) }
 {
-    match name_alone(x) {
+    match name_alone(expression) {
         None => Ok(false),
         Some(name) => match site.denoted(name) {
             Ok(found) => Ok(is_input(found)),

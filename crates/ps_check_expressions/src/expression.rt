@@ -148,11 +148,11 @@ fn number_value(site: Site<'_>, at: Span) -> TypedValue
 
 /// Whether a simple expression is one factor, without sign and operators, as most are.
 #[tactic(auto, using(crate::proofs::Judgement::value_of_one_factor))]
-fn is_one_factor(x: &Simple) -> bool
-    ensures { IsTrue result → (c : Context) (Γ : List Region) → (simple_operand c Γ x.now).value
-        ≡ (factor_operand c Γ (out-Term (out-Simple x.now).first).first).value }
+fn is_one_factor(simple: &Simple) -> bool
+    ensures { IsTrue result → (c : Context) (Γ : List Region) → (simple_operand c Γ simple.now).value
+        ≡ (factor_operand c Γ (out-Term (out-Simple simple.now).first).first).value }
 {
-    x.sign.is_none() && x.more.is_empty() && x.first.more.is_empty()
+    simple.sign.is_none() && simple.more.is_empty() && simple.first.more.is_empty()
 }
 
 /// The value of an expression. One that is a factor alone goes straight to it: parentheses are nested hundreds of
@@ -160,14 +160,14 @@ fn is_one_factor(x: &Simple) -> bool
 #[cycle(expression)]
 #[tactic(auto, using(crate::proofs::Equations::operand_simple))]
 pub fn expr_value(
-    x: &Syntax,
+    expression: &Syntax,
     site: Site<'_>,
     changes: &mut Vec<Change>,
 ) -> Result<TypedValue, CheckFault>
     ensures { Answers result (λ v. (value_of v, changes.new.items))
-        ((operand (context_at site.entry) (regions_at site.entry) x.now).value changes.old.items) }
+        ((operand (context_at site.entry) (regions_at site.entry) expression.now).value changes.old.items) }
 {
-    match x {
+    match expression {
         Syntax::Simple(only) => {
             if is_one_factor(only) {
                 factor_value(&only.first.first, site, changes)
@@ -175,7 +175,7 @@ pub fn expr_value(
                 simple_value(only, site, changes)
             }
         }
-        Syntax::Compare(..) => compared_value(x, site, changes),
+        Syntax::Compare(..) => compared_value(expression, site, changes),
     }
 }
 
@@ -184,14 +184,14 @@ pub fn expr_value(
 #[inline(never)]
 #[tactic(auto, using(crate::proofs::Equations::operand_simple, crate::proofs::Judgement::compare_value))]
 fn compared_value(
-    x: &Syntax,
+    expression: &Syntax,
     site: Site<'_>,
     changes: &mut Vec<Change>,
 ) -> Result<TypedValue, CheckFault>
     ensures { Answers result (λ v. (value_of v, changes.new.items))
-        ((operand (context_at site.entry) (regions_at site.entry) x.now).value changes.old.items) }
+        ((operand (context_at site.entry) (regions_at site.entry) expression.now).value changes.old.items) }
 {
-    match x {
+    match expression {
         Syntax::Simple(only) => simple_value(only, site, changes),
         Syntax::Compare(left, relation, _, right) => {
             let right = right.get();
@@ -210,16 +210,22 @@ fn compared_value(
 #[inline(never)]
 #[tactic(auto, using(crate::proofs::Judgement::simple_value))]
 fn simple_value(
-    x: &Simple,
+    simple: &Simple,
     site: Site<'_>,
     changes: &mut Vec<Change>,
 ) -> Result<TypedValue, CheckFault>
     ensures { Answers result (λ v. (value_of v, changes.new.items))
-        ((simple_operand (context_at site.entry) (regions_at site.entry) x.now).value changes.old.items) }
+        ((simple_operand (context_at site.entry) (regions_at site.entry) simple.now).value changes.old.items) }
 {
-    let term = term_value(&x.first, site, changes)?;
-    let first = first_term(site, &x.sign, term, x.first.first_token())?;
-    add_terms(x.more.as_slice(), site, changes, first, x.first_token())
+    let term = term_value(&simple.first, site, changes)?;
+    let first = first_term(site, &simple.sign, term, simple.first.first_token())?;
+    add_terms(
+        simple.more.as_slice(),
+        site,
+        changes,
+        first,
+        simple.first_token(),
+    )
 }
 
 /// Terms that are added to a value, which begins at `at`.
@@ -269,12 +275,22 @@ fn add_term(
 #[cycle(expression)]
 #[inline(never)]
 #[tactic(auto, using(crate::proofs::Judgement::term_value))]
-fn term_value(x: &Term, site: Site<'_>, changes: &mut Vec<Change>) -> Result<TypedValue, CheckFault>
+fn term_value(
+    term: &Term,
+    site: Site<'_>,
+    changes: &mut Vec<Change>,
+) -> Result<TypedValue, CheckFault>
     ensures { Answers result (λ v. (value_of v, changes.new.items))
-        ((term_operand (context_at site.entry) (regions_at site.entry) x.now).value changes.old.items) }
+        ((term_operand (context_at site.entry) (regions_at site.entry) term.now).value changes.old.items) }
 {
-    let first = factor_value(&x.first, site, changes)?;
-    multiply_factors(x.more.as_slice(), site, changes, first, x.first_token())
+    let first = factor_value(&term.first, site, changes)?;
+    multiply_factors(
+        term.more.as_slice(),
+        site,
+        changes,
+        first,
+        term.first_token(),
+    )
 }
 
 /// Factors that a value, which begins at `at`, is multiplied by.
@@ -325,14 +341,14 @@ fn multiply_factor(
 #[inline(never)]
 #[tactic(auto, using(crate::proofs::Equations::factor_variable, crate::proofs::Equations::factor_call, crate::proofs::Equations::factor_number, crate::proofs::Equations::factor_text, crate::proofs::Equations::factor_nil, crate::proofs::Equations::factor_set, crate::proofs::Equations::factor_group, crate::proofs::Equations::factor_not))]
 fn factor_value(
-    x: &Factor,
+    factor: &Factor,
     site: Site<'_>,
     changes: &mut Vec<Change>,
 ) -> Result<TypedValue, CheckFault>
     ensures { Answers result (λ v. (value_of v, changes.new.items))
-        ((factor_operand (context_at site.entry) (regions_at site.entry) x.now).value changes.old.items) }
+        ((factor_operand (context_at site.entry) (regions_at site.entry) factor.now).value changes.old.items) }
 {
-    match x {
+    match factor {
         Factor::Variable(variable) => variable_value(variable, site, changes),
         Factor::Call(name, operands) => {
             let found = site.denoted(*name)?;
@@ -352,15 +368,15 @@ fn factor_value(
 #[inline(never)]
 #[tactic(auto, using(crate::proofs::Judgement::negation_value))]
 fn negated_value(
-    x: &Factor,
+    factor: &Factor,
     site: Site<'_>,
     changes: &mut Vec<Change>,
 ) -> Result<TypedValue, CheckFault>
     ensures { Answers result (λ v. (value_of v, changes.new.items))
-        (negation (factor_operand (context_at site.entry) (regions_at site.entry) x.now) changes.old.items) }
+        (negation (factor_operand (context_at site.entry) (regions_at site.entry) factor.now) changes.old.items) }
 {
-    let at = x.first_token();
-    let operand = factor_value(x, site, changes)?;
+    let at = factor.first_token();
+    let operand = factor_value(factor, site, changes)?;
     negated(site.alloc, operand, at)
 }
 
@@ -378,10 +394,10 @@ fn set_value(
 {
     let mut list = Vec::new(site.alloc);
     let mut base = None;
-    for x in members {
-        let (member, ordinal) = member_value(x, site, changes)?;
-        list.push(member)?;
-        base = Some(joined(base, ordinal, x.first_token())?);
+    for member in members {
+        let (value, ordinal) = member_value(member, site, changes)?;
+        list.push(value)?;
+        base = Some(joined(base, ordinal, member.first_token())?);
     }
     Ok(constructed(list, base))
 }
@@ -390,14 +406,14 @@ fn set_value(
 #[inline(never)]
 #[tactic(auto, using(crate::proofs::Judgement::member_one, crate::proofs::Judgement::member_range))]
 fn member_value(
-    x: &SyntaxMember,
+    member: &SyntaxMember,
     site: Site<'_>,
     changes: &mut Vec<Change>,
 ) -> Result<(Member, Ordinal), CheckFault>
     ensures { Answers result (λ m. ((member_of m.0, m.1), changes.new.items))
-        ((member_at (context_at site.entry) (regions_at site.entry) x.now).member changes.old.items) }
+        ((member_at (context_at site.entry) (regions_at site.entry) member.now).member changes.old.items) }
 {
-    match x {
+    match member {
         SyntaxMember::One(only) => {
             let only = only.get();
             let at = only.first_token();
@@ -423,19 +439,19 @@ fn member_value(
 #[inline(never)]
 #[tactic(auto, using(crate::proofs::Judgement::value_alone, crate::proofs::Judgement::value_selected))]
 fn variable_value(
-    x: &Variable,
+    variable: &Variable,
     site: Site<'_>,
     changes: &mut Vec<Change>,
 ) -> Result<TypedValue, CheckFault>
     ensures { Answers result (λ v. (value_of v, changes.new.items))
-        ((variable_operand (context_at site.entry) (regions_at site.entry) x.now).value changes.old.items) }
+        ((variable_operand (context_at site.entry) (regions_at site.entry) variable.now).value changes.old.items) }
 {
-    if x.selectors.is_empty() {
-        let found = site.denoted(x.name)?;
-        standing(site, found, x.name)
+    if variable.selectors.is_empty() {
+        let found = site.denoted(variable.name)?;
+        standing(site, found, variable.name)
     } else {
-        let variable = variable_place(x, site, changes)?;
-        loaded(site.alloc, variable, x.name.from)
+        let place = variable_place(variable, site, changes)?;
+        loaded(site.alloc, place, variable.name.from)
     }
 }
 
@@ -444,16 +460,22 @@ fn variable_value(
 #[inline(never)]
 #[tactic(auto, using(crate::proofs::Judgement::variable_variable))]
 pub fn variable_place(
-    x: &Variable,
+    variable: &Variable,
     site: Site<'_>,
     changes: &mut Vec<Change>,
 ) -> Result<TypedPlace, CheckFault>
     ensures { Answers result (λ v. (variable_of v, changes.new.items))
-        ((variable_operand (context_at site.entry) (regions_at site.entry) x.now).variable changes.old.items) }
+        ((variable_operand (context_at site.entry) (regions_at site.entry) variable.now).variable changes.old.items) }
 {
-    let found = site.denoted(x.name)?;
-    let entire = variable_found(site.alloc, found, x.name.from)?;
-    select_all(x.selectors.as_slice(), site, changes, entire, x.name.from)
+    let found = site.denoted(variable.name)?;
+    let entire = variable_found(site.alloc, found, variable.name.from)?;
+    select_all(
+        variable.selectors.as_slice(),
+        site,
+        changes,
+        entire,
+        variable.name.from,
+    )
 }
 
 /// What selectors select of a variable that begins at `at`.
@@ -679,29 +701,29 @@ fn passed(
 #[cycle(expression)]
 #[inline(never)]
 pub fn argument(
-    x: &Syntax,
+    expression: &Syntax,
     site: Site<'_>,
     changes: &mut Vec<Change>,
     section: &Section,
 ) -> Result<Argument, CheckFault>
     ensures { Answers result (λ a. (argument_of a, changes.new.items))
         (actual (context_at site.entry) (regions_at site.entry) (section_of section.now)
-        (operand (context_at site.entry) (regions_at site.entry) x.now) changes.old.items) }
+        (operand (context_at site.entry) (regions_at site.entry) expression.now) changes.old.items) }
 {
-    let at = x.first_token();
+    let at = expression.first_token();
     match section {
         Section::Value { ty, .. } => {
-            let value = expr_value(x, site, changes)?;
+            let value = expr_value(expression, site, changes)?;
             by_value(ty, value, site.reading.line(at), at)
         }
         Section::Variable { ty, .. } => {
-            let variable = referent(x, site, changes)?;
+            let variable = referent(expression, site, changes)?;
             passed(site, changes, ty, variable, at)
         }
         Section::Routine {
             sections,
             result: outcome,
-        } => match name_alone(x) {
+        } => match name_alone(expression) {
             None => Err(broken(Rule::WrongKind, at)),
             Some(name) => {
                 let found = site.denoted(name)?;
@@ -715,22 +737,22 @@ pub fn argument(
 #[cycle(expression)]
 #[inline(never)]
 pub fn referent(
-    x: &Syntax,
+    expression: &Syntax,
     site: Site<'_>,
     changes: &mut Vec<Change>,
 ) -> Result<TypedPlace, CheckFault>
     ensures { Answers result (λ v. (variable_of v, changes.new.items))
-        ((operand (context_at site.entry) (regions_at site.entry) x.now).variable changes.old.items) }
+        ((operand (context_at site.entry) (regions_at site.entry) expression.now).variable changes.old.items) }
 {
-    match x {
-        Syntax::Compare(..) => Err(broken(Rule::WrongKind, x.first_token())),
+    match expression {
+        Syntax::Compare(..) => Err(broken(Rule::WrongKind, expression.first_token())),
         Syntax::Simple(simple) => match &simple.sign {
-            Some(_) => Err(broken(Rule::WrongKind, x.first_token())),
+            Some(_) => Err(broken(Rule::WrongKind, expression.first_token())),
             None => {
                 if simple.more.is_empty() {
                     term_referent(&simple.first, site, changes)
                 } else {
-                    Err(broken(Rule::WrongKind, x.first_token()))
+                    Err(broken(Rule::WrongKind, expression.first_token()))
                 }
             }
         },
@@ -742,17 +764,17 @@ pub fn referent(
 #[inline(never)]
 #[tactic(auto, using(crate::proofs::Judgement::term_variable, crate::proofs::Equations::factor_call, crate::proofs::Equations::factor_number, crate::proofs::Equations::factor_text, crate::proofs::Equations::factor_nil, crate::proofs::Equations::factor_set, crate::proofs::Equations::factor_group, crate::proofs::Equations::factor_not))]
 fn term_referent(
-    x: &Term,
+    term: &Term,
     site: Site<'_>,
     changes: &mut Vec<Change>,
 ) -> Result<TypedPlace, CheckFault>
     ensures { Answers result (λ v. (variable_of v, changes.new.items))
-        ((term_operand (context_at site.entry) (regions_at site.entry) x.now).variable changes.old.items) }
+        ((term_operand (context_at site.entry) (regions_at site.entry) term.now).variable changes.old.items) }
 {
-    if !x.more.is_empty() {
-        return Err(broken(Rule::WrongKind, x.first_token()));
+    if !term.more.is_empty() {
+        return Err(broken(Rule::WrongKind, term.first_token()));
     }
-    match &x.first {
+    match &term.first {
         Factor::Variable(variable) => variable_place(variable, site, changes),
         Factor::Call(..)
         | Factor::Number(_)
@@ -760,6 +782,6 @@ fn term_referent(
         | Factor::Nil(_)
         | Factor::Set(..)
         | Factor::Group(..)
-        | Factor::Not(..) => Err(broken(Rule::WrongKind, x.first_token())),
+        | Factor::Not(..) => Err(broken(Rule::WrongKind, term.first_token())),
     }
 }

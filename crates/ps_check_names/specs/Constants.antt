@@ -1,6 +1,7 @@
 -- The required ordinal types (6.4.2.2), and constants (6.3): a number, a name or a string; a sign needs an integer.
-use Rattle.std.specs.Prelude.{ℕ, ℤ, pos, negsuc, ◌-ℤ◌, int_le, List, [], ◌∷◌, Option, Some, None, if◌then◌else◌}
+use Rattle.std.specs.Prelude.{ℕ, ℤ, pos, negsuc, ◌-ℤ◌, neg_ℤ, int_le, List, [], ◌∷◌, Option, Some, None, if◌then◌else◌}
 use Rattle.ps_text.specs.declared.Span.{Span}
+use Rattle.ps_scan.specs.declared.TheConstants.{MAX_NUMBER}
 use Rattle.ps_scan.specs.Values.{number_of_digits, characters}
 use Rattle.ps_syntax.specs.declared.expression.Sign.{Sign}
 use Rattle.ps_syntax.specs.declared.expression.Sign.TheVariants as sign
@@ -16,8 +17,9 @@ use Rattle.ps_check_names.specs.Spelling.{bytes_at, spelled}
 use Rattle.ps_check_names.specs.Regions.{Region, Point, BlockPoint, ConstantMeaning, TextMeaning, FileMeaning}
 use Rattle.ps_check_names.specs.Regions.{LeftOutMeaning, find}
 
+-- from -maxint - 1 to maxint (6.4.2.2)
 abbrev pub integer : Ordinal
-integer = record { host = Integer; subrange = None; low = negsuc 2147483647; high = pos 2147483647 }
+integer = record { host = Integer; subrange = None; low = negsuc MAX_NUMBER; high = pos MAX_NUMBER }
 
 abbrev pub char : Ordinal
 char = record { host = Char; subrange = None; low = pos 0; high = pos 255 }
@@ -63,7 +65,7 @@ text_constant (a ∷ b ∷ rest) = TextConstant (a ∷ b ∷ rest)
 -- the least integer has no negative
 abbrev pub integer_with_sign : (at : ℕ) → Sign → ℤ → Judged ℤ
 integer_with_sign at sign.Plus n = Yes n
-integer_with_sign at sign.Minus n = provided (int_le (negsuc 2147483646) n) WrongType at (pos 0 -ℤ n)
+integer_with_sign at sign.Minus n = provided (int_le (neg_ℤ (pos MAX_NUMBER)) n) WrongType at (pos 0 -ℤ n)
 
 -- a sign, if there is one, before a constant at an offset
 unfoldable pub signed_constant : (at : ℕ) → Option (Sign × Span) → ConstantValue → Judged ConstantValue

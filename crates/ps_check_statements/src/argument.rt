@@ -26,7 +26,7 @@ pub(crate) fn first_token(parameter: &Parameter) -> u32
     ensures { result ≡ first_of_parameter parameter.now }
 {
     match parameter {
-        Parameter::Plain(x) | Parameter::Width(x, _) => x.first_token(),
+        Parameter::Plain(expression) | Parameter::Width(expression, _) => expression.first_token(),
     }
 }
 
@@ -41,7 +41,7 @@ pub(crate) fn parameter_variable(
         (parameter_variable (context_at site.entry) (regions_at site.entry) parameter.now changes.old.items) }
 {
     match parameter {
-        Parameter::Plain(x) => referent(x, site, changes),
+        Parameter::Plain(expression) => referent(expression, site, changes),
         Parameter::Width(_, width) => Err(broken(Rule::WrongType, width.get().first_token())),
     }
 }
@@ -59,7 +59,7 @@ fn actual_parameter(
         (section_of section.now) parameter.now changes.old.items) }
 {
     match parameter {
-        Parameter::Plain(x) => argument(x, site, changes, section),
+        Parameter::Plain(expression) => argument(expression, site, changes, section),
         Parameter::Width(_, width) => Err(broken(Rule::WrongType, width.get().first_token())),
     }
 }

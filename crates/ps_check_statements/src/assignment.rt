@@ -127,15 +127,19 @@ fn target_found(site: Site<'_>, found: Found<'_>, at: u32) -> Result<TypedPlace,
 
 /// The variable or the function's result that is assigned.
 #[tactic(auto, using(ps_check_expressions::proofs::Judgement::name_alone, ps_check_expressions::proofs::Judgement::name_selected))]
-fn target(x: &Variable, site: Site<'_>, changes: &mut Vec<Change>) -> Result<TypedPlace, CheckFault>
+fn target(
+    variable: &Variable,
+    site: Site<'_>,
+    changes: &mut Vec<Change>,
+) -> Result<TypedPlace, CheckFault>
     ensures { Answers result (λ v. (variable_of v, changes.new.items))
-        (target (context_at site.entry) (regions_at site.entry) x.now changes.old.items) }
+        (target (context_at site.entry) (regions_at site.entry) variable.now changes.old.items) }
 {
-    if x.selectors.is_empty() {
-        let found = site.denoted(x.name)?;
-        target_found(site, found, x.name.from)
+    if variable.selectors.is_empty() {
+        let found = site.denoted(variable.name)?;
+        target_found(site, found, variable.name.from)
     } else {
-        variable_place(x, site, changes)
+        variable_place(variable, site, changes)
     }
 }
 
@@ -212,17 +216,17 @@ fn assigned(
 
 /// An assignment statement, with its `:=`.
 pub(crate) fn assignment(
-    x: &Variable,
+    variable: &Variable,
     site: Site<'_>,
     changes: &mut Vec<Change>,
     at: Span,
-    y: &Expr,
+    expression: &Expr,
 ) -> Result<Statement, CheckFault>
     ensures { Answers result (λ s. (statement_of s, changes.new.items))
-        (assignment (context_at site.entry) (regions_at site.entry) x.now at y.now changes.old.items) }
+        (assignment (context_at site.entry) (regions_at site.entry) variable.now at expression.now changes.old.items) }
 {
-    let variable = target(x, site, changes)?;
-    changed(site, changes, &variable.place, x.name.from)?;
-    let value = expr_value(y, site, changes)?;
-    assigned(variable, value, site.reading.line(at.from), at.from)
+    let place = target(variable, site, changes)?;
+    changed(site, changes, &place.place, variable.name.from)?;
+    let value = expr_value(expression, site, changes)?;
+    assigned(place, value, site.reading.line(at.from), at.from)
 }

@@ -46,7 +46,7 @@ fn name_of(parameter: &Parameter) -> Option<Span>
     ensures { (c : Context) (Γ : List Region) → name_of_parameter c Γ parameter.now ≡ result }
 {
     match parameter {
-        Parameter::Plain(x) => name_alone(x),
+        Parameter::Plain(expression) => name_alone(expression),
         Parameter::Width(..) => None,
     }
 }

@@ -70,16 +70,16 @@ fn control_found(found: Found<'_>, at: u32) -> Result<(u32, Ordinal), CheckFault
 /// A bound, which is of the type of the control variable.
 #[tactic(auto, unfolding(crate::specs::Structured::bound, ps_check_expressions::specs::View::value_of, ps_tree::specs::View::type_of))]
 fn bound_at(
-    x: &Syntax,
+    expression: &Syntax,
     site: Site<'_>,
     changes: &mut Vec<Change>,
     ordinal: Ordinal,
 ) -> Result<Expr, CheckFault>
     ensures { Answers result (λ e. (expr_of e, changes.new.items))
-        (bound_at (context_at site.entry) (regions_at site.entry) ordinal x.now changes.old.items) }
+        (bound_at (context_at site.entry) (regions_at site.entry) ordinal expression.now changes.old.items) }
 {
-    let at = x.first_token();
-    match expr_value(x, site, changes)? {
+    let at = expression.first_token();
+    match expr_value(expression, site, changes)? {
         TypedValue::Simple(value, ty) => {
             let fits = compatible(&ty, &Ty::Simple(ordinal));
             drop(ty);
@@ -98,15 +98,15 @@ fn bound_at(
 
 /// The same, on the heap.
 fn boxed_bound(
-    x: &Syntax,
+    expression: &Syntax,
     site: Site<'_>,
     changes: &mut Vec<Change>,
     ordinal: Ordinal,
 ) -> Result<Box<Expr>, CheckFault>
     ensures { Answers result (λ e. (expr_of e.value, changes.new.items))
-        (bound_at (context_at site.entry) (regions_at site.entry) ordinal x.now changes.old.items) }
+        (bound_at (context_at site.entry) (regions_at site.entry) ordinal expression.now changes.old.items) }
 {
-    boxed_answer(site.alloc, bound_at(x, site, changes, ordinal))
+    boxed_answer(site.alloc, bound_at(expression, site, changes, ordinal))
 }
 
 fn direction_of(way: Way) -> Direction
@@ -157,24 +157,24 @@ pub(crate) fn for_head(
     site: Site<'_>,
     changes: &mut Vec<Change>,
     name: Span,
-    x: &Syntax,
+    from: &Syntax,
     way: Way,
-    y: &Syntax,
+    to: &Syntax,
 ) -> Result<Head, CheckFault>
     ensures { Answers result (λ h. (head_of h, changes.new.items))
-        (for_head (context_at site.entry) (regions_at site.entry) name x.now way y.now changes.old.items) }
+        (for_head (context_at site.entry) (regions_at site.entry) name from.now way to.now changes.old.items) }
 {
     let (variable, ordinal) = control_of(site, changes, name)?;
-    let first = boxed_bound(x, site, changes, ordinal);
-    let (first, last) = paired(first, boxed_bound(y, site, changes, ordinal))?;
+    let first = boxed_bound(from, site, changes, ordinal);
+    let (first, last) = paired(first, boxed_bound(to, site, changes, ordinal))?;
     Ok(Head {
         variable,
         ordinal,
         first,
-        first_line: site.reading.line(x.first_token()),
+        first_line: site.reading.line(from.first_token()),
         direction: direction_of(way),
         last,
-        last_line: site.reading.line(y.first_token()),
+        last_line: site.reading.line(to.first_token()),
     })
 }
 

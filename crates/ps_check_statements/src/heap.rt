@@ -101,7 +101,7 @@ fn parameter_index(
         (spec.parameter_index (context_at site.entry) (regions_at site.entry) parameter.now changes.old.items) }
 {
     match parameter {
-        Parameter::Plain(x) => index_at(x, site, changes),
+        Parameter::Plain(expression) => index_at(expression, site, changes),
         Parameter::Width(_, width) => Err(broken(Rule::WrongType, width.get().first_token())),
     }
 }

@@ -31,15 +31,15 @@ use ps_tree::types::Ordinal;
 /// A condition, which is Boolean (6.8.3.3).
 #[tactic(auto, unfolding(crate::specs::Structured::condition, ps_check_expressions::specs::View::value_of))]
 fn condition_at(
-    x: &SyntaxExpr,
+    expression: &SyntaxExpr,
     site: Site<'_>,
     changes: &mut Vec<Change>,
 ) -> Result<Expr, CheckFault>
     ensures { Answers result (λ e. (expr_of e, changes.new.items))
-        (spec.condition_at (context_at site.entry) (regions_at site.entry) x.now changes.old.items) }
+        (spec.condition_at (context_at site.entry) (regions_at site.entry) expression.now changes.old.items) }
 {
-    let at = x.first_token();
-    match expr_value(x, site, changes)? {
+    let at = expression.first_token();
+    match expr_value(expression, site, changes)? {
         TypedValue::Simple(value, ty) => {
             let is_right = is_boolean(&ty);
             drop(ty);
@@ -58,25 +58,29 @@ fn condition_at(
 
 /// An index, which is of an ordinal type: of a `case` statement (6.8.3.5), or of an array in pack and unpack (6.6.5.4).
 pub(crate) fn index_at(
-    x: &SyntaxExpr,
+    expression: &SyntaxExpr,
     site: Site<'_>,
     changes: &mut Vec<Change>,
 ) -> Result<(Expr, Ordinal), CheckFault>
     ensures { Answers result (λ v. ((expr_of v.0, v.1), changes.new.items))
-        (spec.index_at (context_at site.entry) (regions_at site.entry) x.now changes.old.items) }
+        (spec.index_at (context_at site.entry) (regions_at site.entry) expression.now changes.old.items) }
 {
-    let value = expr_value(x, site, changes)?;
-    ordinal_of(value, x.first_token())
+    let value = expr_value(expression, site, changes)?;
+    ordinal_of(value, expression.first_token())
 }
 
 /// A statement.
 #[cycle(statement)]
 #[tactic(auto, using(crate::proofs::Equations::at_empty, crate::proofs::Equations::at_assign, crate::proofs::Equations::at_call, crate::proofs::Equations::at_compound, crate::proofs::Equations::at_if, crate::proofs::Equations::at_if_else, crate::proofs::Equations::at_case, crate::proofs::Equations::at_while, crate::proofs::Equations::at_repeat, crate::proofs::Equations::at_for, crate::proofs::Equations::at_with), unfolding(ps_tree::specs::View::statement_of))]
-fn statement(x: &Syntax, site: Site<'_>, changes: &mut Vec<Change>) -> Result<Statement, CheckFault>
+fn statement(
+    syntax: &Syntax,
+    site: Site<'_>,
+    changes: &mut Vec<Change>,
+) -> Result<Statement, CheckFault>
     ensures { Answers result (λ s. (statement_of s, changes.new.items))
-        (spec.statement x.now (context_at site.entry) (regions_at site.entry) changes.old.items) }
+        (spec.statement syntax.now (context_at site.entry) (regions_at site.entry) changes.old.items) }
 {
-    match x {
+    match syntax {
         Syntax::Empty => Ok(Statement::Empty),
         Syntax::Assign(variable, at, value) => assignment(
             variable,
@@ -96,25 +100,30 @@ fn statement(x: &Syntax, site: Site<'_>, changes: &mut Vec<Change>) -> Result<St
             site,
             changes,
         )?)),
-        Syntax::If(x, body) => {
-            let (condition, body) = governed(body.get(), site, changes, x.get())?;
+        Syntax::If(condition, body) => {
+            let (condition, body) = governed(body.get(), site, changes, condition.get())?;
             Ok(Statement::If { condition, body })
         }
-        Syntax::IfElse(x, body, otherwise) => {
-            if_else_statement(body.get(), otherwise.get(), site, changes, x.get())
+        Syntax::IfElse(condition, body, otherwise) => {
+            if_else_statement(body.get(), otherwise.get(), site, changes, condition.get())
         }
-        Syntax::Case(at, x, elements) => case_statement(
+        Syntax::Case(at, index, elements) => case_statement(
             elements.as_slice(),
             site,
             changes,
             *at,
-            x.get(),
+            index.get(),
         ),
-        Syntax::While(x, body) => {
-            let (condition, body) = governed(body.get(), site, changes, x.get())?;
+        Syntax::While(condition, body) => {
+            let (condition, body) = governed(body.get(), site, changes, condition.get())?;
             Ok(Statement::While { condition, body })
         }
-        Syntax::Repeat(list, x) => repeat_statement(list.as_slice(), site, changes, x.get()),
+        Syntax::Repeat(list, condition) => repeat_statement(
+            list.as_slice(),
+            site,
+            changes,
+            condition.get(),
+        ),
         Syntax::For {
             variable,
             first,
@@ -141,14 +150,14 @@ fn statement(x: &Syntax, site: Site<'_>, changes: &mut Vec<Change>) -> Result<St
 
 #[cycle(statement)]
 fn boxed(
-    x: &Syntax,
+    syntax: &Syntax,
     site: Site<'_>,
     changes: &mut Vec<Change>,
 ) -> Result<Box<Statement>, CheckFault>
     ensures { Answers result (λ s. (statement_of s.value, changes.new.items))
-        (spec.statement x.now (context_at site.entry) (regions_at site.entry) changes.old.items) }
+        (spec.statement syntax.now (context_at site.entry) (regions_at site.entry) changes.old.items) }
 {
-    boxed_answer(site.alloc, statement(x, site, changes))
+    boxed_answer(site.alloc, statement(syntax, site, changes))
 }
 
 /// A sequence of statements (6.8.3.2). The error is that of the faulty statement.
@@ -162,8 +171,8 @@ pub fn statements(
         (spec.statements (context_at site.entry) (regions_at site.entry) list.now changes.old.items) }
 {
     let mut typed = Vec::with_capacity(site.alloc, list.len())?;
-    for x in list {
-        push_answer(&mut typed, statement(x, site, changes))?;
+    for syntax in list {
+        push_answer(&mut typed, statement(syntax, site, changes))?;
     }
     Ok(typed)
 }
@@ -174,13 +183,13 @@ fn governed(
     body: &Syntax,
     site: Site<'_>,
     changes: &mut Vec<Change>,
-    x: &SyntaxExpr,
+    condition: &SyntaxExpr,
 ) -> Result<(Expr, Box<Statement>), CheckFault>
     ensures { Answers result (λ p. ((expr_of p.0, statement_of p.1.value), changes.new.items))
-        (spec.governed (context_at site.entry) (regions_at site.entry) x.now
+        (spec.governed (context_at site.entry) (regions_at site.entry) condition.now
         (spec.statement body.now) changes.old.items) }
 {
-    let condition = condition_at(x, site, changes);
+    let condition = condition_at(condition, site, changes);
     let body = boxed(body, site, changes);
     paired(condition, body)
 }
@@ -192,13 +201,13 @@ fn if_else_statement(
     otherwise: &Syntax,
     site: Site<'_>,
     changes: &mut Vec<Change>,
-    x: &SyntaxExpr,
+    condition: &SyntaxExpr,
 ) -> Result<Statement, CheckFault>
     ensures { Answers result (λ s. (statement_of s, changes.new.items))
-        (spec.if_else_statement (context_at site.entry) (regions_at site.entry) x.now (spec.statement body.now)
+        (spec.if_else_statement (context_at site.entry) (regions_at site.entry) condition.now (spec.statement body.now)
         (spec.statement otherwise.now) changes.old.items) }
 {
-    let first = governed(body, site, changes, x);
+    let first = governed(body, site, changes, condition);
     let otherwise = boxed(otherwise, site, changes);
     let ((condition, body), otherwise) = paired(first, otherwise)?;
     Ok(Statement::IfElse {
@@ -214,14 +223,14 @@ fn repeat_statement(
     list: &[Syntax],
     site: Site<'_>,
     changes: &mut Vec<Change>,
-    x: &SyntaxExpr,
+    condition: &SyntaxExpr,
 ) -> Result<Statement, CheckFault>
     ensures { Answers result (λ s. (statement_of s, changes.new.items))
         (spec.repeat_statement (context_at site.entry) (regions_at site.entry)
-        (spec.statements (context_at site.entry) (regions_at site.entry) list.now) x.now changes.old.items) }
+        (spec.statements (context_at site.entry) (regions_at site.entry) list.now) condition.now changes.old.items) }
 {
     let body = statements(list, site, changes);
-    let condition = condition_at(x, site, changes);
+    let condition = condition_at(condition, site, changes);
     let (body, condition) = paired(body, condition)?;
     Ok(Statement::Repeat { body, condition })
 }
@@ -234,13 +243,13 @@ fn case_statement(
     site: Site<'_>,
     changes: &mut Vec<Change>,
     at: Span,
-    x: &SyntaxExpr,
+    index: &SyntaxExpr,
 ) -> Result<Statement, CheckFault>
     ensures { Answers result (λ s. (statement_of s, changes.new.items))
-        (spec.case_statement (context_at site.entry) (regions_at site.entry) at x.now
+        (spec.case_statement (context_at site.entry) (regions_at site.entry) at index.now
         (map spec.element list.now) changes.old.items) }
 {
-    let (index, ordinal) = index_at(x, site, changes)?;
+    let (index, ordinal) = index_at(index, site, changes)?;
     let elements = elements(list, site, changes, ordinal);
     let (index, elements) = paired(Ok(index), elements)?;
     Ok(Statement::Case {
@@ -264,8 +273,8 @@ fn elements(
 {
     let mut seen = IndexSet::with_hasher(site.alloc, site.reading.seed);
     let mut typed = Vec::with_capacity(site.alloc, list.len())?;
-    for x in list {
-        push_answer(&mut typed, element(x, site, changes, index, &mut seen))?;
+    for syntax in list {
+        push_answer(&mut typed, element(syntax, site, changes, index, &mut seen))?;
     }
     Ok(typed)
 }
@@ -274,18 +283,18 @@ fn elements(
 #[cycle(statement)]
 #[tactic(auto, using(crate::proofs::Equations::element_at))]
 fn element(
-    x: &Element,
+    element: &Element,
     site: Site<'_>,
     changes: &mut Vec<Change>,
     index: Ordinal,
     seen: &mut IndexSet<i32, Seed>,
 ) -> Result<CaseElement, CheckFault>
     ensures element { Answers result (λ e. (element_of e, changes.new.items))
-        (spec.element x.now (context_at site.entry) (regions_at site.entry) index seen.old.keys changes.old.items) }
+        (spec.element element.now (context_at site.entry) (regions_at site.entry) index seen.old.keys changes.old.items) }
     ensures seen { IfOk result (λ e. seen.new.keys ≡ seen.old.keys ++ (element_of e).0) }
 {
-    let constants = case_labels(site, index, seen, x.constants.as_slice());
-    let body = statement(&x.statement, site, changes);
+    let constants = case_labels(site, index, seen, element.constants.as_slice());
+    let body = statement(&element.statement, site, changes);
     let (constants, body) = paired(constants, body)?;
     Ok(CaseElement { constants, body })
 }
@@ -293,7 +302,7 @@ fn element(
 /// A `for` statement (6.8.3.9), with its control variable's name, its bounds and its direction.
 #[cycle(statement)]
 fn for_statement(
-    x: &Syntax,
+    body: &Syntax,
     site: Site<'_>,
     changes: &mut Vec<Change>,
     name: Span,
@@ -303,14 +312,14 @@ fn for_statement(
 ) -> Result<Statement, CheckFault>
     ensures { Answers result (λ s. (statement_of s, changes.new.items))
         (spec.for_statement (context_at site.entry) (regions_at site.entry) name first.now way last.now
-        (spec.statement x.now) changes.old.items) }
+        (spec.statement body.now) changes.old.items) }
 {
     let head = for_head(site, changes, name, first, way, last)?;
     let controls = Controls::Inside {
         entry: head.variable,
         outer: site.controls,
     };
-    let body = boxed(x, site.with_controls(&controls), changes);
+    let body = boxed(body, site.with_controls(&controls), changes);
     let (head, body) = paired(Ok(head), body)?;
     Ok(repeated(head, body, name.from))
 }
@@ -319,19 +328,19 @@ fn for_statement(
 #[cycle(statement)]
 #[tactic(auto, unfolding(ps_check_names::specs::Views::scope_of, ps_check_names::specs::Views::opened_in, ps_tree::specs::View::statement_of))]
 fn with_statement(
-    x: &Syntax,
+    body: &Syntax,
     site: Site<'_>,
     changes: &mut Vec<Change>,
     records: &[Variable],
 ) -> Result<Statement, CheckFault>
     ensures { Answers result (λ s. (statement_of s, changes.new.items))
         (spec.with_behind (context_at site.entry) ([], regions_at site.entry) records.now
-        (spec.statement x.now) changes.old.items) }
+        (spec.statement body.now) changes.old.items) }
 {
     let wides = wides_within(site.scope, site.reading.wides);
     let (places, opened) = open_all(records, site, wides, changes)?;
     let (nest, outer) = nest_within(site.alloc, site.scope, site.reading.wides, &opened)?;
     let scope = Scope::Nested { nest: &nest, outer };
-    let body = boxed(x, site.within(&scope), changes)?;
+    let body = boxed(body, site.within(&scope), changes)?;
     Ok(Statement::With { places, body })
 }

@@ -145,12 +145,16 @@ fn written(value: TypedValue, width: Width, at: u32) -> Result<WriteParameter, C
 
 /// A width, which is an integer.
 #[tactic(auto, unfolding(crate::specs::Procedures::width_of, ps_check_expressions::specs::View::value_of, ps_tree::specs::View::width_of))]
-fn width_at(x: &Syntax, site: Site<'_>, changes: &mut Vec<Change>) -> Result<Width, CheckFault>
+fn width_at(
+    expression: &Syntax,
+    site: Site<'_>,
+    changes: &mut Vec<Change>,
+) -> Result<Width, CheckFault>
     ensures { Answers result (λ w. (width_of w, changes.new.items))
-        (spec.width_at (context_at site.entry) (regions_at site.entry) x.now changes.old.items) }
+        (spec.width_at (context_at site.entry) (regions_at site.entry) expression.now changes.old.items) }
 {
-    let at = x.first_token();
-    match expr_value(x, site, changes)? {
+    let at = expression.first_token();
+    match expr_value(expression, site, changes)? {
         TypedValue::Simple(value, ty) => {
             let is_right = is_integer(&ty);
             drop(ty);
@@ -179,14 +183,14 @@ fn write_parameter(
         (spec.write_parameter (context_at site.entry) (regions_at site.entry) parameter.now changes.old.items) }
 {
     match parameter {
-        Parameter::Plain(x) => {
-            let value = expr_value(x, site, changes)?;
-            written(value, Width::Default, x.first_token())
+        Parameter::Plain(expression) => {
+            let value = expr_value(expression, site, changes)?;
+            written(value, Width::Default, expression.first_token())
         }
-        Parameter::Width(x, width) => {
-            let value = expr_value(x, site, changes);
+        Parameter::Width(expression, width) => {
+            let value = expr_value(expression, site, changes);
             let (value, width) = paired(value, width_at(width.get(), site, changes))?;
-            written(value, width, x.first_token())
+            written(value, width, expression.first_token())
         }
     }
 }

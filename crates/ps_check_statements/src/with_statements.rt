@@ -34,7 +34,7 @@ use std::alloc::AllocError;
 /// A record to be opened, and its type.
 #[tactic(auto, using(ps_check_expressions::proofs::Judgement::variable_first), unfolding(crate::specs::Structured::open_next, crate::specs::Structured::record_region, ps_check_names::specs::Regions::fields_of, ps_tree::specs::View::type_of))]
 fn opened_record(
-    x: &Variable,
+    variable: &Variable,
     site: Site<'_>,
     changes: &mut Vec<Change>,
 ) -> Result<(Place, Ty), CheckFault>
@@ -47,13 +47,13 @@ fn opened_record(
           ),
           changes.new.items,
         ))
-        (open_next (context_at site.entry) (places, regions_at site.entry) x.now changes.old.items) }
-    ensures variable { IfOk result (λ p. IsVariable (context_at site.entry) (regions_at site.entry) x.now
+        (open_next (context_at site.entry) (places, regions_at site.entry) variable.now changes.old.items) }
+    ensures variable { IfOk result (λ p. IsVariable (context_at site.entry) (regions_at site.entry) variable.now
         (place_of p.0) (type_of p.1)) }
 {
-    let TypedPlace { place, ty, .. } = variable_place(x, site, changes)?;
+    let TypedPlace { place, ty, .. } = variable_place(variable, site, changes)?;
     let Ty::Record { .. } = &ty else {
-        return Err(broken(Rule::WrongType, x.name.from));
+        return Err(broken(Rule::WrongType, variable.name.from));
     };
     Ok((place, ty))
 }
@@ -131,17 +131,17 @@ fn source_of_target(place: &Place) -> Option<Source>
 
 /// What gives a record its type, within `count` others: a name alone, or what the pointer that it denotes identifies.
 fn source_of(
-    x: &Variable,
+    variable: &Variable,
     place: &Place,
     site: Site<'_>,
     count: usize,
 ) -> Result<Option<Source>, AllocError>
-    ensures { IfOk result (λ found. IfSome found (λ source. IsSource (spelled (context_at site.entry).text x.now.name)
-        (regions_at site.entry) x.now (place_of place.now) count source)) }
+    ensures { IfOk result (λ found. IfSome found (λ source. IsSource (spelled (context_at site.entry).text variable.now.name)
+        (regions_at site.entry) variable.now (place_of place.now) count source)) }
 {
-    match x.selectors.get(0) {
-        None => source_of_name(x.name, &place.base, site, count),
-        Some(Syntax::Content(_)) if x.selectors.len() == 1 => Ok(source_of_target(place)),
+    match variable.selectors.get(0) {
+        None => source_of_name(variable.name, &place.base, site, count),
+        Some(Syntax::Content(_)) if variable.selectors.len() == 1 => Ok(source_of_target(place)),
         Some(_) => Ok(None),
     }
 }
@@ -174,7 +174,7 @@ fn open_again<'a>(
 
 /// Opens a record of this place and type within those before it.
 fn open_within<'a>(
-    x: &Variable,
+    variable: &Variable,
     place: &Place,
     site: Site<'a>,
     ty: Ty,
@@ -182,7 +182,7 @@ fn open_within<'a>(
     known: Known,
 ) -> Result<(Opened<'a>, Known), AllocError>
     requires variable { IsVariable (context_at site) (opened_in (regions_at site) opened.records.items)
-        x.now (place_of place.now) (type_of ty) }
+        variable.now (place_of place.now) (type_of ty) }
     requires known { Knows (context_at site).domains (regions_at site) opened.records.items known }
     ensures records { IfOk result (λ all. all.0.records.items ≡ opened.entry.records.items ++ ty ∷ []) }
     ensures known { IfOk result (λ all. Knows (context_at site.entry).domains (regions_at site.entry)
@@ -191,7 +191,7 @@ fn open_within<'a>(
 {
     if is_wide(&ty) {
         let count = opened.records.as_slice().len();
-        let found = source_of(x, place, site, count)?;
+        let found = source_of(variable, place, site, count)?;
         if let Some(source) = found {
             return open_again(source, site, ty, opened, known);
         }
@@ -202,7 +202,7 @@ fn open_within<'a>(
 /// Opens a record within those before it, whose places and types are given, with what is known of them.
 #[tactic(auto, unfolding(ps_check_names::specs::Views::scope_of))]
 fn open_next<'a>(
-    x: &Variable,
+    variable: &Variable,
     site: Site<'a>,
     changes: &mut Vec<Change>,
     places: &mut Vec<Place>,
@@ -222,7 +222,7 @@ fn open_next<'a>(
           map place_of places.old.items,
           opened_in
               (regions_at site.entry) opened.entry.records.items,
-        ) x.now changes.old.items) }
+        ) variable.now changes.old.items) }
     ensures known { IfOk result (λ all. Knows (context_at site.entry).domains (regions_at site.entry)
         all.0.records.items all.1) }
     ensures wides { IfOk result (λ all. all.0.wides.now ≡ opened.entry.wides.now) }
@@ -231,8 +231,8 @@ fn open_next<'a>(
         records: &opened,
         outer: site.scope,
     };
-    let (place, ty) = opened_record(x, site.within(&scope), changes)?;
-    let all = open_within(x, &place, site, ty, opened, known)?;
+    let (place, ty) = opened_record(variable, site.within(&scope), changes)?;
+    let all = open_within(variable, &place, site, ty, opened, known)?;
     places.push(place)?;
     Ok(all)
 }
@@ -254,8 +254,8 @@ pub(crate) fn open_all<'a>(
     let mut places = Vec::with_capacity(site.alloc, records.len())?;
     let mut opened = Opened::new(site.alloc, site.reading.seed, wides);
     let mut known = Known::new(site.alloc, site.reading.seed);
-    for x in records {
-        (opened, known) = open_next(x, site, changes, &mut places, opened, known)?;
+    for variable in records {
+        (opened, known) = open_next(variable, site, changes, &mut places, opened, known)?;
     }
     Ok((places, opened))
 }

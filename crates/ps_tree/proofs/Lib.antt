@@ -7,6 +7,7 @@ pub mod TreeLemmas
 pub mod StatementLemmas
 pub mod Compatibility
 pub mod SizeLemmas
+pub mod CoreLemmas
 pub mod Sums
 pub mod FormalLemmas
 pub mod DropLemmas

@@ -3,6 +3,7 @@ pub mod NameCode
 pub mod Characters
 pub mod Types
 pub mod Sizes
+pub mod Cores
 pub mod TypeCode
 pub mod TypeView
 pub mod TypeDepth

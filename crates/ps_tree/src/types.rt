@@ -2,18 +2,21 @@
 
 mod agreement;
 mod alike;
+mod cores;
 mod sizes;
 
 ghost use Rattle.std.specs.Prelude.{◌≡◌, ◌↔◌, ◌+◌, ◌*◌, ◌-◌, ◌^◌, ◌<◌, ◌≤◌, min, IfOk, IfSome, IsTrue, option_map};
 ghost use Rattle.ps_tree.specs.Types.{field_list, field_types, field_in, HaveSameNames, outline_at, AreAlike};
 ghost use Rattle.ps_tree.specs.Sizes.{depth, depth_of_fields, cells, record_cells};
 ghost use Rattle.ps_tree.specs.Sizes.{bytes, record_bytes, bytes_before, beginnings};
+ghost use Rattle.ps_tree.specs.Cores.{core_of, cores_of};
 ghost use Rattle.ps_tree.specs.TypeDepth.{deepest};
 ghost use Rattle.ps_tree.specs.TypeView.{type_of, types_of};
 ghost use Rattle.ps_tree.specs.declared.types.Component.TheDeep.{size-Ty};
 
 use crate::names::Names;
 use crate::types::alike::alike_of_all;
+use crate::types::cores::cores_of_all;
 use crate::types::sizes::{bytes_of_all, cells_of_all, field_at, offsets_of_all, take_largest};
 pub use agreement::{assignable, compatible, same_host, same_type};
 pub use alike::have_same_fields;
@@ -86,21 +89,24 @@ pub enum Ty {
     },
 }
 
-/// The type of an array's components, with its sizes.
+/// The type of an array's components, with its core and its sizes.
 #[cycle(types)]
 pub struct Component {
     ty: Ty,
+    core: Ty,
     cell_count: u64,
     byte_count: u32,
 }
 
 /// The fields of a record type: their names, in lower case, their types, where they begin, and for each the number of
-/// one whose type has the same fields, in the same order; with a code of the names, and the sizes of a record.
+/// one whose type has the same fields, in the same order; with a code of the names, the cores of the types that take
+/// bytes, and the sizes of a record.
 #[cycle(types)]
 pub struct Fields {
     names: Names,
     code: Vec<u16>,
     types: Vec<Ty>,
+    solid: Vec<Ty>,
     offsets: Vec<u32>,
     alike: Vec<usize>,
     cell_count: u64,
@@ -182,9 +188,11 @@ impl Drop for Component {
     fn drop(self) {
         let Component {
             ty,
+            core,
             cell_count: _,
             byte_count: _,
         } = self;
+        drop(core);
         release(ty);
     }
 }
@@ -196,6 +204,7 @@ impl Drop for Fields {
             names,
             code,
             types,
+            solid,
             offsets,
             alike,
             cell_count: _,
@@ -205,6 +214,7 @@ impl Drop for Fields {
         drop(code);
         drop(offsets);
         drop(alike);
+        drop(solid);
         release_all(types);
     }
 }
@@ -221,6 +231,7 @@ fn release_all(types: Vec<Ty>) {
 
 /// Drops a type, and in this loop the types within it that no other type shares. Among the fields of a record the one
 /// with the most cells is last: each other has at most half of the record's. So deeply nested types need little stack.
+/// A core goes before the type that it lies in, which shares it.
 #[cycle(types)]
 fn release(ty: Ty) {
     let mut rest = ty;
@@ -239,17 +250,18 @@ impl Model for Component {
 
     ghost use Rattle.std.specs.Prelude.{◌≡◌, ◌^◌, ◌-◌, min};
     ghost use Rattle.ps_tree.specs.Sizes.{cells, bytes, depth};
+    ghost use Rattle.ps_tree.specs.Cores.{core_of};
     ghost use Rattle.ps_tree.specs.TypeView.{type_of};
 
     ghost view = { λ c. type_of c.ty };
 
-    ghost invariant = { λ c. (c.cell_count ≡ min (cells (type_of c.ty)) (2 ^ 64 - 1)) × (c.byte_count ≡ min (bytes (type_of c.ty)) (2 ^ 32 - 1)) };
+    ghost invariant = { λ c. (type_of c.core ≡ core_of (type_of c.ty)) × (c.cell_count ≡ min (cells (type_of c.ty)) (2 ^ 64 - 1)) × (c.byte_count ≡ min (bytes (type_of c.ty)) (2 ^ 32 - 1)) };
 
     ghost size = { depth };
 
-    ghost use Rattle.ps_tree.specs.TypeDepth.{deep_in_type};
+    ghost use Rattle.ps_tree.specs.TypeDepth.{deep_in_component};
 
-    ghost size_decreases = { λ c h. deep_in_type c.ty };
+    ghost size_decreases = { λ c h. deep_in_component c.ty c.core h.0 };
 }
 
 impl Model for Fields {
@@ -264,17 +276,18 @@ impl Model for Fields {
     ghost use Rattle.ps_tree.specs.NameCode.{names_code};
     ghost use Rattle.ps_tree.specs.Types.{AreAlike};
     ghost use Rattle.ps_tree.specs.Sizes.{record_cells, record_bytes, beginnings, depth_of_fields};
+    ghost use Rattle.ps_tree.specs.Cores.{cores_of};
     ghost use Rattle.ps_tree.specs.TypeView.{types_of};
 
     ghost view = { λ f. field_list f.names (types_of f.types.items) };
 
-    ghost invariant = { λ f. (f.cell_count ≡ min (record_cells (field_list f.names (types_of f.types.items))) (2 ^ 64 - 1)) × (f.byte_count ≡ min (record_bytes (field_list f.names (types_of f.types.items))) (2 ^ 32 - 1)) × (f.offsets.items ≡ beginnings (2 ^ 32 - 1) 0 (types_of f.types.items)) × (f.code.items ≡ names_code f.names) × AreAlike (types_of f.types.items) f.alike.items };
+    ghost invariant = { λ f. (types_of f.solid.items ≡ cores_of (types_of f.types.items)) × (f.cell_count ≡ min (record_cells (field_list f.names (types_of f.types.items))) (2 ^ 64 - 1)) × (f.byte_count ≡ min (record_bytes (field_list f.names (types_of f.types.items))) (2 ^ 32 - 1)) × (f.offsets.items ≡ beginnings (2 ^ 32 - 1) 0 (types_of f.types.items)) × (f.code.items ≡ names_code f.names) × AreAlike (types_of f.types.items) f.alike.items };
 
     ghost size = { depth_of_fields };
 
     ghost use Rattle.ps_tree.specs.TypeDepth.{deep_in_fields};
 
-    ghost size_decreases = { λ f h. deep_in_fields f.names f.types.items };
+    ghost size_decreases = { λ f h. deep_in_fields f.names f.types.items f.solid.items h.0 };
 }
 
 impl Ty {
@@ -318,28 +331,33 @@ impl Ty {}
 
 impl Component {
     /// The type, as that of an array's components.
-    pub fn new(ty: Ty) -> Component
-        ensures { result ≡ type_of ty }
+    pub fn new(ty: Ty) -> Result<Component, AllocError>
+        ensures { IfOk result (λ component. component ≡ type_of ty) }
     {
+        let core = ty.core().copy()?;
         let cell_count = ty.cells();
         let byte_count = ty.bytes();
-        Component {
+        Ok(Component {
             ty,
+            core,
             cell_count,
             byte_count,
-        }
+        })
     }
 
     /// The type, which outlives the array.
+    #[cycle(types)]
     #[tactic(auto, using(crate::proofs::DropLemmas::depth_of_component))]
     fn into_type(self) -> Ty
         ensures { size-Ty result ≤ 2 * depth self + 1 }
     {
         let Component {
             ty,
+            core,
             cell_count: _,
             byte_count: _,
         } = self;
+        drop(core);
         ty
     }
 
@@ -348,6 +366,12 @@ impl Component {
         ensures { type_of result.now ≡ self.now }
     {
         &self.ty
+    }
+
+    fn core(&self) -> &Ty
+        ensures { type_of result.now ≡ core_of self.now }
+    {
+        &self.core
     }
 
     fn cells(&self) -> u64
@@ -373,10 +397,12 @@ impl Fields {
         let cell_count = cells_of_all(types.as_slice());
         let byte_count = bytes_of_all(types.as_slice());
         let alike = alike_of_all(alloc, names.as_slice(), types.as_slice())?;
+        let solid = cores_of_all(alloc, types.as_slice())?;
         Ok(Fields {
             names,
             code,
             types,
+            solid,
             offsets,
             alike,
             cell_count,
@@ -393,6 +419,7 @@ impl Fields {
     }
 
     /// The types of the fields, which outlive the record.
+    #[cycle(types)]
     #[tactic(auto, using(crate::proofs::DropLemmas::deepest_of_fields))]
     fn into_types(self) -> Vec<Ty>
         ensures { deepest result.items ≤ 2 * depth_of_fields self + 1 }
@@ -401,6 +428,7 @@ impl Fields {
             names,
             code,
             types,
+            solid,
             offsets,
             alike,
             cell_count: _,
@@ -410,6 +438,7 @@ impl Fields {
         drop(code);
         drop(offsets);
         drop(alike);
+        drop(solid);
         types
     }
 
@@ -444,6 +473,13 @@ impl Fields {
         ensures { types_of result.now ≡ field_types self.now }
     {
         self.types.as_slice()
+    }
+
+    /// The cores of the fields' types, in their order, without those that take no bytes.
+    pub fn solid(&self) -> &[Ty]
+        ensures { types_of result.now ≡ cores_of (field_types self.now) }
+    {
+        self.solid.as_slice()
     }
 
     /// Where the field with this number, counted from 0, begins: its offset in bytes from the record's first, given up

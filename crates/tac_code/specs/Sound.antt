@@ -1,7 +1,7 @@
 -- The invariant of the code: each target and each operand exists, and numbers are in their ranges.
 use Rattle.std.specs.Prelude.{◌≡◌, ℕ, suc, ◌+◌, ◌<◌, ◌≤◌, ◌%◌, IsTrue, ℤ, List, length, slice_get, Some}
 use Rattle.std.specs.List.{All}
-use Rattle.tac_code.specs.declared.code.TheConstants.{BLOCK_LIMIT}
+use Rattle.tac_code.specs.declared.code.TheConstants.{BLOCK_LIMIT, MAX_OBJECT_TYPES}
 use Rattle.tac_code.specs.declared.code.Operand.{Operand}
 use Rattle.tac_code.specs.declared.code.Operand.TheVariants as operand
 use Rattle.tac_code.specs.declared.code.Base.{Base}
@@ -148,4 +148,4 @@ pub record IsSound (code : Code) : Type 0 where
   pub run_time : AreSoundRoutines code code.run_time
   pub leaves : AreLeaves code.run_time
   pub objects : AreObjectSizes code.objects
-  pub types : length code.objects ≤ 1048576
+  pub types : length code.objects ≤ MAX_OBJECT_TYPES

@@ -62,6 +62,9 @@ pub const NUMBER_LIMIT: u32 = 2_147_483_648;
 /// Offsets are below it, and so are the bytes of a block.
 pub const BLOCK_LIMIT: u32 = 2_147_483_648;
 
+/// The most object types, whose blocks are made by `new`.
+pub const MAX_OBJECT_TYPES: usize = 1_048_576;
+
 /// Operators on numbers. A result outside -2147483648..2147483647 is the error that the instruction names.
 #[derive(Clone, Copy)]
 pub enum Operator {

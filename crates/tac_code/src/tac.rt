@@ -1,7 +1,7 @@
 // The tested code.
 
 use crate::check::{Limits, is_leaf, is_sound_routine};
-use crate::code::{BLOCK_LIMIT, TacRaw, TacRoutine};
+use crate::code::{BLOCK_LIMIT, MAX_OBJECT_TYPES, TacRaw, TacRoutine};
 use std::marker::Model;
 
 /// Three-address code that keeps its invariant: each target and operand exists, and numbers are in their ranges.
@@ -102,7 +102,7 @@ fn is_sound(raw: &TacRaw) -> bool
         return false;
     }
     let objects = raw.objects.as_slice();
-    are_sound_objects(objects) && objects.len() <= 1048576
+    are_sound_objects(objects) && objects.len() <= MAX_OBJECT_TYPES
 }
 
 fn limits(raw: &TacRaw, routine: &TacRoutine) -> Limits

@@ -36,7 +36,7 @@ use Rattle.tac_known.specs.Orders.{AreOrdered, sharp}
 use Rattle.tac_known.specs.Lean.{where_related, Leads}
 use Rattle.tac_known.proofs.Integers.{bounds_of}
 use Rattle.tac_known.proofs.Results.{is_between, met_is, computed_is, bits_is, related_is, not_nil_is}
-use Rattle.tac_known.proofs.Ordered.{opposite_holds, sharp_is}
+use Rattle.tac_known.proofs.OrdersBranched.{opposite_holds, sharp_is}
 use Rattle.tac_known.proofs.Holding.{operand_is, holds_put, holds_more, nothing_holds, forgotten, less_holds, nothing_more}
 
 -- ---- steps that go on

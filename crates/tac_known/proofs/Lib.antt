@@ -15,5 +15,7 @@ pub mod AgainGoes
 pub mod AgainWhole
 pub mod AgainRoom
 pub mod Ordered
+pub mod OrdersBranched
+pub mod OrdersImplied
 pub mod OrdersGo
 pub mod AgainWalked

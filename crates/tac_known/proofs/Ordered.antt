@@ -1,8 +1,7 @@
--- Relations between temporaries stay true.
-use Rattle.std.proofs.Common.{◌≡◌, ◌≢◌, ◌⊎◌, inl, inr, ℕ, ◌&&◌, ◌||◌, Bool, true, false, not, nat_eq, if◌then◌else◌}
-use Rattle.std.proofs.Common.{Option, Some, None, ℤ, pos, negsuc, ◌+ℤ◌, refl, sym, ap, ◌∙◌, subst, arith}
-use Rattle.std.proofs.Common.{eq-eqb, eqb-true}
-use Rattle.std.proofs.lemmas.Bool.{true≢false, and_parts, not-true, or_parts, or_cases, or_right, or_left}
+-- Relations between temporaries stay true where they are kept.
+use Rattle.std.proofs.Common.{◌≡◌, ◌≢◌, ℕ, Bool, true, false, not, nat_eq, if◌then◌else◌, Option, Some, None, ℤ, pos}
+use Rattle.std.proofs.Common.{negsuc, ◌+ℤ◌, refl, sym, ap, ◌∙◌, subst, arith, eq-eqb, eqb-true}
+use Rattle.std.proofs.lemmas.Bool.{true≢false, and_parts, not-true, or_parts}
 use Rattle.std.proofs.lemmas.Int.{ints}
 use Rattle.std.proofs.lemmas.Option.{none-some, same_Some}
 use Rattle.std.specs.Prelude.{int_lt, ◌<ℤ◌}
@@ -15,37 +14,36 @@ use Rattle.tac_code.specs.declared.code.Relation.{Relation}
 use Rattle.tac_code.specs.declared.code.Relation.TheVariants.{Equal, NotEqual, Less, LessEqual, Greater, GreaterEqual}
 use Rattle.tac_code.specs.declared.code.Value.{Value}
 use Rattle.tac_code.specs.declared.code.Value.TheVariants.{Number, Address, Routine}
-use Rattle.tac_code.specs.Numbers.{bits, compared, same_number}
-use Rattle.tac_code.specs.Meaning.{Temporaries, put, related, pointers_related, pointer_of, same_pointer, operand_value}
+use Rattle.tac_code.specs.Numbers.{bits}
+use Rattle.tac_code.specs.Meaning.{Temporaries, put, related, operand_value}
 use Rattle.tac_code_steps.proofs.Temporaries.{put_same, put_other}
 use Rattle.tac_known.specs.declared.kind.Kind.{Kind}
 use Rattle.tac_known.specs.declared.kind.Kind.TheVariants.{Unknown, NotNil, Between}
 use Rattle.tac_known.specs.declared.order.Order.{Order}
 use Rattle.tac_known.specs.declared.order.Orders.{Orders}
-use Rattle.tac_known.specs.Kinds.{IsOf, opposite}
-use Rattle.tac_known.specs.Orders.{IsOrdered, AreOrdered, no_orders, each, names, unless_of, without, is_free, with_order}
+use Rattle.tac_known.specs.Kinds.{IsOf}
+use Rattle.tac_known.specs.Orders.{IsOrdered, AreOrdered, each, names, unless_of, without, is_free, with_order}
 use Rattle.tac_known.specs.Orders.{is_left_of, of_copy, or_else, first_of_copy, copied, next_relation, with_relation}
-use Rattle.tac_known.specs.Orders.{of_sum, of_sums, is_plain, plus, combined, sharper, is_of, sharpened, sharp_of, sharp}
-use Rattle.tac_known.specs.Orders.{is_order, unless_both, without_both, found, orders_where, implies, says, say, say_all}
-use Rattle.tac_known.proofs.Integers.{not_below, is_below, no_less, same_itself}
-use Rattle.tac_known.proofs.Results.{other_relation, plain_sum_is}
+use Rattle.tac_known.specs.Orders.{of_sum, of_sums, is_plain, plus, combined}
+use Rattle.tac_known.proofs.Integers.{is_below, no_less}
+use Rattle.tac_known.proofs.Results.{plain_sum_is}
 
 others : (a b : ℕ) → nat_eq a b ≡ false → a ≢ b
 others a b e same = true≢false (sym (eq-eqb a b same) ∙ e)
 
 -- ---- each of them
 
-each_is : (ts ts' : Temporaries) (f : Option Order → Option Order) (orders : Orders)
+pub each_is : (ts ts' : Temporaries) (f : Option Order → Option Order) (orders : Orders)
     → ((o : Option Order) → IsOrdered ts o → IsOrdered ts' (f o)) → AreOrdered ts orders → AreOrdered ts' (each f orders)
 each_is ts ts' f orders g h =
     (g orders.first h.0, g orders.second h.1, g orders.third h.2, g orders.fourth h.3)
 
-chosen : (ts : Temporaries) (b : Bool) (x y : Orders) → AreOrdered ts x → AreOrdered ts y → AreOrdered ts
+pub chosen : (ts : Temporaries) (b : Bool) (x y : Orders) → AreOrdered ts x → AreOrdered ts y → AreOrdered ts
     (if b then x else y)
 chosen ts true x y h k = h
 chosen ts false x y h k = k
 
-with_order_is : (ts : Temporaries) (o : Option Order) (orders : Orders) → IsOrdered ts o → AreOrdered ts orders
+pub with_order_is : (ts : Temporaries) (o : Option Order) (orders : Orders) → IsOrdered ts o → AreOrdered ts orders
     → AreOrdered ts (with_order o orders)
 with_order_is ts o orders h k =
     chosen ts (is_free orders.first) _ _ (h, k.1, k.2, k.3)
@@ -227,310 +225,3 @@ combined_is ts Plus t a (operand.Number z) x y k orders at f is h =
 
     same_numbers : (z y : ℤ) → Some (Number z) ≡ Some (Number y) → z ≡ y
     same_numbers z y e = ap number_in (same_Some (Number z) (Number y) e)
-
--- ---- branches
-
--- two numbers, or what only pointers can be
-pairs : (o o' : Option Value) → ((x : ℤ) × (y : ℤ) × (o ≡ Some (Number x)) × (o' ≡ Some (Number y)))
-    ⊎ ((relation : Relation) → related relation o o' ≡ pointers_related relation (pointer_of o) (pointer_of o'))
-pairs None o' = inr (λ relation. refl)
-pairs (Some (Address block offset)) o' = inr (λ relation. refl)
-pairs (Some (Routine r)) o' = inr (λ relation. refl)
-pairs (Some (Number x)) None = inr (λ relation. refl)
-pairs (Some (Number x)) (Some (Number y)) = inl (x, y, refl, refl)
-pairs (Some (Number x)) (Some (Address block offset)) = inr (λ relation. refl)
-pairs (Some (Number x)) (Some (Routine r)) = inr (λ relation. refl)
-
-opposite_pointers : (relation : Relation) (p q : Option (Option ℕ)) → pointers_related relation p q ≡ Some false
-    → pointers_related (opposite relation) p q ≡ Some true
-opposite_pointers Equal None q e = absurd (none-some false e)
-opposite_pointers Equal (Some p) None e = absurd (none-some false e)
-opposite_pointers Equal (Some p) (Some q) e = ap (λ b. Some (not b)) (same_Some (same_pointer p q) false e)
-opposite_pointers NotEqual None q e = absurd (none-some false e)
-opposite_pointers NotEqual (Some p) None e = absurd (none-some false e)
-opposite_pointers NotEqual (Some p) (Some q) e =
-    ap Some (negated (same_pointer p q) (same_Some (not (same_pointer p q)) false e))
-  where
-    negated : (b : Bool) → not b ≡ false → b ≡ true
-    negated true e = refl
-    negated false e = absurd (true≢false e)
-opposite_pointers Less p q e = absurd (none-some false e)
-opposite_pointers LessEqual p q e = absurd (none-some false e)
-opposite_pointers Greater p q e = absurd (none-some false e)
-opposite_pointers GreaterEqual p q e = absurd (none-some false e)
-
-pub opposite_holds : (relation : Relation) (o o' : Option Value) → related relation o o' ≡ Some false
-    → related (opposite relation) o o' ≡ Some true
-opposite_holds relation o o' e = which (pairs o o')
-  where
-    which : ((x : ℤ) × (y : ℤ) × (o ≡ Some (Number x)) × (o' ≡ Some (Number y)))
-        ⊎ ((relation : Relation) → related relation o o' ≡ pointers_related relation (pointer_of o) (pointer_of o'))
-        → related (opposite relation) o o' ≡ Some true
-    which (inl (x, y, f, g)) =
-        let at : (r : Relation) → related r o o' ≡ Some (compared r x y)
-        = λ r. ap (λ o. related r o o') f ∙ ap (related r (Some (Number x))) g in
-        at (opposite relation)
-        ∙ ap Some (other_relation relation x y (same_Some (compared relation x y) false (sym (at relation) ∙ e)))
-    which (inr same) =
-        same (opposite relation)
-        ∙ opposite_pointers relation (pointer_of o) (pointer_of o') (sym (same relation) ∙ e)
-
-less_of : (x y : ℤ) → not (int_lt y x) ≡ true → not (same_number x y) ≡ true → int_lt x y ≡ true
-less_of x y e f = which (int_lt x y) refl
-  where
-    which : (b : Bool) → int_lt x y ≡ b → b ≡ true
-    which true g = refl
-    which false g =
-        let p = not_below x y (not-true (int_lt y x) e) in
-        let q = not_below y x g in
-        let s : x ≡ y = omega (arith, ints, p, q) in
-        absurd (true≢false (sym (same_itself x) ∙ ap (same_number x) s ∙ not-true (same_number x y) f))
-
--- where both hold
-meets : (known relation sharp : Relation) (o o' : Option Value)
-    → ((p q : Option (Option ℕ)) → pointers_related known p q ≡ None)
-    → ((x y : ℤ) → compared known x y ≡ true → compared relation x y ≡ true → compared sharp x y ≡ true)
-    → related known o o' ≡ Some true → related relation o o' ≡ Some true → related sharp o o' ≡ Some true
-meets known relation sharp o o' none numbers h k = which (pairs o o')
-  where
-    which : ((x : ℤ) × (y : ℤ) × (o ≡ Some (Number x)) × (o' ≡ Some (Number y)))
-        ⊎ ((relation : Relation) → related relation o o' ≡ pointers_related relation (pointer_of o) (pointer_of o'))
-        → related sharp o o' ≡ Some true
-    which (inl (x, y, f, g)) =
-        let at : (r : Relation) → related r o o' ≡ Some (compared r x y)
-        = λ r. ap (λ o. related r o o') f ∙ ap (related r (Some (Number x))) g in
-        at sharp
-        ∙ ap Some (numbers x y (same_Some (compared known x y) true (sym (at known) ∙ h))
-        (same_Some (compared relation x y) true (sym (at relation) ∙ k)))
-    which (inr same) =
-        absurd (none-some true (sym (none (pointer_of o) (pointer_of o')) ∙ sym (same known) ∙ h))
-
-greater_of : (x y : ℤ) → not (int_lt x y) ≡ true → not (same_number x y) ≡ true → int_lt y x ≡ true
-greater_of x y e f = which (int_lt y x) refl
-  where
-    which : (b : Bool) → int_lt y x ≡ b → b ≡ true
-    which true g = refl
-    which false g =
-        let p = not_below y x (not-true (int_lt x y) e) in
-        let q = not_below x y g in
-        let s : x ≡ y = omega (arith, ints, p, q) in
-        absurd (true≢false (sym (same_itself x) ∙ ap (same_number x) s ∙ not-true (same_number x y) f))
-
-sharper_is : (known relation : Relation) (o o' : Option Value) → related known o o' ≡ Some true
-    → related relation o o' ≡ Some true → related (sharper known relation) o o' ≡ Some true
-sharper_is Equal relation o o' h k = k
-sharper_is NotEqual relation o o' h k = k
-sharper_is Less relation o o' h k = k
-sharper_is Greater relation o o' h k = k
-sharper_is LessEqual Equal o o' h k = k
-sharper_is LessEqual NotEqual o o' h k = meets LessEqual NotEqual Less o o' (λ p q. refl) less_of h k
-sharper_is LessEqual Less o o' h k = k
-sharper_is LessEqual LessEqual o o' h k = k
-sharper_is LessEqual Greater o o' h k = k
-sharper_is LessEqual GreaterEqual o o' h k = k
-sharper_is GreaterEqual Equal o o' h k = k
-sharper_is GreaterEqual NotEqual o o' h k = meets GreaterEqual NotEqual Greater o o' (λ p q. refl) greater_of h k
-sharper_is GreaterEqual Less o o' h k = k
-sharper_is GreaterEqual LessEqual o o' h k = k
-sharper_is GreaterEqual Greater o o' h k = k
-sharper_is GreaterEqual GreaterEqual o o' h k = k
-
-module _ (ts : Temporaries) (orders : Orders) (h : AreOrdered ts orders) where
-  of_both : (a u : ℕ) (order : Order) → is_of a u order ≡ true → IsOrdered ts (Some order)
-      → related order.relation (ts a) (ts u) ≡ Some true
-  of_both a u order e k =
-      let c = and_parts (nat_eq order.left a) (nat_eq order.right u) e in
-      sym (ap (λ n. related order.relation (ts n) (ts order.right)) (eqb-true order.left a c.0)
-      ∙ ap (λ n. related order.relation (ts a) (ts n)) (eqb-true order.right u c.1)) ∙ k
-
-  sharpened_is : (a u : ℕ) (relation : Relation) (o : Option Order) → IsOrdered ts o
-      → related relation (ts a) (ts u) ≡ Some true → related (sharpened a u relation o) (ts a) (ts u) ≡ Some true
-  sharpened_is a u relation None k e = e
-  sharpened_is a u relation (Some order) k e = which (is_of a u order) refl
-    where
-      which : (b : Bool) → is_of a u order ≡ b
-          → related (if b then sharper order.relation relation else relation) (ts a) (ts u) ≡ Some true
-      which true f = sharper_is order.relation relation (ts a) (ts u) (of_both a u order f k) e
-      which false f = e
-
-  sharp_of_is : (relation : Relation) (a u : ℕ) → related relation (ts a) (ts u) ≡ Some true
-      → related (sharp_of orders relation a u) (ts a) (ts u) ≡ Some true
-  sharp_of_is relation a u e =
-      sharpened_is a u _ orders.fourth h.3 (sharpened_is a u _ orders.third h.2
-      (sharpened_is a u _ orders.second h.1 (sharpened_is a u relation orders.first h.0 e)))
-
-  pub sharp_is : (relation : Relation) (a : ℕ) (b : Operand) → related relation (ts a) (operand_value ts b) ≡ Some true
-      → related (sharp orders relation a b) (ts a) (operand_value ts b) ≡ Some true
-  sharp_is relation a (operand.Temporary u) e = sharp_of_is relation a u e
-  sharp_is relation a (operand.Number z) e = e
-
-  unless_both_is : (a u : ℕ) (o : Option Order) → IsOrdered ts o → IsOrdered ts (unless_both a u o)
-  unless_both_is a u None k = tt
-  unless_both_is a u (Some order) k = which (is_of a u order)
-    where
-      which : (b : Bool) → IsOrdered ts (if b then None else Some order)
-      which true = tt
-      which false = k
-
-  found_is : (relation : Relation) (a u : ℕ) → related relation (ts a) (ts u) ≡ Some true → AreOrdered ts
-      (found relation a u orders)
-  found_is relation a u e =
-      chosen ts (is_order relation) _ orders
-      (with_order_is ts (Some (record { left = a; relation = relation; right = u })) (without_both a u orders) e
-      (each_is ts ts (unless_both a u) orders (unless_both_is a u) h)) h
-
-  pub where_is : (relation : Relation) (a : ℕ) (b : Operand) → related relation (ts a) (operand_value ts b) ≡ Some true
-      → AreOrdered ts (orders_where orders relation a b)
-  where_is relation a (operand.Temporary u) e =
-      found_is (sharp_of orders relation a u) a u (sharp_of_is relation a u e)
-  where_is relation a (operand.Number z) e = h
-
--- ---- where places meet
-
-weaker : (x y : ℤ) → int_lt x y ≡ true → not (int_lt y x) ≡ true
-weaker x y e = let l = is_below y x e in ap not (no_less x y (omega (arith, ints, l)))
-
-weaker_greater : (x y : ℤ) → int_lt y x ≡ true → not (int_lt x y) ≡ true
-weaker_greater x y e = weaker y x e
-
-implies_is : (known relation : Relation) (o o' : Option Value) → implies known relation ≡ true
-    → related known o o' ≡ Some true → related relation o o' ≡ Some true
-implies_is Equal Equal o o' e h = h
-implies_is Equal NotEqual o o' e h = absurd (true≢false (sym e))
-implies_is Equal Less o o' e h = absurd (true≢false (sym e))
-implies_is Equal LessEqual o o' e h = absurd (true≢false (sym e))
-implies_is Equal Greater o o' e h = absurd (true≢false (sym e))
-implies_is Equal GreaterEqual o o' e h = absurd (true≢false (sym e))
-implies_is NotEqual Equal o o' e h = absurd (true≢false (sym e))
-implies_is NotEqual NotEqual o o' e h = h
-implies_is NotEqual Less o o' e h = absurd (true≢false (sym e))
-implies_is NotEqual LessEqual o o' e h = absurd (true≢false (sym e))
-implies_is NotEqual Greater o o' e h = absurd (true≢false (sym e))
-implies_is NotEqual GreaterEqual o o' e h = absurd (true≢false (sym e))
-implies_is Less Equal o o' e h = absurd (true≢false (sym e))
-implies_is Less NotEqual o o' e h = absurd (true≢false (sym e))
-implies_is Less Less o o' e h = h
-implies_is Less LessEqual o o' e h = meets Less Less LessEqual o o' (λ p q. refl) (λ x y f g. weaker x y f) h h
-implies_is Less Greater o o' e h = absurd (true≢false (sym e))
-implies_is Less GreaterEqual o o' e h = absurd (true≢false (sym e))
-implies_is LessEqual Equal o o' e h = absurd (true≢false (sym e))
-implies_is LessEqual NotEqual o o' e h = absurd (true≢false (sym e))
-implies_is LessEqual Less o o' e h = absurd (true≢false (sym e))
-implies_is LessEqual LessEqual o o' e h = h
-implies_is LessEqual Greater o o' e h = absurd (true≢false (sym e))
-implies_is LessEqual GreaterEqual o o' e h = absurd (true≢false (sym e))
-implies_is Greater Equal o o' e h = absurd (true≢false (sym e))
-implies_is Greater NotEqual o o' e h = absurd (true≢false (sym e))
-implies_is Greater Less o o' e h = absurd (true≢false (sym e))
-implies_is Greater LessEqual o o' e h = absurd (true≢false (sym e))
-implies_is Greater Greater o o' e h = h
-implies_is Greater GreaterEqual o o' e h =
-    meets Greater Greater GreaterEqual o o' (λ p q. refl) (λ x y f g. weaker_greater x y f) h h
-implies_is GreaterEqual Equal o o' e h = absurd (true≢false (sym e))
-implies_is GreaterEqual NotEqual o o' e h = absurd (true≢false (sym e))
-implies_is GreaterEqual Less o o' e h = absurd (true≢false (sym e))
-implies_is GreaterEqual LessEqual o o' e h = absurd (true≢false (sym e))
-implies_is GreaterEqual Greater o o' e h = absurd (true≢false (sym e))
-implies_is GreaterEqual GreaterEqual o o' e h = h
-
-says_is : (ts : Temporaries) (known : Option Order) (order : Order) → says known order ≡ true → IsOrdered ts known
-    → IsOrdered ts (Some order)
-says_is ts None order e h = absurd (true≢false (sym e))
-says_is ts (Some known) order e h =
-    let c = and_parts (is_of order.left order.right known) (implies known.relation order.relation) e in
-    let d = and_parts (nat_eq known.left order.left) (nat_eq known.right order.right) c.0 in
-    implies_is known.relation order.relation (ts order.left) (ts order.right) c.1
-    (sym (ap (λ n. related known.relation (ts n) (ts known.right)) (eqb-true known.left order.left d.0)
-    ∙ ap (λ n. related known.relation (ts order.left) (ts n)) (eqb-true known.right order.right d.1)) ∙ h)
-
-say_is : (ts : Temporaries) (orders : Orders) (claimed : Option Order) → say orders claimed ≡ true → AreOrdered ts orders
-    → IsOrdered ts claimed
-say_is ts orders None e h = tt
-say_is ts orders (Some order) e h = first (or_cases (says orders.first order) _ e)
-  where
-    third : (says orders.third order ≡ true) ⊎ (says orders.fourth order ≡ true) → IsOrdered ts (Some order)
-    third (inl f) = says_is ts orders.third order f h.2
-    third (inr f) = says_is ts orders.fourth order f h.3
-
-    second : (says orders.second order ≡ true) ⊎ ((says orders.third order || says orders.fourth order) ≡ true)
-        → IsOrdered ts (Some order)
-    second (inl f) = says_is ts orders.second order f h.1
-    second (inr f) = third (or_cases (says orders.third order) (says orders.fourth order) f)
-
-    first : (says orders.first order ≡ true)
-        ⊎ ((says orders.second order || (says orders.third order || says orders.fourth order)) ≡ true)
-        → IsOrdered ts (Some order)
-    first (inl f) = says_is ts orders.first order f h.0
-    first (inr f) = second (or_cases (says orders.second order) _ f)
-
-pub less_ordered : (ts : Temporaries) (orders claimed : Orders) → say_all orders claimed ≡ true → AreOrdered ts orders
-    → AreOrdered ts claimed
-less_ordered ts orders claimed e h =
-    let c = and_parts (say orders claimed.first)
-    (say orders claimed.second && (say orders claimed.third && say orders claimed.fourth)) e in
-    let d = and_parts (say orders claimed.second) (say orders claimed.third && say orders claimed.fourth) c.1 in
-    let f = and_parts (say orders claimed.third) (say orders claimed.fourth) d.1 in (
-      say_is ts orders claimed.first c.0 h,
-      say_is ts orders claimed.second d.0 h,
-      say_is ts orders claimed.third f.0 h,
-      say_is ts orders claimed.fourth f.1 h,
-    )
-
-pub nothing_ordered : (ts : Temporaries) (claimed : Orders) → say_all no_orders claimed ≡ true → AreOrdered ts claimed
-nothing_ordered ts claimed e = less_ordered ts no_orders claimed e (tt, tt, tt, tt)
-
--- ---- what is known says itself
-
-implies_itself : (relation : Relation) → implies relation relation ≡ true
-implies_itself Equal = refl
-implies_itself NotEqual = refl
-implies_itself Less = refl
-implies_itself LessEqual = refl
-implies_itself Greater = refl
-implies_itself GreaterEqual = refl
-
-says_itself : (order : Order) → says (Some order) order ≡ true
-says_itself order =
-    ap (λ b. (b && nat_eq order.right order.right) && implies order.relation order.relation)
-    (eq-eqb order.left order.left refl)
-    ∙ ap (λ b. b && implies order.relation order.relation) (eq-eqb order.right order.right refl)
-    ∙ implies_itself order.relation
-
-says_same : (o : Option Order) (order : Order) → o ≡ Some order → says o order ≡ true
-says_same o order e = ap (λ o. says o order) e ∙ says_itself order
-
-module _ (orders : Orders) where
-  say_first : (o : Option Order) → orders.first ≡ o → say orders o ≡ true
-  say_first None e = refl
-  say_first (Some order) e = or_left (says orders.first order) _ (says_same orders.first order e)
-
-  say_second : (o : Option Order) → orders.second ≡ o → say orders o ≡ true
-  say_second None e = refl
-  say_second (Some order) e =
-      or_right (says orders.first order) _
-      (or_left (says orders.second order) _ (says_same orders.second order e))
-
-  say_third : (o : Option Order) → orders.third ≡ o → say orders o ≡ true
-  say_third None e = refl
-  say_third (Some order) e =
-      or_right (says orders.first order) _ (or_right (says orders.second order) _
-      (or_left (says orders.third order) _ (says_same orders.third order e)))
-
-  say_fourth : (o : Option Order) → orders.fourth ≡ o → say orders o ≡ true
-  say_fourth None e = refl
-  say_fourth (Some order) e =
-      or_right (says orders.first order) _ (or_right (says orders.second order) _
-      (or_right (says orders.third order) _ (says_same orders.fourth order e)))
-
-  all_true : (a b c d : Bool) → a ≡ true → b ≡ true → c ≡ true → d ≡ true → (a && (b && (c && d))) ≡ true
-  all_true true true true true e f g h = refl
-  all_true false b c d e f g h = absurd (true≢false (sym e))
-  all_true true false c d e f g h = absurd (true≢false (sym f))
-  all_true true true false d e f g h = absurd (true≢false (sym g))
-  all_true true true true false e f g h = absurd (true≢false (sym h))
-
-  pub say_all_itself : say_all orders orders ≡ true
-  say_all_itself =
-      all_true (say orders orders.first) (say orders orders.second) (say orders orders.third) (say orders orders.fourth)
-      (say_first orders.first refl) (say_second orders.second refl) (say_third orders.third refl)
-      (say_fourth orders.fourth refl)

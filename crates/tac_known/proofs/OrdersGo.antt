@@ -26,8 +26,10 @@ use Rattle.tac_known.specs.declared.order.Orders.{Orders}
 use Rattle.tac_known.specs.Kinds.{IsOf, kind_in, Hold, opposite}
 use Rattle.tac_known.specs.Orders.{AreOrdered, without, copied, combined, orders_where, say_all, no_orders, OrdersLead}
 use Rattle.tac_known.proofs.Goes.{on_some, on_number, on_address, on_routine, on_if, on_byte}
-use Rattle.tac_known.proofs.Ordered.{without_is, copied_is, combined_is, opposite_holds, where_is, less_ordered}
-use Rattle.tac_known.proofs.Ordered.{nothing_ordered}
+use Rattle.tac_known.proofs.Ordered.{without_is, copied_is, combined_is}
+use Rattle.tac_known.proofs.OrdersBranched.{opposite_holds, where_is}
+use Rattle.tac_known.proofs.OrdersImplied.{less_ordered}
+use Rattle.tac_known.proofs.OrdersImplied.{nothing_ordered}
 
 module _ (ord : ℕ → ℕ → Orders) where
   -- of callers nothing is known where they go on

@@ -24,7 +24,7 @@ use Rattle.tac_known.specs.Walk.{Claims, claim_at, claimed_or, OrderClaims, orde
 use Rattle.tac_known.specs.Walk.{orders_fall, Known, falls_from, nothing, known_at, allows, aims, aims_well, falls_well}
 use Rattle.tac_known.specs.Walk.{is_well, orders_allowed, orders_aimed, orders_aim_well, orders_fall_well}
 use Rattle.tac_known.specs.Walk.{orders_are_well}
-use Rattle.tac_known.proofs.Ordered.{say_all_itself}
+use Rattle.tac_known.proofs.OrdersImplied.{say_all_itself}
 use Rattle.tac_known.proofs.Integers.{no_less}
 use Rattle.tac_known.proofs.Holding.{nothing_more}
 

@@ -25,7 +25,7 @@ use Rattle.tac_known.specs.Lean.{lean, Leads, IsLean}
 use Rattle.tac_known.proofs.Holding.{nothing_holds}
 use Rattle.tac_known.proofs.Acts.{lean_text, lean_turns, acts_alike, enter_alike}
 use Rattle.tac_known.proofs.Goes.{IsKnown, known_follows}
-use Rattle.tac_known.proofs.Ordered.{nothing_ordered}
+use Rattle.tac_known.proofs.OrdersImplied.{nothing_ordered}
 use Rattle.tac_known.proofs.OrdersGo.{AreKnown, orders_follow}
 
 -- ---- lists of one length

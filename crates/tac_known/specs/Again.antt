@@ -3,6 +3,7 @@
 use Rattle.std.specs.Prelude.{◌≡◌, ◌⊎◌, ℕ, zero, suc, ◌+◌, ◌-◌, ◌*◌, ◌&&◌, ◌||◌, Bool, true, false, if◌then◌else◌, nat_eq, nat_lt}
 use Rattle.std.specs.Prelude.{List, length, slice_get, Option, Some, None, ℤ}
 use Rattle.std.specs.Ordering.{int_eq}
+use Rattle.tac_code.specs.declared.code.TheConstants.{BLOCK_LIMIT}
 use Rattle.tac_code.specs.declared.code.Block.{Block}
 use Rattle.tac_code.specs.declared.code.Base.{Base}
 use Rattle.tac_code.specs.declared.code.Base.TheVariants as base
@@ -46,7 +47,7 @@ pub record IsComponent (c : Component) (current : Activation) : Type 0 where
   pub based : base_value current c.base ≡ Some (Address block offset)
   pub indexed : current.temporaries c.index ≡ Some (Number index)
   pub inside : is_in_range c.low c.high index ≡ true
-  pub near : nat_lt (offset + steps_above c.low index * c.width) 2147483648 ≡ true
+  pub near : nat_lt (offset + steps_above c.low index * c.width) BLOCK_LIMIT ≡ true
   pub held : current.temporaries c.holder ≡ Some (Address block (offset + steps_above c.low index * c.width))
 
 -- ---- what a sum is

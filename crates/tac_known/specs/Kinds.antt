@@ -1,8 +1,9 @@
 -- What is known of the temporaries of an activation, and what instructions make of it.
-use Rattle.std.specs.Prelude.{◌≡◌, ◌≢◌, ℕ, ◌&&◌, not, Bool, true, false, if◌then◌else◌, List, [], ◌∷◌, slice_get}
-use Rattle.std.specs.Prelude.{Option, Some, None, ℤ, pos, negsuc, ◌+ℤ◌, ◌-ℤ◌, ◌*ℤ◌, ◌≤ℤ◌, int_lt, int_div}
+use Rattle.std.specs.Prelude.{◌≡◌, ◌≢◌, ℕ, ◌-◌, ◌&&◌, not, Bool, true, false, if◌then◌else◌, List, [], ◌∷◌, slice_get}
+use Rattle.std.specs.Prelude.{Option, Some, None, ℤ, pos, ◌+ℤ◌, ◌-ℤ◌, ◌*ℤ◌, neg_ℤ, ◌≤ℤ◌, int_lt, int_div}
 use Rattle.std.specs.Int.{int_max, int_min}
 use Rattle.std.specs.Ordering.{int_eq}
+use Rattle.tac_code.specs.declared.code.TheConstants.{NUMBER_LIMIT}
 use Rattle.tac_code.specs.declared.code.Value.{Value}
 use Rattle.tac_code.specs.declared.code.Value.TheVariants.{Number}
 use Rattle.tac_code.specs.declared.code.Operator.{Operator}
@@ -44,10 +45,10 @@ operand_kind kinds (operand.Number z) = Between z z
 -- ---- kinds of results
 
 abbrev pub least : ℤ
-least = negsuc 2147483647
+least = neg_ℤ (pos NUMBER_LIMIT)
 
 abbrev pub greatest : ℤ
-greatest = pos 2147483647
+greatest = pos (NUMBER_LIMIT - 1)
 
 -- a number within bounds that lies within other bounds too
 abbrev pub met : Kind → ℤ → ℤ → Kind

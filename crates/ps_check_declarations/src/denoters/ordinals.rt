@@ -11,6 +11,7 @@ ghost use Rattle.ps_check_declarations.specs.Denoters.{simple_type, denoter};
 ghost use Rattle.ps_check_declarations.specs.Hiding.{Covers};
 ghost use Rattle.ps_check_declarations.specs.Views.{frame_of, declared_of, hidden_of};
 
+use crate::denoters::CONSTANT_LIMIT;
 use crate::denoters::named::{constant_in, type_in};
 use crate::frame::{Declared, Frame, Place};
 use crate::hiding::HidingNames;
@@ -112,7 +113,7 @@ fn enumeration(
     } = place.frame;
     let known = declared.known.len();
     let _defined = new_points(reading, place.alloc, names, begun, known, constants)?;
-    if constants.len() >= 2_147_483_648 {
+    if constants.len() >= CONSTANT_LIMIT {
         return Err(broken(Rule::Limit, at));
     }
     let greatest = constants.len().saturating_sub(1) as i32;

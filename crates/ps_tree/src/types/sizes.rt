@@ -30,7 +30,7 @@ fn capped(n: u64) -> u32
 impl Ty {
     /// Whether all values of the type lie in 0..255.
     #[tactic(auto, unfolding(crate::specs::TypeView::type_of))]
-    fn fits_byte(&self) -> bool
+    pub(super) fn fits_byte(&self) -> bool
         ensures { result ≡ fits_byte (type_of self.now) }
     {
         match self {

@@ -11,7 +11,7 @@ use tac_code::code::{BitOperator, Operator, Relation};
 fn is_integer(number: i64) -> bool
     ensures { result ≡ is_integer number }
 {
-    number >= -2147483648 && number <= 2147483647
+    number >= i64::from(i32::MIN) && number <= i64::from(i32::MAX)
 }
 
 fn are_integers(low: i64, high: i64) -> bool

@@ -71,7 +71,7 @@ pub negated_value-returns : goal.negated_value-returns
 negated_value-returns t c = rw (
   c.in_ok-operand.ensures,
   factor_first (context_at c.args.site)
-      (regions_at c.args.site) c.args.x.now,
+      (regions_at c.args.site) c.args.factor.now,
   ← c.first_token-at.ensures,
 ) (still_answers _ _ _ _ c.negated.ensures)
 
@@ -92,26 +92,26 @@ index_all-loop-index-preserved t c =
     next_map _ _ _ _ _ _ c.index-item.result _ c.loop-index-test.true c.index-item.is c.loop-index.invariant
     c.in_ok-place.ensures
 
-pub set_value-returns-in_err-member : goal.set_value-returns-in_err-member
-set_value-returns-in_err-member t c =
+pub set_value-returns-in_err-value : goal.set_value-returns-in_err-value
+set_value-returns-in_err-value t c =
     handed_on _ _ _ _ c.from_residual.ensures.1
-    (member_told (context_at c.args.site) (regions_at c.args.site) c.args.members.now _ c.loop-x.x-index
-    c.loop-x.list.items c.loop-x.base _ c.x-item.result _ c.loop-x-test.true c.x-item.is c.loop-x.invariant
-    c.in_err-member.ensures)
+    (member_told (context_at c.args.site) (regions_at c.args.site) c.args.members.now _ c.loop-member.member-index
+    c.loop-member.list.items c.loop-member.base _ c.member-item.result _ c.loop-member-test.true c.member-item.is c.loop-member.invariant
+    c.in_err-value.ensures)
 
 pub set_value-returns-in_err-joined : goal.set_value-returns-in_err-joined
 set_value-returns-in_err-joined t c =
     handed_on _ _ _ _ c.from_residual-in_err-joined.ensures.1
-    (unlike_told (context_at c.args.site) (regions_at c.args.site) c.args.members.now _ c.loop-x.x-index
-    c.loop-x.list.items c.loop-x.base _ _ c.x-item.result _ _ _ c.loop-x-test.true c.x-item.is c.loop-x.invariant
-    c.in_ok-member.ensures (rw (← c.first_token.ensures) (c.in_err-joined.ensures _ _)))
+    (unlike_told (context_at c.args.site) (regions_at c.args.site) c.args.members.now _ c.loop-member.member-index
+    c.loop-member.list.items c.loop-member.base _ _ c.member-item.result _ _ _ c.loop-member-test.true c.member-item.is c.loop-member.invariant
+    c.in_ok-value.ensures (rw (← c.first_token.ensures) (c.in_err-joined.ensures _ _)))
 
-pub set_value-loop-x-preserved : goal.set_value-loop-x-preserved
-set_value-loop-x-preserved t c =
-    gathered_next (context_at c.args.site) (regions_at c.args.site) c.args.members.now _ c.loop-x.x-index
-    c.loop-x.list.items c.push.new.self.items c.loop-x.base _ _ c.x-item.result c.in_ok-member.member
-    c.in_ok-member.ordinal c.in_ok-joined.field-0 c.loop-x-test.true c.x-item.is c.loop-x.invariant
-    c.in_ok-member.ensures (rw (← c.first_token.ensures) (c.in_ok-joined.ensures _ _)) c.in_ok-push.ensures.items
+pub set_value-loop-member-preserved : goal.set_value-loop-member-preserved
+set_value-loop-member-preserved t c =
+    gathered_next (context_at c.args.site) (regions_at c.args.site) c.args.members.now _ c.loop-member.member-index
+    c.loop-member.list.items c.push.new.self.items c.loop-member.base _ _ c.member-item.result c.in_ok-value.value
+    c.in_ok-value.ordinal c.in_ok-joined.field-0 c.loop-member-test.true c.member-item.is c.loop-member.invariant
+    c.in_ok-value.ensures (rw (← c.first_token.ensures) (c.in_ok-joined.ensures _ _)) c.in_ok-push.ensures.items
 
 pub member_value-returns-in_ok-value-in-One : goal.member_value-returns-in_ok-value-in-One
 unfolding member_of
@@ -176,7 +176,7 @@ pub referent-returns-in-Compare : goal.referent-returns-in-Compare
 referent-returns-in-Compare t c = rw (
   c.broken.ensures,
   comparison_is_none (context_at c.args.site)
-      (regions_at c.args.site) c.args.x.now _ _ _ _ c.in-Compare.is,
+      (regions_at c.args.site) c.args.expression.now _ _ _ _ c.in-Compare.is,
   ← c.first_token.ensures,
 ) refl
 
@@ -184,7 +184,7 @@ pub referent-returns-in-Some : goal.referent-returns-in-Some
 referent-returns-in-Some t c = rw (
   c.broken-in-Some.ensures,
   signed_is_none (context_at c.args.site)
-      (regions_at c.args.site) c.args.x.now _ _ c.in-Simple.is c.in-Some.is,
+      (regions_at c.args.site) c.args.expression.now _ _ c.in-Simple.is c.in-Some.is,
   ← c.first_token-in-Some.ensures,
 ) refl
 
@@ -203,7 +203,7 @@ referent-returns-else-is_empty t c =
     rw (
       c.broken-else-is_empty.ensures,
       sum_is_none (context_at c.args.site)
-          (regions_at c.args.site) c.args.x.now _ c.in-Simple.is
+          (regions_at c.args.site) c.args.expression.now _ c.in-Simple.is
           (λ none. true≢false (sym (c.is_empty.ensures.1 none) ∙ c.if-is_empty.false)),
       ←
           c.first_token-else-is_empty.ensures,
@@ -212,7 +212,7 @@ referent-returns-else-is_empty t c =
 pub term_referent-returns-in-Variable : goal.term_referent-returns-in-Variable
 term_referent-returns-in-Variable t c =
     rw (
-      term_variable (context_at c.args.site) (regions_at c.args.site) c.args.x.now
+      term_variable (context_at c.args.site) (regions_at c.args.site) c.args.term.now
           (c.is_empty.ensures.0 c.if-not-is_empty.false),
       c.in-Variable.is,
       factor_variable,
@@ -222,7 +222,7 @@ pub term_referent-returns-then-not-is_empty : goal.term_referent-returns-then-no
 term_referent-returns-then-not-is_empty t c =
     rw (
       c.broken.ensures,
-      term_no_variable (context_at c.args.site) (regions_at c.args.site) c.args.x.now
+      term_no_variable (context_at c.args.site) (regions_at c.args.site) c.args.term.now
           (λ none. true≢false (sym (c.is_empty.ensures.1 none) ∙ c.if-not-is_empty.true)),
       ← c.first_token.ensures,
     ) refl
@@ -231,7 +231,7 @@ pub term_referent-returns-in-Call : goal.term_referent-returns-in-Call
 term_referent-returns-in-Call t c =
     rw (
       c.broken-in-Call.ensures,
-      factor_is_none (context_at c.args.site) (regions_at c.args.site) c.args.x.now
+      factor_is_none (context_at c.args.site) (regions_at c.args.site) c.args.term.now
           (c.is_empty.ensures.0 c.if-not-is_empty.false) c.in-Call.is,
       ← c.first_token-in-Call.ensures,
     ) refl

@@ -17,9 +17,9 @@ invariant-multiply_factors-loop-factor l = Stepped
     (λ t x. multiply_factor (context_at l.site) (regions_at l.site) x l.fn.at t.0 t.1)
     (value_of l.fn.first, l.fn.changes.items) l.factors l.factor-index (value_of l.value, l.changes.items)
 
-abbrev pub invariant-set_value-loop-x : goal.invariant-set_value-loop-x
-invariant-set_value-loop-x l = Gathering (context_at l.site)
-    (regions_at l.site) l.members l.fn.changes.items l.x-index l.list.items l.base l.changes.items
+abbrev pub invariant-set_value-loop-member : goal.invariant-set_value-loop-member
+invariant-set_value-loop-member l = Gathering (context_at l.site)
+    (regions_at l.site) l.members l.fn.changes.items l.member-index l.list.items l.base l.changes.items
 
 abbrev pub invariant-select_all-loop-selector : goal.invariant-select_all-loop-selector
 invariant-select_all-loop-selector l = Stepped (λ t x. select (context_at l.site) (regions_at l.site) x l.fn.at t.0 t.1)

@@ -18,68 +18,68 @@ use Rattle.ps_check_statements.proofs.statement.+statement.Goals as goal
 
 -- ---- sequences
 
-pub statements-loop-x-init : goal.statements-loop-x-init
-statements-loop-x-init t c = rw c.in_ok-typed.ensures.items
+pub statements-loop-syntax-init : goal.statements-loop-syntax-init
+statements-loop-syntax-init t c = rw c.in_ok-typed.ensures.items
     (added_start (λ s. spec.statement s (context_at c.args.site) (regions_at c.args.site)) statement_of c.args.list.now
     c.args.changes.now.items)
 
-pub statements-loop-x-preserved : goal.statements-loop-x-preserved
-statements-loop-x-preserved t c =
+pub statements-loop-syntax-preserved : goal.statements-loop-syntax-preserved
+statements-loop-syntax-preserved t c =
     added_next (λ s. spec.statement s (context_at c.args.site) (regions_at c.args.site)) statement_of c.args.list.now _
-    c.loop-x.x-index c.loop-x.typed.items _ _ _ c.x-item.result c.statement.result c.loop-x-test.true c.x-item.is
-    c.loop-x.invariant c.statement.ensures c.in_ok-push_answer.ensures.ok
+    c.loop-syntax.syntax-index c.loop-syntax.typed.items _ _ _ c.syntax-item.result c.statement.result c.loop-syntax-test.true c.syntax-item.is
+    c.loop-syntax.invariant c.statement.ensures c.in_ok-push_answer.ensures.ok
 
 pub statements-returns-in_err-push_answer : goal.statements-returns-in_err-push_answer
 unfolding spec.statements
 statements-returns-in_err-push_answer t c =
     handed_on _ _ _ _ c.from_residual-in_err-push_answer.ensures.1
     (told_bind _ _ _ (added_fault (λ s. spec.statement s (context_at c.args.site) (regions_at c.args.site))
-    statement_of c.args.list.now _ c.loop-x.x-index c.loop-x.typed.items _ _ c.x-item.result c.statement.result _
-    c.loop-x-test.true c.x-item.is c.loop-x.invariant c.statement.ensures c.in_err-push_answer.ensures.err))
+    statement_of c.args.list.now _ c.loop-syntax.syntax-index c.loop-syntax.typed.items _ _ c.syntax-item.result c.statement.result _
+    c.loop-syntax-test.true c.syntax-item.is c.loop-syntax.invariant c.statement.ensures c.in_err-push_answer.ensures.err))
 
 pub statements-returns : goal.statements-returns
 unfolding spec.statements
 statements-returns t c =
     rw (
       added_end (λ s. spec.statement s (context_at c.args.site) (regions_at c.args.site)) statement_of c.args.list.now
-          _ c.loop-x.x-index c.loop-x.typed.items _ c.loop-x-test.false c.loop-x.invariant,
+          _ c.loop-syntax.syntax-index c.loop-syntax.typed.items _ c.loop-syntax-test.false c.loop-syntax.invariant,
       statements_listed
-          c.loop-x.typed.items,
+          c.loop-syntax.typed.items,
     ) refl
 
 -- ---- case elements
 
-pub elements-loop-x-init : goal.elements-loop-x-init
-elements-loop-x-init t c =
+pub elements-loop-syntax-init : goal.elements-loop-syntax-init
+elements-loop-syntax-init t c =
     rw (c.in_ok-typed.ensures.items, c.with_hasher-seen.ensures.empty)
     (collected_start (context_at c.args.site)
     (regions_at c.args.site) c.args.index c.args.list.now c.args.changes.now.items)
 
-pub elements-loop-x-preserved : goal.elements-loop-x-preserved
-elements-loop-x-preserved t c =
-    collected_next (context_at c.args.site) (regions_at c.args.site) c.args.index c.args.list.now _ c.loop-x.x-index
-    c.loop-x.seen.keys _ c.loop-x.typed.items _ _ _ c.x-item.result c.element.result c.loop-x-test.true c.x-item.is
-    c.loop-x.invariant c.element.ensures.element c.element.ensures.seen c.in_ok-push_answer.ensures.ok
+pub elements-loop-syntax-preserved : goal.elements-loop-syntax-preserved
+elements-loop-syntax-preserved t c =
+    collected_next (context_at c.args.site) (regions_at c.args.site) c.args.index c.args.list.now _ c.loop-syntax.syntax-index
+    c.loop-syntax.seen.keys _ c.loop-syntax.typed.items _ _ _ c.syntax-item.result c.element.result c.loop-syntax-test.true c.syntax-item.is
+    c.loop-syntax.invariant c.element.ensures.element c.element.ensures.seen c.in_ok-push_answer.ensures.ok
 
 pub elements-returns-in_err-push_answer : goal.elements-returns-in_err-push_answer
 elements-returns-in_err-push_answer t c =
     handed_on _ _ _ _ c.from_residual-in_err-push_answer.ensures.1
     (collected_fault (context_at c.args.site)
-    (regions_at c.args.site) c.args.index c.args.list.now _ c.loop-x.x-index c.loop-x.seen.keys c.loop-x.typed.items
-    _ _ c.x-item.result c.element.result _ c.loop-x-test.true c.x-item.is c.loop-x.invariant
+    (regions_at c.args.site) c.args.index c.args.list.now _ c.loop-syntax.syntax-index c.loop-syntax.seen.keys c.loop-syntax.typed.items
+    _ _ c.syntax-item.result c.element.result _ c.loop-syntax-test.true c.syntax-item.is c.loop-syntax.invariant
     c.element.ensures.element c.in_err-push_answer.ensures.err)
 
 pub elements-returns : goal.elements-returns
 elements-returns t c = collected_end (context_at c.args.site)
-    (regions_at c.args.site) c.args.index c.args.list.now _ c.loop-x.x-index c.loop-x.seen.keys c.loop-x.typed.items _
-    c.loop-x-test.false c.loop-x.invariant
+    (regions_at c.args.site) c.args.index c.args.list.now _ c.loop-syntax.syntax-index c.loop-syntax.seen.keys c.loop-syntax.typed.items _
+    c.loop-syntax-test.false c.loop-syntax.invariant
 
 pub element-returns-in_err-constants-clause-element : goal.element-returns-in_err-constants-clause-element
 element-returns-in_err-constants-clause-element t c =
     handed_on _ _ _ _ c.from_residual.ensures.1
     (rw (element_at, ← c.as_slice.ensures) (next_told _ _ (λ own. own.items)
     (λ s. (statement_of s, c.statement-body.new.changes.items)) c.args.changes.now.items _
-    (spec.statement (out-Element c.args.x.now).statement (context_at c.args.site) (regions_at c.args.site)) _ _
+    (spec.statement (out-Element c.args.element.now).statement (context_at c.args.site) (regions_at c.args.site)) _ _
     (still_answers _ _ _ _ c.case_labels-constants.ensures.labels) c.statement-body.ensures
     c.in_err-constants.ensures))
 
@@ -87,7 +87,7 @@ pub element-returns-clause-element : goal.element-returns-clause-element
 element-returns-clause-element t c =
     rw (element_at, ← c.as_slice.ensures) (next_yes _ _ (λ own. own.items)
     (λ s. (statement_of s, c.statement-body.new.changes.items)) c.args.changes.now.items _
-    (spec.statement (out-Element c.args.x.now).statement (context_at c.args.site) (regions_at c.args.site)) _ _ _
+    (spec.statement (out-Element c.args.element.now).statement (context_at c.args.site) (regions_at c.args.site)) _ _ _
     (still_answers _ _ _ _ c.case_labels-constants.ensures.labels) c.statement-body.ensures
     c.in_ok-constants.ensures)
 
@@ -153,14 +153,14 @@ repeat_statement-returns-in_err-body t c =
     handed_on _ _ _ _ c.from_residual.ensures.1
     (next_told _ _ (λ ss. statements_of ss.items)
     (λ e. (expr_of e, c.condition_at-condition.new.changes.items)) c.statements-body.new.changes.items _
-    (spec.condition_at (context_at c.args.site) (regions_at c.args.site) c.args.x.now) _ _ c.statements-body.ensures
+    (spec.condition_at (context_at c.args.site) (regions_at c.args.site) c.args.condition.now) _ _ c.statements-body.ensures
     c.condition_at-condition.ensures c.in_err-body.ensures)
 
 pub repeat_statement-returns : goal.repeat_statement-returns
 repeat_statement-returns t c =
     rw statement_of_Repeat (next_yes _ _ (λ ss. statements_of ss.items)
     (λ e. (expr_of e, c.condition_at-condition.new.changes.items)) c.statements-body.new.changes.items _
-    (spec.condition_at (context_at c.args.site) (regions_at c.args.site) c.args.x.now) _ _ _
+    (spec.condition_at (context_at c.args.site) (regions_at c.args.site) c.args.condition.now) _ _ _
     c.statements-body.ensures c.condition_at-condition.ensures c.in_ok-body.ensures)
 
 pub for_statement-returns-in_err-head : goal.for_statement-returns-in_err-head

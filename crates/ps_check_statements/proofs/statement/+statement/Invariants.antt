@@ -6,13 +6,13 @@ use Rattle.ps_check_statements.specs.Statements as spec
 use Rattle.ps_check_statements.proofs.Loops.{Added, Collected}
 use Rattle.ps_check_statements.proofs.statement.+statement.Given as goal
 
-abbrev pub invariant-statements-loop-x : goal.invariant-statements-loop-x
-invariant-statements-loop-x l = Added (λ s. spec.statement s (context_at l.site) (regions_at l.site)) statement_of
-    l.list l.fn.changes.items l.x-index l.typed.items l.changes.items
+abbrev pub invariant-statements-loop-syntax : goal.invariant-statements-loop-syntax
+invariant-statements-loop-syntax l = Added (λ s. spec.statement s (context_at l.site) (regions_at l.site)) statement_of
+    l.list l.fn.changes.items l.syntax-index l.typed.items l.changes.items
 
-abbrev pub invariant-elements-loop-x : goal.invariant-elements-loop-x
-invariant-elements-loop-x l = Collected (context_at l.site)
-    (regions_at l.site) l.index l.list l.fn.changes.items l.x-index l.seen.keys l.typed.items l.changes.items
+abbrev pub invariant-elements-loop-syntax : goal.invariant-elements-loop-syntax
+invariant-elements-loop-syntax l = Collected (context_at l.site)
+    (regions_at l.site) l.index l.list l.fn.changes.items l.syntax-index l.seen.keys l.typed.items l.changes.items
 
 -- The depth of the statement, and then what is called for one of the same depth.
 

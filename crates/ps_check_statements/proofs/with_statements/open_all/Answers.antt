@@ -5,9 +5,9 @@ use Rattle.ps_check_expressions.specs.View.{context_at, regions_at}
 use Rattle.ps_check_statements.specs.Structured.{open_next}
 use Rattle.ps_check_statements.proofs.with_statements.open_all.Goals as goal
 
-pub loop-x-init : goal.loop-x-init
+pub loop-variable-init : goal.loop-variable-init
 unfolding opened_in scope_of
-loop-x-init c = (
+loop-variable-init c = (
   rw (c.in_ok-places.ensures.items, c.new-opened.ensures.records)
       (stepped_start (λ t x. open_next (context_at c.args.site) t.0 x t.1)
       (([], regions_at c.args.site), c.args.changes.now.items) c.args.records.now),
@@ -16,20 +16,20 @@ loop-x-init c = (
 )
 
 pub open_next-requires : goal.open_next-requires
-open_next-requires c = c.loop-x.invariant.1
+open_next-requires c = c.loop-variable.invariant.1
 
-pub loop-x-preserved : goal.loop-x-preserved
-loop-x-preserved c = (
-  stepped_next _ _ _ _ _ c.x-item.result _ c.loop-x-test.true c.x-item.is c.loop-x.invariant.0
+pub loop-variable-preserved : goal.loop-variable-preserved
+loop-variable-preserved c = (
+  stepped_next _ _ _ _ _ c.variable-item.result _ c.loop-variable-test.true c.variable-item.is c.loop-variable.invariant.0
       c.in_ok-opened.ensures.opened,
   c.in_ok-opened.ensures.known,
-  c.in_ok-opened.ensures.wides ∙ c.loop-x.invariant.2,
+  c.in_ok-opened.ensures.wides ∙ c.loop-variable.invariant.2,
 )
 
 pub returns-in_err-opened-clause-opened : goal.returns-in_err-opened-clause-opened
 returns-in_err-opened-clause-opened c = handed_on _ _ _ _ c.from_residual-in_err-opened.ensures.1
-    (stepped_fault _ _ _ _ _ c.x-item.result _ c.loop-x-test.true c.x-item.is c.loop-x.invariant.0
+    (stepped_fault _ _ _ _ _ c.variable-item.result _ c.loop-variable-test.true c.variable-item.is c.loop-variable.invariant.0
     c.in_err-opened.ensures.opened)
 
 pub returns-clause-opened : goal.returns-clause-opened
-returns-clause-opened c = stepped_end _ _ _ _ _ c.loop-x-test.false c.loop-x.invariant.0
+returns-clause-opened c = stepped_end _ _ _ _ _ c.loop-variable-test.false c.loop-variable.invariant.0

@@ -8,8 +8,8 @@ use Rattle.ps_check_statements.specs.Known.{Knows}
 use Rattle.ps_check_statements.proofs.with_statements.open_all.Given as goal
 
 -- the records so far are open, and what is known of them is so
-abbrev pub invariant-loop-x : goal.invariant-loop-x
-invariant-loop-x l = Stepped (λ t x. open_next (context_at l.site) t.0 x t.1)
-    (([], regions_at l.site), l.fn.changes.items) l.records l.x-index
+abbrev pub invariant-loop-variable : goal.invariant-loop-variable
+invariant-loop-variable l = Stepped (λ t x. open_next (context_at l.site) t.0 x t.1)
+    (([], regions_at l.site), l.fn.changes.items) l.records l.variable-index
     ((map place_of l.places.items, opened_in (regions_at l.site) l.opened.records.items), l.changes.items) × Knows
     (context_at l.site).domains (regions_at l.site) l.opened.records.items l.known × (l.opened.wides.now ≡ l.wides)

@@ -9,7 +9,7 @@ returns-then-len c =
     let others : length c.other.inside.types.items ≡ c.len-2.result = search rules in
     one_length c.self.inside.names c.other.inside.names c.self.inside.types.items c.other.inside.types.items
     c.self.inside.code.items c.other.inside.code.items c.args.self.now c.args.other.now c.self.view_is c.other.view_is
-    c.self.invariant.3 c.other.invariant.3 (own ∙ c.if-len.true ∙ sym others) c.eq.result
+    c.self.invariant.4 c.other.invariant.4 (own ∙ c.if-len.true ∙ sym others) c.eq.result
     (c.eq.ensures ∙ (λ i. pointwise nat_eq (c.as_slice.ensures.value i) (c.as_slice-then-len.ensures.value i)))
 
 pub returns-else-len : goal.returns-else-len

@@ -1,12 +1,14 @@
 use Rattle.std.proofs.Common.{◌∙◌, ap, min, subst}
 use Rattle.ps_tree.specs.Types.{field_list, AreAlike}
 use Rattle.ps_tree.specs.Sizes.{record_cells, field_bytes, beginnings}
+use Rattle.ps_tree.specs.Cores.{cores_of}
 use Rattle.ps_tree.specs.TypeView.{types_of}
 use Rattle.ps_tree.proofs.SizeLemmas.{record_bytes_are}
 use Rattle.ps_tree.proofs.types.Fields.new.Goals as goal
 
 pub invariant_of-result : goal.invariant_of-result
 invariant_of-result c = (
+  c.in_ok-solid.ensures ∙ ap (λ items. cores_of (types_of items)) c.as_slice-6.ensures.value,
   c.cells_of_all-cell_count.ensures c.args.names
       ∙ ap (λ items. min (record_cells (field_list c.args.names (types_of items))) 18446744073709551615)
       c.as_slice-2.ensures.value,
