@@ -18,7 +18,7 @@ use Rattle.ps_build.specs.declared.outcome.Outcome.{Outcome}
 use Rattle.ps_build.specs.declared.outcome.Outcome.TheVariants as o
 use Rattle.ps_build.specs.Runs as image
 use Rattle.ps_build.specs.Slices.{ComesTo, IsLeft, IsRunLeft}
-use Rattle.ps_build.proofs.Asked.{run_shows}
+use Rattle.ps_build.proofs.DeviceFailed.{run_shows}
 use Rattle.ps_build.proofs.Told.{runs_of}
 
 -- ---- runs

@@ -1,5 +1,5 @@
 pub mod Rows
-pub mod Asked
+pub mod DeviceFailed
 pub mod Examples
 pub mod Told
 pub mod Short

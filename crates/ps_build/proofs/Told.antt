@@ -23,7 +23,7 @@ use Rattle.risc_emit_trail.specs.Told.{trail_of}
 use Rattle.risc_emit_trail.proofs.Limit.{trail_is}
 use Rattle.ps_build.specs.Devices.{AsksInput, AsksOutput}
 use Rattle.ps_build.specs.Runs.{trail_told, outcome_told, trap_told, IsToldBy, Ends, Breaks, Tells, CountsFaults, Runs}
-use Rattle.ps_build.proofs.Asked.{Asked, Left, Shows}
+use Rattle.ps_build.proofs.DeviceFailed.{DeviceFailed, Left, Shows}
 
 -- the outcome of a stop by a row reports the ending by that row
 row_told : (image : Image) (row : Option (ℕ × ℕ × ℕ)) (calls : List ℕ) (trail : Option (List ℕ)) → trail
@@ -118,7 +118,7 @@ module _ (image : Image) (budget : Budget) (n : ℕ) (left : State) (old new : W
         ending = told_end;
       })
 
-  broken : (Asks : State → Type 0) (input before : List ℕ) → Asked Asks n (loaded image budget) (fresh input) before new
+  broken : (Asks : State → Type 0) (input before : List ℕ) → DeviceFailed Asks n (loaded image budget) (fresh input) before new
       → Breaks Asks image budget n input before new
   broken Asks input before b =
       record {

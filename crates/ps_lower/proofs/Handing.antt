@@ -13,9 +13,10 @@ use Rattle.ps_tree.specs.View.{type_of, place_of, expr_of, structure_of, argumen
 use Rattle.ps_tree.proofs.TreeLemmas.{structure_of_Contents, expr_of_Call, expr_of_CallFormal}
 use Rattle.tac_code.specs.declared.code.Instruction.{Instruction}
 use Rattle.tac_code.specs.declared.code.Instruction.TheVariants as i
+use Rattle.tac_rt.specs.declared.run_time.RunTime.TheVariants.{CompareBytes}
 use Rattle.ps_lower_layout.specs.Shapes.{shape_of, byte_count}
 use Rattle.ps_lower_code.specs.Scopes.{Scope, Site, held, beside, even_from, site_code, helper, copy_code}
-use Rattle.ps_lower_code.specs.Scopes.{CompareBytes, link_code, formal_code}
+use Rattle.ps_lower_code.specs.Scopes.{link_code, formal_code}
 use Rattle.ps_lower_code.specs.Calling.{structure_calls}
 use Rattle.ps_lower_code.specs.Values.{text_length, structure_bytes, place_code, place_site, place_temporary}
 use Rattle.ps_lower_code.specs.Values.{structure_code, front_code, arguments_code, arguments_words, arguments_end}

@@ -16,6 +16,7 @@ pub mod Begins
 pub mod Entering
 pub mod Spreading
 pub mod Tasks
+pub mod Cores
 pub mod Packed
 pub mod Reading
 pub mod Doings

@@ -5,7 +5,8 @@ use Rattle.ps_tree.specs.declared.line.Line.{Line}
 use Rattle.ps_tree.specs.declared.tree.Expr.{Expr, Eof, Eoln}
 use Rattle.ps_tree.specs.View.{expr_of}
 use Rattle.tac_code.specs.declared.code.Instruction.{Instruction}
-use Rattle.ps_lower_code.specs.Scopes.{Scope, Site, site_code, helper, LookAhead, even_from, input_site}
+use Rattle.tac_rt.specs.declared.run_time.RunTime.TheVariants.{LookAhead}
+use Rattle.ps_lower_code.specs.Scopes.{Scope, Site, site_code, helper, even_from, input_site}
 use Rattle.ps_lower.proofs.Arms.{behind}
 
 pub eof_is : (x : Expr) → x ≡ Eof → t.Eof ≡ expr_of x

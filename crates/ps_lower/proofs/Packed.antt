@@ -14,8 +14,9 @@ use Rattle.ps_meaning.specs.Expressions.{index_of}
 use Rattle.tac_code.specs.declared.code.Base.TheVariants as base
 use Rattle.tac_code.specs.declared.code.Instruction.{Instruction}
 use Rattle.tac_code.specs.declared.code.Instruction.TheVariants as i
+use Rattle.tac_rt.specs.declared.run_time.RunTime.TheVariants.{PackBytes, UnpackBytes}
 use Rattle.ps_lower_layout.specs.Shapes.{shape_of, component_bytes}
-use Rattle.ps_lower_code.specs.Scopes.{Scope, Site, PackBytes, UnpackBytes, even_from, held, site_code, helper}
+use Rattle.ps_lower_code.specs.Scopes.{Scope, Site, even_from, held, site_code, helper}
 use Rattle.ps_lower_code.specs.Values.{is_byte, is_byte_array, place_code, place_site, store_code}
 use Rattle.ps_lower_code.specs.Statements.{expr_code, first_code, components_code, room_code, statement_code}
 use Rattle.ps_lower.proofs.Appends.{and_then}

@@ -6,8 +6,9 @@ use Rattle.ps_tree.specs.View.{read_of}
 use Rattle.tac_code.specs.declared.code.Base.TheVariants as base
 use Rattle.tac_code.specs.declared.code.Instruction.{Instruction}
 use Rattle.tac_code.specs.declared.code.Instruction.TheVariants as i
+use Rattle.tac_rt.specs.declared.run_time.RunTime.TheVariants.{ReadNumber}
 use Rattle.ps_lower_code.specs.Scopes.{Scope, Site, even_from, held, beside, range_code, site_code, input_site}
-use Rattle.ps_lower_code.specs.Scopes.{ReadNumber, helper}
+use Rattle.ps_lower_code.specs.Scopes.{helper}
 use Rattle.ps_lower_code.specs.Values.{place_code, place_site, is_byte, store_code}
 use Rattle.ps_lower_code.specs.Statements.{read_code, reads_code}
 use Rattle.ps_lower.proofs.Appends.{and_then}

@@ -5,7 +5,8 @@ use Rattle.ps_tree.specs.declared.tree.WriteParameter.{WriteParameter}
 use Rattle.ps_tree.specs.declared.tree.Statement.{Statement}
 use Rattle.ps_tree.specs.View.{write_of, statement_of, statements_of}
 use Rattle.tac_code.specs.declared.code.Instruction.{Instruction}
-use Rattle.ps_lower_code.specs.Scopes.{Scope, RunTime, helper, held, even_from}
+use Rattle.tac_rt.specs.declared.run_time.RunTime.{RunTime}
+use Rattle.ps_lower_code.specs.Scopes.{Scope, helper, held, even_from}
 use Rattle.ps_lower_code.specs.Calling.{width_calls}
 use Rattle.ps_lower.proofs.Appends.{and_then}
 use Rattle.ps_lower.proofs.Arms.{behind}

@@ -4,8 +4,9 @@ use Rattle.std.proofs.Common.{OnOk, refl, ap, subst, ◌∙◌, arith}
 use Rattle.ps_tree.specs.Tree as t
 use Rattle.tac_code.specs.declared.code.Instruction.{Instruction}
 use Rattle.tac_code.specs.declared.code.Instruction.TheVariants as i
+use Rattle.tac_rt.specs.declared.run_time.RunTime.TheVariants.{WriteString}
 use Rattle.ps_lower_layout.specs.Words.{filled}
-use Rattle.ps_lower_code.specs.Scopes.{Scope, WriteString, helper, held, beside, even_from}
+use Rattle.ps_lower_code.specs.Scopes.{Scope, helper, held, beside, even_from}
 use Rattle.ps_lower_code.specs.Calling.{width_calls}
 use Rattle.ps_lower_code.specs.Values.{structure_code, text_length}
 use Rattle.ps_lower_code.specs.Statements.{expr_code, width_code, truth_text, write_code}

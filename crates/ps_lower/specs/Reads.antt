@@ -4,8 +4,9 @@ use Rattle.ps_tree.specs.declared.tree.Range.TheVariants.{Within}
 use Rattle.tac_code.specs.declared.code.Base.TheVariants as base
 use Rattle.tac_code.specs.declared.code.Instruction.{Instruction}
 use Rattle.tac_code.specs.declared.code.Instruction.TheVariants as i
-use Rattle.ps_lower_code.specs.Scopes.{Scope, beside, greatest, range_code, fitting_code, ReadCharacter, ReadNumber}
-use Rattle.ps_lower_code.specs.Scopes.{ReadLine, helper}
+use Rattle.tac_rt.specs.declared.run_time.RunTime.TheVariants.{ReadCharacter, ReadNumber, ReadLine}
+use Rattle.ps_lower_code.specs.Scopes.{Scope, beside, greatest, range_code, fitting_code}
+use Rattle.ps_lower_code.specs.Scopes.{helper}
 
 -- a character, a number, or the rest of a line from the input whose address is in t
 abbrev pub character_taken : Scope → (low high : ℤ) → (line t : ℕ) → List Instruction

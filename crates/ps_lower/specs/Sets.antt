@@ -11,8 +11,8 @@ use Rattle.tac_code.specs.declared.code.Relation.TheVariants.{NotEqual}
 use Rattle.tac_code.specs.declared.code.Instruction.{Instruction}
 use Rattle.tac_code.specs.declared.code.Instruction.TheVariants as i
 use Rattle.tac_code.specs.Numbers.{natural}
-use Rattle.ps_lower_code.specs.Scopes.{Scope, Site, even_from, beside, site_code, words_code, helper, AddRange}
-use Rattle.ps_lower_code.specs.Scopes.{IsIncluded}
+use Rattle.tac_rt.specs.declared.run_time.RunTime.TheVariants.{AddRange, IsIncluded}
+use Rattle.ps_lower_code.specs.Scopes.{Scope, Site, even_from, beside, site_code, words_code, helper}
 use Rattle.ps_lower_code.specs.Values.{adds, adding_code, asked_code, joining_code}
 
 -- the first words of the set from x on, each filled from t

@@ -1,4 +1,5 @@
-// First values: their code is as long as the text of a type, and not as its cells.
+// First values: their code is as long as the text of a type, and not as its cells. What takes no bytes is not walked
+// through.
 
 ghost use Rattle.std.specs.Prelude.{◌≡◌, ◌++◌, ◌+◌, ◌*◌, ◌≤◌, ◌≤ℤ◌, ◌&&◌, pos, [], ◌∷◌, if◌then◌else◌, map, OnOk, IfOk};
 ghost use Rattle.ps_lower_bounds.specs.Weights.{first_weight, fields_weight, firsts_weight};
@@ -6,7 +7,7 @@ ghost use Rattle.ps_lower_code.specs.Scopes.{beside, copy_code};
 ghost use Rattle.ps_lower_code.specs.Statements.{bytes_below, byte_word, spread_code, zero_code, bytes_code};
 ghost use Rattle.ps_lower_code.specs.Statements.{first_code};
 ghost use Rattle.ps_lower_layout.specs.Frames.{variable_kinds, words_of_all};
-ghost use Rattle.ps_lower_layout.specs.Shapes.{ByteShape, ArrayShape, RecordShape, shape_of, shapes_of, first_of};
+ghost use Rattle.ps_lower_layout.specs.Shapes.{ByteShape, ArrayShape, RecordShape, shape_of, shapes_of, field_shapes, first_of};
 ghost use Rattle.ps_lower_layout.specs.Shapes.{word_count, byte_count};
 ghost use Rattle.ps_lower.specs.Firsts.{firsts_code, whole_bytes, last_bytes, array_shape};
 ghost use Rattle.ps_lower.specs.FirstTasks.{weight, task_code, task_weight, task_reach, IsDone, IsLeft, AreLeft};
@@ -27,7 +28,7 @@ use crate::out::Code;
 use crate::shapes::{byte_count, fits_byte};
 use crate::site::Site;
 use crate::task::Task;
-use ps_tree::types::{Host, Ordinal, Ty, same_host};
+use ps_tree::types::{Fields, Host, Ordinal, Ty, same_host};
 use std::alloc::AllocError;
 use tac_code::code::Base;
 
@@ -334,17 +335,18 @@ fn array<'a>(
     }
 }
 
-/// The fields of a record.
-fn record<'a>(tasks: &mut Vec<Task<'a>>, types: &'a [Ty], offset: u32) -> Result<(), AllocError>
-    ensures { OnOk result (IsLeft offset (RecordShape (shapes_of (types_of types.now))) tasks.old.items tasks.new.items) }
+/// The fields of a record that take bytes.
+fn record<'a>(tasks: &mut Vec<Task<'a>>, fields: &'a Fields, offset: u32) -> Result<(), AllocError>
+    ensures { OnOk result (IsLeft offset (RecordShape (field_shapes fields.now)) tasks.old.items tasks.new.items) }
 {
+    let types = fields.solid();
     leave(tasks, Task::FieldsLeft { types, offset })
 }
 
 /// The first value of a variable of a type at an offset from a base, except for components and fields, which are left
 /// as tasks.
 #[tactic(auto, unfolding(ps_tree::specs::TypeView::type_of))]
-fn begin<'a>(
+fn begin_core<'a>(
     out: &mut Code,
     level: &Level,
     tasks: &mut Vec<Task<'a>>,
@@ -381,8 +383,28 @@ fn begin<'a>(
             Site { base, offset },
             t,
         ),
-        Ty::Record { fields, .. } => record(tasks, fields.types(), offset),
+        Ty::Record { fields, .. } => record(tasks, fields, offset),
     }
+}
+
+/// The same for any type. Its core has the same first value, and is at hand, however deep it lies.
+fn begin<'a>(
+    out: &mut Code,
+    level: &Level,
+    tasks: &mut Vec<Task<'a>>,
+    ty: &'a Ty,
+    base: Base,
+    t: u32,
+    offset: u32,
+) -> Result<(), AllocError>
+    requires depth { t ≤ 4294960000 }
+    requires reach { offset + first_weight (shape_of (type_of ty.now)) ≤ MAX_NUMBER }
+    ensures { OnOk result (IsDone (scope_of level.now) base t
+        (first_code (scope_of level.now) base t offset (shape_of (type_of ty.now))) (weight (shape_of (type_of ty.now)))
+        (offset + first_weight (shape_of (type_of ty.now))) out.old out.new tasks.old.items tasks.new.items) }
+{
+    let core = ty.core();
+    begin_core(out, level, tasks, core, base, t, offset)
 }
 
 /// The next of the fields that are left, and those after it.

@@ -10,6 +10,7 @@ ghost use Rattle.ps_tree.specs.Checked.{program_in};
 ghost use Rattle.ps_tree.specs.Counts.{are_routines_within_limits};
 ghost use Rattle.ps_tree.specs.Tree.{routine_at};
 ghost use Rattle.ps_tree.specs.View.{type_of, formal_of, formals_of, routine_of};
+ghost use Rattle.ps_tree.specs.declared.limits.TheConstants.{MAX_ROUTINES};
 
 use crate::depth::MAX_NUMBER;
 use crate::frame::{Spot, Table, words};
@@ -152,7 +153,7 @@ impl<'a> Frames<'a> {
     /// How many routines there are.
     pub fn count(&self) -> u32
         ensures value { result ≡ length (program_in self.now).routines }
-        ensures small { result ≤ 1048576 }
+        ensures small { result ≤ MAX_ROUTINES }
     {
         self.checked.routines().len() as u32
     }

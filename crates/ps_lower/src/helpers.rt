@@ -1,7 +1,8 @@
 // Calls of run-time routines.
 
 ghost use Rattle.std.specs.Prelude.{◌≡◌, ◌++◌, ◌≤◌, ◌∷◌, [], pos, OnOk};
-ghost use Rattle.ps_lower_code.specs.Scopes.{RunTime, CompareBytes, run_time_number, beside, helper, copy_code};
+ghost use Rattle.tac_rt.specs.declared.run_time.RunTime.TheVariants.{CompareBytes};
+ghost use Rattle.ps_lower_code.specs.Scopes.{beside, helper, copy_code};
 ghost use Rattle.ps_lower_code.specs.Values.{text_length};
 ghost use Rattle.ps_lower.specs.Levels.{scope_of};
 ghost use Rattle.ps_tree.specs.View.{structure_of};
@@ -14,10 +15,7 @@ use crate::out::Code;
 use crate::texts::text_length;
 use ps_tree::tree::Structure;
 use std::alloc::AllocError;
-
-const COPY_WORDS: u32 = 0;
-
-const COMPARE_BYTES: u32 = 7;
+use tac_rt::RunTime;
 
 /// A number from 0 on.
 pub fn amount(out: &mut Code, n: u32, t: u32) -> Result<(), AllocError>
@@ -31,15 +29,13 @@ pub fn amount(out: &mut Code, n: u32, t: u32) -> Result<(), AllocError>
 pub fn help(
     out: &mut Code,
     level: &Level,
-    number: u32,
+    routine: RunTime,
     operands: &[u32],
     to: u32,
 ) -> Result<(), AllocError>
-    requires { number ≤ 16 }
-    ensures { (routine : RunTime) → number ≡ run_time_number routine → OnOk result
-        (out.new ≡ out.old ++ helper (scope_of level.now) routine operands.now to ∷ []) }
+    ensures { OnOk result (out.new ≡ out.old ++ helper (scope_of level.now) routine operands.now to ∷ []) }
 {
-    let number = run_time_number(level, number);
+    let number = run_time_number(level, routine);
     out.call_run_time(to, number, operands)
 }
 
@@ -56,7 +52,7 @@ pub fn copy(
     ensures { OnOk result (out.new ≡ out.old ++ copy_code (scope_of level.now) to from t bytes) }
 {
     amount(out, bytes, t)?;
-    help(out, level, COPY_WORDS, &[to, from, t], t)
+    help(out, level, RunTime::CopyWords, &[to, from, t], t)
 }
 
 /// The comparison of a string with another of the same length.
@@ -75,5 +71,5 @@ pub fn compare_strings(
 {
     let t = beside(right);
     amount(out, text_length(e), t)?;
-    help(out, level, COMPARE_BYTES, &[left, right, t], to)
+    help(out, level, RunTime::CompareBytes, &[left, right, t], to)
 }

@@ -1,7 +1,8 @@
 // Looks ahead at the input.
 
 ghost use Rattle.std.specs.Prelude.{◌≡◌, ◌++◌, ◌≤◌, ◌∷◌, [], pos, OnOk};
-ghost use Rattle.ps_lower_code.specs.Scopes.{even_from, input_site, site_code, helper, LookAhead};
+ghost use Rattle.tac_rt.specs.declared.run_time.RunTime.TheVariants.{LookAhead};
+ghost use Rattle.ps_lower_code.specs.Scopes.{even_from, input_site, site_code, helper};
 ghost use Rattle.ps_lower.specs.Levels.{scope_of, site_of};
 ghost use Rattle.tac_code.specs.declared.code.Instruction.TheVariants as i;
 
@@ -14,8 +15,7 @@ use crate::site::Site;
 use ps_tree::line::Line;
 use std::alloc::AllocError;
 use tac_code::code::Base;
-
-const LOOK_AHEAD: u32 = 13;
+use tac_rt::RunTime;
 
 /// Where the words are that record what was taken ahead of the input.
 pub fn input(level: &Level) -> Site
@@ -36,7 +36,7 @@ pub fn look_ahead(out: &mut Code, level: &Level, d: u32) -> Result<(), AllocErro
     let t = even_from(d);
     let site = input(level);
     address(out, t, site, 8)?;
-    help(out, level, LOOK_AHEAD, &[t], d)
+    help(out, level, RunTime::LookAhead, &[t], d)
 }
 
 /// The same, where the end of all is an error.

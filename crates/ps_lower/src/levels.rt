@@ -1,6 +1,7 @@
 // The frames of the routines enclosing a routine, the entries in them, and the numbers of run-time routines.
 
 ghost use Rattle.std.specs.Prelude.{◌≡◌, ◌≤◌, ◌+◌, ◌++◌, get_or, length, OnOk, IfOk};
+ghost use Rattle.tac_rt.specs.Numbers.{run_time_number};
 ghost use Rattle.ps_lower_code.specs.Scopes.{kind_at, routine_up, is_outermost, hops, frame_code, frame_base};
 ghost use Rattle.ps_lower_code.specs.Scopes.{link_code, formal_code};
 ghost use Rattle.ps_lower_layout.specs.Frames.{entry_offset};
@@ -13,6 +14,7 @@ use crate::level::Level;
 use crate::out::Code;
 use std::alloc::AllocError;
 use tac_code::code::Base;
+use tac_rt::RunTime;
 
 /// Whether the frame `up` levels out is the program block's.
 fn is_outermost(level: &Level, up: u32) -> bool
@@ -89,9 +91,8 @@ pub fn formal(out: &mut Code, level: &Level, t: u32, up: u32, index: u32) -> Res
 }
 
 /// The number of a run-time routine; these come after those of the program.
-pub fn run_time_number(level: &Level, number: u32) -> u32
-    requires { number ≤ 16 }
-    ensures { result ≡ length (program_in level.now.checked.now).routines + number }
+pub fn run_time_number(level: &Level, routine: RunTime) -> u32
+    ensures { result ≡ length (program_in level.now.checked.now).routines + run_time_number routine }
 {
-    level.checked.count() + number
+    level.checked.count() + routine.number()
 }

@@ -2,7 +2,7 @@
 
 ghost use Rattle.std.specs.Prelude.{◌≡◌, ◌++◌, ◌∷◌, ◌≤◌, ◌+◌, ◌-◌, ◌*◌, ◌+ℤ◌, [], pos, Bool, OnOk};
 ghost use Rattle.ps_lower_bounds.specs.Weights.{excess, unless, part_weight, statement_weight};
-ghost use Rattle.ps_lower_code.specs.Scopes.{RunTime, PackBytes, UnpackBytes, run_time_number, helper};
+ghost use Rattle.ps_lower_code.specs.Scopes.{helper};
 ghost use Rattle.ps_lower_code.specs.Values.{is_byte_array};
 ghost use Rattle.ps_lower_code.specs.Statements.{components_code, room_code, statement_code};
 ghost use Rattle.ps_lower_layout.specs.Shapes.{shape_of, component_bytes};
@@ -29,10 +29,7 @@ use ps_tree::tree::{Expr, Place};
 use ps_tree::types::{Ordinal, Ty};
 use std::alloc::AllocError;
 use tac_code::code::Base;
-
-const PACK_BYTES: u32 = 8;
-
-const UNPACK_BYTES: u32 = 9;
+use tac_rt::RunTime;
 
 /// An array, with its type.
 #[derive(Clone, Copy)]
@@ -111,18 +108,16 @@ fn room(out: &mut Code, whole_ty: &Ty, part_ty: &Ty, t: u32, line: Line) -> Resu
 fn bytes(
     out: &mut Code,
     level: &Level,
-    number: u32,
+    routine: RunTime,
     count: u32,
     at: Copying,
 ) -> Result<(), AllocError>
-    requires count { count ≤ MAX_NUMBER }
-    requires number { number ≤ 16 }
-    ensures { (routine : RunTime) → number ≡ run_time_number routine → OnOk result
-        (out.new ≡ out.old ++ i.Literal at.free (pos count) ∷ helper (scope_of level.now) routine
+    requires { count ≤ MAX_NUMBER }
+    ensures { OnOk result (out.new ≡ out.old ++ i.Literal at.free (pos count) ∷ helper (scope_of level.now) routine
         (at.to ∷ at.from ∷ at.free ∷ []) at.free ∷ []) }
 {
     amount(out, count, at.free)?;
-    help(out, level, number, &[at.to, at.from, at.free], at.free)
+    help(out, level, routine, &[at.to, at.from, at.free], at.free)
 }
 
 /// The bytes of `count` components. Where there are none, their type may be of any size.
@@ -152,10 +147,10 @@ fn components(
         (component_bytes (shape_of (type_of from_ty.now))) at.free) }
 {
     if is_byte_array(to_ty) {
-        return bytes(out, level, PACK_BYTES, count, at);
+        return bytes(out, level, RunTime::PackBytes, count, at);
     }
     if is_byte_array(from_ty) {
-        return bytes(out, level, UNPACK_BYTES, count, at);
+        return bytes(out, level, RunTime::UnpackBytes, count, at);
     }
     copy(
         out,

@@ -2,8 +2,9 @@
 
 ghost use Rattle.std.specs.Prelude.{◌≡◌, ◌++◌, ◌+◌, ◌≤◌, ◌∷◌, [], pos, true, None, map, OnOk};
 ghost use Rattle.ps_lower_bounds.specs.Weights.{read_weight, reads_weight, statement_weight};
+ghost use Rattle.tac_rt.specs.declared.run_time.RunTime.TheVariants.{ReadCharacter, ReadNumber, ReadLine};
 ghost use Rattle.ps_lower_code.specs.Scopes.{even_from, beside, greatest, range_code, fitting_code, site_code};
-ghost use Rattle.ps_lower_code.specs.Scopes.{input_site, ReadCharacter, ReadNumber, ReadLine, helper};
+ghost use Rattle.ps_lower_code.specs.Scopes.{input_site, helper};
 ghost use Rattle.ps_lower_code.specs.Statements.{read_code, reads_code, statement_code};
 ghost use Rattle.ps_lower.specs.Levels.{scope_of};
 ghost use Rattle.ps_lower.specs.Reads.{character_taken, number_taken, line_taken};
@@ -26,12 +27,7 @@ use ps_tree::line::Line;
 use ps_tree::tree::{Place, ReadVariable};
 use std::alloc::AllocError;
 use tac_code::code::Base;
-
-const READ_CHARACTER: u32 = 14;
-
-const READ_NUMBER: u32 = 15;
-
-const READ_LINE: u32 = 16;
+use tac_rt::RunTime;
 
 /// The address of the words that record what was taken ahead of the input.
 fn ahead(out: &mut Code, level: &Level, t: u32) -> Result<(), AllocError>
@@ -70,7 +66,7 @@ fn take_character(
 ) -> Result<(), AllocError>
     ensures { OnOk result (out.new ≡ out.old ++ character_taken (scope_of level.now) low.now high.now line.number a) }
 {
-    help(out, level, READ_CHARACTER, &[a], a)?;
+    help(out, level, RunTime::ReadCharacter, &[a], a)?;
     out.check_range(a, 0, i32::MAX, 9, line)?;
     byte_fits(out, a, low, high, line)
 }
@@ -99,7 +95,7 @@ fn take_number(
 {
     let into = beside(a);
     out.offset(into, Base::Scratch, 0, 4)?;
-    help(out, level, READ_NUMBER, &[a, into], a)?;
+    help(out, level, RunTime::ReadNumber, &[a, into], a)?;
     check_number(out, a, line)?;
     out.load(a, Base::Scratch, 0)?;
     fits(out, a, low, high, line)
@@ -190,7 +186,7 @@ pub fn reads(
 fn take_line(out: &mut Code, level: &Level, a: u32, line: Line) -> Result<(), AllocError>
     ensures { OnOk result (out.new ≡ out.old ++ line_taken (scope_of level.now) line.number a) }
 {
-    help(out, level, READ_LINE, &[a], a)?;
+    help(out, level, RunTime::ReadLine, &[a], a)?;
     out.check_range(a, 0, 0, 9, line)
 }
 

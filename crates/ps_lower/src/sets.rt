@@ -1,7 +1,8 @@
 // Sets, each in the scratch block from a byte on, and what is made of them there.
 
 ghost use Rattle.std.specs.Prelude.{◌≡◌, ◌++◌, ◌+◌, ◌%◌, ◌^◌, ◌≤◌, ◌∷◌, [], pos, suc, OnOk};
-ghost use Rattle.ps_lower_code.specs.Scopes.{even_from, moved, words_code, helper, AddRange, run_time_number};
+ghost use Rattle.tac_rt.specs.declared.run_time.RunTime.TheVariants.{AddRange};
+ghost use Rattle.ps_lower_code.specs.Scopes.{even_from, moved, words_code, helper};
 ghost use Rattle.ps_lower_code.specs.Values.{set_routine, bit_code, is_union, adds, joining_code, membership_code};
 ghost use Rattle.ps_lower_code.specs.Values.{holds_all, outside_bits, masked, joined_word, outside_code, set_check};
 ghost use Rattle.ps_lower_code.specs.Values.{included_code, same_sets_code, sets_code, range_members};
@@ -25,16 +26,7 @@ use ps_tree::line::Line;
 use ps_tree::tree::{SetExpr, SetOperator, SetRelation};
 use std::alloc::AllocError;
 use tac_code::code::{Base, BitOperator, Instruction, Operand, Operator, Relation};
-
-const ADD_RANGE: u32 = 1;
-
-const UNITE_SETS: u32 = 2;
-
-const SUBTRACT_SET: u32 = 3;
-
-const INTERSECT_SETS: u32 = 4;
-
-const IS_INCLUDED: u32 = 5;
+use tac_rt::RunTime;
 
 /// What comes after the set from x on.
 pub fn above(x: u32) -> u32
@@ -104,13 +96,13 @@ fn offsets(out: &mut Code, first: u32, second: u32, x: u32) -> Result<(), AllocE
     out.offset(second, Base::Scratch, behind, 32)
 }
 
-fn set_routine(operator: SetOperator) -> u32
-    ensures { result ≡ run_time_number (set_routine operator) }
+fn set_routine(operator: SetOperator) -> RunTime
+    ensures { result ≡ set_routine operator }
 {
     match operator {
-        SetOperator::Union => UNITE_SETS,
-        SetOperator::Difference => SUBTRACT_SET,
-        SetOperator::Intersection => INTERSECT_SETS,
+        SetOperator::Union => RunTime::UniteSets,
+        SetOperator::Difference => RunTime::SubtractSet,
+        SetOperator::Intersection => RunTime::IntersectSets,
     }
 }
 
@@ -163,7 +155,7 @@ fn included(
     ensures { OnOk result (out.new ≡ out.old ++ included_code (scope_of level.now) first second to x) }
 {
     offsets(out, first, second, x)?;
-    help(out, level, IS_INCLUDED, &[first, second], to)
+    help(out, level, RunTime::IsIncluded, &[first, second], to)
 }
 
 /// Whether the set after the one from x on is included in it.
@@ -174,7 +166,7 @@ fn includes(out: &mut Code, level: &Level, t: u32, x: u32) -> Result<(), AllocEr
 {
     let second = beside(t);
     offsets(out, t, second, x)?;
-    help(out, level, IS_INCLUDED, &[second, t], t)
+    help(out, level, RunTime::IsIncluded, &[second, t], t)
 }
 
 /// Whether the set from x on equals the one after it.
@@ -304,7 +296,7 @@ fn add_range(
     ensures { OnOk result (out.new ≡ out.old
         ++ helper (scope_of level.now) AddRange (set ∷ first ∷ last ∷ []) to ∷ []) }
 {
-    help(out, level, ADD_RANGE, &[set, first, last], to)
+    help(out, level, RunTime::AddRange, &[set, first, last], to)
 }
 
 /// Adds a member to the set from x on.

@@ -21,12 +21,7 @@ use crate::values::{structure, value};
 use ps_tree::tree::{Expr, Structure, Width, WriteParameter};
 use std::alloc::AllocError;
 use tac_code::code::Instruction;
-
-const WRITE_NUMBER: u32 = 10;
-
-const WRITE_CHARACTER: u32 = 11;
-
-const WRITE_STRING: u32 = 12;
+use tac_rt::RunTime;
 
 /// The width of a parameter, or its default.
 #[tactic(auto, unfolding(ps_tree::specs::View::width_of))]
@@ -67,7 +62,7 @@ fn write_number(
     let w = even_above(t);
     value(out, level, e, t, 0)?;
     width(out, level, given, 11, w)?;
-    help(out, level, WRITE_NUMBER, &[t, w], even_from(d))
+    help(out, level, RunTime::WriteNumber, &[t, w], even_from(d))
 }
 
 /// The same for a character.
@@ -87,7 +82,7 @@ fn write_character(
     let w = even_above(t);
     value(out, level, e, t, 0)?;
     width(out, level, given, 1, w)?;
-    help(out, level, WRITE_CHARACTER, &[t, w], even_from(d))
+    help(out, level, RunTime::WriteCharacter, &[t, w], even_from(d))
 }
 
 /// A truth value and its width, the string of that value, and the call that writes it.
@@ -110,7 +105,13 @@ fn write_truth(
     value(out, level, e, t, 0)?;
     width(out, level, given, 5, w)?;
     truth_text(out, t, string, size)?;
-    help(out, level, WRITE_STRING, &[string, size, w], even_from(d))
+    help(
+        out,
+        level,
+        RunTime::WriteString,
+        &[string, size, w],
+        even_from(d),
+    )
 }
 
 /// A string's address, its width and its length, and the call that writes it.
@@ -133,7 +134,13 @@ fn write_string(
     structure(out, level, e, t, 0)?;
     width(out, level, given, length, w)?;
     amount(out, length, size)?;
-    help(out, level, WRITE_STRING, &[t, size, w], even_from(d))
+    help(
+        out,
+        level,
+        RunTime::WriteString,
+        &[t, size, w],
+        even_from(d),
+    )
 }
 
 #[tactic(auto, unfolding(ps_tree::specs::View::write_of))]

@@ -13,7 +13,8 @@ use Rattle.ps_tree.specs.Tree.{ByValue, BySet, ByCopy, ByVariable, ByRoutine, By
 use Rattle.ps_tree.specs.Tree.{argument_before}
 use Rattle.tac_code.specs.declared.code.Base.TheVariants as base
 use Rattle.tac_code.specs.declared.code.Instruction.TheVariants as i
-use Rattle.ps_lower_code.specs.Scopes.{even_from, held, kept, beside, unless_known, Site, Scope, run_time_number}
+use Rattle.tac_rt.specs.Numbers.{run_time_number}
+use Rattle.ps_lower_code.specs.Scopes.{even_from, held, kept, beside, unless_known, Site, Scope}
 use Rattle.ps_lower_code.specs.Calling.{selectors_call, expr_calls, steps_call, operands_call, asked_calls}
 use Rattle.ps_lower_code.specs.Calling.{structure_calls, arguments_call}
 use Rattle.ps_lower_code.specs.Values.{literal_of, negated, set_routine, finish, truth_finish, known_steps}

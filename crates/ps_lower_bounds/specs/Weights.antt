@@ -22,6 +22,7 @@ use Rattle.ps_tree.specs.Tree.{no_statement, statement_before, Elements, no_elem
 use Rattle.ps_tree.specs.Tree.{routine_at, domain_at}
 use Rattle.ps_meaning.specs.Expressions.{index_of}
 use Rattle.ps_meaning.specs.Operators.{is_between}
+use Rattle.tac_code.specs.declared.code.TheConstants.{NUMBER_LIMIT}
 use Rattle.tac_code.specs.Numbers.{is_integer}
 use Rattle.tac_code.specs.Meaning.{size}
 use Rattle.ps_lower_layout.specs.Frames.{kinds_of, listed_kinds, result_kinds, words_of_all, entry_offset}
@@ -38,11 +39,11 @@ use Rattle.ps_lower_code.specs.Values.{argument_scratch, place_temporary, place_
 
 -- what is required of a number: too much, unless it holds
 abbrev pub unless : Bool → ℕ
-unless holds = if holds then 0 else 2147483648
+unless holds = if holds then 0 else NUMBER_LIMIT
 
 -- a number that an integer can hold
 abbrev pub excess : ℕ → ℕ
-excess n = 2147483648 * (n - 2147483647)
+excess n = NUMBER_LIMIT * (suc n - NUMBER_LIMIT)
 
 -- ---- first values, at an offset
 

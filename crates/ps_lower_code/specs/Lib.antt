@@ -1,5 +1,7 @@
 pub mod Scopes
 pub mod Calling
+pub mod Conditions
+pub mod SetCode
 pub mod Values
 pub mod Statements
 pub mod Routines

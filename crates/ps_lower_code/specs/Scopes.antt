@@ -14,6 +14,9 @@ use Rattle.tac_code.specs.declared.code.Base.TheVariants as base
 use Rattle.tac_code.specs.declared.code.Instruction.{Instruction}
 use Rattle.tac_code.specs.declared.code.Instruction.TheVariants.{Literal, Copy, CheckRange, Offset, Load, Store, Call}
 use Rattle.tac_code.specs.declared.code.Instruction.TheVariants.{Trap}
+use Rattle.tac_rt.specs.declared.run_time.RunTime.{RunTime}
+use Rattle.tac_rt.specs.declared.run_time.RunTime.TheVariants.{CopyWords}
+use Rattle.tac_rt.specs.Numbers.{run_time_number}
 use Rattle.ps_lower_layout.specs.Frames.{Kind, entries, entry_offset, link_offset, input_offset}
 
 -- ---- temporaries
@@ -146,29 +149,6 @@ abbrev pub input_site : Scope → Site
 input_site k = record { base = base.Program; offset = input_offset (routine_at k.program 0) }
 
 -- ---- run-time routines, numbered after the program's own
-
-pub data RunTime : Type 0 where
-  CopyWords AddRange UniteSets SubtractSet IntersectSets IsIncluded IsMember CompareBytes PackBytes UnpackBytes
-      WriteNumber WriteCharacter WriteString LookAhead ReadCharacter ReadNumber ReadLine : RunTime
-
-abbrev pub run_time_number : RunTime → ℕ
-run_time_number CopyWords = 0
-run_time_number AddRange = 1
-run_time_number UniteSets = 2
-run_time_number SubtractSet = 3
-run_time_number IntersectSets = 4
-run_time_number IsIncluded = 5
-run_time_number IsMember = 6
-run_time_number CompareBytes = 7
-run_time_number PackBytes = 8
-run_time_number UnpackBytes = 9
-run_time_number WriteNumber = 10
-run_time_number WriteCharacter = 11
-run_time_number WriteString = 12
-run_time_number LookAhead = 13
-run_time_number ReadCharacter = 14
-run_time_number ReadNumber = 15
-run_time_number ReadLine = 16
 
 -- such calls aren't reported among the open ones, so any line will do
 abbrev pub helper : Scope → RunTime → (operands : List ℕ) → (to : ℕ) → Instruction

@@ -24,6 +24,8 @@ use Rattle.tac_code.specs.declared.code.Relation.TheVariants.{Equal, NotEqual, L
 use Rattle.tac_code.specs.Numbers.{number_of, natural}
 use Rattle.tac_code.specs.declared.code.Instruction.{Instruction}
 use Rattle.tac_code.specs.declared.code.Instruction.TheVariants as i
+use Rattle.tac_rt.specs.declared.run_time.RunTime.TheVariants.{PackBytes, UnpackBytes, WriteNumber, WriteCharacter}
+use Rattle.tac_rt.specs.declared.run_time.RunTime.TheVariants.{WriteString, ReadCharacter, ReadNumber, ReadLine}
 use Rattle.ps_lower_layout.specs.Shapes.{Shape, NumberShape, PointerShape, SetShape, ByteShape, ArrayShape}
 use Rattle.ps_lower_layout.specs.Shapes.{RecordShape, Shapes, no_shape, shape_before, shape_of, word_count, byte_count}
 use Rattle.ps_lower_layout.specs.Shapes.{component_bytes}
@@ -31,8 +33,8 @@ use Rattle.ps_lower_layout.specs.Words.{filled}
 use Rattle.ps_lower_layout.specs.Frames.{entry_offset}
 use Rattle.ps_lower_code.specs.Scopes.{even_from, held, kept, beside, greatest, range_code, check_code, fitting_code}
 use Rattle.ps_lower_code.specs.Scopes.{operand_of, operand_check, unless_known, Site, Scope, routine_up, link_code}
-use Rattle.ps_lower_code.specs.Scopes.{formal_code, site_code, input_site, PackBytes, UnpackBytes, WriteNumber}
-use Rattle.ps_lower_code.specs.Scopes.{WriteCharacter, WriteString, ReadCharacter, ReadNumber, ReadLine, helper}
+use Rattle.ps_lower_code.specs.Scopes.{formal_code, site_code, input_site}
+use Rattle.ps_lower_code.specs.Scopes.{helper}
 use Rattle.ps_lower_code.specs.Scopes.{words_code, copy_code}
 use Rattle.ps_lower_code.specs.Calling.{places_call, expr_calls, structure_calls, width_calls, statement_calls}
 use Rattle.ps_lower_code.specs.Values.{literal_of, relation_in, left_in, right_in, opposite, finish, is_byte}

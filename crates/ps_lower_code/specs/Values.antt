@@ -1,18 +1,15 @@
 -- The code of variables, expressions and actual parameters. Code at depths d and x leaves its word in temporary d, and
 -- writes no temporary below d and no byte of the scratch block below x. A set is in the scratch block from x on.
-use Rattle.std.specs.Prelude.{ℕ, zero, suc, ◌+◌, ◌*◌, ◌/◌, ◌%◌, ◌^◌, ℤ, pos, ◌-ℤ◌, unsigned_abs, Bool, true, false}
-use Rattle.std.specs.Prelude.{not, ◌&&◌, nat_eq, if◌then◌else◌, List, [], ◌∷◌, ◌++◌, length, Option, Some, None}
-use Rattle.std.specs.Prelude.{slice_get}
-use Rattle.ps_tree.specs.declared.tree.ArithmeticOperator.{ArithmeticOperator}
-use Rattle.ps_tree.specs.declared.tree.ArithmeticOperator.TheVariants.{Add, Subtract, Multiply, Div, Mod}
+pub use Rattle.ps_lower_code.specs.Conditions.{negated, literal_of, operator_of, bit_operator_of, relation_of}
+pub use Rattle.ps_lower_code.specs.Conditions.{pointer_relation_of, opposite, set_routine, is_relation, is_truth}
+pub use Rattle.ps_lower_code.specs.Conditions.{relation_in, left_in, right_in, relation_code, finish, truth_finish}
+pub use Rattle.ps_lower_code.specs.SetCode.{holds_all, masked, joined_word, set_check, known_member, bit_code, one_code}
+pub use Rattle.ps_lower_code.specs.SetCode.{is_union, adds, membership_code}
+unfoldable pub use Rattle.ps_lower_code.specs.SetCode.{outside_bits, outside_code}
+use Rattle.std.specs.Prelude.{ℕ, suc, ◌+◌, ◌*◌, ℤ, pos, ◌-ℤ◌, unsigned_abs, Bool, true, false, if◌then◌else◌, List, []}
+use Rattle.std.specs.Prelude.{◌∷◌, ◌++◌, length, Option, Some, None, slice_get}
 use Rattle.ps_tree.specs.declared.tree.BooleanOperator.{BooleanOperator}
-use Rattle.ps_tree.specs.declared.tree.BooleanOperator.TheVariants.{And, Or}
 use Rattle.ps_tree.specs.declared.tree.SetOperator.{SetOperator}
-use Rattle.ps_tree.specs.declared.tree.SetOperator.TheVariants.{Union, Difference, Intersection}
-use Rattle.ps_tree.specs.declared.tree.OrderRelation.{OrderRelation}
-use Rattle.ps_tree.specs.declared.tree.OrderRelation.TheVariants as asked
-use Rattle.ps_tree.specs.declared.tree.PointerRelation.{PointerRelation}
-use Rattle.ps_tree.specs.declared.tree.PointerRelation.TheVariants.{Same, Other}
 use Rattle.ps_tree.specs.declared.tree.SetRelation.{SetRelation}
 use Rattle.ps_tree.specs.declared.tree.SetRelation.TheVariants as sets
 use Rattle.ps_tree.specs.declared.tree.RequiredFunction.{RequiredFunction}
@@ -28,133 +25,23 @@ use Rattle.ps_tree.specs.Tree.{member_before, Structure, Literal, Contents, Argu
 use Rattle.ps_tree.specs.Tree.{ByVariable, ByRoutine, ByFormal, Arguments, no_argument, argument_before}
 use Rattle.ps_meaning.specs.Operators.{is_between}
 use Rattle.ps_meaning.specs.Expressions.{index_of}
-use Rattle.tac_code.specs.declared.code.Operand.{Operand}
 use Rattle.tac_code.specs.declared.code.Operand.TheVariants as operand
 use Rattle.tac_code.specs.declared.code.Base.TheVariants as base
-use Rattle.tac_code.specs.declared.code.Operator.{Operator}
 use Rattle.tac_code.specs.declared.code.Operator.TheVariants as operator
-use Rattle.tac_code.specs.declared.code.BitOperator.{BitOperator}
 use Rattle.tac_code.specs.declared.code.BitOperator.TheVariants as bits
-use Rattle.tac_code.specs.declared.code.Relation.{Relation}
-use Rattle.tac_code.specs.declared.code.Relation.TheVariants.{Equal, NotEqual, Less, LessEqual, Greater, GreaterEqual}
+use Rattle.tac_code.specs.declared.code.Relation.TheVariants.{Equal, Less, GreaterEqual}
 use Rattle.tac_code.specs.declared.code.Instruction.{Instruction}
 use Rattle.tac_code.specs.declared.code.Instruction.TheVariants as i
-use Rattle.tac_code.specs.Numbers.{number_of}
+use Rattle.tac_rt.specs.declared.run_time.RunTime.TheVariants.{AddRange, IsIncluded, CompareBytes, LookAhead}
 use Rattle.ps_lower_layout.specs.Shapes.{Shape, ByteShape, shape_of, byte_count, component_bytes, field_offset}
-use Rattle.ps_lower_layout.specs.Words.{filled, bits_from}
+use Rattle.ps_lower_layout.specs.Words.{filled}
 use Rattle.ps_lower_layout.specs.Frames.{Kind, Reference, entry_offset}
-use Rattle.ps_lower_code.specs.Scopes.{even_from, held, kept, beside, moved, least, greatest, has_bytes, range_code}
-use Rattle.ps_lower_code.specs.Scopes.{fitting_code, operand_of, unless_known, Site, Scope, routine_up, kind_at}
-use Rattle.ps_lower_code.specs.Scopes.{frame_code, frame_base, link_code, formal_code, site_code, input_site, AddRange}
-use Rattle.ps_lower_code.specs.Scopes.{UniteSets, SubtractSet, IntersectSets, IsIncluded, CompareBytes, LookAhead}
-use Rattle.ps_lower_code.specs.Scopes.{RunTime, helper, words_code, copy_code}
+use Rattle.ps_lower_code.specs.Scopes.{even_from, held, kept, beside, moved, least, greatest, range_code, fitting_code}
+use Rattle.ps_lower_code.specs.Scopes.{operand_of, unless_known, Site, Scope, routine_up, kind_at, frame_code}
+use Rattle.ps_lower_code.specs.Scopes.{frame_base, link_code, formal_code, site_code, input_site, helper, words_code}
+use Rattle.ps_lower_code.specs.Scopes.{copy_code}
 use Rattle.ps_lower_code.specs.Calling.{selectors_call, expr_calls, steps_call, operands_call, asked_calls}
 use Rattle.ps_lower_code.specs.Calling.{structure_calls, arguments_call}
-
--- ---- known numbers
-
-abbrev pub negated : Expr → Option ℤ
-negated (Number n) = if is_between least (pos 0 -ℤ n) greatest then Some (pos 0 -ℤ n) else None
-negated _ = None
-
-abbrev pub literal_of : Expr → Option ℤ
-literal_of (Number n) = Some n
-literal_of Nil = Some (pos 0)
-literal_of (Minus e line) = negated e
-literal_of _ = None
-
--- ---- operators
-
-abbrev pub operator_of : ArithmeticOperator → Operator
-operator_of Add = operator.Add
-operator_of Subtract = operator.Subtract
-operator_of Multiply = operator.Multiply
-operator_of Div = operator.Divide
-operator_of Mod = operator.Modulo
-
-abbrev pub bit_operator_of : BooleanOperator → BitOperator
-bit_operator_of And = bits.And
-bit_operator_of Or = bits.Or
-
-abbrev pub relation_of : OrderRelation → Relation
-relation_of asked.Equal = Equal
-relation_of asked.Different = NotEqual
-relation_of asked.Less = Less
-relation_of asked.Greater = Greater
-relation_of asked.AtMost = LessEqual
-relation_of asked.AtLeast = GreaterEqual
-
-abbrev pub pointer_relation_of : PointerRelation → Relation
-pointer_relation_of Same = Equal
-pointer_relation_of Other = NotEqual
-
-abbrev pub opposite : Relation → Relation
-opposite Equal = NotEqual
-opposite NotEqual = Equal
-opposite Less = GreaterEqual
-opposite LessEqual = Greater
-opposite Greater = LessEqual
-opposite GreaterEqual = Less
-
-abbrev pub set_routine : SetOperator → RunTime
-set_routine Union = UniteSets
-set_routine Difference = SubtractSet
-set_routine Intersection = IntersectSets
-
--- ---- expressions as conditions
--- The front code of an expression leaves a relation between a temporary and a right operand, which is the expression's
--- truth. Where the expression is not a relation, it leaves the expression's word in d, and the relation is that this is
--- not 0.
-
-abbrev pub is_relation : Expr → Bool
-is_relation (Compare relation a b) = true
-is_relation (ComparePointers relation a b) = true
-is_relation (CompareStrings relation a b) = true
-is_relation (Not e) = true
-is_relation Eof = true
-is_relation (Eoln line) = true
-is_relation _ = false
-
--- the word of such an expression is 0 or 1
-abbrev pub is_truth : Expr → Bool
-is_truth (Logic operator e rest) = true
-is_truth (CompareSets relation a b) = true
-is_truth (In a b) = true
-is_truth (Apply Odd e line) = true
-is_truth e = is_relation e
-
-abbrev pub relation_in : Expr → Relation
-relation_in (Compare relation a b) = relation_of relation
-relation_in (ComparePointers relation a b) = pointer_relation_of relation
-relation_in (CompareStrings relation a b) = relation_of relation
-relation_in (Not e) = opposite (relation_in e)
-relation_in Eof = Equal
-relation_in (Eoln line) = Equal
-relation_in _ = NotEqual
-
-abbrev pub left_in : Expr → (d : ℕ) → ℕ
-left_in (Compare relation a b) d = kept (expr_calls b) d
-left_in (ComparePointers relation a b) d = kept (expr_calls b) d
-left_in (Not e) d = left_in e d
-left_in _ d = d
-
-abbrev pub right_in : Expr → (d : ℕ) → Operand
-right_in (Compare relation a b) d = operand_of (literal_of b) (even_from (suc (kept (expr_calls b) d)))
-right_in (ComparePointers relation a b) d = operand_of (literal_of b) (even_from (suc (kept (expr_calls b) d)))
-right_in (Not e) d = right_in e d
-right_in (Eoln line) d = operand.Number (pos 1)
-right_in _ d = operand.Number (pos 0)
-
--- from the relation to its truth as a word in d
-abbrev pub relation_code : Expr → (d : ℕ) → List Instruction
-relation_code e d = i.Compare (relation_in e) d (left_in e d) (right_in e d) ∷ []
-
--- what the front code needs after it for the expression's word in d, and for its truth as 0 or 1
-abbrev pub finish : Expr → (d : ℕ) → List Instruction
-finish e d = if is_relation e then relation_code e d else []
-
-abbrev pub truth_finish : Expr → (d : ℕ) → List Instruction
-truth_finish e d = if is_truth e && not (is_relation e) then [] else relation_code e d
 
 -- ---- variables without their indices
 
@@ -250,79 +137,6 @@ abbrev pub minus_code : Option ℤ → (d t line : ℕ) → List Instruction →
 minus_code (Some z) d t line code = i.Literal d z ∷ []
 minus_code None d t line code = code ++ i.Literal d (pos 0) ∷ i.Arithmetic operator.Subtract d d
     (operand.Temporary t) 1 line ∷ []
-
--- ---- sets within the bounds of a base
-
--- every member that a set can have is within them
-abbrev pub holds_all : (low high : ℤ) → Bool
-holds_all low high = has_bytes low high
-
--- the bits of word q of a set that are outside them
-unfoldable pub outside_bits : (low high : ℤ) (q : ℕ) → ℕ
-outside_bits low high q = bits_from 32 (32 * q) (λ k. not (is_between low (pos k) high))
-
--- some bits of a word
-abbrev pub masked : (t mask : ℕ) → List Instruction
-masked t mask = if nat_eq mask 4294967295 then [] else i.Bits bits.And t t (operand.Number (number_of mask)) ∷ []
-
--- those bits of the word at x of the scratch block are joined to what t holds; the temporary beside t is used
-abbrev pub joined_word : (t x mask : ℕ) → List Instruction
-joined_word t x mask = if nat_eq mask 0 then []
-    else (i.Load (beside t) base.Scratch x ∷ masked (beside t) mask ++ i.Bits bits.Or t t (operand.Temporary (beside t))
-    ∷ [])
-
--- the bits outside in the first words of the set from x on
-unfoldable pub outside_code : (low high : ℤ) (t x words : ℕ) → List Instruction
-outside_code low high t x zero = []
-outside_code low high t x (suc q) = outside_code low high t x q ++ joined_word t (x + 4 * q) (outside_bits low high q)
-
--- the set from x on is within the bounds, or error 8
-abbrev pub set_check : (t x : ℕ) (low high : ℤ) (line : ℕ) → List Instruction
-set_check t x low high line =
-    if holds_all low high then [] else (i.Literal t (pos 0) ∷ outside_code low high t x 8 ++ i.Branch Equal t
-    (operand.Number (pos 0)) 1 ∷ i.Trap 8 line ∷ [])
-
--- ---- members
-
--- a known number that can be a member
-abbrev pub known_member : Option ℤ → Option ℕ
-known_member None = None
-known_member (Some z) = if is_between (pos 0) z (pos 255) then Some (unsigned_abs z) else None
-
--- the member n is added to the set from x on as a bit of its word; t is used
-abbrev pub bit_code : (n t x : ℕ) → List Instruction
-bit_code n t x =
-    i.Load t base.Scratch (x + 4 * (n / 32)) ∷ i.Bits bits.Or t t (operand.Number (number_of (2 ^ (n % 32))))
-    ∷ i.Store base.Scratch (x + 4 * (n / 32)) t ∷ []
-
--- a known member, or the code of any other
-abbrev pub one_code : Option ℕ → (t x : ℕ) → List Instruction → List Instruction
-one_code None t x code = code
-one_code (Some n) t x code = bit_code n t x
-
-abbrev pub is_union : SetOperator → Bool
-is_union Union = true
-is_union Difference = false
-is_union Intersection = false
-
--- whether a constructor's members are added to a set one by one, so that no second set is made of them
-abbrev pub adds : SetOperator → SetExpr → Bool
-adds operator (LoadSet p) = false
-adds operator (Constructor members) = is_union operator
-adds operator (Combine e steps) = false
-
--- Whether the number in m is a member of the set at the address in u: the truth goes to t. A member is in 0..255, and
--- is bit m mod 32 of word m div 32, which is read in place. The temporary beside u is used. The errors are 0, and the
--- lines dummies: neither the quotient nor the index fails.
-abbrev pub membership_code : (m u t : ℕ) → List Instruction
-membership_code m u t =
-    i.Bits bits.And (beside u) m (operand.Number (pos 255)) ∷ i.Branch NotEqual (beside u) (operand.Temporary m) 8
-    ∷ i.Arithmetic operator.Divide (beside u) m (operand.Number (pos 32)) 0 1 ∷ i.Index u (base.Temporary u) (beside u)
-    (pos 0) (pos 7) 4 0 1
-    ∷ i.Load u (base.Temporary u) 0 ∷ i.Literal (beside u) (pos 1) ∷ i.Bits bits.ShiftLeft (beside u) (beside u)
-    (operand.Temporary m)
-    ∷ i.Bits bits.And t u (operand.Temporary (beside u)) ∷ i.Compare NotEqual t t (operand.Number (pos 0)) ∷ i.Jump 1
-    ∷ i.Literal t (pos 0) ∷ []
 
 -- ---- actual parameters: where their words are, and what scratch they hold
 

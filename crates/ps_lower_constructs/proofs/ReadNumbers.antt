@@ -35,12 +35,13 @@ use Rattle.tac_code_steps.proofs.Splices.{spliced_length, spliced_inside}
 use Rattle.tac_code_steps.proofs.Blocks.{word_read, word_written}
 use Rattle.tac_code_steps.proofs.Temporaries.{eq_same, put_same, put_other}
 use Rattle.tac_code_steps.proofs.Instructions.{offset_step, range_step, load_step}
+use Rattle.tac_rt.specs.declared.run_time.RunTime.TheVariants.{ReadNumber}
 use Rattle.ps_lower_layout.specs.Shapes.{NumberShape, PointerShape, SetShape, ByteShape, ArrayShape, RecordShape, Part}
 use Rattle.ps_lower_layout.specs.Shapes.{Whole, Byte}
 use Rattle.ps_lower_layout.specs.Frames.{input_offset}
 use Rattle.ps_lower_layout.specs.Paths.{NumberSort}
 use Rattle.ps_lower_code.specs.Scopes.{beside, even_from, held, least, greatest, range_code, Site, site_code}
-use Rattle.ps_lower_code.specs.Scopes.{input_site, ReadNumber, helper}
+use Rattle.ps_lower_code.specs.Scopes.{input_site, helper}
 use Rattle.ps_lower_code.specs.Values.{is_byte, place_temporary, place_site, place_code, store_code}
 use Rattle.ps_lower_code.specs.Statements.{read_code}
 use Rattle.ps_lower_code.specs.Routines.{routine_code}

@@ -24,10 +24,11 @@ use Rattle.tac_code_steps.specs.Runs.{Stands, Stops}
 use Rattle.tac_code_steps.proofs.Runs.{split, a_step}
 use Rattle.tac_code_steps.proofs.Pieces.{same_some, some_none}
 use Rattle.tac_code_steps.proofs.Instructions.{range_step}
+use Rattle.tac_rt.specs.declared.run_time.RunTime.TheVariants.{ReadCharacter, ReadLine}
 use Rattle.ps_lower_layout.specs.Shapes.{Part}
 use Rattle.ps_lower_layout.specs.Paths.{NumberSort}
 use Rattle.ps_lower_code.specs.Scopes.{even_from, held, greatest, fitting_code, Site, site_code, input_site}
-use Rattle.ps_lower_code.specs.Scopes.{ReadCharacter, ReadLine, helper}
+use Rattle.ps_lower_code.specs.Scopes.{helper}
 use Rattle.ps_lower_code.specs.Values.{is_byte, place_temporary, place_site, place_code, store_code}
 use Rattle.ps_lower_code.specs.Statements.{read_code, reads_code}
 use Rattle.ps_lower_code.specs.Programs.{tac_of}

@@ -23,9 +23,10 @@ use Rattle.tac_code_steps.specs.Splices.{spliced}
 use Rattle.tac_code_steps.proofs.Temporaries.{put_same, put_other}
 use Rattle.tac_code_steps.proofs.Splices.{spliced_length, spliced_inside, spliced_before, spliced_behind}
 use Rattle.tac_code_steps.proofs.Instructions.{offset_step, load_step, bits_step}
+use Rattle.tac_rt.specs.Numbers.{run_time_number}
 use Rattle.ps_lower_layout.specs.Shapes.{SetShape, Whole}
 use Rattle.ps_lower_layout.specs.Words.{set_words}
-use Rattle.ps_lower_code.specs.Scopes.{Site, run_time_number, words_code}
+use Rattle.ps_lower_code.specs.Scopes.{Site, words_code}
 use Rattle.ps_lower_code.specs.Values.{set_routine, bit_code}
 use Rattle.ps_lower_relation.specs.Here.{Setting, machine_of, code_in, Work, Activated, IsActive, Alive, state, SiteAt}
 use Rattle.ps_lower_relation.specs.Here.{Keeps}

@@ -13,6 +13,8 @@ use Rattle.ps_meaning.specs.Text.{Input, next_character, looked_at, look_marks, 
 use Rattle.ps_meaning.specs.Text.{NoInteger, Integer, scan_integer, marks_to, after_integer, after_line, line_marks}
 use Rattle.tac_code_steps.specs.Runs.{Comes}
 use Rattle.tac_code_steps.specs.Routines.{Does, Fresh}
+use Rattle.tac_rt.specs.declared.run_time.RunTime.TheVariants as routine
+use Rattle.tac_rt.specs.Numbers.{run_time_number}
 use Rattle.ps_lower_relation.specs.Ghosts.{ahead, begun, tape_of}
 use Rattle.ps_lower_relation.specs.Here.{Setting, machine_of, code_in}
 
@@ -78,19 +80,23 @@ pub record NumberHere (p : Setting) (to : Block) (place : ℕ) (i : Input) (midd
 pub record ReadsDo (p : Setting) : Type 0 where
   pub look : (b : Block) (o : ℕ) (i : Input) (before after : Memory) (transcript : List ℕ) → InputAt p before b o i
       → LookedIn i.looked before b o (ahead (looked_at i)) after → InputAt p after b o (looked_at i) → Does
-      (machine_of p) 13 (Address b o ∷ []) before (tape_of i transcript) (Number (kind_of (next_character i))) after
+      (machine_of p) (run_time_number routine.LookAhead) (Address b o ∷ []) before (tape_of i transcript)
+      (Number (kind_of (next_character i))) after
       (tape_of (looked_at i) (transcript ++ look_marks i))
   pub character : (b : Block) (o : ℕ) (i : Input) (before after : Memory) (transcript : List ℕ) → InputAt p before b o i
-      → Renewed before b o (taken i) after → Does (machine_of p) 14 (Address b o ∷ []) before (tape_of i transcript)
+      → Renewed before b o (taken i) after → Does
+      (machine_of p) (run_time_number routine.ReadCharacter) (Address b o ∷ []) before (tape_of i transcript)
       (Number (character_or_end (next_character i))) after (tape_of (taken i) (transcript ++ look_marks i))
   pub line : (b : Block) (o : ℕ) (i : Input) (before after : Memory) (transcript : List ℕ) → InputAt p before b o i
-      → Renewed before b o (after_line i) after → Does (machine_of p) 16 (Address b o ∷ []) before
-      (tape_of i transcript) (Number (nothing_left (next_character i))) after
+      → Renewed before b o (after_line i) after → Does
+      (machine_of p) (run_time_number routine.ReadLine) (Address b o ∷ []) before (tape_of i transcript)
+      (Number (nothing_left (next_character i))) after
       (tape_of (after_line i) (transcript ++ line_marks i))
   pub number : (b : Block) (o : ℕ) (to : Block) (place : ℕ) (i : Input) (middle : Memory) (transcript : List ℕ)
       (s : State) (t line : ℕ) (operands : List ℕ) → s.tape ≡ tape_of i transcript → InputAt p s.memory b o i → All
       (λ b. b < 256) i.left → Renewed s.memory b o (after_integer (scan_integer i.left).rest) middle
       → ((z : ℤ) → (memory : Memory) × (store middle to place (Number z) ≡ Some memory)) → Fresh s
       → values_of s.current.temporaries operands ≡ Some (Address b o ∷ Address to place ∷ []) → fetch
-      (code_in p) s.current.routine s.current.place ≡ Some (Call t (length (code_in p).program + 15) operands line)
+      (code_in p) s.current.routine s.current.place ≡ Some
+      (Call t (length (code_in p).program + run_time_number routine.ReadNumber) operands line)
       → NumberHere p to place i middle transcript s t

@@ -15,7 +15,8 @@ use Rattle.ps_tree.specs.declared.tree.SetOperator.{SetOperator}
 use Rattle.ps_meaning.specs.Operators.{is_included, is_member}
 use Rattle.ps_meaning.specs.Text.{right_aligned, fitted, integer_text}
 use Rattle.tac_code_steps.specs.Routines.{Does, wrote}
-use Rattle.ps_lower_code.specs.Scopes.{run_time_number}
+use Rattle.tac_rt.specs.declared.run_time.RunTime.TheVariants as routine
+use Rattle.tac_rt.specs.Numbers.{run_time_number}
 use Rattle.ps_lower_code.specs.Values.{set_routine}
 use Rattle.ps_lower_relation.specs.Sets.{set_number, bit_operator_of}
 use Rattle.ps_lower_relation.specs.Here.{Setting, machine_of, code_in}
@@ -79,9 +80,11 @@ SetAt p m b o s = (q : ℕ) → q < 8 → load (text_at (code_in p)) m b (o + 4 
 -- are combined; whether one is included in another, and whether an integer is a member
 pub record SetsDo (p : Setting) : Type 0 where
   pub nothing : (x y : ℤ) (b : Block) (o : ℕ) (memory : Memory) (tape : Tape) → int_lt y x ≡ true → Does
-      (machine_of p) 1 (Address b o ∷ Number x ∷ Number y ∷ []) memory tape (Number (pos 0)) memory tape
+      (machine_of p) (run_time_number routine.AddRange) (Address b o ∷ Number x ∷ Number y ∷ []) memory tape
+      (Number (pos 0)) memory tape
   pub added : (n count : ℕ) (b : Block) (o : ℕ) (before after : Memory) (tape : Tape) → n + count < 256
-      → AddedUp p before b o n (suc count) after → o + 32 < BLOCK_LIMIT → Does (machine_of p) 1
+      → AddedUp p before b o n (suc count) after → o + 32 < BLOCK_LIMIT → Does
+      (machine_of p) (run_time_number routine.AddRange)
       (Address b o ∷ Number (pos n) ∷ Number (pos (n + count)) ∷ []) before tape (Number (pos 0)) after tape
   pub joined : (operator : SetOperator) (to : Block) (place : ℕ) (from : Block) (start : ℕ) (before after : Memory)
       (tape : Tape) → JoinedUp p (bit_operator_of operator) before to place from start 8 after → place
@@ -89,10 +92,11 @@ pub record SetsDo (p : Setting) : Type 0 where
       (Address to place ∷ Address from start ∷ []) before tape (Number (pos 0)) after tape
   pub included : (b : Block) (o : ℕ) (b' : Block) (o' : ℕ) (s t : ℕ → Bool) (memory : Memory) (tape : Tape)
       → SetAt p memory b o s → SetAt p memory b' o' t → o + 32 < BLOCK_LIMIT → o' + 32 < BLOCK_LIMIT → Does
-      (machine_of p) 5 (Address b o ∷ Address b' o' ∷ []) memory tape (Number (truth (is_included s t))) memory tape
+      (machine_of p) (run_time_number routine.IsIncluded) (Address b o ∷ Address b' o' ∷ []) memory tape
+      (Number (truth (is_included s t))) memory tape
   pub member : (x : ℤ) (b : Block) (o : ℕ) (s : ℕ → Bool) (memory : Memory) (tape : Tape) → SetAt p memory b o s → o
-      + 32 < BLOCK_LIMIT → Does (machine_of p) 6 (Number x ∷ Address b o ∷ []) memory tape
-      (Number (truth (is_member x s))) memory tape
+      + 32 < BLOCK_LIMIT → Does (machine_of p) (run_time_number routine.IsMember) (Number x ∷ Address b o ∷ []) memory
+      tape (Number (truth (is_member x s))) memory tape
 
 -- the difference of the first bytes that differ, left minus right, or 0
 abbrev pub first_difference : List ℕ → List ℕ → ℤ
@@ -105,31 +109,32 @@ first_difference (a ∷ left) (b ∷ right) = if a == b then first_difference le
 pub record WritesDo (p : Setting) : Type 0 where
   pub sets : SetsDo p
   pub number : (x : ℤ) (width : ℕ) (memory : Memory) (tape : Tape) → IsTrue (is_integer x) → width < NUMBER_LIMIT → Does
-      (machine_of p) 10 (Number x ∷ Number (pos width) ∷ []) memory tape (Number (pos 0)) memory
-      (wrote tape (right_aligned width (integer_text x)))
+      (machine_of p) (run_time_number routine.WriteNumber) (Number x ∷ Number (pos width) ∷ []) memory tape
+      (Number (pos 0)) memory (wrote tape (right_aligned width (integer_text x)))
   pub character : (x : ℤ) (width : ℕ) (memory : Memory) (tape : Tape) → IsTrue (is_integer x) → width < NUMBER_LIMIT
-      → Does (machine_of p) 11 (Number x ∷ Number (pos width) ∷ []) memory tape (Number (pos 0)) memory
-      (wrote tape (right_aligned width (unsigned_abs x % 256 ∷ [])))
+      → Does (machine_of p) (run_time_number routine.WriteCharacter) (Number x ∷ Number (pos width) ∷ []) memory tape
+      (Number (pos 0)) memory (wrote tape (right_aligned width (unsigned_abs x % 256 ∷ [])))
   pub string : (b : Block) (o : ℕ) (text : List ℕ) (width : ℕ) (memory : Memory) (tape : Tape)
       → BytesAt p memory b o text → All (λ byte. byte < 256) text → o + length text < BLOCK_LIMIT → width < NUMBER_LIMIT
-      → Does (machine_of p) 12 (Address b o ∷ Number (pos (length text)) ∷ Number (pos width) ∷ []) memory tape
-      (Number (pos 0)) memory (wrote tape (fitted width text))
+      → Does (machine_of p) (run_time_number routine.WriteString)
+      (Address b o ∷ Number (pos (length text)) ∷ Number (pos width) ∷ []) memory tape (Number (pos 0)) memory
+      (wrote tape (fitted width text))
   pub words : (to : Block) (place : ℕ) (from : Block) (start n : ℕ) (before after : Memory) (tape : Tape)
       → CopiedUp p before to place from start n after → place + 4 * n < BLOCK_LIMIT → start + 4 * n < BLOCK_LIMIT → Does
-      (machine_of p) 0 (Address to place ∷ Address from start ∷ Number (pos (4 * n)) ∷ []) before tape
-      (Number (pos 0)) after tape
+      (machine_of p) (run_time_number routine.CopyWords)
+      (Address to place ∷ Address from start ∷ Number (pos (4 * n)) ∷ []) before tape (Number (pos 0)) after tape
   pub packed : (to : Block) (place : ℕ) (from : Block) (start : ℕ) (bytes : List ℕ) (before after : Memory)
       (tape : Tape) → PackedUp p before to place from start bytes after → place + length bytes < BLOCK_LIMIT → start
-      + 4 * length bytes < BLOCK_LIMIT → Does (machine_of p) 8
+      + 4 * length bytes < BLOCK_LIMIT → Does (machine_of p) (run_time_number routine.PackBytes)
       (Address to place ∷ Address from start ∷ Number (pos (length bytes)) ∷ []) before tape (Number (pos 0)) after tape
   pub unpacked : (to : Block) (place : ℕ) (from : Block) (start : ℕ) (bytes : List ℕ) (before after : Memory)
       (tape : Tape) → UnpackedUp p before to place from start bytes after → place + 4 * length bytes < BLOCK_LIMIT
-      → start + length bytes < BLOCK_LIMIT → Does (machine_of p) 9
+      → start + length bytes < BLOCK_LIMIT → Does (machine_of p) (run_time_number routine.UnpackBytes)
       (Address to place ∷ Address from start ∷ Number (pos (length bytes)) ∷ []) before tape (Number (pos 0)) after tape
   pub difference : (x : Block) (place : ℕ) (y : Block) (start : ℕ) (left right : List ℕ) (memory : Memory) (tape : Tape)
       → BytesAt p memory x place left → BytesAt p memory y start right → All (λ byte. byte < 256) left → All
       (λ byte. byte < 256) right → length left ≡ length right → place + length left < BLOCK_LIMIT → start
-      + length right < BLOCK_LIMIT → Does (machine_of p) 7
+      + length right < BLOCK_LIMIT → Does (machine_of p) (run_time_number routine.CompareBytes)
       (Address x place ∷ Address y start ∷ Number (pos (length left)) ∷ []) memory tape
       (Number (first_difference left right)) memory tape
   pub reads : ReadsDo p

@@ -12,7 +12,8 @@ use Rattle.tac_code.specs.Meaning.{Tape, text_at}
 use Rattle.tac_code.specs.Numbers.{bits, truth, same_number}
 use Rattle.ps_meaning.specs.Operators.{combine_sets, all_below, is_included, is_member}
 use Rattle.tac_code_steps.specs.Routines.{Does}
-use Rattle.ps_lower_code.specs.Scopes.{run_time_number}
+use Rattle.tac_rt.specs.declared.run_time.RunTime.TheVariants as routine
+use Rattle.tac_rt.specs.Numbers.{run_time_number}
 use Rattle.ps_lower_code.specs.Values.{set_routine}
 use Rattle.tac_rt.specs.Bodies.{run_time_routines}
 use Rattle.tac_rt.specs.Laws.{JoinedUp, AddedUp, WordsAt, is_included as are_included}
@@ -172,17 +173,17 @@ module _ (p : Setting) (has : p.run_time ≡ run_time_routines) where
   and_false false = refl
 
   member : (x : ℤ) (b : Block) (o : ℕ) (s : ℕ → Bool) (memory : Memory) (tape : Tape) → SetAt p memory b o s → o
-      + 32 < 2147483648 → Does (machine_of p) 6 (Number x ∷ Address b o ∷ []) memory tape
-      (Number (truth (is_member x s))) memory tape
+      + 32 < 2147483648 → Does (machine_of p) (run_time_number routine.IsMember) (Number x ∷ Address b o ∷ []) memory
+      tape (Number (truth (is_member x s))) memory tape
   member (negsuc n) b o s memory tape at l = finds_members.outside (machine_of p) (negsuc n) b o memory tape has refl
   member (pos n) b o s memory tape at l = go (nat_lt n 256) refl
     where
-      go : (z : Bool) → nat_lt n 256 ≡ z → Does (machine_of p) 6 (Number (pos n) ∷ Address b o ∷ []) memory tape
-          (Number (truth (z && s n))) memory tape
+      go : (z : Bool) → nat_lt n 256 ≡ z → Does (machine_of p) (run_time_number routine.IsMember)
+          (Number (pos n) ∷ Address b o ∷ []) memory tape (Number (truth (z && s n))) memory tape
       go true e =
           let low = ltb-true n 256 e in
-          subst (λ v. Does (machine_of p) 6 (Number (pos n) ∷ Address b o ∷ []) memory tape
-          (Number (truth v)) memory tape) (member_found s n low)
+          subst (λ v. Does (machine_of p) (run_time_number routine.IsMember) (Number (pos n) ∷ Address b o ∷ []) memory
+          tape (Number (truth v)) memory tape) (member_found s n low)
           (finds_members.inside (machine_of p) n b o (set_number s (n / 32)) memory tape has low
           (at (n / 32) (omega (arith, low))) l)
       go false e =
@@ -197,7 +198,8 @@ module _ (p : Setting) (has : p.run_time ≡ run_time_routines) where
         (machine_of p) n count b o before after tape has low (added_same b o (suc count) n before after h) l;
     joined = joins;
     included = λ b o b' o' s t memory tape at at' l l'.
-        subst (λ v. Does (machine_of p) 5 (Address b o ∷ Address b' o' ∷ []) memory tape (Number (truth v)) memory tape)
+        subst (λ v. Does (machine_of p) (run_time_number routine.IsIncluded) (Address b o ∷ Address b' o' ∷ []) memory
+        tape (Number (truth v)) memory tape)
         (inclusion s t)
         (includes_sets (machine_of p) b o b' o' (numbers_from 8 0 s) (numbers_from 8 0 t) memory tape has
         (words_at p memory b o s at 8 0 o (omega arith) (omega arith))

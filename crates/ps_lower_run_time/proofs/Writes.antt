@@ -5,9 +5,11 @@ use Rattle.std.specs.List.{All}
 use Rattle.tac_code.specs.declared.code.Block.{Block}
 use Rattle.tac_code.specs.Memory.{Memory, load_byte}
 use Rattle.tac_code.specs.Meaning.{text_at}
+use Rattle.tac_rt.specs.declared.run_time.RunTime.TheVariants as routine
 use Rattle.tac_rt.specs.Calls.{BytesAt}
 use Rattle.tac_code.specs.declared.code.Value.TheVariants.{Number, Address}
 use Rattle.tac_code_steps.specs.Routines.{Does}
+use Rattle.tac_rt.specs.Numbers.{run_time_number}
 use Rattle.tac_rt.specs.Laws.{CopiedUp, PackedUp, UnpackedUp, first_difference}
 use Rattle.tac_rt.proofs.Copies.{copies_words}
 use Rattle.tac_rt.proofs.Packs.{packs_bytes}
@@ -83,8 +85,9 @@ writes_do p has = record {
   string = λ b o text width memory tape stand low l narrow. writes_strings (machine_of p) b o text width memory tape has
       (bytes_at p memory b o text stand low) l narrow;
   difference = λ x place y start left right memory tape stand there low low' same l narrow.
-      subst (λ z. Does (machine_of p) 7 (Address x place ∷ Address y start ∷ Number (pos (length left)) ∷ []) memory
-      tape (Number z) memory tape) (same_difference left right)
+      subst (λ z. Does (machine_of p) (run_time_number routine.CompareBytes)
+      (Address x place ∷ Address y start ∷ Number (pos (length left)) ∷ []) memory tape (Number z) memory tape)
+      (same_difference left right)
       (compares_bytes (machine_of p) x place y start left right memory tape has
       (bytes_at p memory x place left stand low) (bytes_at p memory y start right there low') same l narrow);
 }

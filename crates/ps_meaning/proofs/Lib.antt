@@ -5,4 +5,5 @@ mod Routines
 pub mod Growth
 pub mod Limits
 pub mod Laws
+pub mod Avoids
 pub mod Unstopped

@@ -1,6 +1,6 @@
 -- Where each call that an expression may make goes on without a stop for stack, the expression does.
-use Rattle.std.proofs.Common.{◌≡◌, inl, inr, ℕ, ℤ, pos, List, [], ◌∷◌, ◌++◌, drop, Bool, true, false, cond, ◌&&◌}
-use Rattle.std.proofs.Common.{int_lt, Option, Some, None, refl, sym, ap, ◌∙◌, subst}
+use Rattle.std.proofs.Common.{◌≡◌, inl, inr, ℕ, ℤ, List, [], ◌∷◌, ◌++◌, drop, Bool}
+use Rattle.std.proofs.Common.{Option, Some, refl, sym, ap, ◌∙◌, subst}
 use Rattle.std.specs.List.{Contains}
 use Rattle.ps_tree.specs.declared.tree.BooleanOperator.{BooleanOperator}
 use Rattle.ps_tree.specs.Tree.{Program, routine_at, Place, Variable, Selector, Element, Field, Target, Selectors}
@@ -11,16 +11,18 @@ use Rattle.ps_tree.specs.Tree.{ComparePointers, CompareSets, CompareStrings, In,
 use Rattle.ps_tree.specs.Tree.{SetExpr, LoadSet, Constructor, Combine, Member, One, Several, Members, no_member}
 use Rattle.ps_tree.specs.Tree.{member_before, Structure, Literal, Contents, Argument, ByValue, BySet, ByCopy}
 use Rattle.ps_tree.specs.Tree.{ByVariable, ByRoutine, ByFormal, Arguments, no_argument, argument_before}
-use Rattle.behavior.specs.Endings.{Ending, Stack}
-use Rattle.ps_meaning.specs.Values.{Value, ObjectValue, Spot, number_of}
-use Rattle.ps_meaning.specs.Operators.{Computed, Result, Fault, combine_truths, combine_sets, fits, set_fits}
+use Rattle.behavior.specs.Endings.{Ending, Error, Stack}
+use Rattle.ps_meaning.specs.Values.{Spot, number_of}
+use Rattle.ps_meaning.specs.Operators.{combine_truths, combine_sets, fits, set_fits}
 use Rattle.ps_meaning.specs.Operators.{is_between, is_true}
-use Rattle.ps_meaning.specs.Worlds.{Env, above, frame_of, routine_in, env_in, Context, World, Answer, Gives, Ends, Act}
-use Rattle.ps_meaning.specs.Worlds.{and_then, settled, contents, look}
-use Rattle.ps_meaning.specs.Expressions.{Actual, Caller, calling, Held, HeldText, HeldSpot, contents_of, object_of}
-use Rattle.ps_meaning.specs.Expressions.{fitting, fitting_set, set_between, line_end, function_value, denoted, access}
+use Rattle.ps_meaning.specs.Worlds.{Env, above, frame_of, routine_in, env_in, Context, World, Answer}
+use Rattle.ps_meaning.specs.Worlds.{contents, look}
+use Rattle.ps_meaning.specs.Expressions.{Actual, Caller, calling, contents_of}
+use Rattle.ps_meaning.specs.Expressions.{fitting, fitting_set, function_value, denoted, access}
 use Rattle.ps_meaning.specs.Expressions.{accesses, at_selector, value, computed, combined, set_value, sets_combined}
 use Rattle.ps_meaning.specs.Expressions.{member_value, members_value, operand, actual_of, actuals_of, index_of}
+use Rattle.ps_meaning.proofs.Avoids.{Ended, Avoids, after, then_fine, choice_fine, settled_fine, object_fine}
+use Rattle.ps_meaning.proofs.Avoids.{line_end_fine, held_fine, between_fine}
 use Rattle.ps_lower_layout.specs.Shapes.{Shape, Part, Whole}
 use Rattle.ps_lower_layout.specs.Paths.{Sort, NumberSort, PointerSort}
 use Rattle.ps_lower_layout.specs.Frames.{Kind, Own, Reference, Kinds, kinds_of}
@@ -45,51 +47,17 @@ IsStack _ = ⊥
 
 -- an answer that is no stop for stack, and of which something is known where it gives a value
 abbrev pub Gave : {A : Type 0} → (A → Type 0) → Answer A → Type 0
-Gave P (Gives v w) = P v
-Gave P (Ends transcript ending) = IsStack ending → ⊥
+Gave P a = Ended IsStack P a
 
 abbrev pub Unstopped : {A : Type 0} → Answer A → Type 0
-Unstopped a = Gave (λ v. Unit {0}) a
-
-abbrev pub Fine : {A : Type 0} → Act A → Type 0
-Fine m = (w : World) → Unstopped (m w)
+Unstopped a = Avoids IsStack a
 
 pub no_stop : ⊥ → ⊥
 no_stop h = h
 
-pub after : {A B : Type 0} (P : A → Type 0) (Q : B → Type 0) (a : Answer A) (f : A → Act B) → Gave P a
-    → ((v : A) (u : World) → P v → Gave Q (f v u)) → Gave Q (and_then a f)
-after P Q (Gives v w) f h k = k v w h
-after P Q (Ends out ending) f h k = h
-
-pub then_fine : {A B : Type 0} (a : Answer A) (f : A → Act B) → Unstopped a → ((v : A) (u : World) → Unstopped (f v u))
-    → Unstopped (and_then a f)
-then_fine (Gives v w) f h k = k v w
-then_fine (Ends out ending) f h k = h
-
-pub choice_fine : {A : Type 0} (b : Bool) (f g : Act A) → Fine f → Fine g → Fine (cond b f g)
-choice_fine true f g h k w = h w
-choice_fine false f g h k w = k w
-
-settled_fine : (k : Computed) (line : ℕ) (c : Context) → Fine (settled k line c)
-settled_fine (Result n) line c w = tt
-settled_fine (Fault n) line c w = no_stop
-
-object_fine : (v : Value) (line : ℕ) (c : Context) → Fine (object_of v line c)
-object_fine (ObjectValue object) line c w = tt
-object_fine _ line c w = no_stop
-
-line_end_fine : (o : Option ℕ) (line : ℕ) (c : Context) → Fine (line_end o line c)
-line_end_fine None line c w = no_stop
-line_end_fine (Some b) line c w = tt
-
-pub held_fine : (h : Held) → Fine (contents_of h)
-held_fine (HeldText characters) w = tt
-held_fine (HeldSpot s) w = tt
-
-between_fine : (x y : ℤ) (line : ℕ) (c : Context) → Fine (set_between x y line c)
-between_fine x y line c = choice_fine (int_lt y x) _ _ (λ t. tt)
-    (choice_fine (is_between (pos 0) x (pos 255) && is_between (pos 0) y (pos 255)) _ _ (λ t. tt) (λ t. no_stop))
+-- an error is none
+pub no_error : (number line : ℕ) (calls : List ℕ) → IsStack (Error number line calls) → ⊥
+no_error number line calls h = h
 
 -- ---- what is known of the uses of a part of a block
 
@@ -167,7 +135,7 @@ module _ (program : Program) (r : ℕ) (active : List ℕ) (call : Caller) (call
 
   function_fine : (s : ℕ) (parent : Env) (actuals : List Actual) (c : Context) (w : World) → Unstopped
       (call s parent actuals c w) → Unstopped (function_value call s parent actuals c w)
-  function_fine s parent actuals c w h = then_fine _ _ h (λ d u. tt)
+  function_fine s parent actuals c w h = then_fine IsStack _ _ h (λ d u. tt)
 
   mutual
     pub access_fine : (os : List Shape) (p : Place) (part : Part) (c : Context) (w : World) → PlaceFits scope os p part
@@ -180,7 +148,7 @@ module _ (program : Program) (r : ℕ) (active : List ℕ) (call : Caller) (call
         (accesses call l s c w)
     accesses_fine os no_selector from to s c w f u h = tt
     accesses_fine os (selector_before selector rest) from to s c w f u h =
-        then_fine _ _ (selector_fine os selector f.0 f.2.0 s c w f.2.1
+        then_fine IsStack _ _ (selector_fine os selector f.0 f.2.0 s c w f.2.1
         (front program r (selector_uses selector) (selectors_uses rest) u) h)
         (λ t v. accesses_fine os rest f.2.0 to t c v f.2.2
         (back program r (selector_uses selector) (selectors_uses rest) u) h)
@@ -188,63 +156,63 @@ module _ (program : Program) (r : ℕ) (active : List ℕ) (call : Caller) (call
     selector_fine : (os : List Shape) (selector : Selector) (shape : Shape) (next : Part) (s : Spot) (c : Context)
         (w : World) → SelectorFits scope os selector shape next → Known program r (selector_uses selector)
         → Here program r active c → Unstopped (at_selector call selector s c w)
-    selector_fine os (Element type e line) shape next s c w f u h = then_fine _ _
+    selector_fine os (Element type e line) shape next s c w f u h = then_fine IsStack _ _
         (value_fine os e NumberSort c w f.3 u h)
-        (λ x v. (choice_fine (is_between (index_of type).low (number_of x) (index_of type).high) _ _ (λ t. tt)
+        (λ x v. (choice_fine IsStack (is_between (index_of type).low (number_of x) (index_of type).high) _ _ (λ t. tt)
         (λ t. no_stop)) v)
     selector_fine os (Field type number) shape next s c w f u h = tt
-    selector_fine os (Target pointer line) shape next s c w f u h = then_fine (contents s w) _ tt
-        (λ x v. (object_fine x line c) v)
+    selector_fine os (Target pointer line) shape next s c w f u h = then_fine IsStack (contents s w) _ tt
+        (λ x v. (object_fine IsStack no_error x line c) v)
 
     pub value_fine : (os : List Shape) (e : Expr) (sort : Sort) (c : Context) (w : World) → ExprFits scope os e sort
         → Known program r (expr_uses e) → Here program r active c → Unstopped (value call e c w)
     value_fine os (Number n) sort c w f u h = tt
     value_fine os Nil sort c w f u h = tt
-    value_fine os (Load p) sort c w f u h = then_fine _ _ (access_fine os p f.0 c w f.2 u h) (λ s v. tt)
+    value_fine os (Load p) sort c w f u h = then_fine IsStack _ _ (access_fine os p f.0 c w f.2 u h) (λ s v. tt)
     value_fine os (Plus e) sort c w f u h = value_fine os e NumberSort c w f.1 u h
-    value_fine os (Minus e line) sort c w f u h = then_fine _ _ (value_fine os e NumberSort c w f.1 u h)
-        (λ x v. (settled_fine _ line c) v)
-    value_fine os (Not e) sort c w f u h = then_fine _ _ (value_fine os e NumberSort c w f.1 u h) (λ x v. tt)
-    value_fine os (Arithmetic e steps) sort c w f u h = then_fine _ _
+    value_fine os (Minus e line) sort c w f u h = then_fine IsStack _ _ (value_fine os e NumberSort c w f.1 u h)
+        (λ x v. (settled_fine IsStack no_error _ line c) v)
+    value_fine os (Not e) sort c w f u h = then_fine IsStack _ _ (value_fine os e NumberSort c w f.1 u h) (λ x v. tt)
+    value_fine os (Arithmetic e steps) sort c w f u h = then_fine IsStack _ _
         (value_fine os e NumberSort c w f.1 (front program r (expr_uses e) (steps_uses steps) u) h)
         (λ x v. computed_fine os steps (number_of x) c v f.2 (back program r (expr_uses e) (steps_uses steps) u) h)
-    value_fine os (Logic operator e rest) sort c w f u h = then_fine _ _
+    value_fine os (Logic operator e rest) sort c w f u h = then_fine IsStack _ _
         (value_fine os e NumberSort c w f.1 (front program r (expr_uses e) (operands_uses rest) u) h)
         (λ x v. combined_fine os operator rest (is_true (number_of x)) c v f.2
         (back program r (expr_uses e) (operands_uses rest) u) h)
-    value_fine os (Compare relation a b) sort c w f u h = then_fine _ _
+    value_fine os (Compare relation a b) sort c w f u h = then_fine IsStack _ _
         (value_fine os a NumberSort c w f.1 (front program r (expr_uses a) (expr_uses b) u) h)
-        (λ x v. then_fine _ _ (value_fine os b NumberSort c v f.2 (back program r (expr_uses a) (expr_uses b) u) h)
+        (λ x v. then_fine IsStack _ _ (value_fine os b NumberSort c v f.2 (back program r (expr_uses a) (expr_uses b) u) h)
         (λ y t. tt))
-    value_fine os (ComparePointers relation a b) sort c w f u h = then_fine _ _
+    value_fine os (ComparePointers relation a b) sort c w f u h = then_fine IsStack _ _
         (value_fine os a (PointerSort f.1.0) c w f.1.1 (front program r (expr_uses a) (expr_uses b) u) h)
-        (λ x v. then_fine _ _ (value_fine os b (PointerSort f.1.0) c v f.1.2
+        (λ x v. then_fine IsStack _ _ (value_fine os b (PointerSort f.1.0) c v f.1.2
         (back program r (expr_uses a) (expr_uses b) u) h) (λ y t. tt))
-    value_fine os (CompareSets relation a b) sort c w f u h = then_fine _ _
+    value_fine os (CompareSets relation a b) sort c w f u h = then_fine IsStack _ _
         (set_fine os a c w f.1 (front program r (set_uses a) (set_uses b) u) h)
-        (λ x v. then_fine _ _ (set_fine os b c v f.2 (back program r (set_uses a) (set_uses b) u) h) (λ y t. tt))
+        (λ x v. then_fine IsStack _ _ (set_fine os b c v f.2 (back program r (set_uses a) (set_uses b) u) h) (λ y t. tt))
     value_fine os (CompareStrings relation a b) sort c w f u h =
-        then_fine _ _ (operand_fine os a c w (structure_operand scope os a f.1)
+        then_fine IsStack _ _ (operand_fine os a c w (structure_operand scope os a f.1)
         (front program r (structure_uses a) (structure_uses b) u) h) (λ x v.
-        then_fine _ _ (operand_fine os b c v (structure_operand scope os b f.2)
+        then_fine IsStack _ _ (operand_fine os b c v (structure_operand scope os b f.2)
         (back program r (structure_uses a) (structure_uses b) u) h) (λ y t.
-        then_fine _ _ ((held_fine x) t) (λ p q. then_fine _ _ ((held_fine y) q) (λ p' q'. tt))))
-    value_fine os (In a b) sort c w f u h = then_fine _ _
+        then_fine IsStack _ _ ((held_fine IsStack no_error x) t) (λ p q. then_fine IsStack _ _ ((held_fine IsStack no_error y) q) (λ p' q'. tt))))
+    value_fine os (In a b) sort c w f u h = then_fine IsStack _ _
         (value_fine os a NumberSort c w f.1 (front program r (expr_uses a) (set_uses b) u) h)
-        (λ x v. then_fine _ _ (set_fine os b c v f.2 (back program r (expr_uses a) (set_uses b) u) h) (λ y t. tt))
-    value_fine os (Apply function e line) sort c w f u h = then_fine _ _ (value_fine os e NumberSort c w f.2 u h)
-        (λ x v. (settled_fine _ line c) v)
+        (λ x v. then_fine IsStack _ _ (set_fine os b c v f.2 (back program r (expr_uses a) (set_uses b) u) h) (λ y t. tt))
+    value_fine os (Apply function e line) sort c w f u h = then_fine IsStack _ _ (value_fine os e NumberSort c w f.2 u h)
+        (λ x v. (settled_fine IsStack no_error _ line c) v)
     value_fine os Eof sort c w f u h = tt
-    value_fine os (Eoln line) sort c w f u h = then_fine (look w) _ tt (λ x v. (line_end_fine x line c) v)
+    value_fine os (Eoln line) sort c w f u h = then_fine IsStack (look w) _ tt (λ x v. (line_end_fine IsStack no_error x line c) v)
     value_fine os (Call s up arguments line) sort c w f u h =
         let kinds = kinds_of (routine_at program s).formals in
-        after (λ xs. ActualsAre program xs kinds) (λ v. Unit {0}) (actuals_of call arguments c w) _
+        after IsStack (λ xs. ActualsAre program xs kinds) (λ v. Unit {0}) (actuals_of call arguments c w) _
         (actuals_fine os arguments kinds c w f.2 u.1 h) (λ xs v are.
         function_fine s (above c.env up) xs (calling line c) v (named_fine s up line xs c v f.0 u.0 h are))
     value_fine os (CallFormal up index arguments line) sort c w f u h =
         let closed = formal_is program c.env (routine_at program r).chain up index f.1.0 (Some f.1.1.0) h.1 f.0 f.1.1.1
         in
-        after (λ xs. ActualsAre program xs f.1.0) (λ v. Unit {0}) (actuals_of call arguments c w) _
+        after IsStack (λ xs. ActualsAre program xs f.1.0) (λ v. Unit {0}) (actuals_of call arguments c w) _
         (actuals_fine os arguments f.1.0 c w f.1.2 u.1 h) (λ xs v are.
         function_fine (routine_in (frame_of (above c.env up)) index) (env_in (frame_of (above c.env up)) index) xs
         (calling line c) v (formal_fine up index line f.1.0 (Some f.1.1.0) xs c v closed u.0 h are))
@@ -253,25 +221,25 @@ module _ (program : Program) (r : ℕ) (active : List ℕ) (call : Caller) (call
         → StepsFit scope os steps → Known program r (steps_uses steps) → Here program r active c → Unstopped
         (computed call steps x c w)
     computed_fine os no_arithmetic_step x c w f u h = tt
-    computed_fine os (arithmetic_step_before operator e line rest) x c w f u h = then_fine _ _
+    computed_fine os (arithmetic_step_before operator e line rest) x c w f u h = then_fine IsStack _ _
         (value_fine os e NumberSort c w f.0 (front program r (expr_uses e) (steps_uses rest) u) h)
-        (λ y v. then_fine _ _ ((settled_fine _ line c) v)
+        (λ y v. then_fine IsStack _ _ ((settled_fine IsStack no_error _ line c) v)
         (λ z t. computed_fine os rest (number_of z) c t f.1 (back program r (expr_uses e) (steps_uses rest) u) h))
 
     combined_fine : (os : List Shape) (operator : BooleanOperator) (operands : Operands) (x : Bool) (c : Context)
         (w : World) → OperandsFit scope os operands → Known program r (operands_uses operands) → Here program r active c
         → Unstopped (combined call operator operands x c w)
     combined_fine os operator no_operand x c w f u h = tt
-    combined_fine os operator (operand_before e rest) x c w f u h = then_fine _ _
+    combined_fine os operator (operand_before e rest) x c w f u h = then_fine IsStack _ _
         (value_fine os e NumberSort c w f.0 (front program r (expr_uses e) (operands_uses rest) u) h)
         (λ y v. combined_fine os operator rest (combine_truths operator x (is_true (number_of y))) c v f.1
         (back program r (expr_uses e) (operands_uses rest) u) h)
 
     pub set_fine : (os : List Shape) (e : SetExpr) (c : Context) (w : World) → SetFits scope os e → Known program r
         (set_uses e) → Here program r active c → Unstopped (set_value call e c w)
-    set_fine os (LoadSet p) c w f u h = then_fine _ _ (access_fine os p _ c w f u h) (λ s v. tt)
+    set_fine os (LoadSet p) c w f u h = then_fine IsStack _ _ (access_fine os p _ c w f u h) (λ s v. tt)
     set_fine os (Constructor members) c w f u h = members_fine os members c w f u h
-    set_fine os (Combine e steps) c w f u h = then_fine _ _
+    set_fine os (Combine e steps) c w f u h = then_fine IsStack _ _
         (set_fine os e c w f.0 (front program r (set_uses e) (set_steps_uses steps) u) h)
         (λ x v. sets_fine os steps x c v f.1 (back program r (set_uses e) (set_steps_uses steps) u) h)
 
@@ -279,56 +247,56 @@ module _ (program : Program) (r : ℕ) (active : List ℕ) (call : Caller) (call
         → SetStepsFit scope os steps → Known program r (set_steps_uses steps) → Here program r active c → Unstopped
         (sets_combined call steps x c w)
     sets_fine os no_set_step x c w f u h = tt
-    sets_fine os (set_step_before operator e rest) x c w f u h = then_fine _ _
+    sets_fine os (set_step_before operator e rest) x c w f u h = then_fine IsStack _ _
         (set_fine os e c w f.0 (front program r (set_uses e) (set_steps_uses rest) u) h)
         (λ y v. sets_fine os rest (combine_sets operator x y) c v f.1
         (back program r (set_uses e) (set_steps_uses rest) u) h)
 
     member_fine : (os : List Shape) (m : Member) (c : Context) (w : World) → MemberFits scope os m → Known program r
         (member_uses m) → Here program r active c → Unstopped (member_value call m c w)
-    member_fine os (One e line) c w f u h = then_fine _ _ (value_fine os e NumberSort c w f u h)
-        (λ x v. (between_fine (number_of x) (number_of x) line c) v)
-    member_fine os (Several a b line) c w f u h = then_fine _ _
+    member_fine os (One e line) c w f u h = then_fine IsStack _ _ (value_fine os e NumberSort c w f u h)
+        (λ x v. (between_fine IsStack no_error (number_of x) (number_of x) line c) v)
+    member_fine os (Several a b line) c w f u h = then_fine IsStack _ _
         (value_fine os a NumberSort c w f.0 (front program r (expr_uses a) (expr_uses b) u) h)
-        (λ x v. then_fine _ _ (value_fine os b NumberSort c v f.1 (back program r (expr_uses a) (expr_uses b) u) h)
-        (λ y t. (between_fine (number_of x) (number_of y) line c) t))
+        (λ x v. then_fine IsStack _ _ (value_fine os b NumberSort c v f.1 (back program r (expr_uses a) (expr_uses b) u) h)
+        (λ y t. (between_fine IsStack no_error (number_of x) (number_of y) line c) t))
 
     members_fine : (os : List Shape) (ms : Members) (c : Context) (w : World) → MembersFit scope os ms → Known program r
         (members_uses ms) → Here program r active c → Unstopped (members_value call ms c w)
     members_fine os no_member c w f u h = tt
-    members_fine os (member_before m rest) c w f u h = then_fine _ _
+    members_fine os (member_before m rest) c w f u h = then_fine IsStack _ _
         (member_fine os m c w f.0 (front program r (member_uses m) (members_uses rest) u) h)
-        (λ x v. then_fine _ _ (members_fine os rest c v f.1 (back program r (member_uses m) (members_uses rest) u) h)
+        (λ x v. then_fine IsStack _ _ (members_fine os rest c v f.1 (back program r (member_uses m) (members_uses rest) u) h)
         (λ y t. tt))
 
     pub operand_fine : (os : List Shape) (e : Structure) (c : Context) (w : World) → IsOperand scope os e
         → Known program r (structure_uses e) → Here program r active c → Unstopped (operand call e c w)
     operand_fine os (Literal characters) c w f u h = tt
-    operand_fine os (Contents p type) c w f u h = then_fine _ _ (access_fine os p f.0 c w f.1 u h) (λ s v. tt)
+    operand_fine os (Contents p type) c w f u h = then_fine IsStack _ _ (access_fine os p f.0 c w f.1 u h) (λ s v. tt)
 
     actual_fine : (os : List Shape) (a : Argument) (kind : Kind) (c : Context) (w : World)
         → ArgumentFits scope os a kind → Known program r (argument_uses a) → Here program r active c → Gave
         (λ x. ActualIs program x kind) (actual_of call a c w)
     actual_fine os (ByValue e range line) kind c w f u h =
         subst (λ k. Gave (λ x. ActualIs program x k) (actual_of call (ByValue e range line) c w)) (sym f.1)
-        (after (λ x. Unit {0}) (λ x. ActualIs program x (Own f.0)) (value call e c w) _
+        (after IsStack (λ x. Unit {0}) (λ x. ActualIs program x (Own f.0)) (value call e c w) _
         (value_fine os e f.3.0 c w f.3.2 u h) (λ x v t.
-        after (λ y. Unit {0}) (λ y. ActualIs program y (Own f.0)) (fitting range x line c v) _
-        (choice_fine (fits range x) _ _ (λ q. tt) (λ q. no_stop) v) (λ y q p. tt)))
+        after IsStack (λ y. Unit {0}) (λ y. ActualIs program y (Own f.0)) (fitting range x line c v) _
+        (choice_fine IsStack (fits range x) _ _ (λ q. tt) (λ q. no_stop) v) (λ y q p. tt)))
     actual_fine os (BySet e low high line) kind c w f u h =
         subst (λ k. Gave (λ x. ActualIs program x k) (actual_of call (BySet e low high line) c w)) (sym f.0)
-        (after (λ x. Unit {0}) (λ x. ActualIs program x (Own _)) (set_value call e c w) _ (set_fine os e c w f.1 u h)
+        (after IsStack (λ x. Unit {0}) (λ x. ActualIs program x (Own _)) (set_value call e c w) _ (set_fine os e c w f.1 u h)
         (λ x v t.
-        after (λ y. Unit {0}) (λ y. ActualIs program y (Own _)) (fitting_set low high x line c v) _
-        (choice_fine (set_fits low high x) _ _ (λ q. tt) (λ q. no_stop) v) (λ y q p. tt)))
+        after IsStack (λ y. Unit {0}) (λ y. ActualIs program y (Own _)) (fitting_set low high x line c v) _
+        (choice_fine IsStack (set_fits low high x) _ _ (λ q. tt) (λ q. no_stop) v) (λ y q p. tt)))
     actual_fine os (ByCopy e type) kind c w f u h =
         subst (λ k. Gave (λ x. ActualIs program x k) (actual_of call (ByCopy e type) c w)) (sym f.0)
-        (after (λ x. Unit {0}) (λ x. ActualIs program x (Own _)) (operand call e c w) _
+        (after IsStack (λ x. Unit {0}) (λ x. ActualIs program x (Own _)) (operand call e c w) _
         (operand_fine os e c w (contents_operand scope os e _ f.2) u h) (λ x v t.
-        after (λ y. Unit {0}) (λ y. ActualIs program y (Own _)) (contents_of x v) _ (held_fine x v) (λ y q p. tt)))
+        after IsStack (λ y. Unit {0}) (λ y. ActualIs program y (Own _)) (contents_of x v) _ (held_fine IsStack no_error x v) (λ y q p. tt)))
     actual_fine os (ByVariable p) kind c w f u h =
         subst (λ k. Gave (λ x. ActualIs program x k) (actual_of call (ByVariable p) c w)) (sym f.1)
-        (after (λ x. Unit {0}) (λ x. ActualIs program x (Reference f.0)) (access call p c w) _
+        (after IsStack (λ x. Unit {0}) (λ x. ActualIs program x (Reference f.0)) (access call p c w) _
         (access_fine os p (Whole f.0) c w f.2 u h) (λ x v t. tt))
     actual_fine os (ByRoutine s up) kind c w f u h =
         let there = declared_is s up c f.0 h in
@@ -345,8 +313,8 @@ module _ (program : Program) (r : ℕ) (active : List ℕ) (call : Caller) (call
         (λ ks. Gave (λ xs. ActualsAre program xs ks) (actuals_of call no_argument c w)) (sym f) tt
     actuals_fine os (argument_before a rest) kinds c w f u h =
         subst (λ ks. Gave (λ xs. ActualsAre program xs ks) (actuals_of call (argument_before a rest) c w)) (sym f.1.1)
-        (after (λ x. ActualIs program x f.0) (λ xs. ActualsAre program xs _) (actual_of call a c w) _
+        (after IsStack (λ x. ActualIs program x f.0) (λ xs. ActualsAre program xs _) (actual_of call a c w) _
         (actual_fine os a f.0 c w f.1.2 (front program r (argument_uses a) (arguments_uses rest) u) h) (λ x v is.
-        after (λ xs. ActualsAre program xs f.1.0) (λ xs. ActualsAre program xs _) (actuals_of call rest c v) _
+        after IsStack (λ xs. ActualsAre program xs f.1.0) (λ xs. ActualsAre program xs _) (actuals_of call rest c v) _
         (actuals_fine os rest f.1.0 c v f.1.3 (back program r (argument_uses a) (arguments_uses rest) u) h)
         (λ xs t are. (is, are))))

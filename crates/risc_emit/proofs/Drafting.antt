@@ -63,14 +63,17 @@ routines_texts_grow (y ∷ xs) (suc j) x e =
 -- ---- one routine
 
 -- a routine's pieces, words and marks so far, after those of the routines before it
-pub record Drafted (c : Context) (r : ℕ) (routine : TacRoutine) (front : List Piece) (behind : List ℕ) (k : ℕ) (ps : List Piece) (ts : List ℕ) (ms : List Mark) : Type 0 where
+pub record Drafted (c : Context) (r : ℕ) (routine : TacRoutine) (front : List Piece) (behind : List ℕ) (k : ℕ)
+    (ps : List Piece) (ts : List ℕ) (ms : List Mark) : Type 0 where
   pub pieces : ps ≡ front ++ (entry_form c r routine ++ body_pieces c r 0 (take k routine.body))
   pub texts : ts ≡ behind ++ body_texts (take k routine.body)
   pub count : length ms ≡ k
   pub each : (j : ℕ) → j < k → (mark : Mark) × (slice_get ms j ≡ Some mark) × (mark.site ≡ site_place c r routine j)
       × (mark.text ≡ text_place c.code r routine j)
 
-module _ (c : Context) (r : ℕ) (routine : TacRoutine) (front : List Piece) (behind : List ℕ) (entry : length front ≡ entry_place c r) (first : length behind ≡ length (routines_texts (take r (routines c.code)))) where
+module _ (c : Context) (r : ℕ) (routine : TacRoutine) (front : List Piece) (behind : List ℕ)
+    (entry : length front ≡ entry_place c r)
+    (first : length behind ≡ length (routines_texts (take r (routines c.code)))) where
   abbrev So : ℕ → List Piece → List ℕ → List Mark → Type 0
   So = Drafted c r routine front behind
 

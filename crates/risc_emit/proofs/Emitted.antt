@@ -59,7 +59,9 @@ pub record IsWritten (code : Code) (homes : List Home) (image : Image) (site : �
   pub words : (heap stack at : ℕ) (p : Piece) → slice_get (program_pieces (laid_out code homes)) at ≡ Some p
       → IsAt image.code at (instr_at (context code homes (plan_of code site entry constant) image heap stack) at p)
 
-module _ (code : Code) (homes : List Home) (sound : IsSound code) (valid : Valid code homes) (image : Image) (site : ℕ → ℕ → ℕ) (entry : ℕ → ℕ) (constant : ℕ → ℕ → ℕ) (first : List ℕ) (w : IsWritten code homes image site entry constant first) where
+module _ (code : Code) (homes : List Home) (sound : IsSound code) (valid : Valid code homes) (image : Image)
+    (site : ℕ → ℕ → ℕ) (entry : ℕ → ℕ) (constant : ℕ → ℕ → ℕ) (first : List ℕ)
+    (w : IsWritten code homes image site entry constant first) where
   costs : (r : ℕ) → plan.frame_cost image r ≡ frame_cost code r
   costs =
       frames_charged (laid_out code homes) image w.tabled

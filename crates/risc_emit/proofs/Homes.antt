@@ -10,7 +10,8 @@ use Rattle.risc_alloc.specs.Valid.{Valid}
 use Rattle.risc_alloc.proofs.Whole.{before_more, before_within, homes_part}
 use Rattle.risc_emit.specs.Frames.{AreHomes}
 
-module _ (code : Code) (homes : List Home) (valid : Valid code homes) (r first : ℕ) (routine : TacRoutine) (begins : first ≡ temporaries_before (routines code) r) (is : slice_get (routines code) r ≡ Some routine) where
+module _ (code : Code) (homes : List Home) (valid : Valid code homes) (r first : ℕ) (routine : TacRoutine)
+    (begins : first ≡ temporaries_before (routines code) r) (is : slice_get (routines code) r ≡ Some routine) where
   pub homes_room : first + routine.temporaries ≤ length homes
   homes_room =
       let count = valid.count in

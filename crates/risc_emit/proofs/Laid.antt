@@ -140,7 +140,9 @@ module _ (code : Code) (homes : List Home) (sound : IsSound code) (valid : Valid
       go (inl e) = ap (λ b. cond b (used code r) 0 % 4) e ∙ used_whole r
       go (inr e) = ap (λ b. cond b (used code r) 0 % 4) e
 
-  module _ (image : Image) (site : ℕ → ℕ → ℕ) (entry : ℕ → ℕ) (constant : ℕ → ℕ → ℕ) (costs : (r : ℕ) → plan.frame_cost image r ≡ frame_cost code r) (sizes : (t : ℕ) → plan.object_cost image t ≡ object_cost_in (slice_get code.objects t)) where
+  module _ (image : Image) (site : ℕ → ℕ → ℕ) (entry : ℕ → ℕ) (constant : ℕ → ℕ → ℕ)
+      (costs : (r : ℕ) → plan.frame_cost image r ≡ frame_cost code r)
+      (sizes : (t : ℕ) → plan.object_cost image t ≡ object_cost_in (slice_get code.objects t)) where
     -- the context of the image has the layout
     pub alike_laid : (heap stack : ℕ) → Alike (laid_out code homes)
         (context code homes (plan_of code site entry constant) image heap stack)

@@ -50,7 +50,8 @@ get_meant (x ∷ ps) (suc i) p e = get_meant ps i p e
 
 -- ---- pieces are the same instructions by the marks and in the image
 
-module _ (c d : Context) (site : (r k : ℕ) → c.site r k ≡ d.site r k) (entry : (r : ℕ) → c.entry r ≡ d.entry r) (constant : (r k : ℕ) → c.constant r k ≡ d.constant r k) where
+module _ (c d : Context) (site : (r k : ℕ) → c.site r k ≡ d.site r k) (entry : (r : ℕ) → c.entry r ≡ d.entry r)
+    (constant : (r k : ℕ) → c.constant r k ≡ d.constant r k) where
   labels_same : (l : piece.Label) → piece.label_place c l ≡ piece.label_place d l
   labels_same (AtPlace r k) = site r k
   labels_same (AtEntry r) = entry r
@@ -96,7 +97,8 @@ pub record IsMade (code : Code) (homes : List Home) (marks : List Marks) (pieces
   pub traps : image.traps ≡ trap_rows_of 0 (all_meant pieces)
   pub calls : image.calls ≡ Some (call_rows_of 0 (all_meant pieces))
 
-module _ (code : Code) (homes : List Home) (sound : IsSound code) (valid : Valid code homes) (marks : List Marks) (pieces : List Piece) (words : List ℕ) (image : Image) (m : IsMade code homes marks pieces words image) where
+module _ (code : Code) (homes : List Home) (sound : IsSound code) (valid : Valid code homes) (marks : List Marks)
+    (pieces : List Piece) (words : List ℕ) (image : Image) (m : IsMade code homes marks pieces words image) where
   pieces_count : length pieces ≡ length (program_pieces (laid_out code homes))
   pieces_count = sym (length-map pieces meant) ∙ ap length m.meant
 

@@ -5,6 +5,7 @@ use Rattle.risc_alloc.specs.declared.homes.Home.{Home}
 use Rattle.risc_alloc.specs.declared.homes.Home.TheVariants.{Reg}
 use Rattle.risc_alloc.specs.Homes.{homes_of}
 use Rattle.risc_emit_relation.specs.Context.{Context}
+use Rattle.risc_emit.specs.declared.frame.TheConstants.{OFFSET_LIMIT}
 use Rattle.risc_emit.specs.declared.frame.Offsets.{Offsets}
 use Rattle.risc_emit.specs.Layout.{laid_out, link_at, slots_at, frame_at, scratch_at, frame_cost}
 
@@ -28,8 +29,8 @@ pub record AreOffsets (code : Code) (r : ℕ) (offsets : Offsets) : Type 0 where
   pub scratch : offsets.scratch ≡ scratch_at code r
   pub program : offsets.program ≡ frame_at code 0
   pub cost : offsets.cost ≡ frame_cost code r
-  pub small : (offsets.frame < 1099511627776) × (offsets.scratch < 1099511627776) × (offsets.program < 1099511627776)
-      × (offsets.cost < 1099511627776)
+  pub small : (offsets.frame < OFFSET_LIMIT) × (offsets.scratch < OFFSET_LIMIT) × (offsets.program < OFFSET_LIMIT)
+      × (offsets.cost < OFFSET_LIMIT)
 
 -- the homes of a routine's temporaries; registers are 0 to 11
 pub record AreHomes (code : Code) (homes : List Home) (r : ℕ) (own : List Home) : Type 0 where

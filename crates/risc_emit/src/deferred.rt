@@ -2,7 +2,7 @@
 
 mod rows;
 
-ghost use Rattle.std.specs.Prelude.{◌≡◌, ◌<◌, ◌≤◌, ◌≤ℤ◌, pos, negsuc, slice_get, get_or, true, Some, IfSome};
+ghost use Rattle.std.specs.Prelude.{◌≡◌, ◌<◌, ◌≤◌, ◌≤ℤ◌, neg_ℤ, pos, slice_get, get_or, true, Some, IfSome};
 ghost use Rattle.std.specs.Prelude.{ℕ, ℤ, false, Option, None};
 ghost use Rattle.tac_code.specs.declared.code.Instruction.{Instruction as Element};
 ghost use Rattle.risc_emit_relation.specs.Context.{Context, home};
@@ -13,15 +13,16 @@ ghost use Rattle.risc_emit_forms.specs.Peephole.{defer_load, row, row_deferred, 
 ghost use Rattle.risc_emit.specs.Frames.{context_of};
 
 use crate::deferred::rows::{both_short, row};
-use crate::frame::Frame;
+use crate::frame::{Frame, OFFSET_LIMIT};
 use crate::location::Location;
+use risc_machine::limits::ADDRESSES;
 use risc_word::Register;
-use tac_code::code::{Base, Instruction};
+use tac_code::code::{Base, Instruction, NUMBER_LIMIT};
 
 // The offset of a base's block from the register of its frame.
 fn block_at(frame: &Frame<'_>, base: Base) -> Option<u64>
     ensures is { result ≡ block_at (context_of frame.now) frame.now.number base }
-    ensures small { IfSome result (λ offset. offset < 1099511627776) }
+    ensures small { IfSome result (λ offset. offset < OFFSET_LIMIT) }
 {
     match base {
         Base::Frame => Some(frame.frame_at()),
@@ -39,7 +40,7 @@ fn fold_near(first: u32, last: u32, width: u32, offset: u64) -> Option<u64>
 {
     let taken = u64::from(first) * u64::from(width);
     let most = u64::from(last) * u64::from(width);
-    if taken <= offset && most < 2147483648 {
+    if taken <= offset && most < u64::from(NUMBER_LIMIT) {
         Some(offset - taken)
     } else {
         None
@@ -69,7 +70,7 @@ pub(crate) fn folded(
     error: u8,
 ) -> Option<u64>
     ensures is { result ≡ folded (context_of frame.now) frame.now.number base low high width error }
-    ensures small { IfSome result (λ offset. offset < 1099511627776) }
+    ensures small { IfSome result (λ offset. offset < OFFSET_LIMIT) }
 {
     match block_at(frame, base) {
         Some(offset) if error == 0 => fold_by(low, high, width, offset),
@@ -88,7 +89,7 @@ fn frame_offset(
 ) -> Option<u64>
     ensures is { result ≡ short_of (folded (context_of frame.now) frame.now.number base low high width error)
         (block_at (context_of frame.now) frame.now.number base) }
-    ensures small { IfSome result (λ offset. offset < 1099511627776) }
+    ensures small { IfSome result (λ offset. offset < OFFSET_LIMIT) }
 {
     match folded(frame, base, low, high, width, error) {
         Some(rest) => Some(rest),
@@ -100,12 +101,12 @@ fn frame_offset(
 // a product can be.
 fn back_near(first: u32, last: u32, width: u32) -> Option<i64>
     ensures is { result ≡ back_near first last width }
-    ensures least { IfSome result (λ offset. negsuc 16777215 ≤ℤ offset) }
+    ensures least { IfSome result (λ offset. neg_ℤ (pos ADDRESSES) ≤ℤ offset) }
     ensures most { IfSome result (λ offset. offset ≤ℤ pos 0) }
 {
     let ahead = u64::from(first) * u64::from(width);
     let highest = u64::from(last) * u64::from(width);
-    if ahead < 16777216 && highest < 2147483648 {
+    if ahead < u64::from(ADDRESSES) && highest < u64::from(NUMBER_LIMIT) {
         Some(-(ahead as i64))
     } else {
         None
@@ -114,7 +115,7 @@ fn back_near(first: u32, last: u32, width: u32) -> Option<i64>
 
 fn back_by(low: i32, high: i32, width: u32) -> Option<i64>
     ensures is { result ≡ back_by low high width }
-    ensures least { IfSome result (λ offset. negsuc 16777215 ≤ℤ offset) }
+    ensures least { IfSome result (λ offset. neg_ℤ (pos ADDRESSES) ≤ℤ offset) }
     ensures most { IfSome result (λ offset. offset ≤ℤ pos 0) }
 {
     if low < 0 {
@@ -128,7 +129,7 @@ fn back_by(low: i32, high: i32, width: u32) -> Option<i64>
 
 fn back(base: Base, low: i32, high: i32, width: u32, error: u8) -> Option<i64>
     ensures is { result ≡ back base low high width error }
-    ensures least { IfSome result (λ offset. negsuc 16777215 ≤ℤ offset) }
+    ensures least { IfSome result (λ offset. neg_ℤ (pos ADDRESSES) ≤ℤ offset) }
     ensures most { IfSome result (λ offset. offset ≤ℤ pos 0) }
 {
     match base {
@@ -147,8 +148,8 @@ fn offset_of(
     error: u8,
 ) -> Option<i64>
     ensures is { result ≡ offset_of (context_of frame.now) frame.now.number base low high width error }
-    ensures least { IfSome result (λ offset. negsuc 16777215 ≤ℤ offset) }
-    ensures most { IfSome result (λ offset. offset ≤ℤ pos 1099511627776) }
+    ensures least { IfSome result (λ offset. neg_ℤ (pos ADDRESSES) ≤ℤ offset) }
+    ensures most { IfSome result (λ offset. offset ≤ℤ pos OFFSET_LIMIT) }
 {
     match back(base, low, high, width, error) {
         Some(ahead) => Some(ahead),
@@ -161,8 +162,8 @@ fn offset_of(
 
 // A register is short of an offset, where a load `behind` bytes after it can include both.
 fn defer_near(register: Register, behind: u32, offset: i64) -> Option<(Register, i64)>
-    requires least { negsuc 2147483647 ≤ℤ offset }
-    requires most { offset ≤ℤ pos 1099511627776 }
+    requires least { neg_ℤ (pos NUMBER_LIMIT) ≤ℤ offset }
+    requires most { offset ≤ℤ pos OFFSET_LIMIT }
     ensures { result ≡ defer_near register behind offset }
 {
     let whole = offset + i64::from(behind);
@@ -178,8 +179,8 @@ fn defer_near(register: Register, behind: u32, offset: i64) -> Option<(Register,
 
 // The same for the register of a temporary.
 fn defer_in(frame: &Frame<'_>, to: u32, behind: u32, short: Option<i64>) -> Option<(Register, i64)>
-    requires least { IfSome short (λ offset. negsuc 2147483647 ≤ℤ offset) }
-    requires most { IfSome short (λ offset. offset ≤ℤ pos 1099511627776) }
+    requires least { IfSome short (λ offset. neg_ℤ (pos NUMBER_LIMIT) ≤ℤ offset) }
+    requires most { IfSome short (λ offset. offset ≤ℤ pos OFFSET_LIMIT) }
     ensures { result ≡ defer_in (home (context_of frame.now) frame.now.number to) behind short }
 {
     match frame.location(to) {
@@ -198,8 +199,8 @@ fn defer_by(
     short: Option<i64>,
     instruction: &Instruction,
 ) -> Option<(Register, i64)>
-    requires least { IfSome short (λ offset. negsuc 2147483647 ≤ℤ offset) }
-    requires most { IfSome short (λ offset. offset ≤ℤ pos 1099511627776) }
+    requires least { IfSome short (λ offset. neg_ℤ (pos NUMBER_LIMIT) ≤ℤ offset) }
+    requires most { IfSome short (λ offset. offset ≤ℤ pos OFFSET_LIMIT) }
     ensures { result ≡ defer_load (context_of frame.now) frame.now.number to short (Some instruction.now) }
 {
     match instruction {
@@ -226,8 +227,8 @@ fn defer_load(
     body: &[Instruction],
     place: usize,
 ) -> Option<(Register, i64)>
-    requires least { IfSome short (λ offset. negsuc 2147483647 ≤ℤ offset) }
-    requires most { IfSome short (λ offset. offset ≤ℤ pos 1099511627776) }
+    requires least { IfSome short (λ offset. neg_ℤ (pos NUMBER_LIMIT) ≤ℤ offset) }
+    requires most { IfSome short (λ offset. offset ≤ℤ pos OFFSET_LIMIT) }
     ensures { result ≡ defer_load (context_of frame.now) frame.now.number to short (slice_get body.now place) }
 {
     match body.get(place) {
@@ -257,8 +258,8 @@ fn row_deferred(
 ) -> Option<(Register, i64)>
     requires { marks.now ≡ jumped body.now }
     ensures is { result ≡ row_deferred (context_of frame.now) frame.now.number body.now place }
-    ensures least { IfSome result (λ deferred. negsuc 16777215 ≤ℤ deferred.1) }
-    ensures most { IfSome result (λ deferred. deferred.1 ≤ℤ pos 1099511627776) }
+    ensures least { IfSome result (λ deferred. neg_ℤ (pos ADDRESSES) ≤ℤ deferred.1) }
+    ensures most { IfSome result (λ deferred. deferred.1 ≤ℤ pos OFFSET_LIMIT) }
 {
     if place == 0 || marks.len() <= place || marks[place] {
         return None;
@@ -283,11 +284,11 @@ fn start(
     width: u32,
     error: u8,
 ) -> Option<i64>
-    requires least { IfSome before (λ deferred. negsuc 16777215 ≤ℤ deferred.1) }
-    requires most { IfSome before (λ deferred. deferred.1 ≤ℤ pos 1099511627776) }
+    requires least { IfSome before (λ deferred. neg_ℤ (pos ADDRESSES) ≤ℤ deferred.1) }
+    requires most { IfSome before (λ deferred. deferred.1 ≤ℤ pos OFFSET_LIMIT) }
     ensures is { result ≡ start (context_of frame.now) frame.now.number before base low high width error }
-    ensures least { IfSome result (λ offset. negsuc 2147483647 ≤ℤ offset) }
-    ensures most { IfSome result (λ offset. offset ≤ℤ pos 1099511627776) }
+    ensures least { IfSome result (λ offset. neg_ℤ (pos NUMBER_LIMIT) ≤ℤ offset) }
+    ensures most { IfSome result (λ offset. offset ≤ℤ pos OFFSET_LIMIT) }
 {
     match before {
         Some((_, offset)) => both_short(offset, back(base, low, high, width, error)),
@@ -302,8 +303,8 @@ fn defer(
     body: &[Instruction],
     place: usize,
 ) -> Option<(Register, i64)>
-    requires least { IfSome before (λ deferred. negsuc 16777215 ≤ℤ deferred.1) }
-    requires most { IfSome before (λ deferred. deferred.1 ≤ℤ pos 1099511627776) }
+    requires least { IfSome before (λ deferred. neg_ℤ (pos ADDRESSES) ≤ℤ deferred.1) }
+    requires most { IfSome before (λ deferred. deferred.1 ≤ℤ pos OFFSET_LIMIT) }
     ensures { result ≡ defer (context_of frame.now) frame.now.number before (Some instruction.now)
         (slice_get body.now place) }
 {

@@ -12,7 +12,7 @@ ghost use Rattle.risc_emit_laws.specs.Emits.{start_form};
 ghost use Rattle.risc_emit.specs.Frames.{context_of};
 
 use crate::calls::{CARRIED, LIMIT_AT, NEXT_AT};
-use crate::frame::Frame;
+use crate::frame::{Frame, OFFSET_LIMIT};
 use crate::location::Location;
 use crate::numbers::{put_constant, put_load, put_store};
 use crate::operands::{save, target};
@@ -84,7 +84,7 @@ fn put_spill(
     behind: u64,
     j: u32,
 ) -> Result<(), OutOfMemory>
-    requires { behind < 1099511627776 }
+    requires { behind < OFFSET_LIMIT }
     ensures { OnOk result (pieces.new ≡ pieces.old ++ form.spill_one
         (context_of frame.now) frame.now.number carried behind j (home (context_of frame.now) frame.now.number j)) }
 {
@@ -108,7 +108,7 @@ fn put_spills(
     behind: u64,
     count: u32,
 ) -> Result<(), OutOfMemory>
-    requires { behind < 1099511627776 }
+    requires { behind < OFFSET_LIMIT }
     ensures { OnOk result (pieces.new ≡ pieces.old ++ form.spill (context_of frame.now) frame.now.number
         (form.carried count) behind 0 count) }
 {
@@ -126,7 +126,7 @@ fn put_parameter(
     behind: u64,
     j: u32,
 ) -> Result<(), OutOfMemory>
-    requires { behind < 1099511627776 }
+    requires { behind < OFFSET_LIMIT }
     ensures { OnOk result (pieces.new ≡ pieces.old ++ form.parameter
         (context_of frame.now) frame.now.number carried behind j (home (context_of frame.now) frame.now.number j)) }
 {
@@ -148,7 +148,7 @@ fn put_parameters(
     behind: u64,
     count: u32,
 ) -> Result<(), OutOfMemory>
-    requires { behind < 1099511627776 }
+    requires { behind < OFFSET_LIMIT }
     ensures { OnOk result (pieces.new ≡ pieces.old ++ form.parameters (context_of frame.now) frame.now.number
         (form.carried count) behind 0 count) }
 {
@@ -165,7 +165,7 @@ fn put_arrival(
     behind: u64,
     count: u32,
 ) -> Result<(), OutOfMemory>
-    requires { behind < 1099511627776 }
+    requires { behind < OFFSET_LIMIT }
     ensures { OnOk result (pieces.new ≡ pieces.old ++ form.arrive (context_of frame.now) frame.now.number behind count) }
 {
     put_spills(frame, pieces, behind, count)?;

@@ -8,6 +8,9 @@ use std::marker::Model;
 use tac_code::code::TacRoutine;
 use tac_code::tac::Tac;
 
+/// Offsets in a frame are below it, and so is what an activation is charged for, so that sums of them fit.
+pub(crate) const OFFSET_LIMIT: u64 = 1_099_511_627_776;
+
 /// Offsets in the frame of a routine, in bytes: of its link, its slots, its frame block and its scratch block; of the
 /// frame block of the program block in its own frame; and what an activation is charged for.
 #[derive(Clone, Copy)]
@@ -134,14 +137,14 @@ impl Frame<'_> {
 
     pub(crate) fn frame_at(&self) -> u64
         ensures offset { result ≡ (context_of self.now).frame_at self.now.number }
-        ensures small { result < 1099511627776 }
+        ensures small { result < OFFSET_LIMIT }
     {
         self.offsets.frame
     }
 
     pub(crate) fn scratch_at(&self) -> u64
         ensures offset { result ≡ (context_of self.now).scratch_at self.now.number }
-        ensures small { result < 1099511627776 }
+        ensures small { result < OFFSET_LIMIT }
     {
         self.offsets.scratch
     }
@@ -149,7 +152,7 @@ impl Frame<'_> {
     /// The offset of the program block's frame block in its own frame.
     pub(crate) fn program_at(&self) -> u64
         ensures offset { result ≡ (context_of self.now).frame_at 0 }
-        ensures small { result < 1099511627776 }
+        ensures small { result < OFFSET_LIMIT }
     {
         self.offsets.program
     }
@@ -165,7 +168,7 @@ impl Frame<'_> {
     /// The bytes of an activation.
     pub(crate) fn cost(&self) -> u64
         ensures offset { result ≡ (context_of self.now).costs self.now.number }
-        ensures small { result < 1099511627776 }
+        ensures small { result < OFFSET_LIMIT }
     {
         self.offsets.cost
     }

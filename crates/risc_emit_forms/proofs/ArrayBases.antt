@@ -34,7 +34,8 @@ use Rattle.risc_emit_forms.proofs.Comes.{framed}
 use Rattle.risc_emit_forms.proofs.Bases.{innermost, ReadsBase}
 use Rattle.risc_emit_forms.proofs.Scales.{word_is}
 
-module _ (c : Context) (words : List ℕ) (b : Built c words) (p : Places) (s : State) (f : ℕ) (m : machine.State) (v : View) (sh : Shows words c.size m v) (be : Belongs c words p s v f) where
+module _ (c : Context) (words : List ℕ) (b : Built c words) (p : Places) (s : State) (f : ℕ) (m : machine.State)
+    (v : View) (sh : Shows words c.size m v) (be : Belongs c words p s v f) where
   -- ---- the address of a base
 
   pub record Addressed (a : Base) (block : Block) (offset : ℕ) (ps : List Piece) (next : ℕ) (m1 : machine.State)

@@ -46,7 +46,8 @@ innermost c p w f y [] (b ∷ bs) (d ∷ ds) h =
 innermost c p w f y (x ∷ xs) (b ∷ bs) (d ∷ ds) h =
     record { frame = h.0.frame_place; scratch = h.0.scratch_place; named = h.0.named }
 
-module _ (c : Context) (words : List ℕ) (b : Built c words) (p : Places) (s : State) (f : ℕ) (m : machine.State) (v : View) (sh : Shows words c.size m v) (be : Belongs c words p s v f) where
+module _ (c : Context) (words : List ℕ) (b : Built c words) (p : Places) (s : State) (f : ℕ) (m : machine.State)
+    (v : View) (sh : Shows words c.size m v) (be : Belongs c words p s v f) where
   -- ---- bases
 
   abbrev pub ReadsBase : Base → Type 0

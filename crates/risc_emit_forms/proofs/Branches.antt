@@ -81,7 +81,8 @@ both_there relation (Some (Address b o)) None h e = absurd (no_right relation (p
 both_there relation (Some (Routine r)) None h e = absurd (no_right relation None h e)
 both_there relation (Some x) (Some y) h e = record { first = x; second = y; is = refl; is_second = refl }
 
-module _ (c : Context) (words : List ℕ) (b : Built c words) (p : Places) (s : State) (f : ℕ) (m : machine.State) (v : View) (sh : Shows words c.size m v) (be : Belongs c words p s v f) where
+module _ (c : Context) (words : List ℕ) (b : Built c words) (p : Places) (s : State) (f : ℕ) (m : machine.State)
+    (v : View) (sh : Shows words c.size m v) (be : Belongs c words p s v f) where
   pub right_sound : (temporaries : ℕ) (o : Operand) → IsOperand temporaries o
       → IsRight c words b.stood b.laid b.placed s.current.routine f (framed c words b p s (machine_of v) f be.related) o
   right_sound n (operand.Temporary t) h = tt

@@ -117,7 +117,9 @@ module _ (c : Context) (words : List ℕ) (b : Built c words) where
   follows_to s m v a (Over e) (inl x) = inl x
   follows_to s m v a (Over e) (inr x) = inr (stop_to c words b s m e v a x)
 
-module _ (c : Context) (words : List ℕ) (b : Built c words) (p : Places) (S H : ℕ) (budget : S + c.base ≡ c.size) (s : State) (f : ℕ) (m : machine.State) (v : View) (sh : Shows words c.size m v) (be : Belongs c words p s v f) where
+module _ (c : Context) (words : List ℕ) (b : Built c words) (p : Places) (S H : ℕ) (budget : S + c.base ≡ c.size)
+    (s : State) (f : ℕ) (m : machine.State) (v : View) (sh : Shows words c.size m v)
+    (be : Belongs c words p s v f) where
   top : f + c.used s.current.routine ≤ c.size
   top = open_room c b.laid p v.words f (owner_of s.current) s.callers s.memory.frames s.memory.scratch
       be.related.held.frames

@@ -24,10 +24,15 @@ use Rattle.risc_emit_forms.proofs.Basics.{left_after}
 use Rattle.risc_emit_forms.proofs.Runs.{Framed, step_to}
 use Rattle.risc_emit_forms.proofs.Results.{into_run}
 
-module _ (c : Context) (words : List ℕ) (b : Built c words) (p : Places) (r f : ℕ) (framed : Framed c words r f) (prog : is_program c r ≡ true) (al : f % 4 ≡ 0) (low : c.base ≤ f) (top : f + c.used r ≤ c.size) where
+module _ (c : Context) (words : List ℕ) (b : Built c words) (p : Places) (r f : ℕ) (framed : Framed c words r f)
+    (prog : is_program c r ≡ true) (al : f % 4 ≡ 0) (low : c.base ≤ f) (top : f + c.used r ≤ c.size) where
   -- ---- operands that are carried in registers
 
-  module _ (n : ℕ) (few : n ≤ 8) (us : List ℕ) (vs : List Value) (v0 : View) (stored : (j : ℕ) (x : Value) → j < n → slice_get vs j ≡ Some x → is_taken n j (home c r (slice_index us j)) ≡ true → v0.words (f + 8 + 4 * j) ≡ ctx.word c p x) (hv : (j : ℕ) (x : Value) → j < n → slice_get vs j ≡ Some x → value_of c r f (machine_of v0) (home c r (slice_index us j)) ≡ ctx.word c p x) where
+  module _ (n : ℕ) (few : n ≤ 8) (us : List ℕ) (vs : List Value) (v0 : View)
+      (stored : (j : ℕ) (x : Value) → j < n → slice_get vs j ≡ Some x → is_taken n j (home c r (slice_index us j))
+      ≡ true → v0.words (f + 8 + 4 * j) ≡ ctx.word c p x)
+      (hv : (j : ℕ) (x : Value) → j < n → slice_get vs j ≡ Some x
+      → value_of c r f (machine_of v0) (home c r (slice_index us j)) ≡ ctx.word c p x) where
     -- the words are as before, and so are the registers that have no operand of those from number j on
     record Kept (j : ℕ) (v : View) : Type 0 where
       memory : (a : ℕ) → v.words a ≡ v0.words a

@@ -35,7 +35,8 @@ use Rattle.risc_emit_forms.proofs.Compares.{pointer_word, points, object_high}
 use Rattle.risc_emit_forms.proofs.Calls.{follows_way, follows_to}
 use Rattle.risc_emit_forms.proofs.Ranges.{Checked, range_run}
 
-module _ (c : Context) (words : List ℕ) (b : Built c words) (p : Places) (s : State) (f : ℕ) (m : machine.State) (v : View) (sh : Shows words c.size m v) (be : Belongs c words p s v f) where
+module _ (c : Context) (words : List ℕ) (b : Built c words) (p : Places) (s : State) (f : ℕ) (m : machine.State)
+    (v : View) (sh : Shows words c.size m v) (be : Belongs c words p s v f) where
   -- the run goes on where a check was passed
   goes_behind : (a : ℕ) (low x : ℤ) (error line : ℕ) (inside : Bool) (v1 : View) (n : machine.State) → Near
       (machine_of v) (machine_of v1) → Passes c s.current.routine s.current.place (suc s.current.place)

@@ -46,7 +46,8 @@ use Rattle.risc_emit_forms.proofs.Folds.{Folded, Natural, folded_is, framed_base
 use Rattle.risc_emit_forms.proofs.Folds.{natural_between, spread, times_le}
 use Rattle.risc_emit_forms.proofs.ArrayBases.{address_run, short_base, sum_run}
 
-module _ (c : Context) (words : List ℕ) (b : Built c words) (p : Places) (s : State) (f : ℕ) (m : machine.State) (v : View) (sh : Shows words c.size m v) (be : Belongs c words p s v f) where
+module _ (c : Context) (words : List ℕ) (b : Built c words) (p : Places) (s : State) (f : ℕ) (m : machine.State)
+    (v : View) (sh : Shows words c.size m v) (be : Belongs c words p s v f) where
   -- ---- by the distance from the lowest index
 
   pub steps_follow : (t : ℕ) (a : Base) (i : ℕ) (low high : ℤ) (width error line : ℕ) (block : Block) (offset : ℕ)

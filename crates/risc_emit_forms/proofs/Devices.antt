@@ -35,7 +35,8 @@ use Rattle.risc_emit_forms.proofs.Joins.{come_to, come_way, stop_to, Arrives}
 use Rattle.risc_emit_forms.proofs.Comes.{test_walked}
 use Rattle.risc_emit_forms.proofs.Operands.{code, one_run}
 
-module _ (c : Context) (words : List ℕ) (b : Built c words) (p : Places) (s : State) (f : ℕ) (m : machine.State) (v : View) (sh : Shows words c.size m v) (be : Belongs c words p s v f) where
+module _ (c : Context) (words : List ℕ) (b : Built c words) (p : Places) (s : State) (f : ℕ) (m : machine.State)
+    (v : View) (sh : Shows words c.size m v) (be : Belongs c words p s v f) where
   pub trap_follows : (number line : ℕ) → fetch c.code s.current.routine s.current.place ≡ Some (Trap number line)
       → Follows c words (Over (test_failing c s number line)) s m
   trap_follows number line here =

@@ -44,7 +44,8 @@ integer_of (negsuc n) is = is_lt _ _ (omega (arith, ints, is))
     is_lt : (x y : ℕ) → x < y → nat_lt x y ≡ true
     is_lt x y h = grind arith
 
-module _ (c : Context) (words : List ℕ) (b : Built c words) (p : Places) (s : State) (f : ℕ) (m : machine.State) (v : View) (sh : Shows words c.size m v) (be : Belongs c words p s v f) where
+module _ (c : Context) (words : List ℕ) (b : Built c words) (p : Places) (s : State) (f : ℕ) (m : machine.State)
+    (v : View) (sh : Shows words c.size m v) (be : Belongs c words p s v f) where
   -- a quotient in register d
   pub record MadeIn (d : ℕ) (z : ℤ) (ps : List Piece) (next : ℕ) (n : machine.State) : Type 0 where
     pub view : View

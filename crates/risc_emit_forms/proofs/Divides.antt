@@ -48,7 +48,8 @@ no_zero n ne = grind arith
 not_below : (k : ℕ) → nat_lt k 0 ≡ false
 not_below k = grind arith
 
-module _ (c : Context) (words : List ℕ) (b : Built c words) (p : Places) (s : State) (f : ℕ) (m : machine.State) (v : View) (sh : Shows words c.size m v) (be : Belongs c words p s v f) where
+module _ (c : Context) (words : List ℕ) (b : Built c words) (p : Places) (s : State) (f : ℕ) (m : machine.State)
+    (v : View) (sh : Shows words c.size m v) (be : Belongs c words p s v f) where
   -- ---- an immediate divisor
 
   pub immediate_follows : (t a : ℕ) (o : Operand) (error line : ℕ) (x y : ℤ)

@@ -65,7 +65,8 @@ above_zero y e = grind (arith, ints)
 plain_divisor : (y : ℤ) → pos 0 <ℤ y → int_lt (pos 0) y ≡ true
 plain_divisor y h = grind (arith, ints)
 
-module _ (c : Context) (words : List ℕ) (b : Built c words) (p : Places) (s : State) (f : ℕ) (m : machine.State) (v : View) (sh : Shows words c.size m v) (be : Belongs c words p s v f) where
+module _ (c : Context) (words : List ℕ) (b : Built c words) (p : Places) (s : State) (f : ℕ) (m : machine.State)
+    (v : View) (sh : Shows words c.size m v) (be : Belongs c words p s v f) where
   -- ---- the divisor in R15
 
   pub record Divides (o : Operand) (y : ℤ) (ps : List Piece) (next : ℕ) : Type 0 where

@@ -65,7 +65,10 @@ pub record Calling (c : Context) (p : Places) (s : State) (f q t line l : ℕ) (
   pub stored : (j : ℕ) (x : Value) → 8 ≤ j → slice_get vs j ≡ Some x → w.words (f + 8 + 4 * j) ≡ ctx.word c p x
   pub place : w.place ≡ c.entry q
 
-module _ (c : Context) (words : List ℕ) (b : Built c words) (p : Places) (S H : ℕ) (budget : S + c.base ≡ c.size) (s : State) (f : ℕ) (m : machine.State) (v : View) (sh : Shows words c.size m v) (be : Belongs c words p s v f) (q t line l : ℕ) (routine : TacRoutine) (vs : List Value) (n : machine.State) (w : View) (shows : Shows words c.size n w) (k : Calling c p s f q t line l routine vs v w) where
+module _ (c : Context) (words : List ℕ) (b : Built c words) (p : Places) (S H : ℕ) (budget : S + c.base ≡ c.size)
+    (s : State) (f : ℕ) (m : machine.State) (v : View) (sh : Shows words c.size m v) (be : Belongs c words p s v f)
+    (q t line l : ℕ) (routine : TacRoutine) (vs : List Value) (n : machine.State) (w : View)
+    (shows : Shows words c.size n w) (k : Calling c p s f q t line l routine vs v w) where
   entry_left : Left c words w.place (entry_form c q routine) (c.site q 0)
   entry_left = left_at c words (c.entry q) w.place _ (entry_form c q routine) (b.stood.entry q routine k.is) k.place
 

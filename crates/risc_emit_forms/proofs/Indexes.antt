@@ -18,7 +18,8 @@ use Rattle.risc_emit_forms.proofs.Operands.{code}
 use Rattle.risc_emit_forms.proofs.Components.{fold_follows, steps_follow}
 use Rattle.risc_emit_forms.proofs.Rows.{back_follows}
 
-module _ (c : Context) (words : List ℕ) (b : Built c words) (p : Places) (s : State) (f : ℕ) (m : machine.State) (v : View) (sh : Shows words c.size m v) (be : Belongs c words p s v f) where
+module _ (c : Context) (words : List ℕ) (b : Built c words) (p : Places) (s : State) (f : ℕ) (m : machine.State)
+    (v : View) (sh : Shows words c.size m v) (be : Belongs c words p s v f) where
   -- ---- the instruction
 
   pub index_follows : (t : ℕ) (a : Base) (i : ℕ) (low high : ℤ) (width error line : ℕ) (block : Block) (offset : ℕ)

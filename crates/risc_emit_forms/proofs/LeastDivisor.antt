@@ -31,7 +31,8 @@ use Rattle.risc_emit_forms.proofs.Operands.{stands_in}
 use Rattle.risc_emit_forms.proofs.Compares.{differs}
 use Rattle.risc_emit_forms.proofs.DivideRuns.{Made}
 
-module _ (c : Context) (words : List ℕ) (b : Built c words) (p : Places) (s : State) (f : ℕ) (m : machine.State) (v : View) (sh : Shows words c.size m v) (be : Belongs c words p s v f) where
+module _ (c : Context) (words : List ℕ) (b : Built c words) (p : Places) (s : State) (f : ℕ) (m : machine.State)
+    (v : View) (sh : Shows words c.size m v) (be : Belongs c words p s v f) where
   -- ---- by the least integer
 
   pub least_quotient : (x : ℤ) → IsNumber x → int_div x (negsuc 2147483647) ≡ pos

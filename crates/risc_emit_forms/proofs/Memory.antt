@@ -96,7 +96,8 @@ constants_stand c words stood p m v sh r k ws e =
 read_back : (n : ℕ) → n < 4294967296 → word_of (number_of n) ≡ n
 read_back n lt = of_z-to_z w32 n lt
 
-module _ (c : Context) (words : List ℕ) (b : Built c words) (p : Places) (s : State) (f : ℕ) (m : machine.State) (v : View) (sh : Shows words c.size m v) (be : Belongs c words p s v f) where
+module _ (c : Context) (words : List ℕ) (b : Built c words) (p : Places) (s : State) (f : ℕ) (m : machine.State)
+    (v : View) (sh : Shows words c.size m v) (be : Belongs c words p s v f) where
   -- ---- words
 
   pub load_follows : (t : ℕ) (a : Base) (n : ℕ) (block : Block) (offset : ℕ) (x : Value)
@@ -388,7 +389,8 @@ reached_on x (negsuc k) n y narrow near low e = by (negsuc k +ℤ pos n) refl
         let least : j < 524288 = omega (arith, ints, few) in
         omega (arith, e, sum, narrow, low, least)
 
-module _ (c : Context) (words : List ℕ) (b : Built c words) (p : Places) (s : State) (f : ℕ) (m : machine.State) (v : View) (sh : Shows words c.size m v) (me : Meets c words p s v f) where
+module _ (c : Context) (words : List ℕ) (b : Built c words) (p : Places) (s : State) (f : ℕ) (m : machine.State)
+    (v : View) (sh : Shows words c.size m v) (me : Meets c words p s v f) where
   pub deferred_load_follows : (deferred : ℕ × ℤ) (t n : ℕ) (block : Block) (offset : ℕ) (x : Value)
       → deferred_at c s.current.routine s.current.place ≡ Some deferred → home c s.current.routine t ≡ Reg deferred.0
       → IsLoad deferred.1 n → fetch c.code s.current.routine s.current.place ≡ Some (Load t (base.Temporary t) n)

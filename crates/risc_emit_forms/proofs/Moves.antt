@@ -38,7 +38,8 @@ use Rattle.risc_emit_forms.proofs.Comes.{framed, goes_run, goes_end}
 use Rattle.risc_emit_forms.proofs.Comes.{gives_end, settles_end}
 use Rattle.risc_emit_forms.proofs.Operands.{code, one_run, brought_run}
 
-module _ (c : Context) (words : List ℕ) (b : Built c words) (p : Places) (s : State) (f : ℕ) (m : machine.State) (v : View) (sh : Shows words c.size m v) (be : Belongs c words p s v f) where
+module _ (c : Context) (words : List ℕ) (b : Built c words) (p : Places) (s : State) (f : ℕ) (m : machine.State)
+    (v : View) (sh : Shows words c.size m v) (be : Belongs c words p s v f) where
   -- a register that took a word is all that changed
   pub moved_aside : (d n : ℕ) (w : View) → Moved d v w → w.registers d ≡ n → Aside d n (machine_of v) w
   moved_aside d n w k e = record { here = e; registers = λ q n12 n15 nd. k.registers q nd; words = k.words }

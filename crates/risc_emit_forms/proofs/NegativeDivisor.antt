@@ -40,7 +40,8 @@ use Rattle.risc_emit_forms.proofs.Calls.{follows_to}
 use Rattle.risc_emit_forms.proofs.DivideRuns.{Made, fetch_short, least_length, made_end, quotient_length, quotient_run}
 use Rattle.risc_emit_forms.proofs.LeastDivisor.{least_quotient, least_run}
 
-module _ (c : Context) (words : List ℕ) (b : Built c words) (p : Places) (s : State) (f : ℕ) (m : machine.State) (v : View) (sh : Shows words c.size m v) (be : Belongs c words p s v f) where
+module _ (c : Context) (words : List ℕ) (b : Built c words) (p : Places) (s : State) (f : ℕ) (m : machine.State)
+    (v : View) (sh : Shows words c.size m v) (be : Belongs c words p s v f) where
   -- ---- by a divisor below 0
 
   -- numbers negated

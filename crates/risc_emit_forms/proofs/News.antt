@@ -36,7 +36,9 @@ use Rattle.risc_emit_forms.proofs.Comes.{walk_near}
 use Rattle.risc_emit_forms.proofs.Operands.{code}
 use Rattle.risc_emit_forms.proofs.Calls.{follows_to}
 
-module _ (c : Context) (words : List ℕ) (b : Built c words) (p : Places) (S H : ℕ) (room : H + c.heap_at ≡ c.base) (s : State) (f : ℕ) (m : machine.State) (v : View) (sh : Shows words c.size m v) (be : Belongs c words p s v f) where
+module _ (c : Context) (words : List ℕ) (b : Built c words) (p : Places) (S H : ℕ) (room : H + c.heap_at ≡ c.base)
+    (s : State) (f : ℕ) (m : machine.State) (v : View) (sh : Shows words c.size m v)
+    (be : Belongs c words p s v f) where
   -- a count of bytes into R12
   bytes_run : (n : ℕ) (ps : List Piece) (next : ℕ) (n0 : machine.State) (w : View) → Shows words c.size n0 w
       → n < 4294967296 → Left c words w.place (number 12 (pos n) ++ ps) next → Gets c words b.stood 12 n

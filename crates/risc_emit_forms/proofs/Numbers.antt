@@ -69,7 +69,8 @@ not_not false = refl
 pub number_of_integer : (z : ℤ) → is_integer z ≡ true → IsNumber z
 number_of_integer z e = is_number z (overflow_is z ∙ ap not e)
 
-module _ (c : Context) (words : List ℕ) (b : Built c words) (p : Places) (s : State) (f : ℕ) (m : machine.State) (v : View) (sh : Shows words c.size m v) (be : Belongs c words p s v f) where
+module _ (c : Context) (words : List ℕ) (b : Built c words) (p : Places) (s : State) (f : ℕ) (m : machine.State)
+    (v : View) (sh : Shows words c.size m v) (be : Belongs c words p s v f) where
   -- two operands read, as the pieces of an instruction have them
   pub record Fetched (a : ℕ) (o : Operand) (x y : ℤ) (ps : List Piece) (next : ℕ) : Type 0 where
     pub view : View

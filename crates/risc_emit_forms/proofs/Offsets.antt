@@ -28,7 +28,8 @@ use Rattle.risc_emit_forms.proofs.Comes.{gives_end}
 use Rattle.risc_emit_forms.proofs.Operands.{code}
 use Rattle.risc_emit_forms.proofs.Bases.{base_run}
 
-module _ (c : Context) (words : List ℕ) (b : Built c words) (p : Places) (s : State) (f : ℕ) (m : machine.State) (v : View) (sh : Shows words c.size m v) (be : Belongs c words p s v f) where
+module _ (c : Context) (words : List ℕ) (b : Built c words) (p : Places) (s : State) (f : ℕ) (m : machine.State)
+    (v : View) (sh : Shows words c.size m v) (be : Belongs c words p s v f) where
   -- ---- addresses
 
   pub named_low : (block : Block) → place c p block < 16777216

@@ -27,7 +27,8 @@ use Rattle.risc_emit_forms.proofs.Fetches.{right_word, fetch_run, fetched_not, v
 use Rattle.risc_emit_forms.proofs.Fetches.{right_run}
 use Rattle.risc_emit_forms.proofs.Comes.{framed}
 
-module _ (c : Context) (words : List ℕ) (b : Built c words) (p : Places) (s : State) (f : ℕ) (m : machine.State) (v : View) (sh : Shows words c.size m v) (be : Belongs c words p s v f) where
+module _ (c : Context) (words : List ℕ) (b : Built c words) (p : Places) (s : State) (f : ℕ) (m : machine.State)
+    (v : View) (sh : Shows words c.size m v) (be : Belongs c words p s v f) where
   -- the pieces of the instruction at the place
   pub code : (i : Instruction) → fetch c.code s.current.routine s.current.place ≡ Some i → Left c words v.place
       (form.form c s.current.routine s.current.place i) (c.site s.current.routine (suc s.current.place))

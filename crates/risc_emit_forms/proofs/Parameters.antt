@@ -27,7 +27,9 @@ use Rattle.risc_emit_forms.proofs.Fetches.{target_not}
 use Rattle.risc_emit_forms.proofs.Passing.{append_nil}
 use Rattle.risc_emit_forms.proofs.Spills.{Offered, low_is, spill_run}
 
-module _ (c : Context) (words : List ℕ) (b : Built c words) (p : Places) (q g n o : ℕ) (framed : Framed c words q g) (routine : TacRoutine) (is_routine : slice_get (routines c.code) q ≡ Some routine) (vs : List Value) (at : g + n + 8 ≡ o) where
+module _ (c : Context) (words : List ℕ) (b : Built c words) (p : Places) (q g n o : ℕ) (framed : Framed c words q g)
+    (routine : TacRoutine) (is_routine : slice_get (routines c.code) q ≡ Some routine) (vs : List Value)
+    (at : g + n + 8 ≡ o) where
   -- this many come in registers
   abbrev few : ℕ
   few = carried routine.parameters

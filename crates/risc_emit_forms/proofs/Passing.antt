@@ -53,7 +53,8 @@ value_of_operand ts (u ∷ us) vs (suc j) x e is =
     let b = and_more_some (ts u) (values_of ts us) vs e in
     value_of_operand ts us b.1 j x b.3 (subst (λ l. slice_get l (suc j) ≡ Some x) b.4 is)
 
-module _ (c : Context) (words : List ℕ) (b : Built c words) (p : Places) (r f : ℕ) (framed : Framed c words r f) (prog : is_program c r ≡ true) (al : f % 4 ≡ 0) (low : c.base ≤ f) (top : f + c.used r ≤ c.size) where
+module _ (c : Context) (words : List ℕ) (b : Built c words) (p : Places) (r f : ℕ) (framed : Framed c words r f)
+    (prog : is_program c r ≡ true) (al : f % 4 ≡ 0) (low : c.base ≤ f) (top : f + c.used r ≤ c.size) where
   pub home_on : (v v2 : View) (t : ℕ) → ((a : ℕ) → f + 276 ≤ a → v2.words a ≡ v.words a)
       → ((z : ℕ) → z ≢ 12 → v2.registers z ≡ v.registers z) → value_of c r f (machine_of v2) (home c r t)
       ≡ value_of c r f (machine_of v) (home c r t)

@@ -86,7 +86,8 @@ large n e = grind arith
 small : (n : ℕ) → nat_le 2147483648 n ≡ false → n < 2147483648
 small n e = grind arith
 
-module _ (c : Context) (words : List ℕ) (b : Built c words) (p : Places) (s : State) (f : ℕ) (m : machine.State) (v : View) (sh : Shows words c.size m v) (be : Belongs c words p s v f) where
+module _ (c : Context) (words : List ℕ) (b : Built c words) (p : Places) (s : State) (f : ℕ) (m : machine.State)
+    (v : View) (sh : Shows words c.size m v) (be : Belongs c words p s v f) where
   -- ---- products
 
   -- a product in its register, and whether it is too long

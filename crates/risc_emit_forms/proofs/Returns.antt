@@ -80,7 +80,9 @@ module _ (c : Context) (words : List ℕ) (b : Built c words) where
   link_place : (j : ℕ) → j < 4194304 → 4 * j % 16777216 / 4 ≡ j
   link_place j lt = omega arith
 
-module _ (c : Context) (words : List ℕ) (b : Built c words) (p : Places) (s : State) (f : ℕ) (m : machine.State) (v : View) (sh : Shows words c.size m v) (be : Belongs c words p s v f) (x : Activation) (xs : List Activation) (called : s.callers ≡ x ∷ xs) where
+module _ (c : Context) (words : List ℕ) (b : Built c words) (p : Places) (s : State) (f : ℕ) (m : machine.State)
+    (v : View) (sh : Shows words c.size m v) (be : Belongs c words p s v f) (x : Activation) (xs : List Activation)
+    (called : s.callers ≡ x ∷ xs) where
   opened : Open c p v.words f (owner_of s.current) (x ∷ xs) s.memory.frames s.memory.scratch
   opened = subst (λ l. Open c p v.words f (owner_of s.current) l s.memory.frames s.memory.scratch) called
       be.related.held.frames

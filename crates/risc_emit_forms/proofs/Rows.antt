@@ -45,7 +45,8 @@ use Rattle.risc_emit_forms.proofs.Scales.{scaled_not, scaled_run, word_is}
 use Rattle.risc_emit_forms.proofs.Folds.{Backed, Natural, backed_is, natural_between, reached_back, spread, times_le}
 use Rattle.risc_emit_forms.proofs.ArrayBases.{address_run}
 
-module _ (c : Context) (words : List ℕ) (b : Built c words) (p : Places) (s : State) (f : ℕ) (m : machine.State) (v : View) (sh : Shows words c.size m v) (be : Belongs c words p s v f) where
+module _ (c : Context) (words : List ℕ) (b : Built c words) (p : Places) (s : State) (f : ℕ) (m : machine.State)
+    (v : View) (sh : Shows words c.size m v) (be : Belongs c words p s v f) where
   -- ---- ahead of an address in a temporary
 
   pub back_follows : (t u i : ℕ) (low high : ℤ) (width error line : ℕ) (block : Block) (offset : ℕ) (x : ℤ)
@@ -186,7 +187,8 @@ reached_row x z d e y (negsuc a) n narrow least is low en few ez = by (negsuc a 
         let sum : j ≡ a + d = omega (arith, ints, ew, en) in
         omega (arith, back_of, close, low, few, ez, sum)
 
-module _ (c : Context) (words : List ℕ) (b : Built c words) (p : Places) (s : State) (f : ℕ) (m : machine.State) (v : View) (sh : Shows words c.size m v) (me : Meets c words p s v f) where
+module _ (c : Context) (words : List ℕ) (b : Built c words) (p : Places) (s : State) (f : ℕ) (m : machine.State)
+    (v : View) (sh : Shows words c.size m v) (me : Meets c words p s v f) where
   pub row_follows : (deferred : ℕ × ℤ) → deferred_at c s.current.routine s.current.place ≡ Some deferred
       → (w : DeferredRow c s.current.routine s.current.place deferred) → (block : Block) (offset : ℕ) (x : ℤ)
       → s.current.temporaries w.to ≡ Some (Address block offset) → s.current.temporaries w.index ≡ Some (Number x)

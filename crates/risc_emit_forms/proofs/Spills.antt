@@ -27,7 +27,9 @@ use Rattle.risc_emit_forms.proofs.Results.{in_register, in_slot}
 
 -- ---- parameters go to their homes
 
-module _ (c : Context) (words : List ℕ) (b : Built c words) (p : Places) (q g n o : ℕ) (framed : Framed c words q g) (routine : TacRoutine) (is_routine : slice_get (routines c.code) q ≡ Some routine) (vs : List Value) (at : g + n + 8 ≡ o) where
+module _ (c : Context) (words : List ℕ) (b : Built c words) (p : Places) (q g n o : ℕ) (framed : Framed c words q g)
+    (routine : TacRoutine) (is_routine : slice_get (routines c.code) q ≡ Some routine) (vs : List Value)
+    (at : g + n + 8 ≡ o) where
   -- where operand j is, apart from the slots
   pub record Offered : Type 0 where
     pub readable : (j : ℕ) → j < routine.parameters → IsReadable c.size (o + 4 * j)

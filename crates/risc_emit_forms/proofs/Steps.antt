@@ -50,7 +50,9 @@ use Rattle.risc_emit_forms.proofs.Indexes.{index_follows}
 use Rattle.risc_emit_forms.proofs.Rows.{row_follows}
 use Rattle.risc_emit_forms.proofs.News.{new_follows}
 
-module _ (c : Context) (words : List ℕ) (b : Built c words) (p : Places) (S H : ℕ) (stack : S + c.base ≡ c.size) (heap : H + c.heap_at ≡ c.base) (s : State) (f : ℕ) (m : machine.State) (v : View) (sh : Shows words c.size m v) (be : Belongs c words p s v f) where
+module _ (c : Context) (words : List ℕ) (b : Built c words) (p : Places) (S H : ℕ) (stack : S + c.base ≡ c.size)
+    (heap : H + c.heap_at ≡ c.base) (s : State) (f : ℕ) (m : machine.State) (v : View) (sh : Shows words c.size m v)
+    (be : Belongs c words p s v f) where
   -- ---- what an instruction finds
 
   option_follows : {A : Type 0} (o : Option A) (go : A → Step) → ((x : A) → o ≡ Some x → Follows c words (go x) s m)
@@ -235,7 +237,9 @@ module _ (c : Context) (words : List ℕ) (b : Built c words) (p : Places) (S H 
 
 -- ---- from any state that meets
 
-module _ (c : Context) (words : List ℕ) (b : Built c words) (p : Places) (S H : ℕ) (stack : S + c.base ≡ c.size) (heap : H + c.heap_at ≡ c.base) (s : State) (f : ℕ) (m : machine.State) (v : View) (sh : Shows words c.size m v) (me : Meets c words p s v f) where
+module _ (c : Context) (words : List ℕ) (b : Built c words) (p : Places) (S H : ℕ) (stack : S + c.base ≡ c.size)
+    (heap : H + c.heap_at ≡ c.base) (s : State) (f : ℕ) (m : machine.State) (v : View) (sh : Shows words c.size m v)
+    (me : Meets c words p s v f) where
   loads : (deferred : ℕ × ℤ) → deferred_at c s.current.routine s.current.place ≡ Some deferred
       → (l : DeferredLoad c s.current.routine s.current.place deferred) → Follows c words
       (act c.code c.costs c.sizes S H (Some (Load l.to (base.Temporary l.to) l.behind)) s) s m

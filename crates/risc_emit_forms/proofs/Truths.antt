@@ -38,7 +38,8 @@ use Rattle.risc_emit_forms.proofs.Operands.{code, two_run}
 use Rattle.risc_emit_forms.proofs.Compares.{related_flags}
 use Rattle.risc_emit_forms.proofs.Branches.{Told, both_there, brief_flag, right_sound, told_run, told_stands, way_to}
 
-module _ (c : Context) (words : List ℕ) (b : Built c words) (p : Places) (s : State) (f : ℕ) (m : machine.State) (v : View) (sh : Shows words c.size m v) (be : Belongs c words p s v f) where
+module _ (c : Context) (words : List ℕ) (b : Built c words) (p : Places) (s : State) (f : ℕ) (m : machine.State)
+    (v : View) (sh : Shows words c.size m v) (be : Belongs c words p s v f) where
   -- ---- the relation as a value
 
   number_is : (h : Bool) → IsNumber (truth h)

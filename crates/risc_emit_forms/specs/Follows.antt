@@ -7,6 +7,7 @@ use Rattle.risc_word.specs.declared.instr.Operand.TheVariants.{Constant}
 use Rattle.risc_word.specs.declared.instr.Width.TheVariants.{Word}
 use Rattle.risc_word.specs.declared.instr.Instr.{Instr}
 use Rattle.risc_word.specs.declared.instr.Instr.TheVariants.{Move, Store}
+use Rattle.risc_image.specs.declared.header.TheConstants.{MAX_COUNT}
 use Rattle.risc_machine.specs.declared.limits.TheConstants.{SIGN_BIT}
 use Rattle.risc_machine.specs.Step as machine
 use Rattle.risc_machine.specs.Exec as run
@@ -38,7 +39,7 @@ stub = Move 12 (Constant (negsuc 63)) ∷ Store Word 15 12 (pos 4) ∷ []
 pub record Stood (c : Context) (words : List ℕ) : Type 0 where
   pub fits : Fits words c.size
   pub code : 4 * length words ≤ c.heap_at
-  pub short : length words ≤ 1048576
+  pub short : length words ≤ MAX_COUNT
   pub stub : HasAt words 1 stub
   -- each instruction, with its successor after it
   pub body : (r k : ℕ) (i : Instruction) → fetch c.code r k ≡ Some i → Left c words (c.site r k) (form c r k i)
@@ -47,8 +48,8 @@ pub record Stood (c : Context) (words : List ℕ) : Type 0 where
       (entry_form c r routine) (c.site r 0)
   -- first words are within the words
   pub within : (r k : ℕ) (routine : TacRoutine) → slice_get (routines c.code) r ≡ Some routine → k < length routine.body
-      → c.site r k ≤ 1048576
-  pub within_entry : (r : ℕ) → r < length (routines c.code) → c.entry r ≤ 1048576
+      → c.site r k ≤ MAX_COUNT
+  pub within_entry : (r : ℕ) → r < length (routines c.code) → c.entry r ≤ MAX_COUNT
   -- after each call the result is accepted
   pub resumes : (r k t : ℕ) → called c r k t ≡ true → Left c words (c.resume r k t) (accept c r (home c r t))
       (c.site r k)

@@ -4,6 +4,8 @@
 use Rattle.std.specs.Prelude.{ℕ, zero, suc, ◌+◌, ◌-◌, ◌*◌, Bool, true, false, ◌&&◌, not, nat_eq, nat_le, nat_lt, List, []}
 use Rattle.std.specs.Prelude.{if◌then◌else◌, ◌∷◌, length, slice_get, slice_set, get_or, replicate, Option, Some}
 use Rattle.std.specs.Prelude.{None, ℤ, pos, negsuc, ◌+ℤ◌, neg_ℤ, int_lt}
+use Rattle.risc_machine.specs.declared.limits.TheConstants.{ADDRESSES}
+use Rattle.tac_code.specs.declared.code.TheConstants.{NUMBER_LIMIT}
 use Rattle.tac_code.specs.declared.code.Operator.{Operator}
 use Rattle.tac_code.specs.declared.code.Operator.TheVariants.{Add, Subtract, Multiply, Divide, Modulo}
 use Rattle.tac_code.specs.declared.code.Instruction.{Instruction}
@@ -87,7 +89,7 @@ block_at c r (base.Temporary t) = None
 -- from there as its index says. The highest one, h, times the width may be no overflow.
 abbrev pub fold_near : ℕ → ℕ → ℕ → ℕ → Option ℕ
 fold_near k h width n =
-    if nat_le (k * width) n && nat_lt (h * width) 2147483648 then Some (n - k * width) else None
+    if nat_le (k * width) n && nat_lt (h * width) NUMBER_LIMIT then Some (n - k * width) else None
 
 abbrev pub fold_by : ℤ → ℤ → ℕ → ℕ → Option ℕ
 fold_by (pos k) (pos h) width n = fold_near k h width n
@@ -107,7 +109,7 @@ short_of None whole = whole
 -- one, k, times the width is too much.
 abbrev pub back_near : ℕ → ℕ → ℕ → Option ℤ
 back_near k h width =
-    if nat_lt (k * width) 16777216 && nat_lt (h * width) 2147483648 then Some (neg_ℤ (pos (k * width))) else None
+    if nat_lt (k * width) ADDRESSES && nat_lt (h * width) NUMBER_LIMIT then Some (neg_ℤ (pos (k * width))) else None
 
 abbrev pub back_by : ℤ → ℤ → ℕ → Option ℤ
 back_by (pos k) (pos h) width = back_near k h width
@@ -154,7 +156,7 @@ is_apart (Slot k) q = true
 abbrev pub row_near : ℤ → Home → Option (ℕ × ℤ) → Option (ℕ × ℤ)
 row_near m h None = None
 row_near m h (Some y) =
-    if int_lt m (negsuc 16777215) then None
+    if int_lt m (neg_ℤ (pos ADDRESSES)) then None
     else if is_apart h y.0 then Some (y.0, m) else None
 
 -- the first of two, if there is one

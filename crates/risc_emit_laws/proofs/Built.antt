@@ -62,7 +62,10 @@ sound_routine code sound r routine e = go (get_append code.program code.run_time
 
 -- ---- a placed program in a memory
 
-module _ (code : Code) (homes : List Home) (image : Image) (sound : IsSound code) (valid : Valid code homes) (formed : IsWellFormed image) (plan : Plan) (heap stack : ℕ) (budget : IsBudget image heap stack) (laid : IsLaidOut (context code homes plan image heap stack)) (stand : Stand (context code homes plan image heap stack) image.code) where
+module _ (code : Code) (homes : List Home) (image : Image) (sound : IsSound code) (valid : Valid code homes)
+    (formed : IsWellFormed image) (plan : Plan) (heap stack : ℕ) (budget : IsBudget image heap stack)
+    (laid : IsLaidOut (context code homes plan image heap stack))
+    (stand : Stand (context code homes plan image heap stack) image.code) where
   abbrev c : Context
   c = context code homes plan image heap stack
 

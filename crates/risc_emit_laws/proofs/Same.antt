@@ -37,7 +37,9 @@ abbrev Reaches : Image → machine.State → State → ℕ → Shown → Type 0
 Reaches image m s k x =
     (j : ℕ) × (k ≤ j) × (outcome_of image (exec.exec j m (tape_of s.tape)) ≡ x)
 
-module _ (code : Code) (homes : List Home) (image : Image) (sound : IsSound code) (valid : Valid code homes) (formed : IsWellFormed image) (narrow : AreWords image.code) (emits : Emits code homes image) (heap stack : ℕ) (budget : IsBudget image heap stack) (input : List ℕ) (bytes : AreBytes input) where
+module _ (code : Code) (homes : List Home) (image : Image) (sound : IsSound code) (valid : Valid code homes)
+    (formed : IsWellFormed image) (narrow : AreWords image.code) (emits : Emits code homes image) (heap stack : ℕ)
+    (budget : IsBudget image heap stack) (input : List ℕ) (bytes : AreBytes input) where
   abbrev c : Context
   c = context code homes emits.plan image heap stack
 
@@ -78,7 +80,8 @@ module _ (code : Code) (homes : List Home) (image : Image) (sound : IsSound code
       go (Over o) e (inr r) on = stopped s m o k r
 
   -- the run from an entry that was made or refused
-  module _ (block : TacRoutine) (is : slice_get (routines code) 0 ≡ Some block) (never : (k : ℕ) → (tac_run code c.costs c.sizes stack heap input k).1 ≡ Stuck → ⊥) where
+  module _ (block : TacRoutine) (is : slice_get (routines code) 0 ≡ Some block)
+      (never : (k : ℕ) → (tac_run code c.costs c.sizes stack heap input k).1 ≡ Stuck → ⊥) where
     -- what the entry of the program block does
     entry_step : enter code c.costs c.sizes stack heap 0 [] 0 0 [] (before input) ≡ cond
         (not (nat_eq 0 block.parameters)) (Over Stuck)

@@ -121,7 +121,11 @@ module _ (c : Context) (words : List ℕ) (stood : Stood c words) (s : State) wh
         by = λ k. let x = r.by k in let y = a.runs x.0 (tape_of s.tape) in (y.0, omega (arith, x.1, y.1), y.2 ∙ x.2);
       }
 
-module _ (code : Code) (homes : List Home) (image : Image) (sound : IsSound code) (valid : Valid code homes) (formed : IsWellFormed image) (narrow : AreWords image.code) (plan : Plan) (heap stack : ℕ) (budget : IsBudget image heap stack) (laid : IsLaidOut (context code homes plan image heap stack)) (stand : Stand (context code homes plan image heap stack) image.code) (input : List ℕ) (bytes : AreBytes input) (block : TacRoutine) (is : slice_get (routines code) 0 ≡ Some block) (none : block.parameters ≡ 0) where
+module _ (code : Code) (homes : List Home) (image : Image) (sound : IsSound code) (valid : Valid code homes)
+    (formed : IsWellFormed image) (narrow : AreWords image.code) (plan : Plan) (heap stack : ℕ)
+    (budget : IsBudget image heap stack) (laid : IsLaidOut (context code homes plan image heap stack))
+    (stand : Stand (context code homes plan image heap stack) image.code) (input : List ℕ) (bytes : AreBytes input)
+    (block : TacRoutine) (is : slice_get (routines code) 0 ≡ Some block) (none : block.parameters ≡ 0) where
   abbrev c : Context
   c = context code homes plan image heap stack
 

@@ -1,8 +1,9 @@
 -- What the relation between code and machine requires of a placed program: where instructions, routines, constants and
 -- temporaries are, and how frames are laid out. The names of blocks have addresses in a map that grows with the run.
-use Rattle.std.specs.Prelude.{◌≡◌, ◌≢◌, ℕ, suc, ◌+◌, ◌*◌, ◌%◌, ◌<◌, ◌≤◌, Bool, true, false, nat_lt, List, length}
-use Rattle.std.specs.Prelude.{slice_get, Option, Some, ℤ, negsuc, pos, ◌≤ℤ◌}
-use Rattle.tac_code.specs.declared.code.TheConstants.{BLOCK_LIMIT}
+use Rattle.std.specs.Prelude.{◌≡◌, ◌≢◌, ℕ, suc, ◌+◌, ◌-◌, ◌*◌, ◌%◌, ◌<◌, ◌≤◌, Bool, true, false, nat_lt, List, length}
+use Rattle.std.specs.Prelude.{slice_get, Option, Some, ℤ, pos, neg_ℤ, ◌≤ℤ◌}
+use Rattle.risc_machine.specs.declared.limits.TheConstants.{ADDRESSES, MAX_MEMORY}
+use Rattle.tac_code.specs.declared.code.TheConstants.{BLOCK_LIMIT, NUMBER_LIMIT}
 use Rattle.tac_code.specs.declared.code.Block.{Block}
 use Rattle.tac_code.specs.declared.code.Block.TheVariants.{Frame, Scratch, Object, Constant}
 use Rattle.tac_code.specs.declared.code.Value.{Value}
@@ -123,7 +124,7 @@ word c p (Routine r) = 4 * c.entry r
 
 -- -2147483648 to 2147483647
 abbrev pub IsNumber : ℤ → Type 0
-IsNumber z = (negsuc 2147483647 ≤ℤ z) × (z ≤ℤ pos 2147483647)
+IsNumber z = (neg_ℤ (pos NUMBER_LIMIT) ≤ℤ z) × (z ≤ℤ pos (NUMBER_LIMIT - 1))
 
 -- a name that was assigned
 abbrev pub IsNamed : Places → Block → Type 0
@@ -145,11 +146,11 @@ pub record Grown (p q : Places) : Type 0 where
   pub scratch : (a : ℕ) → a < p.activations → q.scratch a ≡ p.scratch a
   pub object : (n : ℕ) → n < p.objects → q.object n ≡ p.object n
 
--- all addresses are below the device page
+-- all addresses are those of a load
 pub record AreLow (p : Places) : Type 0 where
-  pub frame : (a : ℕ) → p.frame a < 16777216
-  pub scratch : (a : ℕ) → p.scratch a < 16777216
-  pub object : (n : ℕ) → p.object n < 16777216
+  pub frame : (a : ℕ) → p.frame a < ADDRESSES
+  pub scratch : (a : ℕ) → p.scratch a < ADDRESSES
+  pub object : (n : ℕ) → p.object n < ADDRESSES
 
 -- ---- the layout
 
@@ -173,6 +174,6 @@ pub record IsLaid (c : Context) : Type 0 where
   pub leaf : (r : ℕ) → is_program c r ≡ false → (8 ≤ c.link_at r) × (c.used r ≤ 268)
   pub first : is_program c 0 ≡ true
   pub bottom : c.bottom + c.costs 0 ≡ c.size
-  pub order : (4 ≤ c.heap_at) × (c.heap_at ≤ c.base) × (c.base ≤ c.size) × (c.size ≤ 16777152)
+  pub order : (4 ≤ c.heap_at) × (c.heap_at ≤ c.base) × (c.base ≤ c.size) × (c.size ≤ MAX_MEMORY)
   pub even : (c.heap_at % 4 ≡ 0) × (c.base % 4 ≡ 0) × (c.size % 4 ≡ 0)
   pub constants : (r k : ℕ) → 4 * c.constant r k ≤ c.heap_at

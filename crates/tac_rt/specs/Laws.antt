@@ -19,7 +19,9 @@ use Rattle.tac_code.specs.declared.code.Instruction.TheVariants.{Call}
 use Rattle.ps_meaning.specs.Text.{Input, next_character, looked_at, look_marks, taken, as_character, Reading, EndFound}
 use Rattle.ps_meaning.specs.Text.{NoInteger, Integer, scan_integer, marks_to, after_integer, after_line, line_marks}
 use Rattle.ps_meaning.specs.Text.{right_aligned, fitted, integer_text}
+use Rattle.tac_rt.specs.declared.run_time.RunTime.TheVariants as routine
 use Rattle.tac_rt.specs.Bodies.{run_time_routines}
+use Rattle.tac_rt.specs.Numbers.{run_time_number}
 use Rattle.tac_rt.specs.Calls.{HasRoutines, BytesAt}
 use Rattle.tac_rt.specs.Inputs.{ahead, begun, tape_of, InputAt, kind_of}
 
@@ -28,8 +30,8 @@ abbrev pub WritesNumbers : Type 0
 WritesNumbers =
     (m : Machine) (x : ℤ) (width : ℕ) (memory : Memory) (tape : Tape) →
     HasRoutines m → IsTrue (is_integer x) → width < NUMBER_LIMIT →
-    Does m 10 (Number x ∷ Number (pos width) ∷ []) memory tape (Number (pos 0)) memory
-    (wrote tape (right_aligned width (integer_text x)))
+    Does m (run_time_number routine.WriteNumber) (Number x ∷ Number (pos width) ∷ []) memory tape (Number (pos 0))
+    memory (wrote tape (right_aligned width (integer_text x)))
 
 -- A character right-aligned in a field (6.9.3.3): an integer, whose absolute value modulo 256 counts, and the width of
 -- the field.
@@ -37,8 +39,8 @@ abbrev pub WritesCharacters : Type 0
 WritesCharacters =
     (m : Machine) (x : ℤ) (width : ℕ) (memory : Memory) (tape : Tape) →
     HasRoutines m → IsTrue (is_integer x) → width < NUMBER_LIMIT →
-    Does m 11 (Number x ∷ Number (pos width) ∷ []) memory tape (Number (pos 0)) memory
-    (wrote tape (right_aligned width (unsigned_abs x % 256 ∷ [])))
+    Does m (run_time_number routine.WriteCharacter) (Number x ∷ Number (pos width) ∷ []) memory tape (Number (pos 0))
+    memory (wrote tape (right_aligned width (unsigned_abs x % 256 ∷ [])))
 
 -- A string right-aligned in a field, or its first characters (6.9.3.6): its address, its length and the field's width.
 abbrev pub WritesStrings : Type 0
@@ -46,7 +48,8 @@ WritesStrings =
     (m : Machine) (block : Block) (offset : ℕ) (text : List ℕ) (width : ℕ) (memory : Memory) (tape : Tape) →
     HasRoutines m → BytesAt (text_at m.code) memory block offset text →
     offset + length text < BLOCK_LIMIT → width < NUMBER_LIMIT →
-    Does m 12 (Address block offset ∷ Number (pos (length text)) ∷ Number (pos width) ∷ []) memory tape
+    Does m (run_time_number routine.WriteString)
+    (Address block offset ∷ Number (pos (length text)) ∷ Number (pos width) ∷ []) memory tape
     (Number (pos 0)) memory (wrote tape (fitted width text))
 
 -- the memory after a look: the first word is replaced, unless it was looked at before
@@ -61,7 +64,8 @@ LooksAhead =
     HasRoutines m → InputAt (text_at m.code) before block offset i →
     LookedIn i.looked before block offset (ahead (looked_at i)) after → InputAt (text_at m.code) after block offset
     (looked_at i) →
-    Does m 13 (Address block offset ∷ []) before (tape_of i transcript) (Number (kind_of (next_character i))) after
+    Does m (run_time_number routine.LookAhead) (Address block offset ∷ []) before (tape_of i transcript)
+    (Number (kind_of (next_character i))) after
     (tape_of (looked_at i) (transcript ++ look_marks i))
 
 -- the memory with both words of the input replaced
@@ -80,7 +84,7 @@ ReadsCharacters =
     (m : Machine) (block : Block) (offset : ℕ) (i : Input) (before after : Memory) (transcript : List ℕ) →
     HasRoutines m → InputAt (text_at m.code) before block offset i →
     Renewed before block offset (taken i) after →
-    Does m 14 (Address block offset ∷ []) before (tape_of i transcript)
+    Does m (run_time_number routine.ReadCharacter) (Address block offset ∷ []) before (tape_of i transcript)
     (Number (character_or_end (next_character i))) after (tape_of (taken i) (transcript ++ look_marks i))
 
 -- What the routine returns for an integer that was found, and where it leaves it: 0 where it has 32 bits, 1 where it
@@ -121,7 +125,8 @@ ReadsNumbers =
     Renewed s.memory block offset (after_integer (scan_integer i.left).rest) middle
     → ((z : ℤ) → (memory : Memory) × (store middle to place (Number z) ≡ Some memory)) →
     Fresh s → values_of s.current.temporaries operands ≡ Some (Address block offset ∷ Address to place ∷ []) →
-    fetch m.code s.current.routine s.current.place ≡ Some (Call t (length m.code.program + 15) operands line) →
+    fetch m.code s.current.routine s.current.place ≡ Some
+    (Call t (length m.code.program + run_time_number routine.ReadNumber) operands line) →
     ReadNumber m to place i middle transcript s t
 
 -- 1 where nothing is left to read
@@ -136,7 +141,8 @@ ReadsLines =
     (m : Machine) (block : Block) (offset : ℕ) (i : Input) (before after : Memory) (transcript : List ℕ) →
     HasRoutines m → InputAt (text_at m.code) before block offset i →
     Renewed before block offset (after_line i) after →
-    Does m 16 (Address block offset ∷ []) before (tape_of i transcript) (Number (nothing_left (next_character i))) after
+    Does m (run_time_number routine.ReadLine) (Address block offset ∷ []) before (tape_of i transcript)
+    (Number (nothing_left (next_character i))) after
     (tape_of (after_line i) (transcript ++ line_marks i))
 
 -- `count` words, one after another: each is read when those before it may have been written already
@@ -153,7 +159,8 @@ CopiesWords =
     (m : Machine) (to : Block) (place : ℕ) (from : Block) (start n : ℕ) (before after : Memory) (tape : Tape) →
     HasRoutines m → CopiedUp (text_at m.code) before to place from start n after →
     place + 4 * n < BLOCK_LIMIT → start + 4 * n < BLOCK_LIMIT →
-    Does m 0 (Address to place ∷ Address from start ∷ Number (pos (4 * n)) ∷ []) before tape (Number (pos 0)) after tape
+    Does m (run_time_number routine.CopyWords) (Address to place ∷ Address from start ∷ Number (pos (4 * n)) ∷ [])
+    before tape (Number (pos 0)) after tape
 
 -- the difference of the first bytes that differ, left minus right, or 0
 abbrev pub first_difference : List ℕ → List ℕ → ℤ
@@ -169,7 +176,8 @@ ComparesBytes =
     HasRoutines m → BytesAt (text_at m.code) memory x place left → BytesAt (text_at m.code) memory y start right
     → length left ≡ length right →
     place + length left < BLOCK_LIMIT → start + length right < BLOCK_LIMIT →
-    Does m 7 (Address x place ∷ Address y start ∷ Number (pos (length left)) ∷ []) memory tape
+    Does m (run_time_number routine.CompareBytes)
+    (Address x place ∷ Address y start ∷ Number (pos (length left)) ∷ []) memory tape
     (Number (first_difference left right)) memory tape
 
 -- words that hold bytes, one after another, to bytes; each is read when those before it may have been written already
@@ -188,8 +196,8 @@ PacksBytes =
     (tape : Tape) →
     HasRoutines m → PackedUp (text_at m.code) before to place from start bytes after →
     place + length bytes < BLOCK_LIMIT → start + 4 * length bytes < BLOCK_LIMIT →
-    Does m 8 (Address to place ∷ Address from start ∷ Number (pos (length bytes)) ∷ []) before tape
-    (Number (pos 0)) after tape
+    Does m (run_time_number routine.PackBytes)
+    (Address to place ∷ Address from start ∷ Number (pos (length bytes)) ∷ []) before tape (Number (pos 0)) after tape
 
 -- bytes, one after another, to words
 abbrev pub UnpackedUp : Constants → (before : Memory) → (to : Block) (place : ℕ) → (from : Block) (start : ℕ) → List ℕ
@@ -207,8 +215,8 @@ UnpacksBytes =
     (tape : Tape) →
     HasRoutines m → UnpackedUp (text_at m.code) before to place from start bytes after →
     place + 4 * length bytes < BLOCK_LIMIT → start + length bytes < BLOCK_LIMIT →
-    Does m 9 (Address to place ∷ Address from start ∷ Number (pos (length bytes)) ∷ []) before tape
-    (Number (pos 0)) after tape
+    Does m (run_time_number routine.UnpackBytes)
+    (Address to place ∷ Address from start ∷ Number (pos (length bytes)) ∷ []) before tape (Number (pos 0)) after tape
 
 -- each of `count` words, combined with one of another block
 abbrev pub JoinedUp : BitOperator → Constants → (before : Memory) → (to : Block) (place : ℕ) → (from : Block)
@@ -231,9 +239,9 @@ JoinsSets number operator =
 
 -- union, difference and intersection
 pub record JoinedSets : Type 0 where
-  pub union : JoinsSets 2 Or
-  pub difference : JoinsSets 3 AndNot
-  pub intersection : JoinsSets 4 And
+  pub union : JoinsSets (run_time_number routine.UniteSets) Or
+  pub difference : JoinsSets (run_time_number routine.SubtractSet) AndNot
+  pub intersection : JoinsSets (run_time_number routine.IntersectSets) And
 
 -- `count` members from n on are added, one after another: each is a bit of its word
 abbrev pub AddedUp : Constants → (before : Memory) → Block → (offset : ℕ) → (n count : ℕ) → (after : Memory) → Type 0
@@ -247,12 +255,12 @@ AddedUp constants before block offset n (suc count) after =
 -- There are none where the first is above the last; otherwise both are in 0..255.
 pub record AddsMembers : Type 0 where
   pub none : (m : Machine) (x y : ℤ) (block : Block) (offset : ℕ) (memory : Memory) (tape : Tape) → HasRoutines m
-      → int_lt y x ≡ true → Does m 1 (Address block offset ∷ Number x ∷ Number y ∷ []) memory tape
-      (Number (pos 0)) memory tape
+      → int_lt y x ≡ true → Does m (run_time_number routine.AddRange)
+      (Address block offset ∷ Number x ∷ Number y ∷ []) memory tape (Number (pos 0)) memory tape
   pub some : (m : Machine) (n count : ℕ) (block : Block) (offset : ℕ) (before after : Memory) (tape : Tape)
       → HasRoutines m → n + count < 256 → AddedUp (text_at m.code) before block offset n (suc count) after → offset
-      + 32 < BLOCK_LIMIT → Does m 1 (Address block offset ∷ Number (pos n) ∷ Number (pos (n + count)) ∷ []) before tape
-      (Number (pos 0)) after tape
+      + 32 < BLOCK_LIMIT → Does m (run_time_number routine.AddRange)
+      (Address block offset ∷ Number (pos n) ∷ Number (pos (n + count)) ∷ []) before tape (Number (pos 0)) after tape
 
 -- these numbers are in the words of a block from an offset on
 abbrev pub WordsAt : Constants → Memory → Block → (offset : ℕ) → List ℤ → Type 0
@@ -274,17 +282,19 @@ IncludesSets =
     HasRoutines m → WordsAt (text_at m.code) memory x place left → WordsAt (text_at m.code) memory y start right
     → length left ≡ 8 → length right ≡ 8 →
     place + 32 < BLOCK_LIMIT → start + 32 < BLOCK_LIMIT →
-    Does m 5 (Address x place ∷ Address y start ∷ []) memory tape (Number (truth (is_included left right))) memory tape
+    Does m (run_time_number routine.IsIncluded) (Address x place ∷ Address y start ∷ []) memory tape
+    (Number (truth (is_included left right))) memory tape
 
 -- Whether an integer is a member of a set (6.7.2.5): the integer, and the address of the set's words. Outside 0..255 it
 -- is not; otherwise its bit decides.
 pub record FindsMembers : Type 0 where
   pub outside : (m : Machine) (x : ℤ) (block : Block) (offset : ℕ) (memory : Memory) (tape : Tape) → HasRoutines m
-      → is_in_range (pos 0) (pos 255) x ≡ false → Does m 6 (Number x ∷ Address block offset ∷ []) memory tape
-      (Number (pos 0)) memory tape
+      → is_in_range (pos 0) (pos 255) x ≡ false → Does m (run_time_number routine.IsMember)
+      (Number x ∷ Address block offset ∷ []) memory tape (Number (pos 0)) memory tape
   pub inside : (m : Machine) (n : ℕ) (block : Block) (offset : ℕ) (w : ℤ) (memory : Memory) (tape : Tape)
       → HasRoutines m → n < 256 → load (text_at m.code) memory block (offset + 4 * (n / 32)) ≡ Some (Number w) → offset
-      + 32 < BLOCK_LIMIT → Does m 6 (Number (pos n) ∷ Address block offset ∷ []) memory tape
+      + 32 < BLOCK_LIMIT → Does m (run_time_number routine.IsMember)
+      (Number (pos n) ∷ Address block offset ∷ []) memory tape
       (Number (truth (not (same_number (bits And w (bits ShiftLeft (pos 1) (pos n))) (pos 0))))) memory tape
 
 -- what the invariant of three-address code requires of its run-time routines: each target and each operand exists, and

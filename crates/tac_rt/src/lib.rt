@@ -4,9 +4,11 @@
 pub mod laws;
 mod library;
 mod reading;
+mod run_time;
 mod sets;
 mod step;
 mod words;
 mod writing;
 
 pub use library::routines;
+pub use run_time::RunTime;

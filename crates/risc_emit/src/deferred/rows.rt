@@ -1,26 +1,27 @@
 // Rows of instructions whose addresses are folded into their offsets.
 
-ghost use Rattle.std.specs.Prelude.{◌≡◌, ◌≤◌, ◌≤ℤ◌, pos, negsuc, slice_get, Some, IfSome};
+ghost use Rattle.std.specs.Prelude.{◌≡◌, ◌≤◌, ◌≤ℤ◌, neg_ℤ, pos, slice_get, Some, IfSome};
 ghost use Rattle.risc_emit_relation.specs.Context.{home};
 ghost use Rattle.risc_emit_forms.specs.Peephole.{both_short, is_apart, row_near};
 ghost use Rattle.risc_emit_forms.specs.Peephole.{row_from, defer_row, row, deferred};
 ghost use Rattle.risc_emit.specs.Frames.{context_of};
 
 use crate::deferred::{back, defer_load, offset_of};
-use crate::frame::Frame;
+use crate::frame::{Frame, OFFSET_LIMIT};
 use crate::location::Location;
+use risc_machine::limits::ADDRESSES;
 use risc_word::Register;
-use tac_code::code::{Base, Instruction};
+use tac_code::code::{Base, Instruction, NUMBER_LIMIT};
 
 // An offset with that of an index that goes on from the same register.
 pub(super) fn both_short(offset: i64, further: Option<i64>) -> Option<i64>
-    requires least { negsuc 16777215 ≤ℤ offset }
-    requires most { offset ≤ℤ pos 1099511627776 }
-    requires further_least { IfSome further (λ more. negsuc 16777215 ≤ℤ more) }
+    requires least { neg_ℤ (pos ADDRESSES) ≤ℤ offset }
+    requires most { offset ≤ℤ pos OFFSET_LIMIT }
+    requires further_least { IfSome further (λ more. neg_ℤ (pos ADDRESSES) ≤ℤ more) }
     requires further_most { IfSome further (λ more. more ≤ℤ pos 0) }
     ensures is { result ≡ both_short offset further }
-    ensures least { IfSome result (λ whole. negsuc 2147483647 ≤ℤ whole) }
-    ensures most { IfSome result (λ whole. whole ≤ℤ pos 1099511627776) }
+    ensures least { IfSome result (λ whole. neg_ℤ (pos NUMBER_LIMIT) ≤ℤ whole) }
+    ensures most { IfSome result (λ whole. whole ≤ℤ pos OFFSET_LIMIT) }
 {
     match further {
         Some(more) => Some(offset + more),
@@ -45,14 +46,14 @@ fn row_near(
     index: u32,
     found: Option<(Register, i64)>,
 ) -> Option<(Register, i64)>
-    requires most { offset ≤ℤ pos 1099511627776 }
+    requires most { offset ≤ℤ pos OFFSET_LIMIT }
     ensures is { result ≡ row_near offset (home (context_of frame.now) frame.now.number index) found }
-    ensures least { IfSome result (λ deferred. negsuc 16777215 ≤ℤ deferred.1) }
-    ensures most { IfSome result (λ deferred. deferred.1 ≤ℤ pos 1099511627776) }
+    ensures least { IfSome result (λ deferred. neg_ℤ (pos ADDRESSES) ≤ℤ deferred.1) }
+    ensures most { IfSome result (λ deferred. deferred.1 ≤ℤ pos OFFSET_LIMIT) }
 {
     match found {
         Some((register, _)) => {
-            if offset < -16777216 {
+            if offset < -i64::from(ADDRESSES) {
                 return None;
             }
             if is_apart(frame, index, register) {
@@ -74,14 +75,14 @@ fn row_from(
     body: &[Instruction],
     third: usize,
 ) -> Option<(Register, i64)>
-    requires least { IfSome short (λ offset. negsuc 16777215 ≤ℤ offset) }
-    requires most { IfSome short (λ offset. offset ≤ℤ pos 1099511627776) }
-    requires further_least { IfSome further (λ more. negsuc 16777215 ≤ℤ more) }
+    requires least { IfSome short (λ offset. neg_ℤ (pos ADDRESSES) ≤ℤ offset) }
+    requires most { IfSome short (λ offset. offset ≤ℤ pos OFFSET_LIMIT) }
+    requires further_least { IfSome further (λ more. neg_ℤ (pos ADDRESSES) ≤ℤ more) }
     requires further_most { IfSome further (λ more. more ≤ℤ pos 0) }
     ensures is { result ≡ row_from (context_of frame.now) frame.now.number to short
         (home (context_of frame.now) frame.now.number index) further (slice_get body.now third) }
-    ensures least { IfSome result (λ deferred. negsuc 16777215 ≤ℤ deferred.1) }
-    ensures most { IfSome result (λ deferred. deferred.1 ≤ℤ pos 1099511627776) }
+    ensures least { IfSome result (λ deferred. neg_ℤ (pos ADDRESSES) ≤ℤ deferred.1) }
+    ensures most { IfSome result (λ deferred. deferred.1 ≤ℤ pos OFFSET_LIMIT) }
 {
     match short {
         Some(offset) => {
@@ -102,12 +103,12 @@ fn row_by(
     body: &[Instruction],
     third: usize,
 ) -> Option<(Register, i64)>
-    requires least { IfSome short (λ offset. negsuc 16777215 ≤ℤ offset) }
-    requires most { IfSome short (λ offset. offset ≤ℤ pos 1099511627776) }
+    requires least { IfSome short (λ offset. neg_ℤ (pos ADDRESSES) ≤ℤ offset) }
+    requires most { IfSome short (λ offset. offset ≤ℤ pos OFFSET_LIMIT) }
     ensures is { result ≡ defer_row (context_of frame.now) frame.now.number to short (Some instruction.now)
         (slice_get body.now third) }
-    ensures least { IfSome result (λ deferred. negsuc 16777215 ≤ℤ deferred.1) }
-    ensures most { IfSome result (λ deferred. deferred.1 ≤ℤ pos 1099511627776) }
+    ensures least { IfSome result (λ deferred. neg_ℤ (pos ADDRESSES) ≤ℤ deferred.1) }
+    ensures most { IfSome result (λ deferred. deferred.1 ≤ℤ pos OFFSET_LIMIT) }
 {
     match instruction {
         Instruction::Index {
@@ -139,12 +140,12 @@ fn defer_row(
     place: usize,
     third: usize,
 ) -> Option<(Register, i64)>
-    requires least { IfSome short (λ offset. negsuc 16777215 ≤ℤ offset) }
-    requires most { IfSome short (λ offset. offset ≤ℤ pos 1099511627776) }
+    requires least { IfSome short (λ offset. neg_ℤ (pos ADDRESSES) ≤ℤ offset) }
+    requires most { IfSome short (λ offset. offset ≤ℤ pos OFFSET_LIMIT) }
     ensures is { result ≡ defer_row (context_of frame.now) frame.now.number to short (slice_get body.now place)
         (slice_get body.now third) }
-    ensures least { IfSome result (λ deferred. negsuc 16777215 ≤ℤ deferred.1) }
-    ensures most { IfSome result (λ deferred. deferred.1 ≤ℤ pos 1099511627776) }
+    ensures least { IfSome result (λ deferred. neg_ℤ (pos ADDRESSES) ≤ℤ deferred.1) }
+    ensures most { IfSome result (λ deferred. deferred.1 ≤ℤ pos OFFSET_LIMIT) }
 {
     match body.get(place) {
         Some(instruction) => row_by(frame, to, short, instruction, body, third),
@@ -161,8 +162,8 @@ pub(super) fn row(
 ) -> Option<(Register, i64)>
     ensures is { result ≡ row (context_of frame.now) frame.now.number (Some instruction.now)
         (slice_get body.now place) (slice_get body.now third) }
-    ensures least { IfSome result (λ deferred. negsuc 16777215 ≤ℤ deferred.1) }
-    ensures most { IfSome result (λ deferred. deferred.1 ≤ℤ pos 1099511627776) }
+    ensures least { IfSome result (λ deferred. neg_ℤ (pos ADDRESSES) ≤ℤ deferred.1) }
+    ensures most { IfSome result (λ deferred. deferred.1 ≤ℤ pos OFFSET_LIMIT) }
 {
     match instruction {
         Instruction::Index {

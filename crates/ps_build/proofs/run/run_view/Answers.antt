@@ -3,7 +3,7 @@ use Rattle.std.proofs.Common.{subst}
 use Rattle.risc_machine.specs.Exec.{Runs}
 use Rattle.risc_machine.specs.Laws.{FollowsExec}
 use Rattle.risc_load.specs.Loaded.{loaded_state}
-use Rattle.ps_build.proofs.Asked.{run_shows}
+use Rattle.ps_build.proofs.DeviceFailed.{run_shows}
 use Rattle.ps_build.proofs.Told.{runs_of, budget_of}
 use Rattle.ps_build.proofs.run.run_view.Goals as goal
 

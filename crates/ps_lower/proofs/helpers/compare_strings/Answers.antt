@@ -1,7 +1,8 @@
-use Rattle.std.proofs.Common.{◌≡◌, ◌++◌, ◌∷◌, [], pos, OnOk, refl, ap, subst, ◌∙◌}
+use Rattle.std.proofs.Common.{◌≡◌, ◌++◌, ◌∷◌, [], pos, OnOk, ap, subst, ◌∙◌}
 use Rattle.ps_tree.specs.View.{structure_of}
 use Rattle.tac_code.specs.declared.code.Instruction.TheVariants as i
-use Rattle.ps_lower_code.specs.Scopes.{CompareBytes, helper}
+use Rattle.tac_rt.specs.declared.run_time.RunTime.TheVariants.{CompareBytes}
+use Rattle.ps_lower_code.specs.Scopes.{helper}
 use Rattle.ps_lower_code.specs.Values.{text_length}
 use Rattle.ps_lower.specs.Levels.{scope_of}
 use Rattle.ps_lower.proofs.Arms.{behind}
@@ -17,4 +18,4 @@ returns c =
     (helper (scope_of c.args.level.now) CompareBytes (c.args.left ∷ c.args.right ∷ c.beside-t.result ∷ []) c.args.to
     ∷ [])
     (c.in_ok-amount.ensures ∙ ap (λ n. c.args.out.now ++ i.Literal c.beside-t.result (pos n) ∷ [])
-    c.text_length.ensures) (c.help.ensures CompareBytes refl))
+    c.text_length.ensures) c.help.ensures)

@@ -1,8 +1,6 @@
-use Rattle.std.proofs.Common.{refl}
-use Rattle.ps_lower_code.specs.Scopes.{CopyWords}
 use Rattle.ps_lower.proofs.Arms.{behind}
 use Rattle.ps_lower.proofs.helpers.copy.Goals as goal
 
 pub returns : goal.returns
 returns c = behind c.help.result c.help.new.out c.amount.new.out c.args.out.now _ _ c.in_ok-amount.ensures
-    (c.help.ensures CopyWords refl)
+    c.help.ensures

@@ -1,6 +1,7 @@
 use Rattle.std.proofs.Common.{◌∷◌, [], pos}
 use Rattle.tac_code.specs.declared.code.Instruction.TheVariants as i
-use Rattle.ps_lower_code.specs.Scopes.{LookAhead, even_from, helper, input_site, site_code}
+use Rattle.tac_rt.specs.declared.run_time.RunTime.TheVariants.{LookAhead}
+use Rattle.ps_lower_code.specs.Scopes.{even_from, helper, input_site, site_code}
 use Rattle.ps_lower.specs.Levels.{scope_of}
 use Rattle.ps_lower.proofs.Looking.{look_on_told}
 use Rattle.ps_lower.proofs.input.look_on.Goals as goal

@@ -1,5 +1,5 @@
 use Rattle.std.proofs.Common.{◌≡◌, ◌++◌, OnOk, refl, subst}
-use Rattle.ps_lower_code.specs.Scopes.{PackBytes, UnpackBytes, copy_code}
+use Rattle.ps_lower_code.specs.Scopes.{copy_code}
 use Rattle.ps_lower.specs.Levels.{scope_of}
 use Rattle.ps_lower.proofs.Packed.{packed_told, unpacked_told, words_told}
 use Rattle.ps_lower.proofs.packing.components.Goals as goal
@@ -7,13 +7,13 @@ use Rattle.ps_lower.proofs.packing.components.Goals as goal
 pub returns-then-is_byte_array : goal.returns-then-is_byte_array
 returns-then-is_byte_array c packing = packed_told
     (scope_of c.args.level.now) packing c.args.at.from c.args.at.to c.args.count _ _ _ c.args.at.free c.bytes.result
-    c.bytes.new.out c.args.out.now c.if-is_byte_array.ensures (c.bytes.ensures PackBytes refl)
+    c.bytes.new.out c.args.out.now c.if-is_byte_array.ensures c.bytes.ensures
 
 pub returns-then-is_byte_array-2 : goal.returns-then-is_byte_array-2
 returns-then-is_byte_array-2 c packing = unpacked_told
     (scope_of c.args.level.now) packing c.args.at.from c.args.at.to c.args.count _ _ _ c.args.at.free
     c.bytes-then-is_byte_array-2.result c.bytes-then-is_byte_array-2.new.out c.args.out.now c.if-is_byte_array.ensures
-    c.if-is_byte_array-2.ensures (c.bytes-then-is_byte_array-2.ensures UnpackBytes refl)
+    c.if-is_byte_array-2.ensures c.bytes-then-is_byte_array-2.ensures
 
 pub returns : goal.returns
 returns c packing = words_told (scope_of c.args.level.now) packing c.args.at.from c.args.at.to c.args.count _ _ _ _

@@ -1,7 +1,8 @@
-use Rattle.std.proofs.Common.{true, ◌∷◌, [], pos, None, refl}
+use Rattle.std.proofs.Common.{true, ◌∷◌, [], pos, None}
 use Rattle.ps_tree.specs.declared.tree.Range.TheVariants.{Within}
 use Rattle.tac_code.specs.declared.code.Instruction.TheVariants as i
-use Rattle.ps_lower_code.specs.Scopes.{ReadCharacter, greatest, fitting_code, helper}
+use Rattle.tac_rt.specs.declared.run_time.RunTime.TheVariants.{ReadCharacter}
+use Rattle.ps_lower_code.specs.Scopes.{greatest, fitting_code, helper}
 use Rattle.ps_lower.specs.Levels.{scope_of}
 use Rattle.ps_lower.proofs.Appends.{and_then}
 use Rattle.ps_lower.proofs.Arms.{behind}
@@ -16,5 +17,5 @@ returns c =
     (and_then c.args.out.now c.help.new.out c.check_range.new.self
     (helper (scope_of c.args.level.now) ReadCharacter (c.args.a ∷ []) c.args.a ∷ [])
     (i.CheckRange c.args.a (pos 0) greatest 9 c.args.line.number ∷ [])
-    (c.in_ok-help.ensures ReadCharacter refl) c.in_ok-check_range.ensures)
+    c.in_ok-help.ensures c.in_ok-check_range.ensures)
     c.byte_fits.ensures

@@ -1,5 +1,3 @@
-use Rattle.std.proofs.Common.{refl}
-use Rattle.ps_lower_code.specs.Scopes.{ReadNumber}
 use Rattle.ps_lower.specs.Levels.{scope_of}
 use Rattle.ps_lower.proofs.Reading.{number_made}
 use Rattle.ps_lower.proofs.reads.take_number.Goals as goal
@@ -11,4 +9,4 @@ returns c =
     c.fits.result c.fits.new.out c.load.new.self c.check_number.new.out c.help.new.out c.offset.new.self
     c.args.out.now
     c.beside-into.ensures.value c.in_ok-offset.ensures
-    (c.in_ok-help.ensures ReadNumber refl) c.in_ok-check_number.ensures c.in_ok-load.ensures c.fits.ensures
+    c.in_ok-help.ensures c.in_ok-check_number.ensures c.in_ok-load.ensures c.fits.ensures

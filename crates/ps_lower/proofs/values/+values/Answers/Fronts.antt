@@ -7,7 +7,8 @@ use Rattle.ps_tree.specs.declared.tree.Expr.{Expr}
 use Rattle.ps_tree.specs.declared.tree.Structure.{Structure}
 use Rattle.ps_tree.specs.View.{place_of, expr_of, arithmetic_of, operands_of, structure_of, arguments_of, set_of}
 use Rattle.tac_code.specs.declared.code.Instruction.TheVariants as i
-use Rattle.ps_lower_code.specs.Scopes.{kept, held, beside, unless_known, helper, CompareBytes}
+use Rattle.tac_rt.specs.declared.run_time.RunTime.TheVariants.{CompareBytes}
+use Rattle.ps_lower_code.specs.Scopes.{kept, held, beside, unless_known, helper}
 use Rattle.ps_lower_code.specs.Statements.{expr_code}
 use Rattle.ps_lower_code.specs.Values.{literal_of, truth_finish, is_byte, text_length, structure_code, arguments_end}
 use Rattle.ps_lower_code.specs.Values.{asked_code}
