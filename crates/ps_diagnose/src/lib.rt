@@ -1,4 +1,4 @@
-//! Code: what a diagnostic tells beside the place of a refusal: the kinds of tokens that could stand there, names near by spelling, changes of the text.
+//! Code: what a diagnostic tells beside the place of a refusal: the kinds of tokens that could stand there, names near by spelling, how the required names are spelled, changes of the text.
 #![tactic(auto)]
 
 mod begun;
@@ -8,6 +8,7 @@ mod expected;
 mod groups;
 mod kinds;
 mod near;
+mod required;
 
 pub use begun::{Answer, begins};
 pub use changes::changed;
@@ -16,3 +17,4 @@ pub use expected::{could_stand, expected_at};
 pub use groups::grouped;
 pub use kinds::written;
 pub use near::nearest;
+pub use required::RequiredName;

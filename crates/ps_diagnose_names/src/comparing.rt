@@ -3,7 +3,8 @@
 use crate::context::Context;
 use crate::facts::{BOOLEAN, SET, SIMPLE, factor_in_simple, relation_word};
 use crate::why::{Change, Help, Mark, Why};
-use ps_diagnose_outline::{Form, Known, Type};
+use ps_diagnose::RequiredName;
+use ps_diagnose_outline::{Form, Type};
 use ps_syntax::{Factor, Relational, Simple};
 use ps_text::Span;
 
@@ -180,7 +181,7 @@ impl<'a> Context<'a> {
                 why.change = Change::For(sign.span, "in");
             }
         }
-        if matches!(self.known(pair.right), Known::End) {
+        if let Some(RequiredName::Eof | RequiredName::Eoln) = self.required(pair.right) {
             why.help = Help::Of("`@a` is a condition by itself, as in `not @a`", pair.right);
         }
         true

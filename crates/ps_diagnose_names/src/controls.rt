@@ -3,7 +3,8 @@
 use crate::context::Context;
 use crate::spot::Passed;
 use crate::why::{Help, Mark, Why};
-use ps_diagnose_outline::{Known, Point, PointKind};
+use ps_diagnose::RequiredName;
+use ps_diagnose_outline::{Point, PointKind};
 use ps_scan::Kind;
 use ps_text::Span;
 
@@ -86,8 +87,10 @@ impl<'a> Context<'a> {
             why.form = "`@p` controls a `for`, and is assigned within it";
             return;
         };
-        why.form = match self.known(passed.routine) {
-            Known::Read | Known::Readln => "`@p` controls a `for`, and is read within it",
+        why.form = match self.required(passed.routine) {
+            Some(RequiredName::Read | RequiredName::Readln) => {
+                "`@p` controls a `for`, and is read within it"
+            }
             _ => "`@p` controls a `for`, and is passed for a `var` parameter within it",
         };
     }

@@ -2,7 +2,8 @@
 
 use crate::context::Context;
 use crate::why::{Help, Mark, Why};
-use ps_diagnose_outline::{Known, Point, PointKind};
+use ps_diagnose::RequiredName;
+use ps_diagnose_outline::{Point, PointKind};
 use ps_text::Span;
 
 impl<'a> Context<'a> {
@@ -20,7 +21,13 @@ impl<'a> Context<'a> {
                 self.count_declared(name, routine, given, why);
                 true
             }
-            None => count_required(self.known(name), self.required_name(name), given, why),
+            None => match self.required(name) {
+                Some(required) => {
+                    count_required(required, given, why);
+                    true
+                }
+                None => false,
+            },
         }
     }
 
@@ -99,21 +106,21 @@ impl<'a> Context<'a> {
 }
 
 // A required routine.
-fn count_required(known: Known, name: &'static str, given: u32, why: &mut Why) -> bool {
-    why.form = match known {
-        Known::No => return false,
-        Known::Read => "`read` takes at least one variable",
-        Known::Write => "`write` takes at least one value",
-        Known::End => "`@w` takes at most 1 parameter, and is given @N",
-        Known::Pack => "`@w` takes 3 parameters, and is given @N",
+fn count_required(required: RequiredName, given: u32, why: &mut Why) {
+    why.form = match required {
+        RequiredName::Read => "`read` takes at least one variable",
+        RequiredName::Write => "`write` takes at least one value",
+        RequiredName::Eof | RequiredName::Eoln => {
+            "`@w` takes at most 1 parameter, and is given @N"
+        }
+        RequiredName::Pack | RequiredName::Unpack => "`@w` takes 3 parameters, and is given @N",
         _ => "`@w` takes 1 parameter, and is given @N",
     };
-    why.word = name;
+    why.word = required.spelling();
     why.number = i64::from(given);
-    match known {
-        Known::Read => why.help = Help::Is("`readln` alone passes over the rest of a line"),
-        Known::Write => why.help = Help::Is("`writeln` alone ends a line"),
+    match required {
+        RequiredName::Read => why.help = Help::Is("`readln` alone passes over the rest of a line"),
+        RequiredName::Write => why.help = Help::Is("`writeln` alone ends a line"),
         _ => {}
     }
-    true
 }

@@ -1,9 +1,8 @@
 //! What is asked of a text where a sentence is made.
 
 use crate::context::Context;
-use ps_diagnose_outline::{
-    Denoted, Form, Known, Part, Point, PointKind, Required, RequiredKind, Type,
-};
+use ps_diagnose::RequiredName;
+use ps_diagnose_outline::{Denoted, Form, Part, Point, PointKind, Required, RequiredKind, Type};
 use ps_scan::Token;
 use ps_syntax::{Expr, Factor, Relational, Simple, Term, Variable};
 use ps_text::Span;
@@ -18,19 +17,11 @@ impl<'a> Context<'a> {
         }
     }
 
-    /// The name that a required name has, if one denotes it there.
-    pub(crate) fn required_name(&self, name: Span) -> &'static str {
+    /// The required name that a name denotes.
+    pub(crate) fn required(&self, name: Span) -> Option<RequiredName> {
         match self.outline.required(name) {
-            Some(required) => required.name,
-            None => "",
-        }
-    }
-
-    /// What a required name is that a name denotes.
-    pub(crate) fn known(&self, name: Span) -> Known {
-        match self.outline.required(name) {
-            Some(required) => required.known,
-            None => Known::No,
+            Some(required) => Some(required.name),
+            None => None,
         }
     }
 

@@ -7,7 +7,8 @@ use crate::facts::{
 };
 use crate::spot::{Passed, Spot};
 use crate::why::{Change, Help, Mark, Why};
-use ps_diagnose_outline::{Form, Known, Part, Point, PointKind, Type, required_names};
+use ps_diagnose::RequiredName;
+use ps_diagnose_outline::{Form, Part, Point, PointKind, Type, required_names};
 use ps_scan::Kind;
 use ps_syntax::{Constant, Expr, Parameter, Selector, Variable};
 use ps_text::Span;
@@ -26,7 +27,7 @@ impl<'a> Context<'a> {
     fn hides_required(&self, name: Span) -> bool {
         let written = self.outline.bytes(name);
         for required in required_names() {
-            if written.eq_ignore_ascii_case(required.name.as_bytes()) {
+            if written.eq_ignore_ascii_case(required.name.spelling().as_bytes()) {
                 return self.outline.declared(name).is_some();
             }
         }
@@ -180,7 +181,10 @@ impl<'a> Context<'a> {
 
     // Tries a procedure that gives a variable its value as a statement, with the variable that the value seems to be assigned to.
     fn with_statement(&self, name: Span, why: &mut Why) {
-        if !matches!(self.known(name), Known::Read | Known::Readln | Known::New) {
+        if !matches!(
+            self.required(name),
+            Some(RequiredName::Read | RequiredName::Readln | RequiredName::New)
+        ) {
             return;
         }
         why.help = Help::Is("it gives a variable its value, as a statement: `@x(..)`");
@@ -303,10 +307,10 @@ impl<'a> Context<'a> {
     }
 
     fn no_routine(&self, passed: Passed<'_>, formal: Point, word: &'static str, why: &mut Why) {
-        match self.outline.required(self.fault.place) {
+        match self.required(self.fault.place) {
             Some(required) => {
                 why.form = "`@w` is required by the language, and cannot be passed";
-                why.word = required.name;
+                why.word = required.spelling();
                 why.help = Help::Is("declare a routine of your own that calls it, and pass that");
             }
             None => {
@@ -322,9 +326,16 @@ impl<'a> Context<'a> {
 
     // A parameter of a required procedure that takes a variable.
     fn wrong_required(&self, routine: Span, value: &Expr, why: &mut Why) -> bool {
-        let (form, is_read) = match self.known(routine) {
-            Known::Read | Known::Readln => ("`@x` is no variable, and cannot be read", true),
-            Known::New | Known::Pack => ("`@x` is no variable, and `@w` takes one", false),
+        let Some(required) = self.required(routine) else {
+            return false;
+        };
+        let (form, is_read) = match required {
+            RequiredName::Read | RequiredName::Readln => {
+                ("`@x` is no variable, and cannot be read", true)
+            }
+            RequiredName::New | RequiredName::Pack | RequiredName::Unpack => {
+                ("`@x` is no variable, and `@w` takes one", false)
+            }
             _ => return false,
         };
         if self.is_a_variable(value) {
@@ -333,7 +344,7 @@ impl<'a> Context<'a> {
         let text = self.expr_span(value);
         why.form = form;
         why.text = text;
-        why.word = self.required_name(routine);
+        why.word = required.spelling();
         why.mark = Mark::Variable(text);
         if is_read && is_text(value) {
             why.help = Help::Is("what is asked for is written before, by `write`");

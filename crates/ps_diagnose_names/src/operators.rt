@@ -3,7 +3,8 @@
 use crate::context::Context;
 use crate::facts::{BOOLEAN, CHAR, INTEGER, SET, SIMPLE};
 use crate::why::{Change, Help, Mark, Why};
-use ps_diagnose_outline::{Form, Known, Part, Type};
+use ps_diagnose::RequiredName;
+use ps_diagnose_outline::{Form, Part, Type};
 use ps_scan::Kind;
 use ps_syntax::{Adding, Factor, Multiplying, Sign, Simple, Term};
 use ps_text::Span;
@@ -293,7 +294,10 @@ impl<'a> Context<'a> {
 
     /// Whether a name denotes `write` or `writeln`.
     pub(crate) fn is_writing(&self, name: Span) -> bool {
-        matches!(self.known(name), Known::Write | Known::Writeln)
+        matches!(
+            self.required(name),
+            Some(RequiredName::Write | RequiredName::Writeln)
+        )
     }
 
     // Whether the place is in a parameter of `write`, or behind a sign as it stands in one.

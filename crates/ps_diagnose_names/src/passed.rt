@@ -4,7 +4,8 @@ use crate::context::Context;
 use crate::facts::{BOOLEAN, CHAR, INTEGER, POINTER, SIMPLE, variable_in};
 use crate::spot::Passed;
 use crate::why::{Change, Help, Mark, Why};
-use ps_diagnose_outline::{Form, Known, PointKind, Type};
+use ps_diagnose::RequiredName;
+use ps_diagnose_outline::{Form, PointKind, Type};
 use ps_syntax::{Expr, Selector};
 use ps_text::Span;
 
@@ -55,25 +56,31 @@ impl<'a> Context<'a> {
         let Some(ty) = self.outline.type_of(value) else {
             return false;
         };
-        let known = self.known(routine);
-        let (taken, form) = match known {
-            Known::Read | Known::Readln => (INTEGER | CHAR, ""),
-            Known::Write | Known::Writeln => (INTEGER | CHAR | BOOLEAN, ""),
-            Known::New => (POINTER, "`@w` takes a pointer, and `@x` is @t"),
-            Known::Number => (INTEGER, "`@w` takes an integer, and `@x` is @t"),
-            Known::Order => (
+        let Some(required) = self.required(routine) else {
+            return false;
+        };
+        let (taken, form) = match required {
+            RequiredName::Read | RequiredName::Readln => (INTEGER | CHAR, ""),
+            RequiredName::Write | RequiredName::Writeln => (INTEGER | CHAR | BOOLEAN, ""),
+            RequiredName::New => (POINTER, "`@w` takes a pointer, and `@x` is @t"),
+            RequiredName::Abs | RequiredName::Sqr | RequiredName::Odd | RequiredName::Chr => {
+                (INTEGER, "`@w` takes an integer, and `@x` is @t")
+            }
+            RequiredName::Ord | RequiredName::Succ | RequiredName::Pred => (
                 SIMPLE,
                 "`@w` takes a value of a simple type, and `@x` is @t",
             ),
-            Known::End => (0, "`@w` takes a file, and `@x` is @t"),
+            RequiredName::Eof | RequiredName::Eoln => (0, "`@w` takes a file, and `@x` is @t"),
             _ => return false,
         };
         if self.is(ty, taken) {
             return false;
         }
-        match known {
-            Known::Read | Known::Readln => return self.cannot_be(value, ty, "read", why),
-            Known::Write | Known::Writeln => {
+        match required {
+            RequiredName::Read | RequiredName::Readln => {
+                return self.cannot_be(value, ty, "read", why);
+            }
+            RequiredName::Write | RequiredName::Writeln => {
                 return !self.is_string(ty) && self.cannot_be(value, ty, "written", why);
             }
             _ => {}
@@ -83,15 +90,17 @@ impl<'a> Context<'a> {
         };
         let text = self.expr_span(value);
         why.form = form;
-        why.word = self.required_name(routine);
+        why.word = required.spelling();
         why.text = text;
         why.ty = ty;
         why.mark = Mark::Variable(text);
-        if matches!(known, Known::New) {
-            with_pointer(value, why);
-        } else if why.word == "chr" && self.is(ty, CHAR) {
-            why.help = Help::Is("it is a character already");
-            why.change = Change::With(self.factor_extent(routine.from), text, "@b");
+        match required {
+            RequiredName::New => with_pointer(value, why),
+            RequiredName::Chr if self.is(ty, CHAR) => {
+                why.help = Help::Is("it is a character already");
+                why.change = Change::With(self.factor_extent(routine.from), text, "@b");
+            }
+            _ => {}
         }
         true
     }

@@ -2,7 +2,8 @@
 
 use crate::context::Context;
 use crate::why::{Change, Help, Mark, Why};
-use ps_diagnose_outline::{Known, Point};
+use ps_diagnose::RequiredName;
+use ps_diagnose_outline::Point;
 use ps_scan::Kind;
 
 impl<'a> Context<'a> {
@@ -20,14 +21,21 @@ impl<'a> Context<'a> {
 
     /// A file that the heading of the program lacks.
     pub(crate) fn no_file(&self, why: &mut Why) -> bool {
-        let known = self.known(self.fault.place);
-        match file_of(known) {
+        let required = self.required(self.fault.place);
+        match file_of(required) {
             Some(file) => {
-                why.form = match known {
-                    Known::Input | Known::Output => "`@w` is not in the heading of the program",
+                why.form = match required {
+                    Some(RequiredName::Input | RequiredName::Output) => {
+                        "`@w` is not in the heading of the program"
+                    }
                     _ => "`@p` needs `@w` in the heading of the program",
                 };
-                why.word = if file { "output" } else { "input" };
+                let name = if file {
+                    RequiredName::Output
+                } else {
+                    RequiredName::Input
+                };
+                why.word = name.spelling();
                 why.change = self.file_change(file);
                 true
             }
@@ -51,7 +59,7 @@ impl<'a> Context<'a> {
     fn lacks_both(&self, is_output: bool) -> bool {
         for token in self.fault.tokens {
             if token.kind == Kind::Name {
-                match file_of(self.known(token.span)) {
+                match file_of(self.required(token.span)) {
                     Some(other) if other != is_output => return true,
                     _ => {}
                 }
@@ -126,10 +134,14 @@ impl<'a> Context<'a> {
 }
 
 // Whether a required name needs the output, or the input.
-fn file_of(known: Known) -> Option<bool> {
-    match known {
-        Known::Write | Known::Writeln | Known::Output => Some(true),
-        Known::Read | Known::Readln | Known::End | Known::Input => Some(false),
+fn file_of(required: Option<RequiredName>) -> Option<bool> {
+    match required? {
+        RequiredName::Write | RequiredName::Writeln | RequiredName::Output => Some(true),
+        RequiredName::Read
+        | RequiredName::Readln
+        | RequiredName::Eof
+        | RequiredName::Eoln
+        | RequiredName::Input => Some(false),
         _ => None,
     }
 }

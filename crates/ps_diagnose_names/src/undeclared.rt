@@ -5,7 +5,8 @@ use crate::facts::CHAR;
 use crate::operators::{adding_of, multiplying_of};
 use crate::spot::Spot;
 use crate::why::{Change, Help, Why};
-use ps_diagnose_outline::{Form, Known, Part, PointKind, Type};
+use ps_diagnose::RequiredName;
+use ps_diagnose_outline::{Form, Part, PointKind, Type};
 use ps_scan::{Kind, Token};
 use ps_syntax::{Adding, Expr, Member, Multiplying};
 use ps_text::Span;
@@ -195,10 +196,15 @@ impl<'a> Context<'a> {
                 Some(formal) => formal.ty,
                 None => None,
             },
-            None => match self.known(name) {
-                Known::Read | Known::Readln | Known::Write | Known::Writeln | Known::Number => {
-                    Some(Type::Integer)
-                }
+            None => match self.required(name)? {
+                RequiredName::Read
+                | RequiredName::Readln
+                | RequiredName::Write
+                | RequiredName::Writeln
+                | RequiredName::Abs
+                | RequiredName::Sqr
+                | RequiredName::Odd
+                | RequiredName::Chr => Some(Type::Integer),
                 _ => None,
             },
         }

@@ -372,7 +372,7 @@ impl<'a> Context<'a> {
         for required in required_names() {
             if let Some(kind) = required_kind(*required) {
                 if self.could_stand(kind) {
-                    names.push(required.name)?;
+                    names.push(required.name.spelling())?;
                 }
             }
         }

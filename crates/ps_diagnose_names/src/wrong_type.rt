@@ -5,7 +5,8 @@ use crate::facts::{BOOLEAN, CHAR, INTEGER, SIMPLE};
 use crate::selected::no_content;
 use crate::spot::{Passed, Spot};
 use crate::why::{Change, Help, Mark, Why};
-use ps_diagnose_outline::{Form, Known, Type};
+use ps_diagnose::RequiredName;
+use ps_diagnose_outline::{Form, Type};
 use ps_syntax::{Constant, Expr, Member, Ordinal, Variable};
 use ps_text::Span;
 
@@ -172,8 +173,8 @@ impl<'a> Context<'a> {
 
     // A width.
     fn wrong_width(&self, name: Span, value: &Expr, why: &mut Why) -> bool {
-        match self.known(name) {
-            Known::Write | Known::Writeln => self.not_wanted(
+        match self.required(name) {
+            Some(RequiredName::Write | RequiredName::Writeln) => self.not_wanted(
                 value,
                 INTEGER,
                 "a width is an integer, and `@x` is @t",

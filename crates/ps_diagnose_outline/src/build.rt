@@ -104,7 +104,7 @@ impl<'a> Builder<'a> {
     // Reads the names, the required ones first.
     fn read_names(&mut self) {
         for required in REQUIRED.iter() {
-            self.spell(required.name.as_bytes());
+            self.spell(required.name.spelling().as_bytes());
         }
         for token in self.outline.tokens {
             let mut spelling = u32::MAX;

@@ -22,4 +22,4 @@ pub use outline::{Denoted, Outline};
 pub use parts::{
     Denoter, Form, Point, PointKind, Region, RegionKind, Shape, Type, small as count_of,
 };
-pub use required::{Known, Required, RequiredKind};
+pub use required::{Required, RequiredKind};

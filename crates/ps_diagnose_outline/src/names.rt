@@ -6,7 +6,7 @@ use crate::required::{REQUIRED, Required};
 use ps_diagnose::nearest;
 use std::alloc::{AllocError, Global};
 
-/// The required names, in small letters, with what they stand for.
+/// The required names, with what they stand for.
 pub fn required_names() -> &'static [Required] {
     &REQUIRED
 }

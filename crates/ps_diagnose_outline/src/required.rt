@@ -1,6 +1,7 @@
-//! Required names (ISO 7185, annex C).
+//! What the required names stand for.
 
 use crate::parts::Type;
+use ps_diagnose::RequiredName;
 
 /// What a required name stands for.
 #[derive(Clone, Copy)]
@@ -16,36 +17,11 @@ pub enum RequiredKind {
     LeftOut,
 }
 
-/// What a name is as far as its parameters go, if it is required.
-#[derive(Clone, Copy)]
-pub enum Known {
-    Read,
-    Readln,
-    Write,
-    Writeln,
-    New,
-    /// `pack` and `unpack`.
-    Pack,
-    /// A function of an integer.
-    Number,
-    /// A function of a value of a simple type.
-    Order,
-    /// `eof` and `eoln`.
-    End,
-    Input,
-    Output,
-    /// Another one.
-    Other,
-    /// It is not required.
-    No,
-}
-
-/// A required name, in small letters but for `Boolean`, and what it stands for.
+/// A required name, and what it stands for.
 #[derive(Clone, Copy)]
 pub struct Required {
-    pub name: &'static str,
+    pub name: RequiredName,
     pub kind: RequiredKind,
-    pub known: Known,
     /// The type of a function's result, if it is the same of all parameters.
     pub(crate) result: Option<Type>,
 }
@@ -56,249 +32,208 @@ pub(crate) const COUNT: usize = 41;
 /// All of them, in the order of their spellings' numbers.
 pub(crate) static REQUIRED: [Required; COUNT] = [
     Required {
-        name: "integer",
+        name: RequiredName::Integer,
         kind: RequiredKind::Type(Type::Integer),
-        known: Known::Other,
         result: None,
     },
     Required {
-        name: "char",
+        name: RequiredName::Char,
         kind: RequiredKind::Type(Type::Char),
-        known: Known::Other,
         result: None,
     },
     Required {
-        name: "boolean",
+        name: RequiredName::Boolean,
         kind: RequiredKind::Type(Type::Boolean),
-        known: Known::Other,
         result: None,
     },
     Required {
-        name: "maxint",
+        name: RequiredName::Maxint,
         kind: RequiredKind::Constant(Type::Integer, 2_147_483_647),
-        known: Known::Other,
         result: None,
     },
     Required {
-        name: "false",
+        name: RequiredName::False,
         kind: RequiredKind::Constant(Type::Boolean, 0),
-        known: Known::Other,
         result: None,
     },
     Required {
-        name: "true",
+        name: RequiredName::True,
         kind: RequiredKind::Constant(Type::Boolean, 1),
-        known: Known::Other,
         result: None,
     },
     Required {
-        name: "abs",
+        name: RequiredName::Abs,
         kind: RequiredKind::Function,
-        known: Known::Number,
         result: Some(Type::Integer),
     },
     Required {
-        name: "sqr",
+        name: RequiredName::Sqr,
         kind: RequiredKind::Function,
-        known: Known::Number,
         result: Some(Type::Integer),
     },
     Required {
-        name: "odd",
+        name: RequiredName::Odd,
         kind: RequiredKind::Function,
-        known: Known::Number,
         result: Some(Type::Boolean),
     },
     Required {
-        name: "chr",
+        name: RequiredName::Chr,
         kind: RequiredKind::Function,
-        known: Known::Number,
         result: Some(Type::Char),
     },
     Required {
-        name: "ord",
+        name: RequiredName::Ord,
         kind: RequiredKind::Function,
-        known: Known::Order,
         result: Some(Type::Integer),
     },
     Required {
-        name: "succ",
+        name: RequiredName::Succ,
         kind: RequiredKind::Function,
-        known: Known::Order,
         result: None,
     },
     Required {
-        name: "pred",
+        name: RequiredName::Pred,
         kind: RequiredKind::Function,
-        known: Known::Order,
         result: None,
     },
     Required {
-        name: "eof",
+        name: RequiredName::Eof,
         kind: RequiredKind::Function,
-        known: Known::End,
         result: Some(Type::Boolean),
     },
     Required {
-        name: "eoln",
+        name: RequiredName::Eoln,
         kind: RequiredKind::Function,
-        known: Known::End,
         result: Some(Type::Boolean),
     },
     Required {
-        name: "read",
+        name: RequiredName::Read,
         kind: RequiredKind::Procedure,
-        known: Known::Read,
         result: None,
     },
     Required {
-        name: "readln",
+        name: RequiredName::Readln,
         kind: RequiredKind::Procedure,
-        known: Known::Readln,
         result: None,
     },
     Required {
-        name: "write",
+        name: RequiredName::Write,
         kind: RequiredKind::Procedure,
-        known: Known::Write,
         result: None,
     },
     Required {
-        name: "writeln",
+        name: RequiredName::Writeln,
         kind: RequiredKind::Procedure,
-        known: Known::Writeln,
         result: None,
     },
     Required {
-        name: "new",
+        name: RequiredName::New,
         kind: RequiredKind::Procedure,
-        known: Known::New,
         result: None,
     },
     Required {
-        name: "pack",
+        name: RequiredName::Pack,
         kind: RequiredKind::Procedure,
-        known: Known::Pack,
         result: None,
     },
     Required {
-        name: "unpack",
+        name: RequiredName::Unpack,
         kind: RequiredKind::Procedure,
-        known: Known::Pack,
         result: None,
     },
     Required {
-        name: "input",
+        name: RequiredName::Input,
         kind: RequiredKind::File,
-        known: Known::Input,
         result: None,
     },
     Required {
-        name: "output",
+        name: RequiredName::Output,
         kind: RequiredKind::File,
-        known: Known::Output,
         result: None,
     },
     Required {
-        name: "real",
+        name: RequiredName::Real,
         kind: RequiredKind::LeftOut,
-        known: Known::Other,
         result: None,
     },
     Required {
-        name: "text",
+        name: RequiredName::Text,
         kind: RequiredKind::LeftOut,
-        known: Known::Other,
         result: None,
     },
     Required {
-        name: "trunc",
+        name: RequiredName::Trunc,
         kind: RequiredKind::LeftOut,
-        known: Known::Other,
         result: None,
     },
     Required {
-        name: "round",
+        name: RequiredName::Round,
         kind: RequiredKind::LeftOut,
-        known: Known::Other,
         result: None,
     },
     Required {
-        name: "sin",
+        name: RequiredName::Sin,
         kind: RequiredKind::LeftOut,
-        known: Known::Other,
         result: None,
     },
     Required {
-        name: "cos",
+        name: RequiredName::Cos,
         kind: RequiredKind::LeftOut,
-        known: Known::Other,
         result: None,
     },
     Required {
-        name: "exp",
+        name: RequiredName::Exp,
         kind: RequiredKind::LeftOut,
-        known: Known::Other,
         result: None,
     },
     Required {
-        name: "ln",
+        name: RequiredName::Ln,
         kind: RequiredKind::LeftOut,
-        known: Known::Other,
         result: None,
     },
     Required {
-        name: "sqrt",
+        name: RequiredName::Sqrt,
         kind: RequiredKind::LeftOut,
-        known: Known::Other,
         result: None,
     },
     Required {
-        name: "arctan",
+        name: RequiredName::Arctan,
         kind: RequiredKind::LeftOut,
-        known: Known::Other,
         result: None,
     },
     Required {
-        name: "get",
+        name: RequiredName::Get,
         kind: RequiredKind::LeftOut,
-        known: Known::Other,
         result: None,
     },
     Required {
-        name: "put",
+        name: RequiredName::Put,
         kind: RequiredKind::LeftOut,
-        known: Known::Other,
         result: None,
     },
     Required {
-        name: "reset",
+        name: RequiredName::Reset,
         kind: RequiredKind::LeftOut,
-        known: Known::Other,
         result: None,
     },
     Required {
-        name: "rewrite",
+        name: RequiredName::Rewrite,
         kind: RequiredKind::LeftOut,
-        known: Known::Other,
         result: None,
     },
     Required {
-        name: "page",
+        name: RequiredName::Page,
         kind: RequiredKind::LeftOut,
-        known: Known::Other,
         result: None,
     },
     Required {
-        name: "dispose",
+        name: RequiredName::Dispose,
         kind: RequiredKind::LeftOut,
-        known: Known::Other,
         result: None,
     },
     Required {
-        name: "forward",
+        name: RequiredName::Forward,
         kind: RequiredKind::LeftOut,
-        known: Known::Other,
         result: None,
     },
 ];

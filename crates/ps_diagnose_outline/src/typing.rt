@@ -3,7 +3,8 @@
 use crate::extent::{Part, open_behind, reaches};
 use crate::outline::{Denoted, Outline};
 use crate::parts::{Form, Point, PointKind, Shape, Type};
-use crate::required::{Known, RequiredKind};
+use crate::required::RequiredKind;
+use ps_diagnose::RequiredName;
 use ps_scan::Kind;
 use ps_syntax::{Adding, Expr, Factor, Multiplying, Selector, Simple, Term, Variable};
 use ps_text::Span;
@@ -187,9 +188,9 @@ impl<'a> Outline<'a> {
     pub fn type_of_name(&self, name: Span) -> Option<Type> {
         match self.denoted(name) {
             Some(Denoted::Declared(point)) => self.value_type(point),
-            Some(Denoted::Required(required)) => match (required.kind, required.known) {
+            Some(Denoted::Required(required)) => match (required.kind, required.name) {
                 (RequiredKind::Constant(ty, _), _) => Some(ty),
-                (_, Known::End) => required.result,
+                (_, RequiredName::Eof | RequiredName::Eoln) => required.result,
                 _ => None,
             },
             None => None,
@@ -278,8 +279,8 @@ impl<'a> Outline<'a> {
     fn type_of_call(&self, parameters: &[Expr], name: Span) -> Option<Type> {
         match (self.denoted(name), parameters.first()) {
             (Some(Denoted::Declared(point)), _) => self.value_type(point),
-            (Some(Denoted::Required(required)), Some(first)) => match required.known {
-                Known::Order if required.result.is_none() => self.ordinal(self.type_of(first)),
+            (Some(Denoted::Required(required)), Some(first)) => match required.name {
+                RequiredName::Succ | RequiredName::Pred => self.ordinal(self.type_of(first)),
                 _ => required.result,
             },
             (Some(Denoted::Required(required)), None) => required.result,

@@ -2,14 +2,13 @@
 
 use crate::context::Context;
 use crate::kinds::{ENDS_PART, PARTS, WORDS};
-use crate::lists::TYPES;
 use crate::rule::Place::{
     Ahead, Back, BeforeTop, BehindNames, Here, Routines, StatementEnd, Top, TopEnd,
 };
 use crate::rule::Reach::{Between, One, To, UpTo};
 use crate::rule::Step::{
-    Also, Exchange, Fails, Has, Help, Holds, InPart, Is, IsNot, IsShown, Label, No, NotInPart, Or,
-    Put, PutBefore, PutBehind, Rule, Spelled, Tell, Token, Tokens, Why,
+    Also, Exchange, Fails, Has, Help, Holds, InPart, Is, IsNot, IsShown, Label, NamesType, No,
+    NotInPart, Or, Put, PutBefore, PutBehind, Rule, Tell, Token, Tokens, Why,
 };
 use crate::rule::{Fact, More, Steps};
 use crate::tests::first_of;
@@ -213,7 +212,7 @@ const IN_DECLARATIONS: Steps = &[
     Is(Here, &[Kind::Comma, Kind::Semicolon]),
     Is(Back(1), &[Kind::Name]),
     Is(Back(2), &[Kind::Colon]),
-    Spelled(Back(3), TYPES),
+    NamesType(Back(3)),
     InPart(&[Kind::Var]),
     Holds(Fact::Declarations),
     Why("a variable stands before `:`, and its type behind it"),

@@ -3,13 +3,12 @@
 use crate::context::Context;
 use crate::declaring::BEGINS_TYPE;
 use crate::kinds::{COMPARES, OPERATORS};
-use crate::lists::TYPES;
 use crate::places::number_of;
 use crate::rule::Place::{Ahead, Back, BeforeTop, Begun, BehindNames, Here, Start, Top, TopEnd};
 use crate::rule::Reach::{Between, One, To};
 use crate::rule::Step::{
-    Exchange, Help, Holds, InBody, Is, Label, Or, Put, Rule, Same, Spelled, TakeAway, Tell, Tokens,
-    Why,
+    Exchange, Help, Holds, InBody, Is, Label, NamesType, Or, Put, Rule, Same, Spelled, TakeAway,
+    Tell, Tokens, Why,
 };
 use crate::rule::{Fact, More, Place, Steps};
 use crate::spread::statement_end;
@@ -94,7 +93,7 @@ const IN_STATEMENTS: Steps = &[
     Is(Here, &[Kind::Name]),
     Holds(Fact::Statements),
     Same(Start, Back(1)),
-    Spelled(Back(1), TYPES),
+    NamesType(Back(1)),
     Why(AMONG),
     Label(One(Begun), "the `begin`"),
     Help("in the `var` part a variable is declared as `n: integer`"),

@@ -46,6 +46,33 @@ pub(crate) const OPERATORS: &[Kind] = &[
     Kind::And,
 ];
 
+/// The operators before which a second one stands.
+pub(crate) const ADDS_OR_MULTIPLIES: &[Kind] = &[
+    Kind::Plus,
+    Kind::Minus,
+    Kind::Star,
+    Kind::Slash,
+    Kind::Div,
+    Kind::Mod,
+];
+
+/// What an operand stands behind.
+pub(crate) const BEFORE_OPERAND: &[Kind] = &[
+    Kind::Assign,
+    Kind::LeftParen,
+    Kind::LeftBracket,
+    Kind::Comma,
+    Kind::Plus,
+    Kind::Minus,
+    Kind::Equal,
+    Kind::NotEqual,
+    Kind::If,
+    Kind::While,
+    Kind::Until,
+    Kind::To,
+    Kind::Downto,
+];
+
 /// What joins two conditions.
 pub(crate) const JOINS: &[Kind] = &[Kind::And, Kind::Or];
 

@@ -6,12 +6,13 @@ use crate::rows::{Part, other_pascal};
 use crate::rule::Place::{Ahead, Back, Here, Start, Top};
 use crate::rule::Reach::To;
 use crate::rule::Step::{
-    Advice, Also, Exchange, Fails, Help, Is, IsNot, Or, Origin, Put, Rule, Same, Says, Spelled,
-    Tell, Token, Touches,
+    Advice, Also, Exchange, Fails, Help, Is, IsNot, Names, Or, Origin, Put, Rule, Same, Says, Tell,
+    Token, Touches,
 };
 use crate::rule::{Fact, More, Steps};
 use crate::tell::{Telling, exchange, joined};
 use crate::tests::first_of;
+use ps_diagnose::RequiredName;
 use ps_scan::Kind;
 
 // What is left out; the last rule fits each refusal.
@@ -108,7 +109,7 @@ const LEFT_OUT: Steps = &[
     // `input` elsewhere than first in a list of parameters
     Rule,
     Is(Here, &[Kind::Name]),
-    Spelled(Here, "input"),
+    Names(Here, &[RequiredName::Input]),
     Says("`"),
     Token(Here),
     Put("` stands only first in `read`, `readln`, `eof` and `eoln`"),
@@ -125,7 +126,7 @@ const LEFT_OUT: Steps = &[
     // `output` elsewhere
     Rule,
     Is(Here, &[Kind::Name]),
-    Spelled(Here, "output"),
+    Names(Here, &[RequiredName::Output]),
     Says("`"),
     Token(Here),
     Put("` stands only first in `write` and `writeln`"),
@@ -143,7 +144,7 @@ const LEFT_OUT: Steps = &[
     Put("` is left out of this compiler"),
     Tell(More::LeftOut),
     Also,
-    Spelled(Here, reals::WORDS),
+    Names(Here, reals::NAMES),
     Tell(More::Reals),
 ];
 

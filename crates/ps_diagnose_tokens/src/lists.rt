@@ -7,11 +7,13 @@ use crate::rule::Place::{
 };
 use crate::rule::Reach::{Between, One, To, UpTo};
 use crate::rule::Step::{
-    Also, Exchange, Fails, Help, Holds, InPart, Is, IsNot, IsShown, Label, No, Or, Put, PutBefore,
-    PutBehind, Rule, Same, SeemsDeclared, Spelled, TakeAway, Token, Tokens, Why,
+    Also, Exchange, Fails, Help, Holds, InPart, Is, IsNot, IsShown, Label, Names, NamesType, No,
+    NotSpelled, Or, Put, PutBefore, PutBehind, Rule, Same, SeemsDeclared, Spelled, TakeAway, Token,
+    Tokens, Why,
 };
 use crate::rule::{Fact, Steps};
 use crate::tests::first_of;
+use ps_diagnose::RequiredName;
 use ps_scan::Kind;
 
 // What stands before a value.
@@ -86,14 +88,16 @@ const OF_VALUES: Steps = &[
     Help("what stands between `{` and `}` is a comment; a set stands between `[` and `]`"),
 ];
 
-/// Names that are those of types in most texts.
-pub(crate) const TYPES: &str = "integer int char boolean bool real string";
-
 // What stands before a parameter.
 const BEFORE_PARAMETER: &[Kind] = &[Kind::LeftParen, Kind::Semicolon, Kind::Var];
 
-/// The required procedures with parameters.
-pub(crate) const REQUIRED: &str = "write writeln read readln";
+/// The required procedures that read and write.
+pub(crate) const TRANSPUT: &[RequiredName] = &[
+    RequiredName::Write,
+    RequiredName::Writeln,
+    RequiredName::Read,
+    RequiredName::Readln,
+];
 
 // Headings and lists.
 const OF_HEADINGS: Steps = &[
@@ -133,7 +137,7 @@ const OF_HEADINGS: Steps = &[
     Is(Here, &[Kind::Name]),
     Is(Back(1), &[Kind::Name]),
     Is(Back(2), BEFORE_PARAMETER),
-    Spelled(Back(1), TYPES),
+    NamesType(Back(1)),
     Why("between a parameter and its type stands `:`"),
     Help("a parameter is declared as `n: integer`"),
     Also,
@@ -142,7 +146,7 @@ const OF_HEADINGS: Steps = &[
     Token(Here),
     Put(": integer"),
     Also,
-    Spelled(Back(1), "integer char boolean bool real string"),
+    NotSpelled(Back(1), "int"),
     Exchange(To(Back(1), Here), ""),
     Token(Here),
     Put(": "),
@@ -154,7 +158,7 @@ const OF_HEADINGS: Steps = &[
     Is(Here, &[Kind::Name]),
     Is(Back(1), &[Kind::Name]),
     Is(Back(2), BEFORE_PARAMETER),
-    Spelled(Here, TYPES),
+    NamesType(Here),
     Why("between a parameter and its type stands `:`"),
     Help("a parameter is declared as `n: integer`"),
 
@@ -165,7 +169,7 @@ const OF_HEADINGS: Steps = &[
     Is(Here, &[Kind::Name]),
     Is(Back(1), &[Kind::Name]),
     Is(Back(2), &[Kind::Var, Kind::Semicolon]),
-    Spelled(Back(1), TYPES),
+    NamesType(Back(1)),
     Why("between a variable and its type stands `:`"),
     Help("a variable is declared as `n: integer`"),
     Also,
@@ -175,7 +179,7 @@ const OF_HEADINGS: Steps = &[
     Tokens(UpTo(Here, StatementEnd)),
     Put(": integer"),
     Also,
-    Spelled(Back(1), "integer char boolean bool real string"),
+    NotSpelled(Back(1), "int"),
     IsShown(UpTo(Here, StatementEnd)),
     Exchange(UpTo(Back(1), StatementEnd), ""),
     Tokens(UpTo(Here, StatementEnd)),
@@ -211,13 +215,13 @@ const OF_HEADINGS: Steps = &[
     Is(Back(1), &[Kind::Name]),
     Holds(Fact::Statements),
     Is(Here, &[Kind::Text, Kind::Number]),
-    Spelled(Back(1), REQUIRED),
+    Names(Back(1), TRANSPUT),
     Or,
     Same(Start, Back(1)),
     Is(Back(1), &[Kind::Name]),
     Holds(Fact::Statements),
     Is(Here, &[Kind::Name]),
-    Spelled(Back(1), REQUIRED),
+    Names(Back(1), TRANSPUT),
     Holds(Fact::OneLine),
     Or,
     Same(Start, Back(1)),

@@ -9,11 +9,13 @@ use crate::rule::Place::{
 };
 use crate::rule::Reach::One;
 use crate::rule::Step::{
-    Advice, Also, Declares, Fails, Has, Help, Holds, InPart, Is, IsNot, Label, Move, No, NotInPart,
-    Or, Put, PutBefore, PutBehind, Rule, Same, SeemsDeclared, Spelled, TakeAway, Tell, Token, Why,
+    Advice, Also, Declares, Fails, Has, Help, Holds, InPart, Is, IsNot, Label, Move, Names, No,
+    NotInPart, Or, Put, PutBefore, PutBehind, Rule, Same, SeemsDeclared, TakeAway, Tell, Token,
+    Why,
 };
 use crate::rule::{Fact, More, Steps};
 use crate::tests::first_of;
+use ps_diagnose::RequiredName;
 use ps_scan::Kind;
 
 // Declarations among statements.
@@ -258,7 +260,7 @@ const AMONG_DECLARATIONS: Steps = &[
     Is(Back(1), &[Kind::Name]),
     Is(Back(2), BEFORE_START),
     Is(Here, &[Kind::Semicolon]),
-    Spelled(Back(1), "writeln readln"),
+    Names(Back(1), &[RequiredName::Writeln, RequiredName::Readln]),
     Why(BEGIN_MISSING),
     PutBefore(Back(1), "begin", "begin "),
     Tell(More::Words),

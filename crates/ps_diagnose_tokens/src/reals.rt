@@ -3,14 +3,25 @@
 use crate::context::Context;
 use crate::letters::{Class, byte_at, end_of, is_in, span_at};
 use crate::tell::{Telling, Text, empty, shown};
-use crate::tests::is_one_of;
+use crate::tests::is_named;
+use ps_diagnose::RequiredName;
 use ps_text::Span;
 
 // The most uses that are told.
 const MOST: u32 = 8;
 
-/// The words of real numbers, with a space between two.
-pub(crate) const WORDS: &str = "real sqrt sin cos arctan exp ln trunc round";
+/// The required names of real numbers.
+pub(crate) const NAMES: &[RequiredName] = &[
+    RequiredName::Real,
+    RequiredName::Sqrt,
+    RequiredName::Sin,
+    RequiredName::Cos,
+    RequiredName::Arctan,
+    RequiredName::Exp,
+    RequiredName::Ln,
+    RequiredName::Trunc,
+    RequiredName::Round,
+];
 
 // A piece of a text: a word, a number or a sign.
 #[derive(Clone, Copy)]
@@ -61,7 +72,7 @@ fn is_real(text: &[u8]) -> bool {
     if byte_at(text, 0).is_ascii_digit() {
         text.contains(&b'.')
     } else {
-        is_one_of(text, WORDS)
+        is_named(text, NAMES)
     }
 }
 

@@ -5,6 +5,7 @@
 use crate::letters::Class;
 use crate::rows::Part;
 use crate::signs::Sign;
+use ps_diagnose::RequiredName;
 use ps_scan::Kind;
 
 /// A token, by where it stands to the place, to what is open there, or to what has ended there.
@@ -236,6 +237,12 @@ pub(crate) enum Step {
     IsNot(Place, &'static [Kind]),
     /// A token is spelled as one of some words, with a space between two.
     Spelled(Place, &'static str),
+    /// It is spelled as none of them.
+    NotSpelled(Place, &'static str),
+    /// A token is one of some required names.
+    Names(Place, &'static [RequiredName]),
+    /// A token is the name of a type in most texts.
+    NamesType(Place),
     /// A token is a name that the text seems to declare.
     SeemsDeclared(Place),
     /// There is a token.

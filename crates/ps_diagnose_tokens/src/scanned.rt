@@ -13,7 +13,8 @@ use crate::signs::rule_of_byte;
 use crate::slashes::exchange_slashes;
 use crate::tell::{Telling, add_change, exchange, exchange_text, joined, shown, take_away};
 use crate::telling::advise;
-use crate::tests::first_of;
+use crate::tests::{first_of, is_named};
+use ps_diagnose::RequiredName;
 use ps_scan::Kind;
 use ps_text::Span;
 
@@ -315,7 +316,7 @@ fn alone_in_line(cx: &Context<'_>, end: usize) -> Option<Span> {
     let paren = cx.at.checked_sub(1)?;
     let name = cx.at.checked_sub(2)?;
     let is_alone = cx.is_of(paren, &[Kind::LeftParen]) && byte_at(cx.bytes, end) == b')';
-    if !is_alone || !cx.is_spelled(name, "writeln") {
+    if !is_alone || !is_named(cx.text(name), &[RequiredName::Writeln]) {
         return None;
     }
     Some(Span {

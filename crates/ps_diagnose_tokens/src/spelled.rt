@@ -2,7 +2,7 @@
 
 use crate::context::Context;
 use crate::tell::{Telling, empty, exchange};
-use ps_diagnose::nearest;
+use ps_diagnose::{RequiredName, nearest};
 use ps_scan::Kind;
 use std::alloc::AllocError;
 
@@ -39,9 +39,6 @@ const WORDS: [&str; 27] = [
 
 // The most letters of a name that is compared with them.
 const MOST: usize = 12;
-
-// The program's parameters.
-const FILES: [&str; 2] = ["input", "output"];
 
 // The one of some words that a name is near by spelling, if there is one.
 fn word_near(
@@ -87,7 +84,11 @@ fn propose_word(cx: &Context<'_>, to: &mut Telling, at: usize) {
 
 /// Proposes `input` or `output` for the name at the place.
 pub(crate) fn propose_file(cx: &Context<'_>, to: &mut Telling) {
-    propose_near(cx, to, cx.at, FILES.as_slice());
+    let files = [
+        RequiredName::Input.spelling(),
+        RequiredName::Output.spelling(),
+    ];
+    propose_near(cx, to, cx.at, files.as_slice());
 }
 
 /// Proposes words of the language for the token at the place and the one before it.

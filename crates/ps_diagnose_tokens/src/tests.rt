@@ -9,7 +9,19 @@ use crate::signs::sign_here;
 use crate::spread::next_of;
 use crate::tell::shown;
 use crate::walk::Stage;
+use ps_diagnose::RequiredName;
 use ps_scan::Kind;
+
+// The required types.
+const TYPES: &[RequiredName] = &[
+    RequiredName::Integer,
+    RequiredName::Char,
+    RequiredName::Boolean,
+    RequiredName::Real,
+];
+
+// What reads.
+const READS: &[RequiredName] = &[RequiredName::Read, RequiredName::Readln];
 
 /// What the first rule that fits tells, if one does: the steps behind its tests.
 pub(crate) fn first_of(cx: &Context<'_>, rules: Steps) -> Option<Steps> {
@@ -44,6 +56,9 @@ pub(crate) fn holds(cx: &Context<'_>, step: &Step) -> Option<bool> {
         Step::Is(place, kinds) => Some(is_of(cx, place, kinds)),
         Step::IsNot(place, kinds) => Some(!is_of(cx, place, kinds)),
         Step::Spelled(place, words) => Some(is_one_of(text_at(cx, place), words)),
+        Step::NotSpelled(place, words) => Some(!is_one_of(text_at(cx, place), words)),
+        Step::Names(place, names) => Some(is_named(text_at(cx, place), names)),
+        Step::NamesType(place) => Some(names_type(text_at(cx, place))),
         Step::Has(place) => Some(number_of(cx, place).is_some()),
         Step::No(place) => Some(number_of(cx, place).is_none()),
         Step::Same(a, b) => Some(are_same(cx, a, b)),
@@ -91,14 +106,29 @@ fn text_at<'a>(cx: &Context<'a>, place: &Place) -> &'a [u8] {
     }
 }
 
-/// Whether a text is one of some words, with a space between two. Capital and small letters count alike.
-pub(crate) fn is_one_of(text: &[u8], words: &str) -> bool {
+// Whether a text is one of some words, with a space between two. Capital and small letters count alike.
+fn is_one_of(text: &[u8], words: &str) -> bool {
     for word in words.split(' ') {
         if text.eq_ignore_ascii_case(word.as_bytes()) {
             return true;
         }
     }
     false
+}
+
+/// Whether a text is one of some required names. Capital and small letters count alike.
+pub(crate) fn is_named(text: &[u8], names: &[RequiredName]) -> bool {
+    for name in names {
+        if text.eq_ignore_ascii_case(name.spelling().as_bytes()) {
+            return true;
+        }
+    }
+    false
+}
+
+// Whether a text is the name of a type in most texts, of this Pascal or of another.
+fn names_type(text: &[u8]) -> bool {
+    is_named(text, TYPES) || is_one_of(text, "int bool string")
 }
 
 // Whether two tokens are one.
@@ -229,7 +259,7 @@ fn is_behind_variable(cx: &Context<'_>) -> bool {
 // Whether the text seems to read.
 fn reads(cx: &Context<'_>) -> bool {
     for at in 0..cx.tokens.len() {
-        if cx.is_of(at, &[Kind::Name]) && is_one_of(cx.text(at), "read readln") {
+        if cx.is_of(at, &[Kind::Name]) && is_named(cx.text(at), READS) {
             return true;
         }
     }

@@ -5,7 +5,8 @@ use crate::uses::{
     ASSIGNED, Body, CALLS, CHANGED, CONTENTS, DISTANT, FIELDS, GIVEN, INPUTS, LOOP_ENDS, LOOPS,
     OPENED, READ, Uses,
 };
-use ps_diagnose_outline::{Construct, Construction, Denoted, Known, Outline, Point, PointKind};
+use ps_diagnose::RequiredName;
+use ps_diagnose_outline::{Construct, Construction, Denoted, Outline, Point, PointKind};
 use ps_scan::Kind;
 use std::alloc::{AllocError, Global};
 
@@ -191,14 +192,14 @@ impl<'a> Reader<'a> {
     }
 
     // The name of a required routine.
-    fn required(&mut self, at: usize, known: Known) {
-        match known {
-            Known::Read | Known::Readln => {
+    fn required(&mut self, at: usize, name: RequiredName) {
+        match name {
+            RequiredName::Read | RequiredName::Readln => {
                 self.callee = Callee::Giver;
                 self.uses.add(INPUTS, at);
             }
-            Known::New => self.callee = Callee::Giver,
-            Known::Pack => self.callee = Callee::Other,
+            RequiredName::New => self.callee = Callee::Giver,
+            RequiredName::Pack | RequiredName::Unpack => self.callee = Callee::Other,
             _ => {}
         }
     }
@@ -226,7 +227,7 @@ impl<'a> Reader<'a> {
         self.callee = Callee::Plain;
         match self.outline.denoted(self.outline.span(at)) {
             Some(Denoted::Declared(point)) => self.declared(at, &point),
-            Some(Denoted::Required(required)) => self.required(at, required.known),
+            Some(Denoted::Required(required)) => self.required(at, required.name),
             None => {}
         }
     }

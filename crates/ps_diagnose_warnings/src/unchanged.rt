@@ -4,7 +4,8 @@ use crate::finding::{Finding, MOST, Names};
 use crate::rows::{ALL_UNCHANGED, ALL_UNCHANGED_ALONE, ONE_UNCHANGED, ONE_UNCHANGED_ALONE};
 use crate::text::Text;
 use crate::uses::{Body, CALLS, CHANGED, CONTENTS, DISTANT, FIELDS, INPUTS, Uses};
-use ps_diagnose_outline::{Construct, Construction, Denoted, Known, Point, PointKind};
+use ps_diagnose::RequiredName;
+use ps_diagnose_outline::{Construct, Construction, Denoted, Point, PointKind};
 use ps_scan::Kind;
 
 // A loop, the block that it stands in, and what is done there.
@@ -75,8 +76,10 @@ impl<'a> Loop<'a> {
     fn seen(&self, at: usize) -> Seen {
         match self.text.outline.denoted(self.text.span(at)) {
             Some(Denoted::Declared(point)) => self.seen_declared(&point),
-            Some(Denoted::Required(required)) => match required.known {
-                Known::End | Known::Input => same_if(!self.has(CALLS) && !self.has(INPUTS)),
+            Some(Denoted::Required(required)) => match required.name {
+                RequiredName::Eof | RequiredName::Eoln | RequiredName::Input => {
+                    same_if(!self.has(CALLS) && !self.has(INPUTS))
+                }
                 _ => Seen::Fixed,
             },
             None => Seen::Other,

@@ -1,5 +1,5 @@
 -- What the runner's values stand for in the definitions.
-use Rattle.std.specs.Prelude.{◌≡◌, ℕ, ℤ, pos, negsuc, Option, Some, None, Bool, false, not, ◌&&◌, ◌||◌, List, [], ◌∷◌}
+use Rattle.std.specs.Prelude.{◌≡◌, ℕ, ℤ, Option, Some, None, Bool, false, not, ◌&&◌, ◌||◌, List, [], ◌∷◌}
 use Rattle.std.specs.Prelude.{get_or, Vec}
 use Rattle.std.specs.Global.{Global}
 use Rattle.ps_tree.specs.declared.tree.SetOperator.{SetOperator}
@@ -72,7 +72,7 @@ integer_of x = o.integer x
 -- an integer of the language, or none
 abbrev pub IsNumber : ℤ → Option ℤ → Type 0
 IsNumber x (Some n) = x ≡ n
-IsNumber x None = o.is_between (negsuc 2147483647) x (pos 2147483647) ≡ false
+IsNumber x None = o.is_between o.least x o.greatest ≡ false
 
 abbrev pub number_of_place : ℕ → ℕ
 number_of_place n = n

@@ -84,14 +84,14 @@ pub fn choose(
 }
 
 /// The statement of the element that has a constant, if one has it.
-fn selected<'t>(elements: &'t [CaseElement], x: &Value) -> Option<&'t Statement>
-    ensures chosen { MatchOption result (SelectsNone (elements_of elements.now) (number_of (value_of x.now)))
-        (λ body. Selects (elements_of elements.now) (number_of (value_of x.now)) (statement_of body.now)) }
+fn selected<'t>(elements: &'t [CaseElement], value: &Value) -> Option<&'t Statement>
+    ensures chosen { MatchOption result (SelectsNone (elements_of elements.now) (number_of (value_of value.now)))
+        (λ body. Selects (elements_of elements.now) (number_of (value_of value.now)) (statement_of body.now)) }
     ensures within { MatchOption result (elements.now ≡ elements.now)
         (λ body. statement_height (statement_of body.now) ≤ elements_height (elements_of elements.now)) }
 {
     for element in elements {
-        if has_constant(element.constants.as_slice(), x) {
+        if has_constant(element.constants.as_slice(), value) {
             return Some(&element.body);
         }
     }
@@ -99,8 +99,8 @@ fn selected<'t>(elements: &'t [CaseElement], x: &Value) -> Option<&'t Statement>
 }
 
 /// A value is one of the constants.
-fn has_constant(constants: &[i32], x: &Value) -> bool
-    ensures { result ≡ is_among (number_of (value_of x.now)) constants.now }
+fn has_constant(constants: &[i32], value: &Value) -> bool
+    ensures { result ≡ is_among (number_of (value_of value.now)) constants.now }
 {
-    is_among(x.number(), constants)
+    is_among(value.number(), constants)
 }

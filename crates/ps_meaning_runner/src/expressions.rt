@@ -69,10 +69,10 @@ fn select(world: &mut World, selector: &Selector, spot: Spot, here: Here) -> Res
 /// Evaluates an expression of an ordinal or pointer type.
 #[cycle(run)]
 #[tactic(auto, using(crate::proofs::Answers::halted_then, crate::proofs::Answers::answers_run, ps_tree::proofs::TreeLemmas::expr_of_Load), unfolding(ps_tree::specs::View::expr_of, crate::specs::View::value_of, crate::specs::View::integer_of))]
-pub fn evaluate(world: &mut World, e: &Expr, here: Here) -> Result<Value, Halt>
-    ensures { Runs value_of (m.value (caller here.entry.setup.now here.entry.fuel) (expr_of e.now)
+pub fn evaluate(world: &mut World, expression: &Expr, here: Here) -> Result<Value, Halt>
+    ensures { Runs value_of (m.value (caller here.entry.setup.now here.entry.fuel) (expr_of expression.now)
         (context_of here.entry.context.now) (world_of world.old)) here.entry.depth
-        (levels here.entry.setup.now here.entry.fuel (expr_height (expr_of e.now))) result world.new }
+        (levels here.entry.setup.now here.entry.fuel (expr_height (expr_of expression.now))) result world.new }
 {
     if here.depth == 0 {
         return Err(Halt::TooDeep);
@@ -81,7 +81,7 @@ pub fn evaluate(world: &mut World, e: &Expr, here: Here) -> Result<Value, Halt>
         depth: here.depth - 1,
         ..here
     };
-    match e {
+    match expression {
         Expr::Number(number) => Ok(Value::Ordinal(*number)),
         Expr::Nil => Ok(Value::Nil),
         Expr::Load(place) => {
@@ -170,12 +170,12 @@ pub fn evaluate(world: &mut World, e: &Expr, here: Here) -> Result<Value, Halt>
 /// The truth of a condition.
 #[cycle(run)]
 #[tactic(auto, using(crate::proofs::Answers::halted_then))]
-pub fn evaluate_truth(world: &mut World, e: &Expr, here: Here) -> Result<bool, Halt>
-    ensures { Runs truth_of (truth_in here.entry.setup.now here.entry.fuel (expr_of e.now)
+pub fn evaluate_truth(world: &mut World, expression: &Expr, here: Here) -> Result<bool, Halt>
+    ensures { Runs truth_of (truth_in here.entry.setup.now here.entry.fuel (expr_of expression.now)
         (context_of here.entry.context.now) (world_of world.old)) here.entry.depth
-        (levels here.entry.setup.now here.entry.fuel (expr_height (expr_of e.now))) result world.new }
+        (levels here.entry.setup.now here.entry.fuel (expr_height (expr_of expression.now))) result world.new }
 {
-    let x = evaluate(world, e, here)?;
+    let x = evaluate(world, expression, here)?;
     Ok(is_true(x.number()))
 }
 
@@ -200,10 +200,10 @@ impl<'a> World<'a> {
 /// Evaluates an expression of a set type.
 #[cycle(run)]
 #[tactic(auto, using(crate::proofs::Answers::halted_then, crate::proofs::Answers::runs_deeper, crate::proofs::Trees::set_of_Constructor, ps_tree::proofs::TreeLemmas::set_of_Load), unfolding(ps_tree::specs::View::set_of))]
-pub fn evaluate_set(world: &mut World, e: &SetExpr, here: Here) -> Result<Vec<bool>, Halt>
-    ensures { Runs members_of_set (m.set_value (caller here.entry.setup.now here.entry.fuel) (set_of e.now)
+pub fn evaluate_set(world: &mut World, expression: &SetExpr, here: Here) -> Result<Vec<bool>, Halt>
+    ensures { Runs members_of_set (m.set_value (caller here.entry.setup.now here.entry.fuel) (set_of expression.now)
         (context_of here.entry.context.now) (world_of world.old)) here.entry.depth
-        (levels here.entry.setup.now here.entry.fuel (set_height (set_of e.now))) result world.new }
+        (levels here.entry.setup.now here.entry.fuel (set_height (set_of expression.now))) result world.new }
 {
     if here.depth == 0 {
         return Err(Halt::TooDeep);
@@ -212,7 +212,7 @@ pub fn evaluate_set(world: &mut World, e: &SetExpr, here: Here) -> Result<Vec<bo
         depth: here.depth - 1,
         ..here
     };
-    match e {
+    match expression {
         SetExpr::Load(place) => {
             let spot = access(world, place, below)?;
             world.set_at(&spot, here.context)
@@ -295,12 +295,16 @@ fn evaluate_members(world: &mut World, members: &[Member], here: Here) -> Result
 /// Accesses an operand of an array or record type.
 #[cycle(run)]
 #[tactic(auto, unfolding(ps_tree::specs::View::structure_of, crate::specs::Worlds::held_of))]
-pub fn take_operand<'t>(world: &mut World, e: &'t Structure, here: Here) -> Result<Held<'t>, Halt>
-    ensures { Runs held_of (m.operand (caller here.entry.setup.now here.entry.fuel) (structure_of e.now)
+pub fn take_operand<'t>(
+    world: &mut World,
+    operand: &'t Structure,
+    here: Here,
+) -> Result<Held<'t>, Halt>
+    ensures { Runs held_of (m.operand (caller here.entry.setup.now here.entry.fuel) (structure_of operand.now)
         (context_of here.entry.context.now) (world_of world.old)) here.entry.depth
-        (levels here.entry.setup.now here.entry.fuel (structure_height (structure_of e.now))) result world.new }
+        (levels here.entry.setup.now here.entry.fuel (structure_height (structure_of operand.now))) result world.new }
 {
-    match e {
+    match operand {
         Structure::Literal(characters) => Ok(Held::Text(characters.as_slice())),
         Structure::Contents { place, .. } => { Ok(Held::Place(access(world, place, here)?)) }
     }

@@ -175,15 +175,15 @@ impl<'a> World<'a> {
         &self,
         spot: Spot,
         index: Ordinal,
-        x: i32,
+        number: i32,
         line: u16,
         context: &Context,
     ) -> Result<Spot, Halt>
         ensures { Answers spot_of
-            (m.component_of (spot_of spot) index x line (context_of context.now) (world_of self.now)) result self.now }
+            (m.component_of (spot_of spot) index number line (context_of context.now) (world_of self.now)) result self.now }
     {
-        if index.low <= x && x <= index.high {
-            Ok(spot.step(x.abs_diff(index.low))?)
+        if index.low <= number && number <= index.high {
+            Ok(spot.step(number.abs_diff(index.low))?)
         } else {
             Err(self.fault(5, line, context))
         }
@@ -194,15 +194,15 @@ impl<'a> World<'a> {
     pub fn index_place(
         &self,
         index: Ordinal,
-        x: i32,
+        number: i32,
         line: u16,
         context: &Context,
     ) -> Result<u32, Halt>
-        ensures { Answers number_of_place (index_place index x line (context_of context.now) (world_of self.now)) result
+        ensures { Answers number_of_place (index_place index number line (context_of context.now) (world_of self.now)) result
             self.now }
     {
-        if index.low <= x && x <= index.high {
-            Ok(x.abs_diff(index.low))
+        if index.low <= number && number <= index.high {
+            Ok(number.abs_diff(index.low))
         } else {
             Err(self.fault(5, line, context))
         }

@@ -28,7 +28,7 @@ pub enum Computed {
 pub fn integer(x: i64) -> Computed
     ensures { computed_of result ≡ integer_of x }
 {
-    if -2_147_483_648 <= x && x <= 2_147_483_647 {
+    if i64::from(i32::MIN) <= x && x <= i64::from(i32::MAX) {
         Computed::Result(x as i32)
     } else {
         Computed::Fault(1)

@@ -133,25 +133,37 @@ fn with_values(
 impl<'a> World<'a> {
     /// An array's value: `count` components of another array, from a place on.
     #[tactic(auto, using(crate::proofs::Values::value_of_Structure))]
-    fn packed(&self, alloc: Global, a: &Spot, k: u32, count: u64) -> Result<Value, AllocError>
+    fn packed(
+        &self,
+        alloc: Global,
+        from: &Spot,
+        place: u32,
+        count: u64,
+    ) -> Result<Value, AllocError>
         ensures { IfOk result (λ x. value_of x ≡ v.StructureValue
-            (v.first_values count (v.values_from (v.components_of (contents_in (world_of self.now) (spot_of a.now)))
-            k))) }
+            (v.first_values count (v.values_from (v.components_of (contents_in (world_of self.now) (spot_of from.now)))
+            place))) }
     {
-        let value = self.contents(alloc, a)?;
-        Ok(Value::Structure(values_between(alloc, value.components(), k, count)?))
+        let value = self.contents(alloc, from)?;
+        Ok(Value::Structure(values_between(alloc, value.components(), place, count)?))
     }
 
     /// An array's value, with the components from a place on replaced by those of another array.
     #[tactic(auto, using(crate::proofs::Values::value_of_Structure))]
-    fn unpacked(&self, alloc: Global, z: &Spot, a: &Spot, k: u32) -> Result<Value, AllocError>
+    fn unpacked(
+        &self,
+        alloc: Global,
+        from: &Spot,
+        to: &Spot,
+        place: u32,
+    ) -> Result<Value, AllocError>
         ensures { IfOk result (λ x. value_of x ≡ v.StructureValue
-            (v.with_values (v.components_of (contents_in (world_of self.now) (spot_of a.now))) k
-            (v.components_of (contents_in (world_of self.now) (spot_of z.now))))) }
+            (v.with_values (v.components_of (contents_in (world_of self.now) (spot_of to.now))) place
+            (v.components_of (contents_in (world_of self.now) (spot_of from.now))))) }
     {
-        let news = self.contents(alloc, z)?;
-        let olds = self.contents(alloc, a)?;
-        Ok(Value::Structure(with_values(alloc, olds.components(), k, news.components())?))
+        let news = self.contents(alloc, from)?;
+        let olds = self.contents(alloc, to)?;
+        Ok(Value::Structure(with_values(alloc, olds.components(), place, news.components())?))
     }
 
     /// Packs the components of an array, from a place on, into another; error 5 where there are too few of them.
@@ -159,20 +171,20 @@ impl<'a> World<'a> {
     pub fn pack(
         &mut self,
         from: ArraySpot,
-        k: u32,
+        place: u32,
         to: ArraySpot,
         line: u16,
         context: &Context,
     ) -> Result<(), Halt>
-        ensures { Answers done_of (r.packing (spot_of from.entry.spot.now) from.entry.index k
+        ensures { Answers done_of (r.packing (spot_of from.entry.spot.now) from.entry.index place
             (spot_of to.entry.spot.now) to.entry.index line (context_of context.now) (world_of self.old)) result
             self.new }
     {
         let count = to.index.value_count();
-        if from.index.value_count() < u64::from(k) + count {
+        if from.index.value_count() < u64::from(place) + count {
             return Err(self.fault(5, line, context));
         }
-        let value = self.packed(context.alloc, from.spot, k, count)?;
+        let value = self.packed(context.alloc, from.spot, place, count)?;
         self.put(to.spot, value)
     }
 
@@ -182,18 +194,18 @@ impl<'a> World<'a> {
         &mut self,
         from: ArraySpot,
         to: ArraySpot,
-        k: u32,
+        place: u32,
         line: u16,
         context: &Context,
     ) -> Result<(), Halt>
         ensures { Answers done_of (r.unpacking (spot_of from.entry.spot.now) from.entry.index
-            (spot_of to.entry.spot.now) to.entry.index k line (context_of context.now) (world_of self.old)) result
+            (spot_of to.entry.spot.now) to.entry.index place line (context_of context.now) (world_of self.old)) result
             self.new }
     {
-        if to.index.value_count() < u64::from(k) + from.index.value_count() {
+        if to.index.value_count() < u64::from(place) + from.index.value_count() {
             return Err(self.fault(5, line, context));
         }
-        let value = self.unpacked(context.alloc, from.spot, to.spot, k)?;
+        let value = self.unpacked(context.alloc, from.spot, to.spot, place)?;
         self.put(to.spot, value)
     }
 }

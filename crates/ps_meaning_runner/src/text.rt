@@ -146,24 +146,24 @@ fn digits(alloc: Global, count: u8, number: u32) -> Result<Vec<u8>, AllocError>
 }
 
 /// An integer in decimal digits, with a sign where it is negative.
-pub fn integer_text(alloc: Global, x: i32) -> Result<Vec<u8>, AllocError>
-    ensures { IfOk result (λ v. v.items ≡ integer_text x) }
+pub fn integer_text(alloc: Global, number: i32) -> Result<Vec<u8>, AllocError>
+    ensures { IfOk result (λ v. v.items ≡ integer_text number) }
 {
-    if x >= 0 {
-        return digits(alloc, 10, x as u32);
+    if number >= 0 {
+        return digits(alloc, 10, number as u32);
     }
     let mut text = Vec::new(alloc);
     text.push(45)?;
-    let rest = digits(alloc, 10, x.unsigned_abs())?;
+    let rest = digits(alloc, 10, number.unsigned_abs())?;
     text.extend_from_slice(rest.as_slice())?;
     Ok(text)
 }
 
 /// `true` or `false`.
-pub fn boolean_text(b: bool) -> &'static [u8]
-    ensures { result.now ≡ boolean_text b }
+pub fn boolean_text(truth: bool) -> &'static [u8]
+    ensures { result.now ≡ boolean_text truth }
 {
-    if b { b"true" } else { b"false" }
+    if truth { b"true" } else { b"false" }
 }
 
 /// A text right-aligned in a field of `width` characters, wider if needed.

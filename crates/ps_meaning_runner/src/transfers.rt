@@ -82,14 +82,19 @@ impl<'a> World<'a> {
 impl<'a> World<'a> {
     /// The width of a parameter of write; error 11 for one below 1.
     #[tactic(auto, using(crate::proofs::Answers::stops))]
-    pub fn checked_width(&self, x: i32, line: u16, context: &Context) -> Result<Option<u32>, Halt>
-        ensures { Answers r.width_of (width_checked x line (context_of context.now) (world_of self.now)) result
+    pub fn checked_width(
+        &self,
+        width: i32,
+        line: u16,
+        context: &Context,
+    ) -> Result<Option<u32>, Halt>
+        ensures { Answers r.width_of (width_checked width line (context_of context.now) (world_of self.now)) result
             self.now }
     {
-        if x < 1 {
+        if width < 1 {
             Err(self.fault(11, line, context))
         } else {
-            Ok(Some(x.unsigned_abs()))
+            Ok(Some(width.unsigned_abs()))
         }
     }
 }
@@ -213,30 +218,45 @@ fn characters(alloc: Global, values: &[Value]) -> Result<Vec<u8>, AllocError>
 }
 
 /// Writes an integer, in a field of 11 characters where no width is given (6.9.3.2).
-fn write_integer(world: &mut World, alloc: Global, x: i32, width: Option<u32>) -> Result<(), Halt>
-    ensures { Answers done_of (write_text (text.right_aligned (unwrap_or (r.width_of width) 11) (text.integer_text x))
+fn write_integer(
+    world: &mut World,
+    alloc: Global,
+    number: i32,
+    width: Option<u32>,
+) -> Result<(), Halt>
+    ensures { Answers done_of (write_text (text.right_aligned (unwrap_or (r.width_of width) 11) (text.integer_text number))
         (world_of world.old)) result world.new }
 {
-    let text = integer_text(alloc, x)?;
+    let text = integer_text(alloc, number)?;
     let field = right_aligned(alloc, width.unwrap_or(11), text.as_slice())?;
     world.write(field.as_slice())
 }
 
 /// Writes a character (6.9.3.2).
-fn write_character(world: &mut World, alloc: Global, x: u8, width: Option<u32>) -> Result<(), Halt>
-    ensures { Answers done_of (write_text (text.right_aligned (unwrap_or (r.width_of width) 1) (x ∷ []))
+fn write_character(
+    world: &mut World,
+    alloc: Global,
+    character: u8,
+    width: Option<u32>,
+) -> Result<(), Halt>
+    ensures { Answers done_of (write_text (text.right_aligned (unwrap_or (r.width_of width) 1) (character ∷ []))
         (world_of world.old)) result world.new }
 {
-    let field = right_aligned(alloc, width.unwrap_or(1), &[x])?;
+    let field = right_aligned(alloc, width.unwrap_or(1), &[character])?;
     world.write(field.as_slice())
 }
 
 /// Writes a Boolean, in a field of 5 characters where no width is given (6.9.3.5).
-fn write_truth(world: &mut World, alloc: Global, x: bool, width: Option<u32>) -> Result<(), Halt>
-    ensures { Answers done_of (write_text (text.fitted (unwrap_or (r.width_of width) 5) (text.boolean_text x))
+fn write_truth(
+    world: &mut World,
+    alloc: Global,
+    truth: bool,
+    width: Option<u32>,
+) -> Result<(), Halt>
+    ensures { Answers done_of (write_text (text.fitted (unwrap_or (r.width_of width) 5) (text.boolean_text truth))
         (world_of world.old)) result world.new }
 {
-    let field = fitted(alloc, width.unwrap_or(5), boolean_text(x))?;
+    let field = fitted(alloc, width.unwrap_or(5), boolean_text(truth))?;
     world.write(field.as_slice())
 }
 
@@ -245,15 +265,15 @@ fn write_value(
     world: &mut World,
     alloc: Global,
     form: Form,
-    x: &Value,
+    value: &Value,
     width: Option<u32>,
 ) -> Result<(), Halt>
-    ensures { Answers done_of (r.written form (value_of x.now) (r.width_of width) (world_of world.old)) result world.new }
+    ensures { Answers done_of (r.written form (value_of value.now) (r.width_of width) (world_of world.old)) result world.new }
 {
     match form {
-        Form::Integer => write_integer(world, alloc, x.number(), width),
-        Form::Char => write_character(world, alloc, character(x), width),
-        Form::Boolean => write_truth(world, alloc, is_true(x.number()), width),
+        Form::Integer => write_integer(world, alloc, value.number(), width),
+        Form::Char => write_character(world, alloc, character(value), width),
+        Form::Boolean => write_truth(world, alloc, is_true(value.number()), width),
     }
 }
 

@@ -1,5 +1,6 @@
 //! The types of what an error of a range or an index is told of.
 
+use ps_diagnose::RequiredName;
 use ps_diagnose_outline::{Form, Outline, Part, Type};
 use ps_scan::Kind;
 use ps_tree::types::Host;
@@ -126,9 +127,12 @@ pub(crate) fn host_ranged(outline: &Outline<'_>, at: usize) -> Host {
 /// 0 of what else is there.
 pub(crate) fn step_at(outline: &Outline<'_>, at: usize) -> i64 {
     match outline.required(outline.span(at)) {
-        Some(required) if required.name == "succ" => 1,
-        Some(required) if required.name == "pred" => -1,
-        _ => 0,
+        Some(required) => match required.name {
+            RequiredName::Succ => 1,
+            RequiredName::Pred => -1,
+            _ => 0,
+        },
+        None => 0,
     }
 }
 

@@ -108,10 +108,10 @@ fn compare(relation: Relation, x: i32, y: i32) -> bool
     }
 }
 
-fn number_of_truth(b: bool) -> Value
-    ensures { result ≡ Value.Number (truth b) }
+fn number_of_truth(holds: bool) -> Value
+    ensures { result ≡ Value.Number (truth holds) }
 {
-    Value::Number(if b { 1 } else { 0 })
+    Value::Number(if holds { 1 } else { 0 })
 }
 
 const STUCK: Effect = Effect::Stop(Ending::Stuck);
@@ -213,10 +213,10 @@ fn check(holds: bool, error: u8, line: u16) -> Effect
     }
 }
 
-fn is_in_range(low: i32, high: i32, x: i32) -> bool
-    ensures { result ≡ is_in_range low high x }
+fn is_in_range(low: i32, high: i32, number: i32) -> bool
+    ensures { result ≡ is_in_range low high number }
 {
-    low <= x && x <= high
+    low <= number && number <= high
 }
 
 pub(crate) fn range_check(value: Option<Value>, low: i32, high: i32, error: u8, line: u16) -> Effect
@@ -260,14 +260,14 @@ pub(crate) fn offset_address(to: u32, base: Option<Value>, bytes: u32) -> Effect
     }
 }
 
-fn steps_above(low: i32, x: i32) -> u64
-    ensures value { result ≡ steps_above low x }
+fn steps_above(low: i32, number: i32) -> u64
+    ensures value { result ≡ steps_above low number }
     ensures small { result < 4294967296 }
 {
-    if x < low {
+    if number < low {
         0
     } else {
-        u64::from(x.abs_diff(low))
+        u64::from(number.abs_diff(low))
     }
 }
 

@@ -128,19 +128,19 @@ do_block-returns-else-here-eq0 t c =
 
 pub take_operand-returns-in_err-access-in-Contents : goal.expressions::take_operand-returns-in_err-access-in-Contents
 take_operand-returns-in_err-access-in-Contents t c =
-    let h : Halted (operand (caller c.args.here.setup.now c.args.here.fuel) (structure_of c.args.e.now)
+    let h : Halted (operand (caller c.args.here.setup.now c.args.here.fuel) (structure_of c.args.operand.now)
     (context_of c.args.here.context.now) (world_of c.args.world.now)) c.args.here.depth
-    (levels c.args.here.setup.now c.args.here.fuel (structure_height (structure_of c.args.e.now)))
+    (levels c.args.here.setup.now c.args.here.fuel (structure_height (structure_of c.args.operand.now)))
     c.in_err-access-in-Contents.field-0.0 c.access.new.world = chain.contents_halt c.args.here.setup.now
     c.args.here.fuel (context_of c.args.here.context.now)
-    (world_of c.args.world.now) c.args.e.now _ _ _ _ c.access.new.world c.args.here.depth c.in-Contents.is
+    (world_of c.args.world.now) c.args.operand.now _ _ _ _ c.access.new.world c.args.here.depth c.in-Contents.is
     c.deref.ensures c.in_err-access-in-Contents.ensures in
     handed_on _ _ _ _ _ _ _ c.from_residual.ensures.1 h
 
 pub take_operand-returns-in_ok-access-in-Contents : goal.expressions::take_operand-returns-in_ok-access-in-Contents
 take_operand-returns-in_ok-access-in-Contents t c =
     chain.contents_gives c.args.here.setup.now c.args.here.fuel (context_of c.args.here.context.now)
-    (world_of c.args.world.now) (world_of c.access.new.world) c.args.e.now _ _ _ c.in_ok-access-in-Contents.field-0
+    (world_of c.args.world.now) (world_of c.access.new.world) c.args.operand.now _ _ _ c.in_ok-access-in-Contents.field-0
     c.in-Contents.is c.deref.ensures c.in_ok-access-in-Contents.ensures
 
 pub call_procedure-returns-in_err-actuals : goal.calls::call_procedure-returns-in_err-actuals

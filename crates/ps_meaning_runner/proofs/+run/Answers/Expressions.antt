@@ -23,20 +23,20 @@ access-returns-then-here-eq0 t c = place_is_high
 
 pub evaluate-returns-then-here-eq0 : goal.expressions::evaluate-returns-then-here-eq0
 evaluate-returns-then-here-eq0 t c = expr_is_high
-    (expr_of c.args.e.now) c.args.here.depth _ c.if-here-eq0.true
+    (expr_of c.args.expression.now) c.args.here.depth _ c.if-here-eq0.true
 
 pub evaluate_set-returns-then-here-eq0 : goal.expressions::evaluate_set-returns-then-here-eq0
 evaluate_set-returns-then-here-eq0 t c = set_is_high
-    (set_of c.args.e.now) c.args.here.depth _ c.if-here-eq0.true
+    (set_of c.args.expression.now) c.args.here.depth _ c.if-here-eq0.true
 
 pub evaluate-returns-in-Call : goal.expressions::evaluate-returns-in-Call
 evaluate-returns-in-Call t c = call_runs c.args.here.setup.now c.args.here.fuel
-    (context_of c.args.here.context.now) (world_of c.args.world.now) c.args.e.now _ _ _ _ _ c.call_value.result
+    (context_of c.args.here.context.now) (world_of c.args.world.now) c.args.expression.now _ _ _ _ _ c.call_value.result
     c.call_value.new.world c.args.here.depth c.in-Call.is c.deref-in-Call.ensures.value c.call_value.ensures
 
 pub evaluate-returns-in-CallFormal : goal.expressions::evaluate-returns-in-CallFormal
 evaluate-returns-in-CallFormal t c = call_formal_runs c.args.here.setup.now c.args.here.fuel
-    (context_of c.args.here.context.now) (world_of c.args.world.now) c.args.e.now _ _ _ _ _
+    (context_of c.args.here.context.now) (world_of c.args.world.now) c.args.expression.now _ _ _ _ _
     c.call_value-in-CallFormal.result c.call_value-in-CallFormal.new.world c.args.here.depth c.in-CallFormal.is
     c.deref-in-CallFormal.ensures.value c.call_value-in-CallFormal.ensures
 
@@ -133,58 +133,58 @@ combine_all-returns t c =
 
 pub evaluate-returns-in-Arithmetic : goal.expressions::evaluate-returns-in-Arithmetic
 evaluate-returns-in-Arithmetic t c = chain.arithmetic_runs c.args.here.setup.now c.args.here.fuel
-    (context_of c.args.here.context.now) (world_of c.args.world.now) c.args.e.now _ _ _ _ c.calculate.result
+    (context_of c.args.here.context.now) (world_of c.args.world.now) c.args.expression.now _ _ _ _ c.calculate.result
     c.calculate.new.world c.args.here.depth c.in-Arithmetic.is c.deref-in-Arithmetic.ensures
     c.deref-in-Arithmetic-2.ensures.value c.calculate.ensures
 
 pub evaluate-returns-in-Logic : goal.expressions::evaluate-returns-in-Logic
 evaluate-returns-in-Logic t c = chain.logical_runs c.args.here.setup.now c.args.here.fuel
-    (context_of c.args.here.context.now) (world_of c.args.world.now) c.args.e.now _ _ _ _ _ c.combine.result
+    (context_of c.args.here.context.now) (world_of c.args.world.now) c.args.expression.now _ _ _ _ _ c.combine.result
     c.combine.new.world c.args.here.depth c.in-Logic.is c.deref-in-Logic.ensures c.deref-in-Logic-2.ensures.value
     c.combine.ensures
 
 pub evaluate_set-returns-in-Combine : goal.expressions::evaluate_set-returns-in-Combine
 evaluate_set-returns-in-Combine t c = chain.combination_runs c.args.here.setup.now c.args.here.fuel
-    (context_of c.args.here.context.now) (world_of c.args.world.now) c.args.e.now _ _ _ _ c.combine_all.result
+    (context_of c.args.here.context.now) (world_of c.args.world.now) c.args.expression.now _ _ _ _ c.combine_all.result
     c.combine_all.new.world c.args.here.depth c.in-Combine.is c.deref-in-Combine.ensures
     c.deref-in-Combine-2.ensures.value c.combine_all.ensures
 
 pub evaluate-returns-in-Plus : goal.expressions::evaluate-returns-in-Plus
 evaluate-returns-in-Plus t c = arm.expr_runs c.args.here.setup.now c.args.here.fuel
-    (context_of c.args.here.context.now) (world_of c.args.world.now) c.args.e.now _ _ c.evaluate.result
+    (context_of c.args.here.context.now) (world_of c.args.world.now) c.args.expression.now _ _ c.evaluate.result
     c.evaluate.new.world c.args.here.depth (arm.plus_is _ _ _ c.in-Plus.is c.deref-in-Plus.ensures) refl
     c.evaluate.ensures
 
 pub evaluate-returns-in-Compare : goal.expressions::evaluate-returns-in-Compare
 evaluate-returns-in-Compare t c = arm.expr_runs c.args.here.setup.now c.args.here.fuel
-    (context_of c.args.here.context.now) (world_of c.args.world.now) c.args.e.now _ _ c.compare.result
+    (context_of c.args.here.context.now) (world_of c.args.world.now) c.args.expression.now _ _ c.compare.result
     c.compare.new.world c.args.here.depth (arm.compare_is _ _ _ _ _ _ c.in-Compare.is c.deref-in-Compare.ensures
     c.deref-in-Compare-2.ensures) refl c.compare.ensures
 
 pub evaluate-returns-in-ComparePointers : goal.expressions::evaluate-returns-in-ComparePointers
 evaluate-returns-in-ComparePointers t c = arm.expr_runs c.args.here.setup.now c.args.here.fuel
-    (context_of c.args.here.context.now) (world_of c.args.world.now) c.args.e.now _ _
+    (context_of c.args.here.context.now) (world_of c.args.world.now) c.args.expression.now _ _
     c.compare-in-ComparePointers.result c.compare-in-ComparePointers.new.world c.args.here.depth
     (arm.compare_pointers_is _ _ _ _ _ _ c.in-ComparePointers.is c.deref-in-ComparePointers.ensures
     c.deref-in-ComparePointers-2.ensures) refl c.compare-in-ComparePointers.ensures
 
 pub evaluate-returns-in-CompareSets : goal.expressions::evaluate-returns-in-CompareSets
 evaluate-returns-in-CompareSets t c = arm.expr_runs c.args.here.setup.now c.args.here.fuel
-    (context_of c.args.here.context.now) (world_of c.args.world.now) c.args.e.now _ _ c.compare_sets.result
+    (context_of c.args.here.context.now) (world_of c.args.world.now) c.args.expression.now _ _ c.compare_sets.result
     c.compare_sets.new.world c.args.here.depth
     (arm.compare_sets_is _ _ _ _ _ _ c.in-CompareSets.is c.deref-in-CompareSets.ensures
     c.deref-in-CompareSets-2.ensures) refl c.compare_sets.ensures
 
 pub evaluate-returns-in-CompareStrings : goal.expressions::evaluate-returns-in-CompareStrings
 evaluate-returns-in-CompareStrings t c = arm.expr_runs c.args.here.setup.now c.args.here.fuel
-    (context_of c.args.here.context.now) (world_of c.args.world.now) c.args.e.now _ _ c.compare_strings.result
+    (context_of c.args.here.context.now) (world_of c.args.world.now) c.args.expression.now _ _ c.compare_strings.result
     c.compare_strings.new.world c.args.here.depth
     (arm.compare_strings_is _ _ _ _ _ _ c.in-CompareStrings.is c.deref-in-CompareStrings.ensures
     c.deref-in-CompareStrings-2.ensures) refl c.compare_strings.ensures
 
 pub evaluate-returns-in-In : goal.expressions::evaluate-returns-in-In
 evaluate-returns-in-In t c = arm.expr_runs c.args.here.setup.now c.args.here.fuel
-    (context_of c.args.here.context.now) (world_of c.args.world.now) c.args.e.now _ _ c.test_member.result
+    (context_of c.args.here.context.now) (world_of c.args.world.now) c.args.expression.now _ _ c.test_member.result
     c.test_member.new.world c.args.here.depth
     (arm.member_is _ _ _ _ _ c.in-In.is c.deref-in-In.ensures c.deref-in-In-2.ensures) refl c.test_member.ensures
 

@@ -7,4 +7,4 @@ use Rattle.ps_meaning_runner.proofs.choices.selected.Given as goal
 
 abbrev pub invariant-loop-element : goal.invariant-loop-element
 invariant-loop-element l = SelectsAs (elements_of (drop l.element-index l.elements)) (elements_of l.elements)
-    (number_of (value_of l.x))
+    (number_of (value_of l.value))

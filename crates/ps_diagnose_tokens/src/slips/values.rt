@@ -1,0 +1,167 @@
+//! Rules of operators in another place, parameters without parentheses, and values that are no statements.
+
+use crate::kinds::{ADDS_OR_MULTIPLIES, BEFORE_OPERAND, COMPARES, ENDS_STATEMENT, ENDS_VALUE};
+use crate::rule::Place::{
+    Ahead, Back, BeforeTop, ExpressionEnd, Here, NextAssign, Start, StatementEnd, Top, TopEnd,
+};
+use crate::rule::Reach::{One, To, UpTo};
+use crate::rule::Step::{
+    Also, Exchange, Help, Holds, Is, IsNot, IsShown, Names, No, Put, Rule, Same, SeemsDeclared,
+    TakeAway, Token, Tokens, Why,
+};
+use crate::rule::{Fact, Steps};
+use ps_diagnose::RequiredName;
+use ps_scan::Kind;
+
+/// The rules of operators and values.
+pub(super) const OF_VALUES: Steps = &[
+    // `p(a; b)`
+    Rule,
+    Is(Here, &[Kind::Semicolon]),
+    Is(Top, &[Kind::LeftParen]),
+    Is(BeforeTop, &[Kind::Name]),
+    Is(TopEnd, &[Kind::RightParen]),
+    Is(Back(1), ENDS_VALUE),
+    Holds(Fact::Statements),
+    Holds(Fact::OneLine),
+    Why("between parameters stands `,`"),
+    Exchange(One(Here), ","),
+
+    // `n not = 5`
+    Rule,
+    Is(Here, &[Kind::Not]),
+    Is(Ahead(1), &[Kind::Equal]),
+    Is(Back(1), ENDS_VALUE),
+    Holds(Fact::Statements),
+    Why("what is not equal is compared by `<>`"),
+    Exchange(To(Here, Ahead(1)), "<>"),
+
+    // `n < or = 5`
+    Rule,
+    Is(Here, &[Kind::Or]),
+    Is(Back(1), &[Kind::Less, Kind::Greater]),
+    Is(Ahead(1), &[Kind::Equal]),
+    Holds(Fact::Statements),
+    Why("both are one sign: `"),
+    Token(Back(1)),
+    Put("=`"),
+    Exchange(To(Back(1), Ahead(1)), ""),
+    Token(Back(1)),
+    Put("="),
+
+    // `a[1..3] := 0`
+    Rule,
+    Is(Here, &[Kind::DotDot]),
+    Is(Top, &[Kind::LeftBracket]),
+    Is(BeforeTop, &[Kind::Name]),
+    Holds(Fact::Statements),
+    Why("an index is one value"),
+    Help("the components of an array are reached one by one, in a loop"),
+
+    // `mod(a, b)`
+    Rule,
+    Is(Here, &[Kind::Div, Kind::Mod, Kind::And, Kind::Or]),
+    Is(Ahead(1), &[Kind::LeftParen]),
+    Is(Back(1), BEFORE_OPERAND),
+    Holds(Fact::Statements),
+    Why("it stands between its two operands"),
+    Also,
+    Is(Ahead(3), &[Kind::Comma]),
+    Is(Ahead(5), &[Kind::RightParen]),
+    Exchange(To(Here, Ahead(5)), ""),
+    Token(Ahead(2)),
+    Put(" "),
+    Token(Here),
+    Put(" "),
+    Token(Ahead(4)),
+
+    // `abs n`
+    Rule,
+    Is(Here, &[Kind::Name, Kind::Number, Kind::Text]),
+    Names(Back(1), FUNCTIONS),
+    IsNot(Back(2), &[Kind::Dot]),
+    Holds(Fact::Statements),
+    Holds(Fact::OneLine),
+    Why("a parameter stands between `(` and `)`"),
+    Exchange(To(Back(1), Here), ""),
+    Token(Back(1)),
+    Put("("),
+    Token(Here),
+    Put(")"),
+
+    // `'hello';`
+    Rule,
+    Is(Here, &[Kind::Text]),
+    Holds(Fact::Statements),
+    Same(Start, Here),
+    No(NextAssign),
+    Why("a value is no statement"),
+    Help("`writeln` writes it"),
+    Exchange(UpTo(Here, StatementEnd), "writeln("),
+    Tokens(UpTo(Here, StatementEnd)),
+    Put(")"),
+
+    // `5;`
+    Rule,
+    Is(Here, &[Kind::Number]),
+    Holds(Fact::Statements),
+    Same(Start, Here),
+    No(NextAssign),
+    Is(Ahead(1), &[Kind::Semicolon]),
+    Why("a value is no statement"),
+    TakeAway(0, To(Here, Ahead(1))),
+
+    // `n + 1;`
+    Rule,
+    Is(Here, ADDS_OR_MULTIPLIES),
+    Holds(Fact::Statements),
+    Same(Start, Back(1)),
+    SeemsDeclared(Back(1)),
+    No(NextAssign),
+    Is(ExpressionEnd, ENDS_STATEMENT),
+    Why("what is computed is assigned by `:=`"),
+    Also,
+    IsShown(UpTo(Start, StatementEnd)),
+    Exchange(UpTo(Start, StatementEnd), ""),
+    Token(Start),
+    Put(" := "),
+    Tokens(UpTo(Start, StatementEnd)),
+
+    // `n > 5;`
+    Rule,
+    Is(Here, COMPARES),
+    IsNot(Here, &[Kind::Equal]),
+    Holds(Fact::Statements),
+    Holds(Fact::BehindVariable),
+    No(NextAssign),
+    Is(ExpressionEnd, ENDS_STATEMENT),
+    Why("a condition is no statement"),
+    Help("it stands in an `if`, a `while` or an `until`"),
+
+    // `a = > b`
+    Rule,
+    Is(Here, &[Kind::Greater]),
+    Is(Back(1), &[Kind::Equal]),
+    Holds(Fact::Statements),
+    Why("at least is `>=`"),
+    Exchange(To(Back(1), Here), ">="),
+
+    // `a = < b`
+    Rule,
+    Is(Here, &[Kind::Less]),
+    Is(Back(1), &[Kind::Equal]),
+    Holds(Fact::Statements),
+    Why("at most is `<=`"),
+    Exchange(To(Back(1), Here), "<="),
+];
+
+// Required functions with a parameter.
+const FUNCTIONS: &[RequiredName] = &[
+    RequiredName::Abs,
+    RequiredName::Sqr,
+    RequiredName::Odd,
+    RequiredName::Chr,
+    RequiredName::Ord,
+    RequiredName::Succ,
+    RequiredName::Pred,
+];
