@@ -2,4 +2,4 @@
 
 /// The sum.
 pub(crate) const BELIEVED: &str =
-    "73013d68d36de13503bc1a4c85c684f7807db00ee164e9323ec67ffec789bb19";
+    "b360977835872c86255412c40a4a17949307bae689e6f56a5a004267075f5679";

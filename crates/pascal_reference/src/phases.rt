@@ -103,7 +103,8 @@ fn take(alloc: Global, text: &[u8], last: Phase) -> Result<(), Refusal> {
     Ok(())
 }
 
-/// Takes the text of standard input through the phases up to the one that a word names, and gives the status: 0, or 1 where the text is refused or cannot be read.
+/// Takes the text of standard input through the phases up to the one that a word names, and gives the status: 0, or 1
+/// where the text is refused or cannot be read.
 pub fn take_standard_input<R: Eprint + Input + AllocGlobal>(rt: &R, word: &str) -> u8 {
     let text = match read_standard_input(rt, TEXT_LIMIT) {
         Ok(text) => text,

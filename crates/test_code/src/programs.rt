@@ -14,8 +14,8 @@ use tac_code_runner::{Budget, Ending, Report, run};
 use test_tables::Line;
 use test_tables::words::u32_of;
 
-/// A routine with a frame of two words, which begins on line 3. Before a colon stand the counts of its parameters, of its temporaries and of the bytes of its scratch block; behind it
-/// its instructions, with `;` between them.
+/// A routine with a frame of two words, which begins on line 3. Before a colon stand the counts of its parameters, of
+/// its temporaries and of the bytes of its scratch block; behind it its instructions, with `;` between them.
 fn routine(alloc: Global, text: &str) -> Result<TacRoutine, AllocError> {
     let (head, list) = text.split_once(':').unwrap_or(("", text));
     let mut counts = head.split_whitespace();
@@ -127,7 +127,8 @@ fn put_report(line: &mut Line, report: &Report) {
     put_numbers(line, &report.transcript);
 }
 
-/// Puts how a run of code ends, the lines of its open calls, and its transcript, 256 a mark. Each frame costs 40 bytes, and so does each object, of which one fits.
+/// Puts how a run of code ends, the lines of its open calls, and its transcript, 256 a mark. Each frame costs 40 bytes,
+/// and so does each object, of which one fits.
 fn put_run(
     alloc: Global,
     line: &mut Line,

@@ -132,7 +132,8 @@ fn put_step_of(alloc: Global, line: &mut Line, machine: &mut Machine) -> Result<
     Ok(())
 }
 
-/// Puts what the step of a word does. The row has the word, the flags before it, and what registers hold before it; H holds 0BADCAFE, and the word at address 4 is 87654380.
+/// Puts what the step of a word does. The row has the word, the flags before it, and what registers hold before it; H
+/// holds 0BADCAFE, and the word at address 4 is 87654380.
 pub(crate) fn put_step(alloc: Global, line: &mut Line, row: &str) -> Result<(), AllocError> {
     let mut machine = machine_at(alloc, row)?;
     let end = put_step_of(alloc, line, &mut machine);
