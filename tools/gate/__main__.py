@@ -81,7 +81,10 @@ def look(folder: str, releases: bool) -> Tuple[int, int]:
 
 
 def main() -> int:
-    words = argparse.ArgumentParser(prog="./gate", description="Proves what this machine has not proved yet, tries its edits, runs all tests, programs and cases.")
+    words = argparse.ArgumentParser(
+        prog="./gate",
+        description="Proves what this machine has not proved yet, tries its edits, runs all tests, programs and cases.",
+    )
     words.add_argument("--from-nothing", action="store_true", help="take nothing from the store")
     words.add_argument("--release", action="store_true", help="write released/pascal and the page anew, where all else passes")
     given = words.parse_args()

@@ -116,7 +116,8 @@ def names_of(places: Iterable[Place], functions: List[str]) -> Optional[List[str
         wanted = "::".join([*module_of(at), *([owner] if owner else []), name])
         alike = [function for function in functions if function == wanted]
         if owner and not alike:
-            alike = [function for function in functions if re.fullmatch(rf"(.*::)?{owner}::{name}", function)] or [function for function in functions if re.fullmatch(rf"(.*::)?{owner}\w+::{name}", function)]
+            alike = [function for function in functions if re.fullmatch(rf"(.*::)?{owner}::{name}", function)]
+            alike = alike or [function for function in functions if re.fullmatch(rf"(.*::)?{owner}\w+::{name}", function)]
             beside = [name for name in alike if name.split("::")[:-2] == module_of(at)]
             alike = beside if len(alike) > 1 else alike
         if len(alike) != 1:
@@ -165,7 +166,8 @@ def refused_at(said: str, texts: Texts, crate: Any) -> Dict[Place, str]:
 def by_proof_files(said: str, spans: Dict[str, List[Function]]) -> Iterator[Tuple[str, Place]]:
     """The functions whose own answers or lemmas in proofs/ are refused: those of a function lie in a folder of its
     path, and those of a cycle in a folder of their own, each answer named by its function."""
-    refused = re.findall(r"(?m)^(?:\./)?proofs/(\S+)/[A-Z]\w+\.antt:\d+:\d+: error: (?!.*(?:is not in scope|has no|was not admitted))(?:`((?:\w+::)*\w+)-)?", said)
+    error = r"[A-Z]\w+\.antt:\d+:\d+: error: (?!.*(?:is not in scope|has no|was not admitted))"
+    refused = re.findall(rf"(?m)^(?:\./)?proofs/(\S+)/{error}(?:`((?:\w+::)*\w+)-)?", said)
     for path, member in dict.fromkeys(refused):
         *above, last = path.split("/")
         of = [(at, function) for at, functions in spans.items() for function in functions if names_match(at, function, above, last, member)]
@@ -228,7 +230,8 @@ class Beside:
         self.at, self.held, self.arms_of, self.twins = {}, {}, {}, []
         self.edited, self.in_place = {}, set()
         beside = [edit for edit in edits if len(edit.places or ()) == 1 and not edit.at]
-        alike = {place for edit in beside for place in edit.places if stubs.can_have_twin(self.sources, place) and stubs.differs_by_name(crate, self.sources, place)}
+        twins = {place for edit in beside for place in edit.places if stubs.can_have_twin(self.sources, place)}
+        alike = {place for place in twins if stubs.differs_by_name(crate, self.sources, place)}
         self.alike, self.first = alike, min(alike, key=self.order, default=None)
         for edit in beside:
             self.add(edit, *edit.places)

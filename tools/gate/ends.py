@@ -22,7 +22,8 @@ def count_in(text: str) -> Tuple[int, int]:
 
 def run_plain(tree: str) -> Tuple[int, int]:
     """Runs the kit's `rt ci` in a tree as it is, and returns how much passed and failed."""
-    with subprocess.Popen(["rt", "ci"], cwd=tree, stdin=subprocess.DEVNULL, stdout=subprocess.PIPE, stderr=subprocess.STDOUT, text=True, errors="replace") as ran:
+    told = {"stdout": subprocess.PIPE, "stderr": subprocess.STDOUT, "text": True, "errors": "replace"}
+    with subprocess.Popen(["rt", "ci"], cwd=tree, stdin=subprocess.DEVNULL, **told) as ran:
         said = ""
         for line in ran.stdout:
             print(line, end="", flush=True)
@@ -65,7 +66,8 @@ def run_growths(tree: str) -> Tuple[int, int]:
 
 def look_at_pages(tree: str) -> Optional[str]:
     """What is not true in the pages of a tree, as far as a program can tell."""
-    ran = subprocess.run([f"{tree}/tools/pages", "--program", f"{tree}/crates/pascal/out/pascal"], stdout=subprocess.PIPE, stderr=subprocess.STDOUT, text=True, errors="replace")
+    words = [f"{tree}/tools/pages", "--program", f"{tree}/crates/pascal/out/pascal"]
+    ran = subprocess.run(words, stdout=subprocess.PIPE, stderr=subprocess.STDOUT, text=True, errors="replace")
     return ran.stdout.strip() or "tools/pages failed" if ran.returncode else None
 
 

@@ -18,7 +18,10 @@ from types import ModuleType
 from typing import Any, Callable, ContextManager, List
 
 # What the gate calls of `rt`, what runs the whole, and what is replaced of it.
-PARTS = ("in_lanes", "must_fail", "checked", "edits_of", "read_edit", "processors", "free", "say", "Crate", "unread", "ci_over", "add_edits", "sweep", "Kept", "KIT")
+PARTS = (
+    "in_lanes", "must_fail", "checked", "edits_of", "read_edit", "processors", "free", "say",
+    "Crate", "unread", "ci_over", "add_edits", "sweep", "Kept", "KIT",
+)
 # What decides a verdict: the program that proves, the two scripts that hold it to their rules, and what tells the
 # versions of all the rest.
 SUMMED = ("KIT-ID", "WHAT", "bin/rattle", "bin/rattle-link", "bin/rt", "bin/rtlib.py")
