@@ -109,7 +109,8 @@ def mixed(k: int) -> str:
     return (
         f"counter := counter + {k % 97}; if greatest < total then greatest := total else begin total := counter; position := 1 end;\n"
         f"while (position < {k % 31}) and y do begin position := position + 1; y := odd(counter) end;\n"
-        f"for x := 1 to {k % 11} do total := total + position;\ncase counter of 1: greatest := {k % 13}; 2: repeat counter := counter + 2 until counter > total end"
+        f"for x := 1 to {k % 11} do total := total + position;\n"
+        f"case counter of 1: greatest := {k % 13}; 2: repeat counter := counter + 2 until counter > total end"
     )
 
 

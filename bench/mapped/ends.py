@@ -345,7 +345,10 @@ def main() -> int:
                 print(f"{end.name}: {type(fault).__name__} {fault}", flush=True)
                 if asked.keep:
                     end.keep(asked.keep)
-    print(f"seed {asked.seed}: {len(ends)} ends with an error of {tried} programs, {values} values and objects; {bad} differ, {late} are too long for the reference")
+    print(
+        f"seed {asked.seed}: {len(ends)} ends with an error of {tried} programs, {values} values and objects; "
+        f"{bad} differ, {late} are too long for the reference"
+    )
     return int(bad != 0)
 
 

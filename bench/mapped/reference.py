@@ -110,8 +110,10 @@ EDITS = [
     ("run.rt", "        transcript: Vec::new(alloc),\n    }", "        transcript: Vec::new(alloc),\n        alloc,\n        left: String::new(alloc),\n    }"),
     ("run.rt", "    pub calls: Vec<u32>,\n}", "    pub calls: Vec<u32>,\n    pub left: String,\n}"),
     ("run.rt", "    do_block(world, body, here)\n}",
-     "    let done = do_block(world, body, here);\n    if let Err(Halt::Ended { .. }) = &done {\n        world.leave(&inner);\n        world.leave_objects();\n    }\n    done\n}"),
-    ("run.rt", "            calls: Vec::new(job.alloc),\n        }),", "            calls: Vec::new(job.alloc),\n            left: String::new(job.alloc),\n        }),"),
+     "    let done = do_block(world, body, here);\n    if let Err(Halt::Ended { .. }) = &done {\n"
+     "        world.leave(&inner);\n        world.leave_objects();\n    }\n    done\n}"),
+    ("run.rt", "            calls: Vec::new(job.alloc),\n        }),",
+     "            calls: Vec::new(job.alloc),\n            left: String::new(job.alloc),\n        }),"),
     ("run.rt", "            ending,\n            calls,\n        }),", "            ending,\n            calls,\n            left: world.left,\n        }),"),
     ("calls.rt", "    do_block(world, body, inside)\n}",
      "    let done = do_block(world, body, inside);\n    if let Err(Halt::Ended { .. }) = &done {\n        world.leave(&inner);\n    }\n    done\n}"),

@@ -241,6 +241,28 @@ def records_chain_assigned(length: int) -> str:
     return filled(f"{types} var v,w:{last_name(types)}; begin ", "v:=w;", " end.\n", length)
 
 
+@shape()
+def variables_of_records_chain(length: int) -> str:
+    """Variables of a record of records in one another, each of a name."""
+    types = filled("program p; type a0=char;", numbered("a@=record f:a# end;"), "", length * 2 // 3)
+    return filled(f"{types} var ", numbered("v#"), f":{last_name(types)}; begin end.\n", length, ",", MOST_CELLS)
+
+
+@shape()
+def variables_of_many_indices(length: int) -> str:
+    """Variables of one array whose indices are a third of the text."""
+    array = f"array[{','.join('t' * (length // 6))}]of char"
+    return filled("program p; type t=1..1; var ", numbered("v#"), f":{array}; begin end.\n", length, ",", MOST_CELLS)
+
+
+@shape()
+def new_empty_fields(length: int) -> str:
+    """New records whose fields, half of the text, take no bytes, but for the last."""
+    head, tail = "program p; type e=record end;r=record ", ":e;z:char end;"
+    record = filled(head, numbered("a#"), tail, length // 2, ",", MOST_CELLS)
+    return filled(f"{record} var v:^r; begin ", "new(v);", " end.\n", length)
+
+
 @shape(is_deep=True)
 def records_within(length: int) -> str:
     """Fields of a record that lies within others as deep as may be."""
