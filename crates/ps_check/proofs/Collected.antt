@@ -3,7 +3,7 @@ use Rattle.std.proofs.Common.{◌≡◌, ℕ, List, [], ◌∷◌, ◌++◌, map
 use Rattle.std.proofs.Common.{false, IsTrue, IsSome, IfSome, ◌↔◌, refl, sym, ap, ◌∙◌, append_assoc, append-nil}
 use Rattle.std.proofs.Common.{slice_set, Vec, Global}
 use Rattle.std.proofs.lemmas.List.{map_push}
-use Rattle.ps_tree.specs.declared.tree.Routine.{Routine}
+use Rattle.ps_tree.specs.declared.tree.statements.Routine.{Routine}
 use Rattle.ps_tree.specs.Tree as Tree
 use Rattle.ps_tree.specs.View.{routine_of}
 use Rattle.ps_tree.specs.declared.types.Ty.{Ty}

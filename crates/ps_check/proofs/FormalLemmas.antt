@@ -8,8 +8,8 @@ use Rattle.std.specs.declared.rc.Rc.{Rc}
 use Rattle.ps_tree.specs.Types.{DataType}
 use Rattle.ps_tree.specs.Tree as Tree
 use Rattle.ps_tree.specs.declared.types.Ty.{Ty}
-use Rattle.ps_tree.specs.declared.tree.Formal.{Formal}
-use Rattle.ps_tree.specs.declared.tree.Formal as RustFormal
+use Rattle.ps_tree.specs.declared.tree.statements.Formal.{Formal}
+use Rattle.ps_tree.specs.declared.tree.statements.Formal as RustFormal
 use Rattle.ps_tree.proofs.FormalLemmas.{formal_of_Routine}
 use Rattle.ps_tree.specs.View as tree
 use Rattle.ps_check_names.specs.declared.sections.Section as Rust

@@ -461,7 +461,7 @@ fn one_record(
     small(Ty::Record { at, packed, fields }, at)
 }
 
-/// Notes a record type, if it is wide.
+/// Notes a record type: a wide one by its number at each of its names, another by its names alone.
 fn note_type(alloc: Global, seed: Seed, declared: &mut Declared, ty: &Ty) -> Result<(), AllocError>
     ensures { OnOk result (declared_of declared.new ≡ declared_of declared.old) }
 {

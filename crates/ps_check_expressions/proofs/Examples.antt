@@ -16,8 +16,8 @@ use Rattle.ps_syntax.specs.declared.expression.Relational.TheVariants.{Equal, Le
 use Rattle.ps_syntax.specs.declared.expression.Expr.TheOpen.{Simple-F, Term-F, AddedTerm-F}
 use Rattle.ps_syntax.specs.declared.expression.Expr.TheVariants as e
 use Rattle.ps_syntax.specs.declared.expression.Factor.TheVariants as f
-use Rattle.ps_tree.specs.declared.tree.ArithmeticOperator.TheVariants.{Add, Subtract}
-use Rattle.ps_tree.specs.declared.tree.BooleanOperator.TheVariants.{And, Or}
+use Rattle.ps_tree.specs.declared.tree.operators.ArithmeticOperator.TheVariants.{Add, Subtract}
+use Rattle.ps_tree.specs.declared.tree.operators.BooleanOperator.TheVariants.{And, Or}
 use Rattle.ps_tree.specs.Types.{OrdinalType, EmptySetType, ArrayType, is_compatible, is_same_type}
 use Rattle.ps_tree.specs.Tree as Tree
 use Rattle.ps_check_judgement.specs.declared.change.Change.{Change}

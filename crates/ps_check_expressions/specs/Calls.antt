@@ -4,8 +4,8 @@ use Rattle.std.specs.Prelude.{None, if◌then◌else◌}
 use Rattle.ps_text.specs.declared.Span.{Span}
 use Rattle.ps_tree.specs.declared.types.Ordinal.{Ordinal}
 use Rattle.ps_tree.specs.declared.types.Host.TheVariants.{Integer}
-use Rattle.ps_tree.specs.declared.tree.RequiredFunction.{RequiredFunction}
-use Rattle.ps_tree.specs.declared.tree.RequiredFunction.TheVariants as f
+use Rattle.ps_tree.specs.declared.tree.operators.RequiredFunction.{RequiredFunction}
+use Rattle.ps_tree.specs.declared.tree.operators.RequiredFunction.TheVariants as f
 use Rattle.ps_tree.specs.Types.{DataType, OrdinalType, SetType, is_assignable, is_same_type, is_same_host}
 use Rattle.ps_tree.specs.Tree as Tree
 use Rattle.ps_check_names.specs.declared.meaning.File.TheVariants.{Input}

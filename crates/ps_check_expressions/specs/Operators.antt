@@ -8,18 +8,18 @@ use Rattle.ps_syntax.specs.declared.expression.Multiplying.{Multiplying}
 use Rattle.ps_syntax.specs.declared.expression.Multiplying.TheVariants as multiplying
 use Rattle.ps_syntax.specs.declared.expression.Relational.{Relational}
 use Rattle.ps_syntax.specs.declared.expression.Relational.TheVariants as relation
-use Rattle.ps_tree.specs.declared.tree.ArithmeticOperator.{ArithmeticOperator}
-use Rattle.ps_tree.specs.declared.tree.ArithmeticOperator.TheVariants.{Add, Subtract, Multiply, Div, Mod}
-use Rattle.ps_tree.specs.declared.tree.BooleanOperator.{BooleanOperator}
-use Rattle.ps_tree.specs.declared.tree.BooleanOperator.TheVariants.{And, Or}
-use Rattle.ps_tree.specs.declared.tree.SetOperator.{SetOperator}
-use Rattle.ps_tree.specs.declared.tree.SetOperator.TheVariants.{Union, Difference, Intersection}
-use Rattle.ps_tree.specs.declared.tree.OrderRelation as tree
-use Rattle.ps_tree.specs.declared.tree.OrderRelation.TheVariants as r
-use Rattle.ps_tree.specs.declared.tree.PointerRelation.{PointerRelation}
-use Rattle.ps_tree.specs.declared.tree.PointerRelation.TheVariants as pointers
-use Rattle.ps_tree.specs.declared.tree.SetRelation.{SetRelation}
-use Rattle.ps_tree.specs.declared.tree.SetRelation.TheVariants as sets
+use Rattle.ps_tree.specs.declared.tree.operators.ArithmeticOperator.{ArithmeticOperator}
+use Rattle.ps_tree.specs.declared.tree.operators.ArithmeticOperator.TheVariants.{Add, Subtract, Multiply, Div, Mod}
+use Rattle.ps_tree.specs.declared.tree.operators.BooleanOperator.{BooleanOperator}
+use Rattle.ps_tree.specs.declared.tree.operators.BooleanOperator.TheVariants.{And, Or}
+use Rattle.ps_tree.specs.declared.tree.operators.SetOperator.{SetOperator}
+use Rattle.ps_tree.specs.declared.tree.operators.SetOperator.TheVariants.{Union, Difference, Intersection}
+use Rattle.ps_tree.specs.declared.tree.operators.OrderRelation as tree
+use Rattle.ps_tree.specs.declared.tree.operators.OrderRelation.TheVariants as r
+use Rattle.ps_tree.specs.declared.tree.operators.PointerRelation.{PointerRelation}
+use Rattle.ps_tree.specs.declared.tree.operators.PointerRelation.TheVariants as pointers
+use Rattle.ps_tree.specs.declared.tree.operators.SetRelation.{SetRelation}
+use Rattle.ps_tree.specs.declared.tree.operators.SetRelation.TheVariants as sets
 use Rattle.ps_tree.specs.Types.{DataType, OrdinalType, PointerType, NilType, SetType, EmptySetType, is_same_host}
 use Rattle.ps_tree.specs.Types.{are_same, string_length, is_compatible}
 use Rattle.ps_tree.specs.declared.types.Host.{Host}

@@ -6,8 +6,8 @@ use Rattle.ps_tree.specs.declared.types.Host.TheVariants.{Integer, Char, Boolean
 use Rattle.ps_tree.specs.declared.types.Ordinal.{Ordinal}
 use Rattle.ps_tree.specs.declared.types.Packing.{Packing}
 use Rattle.ps_tree.specs.declared.types.Packing.TheVariants.{Either}
-use Rattle.ps_tree.specs.declared.tree.Range.{Range}
-use Rattle.ps_tree.specs.declared.tree.Range.TheVariants.{Any, Within}
+use Rattle.ps_tree.specs.declared.tree.operators.Range.{Range}
+use Rattle.ps_tree.specs.declared.tree.operators.Range.TheVariants.{Any, Within}
 use Rattle.ps_tree.specs.Types.{DataType, OrdinalType, PointerType, SetType, EmptySetType, ArrayType, RecordType}
 use Rattle.ps_tree.specs.Types.{is_same_host}
 use Rattle.ps_tree.specs.Tree as Tree

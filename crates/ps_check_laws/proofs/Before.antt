@@ -18,7 +18,8 @@ use Rattle.ps_check_laws.proofs.Parameters.{headings_found}
 use Rattle.ps_check_laws.proofs.Found.{uses_find_what_they_denote}
 use Rattle.ps_check_laws.proofs.Lists.{inside, get_stays, there_is, take_left, take_length, take_drop, Each}
 
-module _ (text : List ℕ) (p : syntax.Program) (v : List ℕ) (n : ℕ) (regions : List Region) (r : Region) (t : IsRegion text p v n regions r) (around : AreAround text p v regions) where
+module _ (text : List ℕ) (p : syntax.Program) (v : List ℕ) (n : ℕ) (regions : List Region) (r : Region)
+    (t : IsRegion text p v n regions r) (around : AreAround text p v regions) where
   abbrev frame : Frame
   frame = record { text = text; routine = t.number; names = names_of text t.definitions; begun = []; outer = regions }
 

@@ -255,7 +255,8 @@ module _ (f : Frame) (first : ℕ) (numbers : ℕ → ℕ) where
     pub stands : Stand xs e.known
     pub count : length e.variables ≡ n
 
-  module _ (v : Variables) (before : Declared) (r : DataType × Declared) (reading : denoter (within f (variable_names f v)) v.ty (hidden_by f v) before ≡ Yes r) where
+  module _ (v : Variables) (before : Declared) (r : DataType × Declared)
+      (reading : denoter (within f (variable_names f v)) v.ty (hidden_by f v) before ≡ Yes r) where
     names_stand : (names : List Span) (n : ℕ) (xs : Declarations) (more : List Meaning) (d e : Declared) → steps
         (declare_variable first r.0) d names ≡ Yes e → d.known ≡ r.1.known ++ more → length d.variables ≡ n
         → Stand xs d.known

@@ -22,7 +22,7 @@ use Rattle.ps_syntax.specs.declared.program.Routine.TheOpen.{Routine-F}
 use Rattle.ps_syntax.specs.declared.program.Routine.TheFolds.{fold-roll-Block, fold-roll-Routine}
 use Rattle.ps_syntax.specs.declared.program.Program as syntax
 use Rattle.ps_tree.specs.Tree as Tree
-use Rattle.ps_tree.specs.declared.tree.Direction.TheVariants.{To}
+use Rattle.ps_tree.specs.declared.tree.operators.Direction.TheVariants.{To}
 use Rattle.ps_check_judgement.specs.declared.change.Change.{Change}
 use Rattle.ps_check_judgement.specs.Judged.{Yes}
 use Rattle.ps_check_laws.specs.Option.{◌>>=◌}

@@ -26,7 +26,10 @@ use Rattle.ps_check_laws.proofs.Blocks.{BlockHas, within_is}
 use Rattle.ps_check_laws.proofs.RoutineTrees.{forward_heading, completing_block}
 use Rattle.ps_check_laws.proofs.Paths as paths
 
-module _ (text : List ℕ) (p : syntax.Program) (files : Files) (made : Tree.Program) (final : Gathered) (whole : (n : ℕ) (x : Tree.Routine) → 1 ≤ n → slice_get final.routines n ≡ Some (Some x) → slice_get made.routines n ≡ Some x) (all_domains : made.domains ≡ final.domains) where
+module _ (text : List ℕ) (p : syntax.Program) (files : Files) (made : Tree.Program) (final : Gathered)
+    (whole : (n : ℕ) (x : Tree.Routine) → 1 ≤ n → slice_get final.routines n ≡ Some (Some x)
+    → slice_get made.routines n ≡ Some x)
+    (all_domains : made.domains ≡ final.domains) where
   abbrev There : List ℕ → syntax_block.Block → Type 0
   There v b = paths.There text p files made final whole all_domains v b
 

@@ -117,7 +117,8 @@ declaration_at [] i d e = absurd (none_some e)
 declaration_at (y ∷ D) zero d e = (y, sym (inside (OfDeclaration y) d e))
 declaration_at (y ∷ D) (suc i) d e = declaration_at D i d e
 
-module _ (c : Context) (number : ℕ) (names : List (List ℕ)) (outer : List Region) (first : ℕ) (chain : List ℕ) (D : Declarations) (base drawn : ℕ) (all : List Routine) where
+module _ (c : Context) (number : ℕ) (names : List (List ℕ)) (outer : List Region) (first : ℕ) (chain : List ℕ)
+    (D : Declarations) (base drawn : ℕ) (all : List Routine) where
   -- a routine that was read: the heading that its name has, which has a block if the routine has one
   pub record Named (r : Routines) (x : Routine) : Type 0 where
     pub index : ℕ

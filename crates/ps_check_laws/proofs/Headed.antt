@@ -32,7 +32,8 @@ use Rattle.ps_check_laws.proofs.GatheredSoFar.{Keeps, Same, vacant_is}
 use Rattle.ps_check_laws.proofs.BlockPoints.{none_stays, plain_not, declares_plain, heading_or, among, points}
 use Rattle.ps_check_laws.proofs.BlockPoints.{points_last, points_names_last, names_length, not_routine, name_there}
 
-module _ (c : Context) (number : ℕ) (names : List (List ℕ)) (outer : List Region) (first : ℕ) (chain : List ℕ) (D : Declarations) (base drawn : ℕ) (all : List Routine) where
+module _ (c : Context) (number : ℕ) (names : List (List ℕ)) (outer : List Region) (first : ℕ) (chain : List ℕ)
+    (D : Declarations) (base drawn : ℕ) (all : List Routine) where
   abbrev pub f : Frame
   f = record { text = c.text; routine = number; names = names; begun = []; outer = outer }
 

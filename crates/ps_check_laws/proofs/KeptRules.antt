@@ -44,7 +44,10 @@ use Rattle.ps_check_laws.proofs.Blocks.{BlockHas}
 use Rattle.ps_check_laws.proofs.Paths as paths
 use Rattle.ps_check_laws.proofs.Filled.{fills}
 
-module _ (text : List ℕ) (p : syntax.Program) (files : Files) (made : Tree.Program) (final : Gathered) (whole : (n : ℕ) (x : Tree.Routine) → 1 ≤ n → slice_get final.routines n ≡ Some (Some x) → slice_get made.routines n ≡ Some x) (all_domains : made.domains ≡ final.domains) where
+module _ (text : List ℕ) (p : syntax.Program) (files : Files) (made : Tree.Program) (final : Gathered)
+    (whole : (n : ℕ) (x : Tree.Routine) → 1 ≤ n → slice_get final.routines n ≡ Some (Some x)
+    → slice_get made.routines n ≡ Some x)
+    (all_domains : made.domains ≡ final.domains) where
   abbrev There : List ℕ → syntax_block.Block → Type 0
   There v b = paths.There text p files made final whole all_domains v b
 

@@ -41,7 +41,8 @@ use Rattle.ps_check_laws.proofs.BlockPoints.{points, formals_names}
 use Rattle.ps_check_laws.proofs.Headed as by_heading
 use Rattle.ps_check_laws.proofs.Headed.{completing, introducing}
 
-module _ (c : Context) (number : ℕ) (names : List (List ℕ)) (outer : List Region) (first : ℕ) (chain : List ℕ) (D : Declarations) (base drawn : ℕ) (all : List Routine) where
+module _ (c : Context) (number : ℕ) (names : List (List ℕ)) (outer : List Region) (first : ℕ) (chain : List ℕ)
+    (D : Declarations) (base drawn : ℕ) (all : List Routine) where
   abbrev pub f : Frame
   f = record { text = c.text; routine = number; names = names; begun = []; outer = outer }
 
@@ -100,7 +101,9 @@ module _ (c : Context) (number : ℕ) (names : List (List ℕ)) (outer : List Re
   abbrev pub NestedPart : ℕ → Routine → syntax_block.Block → Routines → List Change → Type 0
   NestedPart n x b w part = (t : Nested n x b w) × (t.done.changes ≡ part)
 
-  module _ (done rest : List Routine) (x : Routine) (r s w : Routines) (split : all ≡ done ++ x ∷ rest) (at : At done r) (grows : RoutineGrows c x) (index : ℕ) (found : place names (sp c.text x) ≡ Some index) (intro : HasHeading done x r s index) where
+  module _ (done rest : List Routine) (x : Routine) (r s w : Routines) (split : all ≡ done ++ x ∷ rest) (at : At done r)
+      (grows : RoutineGrows c x) (index : ℕ) (found : place names (sp c.text x) ≡ Some index)
+      (intro : HasHeading done x r s index) where
     taken : take (length done) all ≡ done
     taken = ap (take (length done)) split ∙ take_whole done (x ∷ rest)
 

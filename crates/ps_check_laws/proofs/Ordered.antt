@@ -210,7 +210,9 @@ names_count text (y ∷ J) = ap suc (names_count text J)
 
 -- ---- names and places of the routines
 
-module _ (c : Context) (D : Declarations) (rs : List Routine) (apart : AreApart (names_of c.text (points c.text D (introduced c.text rs)))) (completed : AreCompleted c.text rs) where
+module _ (c : Context) (D : Declarations) (rs : List Routine)
+    (apart : AreApart (names_of c.text (points c.text D (introduced c.text rs))))
+    (completed : AreCompleted c.text rs) where
   abbrev pub whole : List Definition
   whole = points c.text D (introduced c.text rs)
 

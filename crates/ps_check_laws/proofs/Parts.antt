@@ -3,7 +3,7 @@ use Rattle.std.proofs.Common.{◌≡◌, ℕ, Bool, true, false, not, ◌&&◌, 
 use Rattle.std.proofs.Common.{ap, ◌∙◌, append-nil, append_assoc}
 use Rattle.std.specs.Prelude.{if◌then◌else◌}
 use Rattle.ps_tree.specs.declared.types.Ordinal.{Ordinal}
-use Rattle.ps_tree.specs.declared.tree.RequiredFunction.{RequiredFunction}
+use Rattle.ps_tree.specs.declared.tree.operators.RequiredFunction.{RequiredFunction}
 use Rattle.ps_tree.specs.declared.types.Host.TheVariants.{Integer}
 use Rattle.ps_tree.specs.Types.{DataType, OrdinalType, SetType, is_same_host, is_same_type, is_assignable}
 use Rattle.ps_tree.specs.Tree as Tree

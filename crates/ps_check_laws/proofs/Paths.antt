@@ -39,7 +39,10 @@ use Rattle.ps_check_laws.proofs.Blocks.{BlockHas, block_told}
 use Rattle.ps_check_laws.proofs.RoutineTrees.{map_length, prefix_meanings, tree_body, tree_variables, tree_formals}
 use Rattle.ps_check_laws.proofs.RoutineTrees.{tree_result, tree_line, tree_chain}
 
-module _ (text : List ℕ) (p : syntax.Program) (files : Files) (made : Tree.Program) (final : Gathered) (whole : (n : ℕ) (x : Tree.Routine) → 1 ≤ n → slice_get final.routines n ≡ Some (Some x) → slice_get made.routines n ≡ Some x) (all_domains : made.domains ≡ final.domains) where
+module _ (text : List ℕ) (p : syntax.Program) (files : Files) (made : Tree.Program) (final : Gathered)
+    (whole : (n : ℕ) (x : Tree.Routine) → 1 ≤ n → slice_get final.routines n ≡ Some (Some x)
+    → slice_get made.routines n ≡ Some x)
+    (all_domains : made.domains ≡ final.domains) where
   abbrev c : Context
   c = program_context text files
 

@@ -59,7 +59,8 @@ limits_told made e =
 
 -- ---- all blocks
 
-module _ (text : List ℕ) (p : syntax.Program) (files : Files) (made : Tree.Program) (limits : are_routines_within_limits made.routines ≡ true) (few : length made.routines ≤ 1048576) where
+module _ (text : List ℕ) (p : syntax.Program) (files : Files) (made : Tree.Program)
+    (limits : are_routines_within_limits made.routines ≡ true) (few : length made.routines ≤ 1048576) where
   abbrev AtRoutine : Type 0
   AtRoutine = (x : Routine) × RoutineRecovers text p files made limits few x
 

@@ -99,7 +99,9 @@ module _ (text : List ℕ) where
 abbrev pub NotYet : List ℕ → List Routine → ℕ → Routine → Type 0
 NotYet text done j y = (i : ℕ) (z : Routine) → j < i → slice_get done i ≡ Some z → sp text z ≡ sp text y → ⊥
 
-module _ (c : Context) (D : Declarations) (rs : List Routine) (apart : AreApart (names_of c.text (points c.text D (introduced c.text rs)))) (completed : AreCompleted c.text rs) (next : ℕ) where
+module _ (c : Context) (D : Declarations) (rs : List Routine)
+    (apart : AreApart (names_of c.text (points c.text D (introduced c.text rs)))) (completed : AreCompleted c.text rs)
+    (next : ℕ) where
   abbrev pub number_of : ℕ → ℕ
   number_of k = next + counted c.text [] (counts c.text (take k rs))
 

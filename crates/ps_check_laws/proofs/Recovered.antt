@@ -45,7 +45,8 @@ use Rattle.ps_check_laws.proofs.ByParts.{all_are, gathered_parts, routines_parts
 use Rattle.ps_check_laws.proofs.RecoveredNames as kept_names
 use Rattle.ps_check_laws.proofs.RecoveredRoutines as each_routine
 
-module _ (text : List ℕ) (p : syntax_program.Program) (files : Files) (made : Tree.Program) (limits : are_routines_within_limits made.routines ≡ true) (few : length made.routines ≤ 1048576) where
+module _ (text : List ℕ) (p : syntax_program.Program) (files : Files) (made : Tree.Program)
+    (limits : are_routines_within_limits made.routines ≡ true) (few : length made.routines ≤ 1048576) where
   abbrev c : Context
   c = program_context text files
 
@@ -56,7 +57,11 @@ module _ (text : List ℕ) (p : syntax_program.Program) (files : Files) (made : 
   abbrev RoutineRecovers : Routine → Type 0
   RoutineRecovers x = kept_names.RoutineRecovers text p files made limits few x
 
-  module _ (v : List ℕ) (b : syntax_block.Block) (Γ : List Region) (mine : KeepsRules text p files made v b Γ) (changes : ℕ → List Change) (inner_is : mine.inner ≡ changes_from changes 0 (out-Block b).routines) (nested : Nested v b Γ mine changes) (there : block_at p.block v ≡ Some b) (room : mine.next + headings_within text b ≤ length made.routines) (vacant : ℕ → Bool) (low : (m : ℕ) → mine.next ≤ m → vacant m ≡ false) where
+  module _ (v : List ℕ) (b : syntax_block.Block) (Γ : List Region) (mine : KeepsRules text p files made v b Γ)
+      (changes : ℕ → List Change) (inner_is : mine.inner ≡ changes_from changes 0 (out-Block b).routines)
+      (nested : Nested v b Γ mine changes) (there : block_at p.block v ≡ Some b)
+      (room : mine.next + headings_within text b ≤ length made.routines) (vacant : ℕ → Bool)
+      (low : (m : ℕ) → mine.next ≤ m → vacant m ≡ false) where
     abbrev rs : List Routine
     rs = (out-Block b).routines
 

@@ -45,11 +45,16 @@ use Rattle.ps_check_laws.proofs.Rebuilt.{whole_are, inner_low, completed_are, is
 use Rattle.ps_check_laws.proofs.ByParts.{heading_parts}
 use Rattle.ps_check_laws.proofs.RecoveredNames.{Meant, Nested, State, apart, many, meant}
 
-module _ (text : List ℕ) (p : syntax_program.Program) (files : Files) (made : Tree.Program) (limits : are_routines_within_limits made.routines ≡ true) (few : length made.routines ≤ 1048576) where
+module _ (text : List ℕ) (p : syntax_program.Program) (files : Files) (made : Tree.Program)
+    (limits : are_routines_within_limits made.routines ≡ true) (few : length made.routines ≤ 1048576) where
   abbrev c : Context
   c = program_context text files
 
-  module _ (v : List ℕ) (b : syntax_block.Block) (Γ : List Region) (mine : KeepsRules text p files made v b Γ) (changes : ℕ → List Change) (inner_is : mine.inner ≡ changes_from changes 0 (out-Block b).routines) (nested : Nested text p files made limits few v b Γ mine changes) (there : block_at p.block v ≡ Some b) (room : mine.next + headings_within text b ≤ length made.routines) (vacant : ℕ → Bool) (low : (m : ℕ) → mine.next ≤ m → vacant m ≡ false) where
+  module _ (v : List ℕ) (b : syntax_block.Block) (Γ : List Region) (mine : KeepsRules text p files made v b Γ)
+      (changes : ℕ → List Change) (inner_is : mine.inner ≡ changes_from changes 0 (out-Block b).routines)
+      (nested : Nested text p files made limits few v b Γ mine changes) (there : block_at p.block v ≡ Some b)
+      (room : mine.next + headings_within text b ≤ length made.routines) (vacant : ℕ → Bool)
+      (low : (m : ℕ) → mine.next ≤ m → vacant m ≡ false) where
     abbrev rs : List Routine
     rs = (out-Block b).routines
 
@@ -68,7 +73,8 @@ module _ (text : List ℕ) (p : syntax_program.Program) (files : Files) (made : 
     abbrev number : ℕ → ℕ
     number k = mine.next + counted text [] (counts text (take k rs))
 
-    module _ (done rest : List Routine) (x : Routine) (split : rs ≡ done ++ x ∷ rest) (r : Routines) (q : ℕ → Bool) (s : State text p files made limits few v b Γ mine changes inner_is nested there room vacant low done r q) where
+    module _ (done rest : List Routine) (x : Routine) (split : rs ≡ done ++ x ∷ rest) (r : Routines) (q : ℕ → Bool)
+        (s : State text p files made limits few v b Γ mine changes inner_is nested there room vacant low done r q) where
       abbrev pub I : List InPart
       I = introduced text done
 

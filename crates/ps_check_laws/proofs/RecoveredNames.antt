@@ -38,7 +38,8 @@ use Rattle.ps_check_laws.proofs.Blocks.{own_named, names_both}
 use Rattle.ps_check_laws.proofs.Ordered.{points_added_apart, names_read}
 use Rattle.ps_check_laws.proofs.Rebuilt.{Are}
 
-module _ (text : List ℕ) (p : syntax_program.Program) (files : Files) (made : Tree.Program) (limits : are_routines_within_limits made.routines ≡ true) (few : length made.routines ≤ 1048576) where
+module _ (text : List ℕ) (p : syntax_program.Program) (files : Files) (made : Tree.Program)
+    (limits : are_routines_within_limits made.routines ≡ true) (few : length made.routines ≤ 1048576) where
   abbrev pub c : Context
   c = program_context text files
 
@@ -74,7 +75,11 @@ module _ (text : List ℕ) (p : syntax_program.Program) (files : Files) (made : 
   abbrev pub RoutineRecovers : Routine → Type 0
   RoutineRecovers x = (b : syntax_block.Block) → routine_block x ≡ Some b → BlockRecovers b
 
-  module _ (v : List ℕ) (b : syntax_block.Block) (Γ : List Region) (mine : KeepsRules text p files made v b Γ) (changes : ℕ → List Change) (inner_is : mine.inner ≡ changes_from changes 0 (out-Block b).routines) (nested : Nested v b Γ mine changes) (there : block_at p.block v ≡ Some b) (room : mine.next + headings_within text b ≤ length made.routines) (vacant : ℕ → Bool) (low : (m : ℕ) → mine.next ≤ m → vacant m ≡ false) where
+  module _ (v : List ℕ) (b : syntax_block.Block) (Γ : List Region) (mine : KeepsRules text p files made v b Γ)
+      (changes : ℕ → List Change) (inner_is : mine.inner ≡ changes_from changes 0 (out-Block b).routines)
+      (nested : Nested v b Γ mine changes) (there : block_at p.block v ≡ Some b)
+      (room : mine.next + headings_within text b ≤ length made.routines) (vacant : ℕ → Bool)
+      (low : (m : ℕ) → mine.next ≤ m → vacant m ≡ false) where
     abbrev pub rs : List Routine
     rs = (out-Block b).routines
 

@@ -51,11 +51,16 @@ use Rattle.ps_check_laws.proofs.ByParts.{gathered_parts, forward_of, no_block_fo
 use Rattle.ps_check_laws.proofs.RecoveredNames.{BlockRecovers, Meant, Nested, RoutineRecovers, State, apart, meant}
 use Rattle.ps_check_laws.proofs.RecoveredHeadings.{Intro, at_x, inside_block, intro, one_more, taken}
 
-module _ (text : List ℕ) (p : syntax_program.Program) (files : Files) (made : Tree.Program) (limits : are_routines_within_limits made.routines ≡ true) (few : length made.routines ≤ 1048576) where
+module _ (text : List ℕ) (p : syntax_program.Program) (files : Files) (made : Tree.Program)
+    (limits : are_routines_within_limits made.routines ≡ true) (few : length made.routines ≤ 1048576) where
   abbrev c : Context
   c = program_context text files
 
-  module _ (v : List ℕ) (b : syntax_block.Block) (Γ : List Region) (mine : KeepsRules text p files made v b Γ) (changes : ℕ → List Change) (inner_is : mine.inner ≡ changes_from changes 0 (out-Block b).routines) (nested : Nested text p files made limits few v b Γ mine changes) (there : block_at p.block v ≡ Some b) (room : mine.next + headings_within text b ≤ length made.routines) (vacant : ℕ → Bool) (low : (m : ℕ) → mine.next ≤ m → vacant m ≡ false) where
+  module _ (v : List ℕ) (b : syntax_block.Block) (Γ : List Region) (mine : KeepsRules text p files made v b Γ)
+      (changes : ℕ → List Change) (inner_is : mine.inner ≡ changes_from changes 0 (out-Block b).routines)
+      (nested : Nested text p files made limits few v b Γ mine changes) (there : block_at p.block v ≡ Some b)
+      (room : mine.next + headings_within text b ≤ length made.routines) (vacant : ℕ → Bool)
+      (low : (m : ℕ) → mine.next ≤ m → vacant m ≡ false) where
     abbrev rs : List Routine
     rs = (out-Block b).routines
 
@@ -74,7 +79,8 @@ module _ (text : List ℕ) (p : syntax_program.Program) (files : Files) (made : 
     abbrev chain : List ℕ
     chain = mine.start.chain
 
-    module _ (done rest : List Routine) (x : Routine) (split : rs ≡ done ++ x ∷ rest) (r : Routines) (q : ℕ → Bool) (s : State text p files made limits few v b Γ mine changes inner_is nested there room vacant low done r q) where
+    module _ (done rest : List Routine) (x : Routine) (split : rs ≡ done ++ x ∷ rest) (r : Routines) (q : ℕ → Bool)
+        (s : State text p files made limits few v b Γ mine changes inner_is nested there room vacant low done r q) where
       abbrev I : List InPart
       I = introduced text done
 

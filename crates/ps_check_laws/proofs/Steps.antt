@@ -28,7 +28,8 @@ use Rattle.ps_check_laws.proofs.BlockPoints.{points, names_length, all_more, has
 use Rattle.ps_check_laws.proofs.Headed as by_heading
 use Rattle.ps_check_laws.proofs.NestedSteps.{Nested, NestedPart, step_at}
 
-module _ (c : Context) (number : ℕ) (names : List (List ℕ)) (outer : List Region) (first : ℕ) (chain : List ℕ) (D : Declarations) (base drawn : ℕ) (all : List Routine) where
+module _ (c : Context) (number : ℕ) (names : List (List ℕ)) (outer : List Region) (first : ℕ) (chain : List ℕ)
+    (D : Declarations) (base drawn : ℕ) (all : List Routine) where
   abbrev f : Frame
   f = record { text = c.text; routine = number; names = names; begun = []; outer = outer }
 
@@ -54,7 +55,9 @@ module _ (c : Context) (number : ℕ) (names : List (List ℕ)) (outer : List Re
     pub intro : HasHeading done x r introduced_to index
     pub reading : read_block f chain (routine c x) introduced_to (option_map (block c) (routine_block x)) ≡ Yes w
 
-  module _ (done rest : List Routine) (x : Routine) (r w : Routines) (more : List (List ℕ)) (split : all ≡ done ++ x ∷ rest) (at : At done r) (whole : names ≡ add_routine c.text (names_of c.text (before done)) (routine c x) ++ more) where
+  module _ (done rest : List Routine) (x : Routine) (r w : Routines) (more : List (List ℕ))
+      (split : all ≡ done ++ x ∷ rest) (at : At done r)
+      (whole : names ≡ add_routine c.text (names_of c.text (before done)) (routine c x) ++ more) where
     abbrev so_far : List (List ℕ)
     so_far = names_of c.text (before done)
 

@@ -25,7 +25,8 @@ module _ (text : List ℕ) (p : syntax.Program) (made : Tree.Program) (v : List 
     pub checked : slice_get made.routines (base + i) ≡ Some routine
 
 -- the routines taken are those within block b, which is at path v, each once
-pub record AreThoseWithin (text : List ℕ) (p : syntax.Program) (made : Tree.Program) (v : List ℕ) (b : Block) (taken : List (Option Tree.Routine)) : Type 0 where
+pub record AreThoseWithin (text : List ℕ) (p : syntax.Program) (made : Tree.Program) (v : List ℕ) (b : Block)
+    (taken : List (Option Tree.Routine)) : Type 0 where
   pub base : ℕ
   pub first : first_number text p v ≡ Some base
   pub many : length taken ≡ headings_within text b

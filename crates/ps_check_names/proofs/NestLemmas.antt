@@ -2,8 +2,6 @@
 use Rattle.std.proofs.Common.{◌≡◌, ◌+◌, ◌<◌, ◌≤◌, ℕ, zero, suc, List, [], ◌∷◌, ◌++◌, length, Some, refl, sym, ap, subst}
 use Rattle.std.proofs.Common.{◌∙◌, arith, map, slice_get, take, Result, Ok, Err, IfOk, IfErr}
 use Rattle.std.proofs.lemmas.List.{length-append}
-use Rattle.std.specs.Hash.FoldHasher.{finish}
-use Rattle.std.specs.declared.hash.FoldHasher.{FoldHasher}
 use Rattle.ps_tree.specs.declared.types.Ty.{Ty}
 use Rattle.ps_check_judgement.specs.Judged.{No}
 use Rattle.ps_check_names.specs.Regions.{Region, find_past, missing}
@@ -12,10 +10,10 @@ use Rattle.ps_check_names.specs.declared.scope.Lookup.{Lookup}
 use Rattle.ps_check_names.specs.declared.wides.Wides.{Wides}
 use Rattle.ps_check_names.specs.Wides.{kind_of}
 use Rattle.ps_check_names.specs.declared.opened.Opened.{Opened}
-use Rattle.ps_check_names.specs.Nests.{records_in, StartWith}
+use Rattle.ps_check_names.specs.Nests.{records_in, NumberedBy, IsNumber}
 use Rattle.ps_check_names.specs.Opened.{NoneBehind}
 use Rattle.ps_check_names.specs.Sets.{Holds}
-use Rattle.ps_check_names.specs.Marks.{mark_of, Shown}
+use Rattle.ps_check_names.specs.Marks.{mark_of, number_of, Shown}
 use Rattle.ps_check_names.proofs.NoteLemmas.{none_some, inside, last_or}
 use Rattle.ps_check_names.proofs.MarkLemmas.{all_shown}
 use Rattle.ps_check_names.proofs.OpenedLemmas.{opened_both, opened_none, behind_passed, behind_uncounted}
@@ -46,32 +44,37 @@ pub last_level : (Γ : List Region) (levels rest : List Opened) (level : Opened)
 last_level Γ levels rest level e = ap (opened_in Γ) (ap records_in e ∙ more_levels rest level)
     ∙ opened_both Γ (records_in rest) level.records.items
 
--- ---- how hashes begin
+-- ---- numbers
 
-pub start_one : (levels : List Opened) (level : Opened) (state : ℕ) → levels ≡ level ∷ [] → state
-    ≡ finish level.wides.now.start → StartWith levels state
-start_one levels level state e is = λ k l got. by k l (ap (λ ls. slice_get ls k) (sym e) ∙ got)
+pub numbered_one : (levels : List Opened) (level : Opened) → levels ≡ level ∷ [] → NumberedBy levels level.wides.now.fields
+numbered_one levels level e = λ k l got. by k l (ap (λ ls. slice_get ls k) (sym e) ∙ got)
   where
-    by : (k : ℕ) (l : Opened) → slice_get (level ∷ []) k ≡ Some l → state ≡ finish l.wides.now.start
-    by zero l got = is ∙ ap (λ o. finish o.wides.now.start) (inside level l got)
+    by : (k : ℕ) (l : Opened) → slice_get (level ∷ []) k ≡ Some l → level.wides.now.fields ≡ l.wides.now.fields
+    by zero l got = ap (λ o. o.wides.now.fields) (inside level l got)
     by (suc k) l got = absurd (none_some got)
 
-pub start_more : (levels more : List Opened) (level : Opened) (state : ℕ) → more ≡ levels ++ level ∷ [] → StartWith levels
-    state → state ≡ finish level.wides.now.start → StartWith more state
-start_more levels more level state e so is = λ k l got. last_or levels level k l _ (ap (λ ls. slice_get ls k) (sym e) ∙ got)
-    (λ there. so k l there) (λ q f. is ∙ ap (λ o. finish o.wides.now.start) f)
+pub numbered_more : (levels more : List Opened) (level : Opened) (fields : List (List ℕ)) → more ≡ levels ++ level ∷ []
+    → NumberedBy levels fields → fields ≡ level.wides.now.fields → NumberedBy more fields
+numbered_more levels more level fields e so is = λ k l got. last_or levels level k l _
+    (ap (λ ls. slice_get ls k) (sym e) ∙ got) (λ there. so k l there)
+    (λ q f. is ∙ ap (λ o. o.wides.now.fields) f)
 
-pub start_last : (levels rest : List Opened) (level : Opened) (state : ℕ) → levels ≡ rest ++ level ∷ [] → StartWith levels
-    state → state ≡ finish level.wides.now.start
-start_last levels rest level state e so = so (length rest) level (ap (λ ls. slice_get ls (length rest)) e ∙ at_end rest)
+-- the number by the names of fields that all have
+pub is_number : (levels : List Opened) (fields : List (List ℕ)) (s : List ℕ) (number : ℕ) → NumberedBy levels fields → number
+    ≡ number_of fields s → IsNumber levels s number
+is_number levels fields s number by is = λ k l got. is ∙ ap (λ names. number_of names s) (by k l got)
+
+pub number_last : (levels rest : List Opened) (level : Opened) (s : List ℕ) (number : ℕ) → levels ≡ rest ++ level ∷ []
+    → IsNumber levels s number → number ≡ number_of level.wides.now.fields s
+number_last levels rest level s number e is = is (length rest) level (ap (λ ls. slice_get ls (length rest)) e ∙ at_end rest)
   where
     at_end : (rest : List Opened) → slice_get (rest ++ level ∷ []) (length rest) ≡ Some level
     at_end [] = refl
     at_end (l ∷ rest) = at_end rest
 
-pub start_rest : (levels rest : List Opened) (level : Opened) (state : ℕ) → levels ≡ rest ++ level ∷ [] → StartWith levels
-    state → StartWith rest state
-start_rest levels rest level state e so = λ k l got. so k l (ap (λ ls. slice_get ls k) e ∙ kept rest k l got)
+pub number_rest : (levels rest : List Opened) (level : Opened) (s : List ℕ) (number : ℕ) → levels ≡ rest ++ level ∷ []
+    → IsNumber levels s number → IsNumber rest s number
+number_rest levels rest level s number e is = λ k l got. is k l (ap (λ ls. slice_get ls k) e ∙ kept rest k l got)
   where
     kept : (rest : List Opened) (k : ℕ) (l : Opened) → slice_get rest k ≡ Some l → slice_get (rest ++ level ∷ []) k ≡ Some l
     kept [] k l got = absurd (none_some got)
@@ -87,21 +90,21 @@ in_first [] ys k x C got first others = others k got
 in_first (y ∷ xs) ys zero x C got first others = first 0 got
 in_first (y ∷ xs) ys (suc k) x C got first others = in_first xs ys k x C got (λ i e. first (suc i) e) others
 
-pub shown_same : (records records' : List Ty) (start : FoldHasher) (marks : List ℕ) (kinds : List ℕ → List ℕ)
-    (present : List ℕ) → records' ≡ records → Shown records start marks kinds present → Shown records' start marks kinds
+pub shown_same : (records records' : List Ty) (mark : List ℕ → ℕ) (marks : List ℕ) (kinds : List ℕ → List ℕ)
+    (present : List ℕ) → records' ≡ records → Shown records mark marks kinds present → Shown records' mark marks kinds
     present
-shown_same records records' start marks kinds present e shown = λ s k ty got h apart. shown s k ty
+shown_same records records' mark marks kinds present e shown = λ s k ty got h apart. shown s k ty
     (ap (λ l. slice_get l k) (sym e) ∙ got) h apart
 
-pub shown_both : (records others all : List Ty) (start : FoldHasher) (marks marks' marks2 : List ℕ)
-    (kinds : List ℕ → List ℕ) (present present' present2 : List ℕ) → all ≡ records ++ others → Shown records start marks
-    kinds present → Shown others start marks' kinds present' → ((n : ℕ) → Holds marks n → Holds marks2 n)
+pub shown_both : (records others all : List Ty) (mark : List ℕ → ℕ) (marks marks' marks2 : List ℕ)
+    (kinds : List ℕ → List ℕ) (present present' present2 : List ℕ) → all ≡ records ++ others → Shown records mark marks
+    kinds present → Shown others mark marks' kinds present' → ((n : ℕ) → Holds marks n → Holds marks2 n)
     → ((n : ℕ) → Holds marks' n → Holds marks2 n) → ((n : ℕ) → Holds present n → Holds present2 n)
-    → ((n : ℕ) → Holds present' n → Holds present2 n) → Shown all start marks2 kinds present2
-shown_both records others all start marks marks' marks2 kinds present present' present2 e first second kept joined also too
+    → ((n : ℕ) → Holds present' n → Holds present2 n) → Shown all mark marks2 kinds present2
+shown_both records others all mark marks marks' marks2 kinds present present' present2 e first second kept joined also too
     = λ s k ty got h apart. in_first records others k ty _ (ap (λ l. slice_get l k) (sym e) ∙ got)
-    (λ i is. kept (mark_of start s) (first s i ty is h (λ n a b. apart n a (also n b))))
-    (λ i is. joined (mark_of start s) (second s i ty is h (λ n a b. apart n a (too n b))))
+    (λ i is. kept (mark s) (first s i ty is h (λ n a b. apart n a (also n b))))
+    (λ i is. joined (mark s) (second s i ty is h (λ n a b. apart n a (too n b))))
 
 pub count_more : (levels more : List Opened) (level : Opened) (count : ℕ) → more ≡ levels ++ level ∷ [] → count ≡ length
     (records_in levels) → count + length level.records.items ≡ length (records_in more)
@@ -112,7 +115,8 @@ count_more levels more level count e is =
 
 -- ---- the search
 
-module _ (records : List Ty) (count : ℕ) (counted : count ≡ length records) (s : List ℕ) (none : NoneBehind records 0 s) (up which at : ℕ) (Γ : List Region) where
+module _ (records : List Ty) (count : ℕ) (counted : count ≡ length records) (s : List ℕ) (none : NoneBehind records 0 s)
+    (up which at : ℕ) (Γ : List Region) where
   pub nest_passed : (passed : ℕ) → passed ≡ which + count → passed ≤ 4294967295 → find_past up which (opened_in Γ records) s
       at ≡ find_past up passed Γ s at
   nest_passed passed is few = behind_passed records 0 s none up which at Γ passed (omega (arith, is, counted)) few
@@ -123,7 +127,9 @@ module _ (records : List Ty) (count : ℕ) (counted : count ≡ length records) 
   nest_uncounted low high = behind_uncounted records 0 s none up which at Γ low (omega (arith, high, counted))
 
 -- what follows where the search has come so far
-module _ (s : List ℕ) (which passed : ℕ) (all left : List Ty) (so_far : (up at : ℕ) (Γ : List Region) → find_past up which (opened_in Γ all) s at ≡ find_past up passed (opened_in Γ left) s at) where
+module _ (s : List ℕ) (which passed : ℕ) (all left : List Ty)
+    (so_far : (up at : ℕ) (Γ : List Region) → find_past up which (opened_in Γ all) s at
+    ≡ find_past up passed (opened_in Γ left) s at) where
   pub ok_after : (r : Result ℕ Lookup) → IfOk r
       (λ m. (up at : ℕ) (Γ : List Region) → find_past up passed (opened_in Γ left) s at ≡ find_past up m Γ s at) → IfOk r
       (λ m. (up at : ℕ) (Γ : List Region) → find_past up which (opened_in Γ all) s at ≡ find_past up m Γ s at)
@@ -137,17 +143,28 @@ module _ (s : List ℕ) (which passed : ℕ) (all left : List Ty) (so_far : (up 
   err_after (Err e) h = λ up at Γ. so_far up at Γ ∙ h up at Γ
 
 -- what a `with` notes of its records
-pub shown_opened : (o : Opened) → Shown o.records.items o.wides.now.start o.marks.items
+pub shown_opened : (o : Opened) → Shown o.records.items (mark_of o.wides.now.start) o.marks.items
     (kind_of o.wides.now.names (map (λ v. v.items) o.wides.now.kinds.items)) o.present.items
-shown_opened o = all_shown o.records.items o.places.items o.wides.now.types.items o.wides.now.start o.marks.items
+shown_opened o = all_shown o.records.items o.places.items o.wides.now.types.items (mark_of o.wides.now.start) o.marks.items
     o.wides.now.names (map (λ v. v.items) o.wides.now.kinds.items) o.present.items o.latest.items o.marked o.placed
     o.wides.now.listed o.reaching
 
+pub listed_opened : (o : Opened) → Shown o.records.items (number_of o.wides.now.fields) o.numbers.items
+    (kind_of o.wides.now.names (map (λ v. v.items) o.wides.now.kinds.items)) o.present.items
+listed_opened o = all_shown o.records.items o.places.items o.wides.now.types.items (number_of o.wides.now.fields)
+    o.numbers.items o.wides.now.names (map (λ v. v.items) o.wides.now.kinds.items) o.present.items o.latest.items
+    o.numbered o.placed o.wides.now.listed o.reaching
+
 -- by other wide types that are the same
-pub shown_by : (o : Opened) (wides : Wides) → o.wides.now ≡ wides → Shown o.records.items wides.start o.marks.items
-    (kind_of wides.names (map (λ v. v.items) wides.kinds.items)) o.present.items
-shown_by o wides e = subst (λ w. Shown o.records.items w.start o.marks.items
+pub shown_by : (o : Opened) (wides : Wides) → o.wides.now ≡ wides → Shown o.records.items (mark_of wides.start)
+    o.marks.items (kind_of wides.names (map (λ v. v.items) wides.kinds.items)) o.present.items
+shown_by o wides e = subst (λ w. Shown o.records.items (mark_of w.start) o.marks.items
     (kind_of w.names (map (λ v. v.items) w.kinds.items)) o.present.items) e (shown_opened o)
+
+pub listed_by : (o : Opened) (wides : Wides) → o.wides.now ≡ wides → Shown o.records.items (number_of wides.fields)
+    o.numbers.items (kind_of wides.names (map (λ v. v.items) wides.kinds.items)) o.present.items
+listed_by o wides e = subst (λ w. Shown o.records.items (number_of w.fields) o.numbers.items
+    (kind_of w.names (map (λ v. v.items) w.kinds.items)) o.present.items) e (listed_opened o)
 
 -- ---- the regions
 

@@ -155,7 +155,9 @@ pub further_even : (names : List (List ℕ)) (reaches reaches' : List ℕ) (inde
     → reaches' ≡ set reaches index new → length reaches' ≡ length names
 further_even names reaches reaches' index new even is = ap length is ∙ length-set reaches index new ∙ even
 
-module _ (names : List (List ℕ)) (reaches reaches' : List ℕ) (s : List ℕ) (index new : ℕ) (there : place names s ≡ Some index) (even : length reaches ≡ length names) (is : reaches' ≡ set reaches index new) where
+module _ (names : List (List ℕ)) (reaches reaches' : List ℕ) (s : List ℕ) (index new : ℕ)
+    (there : place names s ≡ Some index) (even : length reaches ≡ length names)
+    (is : reaches' ≡ set reaches index new) where
   here_now : get_or reaches' index 0 ≡ new
   here_now = ap (λ l. get_or l index 0) is ∙ get_or-set_same reaches index new 0
       (further_room names reaches s index there even)
@@ -186,7 +188,10 @@ none_any s n (x ∷ xs) e = here (same s x) e (none_any s (n + 1) xs)
     here true e rest = absurd (some_none e)
     here false e rest = rest e
 
-module _ (names : List (List ℕ)) (reaches : List ℕ) (s : List ℕ) (reach : ℕ) (names' : List (List ℕ)) (reaches' : List ℕ) (added : Bool) (new : place names s ≡ None) (even : length reaches ≡ length names) (a : added ≡ not (has names s)) (m : names' ≡ (if added then names ++ s ∷ [] else names)) (r : reaches' ≡ reaches ++ reach ∷ []) where
+module _ (names : List (List ℕ)) (reaches : List ℕ) (s : List ℕ) (reach : ℕ) (names' : List (List ℕ))
+    (reaches' : List ℕ) (added : Bool) (new : place names s ≡ None) (even : length reaches ≡ length names)
+    (a : added ≡ not (has names s)) (m : names' ≡ (if added then names ++ s ∷ [] else names))
+    (r : reaches' ≡ reaches ++ reach ∷ []) where
   more_names : names' ≡ names ++ s ∷ []
   more_names = m ∙ ap (λ b. if b then names ++ s ∷ [] else names) (a ∙ ap not (none_any s 0 names new))
 
@@ -299,7 +304,8 @@ has_fields ty other a b is is' same = λ s h.
 
 -- ---- the record behind the last
 
-module _ (records : List Ty) (ty : Ty) (asked : ℕ) (names : List (List ℕ)) (reaches : List ℕ) (kinds : List ℕ → List ℕ) (present latest : List ℕ) (covers : Covers records asked names reaches kinds present latest) where
+module _ (records : List Ty) (ty : Ty) (asked : ℕ) (names : List (List ℕ)) (reaches : List ℕ) (kinds : List ℕ → List ℕ)
+    (present latest : List ℕ) (covers : Covers records asked names reaches kinds present latest) where
   -- its fields are noted, or it is asked
   pub covers_narrow : (asked' before : ℕ) (names' : List (List ℕ)) (reaches' : List ℕ) → before ≡ length records → asked
       ≤ asked' → Keeps names reaches names' reaches' → ((s : List ℕ) → HasField ty s → asked' < before + 1 → before + 1

@@ -114,7 +114,8 @@ module _ (records : List Ty) (n : ℕ) (s : List ℕ) (none : NoneBehind records
       (rw (sym m) at high)
 
 -- what the search in those before it gives
-module _ (records : List Ty) (n : ℕ) (s : List ℕ) (none : NoneBehind records n s) (which passed : ℕ) (before : List Ty) (is : before ≡ take n records) (all : passed ≡ which + (length records - n)) (few : passed ≤ 4294967295) where
+module _ (records : List Ty) (n : ℕ) (s : List ℕ) (none : NoneBehind records n s) (which passed : ℕ) (before : List Ty)
+    (is : before ≡ take n records) (all : passed ≡ which + (length records - n)) (few : passed ≤ 4294967295) where
   in_those : (up at : ℕ) (Γ : List Region) → find_past up which (opened_in Γ records) s at ≡ find_past up passed
       (opened_in Γ before) s at
   in_those up at Γ = behind_passed records n s none up which at Γ passed all few

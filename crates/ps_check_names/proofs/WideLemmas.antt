@@ -98,7 +98,9 @@ put_kept words words' index word new room is put more n there = by (eq-or-not (n
         ∙ ap (λ w. bit_at w (n % 64)) (get_or-set_other words index (n / 64) new 0 d) ∙ there
 
 -- a word in the place of another, in a longer list
-module _ (old words words' : List ℕ) (number word new : ℕ) (longer : (n : ℕ) → get_or words n 0 ≡ get_or old n 0) (room : number / 64 < length words) (is : word ≡ get_or words (number / 64) 0) (put : words' ≡ set words (number / 64) new) where
+module _ (old words words' : List ℕ) (number word new : ℕ) (longer : (n : ℕ) → get_or words n 0 ≡ get_or old n 0)
+    (room : number / 64 < length words) (is : word ≡ get_or words (number / 64) 0)
+    (put : words' ≡ set words (number / 64) new) where
   here : get_or words' (number / 64) 0 ≡ new
   here = ap (λ l. get_or l (number / 64) 0) put ∙ get_or-set_same words (number / 64) new 0 room
 
@@ -152,7 +154,9 @@ joined_end others words i end so_far n h = by (eq-or-not (get_or others (n / 64)
     by (inr d) = so_far n (let z = not_past others (n / 64) 0 (omega (arith, d)) in omega (arith, z, end)) h
 
 -- a greater number in the place of another, in a longer list
-module _ (old numbers numbers' : List ℕ) (index before new : ℕ) (longer : (n : ℕ) → get_or numbers n 0 ≡ get_or old n 0) (room : index < length numbers) (is : before ≡ get_or numbers index 0) (put : numbers' ≡ set numbers index new) where
+module _ (old numbers numbers' : List ℕ) (index before new : ℕ) (longer : (n : ℕ) → get_or numbers n 0 ≡ get_or old n 0)
+    (room : index < length numbers) (is : before ≡ get_or numbers index 0)
+    (put : numbers' ≡ set numbers index new) where
   there : get_or numbers' index 0 ≡ new
   there = ap (λ l. get_or l index 0) put ∙ get_or-set_same numbers index new 0 room
 
@@ -205,7 +209,8 @@ pub kinds_both : (a x b y c z : List (List ℕ)) → KeepsKinds a x b y → Keep
 kinds_both a x b y c z h g = λ s n e. g s n (h s n e)
 
 -- a set more for a name that is there
-module _ (names kinds kinds' : List (List ℕ)) (s : List ℕ) (index : ℕ) (new : List ℕ) (there : place names s ≡ Some index) (even : length kinds ≡ length names) (put : kinds' ≡ set kinds index new) where
+module _ (names kinds kinds' : List (List ℕ)) (s : List ℕ) (index : ℕ) (new : List ℕ)
+    (there : place names s ≡ Some index) (even : length kinds ≡ length names) (put : kinds' ≡ set kinds index new) where
   room : index < length kinds
   room = let z = within_from s 0 names index there in omega (arith, z, even)
 
@@ -230,7 +235,9 @@ module _ (names kinds kinds' : List (List ℕ)) (s : List ℕ) (index : ℕ) (ne
       by n (Some i) h = at n i (eq-or-not i index) h
 
 -- a new name
-module _ (names kinds : List (List ℕ)) (s : List ℕ) (kind : List ℕ) (names' kinds' : List (List ℕ)) (added : Bool) (new : place names s ≡ None) (even : length kinds ≡ length names) (a : added ≡ not (has names s)) (m : names' ≡ (if added then names ++ s ∷ [] else names)) (r : kinds' ≡ kinds ++ kind ∷ []) where
+module _ (names kinds : List (List ℕ)) (s : List ℕ) (kind : List ℕ) (names' kinds' : List (List ℕ)) (added : Bool)
+    (new : place names s ≡ None) (even : length kinds ≡ length names) (a : added ≡ not (has names s))
+    (m : names' ≡ (if added then names ++ s ∷ [] else names)) (r : kinds' ≡ kinds ++ kind ∷ []) where
   more_names : names' ≡ names ++ s ∷ []
   more_names = m ∙ ap (λ b. if b then names ++ s ∷ [] else names) (a ∙ ap not (none_any s 0 names new))
 

@@ -1,7 +1,8 @@
--- Marks of names: small numbers, of which one is made of a name once, and is then looked for in many sets.
-use Rattle.std.specs.Prelude.{◌≡◌, ◌%◌, ℕ, List, Option, None, Some, slice_get}
+-- Marks and numbers of names, of which one is made of a name and is then looked for in many sets.
+use Rattle.std.specs.Prelude.{◌≡◌, ◌%◌, ℕ, List, length, Option, None, Some, slice_get}
 use Rattle.std.specs.Hash.FoldHasher as folding
 use Rattle.std.specs.declared.hash.FoldHasher.{FoldHasher}
+use Rattle.ps_tree.specs.Names.{place}
 use Rattle.ps_tree.specs.declared.types.Ty.{Ty}
 use Rattle.ps_check_names.specs.Opened.{HasField}
 use Rattle.ps_check_names.specs.Sets.{Holds, Apart}
@@ -14,16 +15,25 @@ mark_of start s = folding.finish (folding.write start s) % 16384
 abbrev pub IsMark : (state number : ℕ) → List ℕ → Type 0
 IsMark state number s = (start : FoldHasher) → folding.finish start ≡ state → number ≡ mark_of start s
 
--- the names of a record's fields have their marks in the set
-abbrev pub MarkedFor : Ty → FoldHasher → (marks : List ℕ) → Type 0
-MarkedFor ty start marks = (s : List ℕ) → HasField ty s → Holds marks (mark_of start s)
+abbrev pub place_or : (otherwise : ℕ) → Option ℕ → ℕ
+place_or otherwise None = otherwise
+place_or otherwise (Some m) = m
+
+-- the number of a name: its place among the names of fields, or the place behind them, which all others share
+abbrev pub number_of : (fields : List (List ℕ)) → List ℕ → ℕ
+number_of fields s = place_or (length fields) (place fields s)
+
+-- the names of a record's fields have their marks, or numbers, in the set
+abbrev pub MarkedFor : Ty → (mark : List ℕ → ℕ) → (marks : List ℕ) → Type 0
+MarkedFor ty mark marks = (s : List ℕ) → HasField ty s → Holds marks (mark s)
 
 -- so have those of all records that are of no wide type
-abbrev pub Marked : List Ty → (places : List (Option ℕ)) → FoldHasher → (marks : List ℕ) → Type 0
-Marked records places start marks = (k : ℕ) (ty : Ty) → slice_get records k ≡ Some ty → slice_get places k ≡ Some None
-    → MarkedFor ty start marks
+abbrev pub Marked : List Ty → (places : List (Option ℕ)) → (mark : List ℕ → ℕ) → (marks : List ℕ) → Type 0
+Marked records places mark marks = (k : ℕ) (ty : Ty) → slice_get records k ≡ Some ty → slice_get places k ≡ Some None
+    → MarkedFor ty mark marks
 
 -- a name that no wide type in the set has is that of no field of the records, unless it has its mark in the other set
-abbrev pub Shown : List Ty → FoldHasher → (marks : List ℕ) → (kinds : List ℕ → List ℕ) → (present : List ℕ) → Type 0
-Shown records start marks kinds present = (s : List ℕ) (k : ℕ) (ty : Ty) → slice_get records k ≡ Some ty → HasField ty s
-    → Apart (kinds s) present → Holds marks (mark_of start s)
+abbrev pub Shown : List Ty → (mark : List ℕ → ℕ) → (marks : List ℕ) → (kinds : List ℕ → List ℕ) → (present : List ℕ)
+    → Type 0
+Shown records mark marks kinds present = (s : List ℕ) (k : ℕ) (ty : Ty) → slice_get records k ≡ Some ty → HasField ty s
+    → Apart (kinds s) present → Holds marks (mark s)

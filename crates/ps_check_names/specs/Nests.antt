@@ -1,7 +1,7 @@
 -- The records of `with` statements, each of which stands within the one before it.
 use Rattle.std.specs.Prelude.{◌≡◌, List, [], ◌∷◌, ◌++◌, ℕ, Some, slice_get}
-use Rattle.std.specs.Hash.FoldHasher.{finish}
 use Rattle.ps_tree.specs.declared.types.Ty.{Ty}
+use Rattle.ps_check_names.specs.Marks.{number_of}
 use Rattle.ps_check_names.specs.declared.opened.Opened.{Opened}
 use Rattle.ps_check_names.specs.declared.nests.Levels.{Levels, One, Within'}
 
@@ -15,7 +15,11 @@ unfoldable pub records_in : List Opened → List Ty
 records_in [] = []
 records_in (level ∷ levels) = level.records.items ++ records_in levels
 
--- hashes begin with this state in each of them
-abbrev pub StartWith : List Opened → (state : ℕ) → Type 0
-StartWith levels state = (k : ℕ) (level : Opened) → slice_get levels k ≡ Some level → state
-    ≡ finish level.wides.now.start
+-- numbers are places among these names in each of them
+abbrev pub NumberedBy : List Opened → (fields : List (List ℕ)) → Type 0
+NumberedBy levels fields = (k : ℕ) (level : Opened) → slice_get levels k ≡ Some level → fields ≡ level.wides.now.fields
+
+-- it is the number of the name in each of them
+abbrev pub IsNumber : List Opened → List ℕ → (number : ℕ) → Type 0
+IsNumber levels s number = (k : ℕ) (level : Opened) → slice_get levels k ≡ Some level → number
+    ≡ number_of level.wides.now.fields s

@@ -6,6 +6,7 @@ pub mod marks;
 pub mod meaning;
 pub mod meanings;
 pub mod nests;
+pub mod numbers;
 pub mod opened;
 pub mod reading;
 pub mod scope;

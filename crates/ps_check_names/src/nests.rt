@@ -2,21 +2,22 @@
 
 ghost use Rattle.std.specs.Prelude.{◌≡◌, ◌≤◌, ◌+◌, ◌++◌, [], ◌∷◌, false, length, map, IfOk, IfSome, IsTrue};
 ghost use Rattle.ps_check_names.specs.Opened.{NoneBehind};
-ghost use Rattle.ps_check_names.specs.Nests.{levels_of, records_in, StartWith};
+ghost use Rattle.ps_check_names.specs.Nests.{levels_of, records_in, NumberedBy};
 ghost use Rattle.ps_check_names.specs.Sets.{Apart};
 ghost use Rattle.ps_check_names.specs.Wides.{kind_of};
-ghost use Rattle.ps_check_names.specs.Marks.{IsMark, Shown};
+ghost use Rattle.ps_check_names.specs.Marks.{mark_of, number_of, IsMark, Shown};
 ghost use Rattle.std.specs.Hash.FoldHasher.{finish};
 
 use crate::marks::Mark;
+use crate::numbers::{is_in, number_of};
 use crate::opened::Opened;
 use crate::sets::join;
 use crate::wides::{Wides, meet};
 use std::alloc::{AllocError, Global};
 
 // So many statements are passed at once where none of them has a field of a name: of 490, which can stand round a name,
-// there are 31 nests then, and what is noted of one is joined with that of few others.
-const MOST_LEVELS: usize = 16;
+// there are 16 nests then, and not many more statements are looked at in the one that has the name.
+const MOST_LEVELS: usize = 32;
 
 // A nest has at most twice so many records, so that they can be counted.
 const MOST_RECORDS: usize = 1048576;
@@ -46,14 +47,17 @@ pub struct Nest<'a> {
     pub wides: &'a Wides,
     // how many records there are
     pub(crate) count: usize,
-    // the marks of the names of the fields of records that are of no wide type
+    // the marks of the names of the fields of records that are of no wide type, and their numbers
     marks: Vec<usize>,
+    numbers: Vec<usize>,
     // the set of the wide types that are opened
     present: Vec<usize>,
     ghost counted: { count ≡ length (records_in (levels_of levels)) },
-    ghost shown: { Shown (records_in (levels_of levels)) wides.now.start marks.items
+    ghost shown: { Shown (records_in (levels_of levels)) (mark_of wides.now.start) marks.items
         (kind_of wides.now.names (map (λ v. v.items) wides.now.kinds.items)) present.items },
-    ghost own: { StartWith (levels_of levels) (finish wides.now.start) },
+    ghost listed: { Shown (records_in (levels_of levels)) (number_of wides.now.fields) numbers.items
+        (kind_of wides.now.names (map (λ v. v.items) wides.now.kinds.items)) present.items },
+    ghost own: { NumberedBy (levels_of levels) wides.now.fields },
 }
 
 impl<'a> Nest<'a> {
@@ -63,6 +67,7 @@ impl<'a> Nest<'a> {
         ensures { IfOk result (λ nest. levels_of nest.levels ≡ opened.now ∷ []) }
     {
         let marks = Vec::from_slice(alloc, opened.marks.as_slice())?;
+        let numbers = Vec::from_slice(alloc, opened.numbers.as_slice())?;
         let present = Vec::from_slice(alloc, opened.present.as_slice())?;
         Ok(Nest {
             levels: Levels::One { opened },
@@ -70,6 +75,7 @@ impl<'a> Nest<'a> {
             wides: opened.wides,
             count: opened.records.as_slice().len(),
             marks,
+            numbers,
             present,
         })
     }
@@ -95,6 +101,8 @@ impl<'a> Nest<'a> {
     {
         let mut marks = Vec::from_slice(alloc, self.marks.as_slice())?;
         join(&mut marks, opened.marks.as_slice())?;
+        let mut numbers = Vec::from_slice(alloc, self.numbers.as_slice())?;
+        join(&mut numbers, opened.numbers.as_slice())?;
         let mut present = Vec::from_slice(alloc, self.present.as_slice())?;
         join(&mut present, opened.present.as_slice())?;
         Ok(Nest {
@@ -106,6 +114,7 @@ impl<'a> Nest<'a> {
             wides: self.wides,
             count: self.count + opened.records.as_slice().len(),
             marks,
+            numbers,
             present,
         })
     }
@@ -122,13 +131,29 @@ impl<'a> Nest<'a> {
         meet(self.wides.kind(name), self.present.as_slice())
     }
 
+    /// Whether a record that is of no wide type may have a field of this name: its number is looked for where some field has
+    /// the mark of the name.
+    fn may_be_narrow(&self, name: &[u8], mark: Mark) -> bool
+        requires mark { IsMark mark.state mark.number name.now }
+        requires own { mark.state ≡ finish self.now.wides.now.start }
+        ensures { result ≡ false → Apart (kind_of self.now.wides.now.names
+            (map (λ v. v.items) self.now.wides.now.kinds.items) name.now) self.now.present.items
+            → NoneBehind (records_in (levels_of self.now.levels)) 0 name.now }
+    {
+        if mark.is_in(self.marks.as_slice()) {
+            is_in(self.number(name), self.numbers.as_slice())
+        } else {
+            false
+        }
+    }
+
     /// Whether a record may have a field of this name.
     pub(crate) fn may_have(&self, name: &[u8], mark: Mark) -> bool
         requires mark { IsMark mark.state mark.number name.now }
         requires own { mark.state ≡ finish self.now.wides.now.start }
         ensures { result ≡ false → NoneBehind (records_in (levels_of self.now.levels)) 0 name.now }
     {
-        if mark.is_in(self.marks.as_slice()) {
+        if self.may_be_narrow(name, mark) {
             return true;
         }
         self.may_be_wide(name)
@@ -141,5 +166,12 @@ impl<'a> Nest<'a> {
         ensures own { result.state ≡ finish self.now.wides.now.start }
     {
         Mark::of(self.wides.start, name, known)
+    }
+
+    /// The number of a name by which it is looked for here.
+    pub(crate) fn number(&self, name: &[u8]) -> usize
+        ensures { result ≡ number_of self.now.wides.now.fields name.now }
+    {
+        number_of(&self.wides.fields, name)
     }
 }

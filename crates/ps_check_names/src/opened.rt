@@ -9,10 +9,10 @@ ghost use Rattle.ps_check_names.specs.Regions.{fields_of};
 ghost use Rattle.ps_check_names.specs.Opened.{HasField, Narrow, reach_of, Covers, Keeps, NoneBehind, StandsIn, Placed, Reaching};
 ghost use Rattle.ps_check_names.specs.Sets.{Holds, Reached};
 ghost use Rattle.ps_check_names.specs.Wides.{kind_of};
-ghost use Rattle.ps_check_names.specs.Marks.{IsMark, MarkedFor, Marked};
-ghost use Rattle.std.specs.Hash.FoldHasher.{finish};
+ghost use Rattle.ps_check_names.specs.Marks.{mark_of, number_of, MarkedFor, Marked};
 
-use crate::marks::{Mark, mark_all};
+use crate::marks::mark_all;
+use crate::numbers::{is_in, number_all, number_of};
 use crate::sets::insert;
 use crate::wides::{Wides, common_reach, larger, names_of, raise_at};
 use ps_tree::names::{Names, Seed};
@@ -26,8 +26,8 @@ use std::hash::FoldHasher;
 /// So that a name needs not be looked for in each of them, the names of their fields are noted. For a record of a wide
 /// type that was done when its type was made, and it is only noted how far the last record of the type reaches. The
 /// first record of a `with` is asked, unless its type is wide: most have no other. So that a name needs not be looked
-/// for in each of many `with` statements round it, the marks of those are noted that are not of wide types: most names
-/// without such a field have a mark that is not among them.
+/// for in each of many `with` statements round it, the numbers of those are noted that are not of wide types, and their
+/// marks: most names without such a field have a mark that is not among them, and none has a number that is.
 #[derive(Drop)]
 pub struct Opened<'a> {
     pub records: Vec<Ty>,
@@ -38,8 +38,9 @@ pub struct Opened<'a> {
     // the names of fields, and how many of the records there are up to the last that has the field
     names: Names,
     reaches: Vec<usize>,
-    // the marks of the names of the fields of records that are of no wide type
+    // the marks of the names of the fields of records that are of no wide type, and their numbers
     pub(crate) marks: Vec<usize>,
+    pub(crate) numbers: Vec<usize>,
     // the set of the wide types that are opened, and how many records there are up to the last of each
     pub(crate) present: Vec<usize>,
     latest: Vec<usize>,
@@ -47,7 +48,8 @@ pub struct Opened<'a> {
     places: Vec<Option<usize>>,
     ghost covers: { Covers records.items asked names reaches.items (kind_of wides.now.names
         (map (λ v. v.items) wides.now.kinds.items)) present.items latest.items },
-    ghost marked: { Marked records.items places.items wides.now.start marks.items },
+    ghost marked: { Marked records.items places.items (mark_of wides.now.start) marks.items },
+    ghost numbered: { Marked records.items places.items (number_of wides.now.fields) numbers.items },
     ghost reaching: { Reaching places.items present.items latest.items },
     ghost even: { length reaches.items ≡ length names },
     ghost placed: { Placed records.items places.items wides.now.types.items },
@@ -175,9 +177,9 @@ fn mark_record(
     ty: &Ty,
     is_marked: bool,
 ) -> Result<(), AllocError>
-    requires { IsTrue is_marked → MarkedFor ty.now start words.old.items }
+    requires { IsTrue is_marked → MarkedFor ty.now (mark_of start) words.old.items }
     ensures kept { OnOk result ((n : ℕ) → Holds words.old.items n → Holds words.new.items n) }
-    ensures there { OnOk result (MarkedFor ty.now start words.new.items) }
+    ensures there { OnOk result (MarkedFor ty.now (mark_of start) words.new.items) }
 {
     if is_marked {
         return Ok(());
@@ -185,6 +187,27 @@ fn mark_record(
     match names_of(ty) {
         None => Ok(()),
         Some(names) => mark_all(words, start, names),
+    }
+}
+
+/// Puts the numbers of the names of a record's fields into a set, unless they are there.
+#[tactic(auto, using(crate::proofs::MarkLemmas::none_marked))]
+fn number_record(
+    words: &mut Vec<usize>,
+    fields: &Names,
+    ty: &Ty,
+    is_marked: bool,
+) -> Result<(), AllocError>
+    requires { IsTrue is_marked → MarkedFor ty.now (number_of fields.now) words.old.items }
+    ensures kept { OnOk result ((n : ℕ) → Holds words.old.items n → Holds words.new.items n) }
+    ensures there { OnOk result (MarkedFor ty.now (number_of fields.now) words.new.items) }
+{
+    if is_marked {
+        return Ok(());
+    }
+    match names_of(ty) {
+        None => Ok(()),
+        Some(names) => number_all(words, fields, names),
     }
 }
 
@@ -221,6 +244,7 @@ impl<'a> Opened<'a> {
             names: Names::new(alloc, seed),
             reaches: Vec::new(alloc),
             marks: Vec::new(alloc),
+            numbers: Vec::new(alloc),
             present: Vec::new(alloc),
             latest: Vec::new(alloc),
             places: Vec::new(alloc),
@@ -240,7 +264,8 @@ impl<'a> Opened<'a> {
 
     /// The same of a record whose fields are noted with it, and perhaps are marked already.
     fn with_narrow(self, alloc: Global, ty: Ty, is_marked: bool) -> Result<Opened<'a>, AllocError>
-        requires { IsTrue is_marked → MarkedFor ty self.wides.now.start self.marks.items }
+        requires marks { IsTrue is_marked → MarkedFor ty (mark_of self.wides.now.start) self.marks.items }
+        requires numbers { IsTrue is_marked → MarkedFor ty (number_of self.wides.now.fields) self.numbers.items }
         ensures records { IfOk result (λ opened. opened.records.items ≡ self.entry.records.items ++ ty ∷ []) }
         ensures wides { IfOk result (λ opened. opened.wides.now ≡ self.entry.wides.now) }
     {
@@ -251,6 +276,7 @@ impl<'a> Opened<'a> {
             mut names,
             mut reaches,
             mut marks,
+            mut numbers,
             present,
             latest,
             mut places,
@@ -258,6 +284,7 @@ impl<'a> Opened<'a> {
         let before = records.as_slice().len();
         note_record(alloc, &mut asked, &mut names, &mut reaches, before + 1, &ty)?;
         mark_record(&mut marks, wides.start, &ty, is_marked)?;
+        number_record(&mut numbers, &wides.fields, &ty, is_marked)?;
         places.push(None)?;
         records.push(ty)?;
         Ok(Opened {
@@ -267,6 +294,7 @@ impl<'a> Opened<'a> {
             names,
             reaches,
             marks,
+            numbers,
             present,
             latest,
             places,
@@ -286,6 +314,7 @@ impl<'a> Opened<'a> {
             names,
             reaches,
             marks,
+            numbers,
             mut present,
             mut latest,
             mut places,
@@ -302,6 +331,7 @@ impl<'a> Opened<'a> {
             names,
             reaches,
             marks,
+            numbers,
             present,
             latest,
             places,
@@ -390,15 +420,14 @@ impl<'a> Opened<'a> {
     }
 
     /// The number of records up to the last that has a field of this name, behind the last of each wide type that has it:
-    /// none where no such field has the mark of the name.
-    fn narrow_reach(&self, name: &[u8], mark: Mark) -> usize
-        requires mark { IsMark mark.state mark.number name.now }
-        requires own { mark.state ≡ finish self.now.wides.now.start }
+    /// none where no such field has the number of the name.
+    fn narrow_reach(&self, name: &[u8], number: usize) -> usize
+        requires { number ≡ number_of self.now.wides.now.fields name.now }
         ensures { Narrow self.now.records.items (kind_of self.now.wides.now.names
             (map (λ v. v.items) self.now.wides.now.kinds.items)) self.now.present.items self.now.latest.items name.now
             result }
     {
-        if mark.is_in(self.marks.as_slice()) {
+        if is_in(number, self.numbers.as_slice()) {
             larger(self.noted_reach(name), self.asked_reach(name))
         } else {
             0
@@ -406,23 +435,20 @@ impl<'a> Opened<'a> {
     }
 
     /// The number of records up to the last that may have a field of this name.
-    pub(crate) fn reach(&self, name: &[u8], mark: Mark) -> usize
-        requires mark { IsMark mark.state mark.number name.now }
-        requires own { mark.state ≡ finish self.now.wides.now.start }
+    pub(crate) fn reach(&self, name: &[u8], number: usize) -> usize
+        requires { number ≡ number_of self.now.wides.now.fields name.now }
         ensures within { result ≤ length self.now.records.items }
         ensures none { NoneBehind self.now.records.items result name.now }
     {
-        let reach = larger(self.narrow_reach(name, mark), self.wide_reach(name));
+        let reach = larger(self.narrow_reach(name, number), self.wide_reach(name));
         let count = self.records.as_slice().len();
         smaller(reach, count)
     }
 
-    /// The mark of a name by which it is looked for here: the one that is known of it, if that is the same.
-    pub(crate) fn mark(&self, name: &[u8], known: Option<Mark>) -> Mark
-        requires { IfSome known (λ mark. IsMark mark.state mark.number name.now) }
-        ensures mark { IsMark result.state result.number name.now }
-        ensures own { result.state ≡ finish self.now.wides.now.start }
+    /// The number of a name by which it is looked for here.
+    pub(crate) fn number(&self, name: &[u8]) -> usize
+        ensures { result ≡ number_of self.now.wides.now.fields name.now }
     {
-        Mark::of(self.wides.start, name, known)
+        number_of(&self.wides.fields, name)
     }
 }

@@ -6,10 +6,10 @@ ghost use Rattle.ps_check_judgement.specs.Judged.{Answers};
 ghost use Rattle.ps_check_judgement.specs.declared.refusal.Rule.TheVariants.{WrongKind, UsedBefore};
 ghost use Rattle.ps_check_names.specs.Regions.{Region, BlockRegion, one_more, missing, find_past, find};
 ghost use Rattle.ps_check_names.specs.Views.{meaning_of, opened_in, scope_of, point_of, found, wides_within};
-ghost use Rattle.ps_check_names.specs.Nests.{levels_of, records_in, StartWith};
+ghost use Rattle.ps_check_names.specs.Nests.{levels_of, records_in, IsNumber};
 ghost use Rattle.ps_check_names.specs.Denotes.{FindsWhatIsDenoted};
 ghost use Rattle.ps_check_names.specs.Alike.{IsPlace, block_at};
-ghost use Rattle.ps_check_names.specs.Marks.{IsMark};
+ghost use Rattle.ps_check_names.specs.Marks.{number_of, IsMark};
 ghost use Rattle.std.specs.Hash.FoldHasher.{finish};
 
 use crate::marks::Mark;
@@ -135,16 +135,15 @@ fn past_opened<'a>(
     opened: &'a Opened<'a>,
     which: u32,
     name: &[u8],
-    mark: Mark,
+    number: usize,
 ) -> Result<u32, Lookup<'a>>
-    requires mark { IsMark mark.state mark.number name.now }
-    requires own { mark.state ≡ finish opened.now.wides.now.start }
+    requires { number ≡ number_of opened.now.wides.now.fields name.now }
     ensures ok { IfOk result (λ n. (up at : ℕ) (Γ : List Region) → find_past up which
         (opened_in Γ opened.now.records.items) name.now at ≡ find_past up n Γ name.now at) }
     ensures err { IfErr result (λ end. (up at : ℕ) (Γ : List Region) → find_past up which
         (opened_in Γ opened.now.records.items) name.now at ≡ found at end) }
 {
-    let reach = opened.reach(name, mark);
+    let reach = opened.reach(name, number);
     let behind = opened.records.len() - reach;
     match more(which, behind) {
         None => Err(Lookup::Broken(missing(name))),
@@ -184,10 +183,9 @@ fn past_levels<'a>(
     levels: &'a Levels<'a>,
     which: u32,
     name: &[u8],
-    mark: Mark,
+    number: usize,
 ) -> Result<u32, Lookup<'a>>
-    requires mark { IsMark mark.state mark.number name.now }
-    requires own { StartWith (levels_of levels.now) mark.state }
+    requires { IsNumber (levels_of levels.now) name.now number }
     ensures ok { IfOk result (λ n. (up at : ℕ) (Γ : List Region) → find_past up which
         (opened_in Γ (records_in (levels_of levels.now))) name.now at ≡ find_past up n Γ name.now at) }
     ensures err { IfErr result (λ end. (up at : ℕ) (Γ : List Region) → find_past up which
@@ -197,9 +195,9 @@ fn past_levels<'a>(
     let mut passed = which;
     loop {
         match left {
-            Levels::One { opened } => return past_opened(opened, passed, name, mark),
+            Levels::One { opened } => return past_opened(opened, passed, name, number),
             Levels::Within { opened, outer } => {
-                match past_opened(opened, passed, name, mark) {
+                match past_opened(opened, passed, name, number) {
                     Ok(further) => passed = further,
                     Err(end) => return Err(end),
                 }
@@ -220,7 +218,7 @@ fn past_nest<'a>(nest: &'a Nest<'a>, which: u32, name: &[u8], mark: Mark) -> Res
         (opened_in Γ (records_in (levels_of nest.now.levels))) name.now at ≡ found at end) }
 {
     if nest.may_have(name, mark) {
-        return past_levels(&nest.levels, which, name, mark);
+        return past_levels(&nest.levels, which, name, nest.number(name));
     }
     match more(which, nest.count) {
         None => Err(Lookup::Broken(missing(name))),
@@ -253,12 +251,11 @@ pub fn find<'a>(scope: &'a Scope<'a>, name: &[u8]) -> Lookup<'a>
                 here = outer;
             }
             Scope::Opened { records, outer } => {
-                let mark = records.mark(name, known_mark);
-                match past_opened(records, which, name, mark) {
+                let number = records.number(name);
+                match past_opened(records, which, name, number) {
                     Ok(further) => which = further,
                     Err(end) => return end,
                 }
-                known_mark = Some(mark);
                 here = outer;
             }
             Scope::Nested { nest, outer } => {

@@ -261,6 +261,22 @@ fn note_all(
     Ok(())
 }
 
+/// Adds a name, unless it is there.
+fn add(alloc: Global, fields: &mut Names, name: &[u8]) -> Result<(), AllocError> {
+    if !fields.contains(name) {
+        let _added = fields.add(Vec::from_slice(alloc, name)?)?;
+    }
+    Ok(())
+}
+
+/// Adds those of these names that are not there.
+fn add_all(alloc: Global, fields: &mut Names, names: &[Vec<u8>]) -> Result<(), AllocError> {
+    for name in names {
+        add(alloc, fields, name)?;
+    }
+    Ok(())
+}
+
 /// The bytes by which a type is found again: the offset of its denoter.
 fn key_of(at: u32) -> [u8; 4] {
     at.to_le_bytes()
@@ -268,13 +284,15 @@ fn key_of(at: u32) -> [u8; 4] {
 
 /// The wide record types of a program so far, by their numbers. Each has an offset of its own, by which
 /// it is found. For the name of a field there is the set of the types that have it, so that none of them is asked for a
-/// name.
+/// name. Of the other record types there are the names of their fields.
 #[derive(Drop)]
 pub struct Wides {
     pub(crate) types: Vec<Ty>,
     keys: Names,
     pub(crate) names: Names,
     pub(crate) kinds: Vec<Vec<usize>>,
+    // the names of the fields of the other record types, which have their places for numbers
+    pub(crate) fields: Names,
     // how the hashes begin by which marks are made
     pub(crate) start: FoldHasher,
     ghost listed: { Listed types.items names (map (λ v. v.items) kinds.items) },
@@ -289,21 +307,44 @@ impl Wides {
             keys: Names::new(alloc, seed),
             names: Names::new(alloc, seed),
             kinds: Vec::new(alloc),
+            fields: Names::new(alloc, seed),
             start: seed.build_hasher(),
         }
     }
 
-    /// One type more, if it is wide.
+    /// One type more: the names of its fields are noted.
     pub fn with(self, alloc: Global, ty: &Ty) -> Result<Wides, AllocError> {
         match ty {
             Ty::Record { at, .. } if is_wide(ty) => self.with_wide(alloc, ty, *at),
+            Ty::Record { fields, .. } => self.with_fields(alloc, fields.names().as_slice()),
             _ => Ok(self),
         }
     }
 
+    /// The names of some fields more, of a type that is not wide.
+    fn with_fields(self, alloc: Global, more: &[Vec<u8>]) -> Result<Wides, AllocError> {
+        let Wides {
+            types,
+            keys,
+            names,
+            kinds,
+            mut fields,
+            start,
+        } = self;
+        add_all(alloc, &mut fields, more)?;
+        Ok(Wides {
+            types,
+            keys,
+            names,
+            kinds,
+            fields,
+            start,
+        })
+    }
+
     /// One type more, with this offset.
     fn with_wide(self, alloc: Global, ty: &Ty, at: u32) -> Result<Wides, AllocError> {
-        let Some(fields) = names_of(ty) else {
+        let Some(own) = names_of(ty) else {
             return Ok(self);
         };
         let Wides {
@@ -311,10 +352,11 @@ impl Wides {
             mut keys,
             mut names,
             mut kinds,
+            fields,
             start,
         } = self;
         let number = types.as_slice().len();
-        note_all(alloc, &mut names, &mut kinds, fields, number)?;
+        note_all(alloc, &mut names, &mut kinds, own, number)?;
         let _added = keys.add(Vec::from_slice(alloc, key_of(at).as_slice())?)?;
         let copy = ty.copy()?;
         types.push(copy)?;
@@ -323,6 +365,7 @@ impl Wides {
             keys,
             names,
             kinds,
+            fields,
             start,
         })
     }

@@ -11,8 +11,8 @@ use Rattle.ps_syntax.specs.declared.statement.Statement.TheOpen.{Statement-F}
 use Rattle.ps_syntax.specs.declared.statement.Statement.TheVariants as s
 use Rattle.ps_syntax.specs.declared.statement.Statement.TheFolds.{fold-roll-Statement, fold_out-Element}
 use Rattle.ps_tree.specs.declared.types.Ordinal.{Ordinal}
-use Rattle.ps_tree.specs.declared.tree.Statement as typed
-use Rattle.ps_tree.specs.declared.tree.CaseElement as typed_element
+use Rattle.ps_tree.specs.declared.tree.statements.Statement as typed
+use Rattle.ps_tree.specs.declared.tree.statements.CaseElement as typed_element
 use Rattle.ps_tree.specs.View.{statement_of, statements_of, elements_of}
 use Rattle.ps_tree.specs.Tree as Tree
 use Rattle.ps_check_judgement.specs.declared.change.Change.{Change}

@@ -5,7 +5,7 @@ use Rattle.std.specs.Prelude.{IsOkAnd, IfOk, is_some, is_none, option_map}
 use Rattle.std.proofs.lemmas.List.{map_push, map-id, get_or_default}
 use Rattle.ps_syntax.specs.declared.statement.Element.{Element}
 use Rattle.ps_tree.specs.declared.types.Ordinal.{Ordinal}
-use Rattle.ps_tree.specs.declared.tree.CaseElement.{CaseElement}
+use Rattle.ps_tree.specs.declared.tree.statements.CaseElement.{CaseElement}
 use Rattle.ps_check_judgement.specs.declared.change.Change.{Change}
 use Rattle.ps_check_judgement.specs.declared.refusal.CheckFault.{CheckFault}
 use Rattle.ps_check_judgement.specs.declared.refusal.CheckFault.TheVariants.{OutOfMemory, Broken}

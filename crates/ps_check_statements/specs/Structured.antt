@@ -8,8 +8,8 @@ use Rattle.ps_syntax.specs.declared.statement.Direction.TheVariants.{Up, Down}
 use Rattle.ps_syntax.specs.declared.expression.Expr.{Expr}
 use Rattle.ps_syntax.specs.declared.expression.Variable as syntax_variable
 use Rattle.ps_tree.specs.declared.types.Ordinal.{Ordinal}
-use Rattle.ps_tree.specs.declared.tree.Direction.{Direction}
-use Rattle.ps_tree.specs.declared.tree.Direction.TheVariants.{To, Downto}
+use Rattle.ps_tree.specs.declared.tree.operators.Direction.{Direction}
+use Rattle.ps_tree.specs.declared.tree.operators.Direction.TheVariants.{To, Downto}
 use Rattle.ps_tree.specs.Types.{DataType, OrdinalType, RecordType, is_same_host, is_compatible}
 use Rattle.ps_tree.specs.Tree as Tree
 use Rattle.ps_check_judgement.specs.declared.refusal.Rule.TheVariants.{WrongType, CaseTwice, ControlVariable}

@@ -1,5 +1,5 @@
 -- What the values of the program denote in the definitions.
-use Rattle.ps_tree.specs.declared.tree.CaseElement.{CaseElement, out-CaseElement}
+use Rattle.ps_tree.specs.declared.tree.statements.CaseElement.{CaseElement, out-CaseElement}
 use Rattle.ps_tree.specs.View.{expr_of, statement_of}
 use Rattle.ps_check_statements.specs.declared.for_statements.Head as Rust
 use Rattle.ps_check_statements.specs.declared.heap.Places as RustPlaces

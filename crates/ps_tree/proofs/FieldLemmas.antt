@@ -53,7 +53,8 @@ count_is (t ∷ ts) = ap suc (count_is ts)
 
 -- ---- the same names, told by their codes
 
-module _ (names names' : List (List ℕ)) (types types' : List Ty) (code code' : List ℕ) (a b : FieldList) (is : field_list names (types_of types) ≡ a) (is' : field_list names' (types_of types') ≡ b) where
+module _ (names names' : List (List ℕ)) (types types' : List Ty) (code code' : List ℕ) (a b : FieldList)
+    (is : field_list names (types_of types) ≡ a) (is' : field_list names' (types_of types') ≡ b) where
   count_of : type_count (field_types a) ≡ length types
   count_of = ap (λ f. type_count (field_types f)) (sym is) ∙ count_is types
 

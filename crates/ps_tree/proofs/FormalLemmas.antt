@@ -8,11 +8,11 @@ use Rattle.std.proofs.lemmas.Bool.{leb-true, and_left}
 use Rattle.ps_tree.specs.Tree as Tree
 use Rattle.ps_tree.specs.declared.count.Extent.{Extent}
 use Rattle.ps_tree.specs.declared.types.Ty.{Ty}
-use Rattle.ps_tree.specs.declared.tree.Routine.{Routine as RoutineOf}
-use Rattle.ps_tree.specs.declared.tree.Formal.{Formal, Routine, Row_of-Formal, end_of-Formal, more_of-Formal}
-use Rattle.ps_tree.specs.declared.tree.Formal.{items-the_row-Formal, items_hidden-the_row-Formal-0}
-use Rattle.ps_tree.specs.declared.tree.Formal.TheBlock.{hidden-the_row-Formal-0}
-use Rattle.ps_tree.specs.declared.tree.Statement.{Statement}
+use Rattle.ps_tree.specs.declared.tree.statements.Routine.{Routine as RoutineOf}
+use Rattle.ps_tree.specs.declared.tree.statements.Formal.{Formal, Routine, Row_of-Formal, end_of-Formal, more_of-Formal}
+use Rattle.ps_tree.specs.declared.tree.statements.Formal.{items-the_row-Formal, items_hidden-the_row-Formal-0}
+use Rattle.ps_tree.specs.declared.tree.statements.Formal.TheBlock.{hidden-the_row-Formal-0}
+use Rattle.ps_tree.specs.declared.tree.statements.Statement.{Statement}
 use Rattle.ps_tree.specs.Counts.{◌⊕◌, nothing, capped, result_extent, statements_extent, copy_of, formals_extent}
 use Rattle.ps_tree.specs.Counts.{formal_cells, variables_extent, are_small, is_small, is_small_result, is_short}
 use Rattle.ps_tree.specs.Counts.{are_small_formals, is_small_formal, are_routines_within_limits}

@@ -4,16 +4,19 @@ use Rattle.ps_tree.specs.Tree as Tree
 use Rattle.ps_tree.specs.declared.count.Extent.{Extent}
 use Rattle.ps_tree.specs.declared.line.Line.{Line}
 use Rattle.ps_tree.specs.declared.types.Ty.{Ty}
-use Rattle.ps_tree.specs.declared.tree.Direction.{Direction}
+use Rattle.ps_tree.specs.declared.tree.operators.Direction.{Direction}
 use Rattle.ps_tree.specs.declared.tree.Place.{Place}
 use Rattle.ps_tree.specs.declared.tree.Expr.{Expr}
-use Rattle.ps_tree.specs.declared.tree.Statement.{Statement, Compound, Repeat, Case, For, Pack, Unpack}
-use Rattle.ps_tree.specs.declared.tree.Statement.{Row_of-Statement, end_of-Statement, more_of-Statement}
-use Rattle.ps_tree.specs.declared.tree.Statement.{Row_of-CaseElement, end_of-CaseElement, more_of-CaseElement}
-use Rattle.ps_tree.specs.declared.tree.Statement.{items-the_row-Statement, items_hidden-the_row-Statement-0}
-use Rattle.ps_tree.specs.declared.tree.Statement.{items-the_row-CaseElement, items_hidden-the_row-CaseElement-1}
-use Rattle.ps_tree.specs.declared.tree.Statement.TheBlock.{hidden-the_row-Statement-0, hidden-the_row-CaseElement-1}
-use Rattle.ps_tree.specs.declared.tree.CaseElement.{CaseElement, out-CaseElement}
+use Rattle.ps_tree.specs.declared.tree.statements.Statement.{Statement, Compound, Repeat, Case, For, Pack, Unpack}
+use Rattle.ps_tree.specs.declared.tree.statements.Statement.{Row_of-Statement, end_of-Statement, more_of-Statement}
+use Rattle.ps_tree.specs.declared.tree.statements.Statement.{Row_of-CaseElement, end_of-CaseElement}
+use Rattle.ps_tree.specs.declared.tree.statements.Statement.{more_of-CaseElement}
+use Rattle.ps_tree.specs.declared.tree.statements.Statement.{items-the_row-Statement, items_hidden-the_row-Statement-0}
+use Rattle.ps_tree.specs.declared.tree.statements.Statement.{items-the_row-CaseElement}
+use Rattle.ps_tree.specs.declared.tree.statements.Statement.{items_hidden-the_row-CaseElement-1}
+use Rattle.ps_tree.specs.declared.tree.statements.Statement.TheBlock.{hidden-the_row-Statement-0}
+use Rattle.ps_tree.specs.declared.tree.statements.Statement.TheBlock.{hidden-the_row-CaseElement-1}
+use Rattle.ps_tree.specs.declared.tree.statements.CaseElement.{CaseElement, out-CaseElement}
 use Rattle.ps_tree.specs.Counts.{capped, ◌⊕◌, nothing, node, place_extent, expr_extent, statement_extent}
 use Rattle.ps_tree.specs.Counts.{statements_extent, elements_extent}
 use Rattle.ps_tree.specs.View.{place_of, expr_of, statement_of, statements_of, statements_of_row, elements_of}

@@ -17,8 +17,8 @@ use Rattle.ps_tree.specs.declared.tree.Selector.{Selector}
 use Rattle.ps_tree.specs.declared.tree.Expr.{Expr}
 use Rattle.ps_tree.specs.declared.tree.ArithmeticStep.{ArithmeticStep, out-ArithmeticStep}
 use Rattle.ps_tree.specs.declared.tree.SetStep.{SetStep, out-SetStep}
-use Rattle.ps_tree.specs.declared.tree.ReadVariable.{ReadVariable}
-use Rattle.ps_tree.specs.declared.tree.WriteParameter.{WriteParameter}
+use Rattle.ps_tree.specs.declared.tree.statements.ReadVariable.{ReadVariable}
+use Rattle.ps_tree.specs.declared.tree.statements.WriteParameter.{WriteParameter}
 
 extent_eq : (m n p q : ℕ) → m ≡ p → n ≡ q → let a : Extent = record {
   nodes = m;

@@ -4,14 +4,14 @@ use Rattle.ps_tree.specs.Tree as Tree
 use Rattle.ps_tree.specs.declared.count.Extent.{Extent}
 use Rattle.ps_tree.specs.declared.line.Line.{Line}
 use Rattle.ps_tree.specs.declared.types.Ty.{Ty}
-use Rattle.ps_tree.specs.declared.tree.BooleanOperator.{BooleanOperator}
+use Rattle.ps_tree.specs.declared.tree.operators.BooleanOperator.{BooleanOperator}
 use Rattle.ps_tree.specs.declared.tree.Place.{Place}
 use Rattle.ps_tree.specs.declared.tree.Selector.{Selector}
 use Rattle.ps_tree.specs.declared.tree.ArithmeticStep.{ArithmeticStep}
 use Rattle.ps_tree.specs.declared.tree.SetStep.{SetStep}
 use Rattle.ps_tree.specs.declared.tree.Structure.{Structure, Contents}
-use Rattle.ps_tree.specs.declared.tree.OrderRelation.{OrderRelation}
-use Rattle.ps_tree.specs.declared.tree.PointerRelation.{PointerRelation}
+use Rattle.ps_tree.specs.declared.tree.operators.OrderRelation.{OrderRelation}
+use Rattle.ps_tree.specs.declared.tree.operators.PointerRelation.{PointerRelation}
 use Rattle.ps_tree.specs.declared.tree.Expr.{Expr, Load, Arithmetic, Logic, Call, CallFormal, Row_of-Argument}
 use Rattle.ps_tree.specs.declared.tree.Expr.{end_of-Argument, more_of-Argument, items-the_row-Argument}
 use Rattle.ps_tree.specs.declared.tree.Expr.{items_hidden-the_row-Argument-3, Row_of-Selector, end_of-Selector}

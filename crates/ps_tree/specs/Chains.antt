@@ -2,10 +2,10 @@
 -- from left to right. What comes next is added at the end of the chain before it, so `(a + b) + c` and `a + b + c` are
 -- one chain of two steps.
 use Rattle.std.specs.Prelude.{ℕ}
-use Rattle.ps_tree.specs.declared.tree.ArithmeticOperator.{ArithmeticOperator}
-use Rattle.ps_tree.specs.declared.tree.BooleanOperator.{BooleanOperator}
-use Rattle.ps_tree.specs.declared.tree.BooleanOperator.TheVariants.{And, Or}
-use Rattle.ps_tree.specs.declared.tree.SetOperator.{SetOperator}
+use Rattle.ps_tree.specs.declared.tree.operators.ArithmeticOperator.{ArithmeticOperator}
+use Rattle.ps_tree.specs.declared.tree.operators.BooleanOperator.{BooleanOperator}
+use Rattle.ps_tree.specs.declared.tree.operators.BooleanOperator.TheVariants.{And, Or}
+use Rattle.ps_tree.specs.declared.tree.operators.SetOperator.{SetOperator}
 use Rattle.ps_tree.specs.Tree.{Place, Variable, Selector, Selectors, no_selector, selector_before, ArithmeticSteps}
 use Rattle.ps_tree.specs.Tree.{no_arithmetic_step, arithmetic_step_before, Operands, no_operand, operand_before}
 use Rattle.ps_tree.specs.Tree.{SetSteps, no_set_step, set_step_before, Expr, Arithmetic, Logic, SetExpr, Combine}

@@ -1,6 +1,6 @@
 -- The view of a checked program.
 use Rattle.std.specs.Prelude.{List}
-use Rattle.ps_tree.specs.declared.tree.Routine.{Routine}
+use Rattle.ps_tree.specs.declared.tree.statements.Routine.{Routine}
 use Rattle.ps_tree.specs.declared.types.Ty.{Ty}
 use Rattle.ps_tree.specs.Tree.{Program}
 use Rattle.ps_tree.specs.View.{program_of}

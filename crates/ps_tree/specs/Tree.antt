@@ -1,14 +1,14 @@
 -- The checked tree: the program with every name resolved, and the line of each token at which an error is reported.
 use Rattle.std.specs.Prelude.{ℕ, ℤ, List, [], get_or, Option, None}
-use Rattle.ps_tree.specs.declared.tree.ArithmeticOperator.{ArithmeticOperator}
-use Rattle.ps_tree.specs.declared.tree.BooleanOperator.{BooleanOperator}
-use Rattle.ps_tree.specs.declared.tree.SetOperator.{SetOperator}
-use Rattle.ps_tree.specs.declared.tree.OrderRelation.{OrderRelation}
-use Rattle.ps_tree.specs.declared.tree.PointerRelation.{PointerRelation}
-use Rattle.ps_tree.specs.declared.tree.SetRelation.{SetRelation}
-use Rattle.ps_tree.specs.declared.tree.RequiredFunction.{RequiredFunction}
-use Rattle.ps_tree.specs.declared.tree.Range.{Range}
-use Rattle.ps_tree.specs.declared.tree.Direction.{Direction}
+use Rattle.ps_tree.specs.declared.tree.operators.ArithmeticOperator.{ArithmeticOperator}
+use Rattle.ps_tree.specs.declared.tree.operators.BooleanOperator.{BooleanOperator}
+use Rattle.ps_tree.specs.declared.tree.operators.SetOperator.{SetOperator}
+use Rattle.ps_tree.specs.declared.tree.operators.OrderRelation.{OrderRelation}
+use Rattle.ps_tree.specs.declared.tree.operators.PointerRelation.{PointerRelation}
+use Rattle.ps_tree.specs.declared.tree.operators.SetRelation.{SetRelation}
+use Rattle.ps_tree.specs.declared.tree.operators.RequiredFunction.{RequiredFunction}
+use Rattle.ps_tree.specs.declared.tree.operators.Range.{Range}
+use Rattle.ps_tree.specs.declared.tree.operators.Direction.{Direction}
 use Rattle.ps_tree.specs.Types.{DataType, PointerType}
 
 -- A name is resolved to `up`, the number of levels of routines from its use out to its block, and what it is there: an

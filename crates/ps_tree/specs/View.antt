@@ -24,24 +24,29 @@ use Rattle.ps_tree.specs.declared.tree.Expr.{more_of-Expr}
 use Rattle.ps_tree.specs.declared.tree.SetExpr.{Row_of-SetStep, end_of-SetStep, more_of-SetStep}
 use Rattle.ps_tree.specs.declared.tree.Argument.{Argument, Value as ByValue, Set as BySet, Copy as ByCopy}
 use Rattle.ps_tree.specs.declared.tree.Argument.{Variable' as ByVariable', Routine as ByRoutine, Formal as ByFormal}
-use Rattle.ps_tree.specs.declared.tree.ReadVariable.{ReadVariable}
-use Rattle.ps_tree.specs.declared.tree.ReadVariable.TheVariants.{Char as ReadChar, Integer as ReadInteger}
-use Rattle.ps_tree.specs.declared.tree.Width.{Width}
-use Rattle.ps_tree.specs.declared.tree.Width.TheVariants.{Default, Given}
-use Rattle.ps_tree.specs.declared.tree.WriteParameter.{WriteParameter}
-use Rattle.ps_tree.specs.declared.tree.WriteParameter.TheVariants.{Integer as WriteInteger, Char as WriteChar}
-use Rattle.ps_tree.specs.declared.tree.WriteParameter.TheVariants.{Boolean as WriteBoolean, Text as WriteText}
-use Rattle.ps_tree.specs.declared.tree.Statement.{Statement, Empty, Assign, AssignSet, AssignStructure}
-use Rattle.ps_tree.specs.declared.tree.Statement.{Call as CallProcedure, CallFormal as CallFormalProcedure, Compound'}
-use Rattle.ps_tree.specs.declared.tree.Statement.{If', IfElse', Case', While', Repeat', For', With', New, Pack, Unpack}
-use Rattle.ps_tree.specs.declared.tree.Statement.{Read, Readln, Write, Writeln, Row_of-Statement, end_of-Statement}
-use Rattle.ps_tree.specs.declared.tree.Statement.{more_of-Statement, Row_of-CaseElement, end_of-CaseElement}
-use Rattle.ps_tree.specs.declared.tree.Statement.{more_of-CaseElement}
-use Rattle.ps_tree.specs.declared.tree.CaseElement.{CaseElement, out-CaseElement}
-use Rattle.ps_tree.specs.declared.tree.Formal.{Formal, Value as ValueFormal, Variable as VariableFormal}
-use Rattle.ps_tree.specs.declared.tree.Formal.{Routine' as RoutineFormal', Row_of-Formal, end_of-Formal}
-use Rattle.ps_tree.specs.declared.tree.Formal.{more_of-Formal}
-use Rattle.ps_tree.specs.declared.tree.Routine.{Routine}
+use Rattle.ps_tree.specs.declared.tree.statements.ReadVariable.{ReadVariable}
+use Rattle.ps_tree.specs.declared.tree.statements.ReadVariable.TheVariants.{Char as ReadChar, Integer as ReadInteger}
+use Rattle.ps_tree.specs.declared.tree.statements.Width.{Width}
+use Rattle.ps_tree.specs.declared.tree.statements.Width.TheVariants.{Default, Given}
+use Rattle.ps_tree.specs.declared.tree.statements.WriteParameter.{WriteParameter}
+use Rattle.ps_tree.specs.declared.tree.statements.WriteParameter.TheVariants.{Integer as WriteInteger}
+use Rattle.ps_tree.specs.declared.tree.statements.WriteParameter.TheVariants.{Char as WriteChar}
+use Rattle.ps_tree.specs.declared.tree.statements.WriteParameter.TheVariants.{Boolean as WriteBoolean}
+use Rattle.ps_tree.specs.declared.tree.statements.WriteParameter.TheVariants.{Text as WriteText}
+use Rattle.ps_tree.specs.declared.tree.statements.Statement.{Statement, Empty, Assign, AssignSet, AssignStructure}
+use Rattle.ps_tree.specs.declared.tree.statements.Statement.{Call as CallProcedure, CallFormal as CallFormalProcedure}
+use Rattle.ps_tree.specs.declared.tree.statements.Statement.{Compound'}
+use Rattle.ps_tree.specs.declared.tree.statements.Statement.{If', IfElse', Case', While', Repeat', For', With', New}
+use Rattle.ps_tree.specs.declared.tree.statements.Statement.{Pack, Unpack}
+use Rattle.ps_tree.specs.declared.tree.statements.Statement.{Read, Readln, Write, Writeln, Row_of-Statement}
+use Rattle.ps_tree.specs.declared.tree.statements.Statement.{end_of-Statement}
+use Rattle.ps_tree.specs.declared.tree.statements.Statement.{more_of-Statement, Row_of-CaseElement, end_of-CaseElement}
+use Rattle.ps_tree.specs.declared.tree.statements.Statement.{more_of-CaseElement}
+use Rattle.ps_tree.specs.declared.tree.statements.CaseElement.{CaseElement, out-CaseElement}
+use Rattle.ps_tree.specs.declared.tree.statements.Formal.{Formal, Value as ValueFormal, Variable as VariableFormal}
+use Rattle.ps_tree.specs.declared.tree.statements.Formal.{Routine' as RoutineFormal', Row_of-Formal, end_of-Formal}
+use Rattle.ps_tree.specs.declared.tree.statements.Formal.{more_of-Formal}
+use Rattle.ps_tree.specs.declared.tree.statements.Routine.{Routine}
 
 abbrev pub base_of : PlaceBase → Tree.PlaceBase
 base_of (Entry up index) = Tree.Entry up index

@@ -119,7 +119,8 @@ module _ (claims : ℕ → ℕ → List Kind) where
     pub here : Hold (claims s.current.routine s.current.place) s.current.temporaries
     pub callers : CallersWait s.callers
 
-  module _ (begins : (r u : ℕ) → kind_in (claims r 0) u ≡ Unknown) (code : Code) (F G : ℕ → ℕ) (S H : ℕ) (s : State) (known : IsKnown s) (orders : Orders) (ordered : AreOrdered s.current.temporaries orders) where
+  module _ (begins : (r u : ℕ) → kind_in (claims r 0) u ≡ Unknown) (code : Code) (F G : ℕ → ℕ) (S H : ℕ) (s : State)
+      (known : IsKnown s) (orders : Orders) (ordered : AreOrdered s.current.temporaries orders) where
     abbrev ks : List Kind
     ks = claims s.current.routine s.current.place
 

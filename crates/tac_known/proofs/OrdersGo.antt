@@ -41,7 +41,9 @@ module _ (ord : ℕ → ℕ → Orders) where
     pub here : AreOrdered s.current.temporaries (ord s.current.routine s.current.place)
     pub callers : OrdersWait s.callers
 
-  module _ (begins : (r : ℕ) (ts : Temporaries) → AreOrdered ts (ord r 0)) (code : Code) (F G : ℕ → ℕ) (S H : ℕ) (s : State) (known : AreKnown s) (at : ℕ → List Kind) (hold : Hold (at s.current.place) s.current.temporaries) where
+  module _ (begins : (r : ℕ) (ts : Temporaries) → AreOrdered ts (ord r 0)) (code : Code) (F G : ℕ → ℕ) (S H : ℕ)
+      (s : State) (known : AreKnown s) (at : ℕ → List Kind)
+      (hold : Hold (at s.current.place) s.current.temporaries) where
     abbrev ks : List Kind
     ks = at s.current.place
 

@@ -82,7 +82,8 @@ module _ (old new : Code) (p : Setting) (e : Certificate) (same_count : length n
         which u w (inl x) = inl x
         which u w (inr x) = inr (x.0, x.1, a.inside.hold u w x.2)
 
-    module _ (r line : ℕ) (vs : List Value) (routine routine' : TacRoutine) (h : SameHeading routine routine') (all : (k : ℕ) → BelowWord s.count (slice_get vs k)) where
+    module _ (r line : ℕ) (vs : List Value) (routine routine' : TacRoutine) (h : SameHeading routine routine')
+        (all : (k : ℕ) → BelowWord s.count (slice_get vs k)) where
       abbrev begun : State
       begun = entered old p.frames p.objects p.stack p.heap routine r vs t line callers s
 

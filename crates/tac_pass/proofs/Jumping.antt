@@ -28,7 +28,9 @@ use Rattle.tac_pass.proofs.Likeness.{at_place, alike_inside}
 use Rattle.tac_pass.proofs.Values.{hold_value, related_there}
 use Rattle.tac_pass.proofs.Stepping.{Followed, act_old, act_new, some_follows, reached, ended, fails_follow}
 
-module _ (old new : Code) (p : Setting) (e : Certificate) (same_count : length new.program ≡ length old.program) (s s' : State) (c : Claim) (a : Alike e c s s') (here : s'.current.place ≡ e.stands s.current.routine s.current.place) where
+module _ (old new : Code) (p : Setting) (e : Certificate) (same_count : length new.program ≡ length old.program)
+    (s s' : State) (c : Claim) (a : Alike e c s s')
+    (here : s'.current.place ≡ e.stands s.current.routine s.current.place) where
   abbrev Follow : Bool → Step → Type 0
   Follow b x = Followed old new p e b s s' x
 
@@ -120,7 +122,8 @@ module _ (old new : Code) (p : Setting) (e : Certificate) (same_count : length n
   -- ---- back to the caller
 
   -- behind a result, at what is claimed where the caller waits
-  module _ (v : Value) (w w' : Activation) (cs cs' : List Activation) (f : Living) (fs : List Living) (waits : Waits e s.current.result s'.current.result w w' f) where
+  module _ (v : Value) (w w' : Activation) (cs cs' : List Activation) (f : Living) (fs : List Living)
+      (waits : Waits e s.current.result s'.current.result w w' f) where
     abbrev claim : Claim
     claim = e.claims w.routine w.place
 

@@ -38,7 +38,8 @@ module _ (old new : Code) (p : Setting) (e : Certificate) (same_count : length n
     (texts : (r place : ℕ) (bytes : List ℕ) → text_at old r place ≡ Some bytes → text_at new r (e.stands r place) ≡ Some bytes) (s s' : State) (c : Claim) (a : Alike e c s s') where
   -- ---- what is kept
 
-  module _ (i' : Instruction) (there : fetch new s'.current.routine s'.current.place ≡ Some i') (next : suc s'.current.place ≡ e.starts s.current.routine (suc s.current.place)) where
+  module _ (i' : Instruction) (there : fetch new s'.current.routine s'.current.place ≡ Some i')
+      (next : suc s'.current.place ≡ e.starts s.current.routine (suc s.current.place)) where
     pub word_load : (t n k : ℕ) → n ≡ 4 * k → LoadsWord s.current.routine c
         (c' old new p e same_count same_objects texts s s' c a) t k n i'
         ⊎ CopiesWord s.current.routine c (c' old new p e same_count same_objects texts s s' c a) t k i'

@@ -121,7 +121,9 @@ module _ (at : Places) where
   byte_moves (Some (Address block offset)) k = refl
   byte_moves (Some (Routine r)) k = refl
 
-  module _ (constants constants' : Constants) (texts : (r place : ℕ) (bytes : List ℕ) → constants r place ≡ Some bytes → constants' r (at r place) ≡ Some bytes) where
+  module _ (constants constants' : Constants)
+      (texts : (r place : ℕ) (bytes : List ℕ) → constants r place ≡ Some bytes → constants' r (at r place)
+      ≡ Some bytes) where
     module _ {number : ℕ} {words words' : Words} {rest : List Living} {m m' : Memory} (a : Memories at number words words' rest m m') where
       -- the words of a block in both, which agree in one word
       abbrev Read : Block → ℕ → Words → Type 0

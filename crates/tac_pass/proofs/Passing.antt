@@ -82,7 +82,9 @@ module _ (old new : Code) (a : ArePassed old new) where
       let g = a.routines r routine e in (g.2.body.walked.begins, ap or_zero g.2.body.walked.starts_first)
 
   -- where the sketch is that of a plan
-  module _ (r : ℕ) (routine routine' : TacRoutine) (e' : slice_get (routines new) r ≡ Some routine') (d : Passed r routine.body routine'.body) (is : sketch_of r routine.body routine'.body d ≡ sketch r) (p : ℕ) (i : Instruction) (f : slice_get routine.body p ≡ Some i) where
+  module _ (r : ℕ) (routine routine' : TacRoutine) (e' : slice_get (routines new) r ≡ Some routine')
+      (d : Passed r routine.body routine'.body) (is : sketch_of r routine.body routine'.body d ≡ sketch r) (p : ℕ)
+      (i : Instruction) (f : slice_get routine.body p ≡ Some i) where
     passed_by : PassedAt new tested r p i
     passed_by =
         passed_at new tested r d.minded d.steps d.starts routine.body routine'.body (length routine.body)

@@ -49,7 +49,13 @@ module _ (new : Code) (x : Tested) (r : ℕ) where
   put_last (suc n) table a t b (m, p, f, others) made put there =
       (m, p, f, put_last n m.table (suc a) t b others made put there)
 
-  module _ (minded : List ℕ) (steps : List Step) (starts : List ℕ) (body last : List Instruction) (places : ℕ) (whole : Spot) (w : Walked r minded steps starts body places whole) (m : minded ≡ x.minded r) (tables : (p : ℕ) → (w.at p).table ≡ x.tables r p) (begin : (p s : ℕ) → slice_get starts p ≡ Some s → s ≡ x.starts r p) (stand : (p s : ℕ) → slice_get starts p ≡ Some s → s + puts_at steps p ≡ x.stands r p) (there : (q : ℕ) (i : Instruction) → slice_get whole.out q ≡ Some i → fetch new r q ≡ Some i) (within : (p : ℕ) (t : Table) → join_at steps p ≡ Some t → p ≤ places) where
+  module _ (minded : List ℕ) (steps : List Step) (starts : List ℕ) (body last : List Instruction) (places : ℕ)
+      (whole : Spot) (w : Walked r minded steps starts body places whole) (m : minded ≡ x.minded r)
+      (tables : (p : ℕ) → (w.at p).table ≡ x.tables r p)
+      (begin : (p s : ℕ) → slice_get starts p ≡ Some s → s ≡ x.starts r p)
+      (stand : (p s : ℕ) → slice_get starts p ≡ Some s → s + puts_at steps p ≡ x.stands r p)
+      (there : (q : ℕ) (i : Instruction) → slice_get whole.out q ≡ Some i → fetch new r q ≡ Some i)
+      (within : (p : ℕ) (t : Table) → join_at steps p ≡ Some t → p ≤ places) where
     all_there : (n p : ℕ) → p + n ≡ places → (body_has : (q : ℕ) → q < places → (i : Instruction)
         × (slice_get body q ≡ Some i)) → Grows (w.at p).out whole.out
     all_there zero p e has =
@@ -188,7 +194,8 @@ module _ (new : Code) (x : Tested) (r : ℕ) where
       is_turned End new_one g falls f = absurd (none-some new_one f)
 
     -- one place
-    module _ (p : ℕ) (i : Instruction) (lt : p < places) (e : slice_get body p ≡ Some i) (has : (q : ℕ) → q < places → (i : Instruction) × (slice_get body q ≡ Some i)) where
+    module _ (p : ℕ) (i : Instruction) (lt : p < places) (e : slice_get body p ≡ Some i)
+        (has : (q : ℕ) → q < places → (i : Instruction) × (slice_get body q ≡ Some i)) where
       abbrev step : Steps r minded steps starts p i (w.at p) (w.at (suc p))
       step = w.steps_on p i lt e
 

@@ -70,7 +70,8 @@ module _ (old new : Code) (p : Setting) (e : Certificate) where
       (λ x live. absurd (live refl))
   byte_follows b s s' (negsuc n) go h = λ live. absurd (live refl)
 
-  module _ (same_count : length new.program ≡ length old.program) (s s' : State) (c : Claim) (a : Alike e c s s') (i' : Instruction) (there : fetch new s'.current.routine s'.current.place ≡ Some i') where
+  module _ (same_count : length new.program ≡ length old.program) (s s' : State) (c : Claim) (a : Alike e c s s')
+      (i' : Instruction) (there : fetch new s'.current.routine s'.current.place ≡ Some i') where
     pub reached : (t' : State) → act_new i' s' ≡ Goes t' → Reaches new p (turns_aside (Some i')) s' t'
     reached t' f =
         subst (λ b. Reaches new p b s' t') (ap turns_aside there)

@@ -46,7 +46,8 @@ module _ (r : ℕ) (minded : List ℕ) (steps : List Step) (starts : List ℕ) (
     steps_on = λ place i lt e. absurd (omega (arith, lt));
   }
 
-  module _ (n : ℕ) (s t : Spot) (w : Walked r minded steps starts body n s) (j : Joins steps (suc n) t.table) (step : (i : Instruction) → slice_get body n ≡ Some i → Steps r minded steps starts n i s t) where
+  module _ (n : ℕ) (s t : Spot) (w : Walked r minded steps starts body n s) (j : Joins steps (suc n) t.table)
+      (step : (i : Instruction) → slice_get body n ≡ Some i → Steps r minded steps starts n i s t) where
     after : ℕ → Spot
     after place = cond (nat_eq place (suc n)) t (w.at place)
 

@@ -150,7 +150,8 @@ module _ (n places : ℕ) (step : Step) (claims : step.join ≡ Some (table n)) 
       let f : k ≡ (q - d) + d = omega (arith, e, le) in
       ap (λ (o : Option ℕ). and_then o (λ start. less k start)) (aimed_is (q - d) low) ∙ less_is k (q - d) d f
 
-  module _ (r q : ℕ) (out : List Instruction) (here : length out ≡ q) (within : q < places) (l : Limits) (same : l.temporaries ≡ n) (p : l.places ≡ places) where
+  module _ (r q : ℕ) (out : List Instruction) (here : length out ≡ q) (within : q < places) (l : Limits)
+      (same : l.temporaries ≡ n) (p : l.places ≡ places) where
     length_on : (i : Instruction) → length (out ++ i ∷ []) ≡ suc q
     length_on i = length_more out i ∙ ap suc here
       where

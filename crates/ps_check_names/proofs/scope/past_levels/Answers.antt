@@ -2,7 +2,7 @@ use Rattle.std.proofs.Common.{◌≡◌, ◌++◌, ◌∷◌, [], refl, ap, ◌�
 use Rattle.ps_check_names.specs.Regions.{find_past}
 use Rattle.ps_check_names.specs.Views.{opened_in}
 use Rattle.ps_check_names.specs.Nests.{levels_of, records_in}
-use Rattle.ps_check_names.proofs.NestLemmas.{last_level, one_level, start_last, start_rest, ok_after, err_after}
+use Rattle.ps_check_names.proofs.NestLemmas.{last_level, one_level, number_last, number_rest, ok_after, err_after}
 use Rattle.ps_check_names.proofs.scope.past_levels.Goals as goal
 
 pub returns-in-One-clause-ok : goal.returns-in-One-clause-ok
@@ -44,17 +44,16 @@ loop-left-preserved c =
       (λ up at Γ. c.loop-left.invariant.0 up at Γ ∙ ap (λ g. find_past up c.loop-left.passed g c.args.name.now at)
           (last_level Γ (levels_of c.loop-left.left.now) (levels_of c.in-Within.outer.now) c.in-Within.opened.now all)
           ∙ c.in-Ok.ensures.ok up at (opened_in Γ (records_in (levels_of c.in-Within.outer.now)))),
-      start_rest (levels_of c.loop-left.left.now) (levels_of c.in-Within.outer.now) c.in-Within.opened.now
-          c.args.mark.state all c.loop-left.invariant.1,
+      number_rest (levels_of c.loop-left.left.now) (levels_of c.in-Within.outer.now) c.in-Within.opened.now
+          c.args.name.now c.args.number all c.loop-left.invariant.1,
     )
 
-pub past_opened-requires-clause-own : goal.past_opened-requires-clause-own
+pub past_opened-requires : goal.past_opened-requires
 unfolding levels_of
-past_opened-requires-clause-own c = start_last (levels_of c.loop-left.left.now) [] c.in-One.opened.now c.args.mark.state
+past_opened-requires c = number_last (levels_of c.loop-left.left.now) [] c.in-One.opened.now c.args.name.now c.args.number
     (ap levels_of c.in-One.is) c.loop-left.invariant.1
 
-pub past_opened-requires-in-Within-clause-own : goal.past_opened-requires-in-Within-clause-own
+pub past_opened-requires-in-Within : goal.past_opened-requires-in-Within
 unfolding levels_of
-past_opened-requires-in-Within-clause-own c = start_last (levels_of c.loop-left.left.now)
-    (levels_of c.in-Within.outer.now) c.in-Within.opened.now c.args.mark.state (ap levels_of c.in-Within.is)
-    c.loop-left.invariant.1
+past_opened-requires-in-Within c = number_last (levels_of c.loop-left.left.now) (levels_of c.in-Within.outer.now)
+    c.in-Within.opened.now c.args.name.now c.args.number (ap levels_of c.in-Within.is) c.loop-left.invariant.1

@@ -1,5 +1,5 @@
 use Rattle.std.proofs.Common.{map, refl, ap, ◌∙◌}
-use Rattle.ps_tree.specs.declared.tree.CaseElement.{out-CaseElement}
+use Rattle.ps_tree.specs.declared.tree.statements.CaseElement.{out-CaseElement}
 use Rattle.ps_tree.specs.Counts.{nothing, capped, arguments_extent, places_extent, reads_extent, writes_extent}
 use Rattle.ps_tree.specs.Counts.{statement_extent, statements_extent}
 use Rattle.ps_tree.specs.View.{place_of, arguments_of, read_of, write_of, statement_of, statements_of}

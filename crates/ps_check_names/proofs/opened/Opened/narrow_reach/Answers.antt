@@ -1,4 +1,5 @@
 use Rattle.std.proofs.Common.{map}
+use Rattle.ps_check_names.specs.Marks.{number_of}
 use Rattle.ps_check_names.proofs.NoteLemmas.{narrow_noted}
 use Rattle.ps_check_names.proofs.MarkLemmas.{narrow_off}
 use Rattle.ps_check_names.proofs.opened.Opened.narrow_reach.Goals as goal
@@ -11,8 +12,8 @@ returns-then-is_in c = narrow_noted c.args.self.now.records.items c.args.self.no
 
 pub returns-else-is_in : goal.returns-else-is_in
 returns-else-is_in c = narrow_off c.args.self.now.records.items c.args.self.now.places.items
-    c.args.self.now.wides.now.types.items c.args.self.now.wides.now.start c.args.self.now.marks.items
+    c.args.self.now.wides.now.types.items (number_of c.args.self.now.wides.now.fields) c.args.self.now.numbers.items
     c.args.self.now.wides.now.names (map (λ v. v.items) c.args.self.now.wides.now.kinds.items)
-    c.args.self.now.present.items c.args.self.now.latest.items c.args.self.now.marked c.args.self.now.placed
-    c.args.self.now.wides.now.listed c.args.self.now.reaching c.args.mark.state c.args.mark.number c.args.name.now
-    c.is_in.result 0 c.requires.mark c.requires.own (rw c.as_slice.ensures.value at c.is_in.ensures) c.if-is_in.false
+    c.args.self.now.present.items c.args.self.now.latest.items c.args.self.now.numbered c.args.self.now.placed
+    c.args.self.now.wides.now.listed c.args.self.now.reaching c.args.number c.args.name.now
+    c.is_in.result 0 c.requires (rw c.as_slice.ensures.value at c.is_in.ensures) c.if-is_in.false

@@ -1,4 +1,5 @@
 use Rattle.std.proofs.Common.{length, None, refl, ap}
+use Rattle.ps_check_names.specs.Marks.{mark_of, number_of}
 use Rattle.ps_check_names.proofs.NoteLemmas.{covers_narrow}
 use Rattle.ps_check_names.proofs.MarkLemmas.{marked_more}
 use Rattle.ps_check_names.proofs.PlaceLemmas.{placed_narrow, reaching_narrow}
@@ -12,9 +13,13 @@ invariant_of-result c = record {
       (ap length c.as_slice-before.ensures.value) c.in_ok-note_record.ensures.asked
       c.in_ok-note_record.ensures.keeps c.in_ok-note_record.ensures.noted);
   marked = rw (c.in_ok-push.ensures.items, c.in_ok-push-2.ensures.items) (marked_more c.args.self.records.items c.args.ty
-      c.args.self.places.items c.args.self.wides.now.start c.args.self.marks.items c.args.self.placed.0
+      c.args.self.places.items (mark_of c.args.self.wides.now.start) c.args.self.marks.items c.args.self.placed.0
       c.args.self.marked None c.mark_record.new.words.items c.in_ok-mark_record.ensures.kept
       c.in_ok-mark_record.ensures.there);
+  numbered = rw (c.in_ok-push.ensures.items, c.in_ok-push-2.ensures.items) (marked_more c.args.self.records.items c.args.ty
+      c.args.self.places.items (number_of c.args.self.wides.now.fields) c.args.self.numbers.items c.args.self.placed.0
+      c.args.self.numbered None c.number_record.new.words.items c.in_ok-number_record.ensures.kept
+      c.in_ok-number_record.ensures.there);
   reaching = rw c.in_ok-push.ensures.items (reaching_narrow c.args.self.places.items c.args.self.present.items
       c.args.self.latest.items None refl c.args.self.reaching);
   even = c.in_ok-note_record.ensures.even;

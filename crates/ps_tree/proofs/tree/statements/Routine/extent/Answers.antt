@@ -1,6 +1,6 @@
 use Rattle.std.proofs.Common.{◌∙◌}
 use Rattle.ps_tree.proofs.FormalLemmas.{extent_parts}
-use Rattle.ps_tree.proofs.tree.Routine.extent.Goals as goal
+use Rattle.ps_tree.proofs.tree.statements.Routine.extent.Goals as goal
 
 pub returns : goal.returns
 returns c =
