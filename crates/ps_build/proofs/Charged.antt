@@ -31,7 +31,8 @@ mapped_at f [] i d lt = absurd (omega (arith, lt))
 mapped_at f (x ∷ xs) zero d lt = refl
 mapped_at f (x ∷ xs) (suc i) d lt = mapped_at f xs i d (omega (arith, lt))
 
-module _ (routines_are_bounded : RoutinesAreBounded) (objects_are_bounded : ObjectsAreBounded) (checked : Program) (image : Image) (has : KeepsBounds (code_of run_time_routines checked) image) where
+module _ (routines_are_bounded : RoutinesAreBounded) (objects_are_bounded : ObjectsAreBounded) (checked : Program)
+    (image : Image) (has : KeepsBounds (code_of run_time_routines checked) image) where
   frame_within : (r : ℕ) → r < length checked.routines → (4 ≤ get_or (frame_bytes image) r 0)
       × (get_or (frame_bytes image) r 0 ≤ 320 + 4 * routine_cells (routine_at checked r) + 64 * routine_nodes
       (routine_at checked r))

@@ -44,7 +44,10 @@ use Rattle.ps_build.proofs.Short.{tokens_within}
 
 -- ---- the text is accepted as one checked program alone
 
-module _ (text : List ℕ) (tokens : List Token) (tree : Program) (source : IsSource text) (scanned : IsTokens text tokens) (only_tokens : (other : List Token) → IsTokens text other → other ≡ tokens) (derived : IsTreeOf text tokens tree) (only_tree : (other : Program) → IsTreeOf text tokens other → other ≡ tree) where
+module _ (text : List ℕ) (tokens : List Token) (tree : Program) (source : IsSource text)
+    (scanned : IsTokens text tokens) (only_tokens : (other : List Token) → IsTokens text other → other ≡ tokens)
+    (derived : IsTreeOf text tokens tree)
+    (only_tree : (other : Program) → IsTreeOf text tokens other → other ≡ tree) where
   abbrev parsed : IsParsed text tokens tree
   parsed = record { limits = source; scanned = scanned; derived = derived }
 
@@ -118,7 +121,8 @@ module _ (text : List ℕ) (source : IsSource text) where
 
 -- ---- why no tree
 
-module _ (text : List ℕ) (tokens : List Token) (source : IsSource text) (scanned : IsTokens text tokens) (only_tokens : (other : List Token) → IsTokens text other → other ≡ tokens) where
+module _ (text : List ℕ) (tokens : List Token) (source : IsSource text) (scanned : IsTokens text tokens)
+    (only_tokens : (other : List Token) → IsTokens text other → other ≡ tokens) where
   few : length tokens < 4294967296
   few = let short = tokens_within 0 text tokens scanned in omega (arith, short, source.length_fits)
 

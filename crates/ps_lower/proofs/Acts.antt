@@ -3,12 +3,13 @@ use Rattle.std.proofs.Common.{◌≡◌, ℕ, ◌+◌, ◌≤◌, List, ◌++◌
 use Rattle.std.proofs.lemmas.List.{append-nil}
 use Rattle.ps_tree.specs.Tree as t
 use Rattle.ps_tree.specs.declared.line.Line.{Line}
-use Rattle.ps_tree.specs.declared.tree.Range.{Range}
+use Rattle.ps_tree.specs.declared.tree.operators.Range.{Range}
 use Rattle.ps_tree.specs.declared.tree.Place.{Place}
 use Rattle.ps_tree.specs.declared.tree.Expr.{Expr}
-use Rattle.ps_tree.specs.declared.tree.WriteParameter.{WriteParameter}
-use Rattle.ps_tree.specs.declared.tree.Statement.{Statement, Empty, Assign, Compound, If, IfElse, While, Repeat, Write}
-use Rattle.ps_tree.specs.declared.tree.Statement.{Writeln}
+use Rattle.ps_tree.specs.declared.tree.statements.WriteParameter.{WriteParameter}
+use Rattle.ps_tree.specs.declared.tree.statements.Statement.{Statement, Empty, Assign, Compound, If, IfElse, While}
+use Rattle.ps_tree.specs.declared.tree.statements.Statement.{Repeat, Write}
+use Rattle.ps_tree.specs.declared.tree.statements.Statement.{Writeln}
 use Rattle.ps_tree.specs.View.{place_of, expr_of, write_of, statement_of, statements_of}
 use Rattle.ps_tree.proofs.StatementLemmas.{statement_of_Compound, statement_of_Repeat}
 use Rattle.tac_code.specs.declared.code.Instruction.{Instruction}

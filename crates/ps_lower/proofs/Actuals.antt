@@ -143,7 +143,8 @@ code_more : (k : Scope) (a : Argument) (rest : List Argument) (d x : ℕ) → ac
 unfolding arguments_of
 code_more k a rest d x = refl
 
-pub record Handed (k : Scope) (start : List Instruction) (items : List Argument) (d x : ℕ) (i : ℕ) (rest : List Argument) (now : List Instruction) (depth scratch : ℕ) : Type 0 where
+pub record Handed (k : Scope) (start : List Instruction) (items : List Argument) (d x : ℕ) (i : ℕ)
+    (rest : List Argument) (now : List Instruction) (depth scratch : ℕ) : Type 0 where
   pub behind : rest ≡ drop i items
   pub left : now ++ actual_code k (drop i items) depth scratch ≡ start ++ actual_code k items d x
 

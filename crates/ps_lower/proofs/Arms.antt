@@ -4,10 +4,10 @@ use Rattle.std.proofs.Common.{ap, subst, ◌∙◌}
 use Rattle.std.specs.Prelude.{Ok, Err}
 use Rattle.ps_tree.specs.Tree as t
 use Rattle.ps_tree.specs.declared.line.Line.{Line}
-use Rattle.ps_tree.specs.declared.tree.OrderRelation.{OrderRelation}
-use Rattle.ps_tree.specs.declared.tree.PointerRelation.{PointerRelation}
-use Rattle.ps_tree.specs.declared.tree.BooleanOperator.{BooleanOperator}
-use Rattle.ps_tree.specs.declared.tree.RequiredFunction.{RequiredFunction}
+use Rattle.ps_tree.specs.declared.tree.operators.OrderRelation.{OrderRelation}
+use Rattle.ps_tree.specs.declared.tree.operators.PointerRelation.{PointerRelation}
+use Rattle.ps_tree.specs.declared.tree.operators.BooleanOperator.{BooleanOperator}
+use Rattle.ps_tree.specs.declared.tree.operators.RequiredFunction.{RequiredFunction}
 use Rattle.ps_tree.specs.declared.tree.ArithmeticStep.{ArithmeticStep}
 use Rattle.ps_tree.specs.declared.tree.Place.{Place}
 use Rattle.ps_tree.specs.declared.tree.Expr.{Expr, Number, Nil, Load, Plus, Minus, Not, Arithmetic, Logic, Compare}

@@ -5,7 +5,7 @@ use Rattle.ps_tree.specs.declared.line.Line.{Line}
 use Rattle.ps_tree.specs.declared.tree.Place.{Place}
 use Rattle.ps_tree.specs.declared.tree.Structure.{Structure}
 use Rattle.ps_tree.specs.declared.tree.Argument.{Argument}
-use Rattle.ps_tree.specs.declared.tree.Statement.{Statement, AssignStructure, Call, CallFormal, With}
+use Rattle.ps_tree.specs.declared.tree.statements.Statement.{Statement, AssignStructure, Call, CallFormal, With}
 use Rattle.ps_tree.specs.View.{place_of, structure_of, arguments_of, statement_of}
 use Rattle.tac_code.specs.declared.code.Instruction.{Instruction}
 use Rattle.ps_lower_code.specs.Scopes.{Scope}

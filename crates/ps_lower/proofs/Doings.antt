@@ -5,8 +5,8 @@ use Rattle.ps_tree.specs.declared.line.Line.{Line}
 use Rattle.ps_tree.specs.declared.types.Ty.{Ty}
 use Rattle.ps_tree.specs.declared.tree.Place.{Place}
 use Rattle.ps_tree.specs.declared.tree.Expr.{Expr}
-use Rattle.ps_tree.specs.declared.tree.ReadVariable.{ReadVariable}
-use Rattle.ps_tree.specs.declared.tree.Statement.{Statement, New, Pack, Unpack, Read, Readln}
+use Rattle.ps_tree.specs.declared.tree.statements.ReadVariable.{ReadVariable}
+use Rattle.ps_tree.specs.declared.tree.statements.Statement.{Statement, New, Pack, Unpack, Read, Readln}
 use Rattle.ps_tree.specs.View.{type_of, place_of, expr_of, read_of, statement_of}
 
 pub new_is : (x : Statement) (p : Place) (pointer : ℕ) (line : Line) → x ≡ New p pointer line → t.New

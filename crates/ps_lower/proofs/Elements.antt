@@ -6,8 +6,8 @@ use Rattle.std.proofs.lemmas.List.{append-nil, drop_all, length-drop}
 use Rattle.ps_tree.specs.Tree as t
 use Rattle.ps_tree.specs.declared.line.Line.{Line}
 use Rattle.ps_tree.specs.declared.tree.Expr.{Expr}
-use Rattle.ps_tree.specs.declared.tree.CaseElement.{CaseElement, out-CaseElement}
-use Rattle.ps_tree.specs.declared.tree.Statement.{Statement, Case}
+use Rattle.ps_tree.specs.declared.tree.statements.CaseElement.{CaseElement, out-CaseElement}
+use Rattle.ps_tree.specs.declared.tree.statements.Statement.{Statement, Case}
 use Rattle.ps_tree.specs.View.{expr_of, statement_of, elements_of}
 use Rattle.ps_tree.proofs.StatementLemmas.{statement_of_Case}
 use Rattle.tac_code.specs.declared.code.Operand.TheVariants as operand

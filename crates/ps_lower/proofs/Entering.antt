@@ -3,7 +3,7 @@ use Rattle.std.proofs.Common.{◌≡◌, ℕ, ℤ, suc, ◌+◌, ◌*◌, ◌<�
 use Rattle.std.proofs.Common.{◌++◌, length, drop, get_or, refl, ap, sym, ◌∙◌, arith}
 use Rattle.std.proofs.Math.Seq.{drop-cons}
 use Rattle.std.proofs.lemmas.List.{drop_all, append-nil}
-use Rattle.ps_tree.specs.declared.tree.Formal.{Formal}
+use Rattle.ps_tree.specs.declared.tree.statements.Formal.{Formal}
 use Rattle.ps_tree.specs.View.{formal_of, formals_of}
 use Rattle.tac_code.specs.declared.code.Base.TheVariants as base
 use Rattle.tac_code.specs.declared.code.Instruction.{Instruction}
@@ -97,7 +97,8 @@ unfolding formals_of
 one_taken f rest = refl
 
 -- what the parameters before i add, which temporary has the next one, and where that one goes
-pub record Entered (k : Scope) (free : ℕ) (start : List Instruction) (first : ℕ) (formals : List Formal) (i : ℕ) (now : List Instruction) (t place : ℕ) : Type 0 where
+pub record Entered (k : Scope) (free : ℕ) (start : List Instruction) (first : ℕ) (formals : List Formal) (i : ℕ)
+    (now : List Instruction) (t place : ℕ) : Type 0 where
   pub left : now ++ entered k free t place (drop i formals) ≡ start ++ entered k free 1 first formals
   pub sum : place + taken (drop i formals) ≡ first + taken formals
   pub count : t + total (drop i formals) ≡ suc (total formals)

@@ -10,9 +10,9 @@ use Rattle.ps_tree.specs.declared.tree.SetExpr.{SetExpr, Load, Constructor, Comb
 use Rattle.ps_tree.specs.declared.tree.SetStep.{SetStep, out-SetStep}
 use Rattle.ps_tree.specs.declared.tree.Member.{Member, One, Range as Several}
 use Rattle.ps_tree.specs.declared.tree.Argument.{Argument, Value, Set, Variable}
-use Rattle.ps_tree.specs.declared.tree.SetOperator.{SetOperator}
-use Rattle.ps_tree.specs.declared.tree.SetRelation.{SetRelation}
-use Rattle.ps_tree.specs.declared.tree.Statement.{Statement, AssignSet}
+use Rattle.ps_tree.specs.declared.tree.operators.SetOperator.{SetOperator}
+use Rattle.ps_tree.specs.declared.tree.operators.SetRelation.{SetRelation}
+use Rattle.ps_tree.specs.declared.tree.statements.Statement.{Statement, AssignSet}
 use Rattle.ps_tree.specs.View.{place_of, expr_of, set_of, set_steps_of, member_of, members_of, argument_of}
 use Rattle.ps_tree.specs.View.{statement_of}
 use Rattle.ps_tree.proofs.TreeLemmas.{set_of_Load, set_of_Constructor, set_of_Combine, argument_of_Variable}

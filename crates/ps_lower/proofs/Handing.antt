@@ -4,7 +4,7 @@ use Rattle.std.proofs.Common.{◌∙◌, append_assoc}
 use Rattle.ps_tree.specs.Tree as t
 use Rattle.ps_tree.specs.declared.line.Line.{Line}
 use Rattle.ps_tree.specs.declared.types.Ty.{Ty}
-use Rattle.ps_tree.specs.declared.tree.OrderRelation.{OrderRelation}
+use Rattle.ps_tree.specs.declared.tree.operators.OrderRelation.{OrderRelation}
 use Rattle.ps_tree.specs.declared.tree.Argument.{Argument}
 use Rattle.ps_tree.specs.declared.tree.Place.{Place}
 use Rattle.ps_tree.specs.declared.tree.Structure.{Structure, Contents}

@@ -6,8 +6,8 @@ use Rattle.std.proofs.lemmas.List.{append-nil, drop_all, get_or_past, get_or-map
 use Rattle.std.proofs.lemmas.Option.{slice_get_past}
 use Rattle.ps_tree.specs.Tree as t
 use Rattle.ps_tree.specs.declared.types.Ty.{Ty}
-use Rattle.ps_tree.specs.declared.tree.Formal.{Formal}
-use Rattle.ps_tree.specs.declared.tree.Routine.{Routine}
+use Rattle.ps_tree.specs.declared.tree.statements.Formal.{Formal}
+use Rattle.ps_tree.specs.declared.tree.statements.Routine.{Routine}
 use Rattle.ps_tree.specs.View.{type_of, formal_of, formals_of, routine_of}
 use Rattle.ps_lower_layout.specs.Shapes.{shape_of}
 use Rattle.ps_lower_layout.specs.Frames.{Kind, Own, kind_of, kinds_of, listed_kinds, variable_kinds, kind_words}

@@ -3,9 +3,9 @@ use Rattle.std.proofs.Common.{◌≡◌, ℕ, ℤ, ◌+◌, ◌-◌, List, [], �
 use Rattle.std.proofs.Common.{append_assoc, arith, length-append, refl}
 use Rattle.ps_tree.specs.Tree as t
 use Rattle.ps_tree.specs.declared.line.Line.{Line}
-use Rattle.ps_tree.specs.declared.tree.Direction.{Direction}
+use Rattle.ps_tree.specs.declared.tree.operators.Direction.{Direction}
 use Rattle.ps_tree.specs.declared.tree.Expr.{Expr}
-use Rattle.ps_tree.specs.declared.tree.Statement.{Statement, For}
+use Rattle.ps_tree.specs.declared.tree.statements.Statement.{Statement, For}
 use Rattle.ps_tree.specs.View.{expr_of, statement_of}
 use Rattle.tac_code.specs.declared.code.Base.TheVariants as base
 use Rattle.tac_code.specs.declared.code.Relation.{Relation}

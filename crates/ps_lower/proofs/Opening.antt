@@ -38,7 +38,8 @@ records_scope k c l d = with_scope k (map place_of l) c d
 abbrev pub records_depth : Bool → List Place → ℕ → ℕ
 records_depth c l d = with_depth (map place_of l) c d
 
-pub record Opening (k : Scope) (c : Bool) (d : ℕ) (start : List Instruction) (items : List Place) (i : ℕ) (now : List Instruction) (sites : List Site) (depth : ℕ) : Type 0 where
+pub record Opening (k : Scope) (c : Bool) (d : ℕ) (start : List Instruction) (items : List Place) (i : ℕ)
+    (now : List Instruction) (sites : List Site) (depth : ℕ) : Type 0 where
   pub code : now ++ records_code (within k sites) c (drop i items) depth ≡ start ++ records_code k c items d
   pub scope : records_scope (within k sites) c (drop i items) depth ≡ records_scope k c items d
   pub end : records_depth c (drop i items) depth ≡ records_depth c items d

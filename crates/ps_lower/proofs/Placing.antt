@@ -2,7 +2,7 @@
 use Rattle.std.proofs.Common.{◌≡◌, ℕ, ℤ, suc, Bool, List, [], ◌++◌, Option, None, Result, OnOk, IfOk, ap, subst, ◌∙◌}
 use Rattle.std.specs.Prelude.{Ok, Err}
 use Rattle.ps_tree.specs.Tree as t
-use Rattle.ps_tree.specs.declared.tree.Range.{Range}
+use Rattle.ps_tree.specs.declared.tree.operators.Range.{Range}
 use Rattle.ps_tree.specs.Types.{DataType}
 use Rattle.tac_code.specs.declared.code.Instruction.{Instruction}
 use Rattle.ps_lower_code.specs.Scopes.{Scope, Site, kept, even_from, fitting_code}

@@ -1,7 +1,7 @@
 -- What reads from the input.
 use Rattle.std.proofs.Common.{◌≡◌, ℕ, ℤ, suc, pos, Bool, true, List, [], ◌∷◌, ◌++◌, map, Result, OnOk, refl, subst}
 use Rattle.ps_tree.specs.Tree as t
-use Rattle.ps_tree.specs.declared.tree.ReadVariable.{ReadVariable}
+use Rattle.ps_tree.specs.declared.tree.statements.ReadVariable.{ReadVariable}
 use Rattle.ps_tree.specs.View.{read_of}
 use Rattle.tac_code.specs.declared.code.Base.TheVariants as base
 use Rattle.tac_code.specs.declared.code.Instruction.{Instruction}

@@ -4,9 +4,9 @@ use Rattle.std.proofs.Common.{sym, ap, subst, ◌∙◌, append_assoc, arith, le
 use Rattle.std.specs.Prelude.{Ok, Err, IsErrAnd, MatchResult}
 use Rattle.std.proofs.Math.Seq.{drop-cons}
 use Rattle.ps_tree.specs.Tree as t
-use Rattle.ps_tree.specs.declared.tree.CaseElement.{CaseElement}
+use Rattle.ps_tree.specs.declared.tree.statements.CaseElement.{CaseElement}
 use Rattle.ps_tree.specs.View.{elements_of}
-use Rattle.ps_tree.specs.declared.tree.Statement.{Statement}
+use Rattle.ps_tree.specs.declared.tree.statements.Statement.{Statement}
 use Rattle.tac_code.specs.declared.code.Instruction.{Instruction}
 use Rattle.tac_code.specs.declared.code.Instruction.TheVariants as i
 use Rattle.ps_lower_code.specs.Scopes.{Scope}

@@ -1,8 +1,8 @@
 -- The code of lists, item by item.
 use Rattle.std.proofs.Common.{◌≡◌, ℕ, suc, List, [], ◌∷◌, ◌++◌, map, Result, OnOk, refl, ap, subst, ◌∙◌}
 use Rattle.ps_tree.specs.Tree as t
-use Rattle.ps_tree.specs.declared.tree.WriteParameter.{WriteParameter}
-use Rattle.ps_tree.specs.declared.tree.Statement.{Statement}
+use Rattle.ps_tree.specs.declared.tree.statements.WriteParameter.{WriteParameter}
+use Rattle.ps_tree.specs.declared.tree.statements.Statement.{Statement}
 use Rattle.ps_tree.specs.View.{write_of, statement_of, statements_of}
 use Rattle.tac_code.specs.declared.code.Instruction.{Instruction}
 use Rattle.tac_rt.specs.declared.run_time.RunTime.{RunTime}

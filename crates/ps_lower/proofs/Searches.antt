@@ -7,8 +7,8 @@ use Rattle.ps_tree.specs.declared.tree.Place.{Place}
 use Rattle.ps_tree.specs.declared.tree.Selector.{Selector}
 use Rattle.ps_tree.specs.declared.tree.Expr.{Expr}
 use Rattle.ps_tree.specs.declared.tree.ArithmeticStep.{ArithmeticStep, out-ArithmeticStep}
-use Rattle.ps_tree.specs.declared.tree.Statement.{Statement}
-use Rattle.ps_tree.specs.declared.tree.CaseElement.{CaseElement, out-CaseElement}
+use Rattle.ps_tree.specs.declared.tree.statements.Statement.{Statement}
+use Rattle.ps_tree.specs.declared.tree.statements.CaseElement.{CaseElement, out-CaseElement}
 use Rattle.ps_tree.specs.View.{place_of, selector_of, selectors_of, expr_of, arithmetic_of, operands_of, statement_of}
 use Rattle.ps_tree.specs.View.{statements_of, elements_of}
 use Rattle.ps_lower_code.specs.Calling as code

@@ -51,7 +51,8 @@ no_site : (a : ℕ) (site : Site) → along_site a [] site ≡ site
 unfolding selectors_of
 no_site a site = refl
 
-pub record Led (k : Scope) (a x : ℕ) (start : List Instruction) (from : Site) (items : List Selector) (i : ℕ) (now : List Instruction) (site : Site) : Type 0 where
+pub record Led (k : Scope) (a x : ℕ) (start : List Instruction) (from : Site) (items : List Selector) (i : ℕ)
+    (now : List Instruction) (site : Site) : Type 0 where
   pub code : now ++ along_code k a x (drop i items) site ≡ start ++ along_code k a x items from
   pub place : along_site a (drop i items) site ≡ along_site a items from
 

@@ -12,10 +12,10 @@ use Rattle.ps_tree.specs.declared.tree.Member.{Member}
 use Rattle.ps_tree.specs.declared.tree.Selector.{Selector}
 use Rattle.ps_tree.specs.declared.tree.Argument.{Argument, Variable}
 use Rattle.ps_tree.specs.declared.tree.Place.{Place}
-use Rattle.ps_tree.specs.declared.tree.ReadVariable.{ReadVariable}
-use Rattle.ps_tree.specs.declared.tree.WriteParameter.{WriteParameter}
-use Rattle.ps_tree.specs.declared.tree.Statement.{Statement}
-use Rattle.ps_tree.specs.declared.tree.CaseElement.{CaseElement, out-CaseElement}
+use Rattle.ps_tree.specs.declared.tree.statements.ReadVariable.{ReadVariable}
+use Rattle.ps_tree.specs.declared.tree.statements.WriteParameter.{WriteParameter}
+use Rattle.ps_tree.specs.declared.tree.statements.Statement.{Statement}
+use Rattle.ps_tree.specs.declared.tree.statements.CaseElement.{CaseElement, out-CaseElement}
 use Rattle.ps_tree.proofs.TreeLemmas.{structure_of_Contents, argument_of_Variable}
 use Rattle.ps_tree.specs.View.{place_of, structure_of, expr_of, arithmetic_of, operands_of, set_of, set_steps_of}
 use Rattle.ps_tree.specs.View.{member_of, members_of, selector_of, selectors_of, argument_of, arguments_of, read_of}

@@ -1,6 +1,6 @@
 -- The parts of read and readln.
 use Rattle.std.specs.Prelude.{ℕ, ℤ, pos, true, List, [], ◌∷◌, None}
-use Rattle.ps_tree.specs.declared.tree.Range.TheVariants.{Within}
+use Rattle.ps_tree.specs.declared.tree.operators.Range.TheVariants.{Within}
 use Rattle.tac_code.specs.declared.code.Base.TheVariants as base
 use Rattle.tac_code.specs.declared.code.Instruction.{Instruction}
 use Rattle.tac_code.specs.declared.code.Instruction.TheVariants as i

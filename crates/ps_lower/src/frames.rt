@@ -130,8 +130,8 @@ impl<'a> Model for Frames<'a> {
     ghost Value = { Parts };
 
     ghost use Rattle.std.specs.Coded.{codes};
-    ghost use Rattle.ps_tree.specs.contracts.tree.Formal as formal;
-    ghost use Rattle.ps_tree.specs.contracts.tree.Statement as statement;
+    ghost use Rattle.ps_tree.specs.contracts.tree.statements.Formal as formal;
+    ghost use Rattle.ps_tree.specs.contracts.tree.statements.Statement as statement;
     ghost use Rattle.ps_tree.specs.contracts.types.Ty as ty;
 
     ghost coded = { Prim.hlevel (codes, formal.the_row.coded, statement.the_row.coded, ty.the_row.coded) };

@@ -4,7 +4,7 @@ ghost use Rattle.std.specs.Prelude.{◌≡◌, ◌++◌, ◌≤◌, [], ◌∷�
 ghost use Rattle.ps_lower_code.specs.Scopes.{moved, range_code, check_code, fitting_code, operand_check};
 ghost use Rattle.ps_lower_code.specs.Values.{relation_code, finish, truth_finish, function_code};
 ghost use Rattle.ps_tree.specs.View.{expr_of};
-ghost use Rattle.ps_tree.specs.declared.tree.RequiredFunction.TheVariants.{Abs};
+ghost use Rattle.ps_tree.specs.declared.tree.operators.RequiredFunction.TheVariants.{Abs};
 ghost use Rattle.tac_code.specs.declared.code.Instruction.TheVariants as i;
 ghost use Rattle.tac_code.specs.declared.code.Operand.TheVariants as operand;
 

@@ -9,7 +9,7 @@ ghost use Rattle.ps_lower_code.specs.Statements.{read_code, reads_code, statemen
 ghost use Rattle.ps_lower.specs.Levels.{scope_of};
 ghost use Rattle.ps_lower.specs.Reads.{character_taken, number_taken, line_taken};
 ghost use Rattle.ps_tree.specs.Tree as tree;
-ghost use Rattle.ps_tree.specs.declared.tree.Range.TheVariants.{Within};
+ghost use Rattle.ps_tree.specs.declared.tree.operators.Range.TheVariants.{Within};
 ghost use Rattle.ps_tree.specs.View.{place_of, read_of};
 ghost use Rattle.tac_code.specs.declared.code.Base.TheVariants as base;
 ghost use Rattle.tac_code.specs.declared.code.Instruction.TheVariants as i;

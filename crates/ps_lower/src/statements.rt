@@ -8,7 +8,7 @@ ghost use Rattle.ps_lower.specs.Levels.{scope_of, then_code};
 ghost use Rattle.ps_lower.specs.Refused.{Adds};
 ghost use Rattle.ps_tree.specs.Tree as tree;
 ghost use Rattle.ps_tree.specs.View.{expr_of, place_of, statement_of, statements_of, elements_of};
-ghost use Rattle.ps_tree.specs.declared.tree.CaseElement.{out-CaseElement};
+ghost use Rattle.ps_tree.specs.declared.tree.statements.CaseElement.{out-CaseElement};
 ghost use Rattle.tac_code.specs.declared.code.Instruction.TheVariants as i;
 
 use crate::assign::{Members, assign, assign_set, assign_structure};

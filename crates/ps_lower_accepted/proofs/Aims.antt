@@ -16,7 +16,7 @@ use Rattle.ps_tree.specs.Types.{DataType}
 use Rattle.ps_tree.specs.Tree as Tree
 use Rattle.ps_lower_layout.specs.Shapes.{Shape}
 use Rattle.ps_lower_code.specs.Scopes.{Scope}
-use Rattle.ps_lower_accepted.proofs.Tidy.{StatementsSound}
+use Rattle.ps_lower_code.specs.Fits.{StatementsFit}
 use Rattle.ps_check_judgement.specs.Judged.{Yes}
 use Rattle.ps_check_names.specs.Regions.{Context, Region, Meaning, ConstantMeaning, TextMeaning, TypeMeaning}
 use Rattle.ps_check_names.specs.Regions.{VariableMeaning}
@@ -48,7 +48,7 @@ abbrev pub StatementsTell : Type 0
 StatementsTell =
     (c : Context) (Γ : List Region) (D : Table) (k : Scope) (os : List Shape) → Here c Γ D k os
     → (n : ℕ) (xs : List Statement) (ts r : Tokens) → IsSequence (statement_within n) xs ts r
-    → (ss : Tree.Statements) → Gives (statements c Γ xs) ss → StatementsSound k os ss
+    → (ss : Tree.Statements) → Gives (statements c Γ xs) ss → StatementsFit k os ss
 
 -- ---- constants, types and variables of a block
 

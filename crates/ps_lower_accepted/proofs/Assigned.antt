@@ -3,7 +3,7 @@ use Rattle.std.proofs.Common.{◌≡◌, ℕ, zero, suc, ◌-◌, ◌==◌, Bool
 use Rattle.std.proofs.Common.{drop, get_or, Option, Some, None, slice_get, refl, sym, ap, ◌∙◌, subst, arith, eqb-true}
 use Rattle.ps_text.specs.declared.Span.{Span}
 use Rattle.ps_tree.specs.declared.types.Ordinal.{Ordinal}
-use Rattle.ps_tree.specs.declared.tree.Range.TheVariants.{Within}
+use Rattle.ps_tree.specs.declared.tree.operators.Range.TheVariants.{Within}
 use Rattle.ps_tree.specs.Types.{DataType, OrdinalType, PointerType, NilType, SetType, EmptySetType, TextType}
 use Rattle.ps_tree.specs.Types.{ArrayType, RecordType, has_variables, is_assignable, is_compatible, is_same_type}
 use Rattle.ps_tree.specs.Types.{string_length}
@@ -15,7 +15,7 @@ use Rattle.ps_lower_layout.specs.Frames.{Own, entries, result_kinds, listed_kind
 use Rattle.ps_lower_code.specs.Scopes.{Scope}
 use Rattle.ps_lower_code.specs.Fits.{RangeFits, IsStructure, shape_in}
 use Rattle.tac_code.specs.Sound.{IsLine}
-use Rattle.ps_lower_accepted.proofs.Tidy.{ExprSound, PlaceSound, StatementSound}
+use Rattle.ps_lower_code.specs.Fits.{ExprFits, PlaceFits, StatementFits}
 use Rattle.ps_check_judgement.specs.declared.refusal.Rule.TheVariants.{WrongKind}
 use Rattle.ps_check_judgement.specs.Judged.{Yes}
 use Rattle.ps_check_judgement.proofs.Binds.{provided_yes, some_or_yes, no_yes}
@@ -187,24 +187,27 @@ module _ (D : Table) (k : Scope) (os : List Shape) where
   -- the range of an ordinal type is what its variables ask for
   pub range_there : (o : Ordinal) (b : Bool) → TypeKnown D (bound_of k) (OrdinalType o)
       → (b ≡ true → fits_byte (OrdinalType o) ≡ true) → RangeFits (Within o.low o.high) (part_of b (OrdinalType o))
-  range_there o true known small = small refl
+  range_there o true known small = (known.low, known.high, small refl)
   range_there o false known small = (known.low, known.high, not_or (fits_byte (OrdinalType o)))
 
   pointer_assigned : (p : Place) (b : Bool) (n : ℕ) (e : Expr) (line : ℕ) → IsLine line
-      → (b ≡ true → fits_byte (PointerType n) ≡ true) → PlaceSound k os p (part_of b (PointerType n)) → ExprSound k os e
-      (PointerSort n) → StatementSound k os (Assign p (range_of (PointerType n)) e line)
+      → (b ≡ true → fits_byte (PointerType n) ≡ true) → PlaceFits k os p (part_of b (PointerType n)) → ExprFits k os e
+      (PointerSort n) → StatementFits k os (Assign p (range_of (PointerType n)) e line)
   pointer_assigned p b n e line ln small fits h =
       let w = whole_fits D k os p (PointerType n) b fits (no_byte b small) in
-      ((Whole (shape_of (PointerType n)), w.0, tt, (PointerSort n, refl, h.0)), (w.1, h.1, tt, ln))
+      (Whole (shape_of (PointerType n)), w, tt, (PointerSort n, refl, h), ln)
 
   simple_assigned : (p : Place) (b : Bool) (type from : DataType) (e : Expr) (line : ℕ) → IsLine line → TypeKnown D
-      (bound_of k) type → (b ≡ true → fits_byte type ≡ true) → PlaceSound k os p (part_of b type)
-      → SimpleTold D k os e from → is_compatible from type ≡ true → StatementSound k os
+      (bound_of k) type → (b ≡ true → fits_byte type ≡ true) → PlaceFits k os p (part_of b type)
+      → SimpleTold D k os e from → is_compatible from type ≡ true → StatementFits k os
       (Assign p (range_of type) e line)
   unfolding is_compatible is_same_type string_length
   simple_assigned p b (OrdinalType o) (OrdinalType q) e line ln known small fits h g = (
-    (part_of b (OrdinalType o), fits.0, range_there o b known small, (NumberSort, number_part D k os o b, h.1.0)),
-    (fits.1, h.1.1, (known.low, known.high), ln),
+    part_of b (OrdinalType o),
+    fits,
+    range_there o b known small,
+    (NumberSort, number_part D k os o b, h.1),
+    ln,
   )
   simple_assigned p b (PointerType n) (PointerType m) e line ln known small fits h g = pointer_assigned p b n e line ln
       small fits (pointer_of_same D k os m n e g h.1)
@@ -241,16 +244,19 @@ module _ (D : Table) (k : Scope) (os : List Shape) where
 
   set_into : (at : ℕ) (v : Variable) (e : _) (from : DataType) (line : ℕ) → IsLine line → (s : Statement)
       → VariableTold D k os v → SetTold D k os e from → set_assigned at v.place v.type e from line ≡ Yes s
-      → StatementSound k os s
+      → StatementFits k os s
   unfolding set_assigned
   set_into at v e from line ln s told h q = go v.type told.known (λ b. told.small b) told.fits q
     where
       go : (type : DataType) → TypeKnown D (bound_of k) type → (told.byte ≡ true → fits_byte type ≡ true)
-          → PlaceSound k os v.place (part_of told.byte type) → set_assigned at v.place type e from line ≡ Yes s
-          → StatementSound k os s
-      go (SetType d l o) known small fits f = subst (StatementSound k os) (provided_yes _ _ _ _ s f).1
-          (let w = whole_fits D k os v.place (SetType d l o) told.byte fits (no_byte told.byte small)
-          in let x = set_fits D k os e from h in ((w.0, x.0), (w.1, x.1, known, ln)))
+          → PlaceFits k os v.place (part_of told.byte type) → set_assigned at v.place type e from line ≡ Yes s
+          → StatementFits k os s
+      go (SetType d l o) known small fits f = subst (StatementFits k os) (provided_yes _ _ _ _ s f).1 (
+        whole_fits D k os v.place (SetType d l o) told.byte fits (no_byte told.byte small),
+        set_fits D k os e from h,
+        known,
+        ln,
+      )
       go (OrdinalType o) known small fits f = absurd (no_yes f)
       go (PointerType n) known small fits f = absurd (no_yes f)
       go NilType known small fits f = absurd (no_yes f)
@@ -260,11 +266,11 @@ module _ (D : Table) (k : Scope) (os : List Shape) where
       go (RecordType at l fs) known small fits f = absurd (no_yes f)
 
   pub assigned_fits : (at : ℕ) (v : Variable) (x : Value) (line : ℕ) → IsLine line → (s : Statement)
-      → VariableTold D k os v → ValueTold D k os x → assigned at v x line ≡ Yes s → StatementSound k os s
+      → VariableTold D k os v → ValueTold D k os x → assigned at v x line ≡ Yes s → StatementFits k os s
   unfolding assigned
   assigned_fits at v (SimpleValue e from) line ln s told h q =
       let p = provided_yes (is_assignable from v.type) _ _ (Assign v.place (range_of v.type) e line) s q in
-      subst (StatementSound k os) p.1 (simple_assigned v.place told.byte v.type from e line ln told.known
+      subst (StatementFits k os) p.1 (simple_assigned v.place told.byte v.type from e line ln told.known
       (λ b. told.small b) told.fits h (right (has_variables v.type) (is_compatible from v.type) p.0))
   assigned_fits at v (SetValue e from) line ln s told h q = set_into at v e from line ln s told h q
   assigned_fits at v (StructureValue e from) line ln s told h q =
@@ -273,4 +279,4 @@ module _ (D : Table) (k : Scope) (os : List Shape) where
       (right (has_variables v.type) (is_compatible from v.type) p.0) in
       let w = whole_fits D k os v.place v.type told.byte told.fits
       (structure_whole v.type told.byte goes.structure (λ b. told.small b)) in
-      subst (StatementSound k os) p.1 ((shape_of v.type, w.0, goes.fits.0, goes.structure), (w.1, goes.fits.1))
+      subst (StatementFits k os) p.1 (shape_of v.type, w, goes.fits, goes.structure)

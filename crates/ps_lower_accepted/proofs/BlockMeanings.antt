@@ -8,7 +8,7 @@ use Rattle.ps_tree.specs.Types.{DataType}
 use Rattle.ps_tree.specs.Tree as Tree
 use Rattle.ps_tree.specs.Tree.{Program}
 use Rattle.ps_lower_layout.specs.Frames.{Kind}
-use Rattle.ps_lower_accepted.proofs.Tidy.{StatementsSound}
+use Rattle.ps_lower_code.specs.Fits.{StatementsFit}
 use Rattle.tac_code.specs.Sound.{IsLine}
 use Rattle.ps_check_judgement.specs.Judged.{Yes}
 use Rattle.ps_check_judgement.proofs.Binds.{no_yes, inside_yes}
@@ -170,7 +170,8 @@ pub record Ready (D : Table) (outer : List Region) (known : List Meaning) (g : G
   pub plain : Each IsPlain known
   pub domains : Each (TypeKnown D (length g.domains)) g.domains
 
-pub record BlockTold (own : ℕ) (rest : List ℕ) (outer : List Region) (known : List Meaning) (first : ℕ) (D : Table) (low high : ℕ) (r : Tokens) (g : Gathered) (done : Done) : Type 0 where
+pub record BlockTold (own : ℕ) (rest : List ℕ) (outer : List Region) (known : List Meaning) (first : ℕ) (D : Table)
+    (low high : ℕ) (r : Tokens) (g : Gathered) (done : Done) : Type 0 where
   pub table : Table
   pub next : ℕ
   pub later : low ≤ next
@@ -185,7 +186,7 @@ pub record BlockTold (own : ℕ) (rest : List ℕ) (outer : List Region) (known 
   pub line : IsLine done.line
   pub fits : (P : Program) (F : Table) → Final P F table done.gathered → Targets P F → BlocksStand P F outer rest
       → OwnStand P (own ∷ rest) first known done.variables
-      → AllFit P (length g.routines) done.gathered × StatementsSound (record {
+      → AllFit P (length g.routines) done.gathered × StatementsFit (record {
         program = P;
         chain = own ∷ rest;
         opened = [];

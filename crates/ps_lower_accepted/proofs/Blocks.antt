@@ -153,7 +153,8 @@ module _ (own : ℕ) (rest : List ℕ) (f : Frame) (base : ℕ) (begun : List Me
   one_parts r t x e = then_yes (introduce f x r (at_place (place_of x) r.known))
       (λ s. read_block f (own ∷ rest) x s x.block) t e
 
-  module _ (c : Context) (routine_own : f.routine ≡ own) (outermost : outermost_of (own ∷ rest) ≡ 0) (symbol : Symbol syntax_block.Block) (tells : BlockTells c symbol) where
+  module _ (c : Context) (routine_own : f.routine ≡ own) (outermost : outermost_of (own ∷ rest) ≡ 0)
+      (symbol : Symbol syntax_block.Block) (tells : BlockTells c symbol) where
     block_read : (y : RoutineReading) (s t : Routines) (D : Table) → Reading own rest f base begun s D
         → ((h : Heading) → at_place (place_of y) s.known ≡ Some (RoutineMeaning h) → IsVacant s.gathered h.number)
         → (low high : ℕ) (x : syntax_block.Block) (ts r : Tokens) → symbol x ts r → AreOrdered low high ts

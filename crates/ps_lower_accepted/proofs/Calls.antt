@@ -6,7 +6,7 @@ use Rattle.ps_text.specs.declared.Span.{Span}
 use Rattle.ps_tree.specs.declared.types.Host.{Host}
 use Rattle.ps_tree.specs.declared.types.Host.TheVariants.{Integer, Char, Boolean, Enumeration}
 use Rattle.ps_tree.specs.declared.types.Ordinal.{Ordinal}
-use Rattle.ps_tree.specs.declared.tree.RequiredFunction.{RequiredFunction}
+use Rattle.ps_tree.specs.declared.tree.operators.RequiredFunction.{RequiredFunction}
 use Rattle.ps_tree.specs.Types.{DataType, OrdinalType, PointerType, NilType, SetType, EmptySetType, TextType}
 use Rattle.ps_tree.specs.Types.{ArrayType, RecordType, has_variables, is_assignable, is_compatible, is_same_type}
 use Rattle.ps_tree.specs.Types.{is_same_host, string_length}
@@ -19,7 +19,8 @@ use Rattle.ps_lower_layout.specs.Frames.{Kind, Own, Reference, Closure, Kinds, n
 use Rattle.ps_lower_layout.specs.Frames.{result_shape}
 use Rattle.ps_lower_code.specs.Scopes.{Scope}
 use Rattle.ps_lower_code.specs.Fits.{FunctionFits, SortOf}
-use Rattle.ps_lower_accepted.proofs.Tidy.{line_there, PlaceSound, ExprSound, ArgumentsSound, ArgumentSound}
+use Rattle.ps_lower_code.specs.Fits.{PlaceFits, ExprFits, ArgumentsFit, ArgumentFits}
+use Rattle.ps_lower_accepted.proofs.Sound.{line_there}
 use Rattle.tac_code.specs.Sound.{IsLine}
 use Rattle.ps_check_names.specs.declared.meaning.Required.{Required}
 use Rattle.ps_check_names.specs.declared.meaning.Required.TheVariants as required
@@ -182,27 +183,30 @@ not_or false = refl
 module _ (D : Table) (k : Scope) (os : List Shape) where
   -- ---- actual parameters
 
-  pub pointer_of_same : (m n : ℕ) (e : Expr) → is_compatible (PointerType m) (PointerType n) ≡ true → ExprSound k os e
-      (PointerSort m) → ExprSound k os e (PointerSort n)
+  pub pointer_of_same : (m n : ℕ) (e : Expr) → is_compatible (PointerType m) (PointerType n) ≡ true → ExprFits k os e
+      (PointerSort m) → ExprFits k os e (PointerSort n)
   unfolding is_compatible is_same_type string_length
   pointer_of_same m n e q h = go (m == n) refl q
     where
-      go : (b : Bool) → (m == n) ≡ b → (b || false) ≡ true → ExprSound k os e (PointerSort n)
-      go true p g = subst (λ i. ExprSound k os e (PointerSort i)) (eqb-true m n p) h
+      go : (b : Bool) → (m == n) ≡ b → (b || false) ≡ true → ExprFits k os e (PointerSort n)
+      go true p g = subst (λ i. ExprFits k os e (PointerSort i)) (eqb-true m n p) h
       go false p g = never g
 
   simple_passed : (type from : DataType) (e : Expr) (line : ℕ) → IsLine line → TypeKnown D (bound_of k) type
-      → SimpleTold D k os e from → is_compatible from type ≡ true → ArgumentSound k os (ByValue e (range_of type) line)
+      → SimpleTold D k os e from → is_compatible from type ≡ true → ArgumentFits k os (ByValue e (range_of type) line)
       (Own (shape_of type))
   unfolding is_compatible is_same_type string_length
   simple_passed (OrdinalType o) (OrdinalType p) e line l t h q = (
-    (shape_of (OrdinalType o), refl, (t.low, t.high, not_or (fits_byte (OrdinalType o))), (NumberSort, refl, h.1.0)),
-    (h.1.1, (t.low, t.high), l),
+    shape_of (OrdinalType o),
+    refl,
+    (t.low, t.high, not_or (fits_byte (OrdinalType o))),
+    (NumberSort, refl, h.1),
+    l,
   )
   simple_passed (PointerType n) (PointerType m) e line l t h q =
-      (let x = pointer_of_same m n e q h.1 in ((PointerShape n, refl, tt, (PointerSort n, refl, x.0)), (x.1, tt, l)))
+      (PointerShape n, refl, tt, (PointerSort n, refl, pointer_of_same m n e q h.1), l)
   simple_passed (PointerType n) NilType e line l t h q =
-      (let x = h n in ((PointerShape n, refl, tt, (PointerSort n, refl, x.0)), (x.1, tt, l)))
+      (PointerShape n, refl, tt, (PointerSort n, refl, h n), l)
   simple_passed (OrdinalType o) (PointerType m) e line l t h q = never q
   simple_passed (OrdinalType o) NilType e line l t h q = never q
   simple_passed (PointerType n) (OrdinalType p) e line l t h q = never q
@@ -221,35 +225,37 @@ module _ (D : Table) (k : Scope) (os : List Shape) where
   simple_passed type from e line l t h q = absurd h
 
   value_passed : (at : ℕ) (type : DataType) (v : Value) (line : ℕ) → IsLine line → (a : Argument) → TypeKnown D
-      (bound_of k) type → ValueTold D k os v → by_value at type v line ≡ Yes a → ArgumentSound k os a
+      (bound_of k) type → ValueTold D k os v → by_value at type v line ≡ Yes a → ArgumentFits k os a
       (Own (shape_of type))
   unfolding by_value
   value_passed at type (SimpleValue e from) line l a t h q =
       let p = provided_yes (is_assignable from type) _ _ (ByValue e (range_of type) line) a q in
-      subst (λ x. ArgumentSound k os x (Own (shape_of type))) p.1
+      subst (λ x. ArgumentFits k os x (Own (shape_of type))) p.1
       (simple_passed type from e line l t h (right (has_variables type) (is_compatible from type) p.0))
   value_passed at (SetType d i o) (SetValue e from) line l a t h q =
       let p = provided_yes (is_assignable from (SetType d i o)) _ _ (BySet e o.low o.high line) a q in
-      subst (λ x. ArgumentSound k os x (Own (shape_of (SetType d i o)))) p.1
-      (let x = set_fits D k os e from h in ((refl, x.0), (x.1, t, l)))
+      subst (λ x. ArgumentFits k os x (Own (shape_of (SetType d i o)))) p.1
+      (refl, set_fits D k os e from h, t, l)
   value_passed at type (StructureValue e from) line l a t h q =
       let p = provided_yes (is_assignable from type) _ _ (ByCopy e type) a q in
       let goes = structure_goes D k os e from type h t (right (has_variables type) (is_compatible from type) p.0) in
-      subst (λ x. ArgumentSound k os x (Own (shape_of type))) p.1 ((refl, goes.structure, goes.fits.0), goes.fits.1)
+      subst (λ x. ArgumentFits k os x (Own (shape_of type))) p.1 (refl, goes.structure, goes.fits)
   value_passed at type (SetValue e from) line l a t h q = absurd (no_yes q)
 
   variable_passed : (at : ℕ) (type : DataType) (v : Variable) (a : Argument) → TypeKnown D (bound_of k) type
-      → VariableTold D k os v → by_variable at type v ≡ Yes a → ArgumentSound k os a (Reference (shape_of type))
+      → VariableTold D k os v → by_variable at type v ≡ Yes a → ArgumentFits k os a (Reference (shape_of type))
   unfolding by_variable
   variable_passed at type v a t told q =
       let o = if_yes (is_same_type v.type type) _ _ _ a q in
       let p = provided_yes (not v.in_packed) _ _ (ByVariable v.place) a o.1 in
       let whole = go told.byte refl (not-true v.in_packed p.0) in
       let same = same_shape D (bound_of k) (bound_of k) v.type type told.known t o.0 in
-      subst (λ x. ArgumentSound k os x (Reference (shape_of type))) p.1
-      (let x = subst (λ s. PlaceSound k os v.place (Whole s)) same
-      (subst (λ b. PlaceSound k os v.place (part_of b v.type)) whole told.fits)
-      in ((shape_of type, refl, x.0), x.1))
+      subst (λ x. ArgumentFits k os x (Reference (shape_of type))) p.1 (
+        shape_of type,
+        refl,
+        subst (λ s. PlaceFits k os v.place (Whole s)) same
+            (subst (λ b. PlaceFits k os v.place (part_of b v.type)) whole told.fits),
+      )
     where
       go : (b : Bool) → told.byte ≡ b → v.in_packed ≡ false → told.byte ≡ false
       go false e f = e
@@ -257,7 +263,7 @@ module _ (D : Table) (k : Scope) (os : List Shape) where
 
   routine_passed : (at : ℕ) (sections : Sections) (result : Option DataType) (p : Point) (a : Argument) → SectionKnown D
       (bound_of k) (RoutineSection sections result) → PointStands D k os p → by_routine at sections result p ≡ Yes a
-      → ArgumentSound k os a (Closure (kinds_of (formals_of sections)) (result_shape result))
+      → ArgumentFits k os a (Closure (kinds_of (formals_of sections)) (result_shape result))
   unfolding by_routine
   routine_passed at sections result (BlockPoint up (RoutineMeaning h)) a s st q =
       let p = provided_yes (congruous sections h.sections && are_one_type result h.result) _ _
@@ -267,14 +273,11 @@ module _ (D : Table) (k : Scope) (os : List Shape) where
       (left (congruous sections h.sections) (are_one_type result h.result) p.0) in
       let results = same_results D (bound_of k) result h.result s.1 st.0.1
       (right (congruous sections h.sections) (are_one_type result h.result) p.0) in
-      subst (λ x. ArgumentSound k os x (Closure (kinds_of (formals_of sections)) (result_shape result))) p.1 (
-        (
-          there.at,
-          ap (λ z. Closure z (result_shape result)) (kinds ∙ ap kinds_of (sym there.is.formals))
-              ∙ ap (λ z. Closure (kinds_of (routine_at k.program h.number).formals) z)
-              (results ∙ ap result_shape (sym there.is.result)),
-        ),
-        tt,
+      subst (λ x. ArgumentFits k os x (Closure (kinds_of (formals_of sections)) (result_shape result))) p.1 (
+        there.at,
+        ap (λ z. Closure z (result_shape result)) (kinds ∙ ap kinds_of (sym there.is.formals))
+            ∙ ap (λ z. Closure (kinds_of (routine_at k.program h.number).formals) z)
+            (results ∙ ap result_shape (sym there.is.result)),
       )
   routine_passed at sections result (BlockPoint up (RoutineParameterMeaning entry x r)) a s st q =
       let p = provided_yes (congruous sections x && are_one_type result r) _ _ (ByFormal up entry) a q in
@@ -283,29 +286,25 @@ module _ (D : Table) (k : Scope) (os : List Shape) where
       (left (congruous sections x) (are_one_type result r) p.0) in
       let results = same_results D (bound_of k) result r s.1 st.0.1
       (right (congruous sections x) (are_one_type result r) p.0) in
-      subst (λ y. ArgumentSound k os y (Closure (kinds_of (formals_of sections)) (result_shape result))) p.1 (
+      subst (λ y. ArgumentFits k os y (Closure (kinds_of (formals_of sections)) (result_shape result))) p.1 (
+        there.0,
         (
-          there.0,
+          kinds_of (formals_of x),
           (
-            kinds_of (formals_of x),
-            (
-              result_shape r,
-              ap (λ z. Closure z (result_shape result)) kinds
-                  ∙ ap (λ z. Closure (kinds_of (formals_of x)) z) results,
-              there.1,
-            ),
+            result_shape r,
+            ap (λ z. Closure z (result_shape result)) kinds ∙ ap (λ z. Closure (kinds_of (formals_of x)) z) results,
+            there.1,
           ),
         ),
-        tt,
       )
   routine_passed at sections result (FieldPoint which record_type number type) a s st q = absurd (no_yes q)
   routine_passed at sections result (BlockPoint up m) a s st q = absurd (no_yes q)
 
   pub ordinal_told : (at : ℕ) (v : Value) (x : Expr × Ordinal) → ValueTold D k os v → ordinal_of at v ≡ Yes x
-      → OrdinalKnown D x.1 × ExprSound k os x.0 NumberSort
+      → OrdinalKnown D x.1 × ExprFits k os x.0 NumberSort
   unfolding ordinal_of
   ordinal_told at (SimpleValue e (OrdinalType o)) x h q = subst
-      (λ y. OrdinalKnown D y.1 × ExprSound k os y.0 NumberSort) (inside_yes _ x q) h
+      (λ y. OrdinalKnown D y.1 × ExprFits k os y.0 NumberSort) (inside_yes _ x q) h
   ordinal_told at (SimpleValue e (PointerType n)) x h q = absurd (no_yes q)
   ordinal_told at (SimpleValue e NilType) x h q = absurd (no_yes q)
   ordinal_told at (SimpleValue e type) x h q = absurd h
@@ -314,7 +313,7 @@ module _ (D : Table) (k : Scope) (os : List Shape) where
 
   module _ (c : Context) (Γ : List Region) (here : Here c Γ D k os) where
     pub actual_told : (s : Section) (x : Operand) (a : Argument) → SectionKnown D (bound_of k) s → OperandTold D k os x
-        → Gives (actual c Γ s x) a → ArgumentSound k os a (kind_of_section s)
+        → Gives (actual c Γ s x) a → ArgumentFits k os a (kind_of_section s)
     unfolding actual
     actual_told (ValueSection n type) x a t told q =
         let v = then_still x.value _ a q in
@@ -327,7 +326,7 @@ module _ (D : Table) (k : Scope) (os : List Shape) where
     actual_told (RoutineSection sections result) x a t told q = named x.name
         (still_gives (named_routine c Γ sections result x.first x.name) a q)
       where
-        named : (name : Option Span) → named_routine c Γ sections result x.first name ≡ Yes a → ArgumentSound k os a
+        named : (name : Option Span) → named_routine c Γ sections result x.first name ≡ Yes a → ArgumentFits k os a
             (Closure (kinds_of (formals_of sections)) (result_shape result))
         named None e = absurd (no_yes e)
         named (Some name) e =
@@ -336,12 +335,12 @@ module _ (D : Table) (k : Scope) (os : List Shape) where
 
     arguments_listed : (ss : List Section) (xs : List Operand) (args : List Argument) → Each
         (SectionKnown D (bound_of k)) ss → Each (OperandTold D k os) xs → ImagesBoth (actual c Γ) ss xs args
-        → ArgumentsSound k os (argument_list args) (kinds_listed ss)
-    arguments_listed [] [] [] t told q = (refl, tt)
-    arguments_listed (s ∷ ss) (x ∷ xs) (a ∷ args) t told q =
-        let one = actual_told s x a t.0 told.0 q.0 in
-        let others = arguments_listed ss xs args t.1 told.1 q.1 in
-        ((kind_of_section s, (kinds_listed ss, refl, one.0, others.0)), (one.1, others.1))
+        → ArgumentsFit k os (argument_list args) (kinds_listed ss)
+    arguments_listed [] [] [] t told q = refl
+    arguments_listed (s ∷ ss) (x ∷ xs) (a ∷ args) t told q = (
+      kind_of_section s,
+      (kinds_listed ss, refl, actual_told s x a t.0 told.0 q.0, arguments_listed ss xs args t.1 told.1 q.1),
+    )
     arguments_listed [] [] (a ∷ args) t told q = absurd q
     arguments_listed [] (x ∷ xs) args t told q = absurd q
     arguments_listed (s ∷ ss) [] args t told q = absurd q
@@ -349,8 +348,8 @@ module _ (D : Table) (k : Scope) (os : List Shape) where
 
     pub arguments_told : (at : ℕ) (sections : Sections) (xs : List Operand) (args : List Argument) → SectionsKnown D
         (bound_of k) sections → Each (OperandTold D k os) xs → Gives (actuals c Γ at sections xs) args
-        → ArgumentsSound k os (argument_list args) (kinds_of (formals_of sections))
-    arguments_told at sections xs args t told q = subst (ArgumentsSound k os (argument_list args))
+        → ArgumentsFit k os (argument_list args) (kinds_of (formals_of sections))
+    arguments_told at sections xs args t told q = subst (ArgumentsFit k os (argument_list args))
         (sym (kinds_are sections)) (arguments_listed (parameters sections) xs args
         (parameters_known D (bound_of k) sections t) told
         (congruent_gives at (actual c Γ) (parameters sections) xs args q))
@@ -376,7 +375,7 @@ module _ (D : Table) (k : Scope) (os : List Shape) where
     function_told r o g h q = absurd (none_some q)
 
     applied_told : (at : ℕ) (r : Required) (line : ℕ) → IsLine line → (x : Expr × Ordinal)
-        (o : Option (RequiredFunction × Ordinal)) (v : Value) → ExprSound k os x.0 NumberSort
+        (o : Option (RequiredFunction × Ordinal)) (v : Value) → ExprFits k os x.0 NumberSort
         → ((g : RequiredFunction × Ordinal) → o ≡ Some g → FunctionFits g.0 × OrdinalKnown D g.1)
         → applied at r line x o ≡ Yes v → ValueTold D k os v
     applied_told at r line l x None v h t q = absurd (no_yes q)
@@ -386,7 +385,7 @@ module _ (D : Table) (k : Scope) (os : List Shape) where
             → ValueTold D k os v
         go true e = absurd (no_yes e)
         go false e = let told = t g refl in subst (ValueTold D k os) (inside_yes _ v e)
-            (told.1, ((refl, told.0, h.0), (h.1, l)))
+            (told.1, (refl, told.0, h, l))
 
     required_told : (at : ℕ) (r : Required) (line : ℕ) → IsLine line → (v w : Value) → ValueTold D k os v
         → required_value at r line v ≡ Yes w → ValueTold D k os w
@@ -399,9 +398,9 @@ module _ (D : Table) (k : Scope) (os : List Shape) where
     look_told : (r : Required) (line : ℕ) → IsLine line → (v : Value) → look r line ≡ Some v → ValueTold D k os v
     unfolding look
     look_told required.Eof line l v q = subst (ValueTold D k os) (inside _ v q)
-        (boolean_known D, ((refl, here.outermost), tt))
+        (boolean_known D, (refl, here.outermost))
     look_told required.Eoln line l v q = subst (ValueTold D k os) (inside _ v q)
-        (boolean_known D, ((refl, here.outermost), l))
+        (boolean_known D, (refl, here.outermost, l))
     look_told r line l v q = absurd (none_some q)
 
     alone_told : (at : ℕ) (r : Required) (line : ℕ) → IsLine line → (o : Option Value) → look r line ≡ o → (v : Value)
@@ -433,7 +432,7 @@ module _ (D : Table) (k : Scope) (os : List Shape) where
     -- ---- calls of functions
 
     result_told : (type : DataType) (e : Expr) → ResultKnown D (bound_of k) (Some type)
-        → ((sort : _) → SortOf (Whole (shape_of type)) sort → ExprSound k os e sort) → SimpleTold D k os e type
+        → ((sort : _) → SortOf (Whole (shape_of type)) sort → ExprFits k os e sort) → SimpleTold D k os e type
     result_told (OrdinalType o) e h g = (h.1, g NumberSort refl)
     result_told (PointerType n) e h g = (h.1, g (PointerSort n) refl)
     result_told type e h g = absurd h.0
@@ -451,13 +450,10 @@ module _ (D : Table) (k : Scope) (os : List Shape) where
         subst (ValueTold D k os) args.2 (result_told type.0
         (Call h.number up (argument_list args.0) (line_in c.text at)) (subst (ResultKnown D (bound_of k)) is st.0.1)
         (λ sort s. (
-          (
-            there.at,
-            (shape_of type.0, result, s),
-            (subst (λ fs. ArgumentsSound k os (argument_list args.0) (kinds_of fs))
-                (sym there.is.formals) arguments).0,
-          ),
-          (arguments.1, line_there c.text at here.lines),
+          there.at,
+          (shape_of type.0, result, s),
+          subst (λ fs. ArgumentsFit k os (argument_list args.0) (kinds_of fs)) (sym there.is.formals) arguments,
+          line_there c.text at here.lines,
         )))
     called_told at (BlockPoint up (RoutineParameterMeaning entry sections result)) xs v st told q =
         let type = still_then (some_or WrongKind at result) _ v q in
@@ -469,19 +465,17 @@ module _ (D : Table) (k : Scope) (os : List Shape) where
         (CallFormal up entry (argument_list args.0) (line_in c.text at))
         (subst (ResultKnown D (bound_of k)) is st.0.1)
         (λ sort s. (
+          there.0,
           (
-            there.0,
+            kinds_of (formals_of sections),
             (
-              kinds_of (formals_of sections),
-              (
-                shape_of type.0,
-                there.1 ∙ ap (λ r. Some (Closure (kinds_of (formals_of sections)) (result_shape r))) is,
-                s,
-              ),
-              arguments.0,
+              shape_of type.0,
+              there.1 ∙ ap (λ r. Some (Closure (kinds_of (formals_of sections)) (result_shape r))) is,
+              s,
             ),
+            arguments,
           ),
-          (arguments.1, line_there c.text at here.lines),
+          line_there c.text at here.lines,
         )))
     called_told at (BlockPoint up (RequiredMeaning r)) xs v st told q = required_called at r xs v told q
     called_told at (BlockPoint up m) xs v st told q = absurd (no_yes q.given)

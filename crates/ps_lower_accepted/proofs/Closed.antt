@@ -6,7 +6,8 @@ use Rattle.ps_parse_grammar.specs.Symbols.{Tokens}
 use Rattle.ps_tree.specs.Tree as Tree
 use Rattle.ps_tree.specs.Tree.{Program, routine_at}
 use Rattle.ps_lower_layout.specs.Frames.{variable_kinds, entries}
-use Rattle.ps_lower_accepted.proofs.Tidy.{StatementsSound, RoutineSound}
+use Rattle.ps_lower_code.specs.Fits.{StatementsFit}
+use Rattle.ps_lower_accepted.proofs.Sound.{RoutineSound}
 use Rattle.ps_check_judgement.specs.declared.change.Change.{Change}
 use Rattle.ps_check_names.specs.Regions.{BlockRegion, Meaning, RoutineMeaning, Heading}
 use Rattle.ps_check_declarations.specs.Denoters.{Frame}
@@ -104,7 +105,8 @@ module _ (own : ℕ) (rest : List ℕ) (f : Frame) (base : ℕ) (begun : List Me
             (λ l. absurd (none_some (sym (reading.fresh i l) ∙ e)))
 
     -- in the program
-    module _ (P : Program) (F : Table) (final : Final P F told.table (closed h done)) (targets : Targets P F) (stand : Each (MeaningStands P (own ∷ rest)) s.known) (blocks : BlocksStand P F f.outer rest) where
+    module _ (P : Program) (F : Table) (final : Final P F told.table (closed h done)) (targets : Targets P F)
+        (stand : Each (MeaningStands P (own ∷ rest)) s.known) (blocks : BlocksStand P F f.outer rest) where
       before : Final P F D s.gathered
       before = final_before P F D told.table s.gathered (closed h done) told.extends all_grow final
 
@@ -126,7 +128,7 @@ module _ (own : ℕ) (rest : List ℕ) (f : Frame) (base : ℕ) (begun : List Me
             (subst (λ n. Each (IsOwn n done.variables) ms) first_is k);
       }
 
-      inner_fits : AllFit P (length s.gathered.routines) done.gathered × StatementsSound (record {
+      inner_fits : AllFit P (length s.gathered.routines) done.gathered × StatementsFit (record {
         program = P;
         chain = h.number ∷ own ∷ rest;
         opened = [];
@@ -149,10 +151,9 @@ module _ (own : ℕ) (rest : List ℕ) (f : Frame) (base : ℕ) (begun : List Me
           variables = variables_fit F (length P.domains) done.variables
               (types_all_more told.table F within.extends (length done.gathered.domains) (length P.domains)
               (all_domains P F told.table done.gathered within) done.variables told.variables);
-          body = inner_fits.1.0;
+          body = inner_fits.1;
         };
         line = told.line;
-        tidy = inner_fits.1.1;
       }
 
       closed_fits : AllFit P base (closed h done)

@@ -330,7 +330,9 @@ module _ (f : Frame) where
         → AreOrdered middle high ts → EndsBefore low D → Known f D d → structure f x packed hidden d ≡ Yes (type, e)
         → TypeBehind f low high r D d e type
 
-    module _ (index : Symbol syntax.Ordinal) (index_is : (x : syntax.Ordinal) (ts r : Tokens) → index x ts r → IsOrdinal x ts r) (symbol : Symbol TypeDenoter) (tells : TypeTells symbol) where
+    module _ (index : Symbol syntax.Ordinal)
+        (index_is : (x : syntax.Ordinal) (ts r : Tokens) → index x ts r → IsOrdinal x ts r)
+        (symbol : Symbol TypeDenoter) (tells : TypeTells symbol) where
       field_read : (x : Fields) (ts r : Tokens) → IsFields symbol x ts r → (own : List (List ℕ)) (hidden : Hidden)
           (low high : ℕ) (D : Table) (d : Declared) (s t : FieldTypes × Declared) → Behind f low high ts D d s.1
           (TypesThere s.0) → add_fields f own hidden s (fields f x) ≡ Yes t → Behind f low high r D d t.1

@@ -218,7 +218,8 @@ own_stands P r chain kinds variables e (VariableMeaning entry type) k =
 own_stands P r chain kinds variables e m k = absurd k
 
 -- the entries of a routine are in the program
-module _ (P : Program) (r : ℕ) (chain : List ℕ) (kinds : List Kind) (variables : List DataType) (e : entries (routine_at P r) ≡ kinds ++ variable_kinds variables) where
+module _ (P : Program) (r : ℕ) (chain : List ℕ) (kinds : List Kind) (variables : List DataType)
+    (e : entries (routine_at P r) ≡ kinds ++ variable_kinds variables) where
   pub all_among : (ms : List Meaning) → Each (IsAmong kinds) ms → Each (MeaningStands P (r ∷ chain)) ms
   all_among ms k = each_map (IsAmong kinds) (MeaningStands P (r ∷ chain))
       (among_stands P r chain kinds (variable_kinds variables) e) ms k

@@ -22,7 +22,8 @@ use Rattle.tac_code.specs.Numbers.{is_integer}
 use Rattle.ps_lower_layout.specs.Shapes.{Shape}
 use Rattle.ps_lower_code.specs.Scopes.{Scope}
 use Rattle.tac_code.specs.Sound.{IsLine}
-use Rattle.ps_lower_accepted.proofs.Tidy.{line_there, MembersSound, MemberSound}
+use Rattle.ps_lower_code.specs.Fits.{MembersFit, MemberFits}
+use Rattle.ps_lower_accepted.proofs.Sound.{line_there}
 use Rattle.ps_check_names.specs.Constants.{integer, OrdinalConstant, TextConstant, number_at, text_constant}
 use Rattle.ps_check_judgement.specs.declared.refusal.Rule.TheVariants.{WrongKind}
 use Rattle.ps_check_judgement.specs.Judged.{Yes, No}
@@ -86,18 +87,18 @@ module _ (D : Table) (k : Scope) (os : List Shape) where
   -- ---- set constructors (6.7.1)
 
   abbrev MemberTold : TypedMember → Type 0
-  MemberTold t = MemberSound k os t.0
+  MemberTold t = MemberFits k os t.0
 
   abbrev SeenTold : SeenMember → Type 0
   SeenTold x = (t : TypedMember) → Gives x.member t → MemberTold t
 
-  members_after : (ms : List Tree.Member) (t : Tree.Member) → MembersSound k os (member_list ms) → MemberSound k os t
-      → MembersSound k os (member_list (ms ++ t ∷ []))
-  members_after [] t h g = ((g.0, tt), (g.1, tt))
-  members_after (x ∷ ms) t h g = let r = members_after ms t (h.0.1, h.1.1) g in ((h.0.0, r.0), (h.1.0, r.1))
+  members_after : (ms : List Tree.Member) (t : Tree.Member) → MembersFit k os (member_list ms) → MemberFits k os t
+      → MembersFit k os (member_list (ms ++ t ∷ []))
+  members_after [] t h g = (g, tt)
+  members_after (x ∷ ms) t h g = (h.0, members_after ms t h.1 g)
 
   abbrev GatheredTold : Gathered → Type 0
-  GatheredTold g = MembersSound k os (member_list g.0)
+  GatheredTold g = MembersFit k os (member_list g.0)
 
   gathered_told : (at : ℕ) (x : Gathered) (t : TypedMember) (y : Gathered) → GatheredTold x → MemberTold t
       → gathered at x t ≡ Yes y → GatheredTold y
@@ -122,13 +123,13 @@ module _ (D : Table) (k : Scope) (os : List Shape) where
   set_told : (ts : List SeenMember) (v : Value) → Each SeenTold ts → Gives (set_value ts) v → ValueTold D k os v
   set_told ts v h q =
       let x = then_same (through gather ([], None) ts) _ v q in
-      subst (ValueTold D k os) x.2 (constructed_told x.0 (all_gathered ([], None) ts x.0 (tt, tt) h x.1))
+      subst (ValueTold D k os) x.2 (constructed_told x.0 (all_gathered ([], None) ts x.0 tt h x.1))
 
   single_told : (at : ℕ) (v : Value) (line : ℕ) → IsLine line → ValueTold D k os v → (t : TypedMember)
       → single at v line ≡ Yes t → MemberTold t
   single_told at v line l h t q =
       let a = then_yes (ordinal_of at v) _ t q in
-      subst MemberTold (inside_yes _ t a.2) (let x = (ordinal_told D k os at v a.0 h a.1).1 in (x.0, (x.1, l)))
+      subst MemberTold (inside_yes _ t a.2) ((ordinal_told D k os at v a.0 h a.1).1, l)
 
   several_told : (at : Operands) (v w : Value) (line : ℕ) → IsLine line → ValueTold D k os v → ValueTold D k os w
       → (t : TypedMember) → several_members at v w line ≡ Yes t → MemberTold t
@@ -137,14 +138,14 @@ module _ (D : Table) (k : Scope) (os : List Shape) where
       let b = then_yes (ordinal_of at.second w) _ t a.2 in
       let x = (ordinal_told D k os at.first v a.0 h a.1).1 in
       let y = (ordinal_told D k os at.second w b.0 g b.1).1 in
-      subst MemberTold (provided_yes _ _ _ _ t b.2).1 ((x.0, y.0), (x.1, y.1, l))
+      subst MemberTold (provided_yes _ _ _ _ t b.2).1 (x, y, l)
 
   -- ---- constants
 
   constant_number : (at : ℕ) (n : ℤ) (v : Value) → IsTrue (is_integer n) → constant_value at (OrdinalConstant integer n)
       ≡ Yes v → ValueTold D k os v
   unfolding constant_value
-  constant_number at n v h q = subst (ValueTold D k os) (inside_yes _ v q) (integer_known D, ((refl, h), tt))
+  constant_number at n v h q = subst (ValueTold D k os) (inside_yes _ v q) (integer_known D, (refl, h))
 
   module _ (c : Context) (Γ : List Region) (here : Here c Γ D k os) where
     text_there : (at : Span) → IsText (characters (bytes_at c.text at))
@@ -155,7 +156,7 @@ module _ (D : Table) (k : Scope) (os : List Shape) where
     unfolding constant_value
     constant_text at [] v h q = subst (ValueTold D k os) (inside_yes _ v q) (refl, h)
     constant_text at (a ∷ []) v h q = subst (ValueTold D k os) (inside_yes _ v q)
-        (char_known D, ((refl, lt-ltb a 2147483648 (let l = h.bytes.0 in omega (arith, l))), tt))
+        (char_known D, (refl, lt-ltb a 2147483648 (let l = h.bytes.0 in omega (arith, l))))
     constant_text at (a ∷ b ∷ rest) v h q = subst (ValueTold D k os) (provided_yes _ _ _ _ v q).1 (refl, h)
 
     -- ---- names
@@ -164,7 +165,7 @@ module _ (D : Table) (k : Scope) (os : List Shape) where
         → ValueTold D k os v
     unfolding standing constant_value
     standing_told at (BlockPoint up (ConstantMeaning o n)) v st q = subst (ValueTold D k os)
-        (inside_yes _ v (still_gives (constant_value at (OrdinalConstant o n)) v q)) (st.0.0, ((refl, st.0.1), tt))
+        (inside_yes _ v (still_gives (constant_value at (OrdinalConstant o n)) v q)) (st.0.0, (refl, st.0.1))
     standing_told at (BlockPoint up (TextMeaning w)) v st q = subst (ValueTold D k os)
         (provided_yes _ _ _ _ v (still_gives (constant_value at (TextConstant w)) v q)).1 (refl, st.0)
     standing_told at (BlockPoint up (VariableMeaning entry type)) v st q =
@@ -337,7 +338,7 @@ module _ (D : Table) (k : Scope) (os : List Shape) where
             (plain_told at.from _ (λ v q. constant_text at.from (characters (bytes_at c.text at)) v (text_there at)
             (still_gives _ v q)))
         factors_tell x ts r (g.nil {at = at}) = subst (OperandTold D k os) (sym (factor_nil c Γ at))
-            (plain_told at.from _ (λ v q. subst (ValueTold D k os) (same_gives _ v q) (λ n. ((n, refl), tt))))
+            (plain_told at.from _ (λ v q. subst (ValueTold D k os) (same_gives _ v q) (λ n. (n, refl))))
         factors_tell x ts r (g.empty {left = at}) = subst (OperandTold D k os) (sym (factor_set c Γ at []))
             (plain_told at.from _ (λ v q. set_told [] v tt q))
         factors_tell x ts r (g.set {left = at} {xs = xs} d) = subst (OperandTold D k os) (sym (factor_set c Γ at xs))

@@ -11,7 +11,7 @@ use Rattle.ps_lower_calls.specs.Routines.{ResultFits}
 use Rattle.ps_check_names.specs.Regions.{formals_of, Heading}
 use Rattle.ps_check.specs.Readings.{Gathered}
 use Rattle.ps_lower_accepted.proofs.Lists.{Each, none_some, inside}
-use Rattle.ps_lower_accepted.proofs.Tidy.{RoutineSound}
+use Rattle.ps_lower_accepted.proofs.Sound.{RoutineSound}
 use Rattle.ps_lower_accepted.proofs.Tables.{Table, Extends, extends_both, TypeKnown}
 use Rattle.ps_lower_accepted.proofs.Standing.{ResultKnown, IsDeclared}
 use Rattle.ps_lower_accepted.proofs.Firsts.{first_fits}

@@ -18,7 +18,8 @@ use Rattle.ps_tree.specs.Types.{DataType}
 use Rattle.ps_tree.specs.Tree as Tree
 use Rattle.ps_tree.specs.Tree.{Program}
 use Rattle.ps_lower_code.specs.Fits.{outermost_of}
-use Rattle.ps_lower_accepted.proofs.Tidy.{line_there, StatementsSound}
+use Rattle.ps_lower_code.specs.Fits.{StatementsFit}
+use Rattle.ps_lower_accepted.proofs.Sound.{line_there}
 use Rattle.tac_code.specs.Sound.{IsLine}
 use Rattle.ps_check_judgement.specs.declared.change.Change.{Change}
 use Rattle.ps_check_judgement.specs.declared.refusal.Rule.TheVariants.{ForwardOpen}
@@ -56,7 +57,8 @@ vacant_not : (o : Option Tree.Routine) → not (is_vacant (Some o)) ≡ true →
 vacant_not None e = never e
 vacant_not (Some x) e = (x, refl)
 
-module _ (own : ℕ) (rest : List ℕ) (f : Frame) (base : ℕ) (begun : List Meaning) (r : Routines) (D : Table) (reading : Reading own rest f base begun r D) (P : Program) (F : Table) (final : Final P F D r.gathered) where
+module _ (own : ℕ) (rest : List ℕ) (f : Frame) (base : ℕ) (begun : List Meaning) (r : Routines) (D : Table)
+    (reading : Reading own rest f base begun r D) (P : Program) (F : Table) (final : Final P F D r.gathered) where
   one_declared : (m : Meaning) → IsNumbered reading.headings base (length r.gathered.routines) m → (u v : Unit {0})
       → one_complete r.gathered u m ≡ Yes v → IsDeclaredIf P (own ∷ rest) m
   unfolding one_complete
@@ -163,7 +165,8 @@ module _ (own : ℕ) (rest : List ℕ) (names : List (List ℕ)) (text : List �
       (ss : List syntax_statement.Statement) (vs r : Tokens) (body : Tree.Statements)
       (sequence : IsSequence (statement_within n) ss vs r)
       (u : Unit {0}) (complete : all_complete t.gathered t.known ≡ Yes u) (read : Gives (statements (of_statements c t.gathered.domains t.changes) (BlockRegion own names t.known ∷ outer) ss) body) where
-    module _ (P : Program) (F : Table) (final : Final P F step.table t.gathered) (targets : Targets P F) (blocks : BlocksStand P F outer rest) (stand : OwnStand P (own ∷ rest) first known e.variables) where
+    module _ (P : Program) (F : Table) (final : Final P F step.table t.gathered) (targets : Targets P F)
+        (blocks : BlocksStand P F outer rest) (stand : OwnStand P (own ∷ rest) first known e.variables) where
       begun_stand : Each (MeaningStands P (own ∷ rest)) e.known
       begun_stand = subst (Each (MeaningStands P (own ∷ rest))) (sym declares.known)
           (each_append (MeaningStands P (own ∷ rest)) known declares.new stand.begun
@@ -194,7 +197,7 @@ module _ (own : ℕ) (rest : List ℕ) (names : List (List ℕ)) (text : List �
         lines = lines;
       }
 
-      body_fits : AllFit P (length g.routines) t.gathered × StatementsSound (record {
+      body_fits : AllFit P (length g.routines) t.gathered × StatementsFit (record {
         program = P;
         chain = own ∷ rest;
         opened = [];
@@ -246,7 +249,8 @@ module _ (own : ℕ) (rest : List ℕ) (names : List (List ℕ)) (text : List �
 
 -- ---- blocks
 
-module _ (declarations_tell : DeclarationsTell) (c : Context) (bytes : Each (λ b. b < 256) c.text) (short : length c.text ≤ 1048576) (lines : line_count c.text ≤ 65535) (is_forward : Span → Bool) where
+module _ (declarations_tell : DeclarationsTell) (c : Context) (bytes : Each (λ b. b < 256) c.text)
+    (short : length c.text ≤ 1048576) (lines : line_count c.text ≤ 65535) (is_forward : Span → Bool) where
   module _ (n : ℕ) (symbol : Symbol syntax_block.Block) (tells : BlockTells c symbol) where
     block_tells : BlockTells c (p.IsBlock is_forward (type_within n) (heading_within n) (statement_within n) symbol)
     unfolding block_step declared block_body own_number

@@ -1,7 +1,6 @@
 pub mod Lists
-pub mod Tidy
+pub mod Sound
 pub mod Counts
-pub mod Formed
 pub mod Tables
 pub mod Same
 pub mod Standing

@@ -10,12 +10,12 @@ use Rattle.ps_syntax.specs.declared.expression.Multiplying.TheVariants as multip
 use Rattle.ps_syntax.specs.declared.expression.Relational.{Relational}
 use Rattle.ps_tree.specs.declared.types.Host.{Host}
 use Rattle.ps_tree.specs.declared.types.Host.TheVariants.{Integer, Boolean}
-use Rattle.ps_tree.specs.declared.tree.ArithmeticOperator.{ArithmeticOperator}
-use Rattle.ps_tree.specs.declared.tree.ArithmeticOperator.TheVariants.{Add, Subtract, Multiply, Div, Mod}
-use Rattle.ps_tree.specs.declared.tree.BooleanOperator.{BooleanOperator}
-use Rattle.ps_tree.specs.declared.tree.BooleanOperator.TheVariants.{And, Or}
-use Rattle.ps_tree.specs.declared.tree.SetOperator.{SetOperator}
-use Rattle.ps_tree.specs.declared.tree.SetOperator.TheVariants.{Union, Difference, Intersection}
+use Rattle.ps_tree.specs.declared.tree.operators.ArithmeticOperator.{ArithmeticOperator}
+use Rattle.ps_tree.specs.declared.tree.operators.ArithmeticOperator.TheVariants.{Add, Subtract, Multiply, Div, Mod}
+use Rattle.ps_tree.specs.declared.tree.operators.BooleanOperator.{BooleanOperator}
+use Rattle.ps_tree.specs.declared.tree.operators.BooleanOperator.TheVariants.{And, Or}
+use Rattle.ps_tree.specs.declared.tree.operators.SetOperator.{SetOperator}
+use Rattle.ps_tree.specs.declared.tree.operators.SetOperator.TheVariants.{Union, Difference, Intersection}
 use Rattle.ps_tree.specs.Types.{DataType, OrdinalType, PointerType, NilType, SetType, EmptySetType, is_same_host}
 use Rattle.ps_tree.specs.Types.{are_same, is_same_type, is_compatible, string_length}
 use Rattle.ps_tree.specs.Tree.{ArithmeticSteps, no_arithmetic_step, arithmetic_step_before, Operands, no_operand}
@@ -25,7 +25,7 @@ use Rattle.ps_tree.specs.Tree.{Combine}
 use Rattle.ps_lower_layout.specs.Shapes.{Shape}
 use Rattle.ps_lower_layout.specs.Paths.{NumberSort, PointerSort}
 use Rattle.ps_lower_code.specs.Scopes.{Scope}
-use Rattle.ps_lower_accepted.proofs.Tidy.{ExprSound, StepsSound, OperandsSound, SetSound, SetStepsSound}
+use Rattle.ps_lower_code.specs.Fits.{ExprFits, StepsFit, OperandsFit, SetFits, SetStepsFit}
 use Rattle.tac_code.specs.Sound.{IsLine}
 use Rattle.ps_check_judgement.specs.Judged.{Yes, ◌>>=◌}
 use Rattle.ps_check_judgement.proofs.Binds.{then_yes, provided_yes, if_yes, inside_yes, no_yes}
@@ -51,19 +51,19 @@ pub boolean_known : (D : Table) → OrdinalKnown D boolean
 boolean_known D = record { low = refl; high = refl; rises = refl; host = tt; subrange = refl }
 
 module _ (D : Table) (k : Scope) (os : List Shape) where
-  pub number_told : (e : Expr) → ExprSound k os e NumberSort → ValueTold D k os (number e)
+  pub number_told : (e : Expr) → ExprFits k os e NumberSort → ValueTold D k os (number e)
   number_told e f = (integer_known D, f)
 
-  pub truth_told : (e : Expr) → ExprSound k os e NumberSort → ValueTold D k os (truth e)
+  pub truth_told : (e : Expr) → ExprFits k os e NumberSort → ValueTold D k os (truth e)
   truth_told e f = (boolean_known D, f)
 
   -- ---- operands of a host type
 
   pub operand_told : (host : Host) (at : ℕ) (v : Value) (e : Expr) → ValueTold D k os v → operand_of host at v ≡ Yes e
-      → ExprSound k os e NumberSort
+      → ExprFits k os e NumberSort
   unfolding operand_of
   operand_told host at (SimpleValue x (OrdinalType o)) e h q = let p = provided_yes (is_same_host o.host host) _ _ x e q
-      in subst (λ y. ExprSound k os y NumberSort) p.1 h.1
+      in subst (λ y. ExprFits k os y NumberSort) p.1 h.1
   operand_told host at (SimpleValue x (PointerType n)) e h q = absurd (no_yes q)
   operand_told host at (SimpleValue x NilType) e h q = absurd (no_yes q)
   operand_told host at (SimpleValue x type) e h q = absurd h
@@ -78,66 +78,62 @@ module _ (D : Table) (k : Scope) (os : List Shape) where
   sign_told at sign.Plus line l v w h q =
       let a = then_yes (operand_of Integer at v) (λ e. Yes (number (Plus e))) w q in
       subst (ValueTold D k os) (inside_yes (number (Plus a.0)) w a.2)
-      (number_told (Plus a.0) (let x = operand_told Integer at v a.0 h a.1 in ((refl, x.0), x.1)))
+      (number_told (Plus a.0) (refl, operand_told Integer at v a.0 h a.1))
   sign_told at sign.Minus line l v w h q =
       let a = then_yes (operand_of Integer at v) (λ e. Yes (number (Minus e line))) w q in
       subst (ValueTold D k os) (inside_yes (number (Minus a.0 line)) w a.2)
-      (number_told (Minus a.0 line) (let x = operand_told Integer at v a.0 h a.1 in ((refl, x.0), (x.1, l))))
+      (number_told (Minus a.0 line) (refl, operand_told Integer at v a.0 h a.1, l))
 
   pub negated_told : (at : ℕ) (v w : Value) → ValueTold D k os v → negated at v ≡ Yes w → ValueTold D k os w
   unfolding negated
   negated_told at v w h q =
       let a = then_yes (operand_of Boolean at v) (λ e. Yes (truth (Not e))) w q in
       subst (ValueTold D k os) (inside_yes (truth (Not a.0)) w a.2)
-      (truth_told (Not a.0) (let x = operand_told Boolean at v a.0 h a.1 in ((refl, x.0), x.1)))
+      (truth_told (Not a.0) (refl, operand_told Boolean at v a.0 h a.1))
 
   -- ---- chains
 
   steps_after : (steps : ArithmeticSteps) (operator : ArithmeticOperator) (e : Expr) (line : ℕ) → IsLine line
-      → StepsSound k os steps → ExprSound k os e NumberSort → StepsSound k os
+      → StepsFit k os steps → ExprFits k os e NumberSort → StepsFit k os
       (arithmetic_step_after steps operator e line)
   unfolding arithmetic_step_after
-  steps_after no_arithmetic_step operator e line l h f = ((f.0, tt), (f.1, l, tt))
-  steps_after (arithmetic_step_before p first n rest) operator e line l h f = let r = steps_after rest operator e line l
-      (h.0.1, h.1.2) f in ((h.0.0, r.0), (h.1.0, h.1.1, r.1))
+  steps_after no_arithmetic_step operator e line l h f = (f, tt, l)
+  steps_after (arithmetic_step_before p first n rest) operator e line l h f =
+      (h.0, steps_after rest operator e line l h.1 f, h.2)
 
   calculated_fits : (operator : ArithmeticOperator) (line : ℕ) → IsLine line → (a b : Expr)
-      → ExprSound k os a NumberSort → ExprSound k os b NumberSort → ExprSound k os
+      → ExprFits k os a NumberSort → ExprFits k os b NumberSort → ExprFits k os
       (calculated operator line a b) NumberSort
   unfolding calculated
-  calculated_fits operator line l (Arithmetic first steps) b f g = let r = steps_after steps operator b line l
-      (f.0.2, f.1.1) g in ((refl, f.0.1, r.0), (f.1.0, r.1))
-  calculated_fits operator line l a b f g = ((refl, f.0, (g.0, tt)), (f.1, (g.1, l, tt)))
+  calculated_fits operator line l (Arithmetic first steps) b f g =
+      (refl, f.1, steps_after steps operator b line l f.2 g)
+  calculated_fits operator line l a b f g = (refl, f, (g, tt, l))
 
-  operands_after : (rest : Operands) (e : Expr) → OperandsSound k os rest → ExprSound k os e NumberSort
-      → OperandsSound k os (operand_after rest e)
+  operands_after : (rest : Operands) (e : Expr) → OperandsFit k os rest → ExprFits k os e NumberSort
+      → OperandsFit k os (operand_after rest e)
   unfolding operand_after
-  operands_after no_operand e h f = ((f.0, tt), (f.1, tt))
-  operands_after (operand_before first rest) e h f = let r = operands_after rest e (h.0.1, h.1.1) f
-      in ((h.0.0, r.0), (h.1.0, r.1))
+  operands_after no_operand e h f = (f, tt)
+  operands_after (operand_before first rest) e h f = (h.0, operands_after rest e h.1 f)
 
-  connected_fits : (operator : BooleanOperator) (a b : Expr) → ExprSound k os a NumberSort → ExprSound k os b NumberSort
-      → ExprSound k os (connected operator a b) NumberSort
+  connected_fits : (operator : BooleanOperator) (a b : Expr) → ExprFits k os a NumberSort → ExprFits k os b NumberSort
+      → ExprFits k os (connected operator a b) NumberSort
   unfolding connected
-  connected_fits And (Logic And first rest) b f g = let r = operands_after rest b (f.0.2, f.1.1) g
-      in ((refl, f.0.1, r.0), (f.1.0, r.1))
-  connected_fits Or (Logic Or first rest) b f g = let r = operands_after rest b (f.0.2, f.1.1) g
-      in ((refl, f.0.1, r.0), (f.1.0, r.1))
-  connected_fits operator a b f g = ((refl, f.0, (g.0, tt)), (f.1, (g.1, tt)))
+  connected_fits And (Logic And first rest) b f g = (refl, f.1, operands_after rest b f.2 g)
+  connected_fits Or (Logic Or first rest) b f g = (refl, f.1, operands_after rest b f.2 g)
+  connected_fits operator a b f g = (refl, f, (g, tt))
 
-  set_steps_after : (steps : SetSteps) (operator : SetOperator) (e : SetExpr) → SetStepsSound k os steps
-      → SetSound k os e → SetStepsSound k os (set_step_after steps operator e)
+  set_steps_after : (steps : SetSteps) (operator : SetOperator) (e : SetExpr) → SetStepsFit k os steps
+      → SetFits k os e → SetStepsFit k os (set_step_after steps operator e)
   unfolding set_step_after
-  set_steps_after no_set_step operator e h f = ((f.0, tt), (f.1, tt))
-  set_steps_after (set_step_before p first rest) operator e h f = let r = set_steps_after rest operator e
-      (h.0.1, h.1.1) f in ((h.0.0, r.0), (h.1.0, r.1))
+  set_steps_after no_set_step operator e h f = (f, tt)
+  set_steps_after (set_step_before p first rest) operator e h f =
+      (h.0, set_steps_after rest operator e h.1 f)
 
-  combined_fits : (operator : SetOperator) (a b : SetExpr) → SetSound k os a → SetSound k os b → SetSound k os
+  combined_fits : (operator : SetOperator) (a b : SetExpr) → SetFits k os a → SetFits k os b → SetFits k os
       (combined operator a b)
   unfolding combined
-  combined_fits operator (Combine first steps) b f g = let r = set_steps_after steps operator b (f.0.1, f.1.1) g
-      in ((f.0.0, r.0), (f.1.0, r.1))
-  combined_fits operator a b f g = ((f.0, (g.0, tt)), (f.1, (g.1, tt)))
+  combined_fits operator (Combine first steps) b f g = (f.0, set_steps_after steps operator b f.1 g)
+  combined_fits operator a b f g = (f, (g, tt))
 
   -- ---- operators on two operands
 
@@ -165,12 +161,12 @@ module _ (D : Table) (k : Scope) (os : List Shape) where
       (connected_fits operator a.0 b.0 (operand_told Boolean at.first v a.0 h a.1)
       (operand_told Boolean at.second w b.0 g b.1)))
 
-  pub set_fits : (e : SetExpr) (type : DataType) → SetTold D k os e type → SetSound k os e
+  pub set_fits : (e : SetExpr) (type : DataType) → SetTold D k os e type → SetFits k os e
   set_fits e (SetType d p b) h = h
   set_fits e EmptySetType h = h
   set_fits e type h = absurd h
 
-  both_sets : (s t : DataType) (a b e : SetExpr) → SetTold D k os a s → SetTold D k os b t → SetSound k os e
+  both_sets : (s t : DataType) (a b e : SetExpr) → SetTold D k os a s → SetTold D k os b t → SetFits k os e
       → SetTold D k os e (set_type_of_both s t)
   both_sets (SetType d p o) (SetType d' p' o') a b e h g f = f
   both_sets (SetType d p o) EmptySetType a b e h g f = f
@@ -215,19 +211,19 @@ module _ (D : Table) (k : Scope) (os : List Shape) where
   related_is at None make x q = absurd (no_yes q)
   related_is at (Some s) make x q = (s, inside_yes (truth (make s)) x q)
 
-  compared_numbers : (at : ℕ) (relation : Relational) (a b : Expr) (x : Value) → ExprSound k os a NumberSort
-      → ExprSound k os b NumberSort → related at (ordered relation) (λ s. Compare s a b) ≡ Yes x → ValueTold D k os x
+  compared_numbers : (at : ℕ) (relation : Relational) (a b : Expr) (x : Value) → ExprFits k os a NumberSort
+      → ExprFits k os b NumberSort → related at (ordered relation) (λ s. Compare s a b) ≡ Yes x → ValueTold D k os x
   compared_numbers at relation a b x f g q =
       let r = related_is at (ordered relation) (λ s. Compare s a b) x q in
-      subst (ValueTold D k os) r.1 (truth_told (Compare r.0 a b) ((refl, f.0, g.0), (f.1, g.1)))
+      subst (ValueTold D k os) r.1 (truth_told (Compare r.0 a b) (refl, f, g))
 
   compared_pointers : (at : ℕ) (relation : Relational) (a b : Expr) (n : ℕ) (x : Value)
-      → ExprSound k os a (PointerSort n)
-      → ExprSound k os b (PointerSort n) → related at (of_pointers relation) (λ s. ComparePointers s a b) ≡ Yes x
+      → ExprFits k os a (PointerSort n)
+      → ExprFits k os b (PointerSort n) → related at (of_pointers relation) (λ s. ComparePointers s a b) ≡ Yes x
       → ValueTold D k os x
   compared_pointers at relation a b n x f g q =
       let r = related_is at (of_pointers relation) (λ s. ComparePointers s a b) x q in
-      subst (ValueTold D k os) r.1 (truth_told (ComparePointers r.0 a b) ((refl, (n, f.0, g.0)), (f.1, g.1)))
+      subst (ValueTold D k os) r.1 (truth_told (ComparePointers r.0 a b) (refl, (n, f, g)))
 
   same_pointers : (m n : ℕ) → (m == n || false) ≡ true → m ≡ n
   same_pointers m n e = go (m == n) refl e
@@ -243,7 +239,7 @@ module _ (D : Table) (k : Scope) (os : List Shape) where
   simple_told at relation a b (OrdinalType o)
       (OrdinalType p) x h g e q = compared_numbers at.second relation a b x h.1 g.1 q
   simple_told at relation a b (PointerType m) (PointerType n) x h g e q = compared_pointers at.first relation a b n x
-      (subst (λ i. ExprSound k os a (PointerSort i)) (same_pointers m n e) h.1) g.1 q
+      (subst (λ i. ExprFits k os a (PointerSort i)) (same_pointers m n e) h.1) g.1 q
   simple_told at relation a b (PointerType m) NilType x h g e q = compared_pointers at.first relation a b m x h.1
       (g m) q
   simple_told at relation a b NilType (PointerType n) x h g e q = compared_pointers at.first relation a b n x
@@ -259,7 +255,7 @@ module _ (D : Table) (k : Scope) (os : List Shape) where
   simple_told at relation a b s t x h g e q = absurd h
 
   member_number : (a : Expr) (s t : DataType) → SimpleTold D k os a s → may_be_member s t ≡ true
-      → ExprSound k os a NumberSort
+      → ExprFits k os a NumberSort
   member_number a (OrdinalType o) t h e = h.1
   member_number a (PointerType n) t h e = never e
   member_number a NilType t h e = never e
@@ -291,11 +287,11 @@ module _ (D : Table) (k : Scope) (os : List Shape) where
       let o = if_yes (is_in relation) _ _ _ x q in
       let p = provided_yes (may_be_member s t) _ _ (truth (In a b)) x o.1 in
       subst (ValueTold D k os) p.1 (truth_told (In a b)
-      (let m = member_number a s t h p.0 in let n = set_fits b t g in ((refl, m.0, n.0), (m.1, n.1))))
+      (refl, member_number a s t h p.0, set_fits b t g))
   compared_told at relation (SetValue a s) (SetValue b t) x h g q =
       let r = together_is at relation s (is_compatible s t) (of_sets relation) (λ c. CompareSets c a b) x q in
       subst (ValueTold D k os) r.is (truth_told (CompareSets r.relation a b)
-      (let m = set_fits a s h in let n = set_fits b t g in ((refl, m.0, n.0), (m.1, n.1))))
+      (refl, set_fits a s h, set_fits b t g))
   compared_told at relation (StructureValue a s) (StructureValue b t) x h g q =
       let r = together_is at relation s (are_same (string_length s) (string_length t)) (ordered relation)
       (λ c. CompareStrings c a b) x q in
@@ -303,5 +299,5 @@ module _ (D : Table) (k : Scope) (os : List Shape) where
       let f = string_fits D k os a s l.0 h l.1 in
       let f' = string_fits D k os b t l.0 g l.2 in
       subst (ValueTold D k os) r.is (truth_told (CompareStrings r.relation a b)
-      ((refl, f.0.0, f'.0.0, f.1 ∙ sym f'.1), (f.0.1, f'.0.1)))
+      (refl, f.0, f'.0, f.1 ∙ sym f'.1))
   compared_told at relation v w x h g q = absurd (no_yes q)

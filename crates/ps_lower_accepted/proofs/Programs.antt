@@ -19,7 +19,8 @@ use Rattle.ps_tree.specs.Counts.{is_within_limits}
 use Rattle.ps_tree.specs.Tree as Tree
 use Rattle.ps_tree.specs.Tree.{Program, routine_at}
 use Rattle.ps_lower_layout.specs.Frames.{variable_kinds, entries}
-use Rattle.ps_lower_accepted.proofs.Tidy.{StatementsSound, RoutineSound}
+use Rattle.ps_lower_code.specs.Fits.{StatementsFit}
+use Rattle.ps_lower_accepted.proofs.Sound.{RoutineSound}
 use Rattle.ps_lower_relation.specs.Here.{AreSmall}
 use Rattle.ps_lower_calls.specs.Begin.{IsOutermost}
 use Rattle.ps_lower_calls.specs.Binding.{FirstsFit}
@@ -371,7 +372,7 @@ module _ (small : (P : Program) → is_within_limits P ≡ true → AreSmall P) 
       own = λ ms k. all_own P 0 [] [] done.variables entries_there ms k;
     }
 
-    all_fit : AllFit P 1 done.gathered × StatementsSound (record {
+    all_fit : AllFit P 1 done.gathered × StatementsFit (record {
       program = P;
       chain = 0 ∷ [];
       opened = [];
@@ -385,10 +386,9 @@ module _ (small : (P : Program) → is_within_limits P ≡ true → AreSmall P) 
       fits = record {
         result = tt;
         variables = variables_fit told.table (length done.gathered.domains) done.variables told.variables;
-        body = all_fit.1.0;
+        body = all_fit.1;
       };
       line = told.line;
-      tidy = all_fit.1.1;
     }
 
     routines_sound : (i : ℕ) → i < length P.routines → RoutineSound P (routine_at P i)

@@ -6,15 +6,15 @@ use Rattle.ps_tree.specs.Types.{DataType, OrdinalType, PointerType, NilType, Set
 use Rattle.ps_tree.specs.Types.{ArrayType, RecordType, FieldList, field_in, is_compatible, is_same_type, string_length}
 use Rattle.ps_tree.specs.Sizes.{value_count, fits_byte}
 use Rattle.ps_tree.specs.Tree as Tree
-use Rattle.ps_tree.specs.Tree.{Place, PlaceBase, Selector, Selectors, no_selector, selector_before, Expr, Load}
-use Rattle.ps_tree.specs.Tree.{LoadSet, Contents, domain_at}
+use Rattle.ps_tree.specs.Tree.{Place, Selector, Selectors, no_selector, selector_before, Expr}
+use Rattle.ps_tree.specs.Tree.{domain_at}
 use Rattle.ps_lower_layout.specs.Shapes.{Shape, PointerShape, ByteShape, ArrayShape, shape_of, first_of, Part, Whole}
 use Rattle.ps_lower_layout.specs.Shapes.{component_part}
 use Rattle.ps_lower_layout.specs.Paths.{NumberSort}
 use Rattle.ps_lower_layout.specs.Frames.{Own}
 use Rattle.ps_lower_code.specs.Scopes.{Scope, kind_at}
 use Rattle.ps_lower_code.specs.Fits.{SortOf, CountIs, shape_in}
-use Rattle.ps_lower_accepted.proofs.Tidy.{PlaceSound, SelectorsSound, SelectorSound, ExprSound}
+use Rattle.ps_lower_code.specs.Fits.{PlaceFits, SelectorsFit, ExprFits}
 use Rattle.tac_code.specs.Sound.{IsLine}
 use Rattle.ps_check_judgement.specs.declared.refusal.Rule.TheVariants.{WrongType}
 use Rattle.ps_check_judgement.specs.Judged.{Yes, some_or}
@@ -61,29 +61,34 @@ part_there index component false = refl
 module _ (D : Table) (k : Scope) (os : List Shape) where
   -- ---- a selector after the others
 
-  selectors_after : (ss : Selectors) (s : Selector) (p : Part) (shape : Shape) (q : Part) → SelectorsSound k os ss p
-      (Whole shape) → SelectorSound k os s shape q → SelectorsSound k os (selector_after ss s) p q
+  selectors_after : (ss : Selectors) (s : Selector) (p next q : Part) → SelectorsFit k os ss p next → SelectorsFit k os
+      (selector_before s no_selector) next q → SelectorsFit k os (selector_after ss s) p q
   unfolding selector_after
-  selectors_after no_selector s p shape q h f = ((shape, h.0, (q, f.0, refl)), (f.1, tt))
-  selectors_after (selector_before first rest) s p shape q h f = let r = selectors_after rest s h.0.2.0 shape q
-      (h.0.2.2, h.1.1) f in ((h.0.0, h.0.1, (h.0.2.0, h.0.2.1, r.0)), (h.1.0, r.1))
+  selectors_after no_selector s p next q h f = subst (λ r. SelectorsFit k os (selector_before s no_selector) r q)
+      (sym h) f
+  selectors_after (selector_before (Tree.Element type e line) rest) s p next q h f =
+      (h.0, h.1, h.2, h.3, selectors_after rest s (component_part (shape_of type)) next q h.4 f)
+  selectors_after (selector_before (Tree.Field type number) rest) s p next q h f =
+      (h.0, (h.1.0, h.1.1, selectors_after rest s (Whole h.1.0) next q h.1.2 f))
+  selectors_after (selector_before (Tree.Target pointer line) rest) s p next q h f =
+      (h.0, h.1, selectors_after rest s (Whole (shape_of (domain_at k.program pointer))) next q h.2 f)
 
-  selected_fits : (p : Place) (s : Selector) (shape : Shape) (q : Part) → PlaceSound k os p (Whole shape)
-      → SelectorSound k os s shape q → PlaceSound k os (selected p s) q
-  selected_fits (Tree.Variable base ss) s shape q h f = let r = selectors_after ss s (Whole h.0.0) shape q
-      (h.0.2, h.1) f in ((h.0.0, h.0.1, r.0), r.1)
+  selected_fits : (p : Place) (s : Selector) (shape : Shape) (q : Part) → PlaceFits k os p (Whole shape)
+      → SelectorsFit k os (selector_before s no_selector) (Whole shape) q → PlaceFits k os (selected p s) q
+  selected_fits (Tree.Variable base ss) s shape q h f =
+      (h.0, h.1, selectors_after ss s (Whole h.0) (Whole shape) q h.2 f)
 
-  pub whole_fits : (p : Place) (type : DataType) (b : Bool) → PlaceSound k os p (part_of b type) → b ≡ false
-      → PlaceSound k os p (Whole (shape_of type))
-  whole_fits p type b h e = subst (λ c. PlaceSound k os p (part_of c type)) e h
+  pub whole_fits : (p : Place) (type : DataType) (b : Bool) → PlaceFits k os p (part_of b type) → b ≡ false
+      → PlaceFits k os p (Whole (shape_of type))
+  whole_fits p type b h e = subst (λ c. PlaceFits k os p (part_of c type)) e h
 
   -- ---- elements, fields, and what pointers identify
 
   index_told : (at : ℕ) (index : Ordinal) (v : Value) (e : Expr) → ValueTold D k os v → index_operand at index v ≡ Yes e
-      → ExprSound k os e NumberSort
+      → ExprFits k os e NumberSort
   unfolding index_operand is_compatible is_same_type string_length
   index_told at index (SimpleValue x (OrdinalType o)) e h q = let p = provided_yes _ _ _ x e q in subst
-      (λ y. ExprSound k os y NumberSort) p.1 h.1
+      (λ y. ExprFits k os y NumberSort) p.1 h.1
   index_told at index (SimpleValue x (PointerType n)) e h q = absurd (no_yes q)
   index_told at index (SimpleValue x NilType) e h q = absurd (no_yes q)
   index_told at index (SimpleValue x type) e h q = absurd h
@@ -92,7 +97,7 @@ module _ (D : Table) (k : Scope) (os : List Shape) where
 
   element_of_array : (place : Operands) (p : Place) (b in_packed : Bool) (at : ℕ) (packed : Bool) (index : Ordinal)
       (c : DataType) (v : Value) (line : ℕ) → IsLine line → (x : Variable) → TypeKnown D (bound_of k)
-      (ArrayType at packed index c) → PlaceSound k os p (Whole (shape_of (ArrayType at packed index c)))
+      (ArrayType at packed index c) → PlaceFits k os p (Whole (shape_of (ArrayType at packed index c)))
       → ValueTold D k os v → element place p (ArrayType at packed index c) v line ≡ Yes x → VariableTold D k os x
   unfolding element
   element_of_array place p b in_packed at packed index c v line l x known fits h q =
@@ -104,12 +109,13 @@ module _ (D : Table) (k : Scope) (os : List Shape) where
         byte = small;
         packed = λ s. left packed (fits_byte c) s;
         small = λ s. right packed (fits_byte c) s;
-        fits = selected_fits p (Tree.Element type e.0 line) (shape_of type) (part_of small c) fits
-            (let i = index_told place.second index v e.0 h e.1
-            in (
-              (refl, part_there index c small, (counted index c small, known.1.low, known.1.high), i.0),
-              (known.1.rises, i.1, l),
-            ));
+        fits = selected_fits p (Tree.Element type e.0 line) (shape_of type) (part_of small c) fits (
+          refl,
+          (counted index c small, known.1.low, known.1.high, known.1.rises),
+          index_told place.second index v e.0 h e.1,
+          l,
+          sym (part_there index c small),
+        );
       })
 
   pub element_told : (at : Operands) (v : Variable) (index : Value) (line : ℕ) → IsLine line → (x : Variable)
@@ -119,7 +125,7 @@ module _ (D : Table) (k : Scope) (os : List Shape) where
   element_told at v index line l x told h q = go v.type told.known (λ b. told.small b) told.fits q
     where
       go : (type : DataType) → TypeKnown D (bound_of k) type → (told.byte ≡ true → fits_byte type ≡ true)
-          → PlaceSound k os v.place (part_of told.byte type) → element at v.place type index line ≡ Yes x
+          → PlaceFits k os v.place (part_of told.byte type) → element at v.place type index line ≡ Yes x
           → VariableTold D k os x
       go (ArrayType a packed i c) known small fits r = element_of_array at v.place told.byte v.in_packed a packed i c
           index line l x known (whole_fits v.place (ArrayType a packed i c) told.byte fits (no_byte told.byte small)) h
@@ -134,7 +140,7 @@ module _ (D : Table) (k : Scope) (os : List Shape) where
 
   field_there : (name_at : ℕ) (p : Place) (at : ℕ) (packed : Bool) (fs : FieldList) (name : List ℕ) (x : Variable)
       (o : Option (ℕ × DataType)) → field_in fs name ≡ o → TypeKnown D (bound_of k) (RecordType at packed fs)
-      → PlaceSound k os p (Whole (shape_of (RecordType at packed fs))) → field_of name_at p (RecordType at packed fs) o
+      → PlaceFits k os p (Whole (shape_of (RecordType at packed fs))) → field_of name_at p (RecordType at packed fs) o
       ≡ Yes x → VariableTold D k os x
   field_there name_at p at packed fs name x None e known fits r = absurd (no_yes r)
   field_there name_at p at packed fs name x (Some f) e known fits r =
@@ -146,7 +152,7 @@ module _ (D : Table) (k : Scope) (os : List Shape) where
         packed = λ s. never s;
         small = λ s. never s;
         fits = selected_fits p (Tree.Field type f.0) (shape_of type) (Whole (shape_of f.1)) fits
-            ((refl, (shape_of f.1, told.part, refl)), tt);
+            (refl, (shape_of f.1, told.part, refl));
       })
 
   pub component_told : (first at : ℕ) (v : Variable) (name : List ℕ) (x : Variable) → VariableTold D k os v
@@ -155,7 +161,7 @@ module _ (D : Table) (k : Scope) (os : List Shape) where
   component_told first at v name x told q = go v.type told.known (λ b. told.small b) told.fits q
     where
       go : (type : DataType) → TypeKnown D (bound_of k) type → (told.byte ≡ true → fits_byte type ≡ true)
-          → PlaceSound k os v.place (part_of told.byte type) → component first at v.place type name ≡ Yes x
+          → PlaceFits k os v.place (part_of told.byte type) → component first at v.place type name ≡ Yes x
           → VariableTold D k os x
       go (RecordType a packed fs) known small fits r = field_there at v.place a packed fs name x
           (field_in fs name) refl known (whole_fits v.place (RecordType a packed fs) told.byte fits
@@ -175,7 +181,7 @@ module _ (D : Table) (k : Scope) (os : List Shape) where
   target_told first c Γ here v line l x told q = go v.type told.known (λ b. told.small b) told.fits q
     where
       go : (type : DataType) → TypeKnown D (bound_of k) type → (told.byte ≡ true → fits_byte type ≡ true)
-          → PlaceSound k os v.place (part_of told.byte type) → target first c.domains v.place type line ≡ Yes x
+          → PlaceFits k os v.place (part_of told.byte type) → target first c.domains v.place type line ≡ Yes x
           → VariableTold D k os x
       go (PointerType n) known small fits r =
           let t = then_yes (some_or WrongType first (slice_get c.domains n)) _ x r in
@@ -187,7 +193,7 @@ module _ (D : Table) (k : Scope) (os : List Shape) where
             small = λ s. never s;
             fits = selected_fits v.place (Tree.Target n line) (PointerShape n) (Whole (shape_of t.0))
                 (whole_fits v.place (PointerType n) told.byte fits (no_byte told.byte small))
-                ((refl, ap (λ d. Whole (shape_of d)) (sym (domain_there k.program.domains n t.0 there))), l);
+                (refl, l, ap (λ d. Whole (shape_of d)) (domain_there k.program.domains n t.0 there));
           })
       go (OrdinalType o) known small fits r = absurd (no_yes r)
       go NilType known small fits r = absurd (no_yes r)
@@ -210,7 +216,7 @@ module _ (D : Table) (k : Scope) (os : List Shape) where
     byte = false;
     packed = λ s. never s;
     small = λ s. never s;
-    fits = ((shape_of type, there, refl), tt);
+    fits = (shape_of type, there, refl);
   }
 
   pub point_told : (at : ℕ) (p : Point) (x : Variable) → PointStands D k os p → variable_at at p ≡ Yes x
@@ -228,7 +234,7 @@ module _ (D : Table) (k : Scope) (os : List Shape) where
         byte = false;
         packed = λ s. never s;
         small = λ s. never s;
-        fits = ((shape_of type, (h.0, h.1), refl), tt);
+        fits = (shape_of type, (h.0, h.1), refl);
       })
   point_told at (BlockPoint up (ConstantMeaning o n)) x h q = absurd (no_yes q)
   point_told at (BlockPoint up (TextMeaning w)) x h q = absurd (no_yes q)
@@ -251,13 +257,12 @@ module _ (D : Table) (k : Scope) (os : List Shape) where
   loaded_told at v x told q = go v.type told.known (λ b. told.small b) told.fits q
     where
       go : (type : DataType) → TypeKnown D (bound_of k) type → (told.byte ≡ true → fits_byte type ≡ true)
-          → PlaceSound k os v.place (part_of told.byte type) → contents at v.place type ≡ Yes x → ValueTold D k os x
+          → PlaceFits k os v.place (part_of told.byte type) → contents at v.place type ≡ Yes x → ValueTold D k os x
       go (OrdinalType o) known small fits r = subst (ValueTold D k os) (inside_yes _ x r)
-          (known, ((part_of told.byte (OrdinalType o), number_part o told.byte, fits.0), fits.1))
+          (known, (part_of told.byte (OrdinalType o), number_part o told.byte, fits))
       go (PointerType n) known small fits r = subst (ValueTold D k os) (inside_yes _ x r) (
         known,
-        (let w = whole_fits v.place (PointerType n) told.byte fits (no_byte told.byte small)
-            in ((Whole (PointerShape n), refl, w.0), w.1)),
+        (Whole (PointerShape n), refl, whole_fits v.place (PointerType n) told.byte fits (no_byte told.byte small)),
       )
       go (SetType d p o) known small fits r = subst (ValueTold D k os) (inside_yes _ x r)
           (whole_fits v.place (SetType d p o) told.byte fits (no_byte told.byte small))

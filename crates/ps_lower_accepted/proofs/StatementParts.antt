@@ -13,9 +13,10 @@ use Rattle.ps_lower_layout.specs.Shapes.{Shape, NumberShape, shape_of, Whole}
 use Rattle.ps_lower_layout.specs.Paths.{NumberSort}
 use Rattle.ps_lower_layout.specs.Frames.{Own, Closure, kinds_of, result_shape}
 use Rattle.ps_lower_code.specs.Scopes.{Scope, kind_at}
-use Rattle.ps_lower_bounds.specs.Forms.{AreIntegers}
-use Rattle.ps_lower_accepted.proofs.Tidy.{line_there, PlaceSound, ExprSound, OpenedSound, StatementSound}
-use Rattle.ps_lower_accepted.proofs.Tidy.{ArgumentsSound}
+use Rattle.ps_lower_code.specs.Fits.{AreIntegers}
+use Rattle.ps_lower_code.specs.Fits.{PlaceFits, ExprFits, OpenedFit, StatementFits}
+use Rattle.ps_lower_accepted.proofs.Sound.{line_there}
+use Rattle.ps_lower_code.specs.Fits.{ArgumentsFit}
 use Rattle.ps_check_judgement.specs.declared.refusal.Rule.TheVariants.{WrongKind}
 use Rattle.ps_check_judgement.specs.Judged.{Yes, holds}
 use Rattle.ps_check_judgement.proofs.Binds.{provided_yes, inside_yes, no_yes}
@@ -39,9 +40,9 @@ module _ (D : Table) (k : Scope) where
     -- ---- conditions and bounds
 
     pub condition_fits : (at : ℕ) (v : Value) (e : Tree.Expr) → ValueTold D k os v → condition at v ≡ Yes e
-        → ExprSound k os e NumberSort
+        → ExprFits k os e NumberSort
     unfolding condition
-    condition_fits at (SimpleValue x (OrdinalType o)) e h q = subst (λ y. ExprSound k os y NumberSort)
+    condition_fits at (SimpleValue x (OrdinalType o)) e h q = subst (λ y. ExprFits k os y NumberSort)
         (provided_yes _ _ _ _ e q).1 h.1
     condition_fits at (SimpleValue x (PointerType n)) e h q = absurd (no_yes q)
     condition_fits at (SimpleValue x NilType) e h q = absurd (no_yes q)
@@ -50,9 +51,9 @@ module _ (D : Table) (k : Scope) where
     condition_fits at (StructureValue x type) e h q = absurd (no_yes q)
 
     pub bound_fits : (at : ℕ) (o : Ordinal) (v : Value) (e : Tree.Expr) → ValueTold D k os v → bound at o v ≡ Yes e
-        → ExprSound k os e NumberSort
+        → ExprFits k os e NumberSort
     unfolding bound is_compatible is_same_type string_length
-    bound_fits at o (SimpleValue x (OrdinalType p)) e h q = subst (λ y. ExprSound k os y NumberSort)
+    bound_fits at o (SimpleValue x (OrdinalType p)) e h q = subst (λ y. ExprFits k os y NumberSort)
         (provided_yes _ _ _ _ e q).1 h.1
     bound_fits at o (SimpleValue x (PointerType n)) e h q = absurd (no_yes q)
     bound_fits at o (SimpleValue x NilType) e h q = absurd (no_yes q)
@@ -115,26 +116,24 @@ module _ (D : Table) (k : Scope) where
 
       pub called_fits : (at : ℕ) (xs : List Parameter) (p : Point) (t : Statement) → Each
           (ParameterTold D k os c Γ here) xs
-          → PointStands D k os p → Gives (procedure_called c Γ at xs p) t → StatementSound k os t
+          → PointStands D k os p → Gives (procedure_called c Γ at xs p) t → StatementFits k os t
       unfolding procedure_called
       called_fits at xs (BlockPoint up (RoutineMeaning h)) t told st q =
           let args = then_same (procedure_parameters c Γ at h.result h.sections xs) _ t q in
           let there = declared_there k up h st.1 in
-          let all = subst (λ fs. ArgumentsSound k os (argument_list args.0) (kinds_of fs)) (sym there.is.formals)
+          let all = subst (λ fs. ArgumentsFit k os (argument_list args.0) (kinds_of fs)) (sym there.is.formals)
           (parameters_fit D k os c Γ here at h.sections xs args.0 st.0.0 told
           (passed at h.result h.sections xs args.0 args.1)) in
-          subst (StatementSound k os) args.2 ((there.at, all.0), (all.1, line_there c.text at here.lines))
+          subst (StatementFits k os) args.2 (there.at, all, line_there c.text at here.lines)
       called_fits at xs (BlockPoint up (RoutineParameterMeaning entry sections result)) t told st q =
           let args = then_same (procedure_parameters c Γ at result sections xs) _ t q in
           let there = entry_there k up entry (Closure (kinds_of (formals_of sections)) (result_shape result)) st.1 in
           let all = parameters_fit D k os c Γ here at sections xs args.0 st.0.0 told
           (passed at result sections xs args.0 args.1) in
-          subst (StatementSound k os) args.2 (
-            (
-              there.0,
-              (kinds_of (formals_of sections), (result_shape result, there.1, all.0)),
-            ),
-            (all.1, line_there c.text at here.lines),
+          subst (StatementFits k os) args.2 (
+            there.0,
+            (kinds_of (formals_of sections), (result_shape result, there.1, all)),
+            line_there c.text at here.lines,
           )
       called_fits at xs (BlockPoint up (RequiredMeaning r)) t told st q = required_fits D k os c Γ here at r xs t told q
       called_fits at xs (BlockPoint up m) t told st q = absurd (no_yes q.given)
@@ -142,33 +141,26 @@ module _ (D : Table) (k : Scope) where
 
   -- ---- records that are opened one after another (6.8.3.10)
 
-  opened_after : (os inner : List Shape) (ps : List Place) (p : Place) (shape : Shape) → OpenedSound k os ps inner
-      → PlaceSound k inner p (Whole shape) → OpenedSound k os (ps ++ p ∷ []) (shape ∷ inner)
-  opened_after os inner [] p shape h f = (
-    (
-      shape,
-      (subst (λ l. PlaceSound k l p (Whole shape)) h.0 f).0,
-      ap (λ l. shape ∷ l) h.0,
-    ),
-    (f.1, tt),
-  )
-  opened_after os inner (q ∷ ps) p shape h f = let r = opened_after (h.0.0 ∷ os) inner ps p shape (h.0.2, h.1.1) f
-      in ((h.0.0, h.0.1, r.0), (h.1.0, r.1))
+  opened_after : (os inner : List Shape) (ps : List Place) (p : Place) (shape : Shape) → OpenedFit k os ps inner
+      → PlaceFits k inner p (Whole shape) → OpenedFit k os (ps ++ p ∷ []) (shape ∷ inner)
+  opened_after os inner [] p shape h f =
+      (shape, subst (λ l. PlaceFits k l p (Whole shape)) h f, ap (λ l. shape ∷ l) h)
+  opened_after os inner (q ∷ ps) p shape h f = (h.0, h.1, opened_after (h.0 ∷ os) inner ps p shape h.2 f)
 
   -- what is known after some of the records
   pub record OpenedSo (c : Context) (os : List Shape) (o : Opening) : Type 0 where
     pub inner : List Shape
     pub here : Here c o.1 D k inner
-    pub fits : OpenedSound k os o.0 inner
+    pub fits : OpenedFit k os o.0 inner
 
   pub one_opened : (at : ℕ) (c : Context) (os inner : List Shape) (places : List Place) (Γ : List Region) (v : Variable)
-      (r : Region) → Here c Γ D k inner → OpenedSound k os places inner → VariableTold D k inner v
+      (r : Region) → Here c Γ D k inner → OpenedFit k os places inner → VariableTold D k inner v
       → record_region at v.type ≡ Yes r → OpenedSo c os (places ++ v.place ∷ [], r ∷ Γ)
   unfolding record_region
   one_opened at c os inner places Γ v r here fits told q = go v.type told.known (λ b. told.small b) told.fits q
     where
       go : (type : DataType) → TypeKnown D (bound_of k) type → (told.byte ≡ true → fits_byte type ≡ true)
-          → PlaceSound k inner v.place (part_of told.byte type) → record_region at type ≡ Yes r → OpenedSo c os
+          → PlaceFits k inner v.place (part_of told.byte type) → record_region at type ≡ Yes r → OpenedSo c os
           (places ++ v.place ∷ [], r ∷ Γ)
       go (RecordType a l fs) known small place f = subst (λ x. OpenedSo c os (places ++ v.place ∷ [], x ∷ Γ))
           (inside_yes _ r f) (record {

@@ -22,10 +22,11 @@ use Rattle.tac_code.specs.Sound.{IsLine, IsInteger}
 use Rattle.ps_lower_layout.specs.Shapes.{Shape}
 use Rattle.ps_lower_layout.specs.Paths.{NumberSort}
 use Rattle.ps_lower_code.specs.Scopes.{Scope}
-use Rattle.ps_lower_bounds.specs.Forms.{AllIntegers}
+use Rattle.ps_lower_code.specs.Fits.{AllIntegers}
 use Rattle.ps_check_names.specs.Constants.{ConstantValue, OrdinalConstant, TextConstant, constant}
 use Rattle.ps_lower_accepted.proofs.Constants.{ConstantKnown, constant_known}
-use Rattle.ps_lower_accepted.proofs.Tidy.{line_there, ExprSound, StatementSound, StatementsSound, ElementsSound}
+use Rattle.ps_lower_code.specs.Fits.{ExprFits, StatementFits, StatementsFit, ElementsFit}
+use Rattle.ps_lower_accepted.proofs.Sound.{line_there}
 use Rattle.ps_check_judgement.specs.Judged.{Yes, steps}
 use Rattle.ps_check_judgement.specs.Changing.{each, through}
 use Rattle.ps_check_judgement.proofs.Binds.{then_yes, provided_yes, inside_yes, no_yes}
@@ -92,7 +93,7 @@ module _ (D : Table) (k : Scope) where
   abbrev StatementTells : (Bool → Symbol syntax_statement.Statement) → Type 0
   StatementTells symbol = (c : Context) (Γ : List Region) (os : List Shape) → Here c Γ D k os → (ends : Bool)
       (x : syntax_statement.Statement) (ts r : Tokens) → symbol ends x ts r → (t : Statement) → Gives
-      (statement x c Γ) t → StatementSound k os t
+      (statement x c Γ) t → StatementFits k os t
 
   with_control_there : (c : Context) (Γ : List Region) (os : List Shape) (entry : ℕ) → Here c Γ D k os → Here
       (with_control c entry) Γ D k os
@@ -141,32 +142,30 @@ module _ (D : Table) (k : Scope) where
 
     -- ---- all statements, where those in them are known
 
-    module _ (expr : Symbol Expr) (exprs_tell : ExprTells expr) (variables_tell : VariableTells (IsVariable expr)) (inner : Bool → Symbol syntax_statement.Statement) (inner_tell : StatementTells inner) where
+    module _ (expr : Symbol Expr) (exprs_tell : ExprTells expr) (variables_tell : VariableTells (IsVariable expr))
+        (inner : Bool → Symbol syntax_statement.Statement) (inner_tell : StatementTells inner) where
       one_of_sequence : (Γ : List Region) (os : List Shape) → Here c Γ D k os → (x : syntax_statement.Statement)
           (ts r : Tokens) → InSequence inner x ts r → (t : Statement) → Gives (statement x c Γ) t
-          → StatementSound k os t
+          → StatementFits k os t
       one_of_sequence Γ os here x ts r (g.in_sequence {ends = ends} d) t q = inner_tell c Γ os here ends x _ _ d t q
 
       listed_fit : (Γ : List Region) (os : List Shape) → Here c Γ D k os → {separator : _}
           (xs : List syntax_statement.Statement) (ts r : Tokens) → Separated separator (InSequence inner) xs ts r
-          → (list : List Statement) → Images (λ s. statement s c Γ) xs list → StatementsSound k os (statement_list list)
+          → (list : List Statement) → Images (λ s. statement s c Γ) xs list → StatementsFit k os (statement_list list)
       listed_fit Γ os here [] ts r d list q = elim d [ ]
-      listed_fit Γ os here (x ∷ []) ts r (one d) (t ∷ []) q = let h = one_of_sequence Γ os here x _ _ d t q.0
-          in ((h.0, tt), (h.1, tt))
+      listed_fit Γ os here (x ∷ []) ts r (one d) (t ∷ []) q = (one_of_sequence Γ os here x _ _ d t q.0, tt)
       listed_fit Γ os here (x ∷ xs) ts r (several d rest) (t ∷ list) q =
-          let h = one_of_sequence Γ os here x _ _ d t q.0 in
-          let g = listed_fit Γ os here xs _ _ rest list q.1 in
-          ((h.0, g.0), (h.1, g.1))
+          (one_of_sequence Γ os here x _ _ d t q.0, listed_fit Γ os here xs _ _ rest list q.1)
       listed_fit Γ os here (x ∷ xs) ts r d [] q = absurd q
       listed_fit Γ os here (x ∷ []) ts r (one d) (t ∷ u ∷ list) q = absurd q.1
 
       sequence_fits : (Γ : List Region) (os : List Shape) → Here c Γ D k os → (xs : List syntax_statement.Statement)
           (ts r : Tokens) → IsSequence inner xs ts r → (ss : Statements) → Gives (statements c Γ xs) ss
-          → StatementsSound k os ss
+          → StatementsFit k os ss
       unfolding statements
       sequence_fits Γ os here xs ts r d ss q =
           let list = then_same (each (λ s. statement s c Γ) xs) _ ss q in
-          subst (StatementsSound k os) list.2 (listed_fit Γ os here xs ts r d list.0
+          subst (StatementsFit k os) list.2 (listed_fit Γ os here xs ts r d list.0
           (each_gives (λ s. statement s c Γ) xs list.0 list.1))
 
       -- ---- case elements (6.8.3.5)
@@ -195,7 +194,7 @@ module _ (D : Table) (k : Scope) where
           (subst AllIntegers is.1 (one_more_integer own n.0 h (label_there Γ os here o x n.0 n.1))) more.2
 
       abbrev ElementSound : List Shape → TypedElement → Type 0
-      ElementSound os t = AllIntegers t.0 × StatementSound k os t.1
+      ElementSound os t = AllIntegers t.0 × StatementFits k os t.1
 
       element_fits : (Γ : List Region) (os : List Shape) → Here c Γ D k os → (o : Ordinal) (seen : List ℤ) (x : Element)
           (ts r : Tokens) → IsElement inner x ts r → (t : TypedElement) → Gives (element x c Γ o seen) t
@@ -212,15 +211,14 @@ module _ (D : Table) (k : Scope) where
                 (as_given (ap (λ u. statement u.statement c Γ) z) body.1),
           )
 
-      elements_after : (os : List Shape) (es : List TypedElement) (t : TypedElement) → ElementsSound k os
-          (element_list es) → ElementSound os t → ElementsSound k os (element_list (es ++ t ∷ []))
-      elements_after os [] t h g = ((g.1.0, tt), (g.0, g.1.1, tt))
-      elements_after os (x ∷ es) t h g = let r = elements_after os es t (h.0.1, h.1.2) g
-          in ((h.0.0, r.0), (h.1.0, h.1.1, r.1))
+      elements_after : (os : List Shape) (es : List TypedElement) (t : TypedElement) → ElementsFit k os
+          (element_list es) → ElementSound os t → ElementsFit k os (element_list (es ++ t ∷ []))
+      elements_after os [] t h g = (g.1, tt, g.0)
+      elements_after os (x ∷ es) t h g = (h.0, elements_after os es t h.1 g, h.2)
 
       -- the elements so far, after the constants that are seen
       abbrev DoneSound : List Shape → List ℤ × List TypedElement → Type 0
-      DoneSound os done = ElementsSound k os (element_list done.1)
+      DoneSound os done = ElementsFit k os (element_list done.1)
 
       next_element : (Γ : List Region) (os : List Shape) → Here c Γ D k os → (o : Ordinal) (x : Element) (ts r : Tokens)
           → IsElement inner x ts r → (done now : List ℤ × List TypedElement) → DoneSound os done → Gives
@@ -247,17 +245,17 @@ module _ (D : Table) (k : Scope) where
           → (end : List ℤ × List TypedElement) → Gives (through (one_element c Γ o) ([], []) (map element xs)) end
           → DoneSound os end
       all_elements Γ os here o xs ts r (exactly d) end q = separated_elements Γ os here o xs _ _ d ([], []) end
-          (tt, tt) q
+          tt q
       all_elements Γ os here o xs ts r (trailing d) end q = separated_elements Γ os here o xs _ _ d ([], []) end
-          (tt, tt) q
+          tt q
 
       elements_fit : (Γ : List Region) (os : List Shape) → Here c Γ D k os → (o : Ordinal) → {separator : _}
           (xs : List Element) (ts r : Tokens) → Terminated separator (IsElement inner) xs ts r
-          → (list : List TypedElement) → Gives (elements c Γ o (map element xs)) list → ElementsSound k os
+          → (list : List TypedElement) → Gives (elements c Γ o (map element xs)) list → ElementsFit k os
           (element_list list)
       elements_fit Γ os here o xs ts r d list q =
           let end = then_same (through (one_element c Γ o) ([], []) (map element xs)) _ list q in
-          subst (λ l. ElementsSound k os (element_list l)) end.2 (all_elements Γ os here o xs ts r d end.0 end.1)
+          subst (λ l. ElementsFit k os (element_list l)) end.2 (all_elements Γ os here o xs ts r d end.0 end.1)
 
       parameter_told : (Γ : List Region) (os : List Shape) (here : Here c Γ D k os) → (x : Parameter) (ts r : Tokens)
           → IsParameter expr x ts r → ParameterTold D k os c Γ here x
@@ -315,21 +313,21 @@ module _ (D : Table) (k : Scope) where
 
       call_fits : (Γ : List Region) (os : List Shape) (here : Here c Γ D k os) (at : Span) (xs : List Parameter)
           (t : Statement) → Each (ParameterTold D k os c Γ here) xs → Gives (procedure_statement c Γ at xs) t
-          → StatementSound k os t
+          → StatementFits k os t
       call_fits Γ os here at xs t told q =
           let point = still_then (denoted c Γ at) _ t q in
           called_fits D k os c Γ here at.from xs point.0 t told
           (denoted_stands c Γ D k os here at point.0 point.1) point.2
 
       condition_there : (Γ : List Region) (os : List Shape) → Here c Γ D k os → (x : Expr) (ts r : Tokens) → expr x ts r
-          → (e : Tree.Expr) → Gives (condition_at c Γ x) e → ExprSound k os e NumberSort
+          → (e : Tree.Expr) → Gives (condition_at c Γ x) e → ExprFits k os e NumberSort
       condition_there Γ os here x ts r d e q =
           let v = then_still (operand c Γ x).value (condition (first_of_expr x)) e q in
           let told = exprs_tell Γ os here x ts r d in
           condition_fits D k os (first_of_expr x) v.0 e (told.value v.0 v.1) v.2
 
       bound_there : (Γ : List Region) (os : List Shape) → Here c Γ D k os → (o : Ordinal) (x : Expr) (ts r : Tokens)
-          → expr x ts r → (e : Tree.Expr) → Gives (bound_at c Γ o x) e → ExprSound k os e NumberSort
+          → expr x ts r → (e : Tree.Expr) → Gives (bound_at c Γ o x) e → ExprFits k os e NumberSort
       bound_there Γ os here o x ts r d e q =
           let v = then_still (operand c Γ x).value (bound (first_of_expr x) o) e q in
           let told = exprs_tell Γ os here x ts r d in
@@ -338,12 +336,12 @@ module _ (D : Table) (k : Scope) where
       -- a condition, and the statement that it governs
       governed_fits : (Γ : List Region) (os : List Shape) → Here c Γ D k os → (x : Expr) (ts r : Tokens) → expr x ts r
           → (ends : Bool) (y : syntax_statement.Statement) (us w : Tokens) → inner ends y us w
-          → (p : Tree.Expr × Statement) → Gives (governed c Γ x (statement y)) p → ExprSound k os p.0 NumberSort
-          × StatementSound k os p.1
+          → (p : Tree.Expr × Statement) → Gives (governed c Γ x (statement y)) p → ExprFits k os p.0 NumberSort
+          × StatementFits k os p.1
       governed_fits Γ os here x ts r d ends y us w d' p q =
           let test = then_gives (condition_at c Γ x) _ p q in
           let body = then_same (statement y c Γ) _ p test.2 in
-          subst (λ z. ExprSound k os z.0 NumberSort × StatementSound k os z.1) body.2
+          subst (λ z. ExprFits k os z.0 NumberSort × StatementFits k os z.1) body.2
           (condition_there Γ os here x ts r d test.0 test.1, inner_tell c Γ os here ends y us w d' body.0 body.1)
 
       -- ---- for (6.8.3.9)
@@ -364,8 +362,8 @@ module _ (D : Table) (k : Scope) where
         control : ControlKnown D k os (h.variable, h.type)
         from : IsLine h.first_line
         to : IsLine h.last_line
-        first : ExprSound k os h.first NumberSort
-        last : ExprSound k os h.last NumberSort
+        first : ExprFits k os h.first NumberSort
+        last : ExprFits k os h.last NumberSort
 
       head_fits : (Γ : List Region) (os : List Shape) → Here c Γ D k os → (name : Span) (x : Expr) (ts r : Tokens)
           → expr x ts r → (direction : _) (y : Expr) (us w : Tokens) → expr y us w → (h : Head) → Gives
@@ -382,18 +380,16 @@ module _ (D : Table) (k : Scope) where
             last = bound_there Γ os here control.0.1 y us w d' last.0 last.1;
           })
 
-      repeated_fits : (os : List Shape) (h : Head) (body : Statement) → HeadSound os h → StatementSound k os body
-          → StatementSound k os (repeated h body)
-      repeated_fits os h body s inside_body = (
-        (s.control.0, s.first.0, s.last.0, inside_body.0),
-        (s.first.1, s.last.1, s.control.1, s.from, s.to, inside_body.1),
-      )
+      repeated_fits : (os : List Shape) (h : Head) (body : Statement) → HeadSound os h → StatementFits k os body
+          → StatementFits k os (repeated h body)
+      repeated_fits os h body s inside_body =
+          (s.control.0, s.first, s.last, inside_body, s.control.1, s.from, s.to)
 
       statements_tell : (Γ : List Region) (os : List Shape) → Here c Γ D k os → (ends : Bool)
           (x : syntax_statement.Statement) (ts r : Tokens) → IsStatement expr inner ends x ts r → (t : Statement)
-          → Gives (statement x c Γ) t → StatementSound k os t
-      statements_tell Γ os here ends x ts r g.empty t q = subst (StatementSound k os)
-          (same_gives _ t (as_given (statement_empty c Γ) q)) (tt, tt)
+          → Gives (statement x c Γ) t → StatementFits k os t
+      statements_tell Γ os here ends x ts r g.empty t q = subst (StatementFits k os)
+          (same_gives _ t (as_given (statement_empty c Γ) q)) tt
       statements_tell Γ os here ends x ts r (g.assign {v = v} {at = at} {x = y} d d') t q =
           let place = then_gives (target c Γ v) _ t (as_given (statement_assign c Γ v at y) q) in
           let change = then_gives (changed c place.0.place (variable_operand c Γ v).first) _ t place.2 in
@@ -408,17 +404,17 @@ module _ (D : Table) (k : Scope) where
           (parameters_told Γ os here xs _ _ d) (as_given (statement_call c Γ at xs) q)
       statements_tell Γ os here ends x ts r (g.compound {xs = xs} d) t q =
           let body = then_same (statements c Γ xs) _ t (as_given (statement_compound c Γ xs) q) in
-          subst (StatementSound k os) body.2 (sequence_fits Γ os here xs _ _ d body.0 body.1)
+          subst (StatementFits k os) body.2 (sequence_fits Γ os here xs _ _ d body.0 body.1)
       statements_tell Γ os here ends x ts r (g.if_then {c = y} {x = z} {ends = e} d d') t q =
           let p = then_same (governed c Γ y (statement z)) _ t (as_given (statement_if c Γ y z) q) in
           let a = governed_fits Γ os here y _ _ d e z _ _ d' p.0 p.1 in
-          subst (StatementSound k os) p.2 ((a.0.0, a.1.0), (a.0.1, a.1.1))
+          subst (StatementFits k os) p.2 a
       statements_tell Γ os here ends x ts r (g.if_else {c = y} {x = z} {y = w} d d' d'') t q =
           let p = then_gives (governed c Γ y (statement z)) _ t (as_given (statement_if_else c Γ y z w) q) in
           let other = then_same (statement w c Γ) _ t p.2 in
           let a = governed_fits Γ os here y _ _ d false z _ _ d' p.0 p.1 in
           let e = inner_tell c Γ os here ends w _ _ d'' other.0 other.1 in
-          subst (StatementSound k os) other.2 ((a.0.0, a.1.0, e.0), (a.0.1, a.1.1, e.1))
+          subst (StatementFits k os) other.2 (a.0, a.1, e)
       statements_tell Γ os here ends x ts r (g.case {at = at} {x = y} {xs = xs} d d') t q =
           let index = then_gives (index_at c Γ y) _ t (as_given (statement_case c Γ at y xs) q) in
           let v = then_still (operand c Γ y).value (ordinal_of (first_of_expr y)) index.0 index.1 in
@@ -426,21 +422,21 @@ module _ (D : Table) (k : Scope) where
           let list = then_same (elements c Γ index.0.1 (map element xs)) _ t index.2 in
           let a = (ordinal_told D k os (first_of_expr y) v.0 index.0 (told.value v.0 v.1) v.2).1 in
           let b = elements_fit Γ os here index.0.1 xs _ _ d' list.0 list.1 in
-          subst (StatementSound k os) list.2 ((a.0, b.0), (a.1, b.1, line_there c.text at.from here.lines))
+          subst (StatementFits k os) list.2 (a, b, line_there c.text at.from here.lines)
       statements_tell Γ os here ends x ts r (g.while {c = y} {x = z} d d') t q =
           let p = then_same (governed c Γ y (statement z)) _ t (as_given (statement_while c Γ y z) q) in
           let a = governed_fits Γ os here y _ _ d ends z _ _ d' p.0 p.1 in
-          subst (StatementSound k os) p.2 ((a.0.0, a.1.0), (a.0.1, a.1.1))
+          subst (StatementFits k os) p.2 a
       statements_tell Γ os here ends x ts r (g.repeat {xs = xs} {c = y} d d') t q =
           let body = then_gives (statements c Γ xs) _ t (as_given (statement_repeat c Γ xs y) q) in
           let test = then_same (condition_at c Γ y) _ t body.2 in
-          subst (StatementSound k os) test.2 (let a = sequence_fits Γ os here xs _ _ d body.0 body.1
-          in let b = condition_there Γ os here y _ _ d' test.0 test.1 in ((a.0, b.0), (a.1, b.1)))
+          subst (StatementFits k os) test.2
+          (sequence_fits Γ os here xs _ _ d body.0 body.1, condition_there Γ os here y _ _ d' test.0 test.1)
       statements_tell Γ os here ends x ts r (g.for direction {name = name} {x = y} {y = z} {z = w} d d' d'') t q =
           let head = then_gives (for_head c Γ name y direction z) (for_behind c Γ (statement w)) t
           (as_given (statement_for c Γ name y direction z w) q) in
           let body = then_same (statement w (with_control c head.0.variable) Γ) _ t head.2 in
-          subst (StatementSound k os) body.2 (repeated_fits os head.0 body.0
+          subst (StatementFits k os) body.2 (repeated_fits os head.0 body.0
           (head_fits Γ os here name y _ _ d direction z _ _ d' head.0 head.1)
           (inner_tell (with_control c head.0.variable) Γ os
           (with_control_there c Γ os head.0.variable here) ends w _ _ d'' body.0 body.1))
@@ -449,12 +445,11 @@ module _ (D : Table) (k : Scope) where
           let so = all_opened expr variables_tell vs _ _ d os ([], Γ) o.0 (record {
             inner = os;
             here = here;
-            fits = (refl, tt);
+            fits = refl;
           }) o.1 in
           let body = then_same (statement y c o.0.1) _ t o.2 in
-          subst (StatementSound k os) body.2 (let opened = so.fits
-          in let b = inner_tell c o.0.1 so.inner so.here ends y _ _ d' body.0 body.1
-          in ((so.inner, opened.0, b.0), (opened.1, b.1)))
+          subst (StatementFits k os) body.2
+          (so.inner, so.fits, inner_tell c o.0.1 so.inner so.here ends y _ _ d' body.0 body.1)
 
   all_statements : (n : ℕ) → StatementTells (statement_within n)
   all_statements zero c Γ os here ends x ts r d t q = absurd d
@@ -465,7 +460,7 @@ module _ (D : Table) (k : Scope) where
 
   pub sequences_fit : (c : Context) (n : ℕ) (Γ : List Region) (os : List Shape) → Here c Γ D k os
       → (xs : List syntax_statement.Statement) (ts r : Tokens) → IsSequence (statement_within n) xs ts r
-      → (ss : Statements) → Gives (statements c Γ xs) ss → StatementsSound k os ss
+      → (ss : Statements) → Gives (statements c Γ xs) ss → StatementsFit k os ss
   sequences_fit c n = sequence_fits c (expr_within n)
       (λ Γ os here x ts r d. expressions_tell c Γ D k os here n x ts r d)
       (λ Γ os here x ts r d. variables_within c Γ D k os here n x ts r d) (statement_within n) (all_statements n)

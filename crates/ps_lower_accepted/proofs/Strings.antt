@@ -15,7 +15,7 @@ use Rattle.ps_lower_layout.specs.Shapes.{Shape, ByteShape, ArrayShape, shape_of,
 use Rattle.ps_lower_code.specs.Scopes.{Scope}
 use Rattle.ps_lower_code.specs.Values.{text_length}
 use Rattle.ps_lower_code.specs.Fits.{IsStructure}
-use Rattle.ps_lower_accepted.proofs.Tidy.{PlaceSound, StructureSound, ContentsSound}
+use Rattle.ps_lower_code.specs.Fits.{PlaceFits, StructureFits, ContentsFit}
 use Rattle.ps_check_expressions.specs.Values.{host_type}
 use Rattle.ps_check_names.specs.Constants.{char}
 use Rattle.ps_lower_accepted.proofs.Lists.{Each, left, right, never, inside, none_some, if_some}
@@ -112,14 +112,14 @@ module _ (D : Table) (k : Scope) (os : List Shape) where
   -- ---- what is compared or written
 
   pub string_fits : (e : Structure) (type : DataType) (n : ℕ) → StructureTold D k os e type → string_length type
-      ≡ Some n → StructureSound k os e × (text_length e ≡ n)
+      ≡ Some n → StructureFits k os e × (text_length e ≡ n)
   unfolding string_length
   string_fits (Literal w) (TextType m) n h e =
-      (((all_of (λ b. b < 256) w h.1.bytes, h.1.short), tt), sym h.0 ∙ inside m n e)
+      ((all_of (λ b. b < 256) w h.1.bytes, h.1.short), sym h.0 ∙ inside m n e)
   string_fits (Contents p like) (ArrayType at packed i c) n h e =
       let shape = string_shape D (bound_of k) (ArrayType at packed i c) n h.1 e in
       let length = ap string_length h.0 ∙ e in (
-        ((n, pos 0, ap shape_of h.0 ∙ shape, length, (subst (λ s. PlaceSound k os p (Whole s)) shape h.2).0), h.2.1),
+        (n, pos 0, ap shape_of h.0 ∙ shape, length, subst (λ s. PlaceFits k os p (Whole s)) shape h.2),
         ap (λ o. elim o as (λ z. ℕ) [ Some m ↦ m | None ↦ 0 ]) length,
       )
   string_fits (Contents p like) (RecordType at packed fs) n h e = absurd (none_some e)
@@ -143,7 +143,7 @@ module _ (D : Table) (k : Scope) (os : List Shape) where
   -- what is stored in a variable of the type
   pub record Goes (e : Structure) (type : DataType) : Type 0 where
     pub structure : IsStructure (shape_of type)
-    pub fits : ContentsSound k os e (shape_of type)
+    pub fits : ContentsFit k os e (shape_of type)
 
   text_goes : (w : List ℕ) (type : DataType) → IsText w → TypeKnown D (bound_of k) type → string_length type ≡ Some
       (length w) → Goes (Literal w) type
@@ -151,11 +151,11 @@ module _ (D : Table) (k : Scope) (os : List Shape) where
       let shape = string_shape D (bound_of k) type (length w) t e in
       record {
         structure = structure_of type (length w) shape;
-        fits = ((all_of (λ b. b < 256) w h.bytes, h.short, (pos 0, shape)), tt);
+        fits = (all_of (λ b. b < 256) w h.bytes, h.short, (pos 0, shape));
       }
 
   strings_go : (p : Place) (like type : DataType) (n : ℕ) → TypeKnown D (bound_of k) like → TypeKnown D
-      (bound_of k) type → PlaceSound k os p (Whole (shape_of like)) → string_length like ≡ Some n → string_length type
+      (bound_of k) type → PlaceFits k os p (Whole (shape_of like)) → string_length like ≡ Some n → string_length type
       ≡ Some n → Goes (Contents p like) type
   strings_go p like type n h t f e g =
       let a = string_shape D (bound_of k) like n h e in
@@ -163,22 +163,22 @@ module _ (D : Table) (k : Scope) (os : List Shape) where
       let same = a ∙ sym b in
       record {
         structure = structure_of type n b;
-        fits = ((same, (subst (λ s. PlaceSound k os p (Whole s)) same f).0), f.1);
+        fits = (same, subst (λ s. PlaceFits k os p (Whole s)) same f);
       }
 
   one_type : (p : Place) (like type : DataType) → TypeKnown D (bound_of k) like → TypeKnown D (bound_of k) type
-      → PlaceSound k os p (Whole (shape_of like)) → IsStructure (shape_of like) → is_same_type like type ≡ true → Goes
+      → PlaceFits k os p (Whole (shape_of like)) → IsStructure (shape_of like) → is_same_type like type ≡ true → Goes
       (Contents p like) type
   one_type p like type h t f st e =
       let same = same_shape D (bound_of k) (bound_of k) like type h t e in
       record {
         structure = subst IsStructure same st;
-        fits = ((same, (subst (λ s. PlaceSound k os p (Whole s)) same f).0), f.1);
+        fits = (same, subst (λ s. PlaceFits k os p (Whole s)) same f);
       }
 
   -- one type, or strings of one length
   alike_go : (p : Place) (like type : DataType) → TypeKnown D (bound_of k) like → TypeKnown D (bound_of k) type
-      → PlaceSound k os p (Whole (shape_of like)) → IsStructure (shape_of like)
+      → PlaceFits k os p (Whole (shape_of like)) → IsStructure (shape_of like)
       → (is_same_type like type || are_same (string_length like) (string_length type)) ≡ true → Goes
       (Contents p like) type
   alike_go p like type h t f st e = go (is_same_type like type) refl e

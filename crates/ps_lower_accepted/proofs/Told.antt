@@ -7,7 +7,7 @@ use Rattle.ps_tree.specs.Tree.{Expr, SetExpr, Structure, Literal, Contents}
 use Rattle.ps_lower_layout.specs.Shapes.{Shape, shape_of, Part, Whole, Byte}
 use Rattle.ps_lower_layout.specs.Paths.{NumberSort, PointerSort}
 use Rattle.ps_lower_code.specs.Scopes.{Scope}
-use Rattle.ps_lower_accepted.proofs.Tidy.{PlaceSound, ExprSound, SetSound}
+use Rattle.ps_lower_code.specs.Fits.{PlaceFits, ExprFits, SetFits}
 use Rattle.ps_check_expressions.specs.Values.{Value, SimpleValue, SetValue, StructureValue, Variable, Operand}
 use Rattle.ps_lower_accepted.proofs.Lists.{Gives}
 use Rattle.ps_lower_accepted.proofs.Tables.{Table, OrdinalKnown, TypeKnown}
@@ -28,26 +28,26 @@ module _ (D : Table) (k : Scope) (os : List Shape) where
     -- a byte is a component of a packed variable, and an ordinal that fits a byte
     pub packed : byte ≡ true → v.in_packed ≡ true
     pub small : byte ≡ true → fits_byte v.type ≡ true
-    pub fits : PlaceSound k os v.place (part_of byte v.type)
+    pub fits : PlaceFits k os v.place (part_of byte v.type)
 
   abbrev pub SimpleTold : Expr → DataType → Type 0
-  SimpleTold e (OrdinalType o) = OrdinalKnown D o × ExprSound k os e NumberSort
-  SimpleTold e (PointerType n) = (n < bound_of k) × ExprSound k os e (PointerSort n)
-  SimpleTold e NilType = (n : ℕ) → ExprSound k os e (PointerSort n)
+  SimpleTold e (OrdinalType o) = OrdinalKnown D o × ExprFits k os e NumberSort
+  SimpleTold e (PointerType n) = (n < bound_of k) × ExprFits k os e (PointerSort n)
+  SimpleTold e NilType = (n : ℕ) → ExprFits k os e (PointerSort n)
   SimpleTold e type = ⊥
 
   abbrev pub SetTold : SetExpr → DataType → Type 0
-  SetTold e (SetType denoter packing base) = SetSound k os e
-  SetTold e EmptySetType = SetSound k os e
+  SetTold e (SetType denoter packing base) = SetFits k os e
+  SetTold e EmptySetType = SetFits k os e
   SetTold e type = ⊥
 
   abbrev pub StructureTold : Structure → DataType → Type 0
   StructureTold (Literal w) (TextType n) = (n ≡ length w) × IsText w
   StructureTold (Contents p like) (ArrayType at packed index component) = (like ≡ ArrayType at packed index component)
-      × TypeKnown D (bound_of k) (ArrayType at packed index component) × PlaceSound k os p
+      × TypeKnown D (bound_of k) (ArrayType at packed index component) × PlaceFits k os p
       (Whole (shape_of (ArrayType at packed index component)))
   StructureTold (Contents p like) (RecordType at packed fields) = (like ≡ RecordType at packed fields) × TypeKnown D
-      (bound_of k) (RecordType at packed fields) × PlaceSound k os p (Whole (shape_of (RecordType at packed fields)))
+      (bound_of k) (RecordType at packed fields) × PlaceFits k os p (Whole (shape_of (RecordType at packed fields)))
   StructureTold e type = ⊥
 
   abbrev pub ValueTold : Value → Type 0

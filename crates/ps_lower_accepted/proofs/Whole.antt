@@ -8,11 +8,7 @@ use Rattle.ps_syntax.specs.declared.program.Program as syntax
 use Rattle.ps_parse_grammar.specs.Trees.{IsTreeOf}
 use Rattle.ps_tree.specs.Types.{DataType}
 use Rattle.ps_tree.specs.Tree.{Program, Routine, no_routine}
-use Rattle.ps_lower_layout.specs.Shapes.{Shape, NumberShape, PointerShape, SetShape, ByteShape, ArrayShape}
-use Rattle.ps_lower_layout.specs.Shapes.{RecordShape, Shapes, no_shape, shape_before, shape_of}
-use Rattle.ps_lower_code.specs.First.{FirstFits, FieldsFit}
-use Rattle.ps_lower_code.specs.Routines.{scope_of}
-use Rattle.ps_lower_bounds.specs.Forms.{HasFirst, HaveFirst, VariablesHaveFirst, ResultHasFirst, RoutineFormed}
+use Rattle.ps_lower_bounds.specs.Forms.{VariablesHaveFirst, ResultHasFirst, RoutineFormed}
 use Rattle.ps_lower_bounds.specs.Forms.{RoutinesFormed}
 use Rattle.ps_lower_calls.specs.Binding.{FirstsFit}
 use Rattle.ps_lower_calls.specs.Routines.{ResultFits}
@@ -21,9 +17,7 @@ use Rattle.ps_check.specs.Programs.{program}
 use Rattle.ps_lower_accepted.specs.Formed.{IsFormed}
 use Rattle.ps_lower_accepted.specs.Laws.{AcceptedFit, AcceptedFormed}
 use Rattle.ps_lower_accepted.proofs.Lists.{Each}
-use Rattle.ps_lower_accepted.proofs.Counts.{ProgramFew, program_few}
-use Rattle.ps_lower_accepted.proofs.Tidy.{RoutineSound}
-use Rattle.ps_lower_accepted.proofs.Formed.{statements_so}
+use Rattle.ps_lower_accepted.proofs.Sound.{RoutineSound}
 use Rattle.ps_lower_accepted.proofs.Limits.{limits_small}
 use Rattle.ps_lower_accepted.proofs.Programs.{ProgramSound, accepted_sound}
 
@@ -44,35 +38,22 @@ accepted text tokens tree checked bytes source scanned derived e = let all = sou
 
 -- ---- first values
 
-mutual
-  first_formed : (shape : Shape) → FirstFits shape → HasFirst shape
-  first_formed (NumberShape first narrow) f = f.0
-  first_formed (PointerShape pointer) f = tt
-  first_formed SetShape f = tt
-  first_formed (ByteShape count first) f = f
-  first_formed (ArrayShape count shape) f = first_formed shape f
-  first_formed (RecordShape shapes) f = fields_formed shapes f
-
-  fields_formed : (shapes : Shapes) → FieldsFit shapes → HaveFirst shapes
-  fields_formed no_shape f = tt
-  fields_formed (shape_before shape rest) f = (first_formed shape f.0, fields_formed rest f.1)
-
 variables_formed : (types : List DataType) → FirstsFit types → VariablesHaveFirst types
 variables_formed [] f = tt
-variables_formed (type ∷ rest) f = (first_formed (shape_of type) f.0, variables_formed rest f.1)
+variables_formed (type ∷ rest) f = (f.0, variables_formed rest f.1)
 
 result_formed : (result : Option DataType) → ResultFits result → ResultHasFirst result
 result_formed None f = tt
-result_formed (Some type) f = first_formed (shape_of type) f.2
+result_formed (Some type) f = f.2
 
 -- ---- routines and programs
 
-routine_formed : (P : Program) (r : Routine) → ProgramFew P → RoutineSound P r → RoutineFormed P r
-routine_formed P r few s = record {
+routine_formed : (P : Program) (r : Routine) → RoutineSound P r → RoutineFormed P r
+routine_formed P r s = record {
   line = s.line;
   result = result_formed r.result s.fits.result;
   variables = variables_formed r.variables s.fits.variables;
-  body = (statements_so (scope_of P r) few [] tt r.body s.fits.body s.tidy).1;
+  body = s.fits.body;
 }
 
 routines_formed : (P : Program) (list : List Routine)
@@ -81,19 +62,14 @@ routines_formed P [] f = tt
 routines_formed P (r ∷ list) f = (f 0 (omega arith), routines_formed P list (λ i l. f (suc i) (omega (arith, l))))
 
 program_formed : (P : Program) → ProgramSound P → IsFormed P
-program_formed P s =
-    let few = program_few P s.limits in
-    record {
-      within_limits = s.limits;
-      formed = record {
-        begins = s.fits.begins;
-        routines = routines_formed P P.routines (λ i l. routine_formed P (get_or P.routines i no_routine) few
-            (s.routines i l));
-        domains = variables_formed P.domains s.domains;
-      };
-      lie = λ i l. let r = s.routines i l in (statements_so (scope_of P (get_or P.routines i no_routine)) few [] tt
-          (get_or P.routines i no_routine).body r.fits.body r.tidy).0;
-    }
+program_formed P s = record {
+  within_limits = s.limits;
+  formed = record {
+    begins = s.fits.begins;
+    routines = routines_formed P P.routines (λ i l. routine_formed P (get_or P.routines i no_routine) (s.routines i l));
+    domains = variables_formed P.domains s.domains;
+  };
+}
 
 pub formed : AcceptedFormed
 formed text tokens tree checked bytes source scanned derived e = program_formed checked

@@ -11,8 +11,8 @@ pub fn accepted_fit()
     ensures { AcceptedFit }
 {}
 
-/// Each number in a part of a checked program is an integer, each line is a line of a text, and each variable is within
-/// its frame or its object, so that no number in its code is too large.
+/// A checked program is within the limits, its statements fit, its routines have lines and its variables first values,
+/// so that no number in its code is too large.
 pub fn accepted_are_formed()
     ensures { AcceptedFormed }
 {}

@@ -6,8 +6,8 @@ use Rattle.std.proofs.Common.{w32}
 use Rattle.std.proofs.lemmas.Bool.{and_parts}
 use mir.Facts.{sfits_to_z}
 use lib.Signed.{mag}
-use Rattle.ps_tree.specs.declared.tree.Direction.{Direction}
-use Rattle.ps_tree.specs.declared.tree.Direction.TheVariants.{To, Downto}
+use Rattle.ps_tree.specs.declared.tree.operators.Direction.{Direction}
+use Rattle.ps_tree.specs.declared.tree.operators.Direction.TheVariants.{To, Downto}
 use Rattle.ps_tree.specs.Types.{DataType}
 use Rattle.ps_tree.specs.Sizes.{value_count}
 use Rattle.ps_meaning.specs.Expressions.{index_of}
@@ -27,7 +27,10 @@ use Rattle.ps_lower_code.specs.Scopes.{Scope}
 use Rattle.ps_lower_code.specs.Statements.{bytes_below, spread_code, zero_code, byte_word, bytes_code, first_code}
 use Rattle.ps_lower_code.specs.Statements.{fields_code, truth_text, components_code, tests_code, step_number}
 use Rattle.ps_lower_code.specs.Statements.{past_relation, turns_code, for_code, room_code}
-use Rattle.ps_lower_bounds.specs.Forms.{IsSmall, AllIntegers, HasFirst, HaveFirst, IsPart}
+use Rattle.ps_lower_code.specs.First.{FirstFits, FieldsFit}
+use Rattle.ps_lower_code.specs.Fits.{AllIntegers}
+use Rattle.ps_lower_bounds.specs.Forms.{IsSmall}
+use Rattle.ps_lower_bounds.proofs.Few.{IsPart}
 use Rattle.ps_lower_bounds.proofs.Closed.{IsInt, to_int, IsNumber, Closed, anywhere, joined, both, either}
 
 -- ---- words of bytes
@@ -107,9 +110,9 @@ module _ (R T : ℕ) (k : Scope) (h : length k.program.routines ≡ R) (b : Base
       (spread_closed t offset (byte_count shape) (count * byte_count shape) (omega (arith, s))))
 
   mutual
-    pub first_closed : (t offset : ℕ) (shape : Shape) → HasFirst shape → IsSmall (byte_count shape) → Closed R T 0 0
+    pub first_closed : (t offset : ℕ) (shape : Shape) → FirstFits shape → IsSmall (byte_count shape) → Closed R T 0 0
         (first_code k b t offset shape)
-    first_closed t offset (NumberShape first narrow) f s = (to_int first f, tt, (tt, tt, tt))
+    first_closed t offset (NumberShape first narrow) f s = (to_int first f.0, tt, (tt, tt, tt))
     first_closed t offset (PointerShape pointer) f s = (omega arith, tt, (tt, tt, tt))
     first_closed t offset SetShape f s = zero_closed t offset 32 (omega arith)
     first_closed t offset (ByteShape count first) f s = bytes_closed t offset count first (byte_most first f) s
@@ -117,7 +120,7 @@ module _ (R T : ℕ) (k : Scope) (h : length k.program.routines ≡ R) (b : Base
         (λ q. first_closed t offset shape f q) (count * word_count shape) refl
     first_closed t offset (RecordShape shapes) f s = fields_closed t offset shapes f s
 
-    fields_closed : (t offset : ℕ) (shapes : Shapes) → HaveFirst shapes → IsSmall (byte_count (RecordShape shapes))
+    fields_closed : (t offset : ℕ) (shapes : Shapes) → FieldsFit shapes → IsSmall (byte_count (RecordShape shapes))
         → Closed R T 0 0 (fields_code k b t offset shapes)
     fields_closed t offset no_shape f s = tt
     fields_closed t offset (shape_before shape rest) f s =

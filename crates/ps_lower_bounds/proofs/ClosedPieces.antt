@@ -4,12 +4,12 @@ use Rattle.std.proofs.Common.{nat_le, nat_lt, if◌then◌else◌, List, [], ◌
 use Rattle.std.proofs.Common.{None, refl, arith, leb-true, ltb-true, ltb-false}
 use Rattle.std.proofs.Math.Pow.{pow-lt}
 use Rattle.std.proofs.lemmas.Bool.{and_parts}
-use Rattle.ps_tree.specs.declared.tree.Range.{Range}
-use Rattle.ps_tree.specs.declared.tree.Range.TheVariants.{Any, Within}
-use Rattle.ps_tree.specs.declared.tree.SetRelation.{SetRelation}
-use Rattle.ps_tree.specs.declared.tree.SetRelation.TheVariants as sets
-use Rattle.ps_tree.specs.declared.tree.RequiredFunction.{RequiredFunction}
-use Rattle.ps_tree.specs.declared.tree.RequiredFunction.TheVariants.{Abs, Sqr, Odd, Ord, Chr, Succ, Pred}
+use Rattle.ps_tree.specs.declared.tree.operators.Range.{Range}
+use Rattle.ps_tree.specs.declared.tree.operators.Range.TheVariants.{Any, Within}
+use Rattle.ps_tree.specs.declared.tree.operators.SetRelation.{SetRelation}
+use Rattle.ps_tree.specs.declared.tree.operators.SetRelation.TheVariants as sets
+use Rattle.ps_tree.specs.declared.tree.operators.RequiredFunction.{RequiredFunction}
+use Rattle.ps_tree.specs.declared.tree.operators.RequiredFunction.TheVariants.{Abs, Sqr, Odd, Ord, Chr, Succ, Pred}
 use Rattle.ps_tree.specs.Types.{DataType}
 use Rattle.ps_tree.specs.Tree.{PlaceBase, Entry, Opened, Expr, Number, Nil, Minus, Not, Compare, ComparePointers, Eoln}
 use Rattle.ps_meaning.specs.Operators.{is_between}
@@ -22,7 +22,7 @@ use Rattle.tac_code.specs.Sound.{IsErrorNumber, IsTestNumber, IsLine}
 use Rattle.tac_code.specs.Numbers.{number_of}
 use Rattle.ps_lower_layout.specs.Words.{filled}
 use Rattle.ps_lower_layout.specs.Frames.{Kind, Own, Reference, Closure}
-use Rattle.ps_lower_code.specs.Fits.{FunctionFits}
+use Rattle.ps_lower_code.specs.Fits.{FunctionFits, ExprFits}
 use Rattle.ps_lower_code.specs.Scopes.{beside, moved, least, greatest, range_code, is_any, check_code, has_bytes}
 use Rattle.ps_lower_code.specs.Scopes.{fitting_code, operand_check, operand_of, Site, Scope, kind_at, is_outermost}
 use Rattle.ps_lower_code.specs.Scopes.{hops, frame_code, link_code, formal_code, words_code}
@@ -32,7 +32,9 @@ use Rattle.ps_lower_code.specs.Values.{reference_code, name_code, holds_all, out
 use Rattle.ps_lower_code.specs.Values.{outside_code, set_check, one_code, membership_code, clear_code, same_sets_code}
 use Rattle.ps_lower_code.specs.Values.{sets_code, range_members}
 use Rattle.ps_lower_code.proofs.Masks.{outside_small}
-use Rattle.ps_lower_bounds.specs.Forms.{IsRange, HasBounds, ExprFormed}
+use Rattle.ps_lower_layout.specs.Shapes.{Shape}
+use Rattle.ps_lower_layout.specs.Paths.{Sort}
+use Rattle.ps_lower_bounds.proofs.Few.{IsRange, HasBounds}
 use Rattle.ps_lower_bounds.proofs.Closed.{IsInt, to_int, IsNumber, Closed, anywhere, both, either}
 
 -- ---- numbers
@@ -67,23 +69,17 @@ filled_whole (a ∷ b ∷ []) = omega arith
 filled_whole (a ∷ b ∷ c ∷ []) = omega arith
 filled_whole (a ∷ b ∷ c ∷ d ∷ rest) = let e = filled_whole rest in omega (arith, e)
 
-module _ (R T : ℕ) where
-  pub literal_known : (e : Expr) → ExprFormed R T e → IsKnown (literal_of e)
-  literal_known (Number n) f = to_int n f
-  literal_known Nil f = omega arith
-  literal_known (Minus e line) f = negated_known e
-  literal_known _ f = tt
+module _ (k : Scope) (os : List Shape) where
+  pub literal_known : (e : Expr) (sort : Sort) → ExprFits k os e sort → IsKnown (literal_of e)
+  literal_known (Number n) sort f = to_int n f.1
+  literal_known Nil sort f = omega arith
+  literal_known (Minus e line) sort f = negated_known e
+  literal_known _ sort f = tt
 
+module _ (R T : ℕ) where
   pub operand_number : (z : Option ℤ) (t : ℕ) → IsKnown z → IsNumber (operand_of z t)
   operand_number None t f = tt
   operand_number (Some z) t f = f
-
-  pub right_number : (e : Expr) (d : ℕ) → ExprFormed R T e → IsNumber (right_in e d)
-  right_number (Compare relation a b) d f = operand_number (literal_of b) _ (literal_known b f.1)
-  right_number (ComparePointers relation a b) d f = operand_number (literal_of b) _ (literal_known b f.1)
-  right_number (Not e) d f = right_number e d f
-  right_number (Eoln line) d f = omega arith
-  right_number _ d f = omega arith
 
   -- ---- tests of ranges
 
@@ -114,13 +110,6 @@ module _ (R T : ℕ) where
       ((e, w), tt, tt)
 
   -- ---- expressions as conditions
-
-  pub finish_closed : (e : Expr) (d : ℕ) → ExprFormed R T e → Closed R T 0 0 (finish e d)
-  finish_closed e d f = either R T (is_relation e) (relation_code e d) [] (right_number e d f, tt, tt) tt
-
-  pub truth_closed : (e : Expr) (d : ℕ) → ExprFormed R T e → Closed R T 0 0 (truth_finish e d)
-  truth_closed e d f = either R T (is_truth e && not (is_relation e)) [] (relation_code e d) tt
-      (right_number e d f, tt, tt)
 
   pub function_closed : (f : RequiredFunction) (d line : ℕ) → FunctionFits f → IsLine line → Closed R T 0 0
       (function_code f d line)
@@ -249,3 +238,21 @@ module _ (R T : ℕ) (k : Scope) (h : length k.program.routines ≡ R) where
 
   pub members_closed : (a b x line : ℕ) → IsLine line → Closed R T 0 0 (range_members k a b x line)
   members_closed a b x line w = omega (arith, h, w)
+
+-- ---- expressions as conditions
+
+module _ (R T : ℕ) (k : Scope) (os : List Shape) where
+  pub right_number : (e : Expr) (sort : Sort) (d : ℕ) → ExprFits k os e sort → IsNumber (right_in e d)
+  right_number (Compare relation a b) sort d f = operand_number R T (literal_of b) _ (literal_known k os b _ f.2)
+  right_number (ComparePointers relation a b) sort d f = operand_number R T (literal_of b) _
+      (literal_known k os b _ f.1.2)
+  right_number (Not e) sort d f = right_number e _ d f.1
+  right_number (Eoln line) sort d f = omega arith
+  right_number _ sort d f = omega arith
+
+  pub finish_closed : (e : Expr) (sort : Sort) (d : ℕ) → ExprFits k os e sort → Closed R T 0 0 (finish e d)
+  finish_closed e sort d f = either R T (is_relation e) (relation_code e d) [] (right_number e _ d f, tt, tt) tt
+
+  pub truth_closed : (e : Expr) (sort : Sort) (d : ℕ) → ExprFits k os e sort → Closed R T 0 0 (truth_finish e d)
+  truth_closed e sort d f = either R T (is_truth e && not (is_relation e)) [] (relation_code e d) tt
+      (right_number e _ d f, tt, tt)

@@ -1,6 +1,6 @@
 -- The code of a routine is closed, but for its end, to which jumps may lead.
 use Rattle.std.proofs.Common.{◌≡◌, ℕ, suc, ◌+◌, ◌≤◌, if◌then◌else◌, List, [], ◌∷◌, ◌++◌, length, Option, Some, None}
-use Rattle.std.proofs.Common.{arith}
+use Rattle.std.proofs.Common.{refl, arith}
 use Rattle.ps_tree.specs.Types.{DataType}
 use Rattle.ps_tree.specs.Sizes.{cells}
 use Rattle.ps_tree.specs.Counts.{routine_cells, routine_extent, formals_extent, formal_cells, result_extent}
@@ -20,9 +20,10 @@ use Rattle.ps_lower_code.specs.Routines.{variables_code, result_code, result_ent
 use Rattle.ps_lower_code.specs.Routines.{begin_code, scope_of}
 use Rattle.ps_lower_bounds.specs.Forms.{IsSmall, VariablesHaveFirst, ResultHasFirst, RoutineFormed}
 use Rattle.ps_lower_bounds.proofs.Cells.{words_cells}
+use Rattle.ps_lower_bounds.proofs.Counts.{ProgramFew}
 use Rattle.ps_lower_bounds.proofs.Closed.{Closed, both, four, either}
 use Rattle.ps_lower_bounds.proofs.ClosedFirsts.{first_closed}
-use Rattle.ps_lower_bounds.proofs.ClosedStatements.{Known, statements_closed}
+use Rattle.ps_lower_bounds.proofs.ClosedStatements.{statements_closed}
 
 -- a type of few cells has few bytes
 pub few_bytes : (type : DataType) → cells type ≤ 100000 → IsSmall (byte_count (shape_of type))
@@ -105,11 +106,11 @@ module _ (R T : ℕ) (k : Scope) (r : Routine) (h : length k.program.routines �
       (variables_closed r.variables (result_entries r.result + count_kinds (kinds_of r.formals)) P g (omega (arith, l)))
 
 -- all but the end of a routine
-pub routine_closed : (program : Program) (r : Routine) → Known (length program.routines) program
-    → RoutineFormed program r → routine_cells r ≤ 100000
+pub routine_closed : (program : Program) (r : Routine) → ProgramFew program → RoutineFormed program r → routine_cells r
+    ≤ 100000
     → Closed (length program.routines) (length program.domains) 0 0
     (begin_code (scope_of program r) r ++ statements_code (scope_of program r) r.body 0)
-routine_closed program r h f l =
+routine_closed program r few f l =
     let R = length program.routines in let T = length program.domains in let k = scope_of program r in
-    both R T (begin_code k r) _ (begin_closed R T k r h.0 f.result f.variables l)
-    (statements_closed R T k h r.body 0 f.body)
+    both R T (begin_code k r) _ (begin_closed R T k r refl f.result f.variables l)
+    (statements_closed R T k [] (record { routines = refl; types = refl; program = few; opened = tt }) r.body 0 f.body)

@@ -1,7 +1,7 @@
 -- What first values, transfers of components, and the pieces of `case`, `for` and `write` use.
 use Rattle.std.proofs.Common.{ℕ, suc, ◌+◌, ◌*◌, ◌/◌, ◌%◌, ◌<◌, ◌≤◌, Bool, true, false, nat_le, nat_lt, nat_eq, List}
 use Rattle.std.proofs.Common.{[], ◌∷◌, ℤ, pos, Option, Some, None, arith}
-use Rattle.ps_tree.specs.declared.tree.Direction.{Direction}
+use Rattle.ps_tree.specs.declared.tree.operators.Direction.{Direction}
 use Rattle.ps_tree.specs.Types.{DataType}
 use Rattle.ps_tree.specs.Sizes.{value_count}
 use Rattle.ps_tree.specs.Tree.{Place, Variable}

@@ -6,6 +6,9 @@ pub mod Values
 pub mod Firsts
 pub mod Statements
 pub mod Routines
+pub mod Lists
+pub mod Counts
+pub mod Few
 pub mod Closed
 pub mod ClosedPieces
 pub mod ClosedValues

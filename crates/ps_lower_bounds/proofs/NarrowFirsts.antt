@@ -1,7 +1,7 @@
 -- First values, transfers, and the pieces of `case` and `for` have small offsets.
 use Rattle.std.proofs.Common.{◌≡◌, ℕ, zero, suc, ◌+◌, ◌*◌, ◌/◌, ◌%◌, ◌<◌, ◌≤◌, Bool, true, false, nat_le, nat_lt}
 use Rattle.std.proofs.Common.{nat_eq, if◌then◌else◌, List, [], ◌∷◌, ◌++◌, ℤ, refl, arith}
-use Rattle.ps_tree.specs.declared.tree.Direction.{Direction}
+use Rattle.ps_tree.specs.declared.tree.operators.Direction.{Direction}
 use Rattle.ps_tree.specs.Types.{DataType}
 use Rattle.ps_tree.specs.Sizes.{value_count}
 use Rattle.ps_meaning.specs.Expressions.{index_of}

@@ -1,6 +1,6 @@
 -- In a program within the limits each offset of a routine's code is small.
-use Rattle.std.proofs.Common.{◌≡◌, ℕ, zero, suc, ◌+◌, ◌<◌, ◌≤◌, Bool, true, false, ◌&&◌, if◌then◌else◌, List, [], ◌∷◌}
-use Rattle.std.proofs.Common.{◌++◌, length, get_or, slice_get, Option, Some, None, refl, ap, subst, arith, leb-true}
+use Rattle.std.proofs.Common.{◌≡◌, ℕ, zero, suc, ◌+◌, ◌<◌, ◌≤◌, true, if◌then◌else◌, List, [], ◌∷◌}
+use Rattle.std.proofs.Common.{◌++◌, length, get_or, slice_get, Option, Some, None, ap, subst, arith, leb-true}
 use Rattle.std.proofs.lemmas.Option.{none-some}
 use Rattle.std.proofs.lemmas.Bool.{and_parts}
 use Rattle.ps_tree.specs.Types.{DataType, PointerType}
@@ -25,7 +25,7 @@ use Rattle.ps_lower_code.specs.Routines.{own_code, parameter_code, parameter_wor
 use Rattle.ps_lower_code.specs.Routines.{variables_code, result_code, result_entries, count_kinds, input_code}
 use Rattle.ps_lower_code.specs.Routines.{begin_code, result_end, end_code, scope_of, routine_code}
 use Rattle.ps_lower_bounds.specs.Forms.{IsSmall}
-use Rattle.ps_lower_bounds.specs.Places.{StatementsLie}
+use Rattle.ps_lower_code.specs.Fits.{StatementsFit}
 use Rattle.ps_lower_bounds.specs.Fields.{HasSmallOffsets, HaveSmallOffsets}
 use Rattle.ps_lower_bounds.proofs.Cells.{words_cells, entries_words}
 use Rattle.ps_lower_bounds.proofs.Uses.{AtBase, Uses, Under}
@@ -213,7 +213,7 @@ short_second : (ks ls : List Kind) → AllShort (ks ++ ls) → AllShort ls
 short_second [] ls a = a
 short_second (k ∷ ks) ls a = short_second ks ls a.1
 
-routine_narrow : (program : Program) (r : Routine) → Framed program → FramedRoutine r → StatementsLie
+routine_narrow : (program : Program) (r : Routine) → Framed program → FramedRoutine r → StatementsFit
     (scope_of program r) [] r.body → Narrow (routine_code program r)
 routine_narrow program r b f s =
     let k = scope_of program r in
@@ -271,7 +271,7 @@ routines_part program e = (and_parts _ _ e).1
 
 pub offsets_small : (program : Program) → is_within_limits program ≡ true → (number : ℕ)
     → number < length program.routines
-    → StatementsLie (scope_of program (routine_at program number)) [] (routine_at program number).body
+    → StatementsFit (scope_of program (routine_at program number)) [] (routine_at program number).body
     → HaveSmallOffsets (routine_code program (routine_at program number))
 offsets_small program e number l s =
     let r = routine_at program number in

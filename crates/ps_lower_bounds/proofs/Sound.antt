@@ -1,11 +1,11 @@
 -- Code that is closed, and whose counts are those that it needs, keeps the invariant.
-use Rattle.std.proofs.Common.{◌≡◌, ℕ, zero, suc, ◌+◌, ◌<◌, ◌≤◌, Bool, true, false, ◌&&◌, if◌then◌else◌, List, [], ◌∷◌}
-use Rattle.std.proofs.Common.{◌++◌, length, map, get_or, slice_get, pos, Option, Some, None, All, refl, ap, subst}
+use Rattle.std.proofs.Common.{◌≡◌, ℕ, zero, suc, ◌+◌, ◌<◌, ◌≤◌, Bool, true, false, if◌then◌else◌, List, [], ◌∷◌}
+use Rattle.std.proofs.Common.{◌++◌, length, map, slice_get, pos, Option, Some, None, All, refl, ap, subst}
 use Rattle.std.proofs.Common.{arith, length-append, leb-true}
 use Rattle.std.proofs.lemmas.Option.{none-some}
 use Rattle.std.proofs.lemmas.List.Elements.{All-nil, All-cons}
 use Rattle.std.proofs.lemmas.Bool.{and_parts}
-use Rattle.ps_tree.specs.Types.{DataType, PointerType}
+use Rattle.ps_tree.specs.Types.{DataType}
 use Rattle.ps_tree.specs.Sizes.{cells}
 use Rattle.ps_tree.specs.Counts.{is_within_limits, are_small, are_routines_within_limits, is_routine_within_limits}
 use Rattle.ps_tree.specs.Counts.{routine_cells, routine_nodes}
@@ -30,11 +30,11 @@ use Rattle.ps_lower_code.specs.Statements.{statements_code}
 use Rattle.ps_lower_code.specs.Routines.{begin_code, result_end, end_code, scope_of, routine_code}
 use Rattle.ps_lower_code.specs.Programs.{in_operand, in_base, in_list, named_in, temporaries_in, scratch_at, meant_by}
 use Rattle.ps_lower_code.specs.Programs.{scratch_in, tac_of, object_bytes, code_of}
-use Rattle.ps_lower_bounds.specs.Forms.{VariablesHaveFirst, RoutineFormed, RoutinesFormed, ProgramFormed}
+use Rattle.ps_lower_bounds.specs.Forms.{RoutineFormed, RoutinesFormed, ProgramFormed}
 use Rattle.ps_lower_bounds.proofs.Uses.{scratch_whole}
 use Rattle.ps_lower_bounds.proofs.Routines.{depth_of, scratch_of, routine_under, sizes_bounded}
 use Rattle.ps_lower_bounds.proofs.Closed.{of_int, IsNumber, Asks, Lands, Closed}
-use Rattle.ps_lower_bounds.proofs.ClosedStatements.{IsVariable, Known}
+use Rattle.ps_lower_bounds.proofs.Counts.{ProgramFew, program_few}
 use Rattle.ps_lower_bounds.proofs.ClosedRoutines.{few_bytes, routine_closed}
 
 -- what two options hold
@@ -177,11 +177,11 @@ length_mapped f (x ∷ list) = ap suc (length_mapped f list)
 
 -- ---- routines
 
-module _ (program : Program) (h : Known (length program.routines) program) where
+module _ (program : Program) (few : ProgramFew program) where
   routine_sound : (r : Routine) → RoutineFormed program r → is_routine_within_limits r ≡ true → IsSoundRoutine
       (limits_of (code_of run_time_routines program) (tac_of program r)) (tac_of program r)
   routine_sound r f e =
-      let few : (routine_cells r ≤ 100000) × (routine_nodes r ≤ 4194304) = few_nodes r e in
+      let nodes : (routine_cells r ≤ 100000) × (routine_nodes r ≤ 4194304) = few_nodes r e in
       let bytes = sizes_bounded program r in
       let code = begin_code (scope_of program r) r ++ statements_code (scope_of program r) r.body 0 in
       let l : Limits = limits_of (code_of run_time_routines program) (tac_of program r) in
@@ -192,13 +192,13 @@ module _ (program : Program) (h : Known (length program.routines) program) where
       let some = end_some r in
       let sound : (j : ℕ) (v : Instruction) → slice_get (routine_code program r) j ≡ Some v → IsSoundAt l (0 + j) v =
       body_sound (length program.routines) (length program.domains) l routines types code (end_code r) 0
-      (routine_closed program r h f few.0) (omega arith) (omega arith) (omega (arith, places, some))
+      (routine_closed program r few f nodes.0) (omega arith) (omega arith) (omega (arith, places, some))
       (end_sound (length program.routines) (length program.domains) l routines types r) in
       record {
         parameters = omega arith;
         frame = omega arith;
         scratch = scratch_whole (depth_of r) (scratch_of r) (routine_code program r) (routine_under program r);
-        bytes = omega (arith, bytes, few);
+        bytes = omega (arith, bytes, nodes);
         begins = f.line;
         body = λ j v e. let here : 0 + j ≡ j = omega arith in subst (λ p. IsSoundAt l p v) here (sound j v e);
       }
@@ -224,13 +224,6 @@ objects_sound (type ∷ rest) w zero n e =
     subst IsObjectSize (some_is e) (record { aligned = omega arith; below = few })
 objects_sound (type ∷ rest) w (suc j) n e = objects_sound rest (and_parts _ _ w).1 j n e
 
-domains_known : (types : List DataType) → VariablesHaveFirst types → are_small types ≡ true → (t : ℕ) → IsVariable
-    (get_or types t (PointerType 0))
-unfolding are_small
-domains_known [] f w t = (tt, omega arith)
-domains_known (type ∷ rest) f w zero = (f.0, few_bytes type (leb-true (cells type) 100000 (and_parts _ _ w).0))
-domains_known (type ∷ rest) f w (suc t) = domains_known rest f.1 (and_parts _ _ w).1 t
-
 -- ---- programs
 
 limits_parts : (program : Program) → is_within_limits program ≡ true → (length program.domains ≤ 1048576)
@@ -254,7 +247,7 @@ code_sound program w f =
     let fine = routines_are_sound (code_of run_time_routines program) in
     record {
       begins = omega (arith, n, begins);
-      program = routines_sound program (refl, domains_known program.domains f.domains limits.1) program.routines
+      program = routines_sound program (program_few program w) program.routines
           f.routines limits.2;
       run_time = fine.sound;
       leaves = fine.leaves;

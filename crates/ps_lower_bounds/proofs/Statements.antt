@@ -1,7 +1,7 @@
 -- What the code of statements uses: as much for each node and cell as that of expressions.
 use Rattle.std.proofs.Common.{ℕ, suc, ◌+◌, ◌*◌, ◌<◌, ◌≤◌, Bool, true, false, ◌||◌, List, [], ◌∷◌, ◌++◌, length, pos}
 use Rattle.std.proofs.Common.{None, arith}
-use Rattle.ps_tree.specs.declared.tree.Range.TheVariants.{Within}
+use Rattle.ps_tree.specs.declared.tree.operators.Range.TheVariants.{Within}
 use Rattle.ps_tree.specs.Sizes.{value_count}
 use Rattle.ps_tree.specs.Counts.{place_extent, expr_extent, places_extent, read_extent, reads_extent, width_extent}
 use Rattle.ps_tree.specs.Counts.{write_extent, writes_extent, statement_extent, statements_extent, elements_extent}

@@ -1,7 +1,7 @@
 -- What the code of variables, expressions and actual parameters uses: 8 temporaries for each node, and of the scratch
 -- block 32 bytes for each node and 4 for each cell that is copied.
 use Rattle.std.proofs.Common.{◌≡◌, ℕ, suc, ◌+◌, ◌*◌, ◌%◌, ◌<◌, ◌≤◌, if◌then◌else◌, [], ◌∷◌, ◌++◌, arith}
-use Rattle.ps_tree.specs.declared.tree.BooleanOperator.{BooleanOperator}
+use Rattle.ps_tree.specs.declared.tree.operators.BooleanOperator.{BooleanOperator}
 use Rattle.ps_tree.specs.declared.count.Extent.{Extent}
 use Rattle.ps_tree.specs.Counts.{place_extent, selector_extent, selectors_extent, expr_extent, arithmetic_extent}
 use Rattle.ps_tree.specs.Counts.{operands_extent, set_extent, set_steps_extent, member_extent, members_extent}

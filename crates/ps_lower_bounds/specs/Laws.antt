@@ -1,24 +1,18 @@
 -- The code of a program within the limits keeps the invariant of three-address code, and no number that arises while it
 -- is made is large.
-use Rattle.std.specs.Prelude.{◌≡◌, ℕ, ◌<◌, true, [], length}
+use Rattle.std.specs.Prelude.{◌≡◌, true}
 use Rattle.ps_tree.specs.Counts.{is_within_limits}
-use Rattle.ps_tree.specs.Tree.{Program, routine_at}
+use Rattle.ps_tree.specs.Tree.{Program}
 use Rattle.tac_code.specs.Sound.{IsSound}
 use Rattle.tac_rt.specs.Bodies.{run_time_routines}
 use Rattle.ps_lower_code.specs.Programs.{code_of}
-use Rattle.ps_lower_code.specs.Routines.{scope_of}
 use Rattle.ps_lower_bounds.specs.Forms.{ProgramFormed}
-use Rattle.ps_lower_bounds.specs.Places.{StatementsLie}
 use Rattle.ps_lower_bounds.specs.Weights.{AreLight}
 
 abbrev pub CodeIsSound : Type 0
 CodeIsSound = (program : Program) → is_within_limits program ≡ true → ProgramFormed program → IsSound
     (code_of run_time_routines program)
 
--- The routines of such a program weigh little, where the variables of each are within their frames and objects.
+-- The routines of such a program weigh little.
 abbrev pub WeightsAreSmall : Type 0
-WeightsAreSmall =
-    (program : Program) → is_within_limits program ≡ true → ProgramFormed program
-    → ((number : ℕ) → number < length program.routines → StatementsLie (scope_of program (routine_at program number)) []
-    (routine_at program number).body)
-    → AreLight program
+WeightsAreSmall = (program : Program) → is_within_limits program ≡ true → ProgramFormed program → AreLight program

@@ -24,15 +24,14 @@ pub fn code_is_sound()
     ensures { CodeIsSound }
 {}
 
-/// In a program within the limits, whose variables are within their frames and objects, every offset and byte count in
-/// the code is below 2,147,483,648.
+/// In a program within the limits, whose statements fit, every offset and byte count in the code is below
+/// 2,147,483,648.
 pub fn offsets_are_small()
     ensures { OffsetsAreSmall }
 {}
 
-/// While the code of a program within the limits is made, no number exceeds 1,000,000,000, where the tree is formed and
-/// the variables are within their frames and objects: no temporary, no byte of the scratch block, no offset and no byte
-/// count.
+/// While the code of a program within the limits is made, no number exceeds 1,000,000,000, where the tree is formed: no
+/// temporary, no byte of the scratch block, no offset and no byte count.
 pub fn weights_are_small()
     ensures { WeightsAreSmall }
 {}

@@ -90,7 +90,9 @@ bound_enough r ps n e =
     (bound_entries r ps n e) ∙ sym (kinds_placed 1 (entries r)) in
     omega (arith, a)
 
-module _ (p : Setting) (c : Activated) (gs : List Ghost) (w : World) (k : Scope) (r : Routine) (types : List DataType) (free count size : ℕ) (can : CanCopy p c gs w k count size) (caller end : ℕ) (theirs : Words) (waits : Waits c caller theirs) (link : Word) where
+module _ (p : Setting) (c : Activated) (gs : List Ghost) (w : World) (k : Scope) (r : Routine) (types : List DataType)
+    (free count size : ℕ) (can : CanCopy p c gs w k count size) (caller end : ℕ) (theirs : Words)
+    (waits : Waits c caller theirs) (link : Word) where
   abbrev link_piece : Piece
   link_piece = record { place = (layout_of r).link; words = Some link ∷ [] }
 

@@ -32,7 +32,8 @@ use Rattle.ps_lower_calls.specs.Passing.{CopiedIn}
 use Rattle.ps_lower_calls.proofs.Filling.{with_temporary}
 use Rattle.ps_lower_calls.proofs.Spread.{below_more}
 
-module _ (p : Setting) (c : Activated) (gs : List Ghost) (w : World) (k : Scope) (free count size : ℕ) (can : CanCopy p c gs w k count size) (caller end : ℕ) (theirs : Words) (waits : Waits c caller theirs) where
+module _ (p : Setting) (c : Activated) (gs : List Ghost) (w : World) (k : Scope) (free count size : ℕ)
+    (can : CanCopy p c gs w k count size) (caller end : ℕ) (theirs : Words) (waits : Waits c caller theirs) where
   -- the words of a value that stand in the caller's scratch block go to the frame
   scratch_copied : (shape : Shape) (v : Value) (y : Word) (words : Words) (work : Work) (pc x : ℕ)
       → (in_ : CopiedIn caller theirs end shape v y) → x + word_count shape ≤ length words

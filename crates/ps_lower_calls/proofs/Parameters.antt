@@ -45,7 +45,9 @@ words_kept a b free t (x ∷ xs) l e h = (
       (omega (arith, l)) e h.1,
 )
 
-module _ (p : Setting) (c : Activated) (gs : List Ghost) (w : World) (k : Scope) (r : Routine) (types : List DataType) (free count size : ℕ) (can : CanCopy p c gs w k count size) (caller end : ℕ) (theirs : Words) (waits : Waits c caller theirs) where
+module _ (p : Setting) (c : Activated) (gs : List Ghost) (w : World) (k : Scope) (r : Routine) (types : List DataType)
+    (free count size : ℕ) (can : CanCopy p c gs w k count size) (caller end : ℕ) (theirs : Words)
+    (waits : Waits c caller theirs) where
   -- the parameters from entry j on, and the variables from entry m on
   pub places_parameters : (ps : List Passing) (n j m t : ℕ) (places : List ℕ) (words : Words) (work : Work)
       (pc mid pc' : ℕ) → ArePassed caller theirs end ps → m ≡ j + count_kinds (passed_kinds ps) → drop j

@@ -2,11 +2,11 @@
 use Rattle.std.proofs.Common.{◌≡◌, ℕ, zero, suc, ℤ, pos, negsuc, true, List, [], ◌∷◌, Some, None, refl}
 use Rattle.ps_tree.specs.declared.types.Host.TheVariants.{Integer, Char}
 use Rattle.ps_tree.specs.declared.types.Ordinal.{Ordinal}
-use Rattle.ps_tree.specs.declared.tree.Range.TheVariants.{Within}
-use Rattle.ps_tree.specs.declared.tree.Direction.TheVariants.{To, Downto}
-use Rattle.ps_tree.specs.declared.tree.ArithmeticOperator.TheVariants.{Add, Subtract}
-use Rattle.ps_tree.specs.declared.tree.OrderRelation.TheVariants.{Less as IsLess, Greater as IsGreater}
-use Rattle.ps_tree.specs.declared.tree.OrderRelation.TheVariants.{Equal as IsEqual}
+use Rattle.ps_tree.specs.declared.tree.operators.Range.TheVariants.{Within}
+use Rattle.ps_tree.specs.declared.tree.operators.Direction.TheVariants.{To, Downto}
+use Rattle.ps_tree.specs.declared.tree.operators.ArithmeticOperator.TheVariants.{Add, Subtract}
+use Rattle.ps_tree.specs.declared.tree.operators.OrderRelation.TheVariants.{Less as IsLess, Greater as IsGreater}
+use Rattle.ps_tree.specs.declared.tree.operators.OrderRelation.TheVariants.{Equal as IsEqual}
 use Rattle.ps_tree.specs.Types.{DataType, OrdinalType, ArrayType}
 use Rattle.ps_tree.specs.Tree.{Place, Variable, Entry, Element, no_selector, selector_before, no_arithmetic_step}
 use Rattle.ps_tree.specs.Tree.{arithmetic_step_before, Expr, Number, Load, Arithmetic, Compare, Not, Call, CallFormal}

@@ -1,10 +1,10 @@
 -- More small programs, run by their meaning and as code, each of which distinguishes a wrong order or place from the
 -- right one: what is read first, whose frame a routine gets, when a structure is copied.
 use Rattle.std.proofs.Common.{◌≡◌, ℕ, pos, negsuc, true, List, [], ◌∷◌, Some, None, refl}
-use Rattle.ps_tree.specs.declared.tree.Range.TheVariants.{Within}
-use Rattle.ps_tree.specs.declared.tree.Direction.TheVariants.{To}
-use Rattle.ps_tree.specs.declared.tree.BooleanOperator.TheVariants.{And}
-use Rattle.ps_tree.specs.declared.tree.OrderRelation.TheVariants.{Greater as IsGreater, Equal as IsEqual}
+use Rattle.ps_tree.specs.declared.tree.operators.Range.TheVariants.{Within}
+use Rattle.ps_tree.specs.declared.tree.operators.Direction.TheVariants.{To}
+use Rattle.ps_tree.specs.declared.tree.operators.BooleanOperator.TheVariants.{And}
+use Rattle.ps_tree.specs.declared.tree.operators.OrderRelation.TheVariants.{Greater as IsGreater, Equal as IsEqual}
 use Rattle.ps_tree.specs.Types.{DataType, PointerType, ArrayType}
 use Rattle.ps_tree.specs.Tree.{Variable, Entry, Target, no_selector, selector_before, Expr, Load, Logic, Compare}
 use Rattle.ps_tree.specs.Tree.{no_operand, operand_before, Contents, ByValue, ByCopy, ByRoutine, no_argument}

@@ -1,14 +1,16 @@
--- What the lowering needs of a program: each part of the tree has the form that its place requires.
-use Rattle.std.specs.Prelude.{◌≡◌, ℕ, ◌<◌, ℤ, pos, List, [], ◌∷◌, length, drop, Option, Some, None, IsTrue, Bool, true}
+-- A well-formed tree is what the lowering needs: each part has the form that its place requires, its numbers are
+-- integers, its lines are lines, and its array types have components.
+use Rattle.std.specs.Prelude.{◌≡◌, ℕ, ◌<◌, ◌≤◌, ℤ, pos, List, [], ◌∷◌, length, drop, Option, Some, None, IsTrue, Bool}
+use Rattle.std.specs.Prelude.{true}
 use Rattle.std.specs.Prelude.{not, int_le, ◌&&◌, ◌||◌, slice_get}
 use Rattle.std.specs.List.{All}
-use Rattle.ps_tree.specs.declared.tree.Range.{Range}
-use Rattle.ps_tree.specs.declared.tree.Range.TheVariants.{Any, Within}
-use Rattle.ps_tree.specs.declared.tree.RequiredFunction.{RequiredFunction}
-use Rattle.ps_tree.specs.declared.tree.RequiredFunction.TheVariants.{Succ, Pred}
+use Rattle.ps_tree.specs.declared.tree.operators.Range.{Range}
+use Rattle.ps_tree.specs.declared.tree.operators.Range.TheVariants.{Any, Within}
+use Rattle.ps_tree.specs.declared.tree.operators.RequiredFunction.{RequiredFunction}
+use Rattle.ps_tree.specs.declared.tree.operators.RequiredFunction.TheVariants.{Succ, Pred}
 use Rattle.ps_tree.specs.Types.{DataType, string_length}
 use Rattle.ps_tree.specs.Sizes.{value_count}
-use Rattle.ps_tree.specs.Tree.{BySet, AssignSet, Place, Variable, PlaceBase, Entry, Opened, Selector, Element, Field}
+use Rattle.ps_tree.specs.Tree.{BySet, AssignSet, Place, Variable, PlaceBase, Entry, Opened, Element, Field}
 use Rattle.ps_tree.specs.Tree.{Target, Selectors, no_selector, selector_before, ArithmeticSteps, no_arithmetic_step}
 use Rattle.ps_tree.specs.Tree.{arithmetic_step_before, Operands, no_operand, operand_before, Expr, Number, Nil, Load}
 use Rattle.ps_tree.specs.Tree.{Plus, Minus, Not, Arithmetic, Logic, Compare, ComparePointers, CompareStrings, Apply}
@@ -24,8 +26,10 @@ use Rattle.ps_tree.specs.Tree.{ReadVariable, ReadChar, ReadInteger, Read, Readln
 use Rattle.ps_meaning.specs.Expressions.{index_of}
 use Rattle.tac_code.specs.declared.code.TheConstants.{BLOCK_LIMIT}
 use Rattle.tac_code.specs.Numbers.{is_integer}
+use Rattle.tac_code.specs.Sound.{IsLine}
 use Rattle.ps_lower_layout.specs.Shapes.{Shape, NumberShape, PointerShape, SetShape, ByteShape, ArrayShape, shape_of}
-use Rattle.ps_lower_layout.specs.Shapes.{field_part, Part, Whole, Byte, component_part}
+use Rattle.ps_lower_layout.specs.Shapes.{RecordShape, Shapes, no_shape, shape_before, field_part, Part, Whole, Byte}
+use Rattle.ps_lower_layout.specs.Shapes.{component_part}
 use Rattle.ps_lower_layout.specs.Paths.{Sort, NumberSort, PointerSort}
 use Rattle.ps_lower_layout.specs.Frames.{Kind, Own, Reference, Closure, Kinds, no_kind, kind_before, kinds_of}
 use Rattle.ps_lower_layout.specs.Frames.{result_shape}
@@ -51,6 +55,13 @@ outermost_of (r ∷ s ∷ rest) = outermost_of (s ∷ rest)
 abbrev pub IsInteger : ℤ → Type 0
 IsInteger z = IsTrue (is_integer z)
 
+abbrev pub AreIntegers : (low high : ℤ) → Type 0
+AreIntegers low high = IsInteger low × IsInteger high
+
+abbrev pub AllIntegers : List ℤ → Type 0
+AllIntegers [] = Unit {0}
+AllIntegers (n ∷ rest) = IsInteger n × AllIntegers rest
+
 -- the sort of value that a part holds
 abbrev pub SortOf : Part → Sort → Type 0
 SortOf Byte sort = sort ≡ NumberSort
@@ -65,7 +76,8 @@ sort_of_result shape = NumberSort
 -- the range that a variable requires of a number: a variable whose type's values are bytes gets bytes, and pointers
 -- have no range
 abbrev pub RangeFits : Range → Part → Type 0
-RangeFits (Within low high) Byte = IsTrue (int_le (pos 0) low && int_le high (pos 255))
+RangeFits (Within low high) Byte = IsInteger low × IsInteger high × IsTrue
+    (int_le (pos 0) low && int_le high (pos 255))
 RangeFits (Within low high) (Whole (NumberShape first narrow)) = IsInteger low × IsInteger high × IsTrue
     (not narrow || (int_le (pos 0) low && int_le high (pos 255)))
 RangeFits Any (Whole (PointerShape t)) = Unit {0}
@@ -88,10 +100,28 @@ FunctionFits (Succ high) = IsInteger high
 FunctionFits (Pred low) = IsInteger low
 FunctionFits _ = Unit {0}
 
+-- an index has a value
+abbrev pub HasIndex : DataType → Type 0
+HasIndex type = IsTrue (int_le (index_of type).low (index_of type).high)
+
 -- an array type, with as many components as its index has values
 abbrev pub IsArray : DataType → Type 0
 IsArray type = CountIs (shape_of type) (value_count (index_of type)) × IsInteger (index_of type).low × IsInteger
-    (index_of type).high
+    (index_of type).high × HasIndex type
+
+-- shapes whose arrays have components
+abbrev mutual
+  pub HasCells : Shape → Type 0
+  HasCells (NumberShape first narrow) = Unit {0}
+  HasCells (PointerShape pointer) = Unit {0}
+  HasCells SetShape = Unit {0}
+  HasCells (ByteShape count first) = 1 ≤ count
+  HasCells (ArrayShape count shape) = (1 ≤ count) × HasCells shape
+  HasCells (RecordShape shapes) = HaveCells shapes
+
+  pub HaveCells : Shapes → Type 0
+  HaveCells no_shape = Unit {0}
+  HaveCells (shape_before shape rest) = HasCells shape × HaveCells rest
 
 -- what `count` components of a shape are packed to and unpacked from: that many bytes where they are bytes, or
 -- components of the same shape
@@ -117,26 +147,24 @@ module _ (k : Scope) where
     PlaceFits os (Variable name selectors) part = (shape : Shape) × BaseFits os name shape × SelectorsFit os selectors
         (Whole shape) part
 
+    -- from a part of a variable to a part of it, or of what it points to
     pub SelectorsFit : List Shape → Selectors → Part → Part → Type 0
     SelectorsFit os no_selector part part' = part ≡ part'
-    SelectorsFit os (selector_before s rest) part part' = (shape : Shape) × (part ≡ Whole shape)
-        × ((next : Part) × SelectorFits os s shape next × SelectorsFit os rest next part')
-
-    -- from a variable of a shape to its part
-    pub SelectorFits : List Shape → Selector → Shape → Part → Type 0
-    SelectorFits os (Element type e line) shape next = (shape ≡ shape_of type) × (next ≡ component_part (shape_of type))
-        × IsArray type × ExprFits os e NumberSort
-    SelectorFits os (Field type number) shape next = (shape ≡ shape_of type)
-        × ((inner : Shape) × (field_part (shape_of type) number ≡ Some inner) × (next ≡ Whole inner))
-    SelectorFits os (Target pointer line) shape next = (shape ≡ PointerShape pointer)
-        × (next ≡ Whole (shape_of (domain_at k.program pointer)))
+    SelectorsFit os (selector_before (Element type e line) rest) part part' = (part ≡ Whole (shape_of type))
+        × IsArray type × ExprFits os e NumberSort × IsLine line × SelectorsFit os rest
+        (component_part (shape_of type)) part'
+    SelectorsFit os (selector_before (Field type number) rest) part part' = (part ≡ Whole (shape_of type))
+        × ((inner : Shape) × (field_part (shape_of type) number ≡ Some inner) × SelectorsFit os rest
+        (Whole inner) part')
+    SelectorsFit os (selector_before (Target pointer line) rest) part part' = (part ≡ Whole (PointerShape pointer))
+        × IsLine line × SelectorsFit os rest (Whole (shape_of (domain_at k.program pointer))) part'
 
     pub ExprFits : List Shape → Expr → Sort → Type 0
     ExprFits os (Number n) sort = (sort ≡ NumberSort) × IsInteger n
     ExprFits os Nil sort = (t : ℕ) × (sort ≡ PointerSort t)
     ExprFits os (Load p) sort = (part : Part) × SortOf part sort × PlaceFits os p part
     ExprFits os (Plus e) sort = (sort ≡ NumberSort) × ExprFits os e NumberSort
-    ExprFits os (Minus e line) sort = (sort ≡ NumberSort) × ExprFits os e NumberSort
+    ExprFits os (Minus e line) sort = (sort ≡ NumberSort) × ExprFits os e NumberSort × IsLine line
     ExprFits os (Not e) sort = (sort ≡ NumberSort) × ExprFits os e NumberSort
     ExprFits os (Arithmetic e steps) sort = (sort ≡ NumberSort) × ExprFits os e NumberSort × StepsFit os steps
     ExprFits os (Logic operator e rest) sort = (sort ≡ NumberSort) × ExprFits os e NumberSort × OperandsFit os rest
@@ -148,14 +176,15 @@ module _ (k : Scope) where
         × (text_length a ≡ text_length b)
     ExprFits os (In a b) sort = (sort ≡ NumberSort) × ExprFits os a NumberSort × SetFits os b
     ExprFits os (Apply function e line) sort = (sort ≡ NumberSort) × FunctionFits function × ExprFits os e NumberSort
+        × IsLine line
     ExprFits os (Call r up arguments line) sort = DeclaredAt r up
         × ((shape : Shape) × (result_shape (routine_at k.program r).result ≡ Some shape) × SortOf (Whole shape) sort)
-        × ArgumentsFit os arguments (kinds_of (routine_at k.program r).formals)
+        × ArgumentsFit os arguments (kinds_of (routine_at k.program r).formals) × IsLine line
     ExprFits os (CallFormal up index arguments line) sort = (up < length k.chain)
         × ((kinds : Kinds) × ((shape : Shape) × (kind_at k up index ≡ Some (Closure kinds (Some shape))) × SortOf
-        (Whole shape) sort) × ArgumentsFit os arguments kinds)
+        (Whole shape) sort) × ArgumentsFit os arguments kinds) × IsLine line
     ExprFits os Eof sort = (sort ≡ NumberSort) × (outermost_of k.chain ≡ 0)
-    ExprFits os (Eoln line) sort = (sort ≡ NumberSort) × (outermost_of k.chain ≡ 0)
+    ExprFits os (Eoln line) sort = (sort ≡ NumberSort) × (outermost_of k.chain ≡ 0) × IsLine line
 
     -- a string's characters are bytes, and so are those of a string variable
     pub StructureFits : List Shape → Structure → Type 0
@@ -172,6 +201,7 @@ module _ (k : Scope) where
     pub StepsFit : List Shape → ArithmeticSteps → Type 0
     StepsFit os no_arithmetic_step = Unit {0}
     StepsFit os (arithmetic_step_before operator e line rest) = ExprFits os e NumberSort × StepsFit os rest
+        × IsLine line
 
     pub OperandsFit : List Shape → Operands → Type 0
     OperandsFit os no_operand = Unit {0}
@@ -192,8 +222,8 @@ module _ (k : Scope) where
     MembersFit os (member_before m rest) = MemberFits os m × MembersFit os rest
 
     pub MemberFits : List Shape → Member → Type 0
-    MemberFits os (One e line) = ExprFits os e NumberSort
-    MemberFits os (Several a b line) = ExprFits os a NumberSort × ExprFits os b NumberSort
+    MemberFits os (One e line) = ExprFits os e NumberSort × IsLine line
+    MemberFits os (Several a b line) = ExprFits os a NumberSort × ExprFits os b NumberSort × IsLine line
 
     -- actual parameters for formal ones: values, variables and routines
     pub ArgumentsFit : List Shape → Arguments → Kinds → Type 0
@@ -203,8 +233,9 @@ module _ (k : Scope) where
 
     pub ArgumentFits : List Shape → Argument → Kind → Type 0
     ArgumentFits os (ByValue e range line) kind = (shape : Shape) × (kind ≡ Own shape) × RangeFits range (Whole shape)
-        × ((sort : Sort) × SortOf (Whole shape) sort × ExprFits os e sort)
-    ArgumentFits os (BySet e low high line) kind = (kind ≡ Own SetShape) × SetFits os e
+        × ((sort : Sort) × SortOf (Whole shape) sort × ExprFits os e sort) × IsLine line
+    ArgumentFits os (BySet e low high line) kind = (kind ≡ Own SetShape) × SetFits os e × AreIntegers low high
+        × IsLine line
     ArgumentFits os (ByVariable p) kind = (shape : Shape) × (kind ≡ Reference shape) × PlaceFits os p (Whole shape)
     ArgumentFits os (ByRoutine r up) kind = DeclaredAt r up
         × (kind ≡ Closure (kinds_of (routine_at k.program r).formals) (result_shape (routine_at k.program r).result))
@@ -221,7 +252,7 @@ module _ (k : Scope) where
 
   abbrev pub WidthFits : List Shape → Width → Type 0
   WidthFits os DefaultWidth = Unit {0}
-  WidthFits os (GivenWidth e line) = ExprFits os e NumberSort
+  WidthFits os (GivenWidth e line) = ExprFits os e NumberSort × IsLine line
 
   abbrev pub WriteFits : List Shape → WriteParameter → Type 0
   WriteFits os (WriteInteger e width) = ExprFits os e NumberSort × WidthFits os width
@@ -236,9 +267,9 @@ module _ (k : Scope) where
   -- a variable of the range that its type requires of a character or an integer
   abbrev pub ReadFits : List Shape → ReadVariable → Type 0
   ReadFits os (ReadChar p low high line) = (part : Part) × PlaceFits os p part × SortOf part NumberSort × RangeFits
-      (Within low high) part
+      (Within low high) part × IsLine line
   ReadFits os (ReadInteger p low high line) = (part : Part) × PlaceFits os p part × SortOf part NumberSort × RangeFits
-      (Within low high) part
+      (Within low high) part × IsLine line
 
   abbrev pub ReadsFit : List Shape → List ReadVariable → Type 0
   ReadsFit os [] = Unit {0}
@@ -248,37 +279,42 @@ module _ (k : Scope) where
     pub StatementFits : List Shape → Statement → Type 0
     StatementFits os Empty = Unit {0}
     StatementFits os (Assign p range e line) = (part : Part) × PlaceFits os p part × RangeFits range part
-        × ((sort : Sort) × SortOf part sort × ExprFits os e sort)
+        × ((sort : Sort) × SortOf part sort × ExprFits os e sort) × IsLine line
     StatementFits os (AssignStructure p e) = (shape : Shape) × PlaceFits os p (Whole shape) × ContentsFit os e shape
         × IsStructure shape
     StatementFits os (AssignSet p low high e line) = PlaceFits os p (Whole SetShape) × SetFits os e
+        × AreIntegers low high × IsLine line
     StatementFits os (CallProcedure r up arguments line) = DeclaredAt r up × ArgumentsFit os arguments
-        (kinds_of (routine_at k.program r).formals)
+        (kinds_of (routine_at k.program r).formals) × IsLine line
     StatementFits os (CallFormalProcedure up index arguments line) = (up < length k.chain)
         × ((kinds : Kinds) × ((result : Option Shape) × (kind_at k up index ≡ Some (Closure kinds result))
-        × ArgumentsFit os arguments kinds))
+        × ArgumentsFit os arguments kinds)) × IsLine line
     StatementFits os (Compound body) = StatementsFit os body
     StatementFits os (If e s) = ExprFits os e NumberSort × StatementFits os s
     StatementFits os (IfElse e s t) = ExprFits os e NumberSort × StatementFits os s × StatementFits os t
-    StatementFits os (Case e elements line) = ExprFits os e NumberSort × ElementsFit os elements
+    StatementFits os (Case e elements line) = ExprFits os e NumberSort × ElementsFit os elements × IsLine line
     StatementFits os (While e s) = ExprFits os e NumberSort × StatementFits os s
     StatementFits os (Repeat body e) = StatementsFit os body × ExprFits os e NumberSort
     StatementFits os (For variable low high a from_line direction b to_line s) =
         ((first : ℤ) × ((narrow : Bool) × (kind_at k 0 variable ≡ Some (Own (NumberShape first narrow)))))
-        × ExprFits os a NumberSort × ExprFits os b NumberSort × StatementFits os s
+        × ExprFits os a NumberSort × ExprFits os b NumberSort × StatementFits os s × AreIntegers low high
+        × IsLine from_line × IsLine to_line
     StatementFits os (With places s) = (os' : List Shape) × OpenedFit os places os' × StatementFits os' s
     StatementFits os (New p pointer line) = PlaceFits os p (Whole (PointerShape pointer))
         × (pointer < length k.program.domains) × FirstFits (shape_of (domain_at k.program pointer))
+        × IsLine line
     StatementFits os (Pack p from_type e line q to_type) = (shape : Shape)
         × (shape_of from_type ≡ ArrayShape (value_count (index_of from_type)) shape) × PacksTo (shape_of to_type)
         (value_count (index_of to_type)) shape × IsArray from_type × PlaceFits os p (Whole (shape_of from_type))
-        × ExprFits os e NumberSort × PlaceFits os q (Whole (shape_of to_type))
+        × ExprFits os e NumberSort × PlaceFits os q (Whole (shape_of to_type)) × HasIndex to_type × HasCells
+        (shape_of to_type) × IsLine line
     StatementFits os (Unpack p from_type q to_type e line) = (shape : Shape)
         × (shape_of to_type ≡ ArrayShape (value_count (index_of to_type)) shape) × PacksTo (shape_of from_type)
         (value_count (index_of from_type)) shape × IsArray to_type × PlaceFits os p (Whole (shape_of from_type))
-        × PlaceFits os q (Whole (shape_of to_type)) × ExprFits os e NumberSort
+        × PlaceFits os q (Whole (shape_of to_type)) × ExprFits os e NumberSort × HasIndex from_type × HasCells
+        (shape_of from_type) × IsLine line
     StatementFits os (Read variables) = (outermost_of k.chain ≡ 0) × ReadsFit os variables
-    StatementFits os (Readln variables line) = (outermost_of k.chain ≡ 0) × ReadsFit os variables
+    StatementFits os (Readln variables line) = (outermost_of k.chain ≡ 0) × ReadsFit os variables × IsLine line
     StatementFits os (Write parameters) = WritesFit os parameters
     StatementFits os (Writeln parameters) = WritesFit os parameters
 
@@ -288,4 +324,4 @@ module _ (k : Scope) where
 
     pub ElementsFit : List Shape → Elements → Type 0
     ElementsFit os no_element = Unit {0}
-    ElementsFit os (element_before constants s rest) = StatementFits os s × ElementsFit os rest
+    ElementsFit os (element_before constants s rest) = StatementFits os s × ElementsFit os rest × AllIntegers constants

@@ -2,8 +2,8 @@
 -- share.
 use Rattle.std.specs.Prelude.{ℕ, zero, suc, ◌+◌, ◌%◌, ℤ, pos, Bool, true, false, ◌&&◌, nat_eq, if◌then◌else◌}
 use Rattle.std.specs.Prelude.{List, [], ◌∷◌, ◌++◌, length, Option, Some, None, get_or, slice_get, int_le}
-use Rattle.ps_tree.specs.declared.tree.Range.{Range}
-use Rattle.ps_tree.specs.declared.tree.Range.TheVariants.{Any, Within}
+use Rattle.ps_tree.specs.declared.tree.operators.Range.{Range}
+use Rattle.ps_tree.specs.declared.tree.operators.Range.TheVariants.{Any, Within}
 use Rattle.ps_tree.specs.Tree.{Program, Routine, routine_at}
 use Rattle.ps_meaning.specs.Operators.{is_between, is_equal}
 pub use Rattle.ps_meaning.specs.Operators.{least, greatest}

@@ -1,8 +1,8 @@
 -- The code of sets, at places that are given: whether they are within bounds, and their members.
 use Rattle.std.specs.Prelude.{ℕ, zero, suc, ◌+◌, ◌*◌, ◌/◌, ◌%◌, ◌^◌, ℤ, pos, unsigned_abs, Bool, true, false, not}
 use Rattle.std.specs.Prelude.{nat_eq, if◌then◌else◌, List, [], ◌∷◌, ◌++◌, Option, Some, None}
-use Rattle.ps_tree.specs.declared.tree.SetOperator.{SetOperator}
-use Rattle.ps_tree.specs.declared.tree.SetOperator.TheVariants.{Union, Difference, Intersection}
+use Rattle.ps_tree.specs.declared.tree.operators.SetOperator.{SetOperator}
+use Rattle.ps_tree.specs.declared.tree.operators.SetOperator.TheVariants.{Union, Difference, Intersection}
 use Rattle.ps_tree.specs.Tree.{SetExpr, LoadSet, Constructor, Combine}
 use Rattle.ps_meaning.specs.Operators.{is_between}
 use Rattle.tac_code.specs.declared.code.Operand.TheVariants as operand

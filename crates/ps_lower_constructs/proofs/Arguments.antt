@@ -1,8 +1,8 @@
 -- Actual parameters: what each passes, and where its words are.
 use Rattle.std.proofs.Common.{◌≡◌, ℕ, zero, suc, ◌+◌, ◌<◌, ◌≤◌, ℤ, true, false, List, [], ◌∷◌, ◌++◌, length, drop}
 use Rattle.std.proofs.Common.{Option, Some, None, refl, sym, ap, ◌∙◌, subst, arith, lt-ltb}
-use Rattle.ps_tree.specs.declared.tree.Range.{Range}
-use Rattle.ps_tree.specs.declared.tree.Range.TheVariants.{Any, Within as WithinBounds}
+use Rattle.ps_tree.specs.declared.tree.operators.Range.{Range}
+use Rattle.ps_tree.specs.declared.tree.operators.Range.TheVariants.{Any, Within as WithinBounds}
 use Rattle.ps_tree.specs.Tree.{Place, Expr, Argument, ByValue, BySet, ByCopy, ByVariable, ByRoutine, ByFormal}
 use Rattle.ps_tree.specs.Tree.{Arguments, no_argument, argument_before, routine_at}
 use Rattle.tac_code.specs.declared.code.Value.{Value as Word}

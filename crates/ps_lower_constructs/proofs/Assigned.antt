@@ -26,7 +26,8 @@ use Rattle.ps_lower_constructs.proofs.Structures.{contents_are, StructureIn, str
 use Rattle.ps_lower_constructs.proofs.Copying.{assigned}
 use Rattle.ps_lower_constructs.proofs.Statements.{StatementRuns, place_above}
 
-module _ (p : Setting) (n : ℕ) (call : Caller) (next : Next) (c : Activated) (active : IsActive p c) (nexts : NextRuns p n next) (does : WritesDo p) (calls : Callable p n call) where
+module _ (p : Setting) (n : ℕ) (call : Caller) (next : Next) (c : Activated) (active : IsActive p c)
+    (nexts : NextRuns p n next) (does : WritesDo p) (calls : Callable p n call) where
   pub assign_structure_run : (q : Place) (e : Structure) → StatementRuns p n call next c active nexts does calls
       (AssignStructure q e)
   assign_structure_run q e d o w k pc pc' alive opened fits st =

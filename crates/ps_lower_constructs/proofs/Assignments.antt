@@ -3,8 +3,8 @@ use Rattle.ps_lower_constructs.proofs.Calling.{Callable}
 use Rattle.std.proofs.Common.{◌≡◌, ℕ, suc, ◌≤◌, ℤ, pos, Bool, true, false, not, IsTrue, [], ◌∷◌, ◌++◌, Option}
 use Rattle.std.proofs.Common.{Some, refl, sym, ap, ◌∙◌, subst, arith, ◌&&◌, ◌||◌, int_le}
 use Rattle.std.proofs.lemmas.Bool.{and_parts}
-use Rattle.ps_tree.specs.declared.tree.Range.{Range}
-use Rattle.ps_tree.specs.declared.tree.Range.TheVariants.{Any, Within}
+use Rattle.ps_tree.specs.declared.tree.operators.Range.{Range}
+use Rattle.ps_tree.specs.declared.tree.operators.Range.TheVariants.{Any, Within}
 use Rattle.ps_tree.specs.Tree.{Expr, Assign, Place}
 use Rattle.tac_code.specs.declared.code.Base.{Base}
 use Rattle.tac_code.specs.declared.code.Base.TheVariants as base
@@ -49,7 +49,8 @@ byte_range low z high h e =
     let b = and_parts (int_le low z) (int_le z high) e in
     ap (λ t. t && int_le z (pos 255)) (le_through (pos 0) low z a.0 b.0) ∙ le_through z high (pos 255) b.1 a.1
 
-module _ (p : Setting) (n : ℕ) (call : Caller) (next : Next) (c : Activated) (active : IsActive p c) (nexts : NextRuns p n next) (does : WritesDo p) (calls : Callable p n call) where
+module _ (p : Setting) (n : ℕ) (call : Caller) (next : Next) (c : Activated) (active : IsActive p c)
+    (nexts : NextRuns p n next) (does : WritesDo p) (calls : Callable p n call) where
   -- ---- the constructs
 
   -- what was tested is a byte where only bytes go
@@ -132,7 +133,7 @@ module _ (p : Setting) (n : ℕ) (call : Caller) (next : Next) (c : Activated) (
       subst (λ q. Reached p c d 0 w1 k1 (state p c w1 k1 mid) pc' (λ w' k'. Unit {0}) (with_contents w1 s q)) (sym y.0)
       (store_byte_runs p (suc n) c active d 0 w1 k1 mid pc' t site s v alive1
       (site_kept p c (suc t) 0 w w1 k k1 site s Byte below kept1 at)
-      (byte_range low (number_of v) high ranged y.2) y.1 st))
+      (byte_range low (number_of v) high ranged.2 y.2) y.1 st))
 
   pub base_below : (a b : ℕ) (x : Base) → a ≤ b → IsBelow a x → IsBelow b x
   base_below a b base.Frame l h = tt

@@ -65,7 +65,12 @@ use Rattle.ps_lower_constructs.proofs.Writes.{frames_below, waiting_below}
 use Rattle.ps_lower_constructs.proofs.RoutinePlaces.{ResultIn, count_none, number_in, numbered_less, one_word, quarter}
 use Rattle.ps_lower_constructs.proofs.RoutinePlaces.{stands_from, true_no, words_in}
 
-module _ (p : Setting) (c : Activated) (active : IsActive p c) (fit : RoutinesFit p.program) (does : WritesDo p) (w : World) (k : Work) (pc t line r : ℕ) (parent : Env) (link : Word) (ps : List Passing) (kinds : Kinds) (shaped : Option Shape) (alive : Alive p c w k) (known_ : RoutineHere p.program c.ghosts w.made kinds shaped r) (outside : EnvAt p.program c.ghosts w.made parent link (tail (routine_at p.program r).chain)) (same : passed_kinds ps ≡ kinds) (passed : PassingsAt p.program c.ghosts w.made ps) (last : ℕ) (are : ArePassed c.number k.scratch last ps) where
+module _ (p : Setting) (c : Activated) (active : IsActive p c) (fit : RoutinesFit p.program) (does : WritesDo p)
+    (w : World) (k : Work) (pc t line r : ℕ) (parent : Env) (link : Word) (ps : List Passing) (kinds : Kinds)
+    (shaped : Option Shape) (alive : Alive p c w k) (known_ : RoutineHere p.program c.ghosts w.made kinds shaped r)
+    (outside : EnvAt p.program c.ghosts w.made parent link (tail (routine_at p.program r).chain))
+    (same : passed_kinds ps ≡ kinds) (passed : PassingsAt p.program c.ghosts w.made ps) (last : ℕ)
+    (are : ArePassed c.number k.scratch last ps) where
   abbrev routine : Routine
   routine = routine_at p.program r
 

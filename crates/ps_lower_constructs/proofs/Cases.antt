@@ -36,7 +36,8 @@ or_none : (b : Bool) → (b || false) ≡ b
 or_none true = refl
 or_none false = refl
 
-module _ (p : Setting) (n : ℕ) (call : Caller) (next : Next) (c : Activated) (active : IsActive p c) (nexts : NextRuns p n next) (does : WritesDo p) (calls : Callable p n call) where
+module _ (p : Setting) (n : ℕ) (call : Caller) (next : Next) (c : Activated) (active : IsActive p c)
+    (nexts : NextRuns p n next) (does : WritesDo p) (calls : Callable p n call) where
   -- past the tests, or past this many instructions after them
   abbrev Tested : World → Work → (pc mid past : ℕ) → Bool → Type 0
   Tested w k pc mid past b = Comes (machine_of p) (state p c w k pc) (state p c w k (if b then mid else mid + past))

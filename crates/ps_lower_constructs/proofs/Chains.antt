@@ -1,9 +1,9 @@
 -- Arithmetic, signs, `not` and comparisons.
 use Rattle.std.proofs.Common.{◌≡◌, ℕ, suc, ◌≤◌, ℤ, pos, ◌-ℤ◌, Bool, true, false, not, if◌then◌else◌, IsTrue, [], ◌∷◌}
 use Rattle.std.proofs.Common.{◌++◌, Option, Some, None, nat_eq, refl, sym, ap, ◌∙◌, subst, arith, eqb-true}
-use Rattle.ps_tree.specs.declared.tree.ArithmeticOperator.{ArithmeticOperator}
-use Rattle.ps_tree.specs.declared.tree.ArithmeticOperator.TheVariants.{Subtract}
-use Rattle.ps_tree.specs.declared.tree.OrderRelation.{OrderRelation}
+use Rattle.ps_tree.specs.declared.tree.operators.ArithmeticOperator.{ArithmeticOperator}
+use Rattle.ps_tree.specs.declared.tree.operators.ArithmeticOperator.TheVariants.{Subtract}
+use Rattle.ps_tree.specs.declared.tree.operators.OrderRelation.{OrderRelation}
 use Rattle.ps_tree.specs.Tree.{ArithmeticSteps, no_arithmetic_step, arithmetic_step_before, Expr, Plus, Minus, Not}
 use Rattle.ps_tree.specs.Tree.{Arithmetic, Compare}
 use Rattle.tac_code.specs.declared.code.Value.TheVariants.{Number as Numeral}

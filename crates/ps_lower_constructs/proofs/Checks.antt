@@ -20,7 +20,7 @@ use Rattle.ps_lower_relation.proofs.ByteParts.{byte_small, byte_number}
 use Rattle.ps_lower_relation.proofs.ByteWrites.{spot_byte_written, spot_byte_holds}
 use Rattle.ps_lower_layout.specs.Paths.{Sort, NumberSort, HasSort, HasShape, KeepsAt, GoesTo}
 use Rattle.ps_lower_code.specs.Scopes.{least, greatest, is_any, has_bytes, check_code, fitting_code, Site}
-use Rattle.ps_tree.specs.declared.tree.Range.TheVariants.{Within}
+use Rattle.ps_tree.specs.declared.tree.operators.Range.TheVariants.{Within}
 use Rattle.ps_lower_code.specs.Fits.{SortOf}
 use Rattle.ps_lower_relation.proofs.Places.{le_through}
 use Rattle.ps_lower_relation.specs.Ghosts.{EnvAt}

@@ -1,7 +1,7 @@
 -- Comparisons of strings.
 use Rattle.std.proofs.Common.{◌≡◌, ℕ, suc, ◌+◌, ◌<◌, ◌≤◌, ℤ, pos, [], ◌∷◌, ◌++◌, length, Some, None, refl, sym, ap}
 use Rattle.std.proofs.Common.{◌∙◌, subst, arith, append-nil}
-use Rattle.ps_tree.specs.declared.tree.OrderRelation.{OrderRelation}
+use Rattle.ps_tree.specs.declared.tree.operators.OrderRelation.{OrderRelation}
 use Rattle.ps_tree.specs.Tree.{Structure, Literal, Contents, CompareStrings}
 use Rattle.tac_code.specs.declared.code.Value.TheVariants.{Number as Numeral, Address}
 use Rattle.tac_code.specs.declared.code.Instruction.TheVariants as i

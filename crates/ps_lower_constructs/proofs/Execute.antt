@@ -30,7 +30,8 @@ use Rattle.ps_lower_constructs.proofs.Packing.{pack_run, unpack_run}
 use Rattle.ps_lower_constructs.proofs.Reading.{read_statement_run, readln_run}
 use Rattle.ps_lower_constructs.proofs.Cases.{ElementsRun, case_run, no_elements, elements_then}
 
-module _ (p : Setting) (n : ℕ) (call : Caller) (next : Next) (c : Activated) (active : IsActive p c) (nexts : NextRuns p n next) (does : WritesDo p) (calls : Callable p n call) where
+module _ (p : Setting) (n : ℕ) (call : Caller) (next : Next) (c : Activated) (active : IsActive p c)
+    (nexts : NextRuns p n next) (does : WritesDo p) (calls : Callable p n call) where
   mutual
     pub statement_runs : (s : Statement) → StatementRuns p n call next c active nexts does calls s
     statement_runs Empty = λ d o w k pc pc' alive opened fits st. here p (suc n) c d 0 w k pc pc'

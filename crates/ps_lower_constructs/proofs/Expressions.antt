@@ -4,8 +4,8 @@ use Rattle.ps_lower_constructs.proofs.Calling.{Callable, call_front, call_formal
 use Rattle.ps_lower_constructs.proofs.Arguments.{ArgumentRuns, ArgumentsRun, by_value, by_variable, by_routine}
 use Rattle.ps_lower_constructs.proofs.Arguments.{by_formal, no_arguments, argument_then}
 use Rattle.std.proofs.Common.{ℕ}
-use Rattle.ps_tree.specs.declared.tree.BooleanOperator.{BooleanOperator}
-use Rattle.ps_tree.specs.declared.tree.SetOperator.{SetOperator}
+use Rattle.ps_tree.specs.declared.tree.operators.BooleanOperator.{BooleanOperator}
+use Rattle.ps_tree.specs.declared.tree.operators.SetOperator.{SetOperator}
 use Rattle.ps_tree.specs.Tree.{Variable, no_selector, selector_before, ArithmeticSteps, no_arithmetic_step}
 use Rattle.ps_tree.specs.Tree.{arithmetic_step_before, Operands, no_operand, operand_before, Expr, Number, Nil, Load}
 use Rattle.ps_tree.specs.Tree.{Plus, Minus, Not, Arithmetic, Logic, Compare, ComparePointers, CompareSets}

@@ -1,9 +1,9 @@
 -- The required functions on ordinals.
 use Rattle.std.proofs.Common.{◌≡◌, ℕ, suc, ◌+◌, ◌%◌, ◌≤◌, ℤ, pos, ◌+ℤ◌, ◌-ℤ◌, ◌*ℤ◌, unsigned_abs, int_lt, Bool, true}
 use Rattle.std.proofs.Common.{false, not, ◌==◌, if◌then◌else◌, IsTrue, Some, None, refl, sym, ap, ◌∙◌, subst, arith}
-use Rattle.ps_tree.specs.declared.tree.ArithmeticOperator.TheVariants.{Subtract, Multiply}
-use Rattle.ps_tree.specs.declared.tree.RequiredFunction.{RequiredFunction}
-use Rattle.ps_tree.specs.declared.tree.RequiredFunction.TheVariants.{Abs, Sqr, Odd, Ord, Chr, Succ, Pred}
+use Rattle.ps_tree.specs.declared.tree.operators.ArithmeticOperator.TheVariants.{Subtract, Multiply}
+use Rattle.ps_tree.specs.declared.tree.operators.RequiredFunction.{RequiredFunction}
+use Rattle.ps_tree.specs.declared.tree.operators.RequiredFunction.TheVariants.{Abs, Sqr, Odd, Ord, Chr, Succ, Pred}
 use Rattle.ps_tree.specs.Tree.{Expr, Apply}
 use Rattle.tac_code.specs.declared.code.Value.TheVariants.{Number as Numeral}
 use Rattle.tac_code.specs.declared.code.Operator.TheVariants as operator

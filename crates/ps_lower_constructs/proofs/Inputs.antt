@@ -55,7 +55,9 @@ module _ (p : Setting) (c : Activated) (active : IsActive p c) where
   pub place_small : input_place p < 2147483648
   place_small = let small = active.small.frames 0 in omega (arith, small)
 
-  module _ (w : World) (fits : GhostsFit p.program w.made w.store c.ghosts) (count : ℕ) (numbered : Numbered c.ghosts count) (first : FirstHere p.program c.ghosts w.made (chain_of c)) (last : outermost_of (chain_of c) ≡ 0) (scratch : List Living) where
+  module _ (w : World) (fits : GhostsFit p.program w.made w.store c.ghosts) (count : ℕ)
+      (numbered : Numbered c.ghosts count) (first : FirstHere p.program c.ghosts w.made (chain_of c))
+      (last : outermost_of (chain_of c) ≡ 0) (scratch : List Living) where
     place_is : input_place p ≡ 4 * (layout_at p.program first.ghost.routine).input
     place_is =
         let there : input_offset (routine_at p.program first.ghost.routine) ≡ input_offset

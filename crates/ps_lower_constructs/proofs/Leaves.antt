@@ -4,8 +4,8 @@ use Rattle.std.proofs.Common.{if◌then◌else◌, IsTrue, List, refl, sym, ap, 
 use Rattle.std.proofs.Common.{int_div, lt-ltb, ltb-true, mod-lt, int_le}
 use Rattle.std.proofs.lemmas.Bool.{ne_eqb}
 use Rattle.behavior.specs.Endings.{Stack, Heap, Stuck, failed, ending_by}
-use Rattle.ps_tree.specs.declared.tree.ArithmeticOperator.{ArithmeticOperator}
-use Rattle.ps_tree.specs.declared.tree.ArithmeticOperator.TheVariants.{Add, Subtract, Multiply, Div, Mod}
+use Rattle.ps_tree.specs.declared.tree.operators.ArithmeticOperator.{ArithmeticOperator}
+use Rattle.ps_tree.specs.declared.tree.operators.ArithmeticOperator.TheVariants.{Add, Subtract, Multiply, Div, Mod}
 use Rattle.tac_code.specs.declared.code.Value.TheVariants.{Number}
 use Rattle.tac_code.specs.Numbers.{is_integer}
 use Rattle.tac_code.specs.Meaning.{Over, test_ending, fails, gives_computed}

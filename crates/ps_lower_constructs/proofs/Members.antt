@@ -103,7 +103,8 @@ module _ (p : Setting) (c : Activated) (active : IsActive p c) where
     pub passage : Passage p c active d x w k pc work pc'
     pub word : work.temporaries t ≡ Some (Numeral (truth_word b))
 
-  module _ (d x m u t : ℕ) (w : World) (k : Work) (pc pc' : ℕ) (above : m < u) (lu : d ≤ u) (lt : d ≤ t) (alive : Alive p c w k) (st : Stands (code_in p) c.routine pc (membership_code m u t) pc') where
+  module _ (d x m u t : ℕ) (w : World) (k : Work) (pc pc' : ℕ) (above : m < u) (lu : d ≤ u) (lt : d ≤ t)
+      (alive : Alive p c w k) (st : Stands (code_in p) c.routine pc (membership_code m u t) pc') where
     abbrev v : ℕ
     v = beside u
 

@@ -200,7 +200,8 @@ module _ (p : Setting) (n : ℕ) (c : Activated) (active : IsActive p c) (does :
         filled.temporaries t low ∙ put_same k.temporaries t address ∙ ap (λ m. Some (Address (Object m) 0)) counts.0,
       )
 
-module _ (p : Setting) (n : ℕ) (call : Caller) (next : Next) (c : Activated) (active : IsActive p c) (nexts : NextRuns p n next) (does : WritesDo p) (calls : Callable p n call) where
+module _ (p : Setting) (n : ℕ) (call : Caller) (next : Next) (c : Activated) (active : IsActive p c)
+    (nexts : NextRuns p n next) (does : WritesDo p) (calls : Callable p n call) where
   -- the object is made, and its pointer stored
   pointer_stored : (q : Place) (pointer line d h t free : ℕ) (o : Opening) (pc' : ℕ) (site : Site) → d ≤ h → suc h ≤ t
       → suc t ≤ free → StatementFits (plain_scope p c) o.shapes (New q pointer line) → (s : Spot) (w1 : World)

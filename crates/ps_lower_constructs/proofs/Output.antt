@@ -91,11 +91,11 @@ module _ (p : Setting) (n : ℕ) (call : Caller) (next : Next) (c : Activated) (
       (runs_told p (suc n) c t 0 w k pc cut.0 (value call e ctx w)
       (λ v w' k'. WordIn k'.temporaries w'.made t NumberSort v)
       (expr_runs p n call c active calls e t 0 o w k pc cut.0 NumberSort alive
-      (opened_kept p c d 0 t w w k k o l (keeps_refl d 0 w k) opened) fits cut.1))
+      (opened_kept p c d 0 t w w k k o l (keeps_refl d 0 w k) opened) fits.0 cut.1))
       (λ v w1 k1 alive1 kept1 r1.
       tested v w1 k1 cut.0 (int_lt (number_of v) (pos 1)) refl r1.0
       (check_runs p (suc n) c active t 0 o w1 k1 cut.0 pc' t (pos 1) greatest 11 line (literal_of e) v
-      (omega arith) alive1 (λ z q. let known_ = known_is p n call c active e z o w q fits in ap number_of
+      (omega arith) alive1 (λ z q. let known_ = known_is p n call c active e z o w q fits.0 in ap number_of
       (r1.1 known_.v w known_.gives_it) ∙ known_.is) r1.0 cut.2))
     where
       tested : (v : Value) (w1 : World) (k1 : Work) (m : ℕ) (b : Bool) → int_lt (number_of v) (pos 1) ≡ b

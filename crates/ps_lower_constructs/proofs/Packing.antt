@@ -42,7 +42,8 @@ use Rattle.ps_lower_constructs.proofs.Transfers.{packed_so, unpacked_so}
 no_bytes : (shape inner : Shape) (m : ℕ) → shape ≡ ArrayShape m inner → is_byte_array shape ≡ false
 no_bytes shape inner m e = ap is_byte_array e
 
-module _ (p : Setting) (n : ℕ) (call : Caller) (next : Next) (c : Activated) (active : IsActive p c) (nexts : NextRuns p n next) (does : WritesDo p) (calls : Callable p n call) where
+module _ (p : Setting) (n : ℕ) (call : Caller) (next : Next) (c : Activated) (active : IsActive p c)
+    (nexts : NextRuns p n next) (does : WritesDo p) (calls : Callable p n call) where
   pub pack_run : (q : Place) (from_type : DataType) (e : Expr) (line : ℕ) (q' : Place) (to_type : DataType)
       → StatementRuns p n call next c active nexts does calls (Pack q from_type e line q' to_type)
   pack_run q from_type e line q' to_type d o w k pc pc' alive opened fits st =

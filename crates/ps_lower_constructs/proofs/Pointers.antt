@@ -1,8 +1,8 @@
 -- Comparisons of pointers.
 use Rattle.std.proofs.Common.{◌≡◌, ℕ, suc, ◌≤◌, ℤ, pos, List, ◌++◌, Option, Some, None, refl, sym, ap, ◌∙◌, subst}
 use Rattle.std.proofs.Common.{arith}
-use Rattle.ps_tree.specs.declared.tree.PointerRelation.{PointerRelation}
-use Rattle.ps_tree.specs.declared.tree.PointerRelation.TheVariants.{Same, Other}
+use Rattle.ps_tree.specs.declared.tree.operators.PointerRelation.{PointerRelation}
+use Rattle.ps_tree.specs.declared.tree.operators.PointerRelation.TheVariants.{Same, Other}
 use Rattle.ps_tree.specs.Tree.{Expr, Number, Nil, Load, Plus, Minus, Not, Arithmetic, Logic, Compare, ComparePointers}
 use Rattle.ps_tree.specs.Tree.{CompareSets, CompareStrings, In, Apply, Eof, Eoln, Call, CallFormal}
 use Rattle.tac_code.specs.Meaning.{related, operand_value}

@@ -7,7 +7,7 @@ use Rattle.std.proofs.Common.{append-nil}
 use Rattle.std.specs.List.{All}
 use Rattle.std.proofs.lemmas.Bool.{and_parts}
 use Rattle.behavior.specs.Endings.{failed}
-use Rattle.ps_tree.specs.declared.tree.Range.TheVariants.{Within}
+use Rattle.ps_tree.specs.declared.tree.operators.Range.TheVariants.{Within}
 use Rattle.ps_tree.specs.Tree.{Place, ReadInteger, routine_at}
 use Rattle.tac_code.specs.declared.code.Block.TheVariants.{Frame as FrameBlock, Scratch as ScratchBlock}
 use Rattle.tac_code.specs.declared.code.Value.{Value as Word}
@@ -197,19 +197,10 @@ range_integers low high (Whole SetShape) sorted ranged x e = absurd ranged
 range_integers low high (Whole (ByteShape n first)) sorted ranged x e = absurd ranged
 range_integers low high (Whole (ArrayShape n shape)) sorted ranged x e = absurd ranged
 range_integers low high (Whole (RecordShape shapes)) sorted ranged x e = absurd ranged
-range_integers low high Byte sorted ranged x e = go (is_between low x high) refl
-  where
-    go : (b : Bool) → is_between low x high ≡ b → b ≡ false
-    go false q = refl
-    go true q =
-        let a = and_parts (int_le low x) (int_le x high) q in
-        let r = and_parts (int_le (pos 0) low) (int_le high (pos 255)) ranged in
-        let one = le_through least (pos 0) x refl (le_through (pos 0) low x r.0 a.0) in
-        let two = le_through x (pos 255) greatest (le_through x high (pos 255) a.1 r.1) refl in
-        let y : true ≡ false = sym (ap (λ t. t && int_le x greatest) one ∙ two) ∙ between_integers x ∙ e in
-        absurd (cc)
+range_integers low high Byte sorted ranged x e = outside low high x ranged.0 ranged.1 e
 
-module _ (p : Setting) (n : ℕ) (call : Caller) (next : Next) (c : Activated) (active : IsActive p c) (nexts : NextRuns p n next) (does : WritesDo p) (calls : Callable p n call) where
+module _ (p : Setting) (n : ℕ) (call : Caller) (next : Next) (c : Activated) (active : IsActive p c)
+    (nexts : NextRuns p n next) (does : WritesDo p) (calls : Callable p n call) where
   module _ (w : World) (k : Work) (pc e : ℕ) (room : 0 < length k.scratch) where
     abbrev rest : List ℕ
     rest = (scan_integer w.input.left).rest
@@ -269,7 +260,14 @@ module _ (p : Setting) (n : ℕ) (call : Caller) (next : Next) (c : Activated) (
         (raw code after place) place (put k.temporaries e (Numeral code)) e line number low high z refl refl few at
         (code_there code z q) out
 
-    module _ (part : Part) (low high : ℤ) (line d h : ℕ) (o : Opening) (pc2 pc' : ℕ) (site : Site) (s : Spot) (l0 : d ≤ h) (l1 : suc h ≤ e) (below : IsBelow (suc h) site.base) (sorted : SortOf part NumberSort) (ranged : RangeFits (Within low high) part) (alive : Alive p c w k) (at : SiteAt p c w.made k.temporaries site s part) (bytes : All (λ b. b < 256) rest) (st : Stands (code_in p) c.routine (suc pc) (i.CheckRange e (pos 0) (pos 2) 9 line ∷ i.CheckRange e (pos 0) (pos 1) 10 line ∷ i.CheckRange e (pos 0) (pos 0) 4 line ∷ i.Load e base.Scratch 0 ∷ range_code e low high 4 line) pc2) (su : Stands (code_in p) c.routine pc2 (store_code (is_byte_part p n call c active part) site e) pc') where
+    module _ (part : Part) (low high : ℤ) (line d h : ℕ) (o : Opening) (pc2 pc' : ℕ) (site : Site) (s : Spot)
+        (l0 : d ≤ h) (l1 : suc h ≤ e) (below : IsBelow (suc h) site.base) (sorted : SortOf part NumberSort)
+        (ranged : RangeFits (Within low high) part) (alive : Alive p c w k)
+        (at : SiteAt p c w.made k.temporaries site s part) (bytes : All (λ b. b < 256) rest)
+        (st : Stands (code_in p) c.routine (suc pc) (i.CheckRange e (pos 0) (pos 2) 9 line ∷ i.CheckRange e (pos 0)
+        (pos 1) 10 line ∷ i.CheckRange e (pos 0) (pos 0) 4 line ∷ i.Load e base.Scratch 0 ∷ range_code e low high 4
+        line) pc2)
+        (su : Stands (code_in p) c.routine pc2 (store_code (is_byte_part p n call c active part) site e) pc') where
       abbrev kept_as : (x : ℤ) (code : ℤ) → Work
       kept_as x code = record {
         count = suc k.count;

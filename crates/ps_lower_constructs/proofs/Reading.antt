@@ -8,7 +8,7 @@ use Rattle.std.proofs.lemmas.Bool.{le-ltb}
 use Rattle.behavior.specs.Transcripts.{mark}
 use Rattle.behavior.specs.Endings.{failed}
 use Rattle.tac_code.specs.Numbers.{is_in_range}
-use Rattle.ps_tree.specs.declared.tree.Range.TheVariants.{Within}
+use Rattle.ps_tree.specs.declared.tree.operators.Range.TheVariants.{Within}
 use Rattle.ps_tree.specs.Tree.{ReadVariable, ReadChar, ReadInteger, Read, Readln}
 use Rattle.tac_code.specs.declared.code.Block.TheVariants.{Frame as FrameBlock}
 use Rattle.tac_code.specs.declared.code.Value.TheVariants.{Number as Numeral}
@@ -175,7 +175,8 @@ byte_there a l = ap (λ t. not t && not (nat_lt 2147483647 a)) (le-ltb a 0 (omeg
 none_known : {A : Type 0} {z : ℤ} → None ≡ Some z → A
 none_known e = absurd (cc)
 
-module _ (p : Setting) (n : ℕ) (call : Caller) (next : Next) (c : Activated) (active : IsActive p c) (nexts : NextRuns p n next) (does : WritesDo p) (calls : Callable p n call) where
+module _ (p : Setting) (n : ℕ) (call : Caller) (next : Next) (c : Activated) (active : IsActive p c)
+    (nexts : NextRuns p n next) (does : WritesDo p) (calls : Callable p n call) where
   -- the world after a look, after a character and after a line
   abbrev with_look : World → World
   with_look w = with_input w (looked_at w.input) (look_marks w.input)

@@ -29,7 +29,8 @@ use Rattle.ps_lower_constructs.specs.Tasks.{Nothing, TaskStands, NextRuns}
 use Rattle.ps_lower_relation.specs.RunTime.{WritesDo}
 use Rattle.ps_lower_constructs.proofs.Statements.{StatementRuns, StatementsRun, if_not, sooner, test_back}
 
-module _ (p : Setting) (n : ℕ) (call : Caller) (next : Next) (c : Activated) (active : IsActive p c) (nexts : NextRuns p n next) (does : WritesDo p) (calls : Callable p n call) where
+module _ (p : Setting) (n : ℕ) (call : Caller) (next : Next) (c : Activated) (active : IsActive p c)
+    (nexts : NextRuns p n next) (does : WritesDo p) (calls : Callable p n call) where
   -- a choice, as a test of its truth
   pub if_run : (e : Expr) (s : Statement) → StatementRuns p n call next c active nexts does calls s
       → StatementRuns p n call next c active nexts does calls (If e s)

@@ -3,7 +3,7 @@ use Rattle.std.proofs.Common.{◌≡◌, ◌⊎◌, inl, inr, ℕ, suc, ◌+◌,
 use Rattle.std.proofs.Common.{true, false, ◌||◌, [], ◌∷◌, length, slice_get, Option, Some, refl, sym, ap, ◌∙◌, subst}
 use Rattle.std.proofs.Common.{append-nil, arith, lt-ltb, nat_eq, nat_lt, eqb-true, eq-eqb, ltb-true, ltb-false}
 use Rattle.std.proofs.lemmas.Option.{slice_get_within}
-use Rattle.ps_tree.specs.declared.tree.SetOperator.{SetOperator}
+use Rattle.ps_tree.specs.declared.tree.operators.SetOperator.{SetOperator}
 use Rattle.tac_code.specs.declared.code.Base.TheVariants as base
 use Rattle.tac_code.specs.declared.code.Block.{Block}
 use Rattle.tac_code.specs.declared.code.Block.TheVariants.{Scratch as ScratchBlock}

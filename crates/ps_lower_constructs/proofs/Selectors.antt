@@ -108,24 +108,18 @@ module _ (p : Setting) (n : ℕ) (call : Caller) (c : Activated) (active : IsAct
   pub field_then : (type : DataType) (number : ℕ) (rest : Selectors) → SelectorsRun rest → SelectorsRun
       (selector_before (Field type number) rest)
   field_then type number rest further t x o w k pc pc' site s part part' alive opened at fits st =
-      let f = fits.2.1 in
-      let whole = subst (λ q. SiteAt p c w.made k.temporaries site s q) (fits.1 ∙ ap Whole f.0) at.0 in
+      let whole = subst (λ q. SiteAt p c w.made k.temporaries site s q) fits.0 at.0 in
       let next = stepped p c w.made k.temporaries site s number (field_offset (shape_of type) number) (shape_of type)
-      (Whole f.1.0) whole (field_path (shape_of type) number f.1.0 f.1.1) in
+      (Whole fits.1.0) whole (field_path (shape_of type) number fits.1.0 fits.1.1) in
       further t x o w k pc pc' (moved_by p c site (field_offset (shape_of type) number))
-      (step s number) fits.2.0 part' alive opened (
-        subst (λ q. SiteAt p c w.made k.temporaries (moved_by p c site (field_offset (shape_of type) number))
-            (step s number) q) (sym f.1.2) next,
-        at.1,
-      ) fits.2.2 st
+      (step s number) (Whole fits.1.0) part' alive opened (next, at.1) fits.1.2 st
 
   -- the object of a pointer
   pub target_then : (pointer line : ℕ) (rest : Selectors) → SelectorsRun rest → SelectorsRun
       (selector_before (Target pointer line) rest)
   target_then pointer line rest further t x o w k pc pc' site s part part' alive opened at fits st =
-      let f = fits.2.1 in
       let shape = PointerShape pointer in
-      let here_ = subst (λ q. SiteAt p c w.made k.temporaries site s q) (fits.1 ∙ ap Whole f.0) at.0 in
+      let here_ = subst (λ q. SiteAt p c w.made k.temporaries site s q) fits.0 at.0 in
       let place = here_.offset + site.offset in
       let v = contents_in w s in
       let shaped = spot_value p.program w c.ghosts k.count alive.holds s here_.block place shape here_.place in
@@ -143,19 +137,17 @@ module _ (p : Setting) (n : ℕ) (call : Caller) (c : Activated) (active : IsAct
       (load_step (machine_of p) (state p c w k pc) t site.base site.offset here_.block here_.offset
       (pointer_word v) st.0 (base_is c pc k.temporaries site.base ∙ here_.base) loaded) refl (omega arith) alive
       (λ alive1. pointed v shaped k1 alive1 (put_same k.temporaries t (pointer_word v))
-      (opened_kept p c t x t w w k k1 o (omega arith) (keeps_put t x w k t (pointer_word v) (omega arith)) opened)
-      f.1)
+      (opened_kept p c t x t w w k k1 o (omega arith) (keeps_put t x w k t (pointer_word v) (omega arith)) opened))
     where
       R : Spot → World → Work → Type 0
       R s' w' k' = PlaceIn (selectors_site (selector_before (Target pointer line) rest) site t) t s' part' w' k'
 
       pointed : (v : Value) → PointsTo w.made v pointer → (k1 : Work) → Alive p c w k1 → k1.temporaries t ≡ Some
-          (pointer_word v) → IsOpened p c w k1 t o → fits.2.0 ≡ Whole (shape_of (domain_at p.program pointer)) → Runs p
-          (suc n) c t x w k1 (suc pc) pc' (and_then (object_of v line (context_in c o) w)
+          (pointer_word v) → IsOpened p c w k1 t o → Runs p (suc n) c t x w k1 (suc pc) pc' (and_then (object_of v line (context_in c o) w)
           (λ u. accesses call rest u (context_in c o))) R
-      pointed NilValue points k1 alive1 word opened1 e = fails_so p (suc n) c active w k1 (suc pc) 6 line (omega arith)
+      pointed NilValue points k1 alive1 word opened1 = fails_so p (suc n) c active w k1 (suc pc) 6 line (omega arith)
           (pointer_step (machine_of p) (state p c w k1 (suc pc)) t 6 line None st.1.0 (ap pointer_of word))
-      pointed (ObjectValue object) points k1 alive1 word opened1 e =
+      pointed (ObjectValue object) points k1 alive1 word opened1 =
           runs_from p (suc n) c t x w w k1 k1 (suc pc) (suc (suc pc)) pc'
           (accesses call rest (entire (Made object)) (context_in c o) w) R
           (a_step (state p c w k1 (suc pc)) (state p c w k1 (suc (suc pc)))
@@ -164,21 +156,18 @@ module _ (p : Setting) (n : ℕ) (call : Caller) (c : Activated) (active : IsAct
           (further t x o w k1 (suc (suc pc)) pc' (record {
             base = base.Temporary t;
             offset = 0;
-          }) (entire (Made object)) fits.2.0 part' alive1 opened1 (
-            subst (λ q. SiteAt p c w.made k1.temporaries (record {
-              base = base.Temporary t;
-              offset = 0;
-            }) (entire (Made object)) q) (sym e) (record {
+          }) (entire (Made object)) (Whole (shape_of (domain_at p.program pointer))) part' alive1 opened1 (
+            record {
               block = Object object;
               offset = 0;
               base = word;
               place = object_place p.program c.ghosts w.made object pointer points;
-            }),
+            },
             omega arith,
-          ) fits.2.2 st.1.1)
-      pointed (OrdinalValue z) points k1 alive1 word opened1 e = absurd points
-      pointed (SetValue z) points k1 alive1 word opened1 e = absurd points
-      pointed (StructureValue z) points k1 alive1 word opened1 e = absurd points
+          ) fits.2 st.1.1)
+      pointed (OrdinalValue z) points k1 alive1 word opened1 = absurd points
+      pointed (SetValue z) points k1 alive1 word opened1 = absurd points
+      pointed (StructureValue z) points k1 alive1 word opened1 = absurd points
 
   -- the address of a component
   indexed : (type : DataType) (t x line at : ℕ) (o : Opening) (w : World) (k : Work) (pc mid : ℕ) (site : Site)
@@ -256,7 +245,7 @@ module _ (p : Setting) (n : ℕ) (call : Caller) (c : Activated) (active : IsAct
       above = even_above (suc t)
 
       whole : SiteAt p c w.made k.temporaries site s (Whole (shape_of type))
-      whole = subst (λ q. SiteAt p c w.made k.temporaries site s q) (fits.1 ∙ ap Whole fits.2.1.0) at.0
+      whole = subst (λ q. SiteAt p c w.made k.temporaries site s q) fits.0 at.0
 
       R : Option ℕ → Spot → World → Work → Type 0
       R q s' w' k' = PlaceIn (selectors_site rest (element_site q site t) t) t s' part' w' k'
@@ -283,21 +272,20 @@ module _ (p : Setting) (n : ℕ) (call : Caller) (c : Activated) (active : IsAct
           (λ s' w' k'. PlaceIn (element_site None site t) t s' (component_part (shape_of type)) w' k')
           (omega (arith, above)) (omega arith) (omega arith) (omega arith)
           (expr_runs_from p n call c active e front u x o w k pc cut2.0 NumberSort alive
-          (opened_kept p c t x u w w k k o (omega (arith, above)) (keeps_refl t x w k) opened) fits.2.1.3 cut2.1)
+          (opened_kept p c t x u w w k k o (omega (arith, above)) (keeps_refl t x w k) opened) fits.2 cut2.1)
           (λ v w1 k1 alive1 kept1 r1. indexed type t x line u o w1 k1 cut2.0 cut.0 site s v alive1
           (site_kept p c (suc t) x w w1 k k1 site s (Whole (shape_of type)) at.1
-          (keeps_less (suc t) x u x above (omega arith) kept1) whole) fits.2.1.2 r1.word cut2.2))
+          (keeps_less (suc t) x u x above (omega arith) kept1) whole) fits.1 r1.word cut2.2))
           (λ s' w1 k1 alive1 kept1 r1.
-          further t x o w1 k1 cut.0 pc' (element_site None site t) s' fits.2.0 part' alive1
-          (opened_kept p c t x t w w1 k k1 o (omega arith) kept1 opened)
-          (subst (λ z. PlaceIn (element_site None site t) t s' z w1 k1) (sym fits.2.1.1) r1) fits.2.2 cut.2)
+          further t x o w1 k1 cut.0 pc' (element_site None site t) s' (component_part (shape_of type)) part' alive1
+          (opened_kept p c t x t w w1 k k1 o (omega arith) kept1 opened) r1 fits.4 cut.2)
       go (Some m) q h =
           let literal = known_index type (literal_of e) m q in
           let z = literal.0 in
-          let known_ = known_is p n call c active e z o w literal.1 fits.2.1.3 in
+          let known_ = known_is p n call c active e z o w literal.1 fits.2 in
           let number = unsigned_abs (z -ℤ (index_of type).low) in
           let path = subst (λ y. PathIn (number ∷ []) (shape_of type) (component_part (shape_of type)) y) literal.3
-          (element_path type z fits.2.1.2 literal.2) in
+          (element_path type z fits.1 literal.2) in
           let next = stepped p c w.made k.temporaries site s number m (shape_of type)
           (component_part (shape_of type)) whole path in
           let Q : Answer Spot → Type 0 = λ a. Runs p (suc n) c t x w k pc pc'
@@ -305,11 +293,8 @@ module _ (p : Setting) (n : ℕ) (call : Caller) (c : Activated) (active : IsAct
           subst (λ a. Q (and_then a (λ v. component_of s (index_of type) (number_of v) line ctx))) (sym known_.gives_it)
           (subst (λ y. Q (component_of s (index_of type) y line ctx w)) (sym known_.is)
           (subst (λ b. Q ((if b then give (step s number) else fault 5 line ctx) w)) (sym literal.2)
-          (further t x o w k pc pc' (moved_by p c site m) (step s number) fits.2.0 part' alive opened (
-            subst (λ y. SiteAt p c w.made k.temporaries (moved_by p c site m) (step s number) y)
-                (sym fits.2.1.1) next,
-            at.1,
-          ) fits.2.2 h)))
+          (further t x o w k pc pc' (moved_by p c site m) (step s number) (component_part (shape_of type))
+          part' alive opened (next, at.1) fits.4 h)))
 
   -- ---- places
 
@@ -357,13 +342,12 @@ module _ (p : Setting) (n : ℕ) (call : Caller) (c : Activated) (active : IsAct
   selectors_byte : (o : Opening) (b : Bool) (selectors : Selectors) (part part' : Part) → b ≡ is_byte_part part
       → SelectorsFit (plain_scope p c) o.shapes selectors part part' → is_byte_after b selectors ≡ is_byte_part part'
   selectors_byte o b no_selector part part' e fits = e ∙ ap is_byte_part fits
-  selectors_byte o b (selector_before (Element type i' line) rest) part part' e fits = let f = fits.2.1
-      in selectors_byte o (is_byte_array (shape_of type)) rest fits.2.0 part'
-      (component_byte (shape_of type) ∙ ap is_byte_part (sym f.1)) fits.2.2
-  selectors_byte o b (selector_before (Field type number) rest) part part' e fits = let f = fits.2.1
-      in selectors_byte o false rest fits.2.0 part' (sym (ap is_byte_part f.1.2)) fits.2.2
-  selectors_byte o b (selector_before (Target pointer line) rest) part part' e fits = let f = fits.2.1
-      in selectors_byte o false rest fits.2.0 part' (sym (ap is_byte_part f.1)) fits.2.2
+  selectors_byte o b (selector_before (Element type i' line) rest) part part' e fits = selectors_byte o
+      (is_byte_array (shape_of type)) rest (component_part (shape_of type)) part' (component_byte (shape_of type)) fits.4
+  selectors_byte o b (selector_before (Field type number) rest) part part' e fits = selectors_byte o false rest
+      (Whole fits.1.0) part' refl fits.1.2
+  selectors_byte o b (selector_before (Target pointer line) rest) part part' e fits = selectors_byte o false
+      rest (Whole (shape_of (domain_at p.program pointer))) part' refl fits.2
 
   pub place_byte : (o : Opening) (q : Place) (part : Part) → PlaceFits (plain_scope p c) o.shapes q part → is_byte q
       ≡ is_byte_part part

@@ -1,8 +1,8 @@
 -- Comparisons of sets, and membership.
 use Rattle.std.proofs.Common.{◌≡◌, ℕ, suc, ◌+◌, ◌<◌, ◌≤◌, pos, Bool, true, false, not, ◌&&◌, [], ◌∷◌, ◌++◌, length}
 use Rattle.std.proofs.Common.{Some, refl, sym, ap, ◌∙◌, subst, arith}
-use Rattle.ps_tree.specs.declared.tree.SetRelation.{SetRelation}
-use Rattle.ps_tree.specs.declared.tree.SetRelation.TheVariants as sets
+use Rattle.ps_tree.specs.declared.tree.operators.SetRelation.{SetRelation}
+use Rattle.ps_tree.specs.declared.tree.operators.SetRelation.TheVariants as sets
 use Rattle.ps_tree.specs.Tree.{CompareSets, SetExpr}
 use Rattle.tac_code.specs.declared.code.Base.TheVariants as base
 use Rattle.tac_code.specs.declared.code.Block.TheVariants.{Scratch as ScratchBlock}

@@ -2,7 +2,7 @@
 use Rattle.std.proofs.Common.{◌≡◌, ℕ, suc, ◌+◌, ◌<◌, ◌≤◌, ℤ, pos, int_lt, Bool, true, false, ◌&&◌, ◌||◌, if◌then◌else◌}
 use Rattle.std.proofs.Common.{[], ◌∷◌, ◌++◌, length, nat_eq, unsigned_abs, Option, Some, None, refl, sym, ap, ◌∙◌}
 use Rattle.std.proofs.Common.{subst, arith}
-use Rattle.ps_tree.specs.declared.tree.SetOperator.TheVariants.{Union}
+use Rattle.ps_tree.specs.declared.tree.operators.SetOperator.TheVariants.{Union}
 use Rattle.ps_tree.specs.Tree.{Expr, Constructor, Member, One, Several, Members, no_member, member_before}
 use Rattle.tac_code.specs.declared.code.Base.TheVariants as base
 use Rattle.tac_code.specs.declared.code.Value.TheVariants.{Number as Numeral}
@@ -135,7 +135,7 @@ module _ (p : Setting) (n : ℕ) (call : Caller) (c : Activated) (active : IsAct
           (λ v w' k'. WordIn k'.temporaries w'.made t NumberSort v)
           (λ y w' k'. SetIn x (combine_sets Union s y) k') l (omega arith) (omega arith) (omega arith)
           (expr_runs_from p n call c active e front t (x + 32) o w k pc cut.0 NumberSort alive
-          (opened_kept p c d x t w w k k o l (keeps_refl d x w k) opened) fits cut.1)
+          (opened_kept p c d x t w w k k o l (keeps_refl d x w k) opened) fits.0 cut.1)
           (λ v w1 k1 alive1 kept1 r1.
           let z = number_of v in
           subst (λ b. Runs p (suc n) c d x w1 k1 cut.0 pc'
@@ -166,7 +166,7 @@ module _ (p : Setting) (n : ℕ) (call : Caller) (c : Activated) (active : IsAct
               (λ y w' k'. SetIn x (combine_sets Union s y) k')
           tested false r h = worked h
           tested true r h =
-              let known_ = known_is p n call c active e z o w q fits in
+              let known_ = known_is p n call c active e z o w q fits.0 in
               let m = byte_is z r in
               let same : unsigned_abs z ≡ m.0 = ap unsigned_abs m.1 in
               let left = bit_so p c active does d x (even_from d) (unsigned_abs z) s w k pc pc' (even_above d)

@@ -139,7 +139,8 @@ module _ (p : Setting) (c : Activated) (active : IsActive p c) (does : WritesDo 
         result = tt;
       }
 
-module _ (p : Setting) (n : ℕ) (call : Caller) (next : Next) (c : Activated) (active : IsActive p c) (nexts : NextRuns p n next) (does : WritesDo p) (calls : Callable p n call) where
+module _ (p : Setting) (n : ℕ) (call : Caller) (next : Next) (c : Activated) (active : IsActive p c)
+    (nexts : NextRuns p n next) (does : WritesDo p) (calls : Callable p n call) where
   pub assign_set_run : (q : Place) (low high : ℤ) (e : SetExpr) (line : ℕ)
       → StatementRuns p n call next c active nexts does calls (AssignSet q low high e line)
   assign_set_run q low high e line d o w k pc pc' alive opened fits st =

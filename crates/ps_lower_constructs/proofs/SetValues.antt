@@ -2,8 +2,8 @@
 use Rattle.std.proofs.Common.{◌≡◌, ℕ, suc, ◌+◌, ◌-◌, ◌<◌, ◌≤◌, ℤ, pos, negsuc, int_lt, nat_lt, Bool, true, false, ◌&&◌}
 use Rattle.std.proofs.Common.{◌||◌, if◌then◌else◌, [], ◌∷◌, ◌++◌, refl, sym, subst, arith, ltb-true, ltb-false}
 use Rattle.std.proofs.Common.{leb-true, nat_le}
-use Rattle.ps_tree.specs.declared.tree.SetOperator.{SetOperator}
-use Rattle.ps_tree.specs.declared.tree.SetOperator.TheVariants.{Union, Difference, Intersection}
+use Rattle.ps_tree.specs.declared.tree.operators.SetOperator.{SetOperator}
+use Rattle.ps_tree.specs.declared.tree.operators.SetOperator.TheVariants.{Union, Difference, Intersection}
 use Rattle.ps_tree.specs.Tree.{Place, SetExpr, LoadSet, Constructor, Combine, SetSteps, no_set_step, set_step_before}
 use Rattle.ps_tree.specs.Tree.{Member, Members}
 use Rattle.tac_code.specs.declared.code.Base.TheVariants as base

@@ -49,7 +49,8 @@ held_more : (d e : ℕ) (a : Operand) → d ≤ e → IsHeld d a → IsHeld e a
 held_more d e (operand.Temporary u) l h = omega (arith, l, h)
 held_more d e (operand.Number z) l h = tt
 
-module _ (p : Setting) (n : ℕ) (call : Caller) (next : Next) (c : Activated) (active : IsActive p c) (nexts : NextRuns p n next) (does : WritesDo p) (calls : Callable p n call) where
+module _ (p : Setting) (n : ℕ) (call : Caller) (next : Next) (c : Activated) (active : IsActive p c)
+    (nexts : NextRuns p n next) (does : WritesDo p) (calls : Callable p n call) where
   abbrev pub StatementRuns : Statement → Type 0
   StatementRuns s =
       (d : ℕ) (o : Opening) (w : World) (k : Work) (pc pc' : ℕ) → Alive p c w k → IsOpened p c w k d o → StatementFits

@@ -1,6 +1,6 @@
 -- Boolean operators between operands.
 use Rattle.std.proofs.Common.{◌≡◌, ℕ, suc, ◌≤◌, Bool, ◌++◌, Some, refl, sym, ap, ◌∙◌, subst, arith}
-use Rattle.ps_tree.specs.declared.tree.BooleanOperator.{BooleanOperator}
+use Rattle.ps_tree.specs.declared.tree.operators.BooleanOperator.{BooleanOperator}
 use Rattle.ps_tree.specs.Tree.{Operands, no_operand, operand_before, Expr, Logic}
 use Rattle.tac_code.specs.declared.code.Value.TheVariants.{Number as Numeral}
 use Rattle.tac_code.specs.declared.code.Operand.TheVariants as operand

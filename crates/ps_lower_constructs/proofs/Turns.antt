@@ -2,9 +2,9 @@
 use Rattle.ps_lower_constructs.proofs.Calling.{Callable}
 use Rattle.std.proofs.Common.{◌≡◌, ℕ, suc, ◌+◌, ◌*◌, ◌≤◌, ℤ, Bool, true, false, not, if◌then◌else◌, IsTrue, [], ◌∷◌}
 use Rattle.std.proofs.Common.{◌++◌, length, Option, Some, None, refl, sym, ap, ◌∙◌, subst, arith}
-use Rattle.ps_tree.specs.declared.tree.Range.TheVariants.{Within}
-use Rattle.ps_tree.specs.declared.tree.Direction.{Direction}
-use Rattle.ps_tree.specs.declared.tree.Direction.TheVariants.{To, Downto}
+use Rattle.ps_tree.specs.declared.tree.operators.Range.TheVariants.{Within}
+use Rattle.ps_tree.specs.declared.tree.operators.Direction.{Direction}
+use Rattle.ps_tree.specs.declared.tree.operators.Direction.TheVariants.{To, Downto}
 use Rattle.ps_tree.specs.Tree.{Expr, Statement, For}
 use Rattle.tac_code.specs.declared.code.Value.{Value as Word}
 use Rattle.tac_code.specs.declared.code.Value.TheVariants.{Number as Numeral, Address, Routine as RoutineWord}
@@ -57,7 +57,8 @@ use Rattle.ps_lower_constructs.proofs.Checks.{check_runs, store_runs}
 use Rattle.ps_lower_relation.specs.RunTime.{WritesDo}
 use Rattle.ps_lower_constructs.proofs.Statements.{StatementRuns, if_not, operand_kept, sooner, test_back}
 
-module _ (p : Setting) (n : ℕ) (call : Caller) (next : Next) (c : Activated) (active : IsActive p c) (nexts : NextRuns p n next) (does : WritesDo p) (calls : Callable p n call) where
+module _ (p : Setting) (n : ℕ) (call : Caller) (next : Next) (c : Activated) (active : IsActive p c)
+    (nexts : NextRuns p n next) (does : WritesDo p) (calls : Callable p n call) where
   -- ---- `for`
 
   abbrev Control : Opening → ℕ → Type 0

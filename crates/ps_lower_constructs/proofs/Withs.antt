@@ -35,7 +35,8 @@ with_above (q ∷ rest) calls d =
     let r = with_above rest calls (suc (place_temporary q (held calls d))) in
     omega (arith, a, b, r)
 
-module _ (p : Setting) (n : ℕ) (call : Caller) (next : Next) (c : Activated) (active : IsActive p c) (nexts : NextRuns p n next) (does : WritesDo p) (callable : Callable p n call) where
+module _ (p : Setting) (n : ℕ) (call : Caller) (next : Next) (c : Activated) (active : IsActive p c)
+    (nexts : NextRuns p n next) (does : WritesDo p) (callable : Callable p n call) where
   with_scope_is : (places : List Place) (o : Opening) (calls : Bool) (d : ℕ) → with_scope
       (scope_in p c o) places calls d ≡ record {
         program = p.program;

@@ -1,6 +1,6 @@
 -- Where the code of a task is, and what the tasks of one fuel do.
 use Rattle.std.specs.Prelude.{◌≡◌, ℕ, suc, ◌+◌, ◌<◌, ◌≤◌, ℤ, Bool, [], ◌∷◌, ◌++◌, length, Some}
-use Rattle.ps_tree.specs.declared.tree.Direction.{Direction}
+use Rattle.ps_tree.specs.declared.tree.operators.Direction.{Direction}
 use Rattle.ps_tree.specs.Tree.{Statement, While, Repeat}
 use Rattle.tac_code.specs.declared.code.Value.TheVariants.{Number as Numeral}
 use Rattle.tac_code.specs.declared.code.Operand.{Operand}
@@ -38,7 +38,8 @@ module _ (p : Setting) where
   own_site c o variable = record { base = base.Frame; offset = entry_offset (routine_up (scope_in p c o) 0) variable }
 
   -- Where the next turn of a `for` statement is decided: after its body, which comes after the step.
-  pub record TurnStands (c : Activated) (o : Opening) (variable : ℕ) (direction : Direction) (last : ℤ) (s : Statement) (d : ℕ) (k : Work) (pc pc' : ℕ) : Type 0 where
+  pub record TurnStands (c : Activated) (o : Opening) (variable : ℕ) (direction : Direction) (last : ℤ) (s : Statement)
+      (d : ℕ) (k : Work) (pc pc' : ℕ) : Type 0 where
     pub start : ℕ
     pub depth : ℕ
     pub t : ℕ

@@ -2,10 +2,10 @@
 use Rattle.std.proofs.Common.{◌≡◌, ◌⊎◌, inl, inr, ℕ, ℤ, List, [], ◌∷◌, ◌+◌, map, Vec, Box, Global, refl, sym, ap, ◌∙◌}
 use Rattle.ps_tree.specs.declared.line.Line.{Line}
 use Rattle.ps_tree.specs.declared.types.Ty.{Ty}
-use Rattle.ps_tree.specs.declared.tree.BooleanOperator.{BooleanOperator}
-use Rattle.ps_tree.specs.declared.tree.RequiredFunction.{RequiredFunction}
-use Rattle.ps_tree.specs.declared.tree.OrderRelation.{OrderRelation}
-use Rattle.ps_tree.specs.declared.tree.PointerRelation.{PointerRelation}
+use Rattle.ps_tree.specs.declared.tree.operators.BooleanOperator.{BooleanOperator}
+use Rattle.ps_tree.specs.declared.tree.operators.RequiredFunction.{RequiredFunction}
+use Rattle.ps_tree.specs.declared.tree.operators.OrderRelation.{OrderRelation}
+use Rattle.ps_tree.specs.declared.tree.operators.PointerRelation.{PointerRelation}
 use Rattle.ps_tree.specs.declared.tree.Place.{Place}
 use Rattle.ps_tree.specs.declared.tree.Selector.{Selector}
 use Rattle.ps_tree.specs.declared.tree.ArithmeticStep.{ArithmeticStep, out-ArithmeticStep}
@@ -16,15 +16,17 @@ use Rattle.ps_tree.specs.declared.tree.Expr.{Expr, Number, Nil, Eof, Eoln, Load,
 use Rattle.ps_tree.specs.declared.tree.Expr.{Logic, Compare, ComparePointers, Call, CallFormal}
 use Rattle.ps_tree.specs.declared.tree.SetExpr.{SetExpr, Load as LoadSet, Constructor, Combine}
 use Rattle.ps_tree.specs.declared.tree.Argument.{Argument, Variable}
-use Rattle.ps_tree.specs.declared.tree.ReadVariable.{ReadVariable}
-use Rattle.ps_tree.specs.declared.tree.ReadVariable.TheVariants.{Char as ReadChar, Integer as ReadInteger}
-use Rattle.ps_tree.specs.declared.tree.Width.{Width}
-use Rattle.ps_tree.specs.declared.tree.WriteParameter.{WriteParameter}
-use Rattle.ps_tree.specs.declared.tree.WriteParameter.TheVariants.{Integer as WriteInteger, Char as WriteChar}
-use Rattle.ps_tree.specs.declared.tree.WriteParameter.TheVariants.{Boolean as WriteBoolean}
-use Rattle.ps_tree.specs.declared.tree.CaseElement.{CaseElement, out-CaseElement}
-use Rattle.ps_tree.specs.declared.tree.Statement.{Statement, Case, Compound, If, Read, Readln, Repeat, While, Write}
-use Rattle.ps_tree.specs.declared.tree.Statement.{Writeln}
+use Rattle.ps_tree.specs.declared.tree.statements.ReadVariable.{ReadVariable}
+use Rattle.ps_tree.specs.declared.tree.statements.ReadVariable.TheVariants.{Char as ReadChar, Integer as ReadInteger}
+use Rattle.ps_tree.specs.declared.tree.statements.Width.{Width}
+use Rattle.ps_tree.specs.declared.tree.statements.WriteParameter.{WriteParameter}
+use Rattle.ps_tree.specs.declared.tree.statements.WriteParameter.TheVariants.{Integer as WriteInteger}
+use Rattle.ps_tree.specs.declared.tree.statements.WriteParameter.TheVariants.{Char as WriteChar}
+use Rattle.ps_tree.specs.declared.tree.statements.WriteParameter.TheVariants.{Boolean as WriteBoolean}
+use Rattle.ps_tree.specs.declared.tree.statements.CaseElement.{CaseElement, out-CaseElement}
+use Rattle.ps_tree.specs.declared.tree.statements.Statement.{Statement, Case, Compound, If, Read, Readln, Repeat, While}
+use Rattle.ps_tree.specs.declared.tree.statements.Statement.{Write}
+use Rattle.ps_tree.specs.declared.tree.statements.Statement.{Writeln}
 use Rattle.ps_tree.specs.View.{place_of, selector_of, selectors_of, expr_of, arithmetic_of, operands_of, set_of}
 use Rattle.ps_tree.specs.View.{set_steps_of, member_of, members_of, structure_of, argument_of, arguments_of, read_of}
 use Rattle.ps_tree.specs.View.{width_of, write_of, statement_of, statements_of, elements_of}

@@ -164,7 +164,9 @@ module _ (p : Setting) (m : Memory) (b : Block) (words : Words) (can : IsOpen b)
           ∙ ap (λ d. load (text_at (code_in p)) m d (4 * (from + i))) (sym e) ∙ reads i l ∙ ap known x.1)
           ∙ sym x.1))
 
-module _ (p : Setting) (w : World) (gs : List Ghost) (count : ℕ) (holds : Holds p.program gs w count) (scratch : List Living) (s : Spot) (b : Block) (o : ℕ) (inner : Shape) (at : PlaceAt p.program gs w.made s b o (Whole inner)) where
+module _ (p : Setting) (w : World) (gs : List Ghost) (count : ℕ) (holds : Holds p.program gs w count)
+    (scratch : List Living) (s : Spot) (b : Block) (o : ℕ) (inner : Shape)
+    (at : PlaceAt p.program gs w.made s b o (Whole inner)) where
   abbrev memory : Memory
   memory = memory_of p.program w gs scratch
 

@@ -2,7 +2,7 @@
 use Rattle.std.proofs.Common.{◌≡◌, ◌==◌, ℕ, zero, suc, ◌+◌, ◌-◌, ◌<◌, ℤ, pos, negsuc, ◌-ℤ◌, int_lt, Bool, true, false}
 use Rattle.std.proofs.Common.{not, nat_eq, nat_lt, if◌then◌else◌, refl, sym, ap, ◌∙◌, arith, eq-eqb, eqb-true, lt-ltb}
 use Rattle.std.proofs.Common.{ltb-true, ltb-false}
-use Rattle.ps_tree.specs.declared.tree.OrderRelation.{OrderRelation}
+use Rattle.ps_tree.specs.declared.tree.operators.OrderRelation.{OrderRelation}
 use Rattle.tac_code.specs.declared.code.Relation.{Relation}
 use Rattle.tac_code.specs.declared.code.Relation.TheVariants.{Equal, NotEqual, Less, LessEqual, Greater, GreaterEqual}
 use Rattle.tac_code.specs.Numbers.{same_number, compared}

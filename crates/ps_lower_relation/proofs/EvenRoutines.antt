@@ -1,8 +1,8 @@
 -- Words of the scratch block are addressed by multiples of 4: the code of statements and of routines.
 use Rattle.std.proofs.Common.{ℕ, suc, ◌+◌, ◌*◌, ◌/◌, ◌%◌, ◌-◌, ◌||◌, ℤ, pos, Bool, true, false, nat_eq, nat_lt, nat_le}
 use Rattle.std.proofs.Common.{List, [], ◌∷◌, Option, Some, None, refl}
-use Rattle.ps_tree.specs.declared.tree.Range.TheVariants.{Within}
-use Rattle.ps_tree.specs.declared.tree.Direction.{Direction}
+use Rattle.ps_tree.specs.declared.tree.operators.Range.TheVariants.{Within}
+use Rattle.ps_tree.specs.declared.tree.operators.Direction.{Direction}
 use Rattle.ps_tree.specs.Types.{DataType}
 use Rattle.ps_tree.specs.Sizes.{value_count}
 use Rattle.ps_tree.specs.Tree.{Place, ReadVariable, ReadChar, ReadInteger, Width, DefaultWidth, GivenWidth}

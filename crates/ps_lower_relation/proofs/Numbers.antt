@@ -5,18 +5,18 @@ use Rattle.std.proofs.Common.{if◌then◌else◌, IsTrue, refl, sym, ap, ◌∙
 use Rattle.std.proofs.Common.{leb-true}
 use Rattle.std.specs.Int.{int_rem_euclid}
 use Rattle.std.proofs.lemmas.Bool.{ne_eqb}
-use Rattle.ps_tree.specs.declared.tree.ArithmeticOperator.{ArithmeticOperator}
-use Rattle.ps_tree.specs.declared.tree.ArithmeticOperator.TheVariants.{Add, Subtract, Multiply, Div, Mod}
-use Rattle.ps_tree.specs.declared.tree.OrderRelation.{OrderRelation}
-use Rattle.ps_tree.specs.declared.tree.OrderRelation.TheVariants as asked
+use Rattle.ps_tree.specs.declared.tree.operators.ArithmeticOperator.{ArithmeticOperator}
+use Rattle.ps_tree.specs.declared.tree.operators.ArithmeticOperator.TheVariants.{Add, Subtract, Multiply, Div, Mod}
+use Rattle.ps_tree.specs.declared.tree.operators.OrderRelation.{OrderRelation}
+use Rattle.ps_tree.specs.declared.tree.operators.OrderRelation.TheVariants as asked
 use Rattle.tac_code.specs.declared.code.Relation.{Relation}
 use Rattle.tac_code.specs.declared.code.Relation.TheVariants.{Equal, NotEqual, Less, LessEqual, Greater, GreaterEqual}
 use Rattle.tac_code.specs.Numbers.{is_integer, is_zero, same_number, compared, is_in_range, number_of, bits, within}
 use Rattle.tac_code.specs.Numbers.{computed, Computed as Given, Gives, Fails, truth as truth_word}
 use Rattle.ps_meaning.specs.Operators.{Computed, Result, Fault, is_equal, is_between, integer, modulo, compute, truth}
 use Rattle.ps_meaning.specs.Operators.{is_true, holds}
-use Rattle.ps_tree.specs.declared.tree.Direction.{Direction}
-use Rattle.ps_tree.specs.declared.tree.Direction.TheVariants.{To, Downto}
+use Rattle.ps_tree.specs.declared.tree.operators.Direction.{Direction}
+use Rattle.ps_tree.specs.declared.tree.operators.Direction.TheVariants.{To, Downto}
 use Rattle.tac_code.specs.declared.code.BitOperator.TheVariants.{Plus}
 use Rattle.ps_meaning.specs.Statements.{succeeding}
 use Rattle.ps_lower_code.specs.Statements.{step_number}

@@ -60,7 +60,8 @@ taken k n v = StructureValue (first_values n (values_from (components_of v) k))
 abbrev pub replaced : ℕ → Value → Value → Value
 replaced k old v = StructureValue (with_values (components_of old) k (components_of v))
 
-module _ (p : Setting) (w : World) (gs : List Ghost) (count : ℕ) (holds : Holds p.program gs w count) (scratch : List Living) (s : Spot) (b : Block) (o : ℕ) where
+module _ (p : Setting) (w : World) (gs : List Ghost) (count : ℕ) (holds : Holds p.program gs w count)
+    (scratch : List Living) (s : Spot) (b : Block) (o : ℕ) where
   abbrev memory : Memory
   memory = memory_of p.program w gs scratch
 
@@ -68,7 +69,8 @@ module _ (p : Setting) (w : World) (gs : List Ghost) (count : ℕ) (holds : Hold
   after v = memory_of p.program (with_contents w s v) gs scratch
 
   -- an array gets n components of another one
-  module _ (k n r : ℕ) (shape : Shape) (at : PlaceAt p.program gs w.made s b o (Whole (ArrayShape n shape))) (t : Spot) (c : Block) (f : ℕ) (source : PlaceAt p.program gs w.made t c f (Whole (ArrayShape (k + (n + r)) shape))) where
+  module _ (k n r : ℕ) (shape : Shape) (at : PlaceAt p.program gs w.made s b o (Whole (ArrayShape n shape))) (t : Spot)
+      (c : Block) (f : ℕ) (source : PlaceAt p.program gs w.made t c f (Whole (ArrayShape (k + (n + r)) shape))) where
     taken_to : StretchAt p.program w gs count holds (text_at (code_in p)) scratch s b o (ArrayShape n shape)
     taken_to = spot_stretch p.program w gs count holds (text_at (code_in p)) scratch s b o (ArrayShape n shape) at
 
@@ -233,7 +235,9 @@ module _ (p : Setting) (w : World) (gs : List Ghost) (count : ℕ) (holds : Hold
           (text_at (code_in p)) scratch t c f (ArrayShape n shape) i source l))))
 
   -- and by bytes
-  module _ (k n r : ℕ) (first first' : ℤ) (narrow : Bool) (at : PlaceAt p.program gs w.made s b o (Whole (ArrayShape (k + (n + r)) (NumberShape first narrow)))) (t : Spot) (c : Block) (f : ℕ) (source : PlaceAt p.program gs w.made t c f (Whole (ByteShape n first'))) where
+  module _ (k n r : ℕ) (first first' : ℤ) (narrow : Bool)
+      (at : PlaceAt p.program gs w.made s b o (Whole (ArrayShape (k + (n + r)) (NumberShape first narrow)))) (t : Spot)
+      (c : Block) (f : ℕ) (source : PlaceAt p.program gs w.made t c f (Whole (ByteShape n first'))) where
     abbrev bytes_in : Value
     bytes_in = contents_in w t
 
@@ -292,7 +296,9 @@ module _ (p : Setting) (w : World) (gs : List Ghost) (count : ℕ) (holds : Hold
         (text_at (code_in p)) scratch t c f n i byte first' source e)))
 
   -- an array of bytes gets n components of an array of numbers
-  module _ (k n r : ℕ) (first first' : ℤ) (at : PlaceAt p.program gs w.made s b o (Whole (ByteShape n first'))) (t : Spot) (c : Block) (f : ℕ) (source : PlaceAt p.program gs w.made t c f (Whole (ArrayShape (k + (n + r)) (NumberShape first true)))) where
+  module _ (k n r : ℕ) (first first' : ℤ) (at : PlaceAt p.program gs w.made s b o (Whole (ByteShape n first')))
+      (t : Spot) (c : Block) (f : ℕ)
+      (source : PlaceAt p.program gs w.made t c f (Whole (ArrayShape (k + (n + r)) (NumberShape first true)))) where
     abbrev numbers_in : Value
     numbers_in = contents_in w t
 

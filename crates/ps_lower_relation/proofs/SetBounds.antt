@@ -5,7 +5,7 @@ use Rattle.std.proofs.Common.{le-leb}
 use Rattle.std.specs.Int.{bit_at}
 use Rattle.std.proofs.lemmas.Nat.Bits.{bit_at-zero}
 use Rattle.std.proofs.lemmas.Bool.{and_parts, or_parts}
-use Rattle.ps_tree.specs.declared.tree.SetOperator.TheVariants.{Union, Intersection}
+use Rattle.ps_tree.specs.declared.tree.operators.SetOperator.TheVariants.{Union, Intersection}
 use Rattle.tac_code.specs.declared.code.BitOperator.TheVariants.{And, Or}
 use Rattle.tac_code.specs.Numbers.{number_of, bits, same_number}
 use Rattle.ps_meaning.specs.Operators.{all_below, is_between, set_fits}

@@ -3,7 +3,7 @@ use Rattle.std.proofs.Common.{◌≡◌, ◌⊎◌, inl, inr, ℕ, zero, suc, �
 use Rattle.std.proofs.Common.{false, ◌&&◌, ◌||◌, nat_eq, nat_le, [], ◌∷◌, length, slice_get, Some, refl, sym, ap, ◌∙◌}
 use Rattle.std.proofs.Common.{subst, arith, eqb-true, leb-true, le-leb, eq-eqb}
 use Rattle.std.proofs.lemmas.Bool.{or_cases, or_left, or_right, and_from, and_parts}
-use Rattle.ps_tree.specs.declared.tree.SetOperator.{SetOperator}
+use Rattle.ps_tree.specs.declared.tree.operators.SetOperator.{SetOperator}
 use Rattle.tac_code.specs.declared.code.Block.{Block}
 use Rattle.tac_code.specs.declared.code.Value.{Value as Word}
 use Rattle.tac_code.specs.declared.code.Value.TheVariants.{Number}

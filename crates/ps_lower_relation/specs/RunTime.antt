@@ -11,7 +11,7 @@ use Rattle.tac_code.specs.declared.code.BitOperator.TheVariants.{Or, ShiftLeft}
 use Rattle.tac_code.specs.Numbers.{is_integer, bits, truth}
 use Rattle.tac_code.specs.Memory.{Memory, load, load_byte, store, store_byte}
 use Rattle.tac_code.specs.Meaning.{Tape, text_at}
-use Rattle.ps_tree.specs.declared.tree.SetOperator.{SetOperator}
+use Rattle.ps_tree.specs.declared.tree.operators.SetOperator.{SetOperator}
 use Rattle.ps_meaning.specs.Operators.{is_included, is_member}
 use Rattle.ps_meaning.specs.Text.{right_aligned, fitted, integer_text}
 use Rattle.tac_code_steps.specs.Routines.{Does, wrote}

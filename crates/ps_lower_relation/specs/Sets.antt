@@ -1,7 +1,7 @@
 -- Sets in memory.
 use Rattle.std.specs.Prelude.{ℕ, ◌*◌, Bool, ℤ}
-use Rattle.ps_tree.specs.declared.tree.SetOperator.{SetOperator}
-use Rattle.ps_tree.specs.declared.tree.SetOperator.TheVariants.{Union, Difference, Intersection}
+use Rattle.ps_tree.specs.declared.tree.operators.SetOperator.{SetOperator}
+use Rattle.ps_tree.specs.declared.tree.operators.SetOperator.TheVariants.{Union, Difference, Intersection}
 use Rattle.tac_code.specs.declared.code.BitOperator.{BitOperator}
 use Rattle.tac_code.specs.declared.code.BitOperator.TheVariants.{And, Or, AndNot}
 use Rattle.tac_code.specs.Numbers.{number_of}

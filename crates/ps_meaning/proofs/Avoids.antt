@@ -1,7 +1,7 @@
 -- A run ends as its costs and its errors let it end, part by part: each kind of ending that these are not is avoided.
 use Rattle.std.proofs.Common.{◌≡◌, refl, ℕ, zero, suc, ◌+◌, ℤ, pos, List, [], ◌∷◌, ◌++◌, Bool, true, false, cond, ◌&&◌}
 use Rattle.std.proofs.Common.{int_lt, unsigned_abs, nat_le, Option, Some, None}
-use Rattle.ps_tree.specs.declared.tree.BooleanOperator.{BooleanOperator}
+use Rattle.ps_tree.specs.declared.tree.operators.BooleanOperator.{BooleanOperator}
 use Rattle.ps_tree.specs.Tree.{routine_at, Place, Variable, Selector, Element, Field, Target, Selectors, no_selector}
 use Rattle.ps_tree.specs.Tree.{selector_before, ArithmeticSteps, no_arithmetic_step, arithmetic_step_before, Operands}
 use Rattle.ps_tree.specs.Tree.{no_operand, operand_before, SetSteps, no_set_step, set_step_before, Expr, Number, Nil}
@@ -17,9 +17,9 @@ use Rattle.ps_tree.specs.Tree.{Writeln, Statements, no_statement, statement_befo
 use Rattle.ps_tree.specs.Tree.{element_before, Program}
 use Rattle.ps_tree.specs.declared.types.Ordinal.{Ordinal}
 use Rattle.ps_tree.specs.Sizes.{value_count}
-use Rattle.ps_tree.specs.declared.tree.Direction.{Direction}
-use Rattle.ps_tree.specs.declared.tree.Range.{Range}
-use Rattle.ps_tree.specs.declared.tree.Range.TheVariants.{Within as WithinBounds}
+use Rattle.ps_tree.specs.declared.tree.operators.Direction.{Direction}
+use Rattle.ps_tree.specs.declared.tree.operators.Range.{Range}
+use Rattle.ps_tree.specs.declared.tree.operators.Range.TheVariants.{Within as WithinBounds}
 use Rattle.behavior.specs.Endings.{Ending, More, Normal, Error, Stack, Heap}
 use Rattle.ps_meaning.specs.Values.{Value, OrdinalValue, ObjectValue, StructureValue, Spot, number_of, components_of}
 use Rattle.ps_meaning.specs.Values.{first_values, values_from, with_values}
@@ -222,7 +222,11 @@ module _ (Bad : Ending → Type 0) (no_error : (number line : ℕ) (calls : List
       actuals_fine (argument_before a rest) c w = then_fine Bad _ _ (actual_fine a c w)
           (λ x u. then_fine Bad _ _ (actuals_fine rest c u) (λ y v. tt))
 
-  module _ (program : Program) (costs : Costs) (heap : (made : List ℕ) (line : ℕ) → passes_heap costs made ≡ true → Bad (Heap line) → ⊥) (call : Caller) (calls : (r : ℕ) (parent : Env) (actuals : List Actual) (c : Context) (w : World) → Avoids Bad (call r parent actuals c w)) (next : Next) (nexts : (t : Task) (c : Context) (w : World) → Avoids Bad (next t c w)) where
+  module _ (program : Program) (costs : Costs)
+      (heap : (made : List ℕ) (line : ℕ) → passes_heap costs made ≡ true → Bad (Heap line) → ⊥) (call : Caller)
+      (calls : (r : ℕ) (parent : Env) (actuals : List Actual) (c : Context) (w : World)
+      → Avoids Bad (call r parent actuals c w))
+      (next : Next) (nexts : (t : Task) (c : Context) (w : World) → Avoids Bad (next t c w)) where
     new_fine : (pointer line : ℕ) (w : World) → Avoids Bad (new_object program costs call next pointer line w)
     new_fine pointer line w = stop_fine Bad (passes_heap costs (w.made ++ pointer ∷ [])) (Heap line)
         (made_object program costs call next pointer) w (heap (w.made ++ pointer ∷ []) line) tt

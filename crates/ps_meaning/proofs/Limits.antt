@@ -2,7 +2,7 @@
 use Rattle.std.proofs.Common.{◌≡◌, ◌⊎◌, inl, inr, ℕ, ◌+◌, ℤ, pos, List, [], ◌∷◌, ◌++◌, Bool, true, false, cond, ◌&&◌}
 use Rattle.std.proofs.Common.{int_lt, unsigned_abs, nat_le, Option, Some, None, refl, ap, ◌∙◌}
 use Rattle.ps_tree.specs.Types.{DataType}
-use Rattle.ps_tree.specs.declared.tree.BooleanOperator.{BooleanOperator}
+use Rattle.ps_tree.specs.declared.tree.operators.BooleanOperator.{BooleanOperator}
 use Rattle.ps_tree.specs.Tree.{Place, Variable, Selector, Element, Field, Target, Selectors, no_selector}
 use Rattle.ps_tree.specs.Tree.{selector_before, ArithmeticSteps, no_arithmetic_step, arithmetic_step_before, Operands}
 use Rattle.ps_tree.specs.Tree.{no_operand, operand_before, SetSteps, no_set_step, set_step_before, Expr, Number, Nil}
@@ -18,9 +18,9 @@ use Rattle.ps_tree.specs.Tree.{Writeln, Statements, no_statement, statement_befo
 use Rattle.ps_tree.specs.Tree.{element_before, Program}
 use Rattle.ps_tree.specs.declared.types.Ordinal.{Ordinal}
 use Rattle.ps_tree.specs.Sizes.{value_count}
-use Rattle.ps_tree.specs.declared.tree.Direction.{Direction}
-use Rattle.ps_tree.specs.declared.tree.Range.{Range}
-use Rattle.ps_tree.specs.declared.tree.Range.TheVariants.{Within as WithinBounds}
+use Rattle.ps_tree.specs.declared.tree.operators.Direction.{Direction}
+use Rattle.ps_tree.specs.declared.tree.operators.Range.{Range}
+use Rattle.ps_tree.specs.declared.tree.operators.Range.TheVariants.{Within as WithinBounds}
 use Rattle.behavior.specs.Endings.{Ending, Stack, Heap}
 use Rattle.ps_meaning.specs.Values.{Value, OrdinalValue, ObjectValue, StructureValue, Root, Declared, Made, Spot}
 use Rattle.ps_meaning.specs.Values.{number_of, components_of, first, first_values, values_from, with_values}
@@ -128,7 +128,9 @@ module _ (Cuts : Ending → Type 0) where
   stop_beside false true ending w f g (inl e) h = absurd (cc)
   stop_beside false true ending w f g (inr k) h = absurd (let e : true ≡ false = k.0 in cc)
 
-  module _ (call call' : Caller) (calls : (r : ℕ) (parent : Env) (actuals : List Actual) (c : Context) (w : World) → Beside Cuts w (call r parent actuals c w) (call' r parent actuals c w)) where
+  module _ (call call' : Caller)
+      (calls : (r : ℕ) (parent : Env) (actuals : List Actual) (c : Context) (w : World)
+      → Beside Cuts w (call r parent actuals c w) (call' r parent actuals c w)) where
     function_beside : (r : ℕ) (parent : Env) (actuals : List Actual) (c : Context) (w : World) → Beside Cuts w
         (function_value call r parent actuals c w) (function_value call' r parent actuals c w)
     function_beside r parent actuals c w = then_beside Cuts w _ _ _ _ (calls r parent actuals c w)
@@ -261,7 +263,11 @@ pub record Tighter (Cuts : Ending → Type 0) (costs costs' : Costs) : Type 0 wh
       (Stack line)
   pub heap : (made : List ℕ) (line : ℕ) → Stops Cuts (passes_heap costs made) (passes_heap costs' made) (Heap line)
 
-module _ (Cuts : Ending → Type 0) (program : Program) (costs costs' : Costs) (tighter : Tighter Cuts costs costs') (call call' : Caller) (calls : (r : ℕ) (parent : Env) (actuals : List Actual) (c : Context) (w : World) → Beside Cuts w (call r parent actuals c w) (call' r parent actuals c w)) (next next' : Next) (nexts : (t : Task) (c : Context) (w : World) → Beside Cuts w (next t c w) (next' t c w)) where
+module _ (Cuts : Ending → Type 0) (program : Program) (costs costs' : Costs) (tighter : Tighter Cuts costs costs')
+    (call call' : Caller)
+    (calls : (r : ℕ) (parent : Env) (actuals : List Actual) (c : Context) (w : World)
+    → Beside Cuts w (call r parent actuals c w) (call' r parent actuals c w))
+    (next next' : Next) (nexts : (t : Task) (c : Context) (w : World) → Beside Cuts w (next t c w) (next' t c w)) where
   new_beside : (pointer line : ℕ) (w : World) → Beside Cuts w (new_object program costs call next pointer line w)
       (new_object program costs' call' next' pointer line w)
   new_beside pointer line w = stop_beside Cuts (passes_heap costs (w.made ++ pointer ∷ []))

@@ -1,8 +1,8 @@
 -- The operators at their edges, against values computed by hand.
 use Rattle.std.proofs.Common.{◌≡◌, pos, negsuc, [], ◌∷◌, refl}
 use Rattle.std.specs.Prelude.{codes}
-use Rattle.ps_tree.specs.declared.tree.ArithmeticOperator.TheVariants.{Add, Subtract, Multiply, Div, Mod}
-use Rattle.ps_tree.specs.declared.tree.RequiredFunction.TheVariants.{Abs, Sqr, Odd, Chr, Succ, Pred}
+use Rattle.ps_tree.specs.declared.tree.operators.ArithmeticOperator.TheVariants.{Add, Subtract, Multiply, Div, Mod}
+use Rattle.ps_tree.specs.declared.tree.operators.RequiredFunction.TheVariants.{Abs, Sqr, Odd, Chr, Succ, Pred}
 use Rattle.ps_meaning.specs.Operators.{Result, Fault, compute, apply}
 use Rattle.ps_meaning.specs.Text.{EndFound, NoInteger, Integer, scan_integer, fitted, right_aligned, integer_text}
 use Rattle.ps_meaning.specs.Text.{digits}

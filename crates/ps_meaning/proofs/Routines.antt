@@ -2,13 +2,13 @@
 use Rattle.std.proofs.Common.{◌≡◌, ℕ, ℤ, pos, negsuc, false, List, [], ◌∷◌, ◌++◌, Some, refl}
 use Rattle.std.specs.Prelude.{codes}
 use Rattle.ps_tree.specs.declared.types.Packing.TheVariants.{Unpacked}
-use Rattle.ps_tree.specs.declared.tree.ArithmeticOperator.TheVariants.{Subtract, Div}
-use Rattle.ps_tree.specs.declared.tree.BooleanOperator.TheVariants.{And}
-use Rattle.ps_tree.specs.declared.tree.SetOperator.TheVariants.{Union}
-use Rattle.ps_tree.specs.declared.tree.OrderRelation.TheVariants.{Equal, AtMost}
-use Rattle.ps_tree.specs.declared.tree.PointerRelation.TheVariants.{Other as OtherPointer}
-use Rattle.ps_tree.specs.declared.tree.Range.TheVariants.{Any, Within}
-use Rattle.ps_tree.specs.declared.tree.Direction.TheVariants.{To}
+use Rattle.ps_tree.specs.declared.tree.operators.ArithmeticOperator.TheVariants.{Subtract, Div}
+use Rattle.ps_tree.specs.declared.tree.operators.BooleanOperator.TheVariants.{And}
+use Rattle.ps_tree.specs.declared.tree.operators.SetOperator.TheVariants.{Union}
+use Rattle.ps_tree.specs.declared.tree.operators.OrderRelation.TheVariants.{Equal, AtMost}
+use Rattle.ps_tree.specs.declared.tree.operators.PointerRelation.TheVariants.{Other as OtherPointer}
+use Rattle.ps_tree.specs.declared.tree.operators.Range.TheVariants.{Any, Within}
+use Rattle.ps_tree.specs.declared.tree.operators.Direction.TheVariants.{To}
 use Rattle.ps_tree.specs.Types.{DataType, OrdinalType, PointerType, SetType, ArrayType, RecordType, field_list, listed}
 use Rattle.ps_tree.specs.Tree.{Place, Variable, Opened, Element, Field, Target, no_selector, operand_before}
 use Rattle.ps_tree.specs.Tree.{no_operand, set_step_before, no_set_step, Expr, Number, Nil, Load, Logic, Compare}

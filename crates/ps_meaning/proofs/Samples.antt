@@ -2,11 +2,11 @@
 use Rattle.std.proofs.Common.{ℕ, ℤ, pos, negsuc, true, List, [], ◌∷◌, Some, None}
 use Rattle.ps_tree.specs.declared.types.Host.TheVariants.{Integer, Char}
 use Rattle.ps_tree.specs.declared.types.Ordinal.{Ordinal}
-use Rattle.ps_tree.specs.declared.tree.Range.{Range}
-use Rattle.ps_tree.specs.declared.tree.Range.TheVariants.{Within}
+use Rattle.ps_tree.specs.declared.tree.operators.Range.{Range}
+use Rattle.ps_tree.specs.declared.tree.operators.Range.TheVariants.{Within}
 use Rattle.ps_tree.specs.Types.{DataType, OrdinalType, ArrayType}
-use Rattle.ps_tree.specs.declared.tree.ArithmeticOperator.{ArithmeticOperator}
-use Rattle.ps_tree.specs.declared.tree.ArithmeticOperator.TheVariants.{Add}
+use Rattle.ps_tree.specs.declared.tree.operators.ArithmeticOperator.{ArithmeticOperator}
+use Rattle.ps_tree.specs.declared.tree.operators.ArithmeticOperator.TheVariants.{Add}
 use Rattle.ps_tree.specs.Tree.{Place, Variable, Entry, Selector, Selectors, no_selector, selector_before}
 use Rattle.ps_tree.specs.Tree.{no_arithmetic_step, arithmetic_step_before, Expr, Number, Load, Arithmetic, Argument}
 use Rattle.ps_tree.specs.Tree.{Arguments, no_argument, argument_before, Literal, Width, DefaultWidth, GivenWidth}

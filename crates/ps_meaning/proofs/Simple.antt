@@ -1,13 +1,13 @@
 -- Small programs without routines.
 use Rattle.std.proofs.Common.{◌≡◌, ℕ, pos, negsuc, [], ◌∷◌, ◌++◌, refl}
 use Rattle.std.specs.Prelude.{codes}
-use Rattle.ps_tree.specs.declared.tree.ArithmeticOperator.{ArithmeticOperator}
-use Rattle.ps_tree.specs.declared.tree.ArithmeticOperator.TheVariants.{Add, Subtract, Div, Mod}
-use Rattle.ps_tree.specs.declared.tree.BooleanOperator.TheVariants.{Or}
-use Rattle.ps_tree.specs.declared.tree.SetOperator.TheVariants.{Union, Difference}
-use Rattle.ps_tree.specs.declared.tree.OrderRelation.TheVariants.{Less, Greater}
-use Rattle.ps_tree.specs.declared.tree.RequiredFunction.TheVariants.{Abs}
-use Rattle.ps_tree.specs.declared.tree.Direction.TheVariants.{To, Downto}
+use Rattle.ps_tree.specs.declared.tree.operators.ArithmeticOperator.{ArithmeticOperator}
+use Rattle.ps_tree.specs.declared.tree.operators.ArithmeticOperator.TheVariants.{Add, Subtract, Div, Mod}
+use Rattle.ps_tree.specs.declared.tree.operators.BooleanOperator.TheVariants.{Or}
+use Rattle.ps_tree.specs.declared.tree.operators.SetOperator.TheVariants.{Union, Difference}
+use Rattle.ps_tree.specs.declared.tree.operators.OrderRelation.TheVariants.{Less, Greater}
+use Rattle.ps_tree.specs.declared.tree.operators.RequiredFunction.TheVariants.{Abs}
+use Rattle.ps_tree.specs.declared.tree.operators.Direction.TheVariants.{To, Downto}
 use Rattle.ps_tree.specs.Types.{OrdinalType}
 use Rattle.ps_tree.specs.Tree.{Expr, Arithmetic, arithmetic_step_before, no_arithmetic_step, Logic, operand_before}
 use Rattle.ps_tree.specs.Tree.{no_operand, In, SetExpr, Constructor, Combine, set_step_before, no_set_step, Several}

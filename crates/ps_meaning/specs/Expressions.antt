@@ -4,9 +4,9 @@ use Rattle.std.specs.Prelude.{ℕ, ℤ, pos, ◌-ℤ◌, unsigned_abs, int_lt, B
 use Rattle.std.specs.Prelude.{List, [], ◌∷◌, get_or, Option, Some, None}
 use Rattle.ps_tree.specs.declared.types.Host.TheVariants.{Integer}
 use Rattle.ps_tree.specs.declared.types.Ordinal.{Ordinal}
-use Rattle.ps_tree.specs.declared.tree.BooleanOperator.{BooleanOperator}
-use Rattle.ps_tree.specs.declared.tree.Range.{Range}
-use Rattle.ps_tree.specs.declared.tree.SetOperator.TheVariants.{Union}
+use Rattle.ps_tree.specs.declared.tree.operators.BooleanOperator.{BooleanOperator}
+use Rattle.ps_tree.specs.declared.tree.operators.Range.{Range}
+use Rattle.ps_tree.specs.declared.tree.operators.SetOperator.TheVariants.{Union}
 use Rattle.ps_tree.specs.Types.{DataType, ArrayType}
 use Rattle.ps_tree.specs.Tree.{Place, Variable, PlaceBase, Entry, Opened, Selector, Element, Field, Target, Selectors}
 use Rattle.ps_tree.specs.Tree.{no_selector, selector_before, ArithmeticSteps, no_arithmetic_step}

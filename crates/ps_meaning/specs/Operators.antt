@@ -2,22 +2,24 @@
 use Rattle.std.specs.Prelude.{ℕ, zero, suc, ◌-◌, ◌%◌, ℤ, pos, negsuc, ◌+ℤ◌, ◌-ℤ◌, ◌*ℤ◌, int_lt, int_le, int_div}
 use Rattle.std.specs.Prelude.{unsigned_abs, Bool, true, false, not, ◌&&◌, ◌||◌, ◌==◌, nat_lt, if◌then◌else◌, List, []}
 use Rattle.std.specs.Prelude.{◌∷◌}
-use Rattle.ps_tree.specs.declared.tree.ArithmeticOperator.{ArithmeticOperator}
-use Rattle.ps_tree.specs.declared.tree.ArithmeticOperator.TheVariants.{Add, Subtract, Multiply, Div, Mod}
-use Rattle.ps_tree.specs.declared.tree.BooleanOperator.{BooleanOperator}
-use Rattle.ps_tree.specs.declared.tree.BooleanOperator.TheVariants.{And, Or}
-use Rattle.ps_tree.specs.declared.tree.SetOperator.{SetOperator}
-use Rattle.ps_tree.specs.declared.tree.SetOperator.TheVariants.{Union, Difference, Intersection}
-use Rattle.ps_tree.specs.declared.tree.OrderRelation.{OrderRelation}
-use Rattle.ps_tree.specs.declared.tree.OrderRelation.TheVariants.{Equal, Different, Less, Greater, AtMost, AtLeast}
-use Rattle.ps_tree.specs.declared.tree.PointerRelation.{PointerRelation}
-use Rattle.ps_tree.specs.declared.tree.PointerRelation.TheVariants.{Same as SamePointer, Other as OtherPointer}
-use Rattle.ps_tree.specs.declared.tree.SetRelation.{SetRelation}
-use Rattle.ps_tree.specs.declared.tree.SetRelation.TheVariants.{Same, Other, Included, Includes}
-use Rattle.ps_tree.specs.declared.tree.RequiredFunction.{RequiredFunction}
-use Rattle.ps_tree.specs.declared.tree.RequiredFunction.TheVariants.{Abs, Sqr, Odd, Ord, Chr, Succ, Pred}
-use Rattle.ps_tree.specs.declared.tree.Range.{Range}
-use Rattle.ps_tree.specs.declared.tree.Range.TheVariants.{Any, Within}
+use Rattle.ps_tree.specs.declared.tree.operators.ArithmeticOperator.{ArithmeticOperator}
+use Rattle.ps_tree.specs.declared.tree.operators.ArithmeticOperator.TheVariants.{Add, Subtract, Multiply, Div, Mod}
+use Rattle.ps_tree.specs.declared.tree.operators.BooleanOperator.{BooleanOperator}
+use Rattle.ps_tree.specs.declared.tree.operators.BooleanOperator.TheVariants.{And, Or}
+use Rattle.ps_tree.specs.declared.tree.operators.SetOperator.{SetOperator}
+use Rattle.ps_tree.specs.declared.tree.operators.SetOperator.TheVariants.{Union, Difference, Intersection}
+use Rattle.ps_tree.specs.declared.tree.operators.OrderRelation.{OrderRelation}
+use Rattle.ps_tree.specs.declared.tree.operators.OrderRelation.TheVariants.{Equal, Different, Less, Greater, AtMost}
+use Rattle.ps_tree.specs.declared.tree.operators.OrderRelation.TheVariants.{AtLeast}
+use Rattle.ps_tree.specs.declared.tree.operators.PointerRelation.{PointerRelation}
+use Rattle.ps_tree.specs.declared.tree.operators.PointerRelation.TheVariants.{Same as SamePointer}
+use Rattle.ps_tree.specs.declared.tree.operators.PointerRelation.TheVariants.{Other as OtherPointer}
+use Rattle.ps_tree.specs.declared.tree.operators.SetRelation.{SetRelation}
+use Rattle.ps_tree.specs.declared.tree.operators.SetRelation.TheVariants.{Same, Other, Included, Includes}
+use Rattle.ps_tree.specs.declared.tree.operators.RequiredFunction.{RequiredFunction}
+use Rattle.ps_tree.specs.declared.tree.operators.RequiredFunction.TheVariants.{Abs, Sqr, Odd, Ord, Chr, Succ, Pred}
+use Rattle.ps_tree.specs.declared.tree.operators.Range.{Range}
+use Rattle.ps_tree.specs.declared.tree.operators.Range.TheVariants.{Any, Within}
 use Rattle.ps_meaning.specs.Values.{Value, NilValue, ObjectValue, Values, value_before, number_of}
 
 -- a number, or the number of an error

@@ -9,6 +9,7 @@ use Rattle.ps_meaning.specs.Expressions.{Actual}
 use Rattle.ps_meaning.specs.Statements.{Block, Next, Costs, passes_stack}
 use Rattle.ps_meaning.specs.Calls.{bind, call_routine, execute}
 use Rattle.ps_meaning.specs.Run.{first_world, first_context, costs_of, answer, shown}
+use Rattle.ps_meaning.proofs.Avoids.{Avoids}
 use Rattle.ps_lower_layout.specs.Frames.{kinds_of}
 use Rattle.ps_lower_code.specs.Fits.{tail}
 use Rattle.ps_lower_calls.specs.Routines.{RoutinesFit}
@@ -18,7 +19,7 @@ use Rattle.ps_needs_least.specs.declared.uses.Use.{Use}
 use Rattle.ps_needs_least.specs.Paths.{uses, Path, program_block, call_within, HoldsAll}
 use Rattle.ps_needs.specs.Laws.{PathsAreEnough, NeedsEnough}
 use Rattle.ps_needs.proofs.Environments.{IsHere, EnvIs, ActualsAre, entered_is}
-use Rattle.ps_needs.proofs.Expressions.{IsStack, Unstopped, no_stop, Known, CallsGoOn}
+use Rattle.ps_needs.proofs.Expressions.{IsStack, no_stop, Known, CallsGoOn}
 use Rattle.ps_needs.proofs.Statements.{NextGoesOn, perform_fine}
 
 -- each use of a block is a use of it
@@ -31,7 +32,7 @@ known_from program r (u ∷ us) h = (
       (λ v c. h v (suc c.0, let l = c.1 in omega (arith, l), c.2)),
 )
 
-never_taken : {A : Type 0} (t : Bool) (f g : Act A) (w : World) → t ≡ false → Unstopped (g w) → Unstopped (cond t f g w)
+never_taken : {A : Type 0} (t : Bool) (f g : Act A) (w : World) → t ≡ false → Avoids IsStack (g w) → Avoids IsStack (cond t f g w)
 never_taken true f g w e h = absurd (cc)
 never_taken false f g w e h = h
 
@@ -43,7 +44,7 @@ module _ (program : Program) (fits : RoutinesFit program) (F G : List ℕ) (S H 
   entered_fine : (next : Next) (s : ℕ) (active : List ℕ) (parent : Env) (actuals : List Actual) (c : Context)
       (w : World) → NextGoesOn program s (s ∷ active) next → Path program (s ∷ active) → IsHere program s
       → EnvIs program parent (tail (routine_at program s).chain) → ActualsAre program actuals
-      (kinds_of (routine_at program s).formals) → c.active ≡ active → Unstopped
+      (kinds_of (routine_at program s).formals) → c.active ≡ active → Avoids IsStack
       (call_routine program costs next s parent actuals c w)
   entered_fine next s active parent actuals c w nexts path here outer are e =
       let routine = routine_at program s in
@@ -80,7 +81,7 @@ module _ (program : Program) (fits : RoutinesFit program) (F G : List ℕ) (S H 
       perform_fine program costs r (r ∷ active) (call_routine program costs next) calls next
       (execute_fine n r active path) t c w k h
 
-  shown_fine : (a : Answer Done) (line : ℕ) → Unstopped a → (shown a).1 ≡ Stack line → ⊥
+  shown_fine : (a : Answer Done) (line : ℕ) → Avoids IsStack a → (shown a).1 ≡ Stack line → ⊥
   shown_fine (Gives v w) line h e = absurd (cc)
   shown_fine (Ends out ending) line h e = h (subst IsStack (sym e) tt)
 

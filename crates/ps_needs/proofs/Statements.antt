@@ -10,9 +10,9 @@ use Rattle.ps_tree.specs.Tree.{Writeln, Statements, no_statement, statement_befo
 use Rattle.ps_tree.specs.Tree.{element_before}
 use Rattle.ps_tree.specs.declared.types.Ordinal.{Ordinal}
 use Rattle.ps_tree.specs.Sizes.{value_count}
-use Rattle.ps_tree.specs.declared.tree.Direction.{Direction}
-use Rattle.ps_tree.specs.declared.tree.Range.{Range}
-use Rattle.ps_tree.specs.declared.tree.Range.TheVariants.{Within as WithinBounds}
+use Rattle.ps_tree.specs.declared.tree.operators.Direction.{Direction}
+use Rattle.ps_tree.specs.declared.tree.operators.Range.{Range}
+use Rattle.ps_tree.specs.declared.tree.operators.Range.TheVariants.{Within as WithinBounds}
 use Rattle.behavior.specs.Endings.{Heap}
 use Rattle.ps_meaning.specs.Values.{Value, OrdinalValue, StructureValue, Spot, number_of, components_of, first_values}
 use Rattle.ps_meaning.specs.Values.{values_from, with_values}
@@ -24,7 +24,7 @@ use Rattle.ps_meaning.specs.Statements.{Task, Block, Again, Further, Next, Costs
 use Rattle.ps_meaning.specs.Statements.{succeeding, own_spot, index_place, scan}
 use Rattle.ps_meaning.specs.Statements.{made_object, new_object, opening, read, reads, width_value, write}
 use Rattle.ps_meaning.specs.Statements.{writes, act, acts, selected, perform}
-use Rattle.ps_meaning.proofs.Avoids.{Fine, after, then_fine, choice_fine, choose_fine, held_fine, character_fine}
+use Rattle.ps_meaning.proofs.Avoids.{Avoids, Fine, after, then_fine, choice_fine, choose_fine, held_fine, character_fine}
 use Rattle.ps_meaning.proofs.Avoids.{found_fine, line_read_fine}
 use Rattle.ps_lower_layout.specs.Shapes.{Shape, Whole}
 use Rattle.ps_lower_layout.specs.Paths.{NumberSort}
@@ -37,7 +37,7 @@ use Rattle.ps_needs_least.specs.Uses.{place_uses, expr_uses, set_uses, structure
 use Rattle.ps_needs_least.specs.Uses.{reads_uses, width_uses, write_uses, writes_uses, statement_uses, statements_uses}
 use Rattle.ps_needs_least.specs.Uses.{elements_uses}
 use Rattle.ps_needs.proofs.Environments.{ActualsAre, formal_is}
-use Rattle.ps_needs.proofs.Expressions.{IsStack, Unstopped, no_stop, no_error, Known}
+use Rattle.ps_needs.proofs.Expressions.{IsStack, no_stop, no_error, Known}
 use Rattle.ps_needs.proofs.Expressions.{front, back, CallsGoOn, Here, structure_operand, contents_operand, named_fine}
 use Rattle.ps_needs.proofs.Expressions.{formal_fine, access_fine, value_fine, set_fine, operand_fine, actuals_fine}
 
@@ -52,18 +52,19 @@ TaskIs program r (Further variable direction last s) = (os : List Shape) × Stat
 
 abbrev pub NextGoesOn : Program → ℕ → (active : List ℕ) → Next → Type 0
 NextGoesOn program r active next = (t : Task) (c : Context) (w : World) → TaskIs program r t → Here program r active c
-    → Unstopped (next t c w)
+    → Avoids IsStack (next t c w)
 
-module _ (program : Program) (costs : Costs) (r : ℕ) (active : List ℕ) (call : Caller) (calls : CallsGoOn program r active call) (next : Next) (nexts : NextGoesOn program r active next) where
+module _ (program : Program) (costs : Costs) (r : ℕ) (active : List ℕ) (call : Caller)
+    (calls : CallsGoOn program r active call) (next : Next) (nexts : NextGoesOn program r active next) where
   abbrev scope : Scope
   scope = scope_of program (routine_at program r)
 
-  new_fine : (pointer line : ℕ) (w : World) → Unstopped (new_object program costs call next pointer line w)
+  new_fine : (pointer line : ℕ) (w : World) → Avoids IsStack (new_object program costs call next pointer line w)
   new_fine pointer line w = choose_fine IsStack (passes_heap costs (w.made ++ pointer ∷ [])) (stop (Heap line))
       (made_object program costs call next pointer) w no_stop tt
 
   opening_fine : (os : List Shape) (places : List Place) (os' : List Shape) (c : Context) (w : World)
-      → OpenedFit scope os places os' → Known program r (places_uses places) → Here program r active c → Unstopped
+      → OpenedFit scope os places os' → Known program r (places_uses places) → Here program r active c → Avoids IsStack
       (opening program costs call next places c w)
   opening_fine os [] os' c w f u h = tt
   opening_fine os (p ∷ rest) os' c w f u h = then_fine IsStack _ _
@@ -72,13 +73,13 @@ module _ (program : Program) (costs : Costs) (r : ℕ) (active : List ℕ) (call
       (λ s v. opening_fine (f.0 ∷ os) rest os' (with_opened (s ∷ c.opened) c) v f.2
       (back program r (place_uses p) (places_uses rest) u) h)
 
-  put_fitting : (s : Spot) (range : Range) (x : Value) (line : ℕ) (c : Context) (w : World) → Unstopped
+  put_fitting : (s : Spot) (range : Range) (x : Value) (line : ℕ) (c : Context) (w : World) → Avoids IsStack
       (and_then (fitting range x line c w) (λ v. put s v))
   put_fitting s range x line c w = then_fine IsStack _ _ ((choice_fine IsStack (fits range x) _ _ (λ t. tt) (λ t. no_stop)) w)
       (λ v u. tt)
 
   read_fine : (os : List Shape) (v : ReadVariable) (c : Context) (w : World) → ReadFits scope os v → Known program r
-      (read_uses v) → Here program r active c → Unstopped (read program costs call next v c w)
+      (read_uses v) → Here program r active c → Avoids IsStack (read program costs call next v c w)
   read_fine os (ReadChar p low high line) c w f u h = then_fine IsStack _ _
       (access_fine program r active call calls os p f.0 c w f.1 u h)
       (λ s v. then_fine IsStack (look v) _ (tt) (λ b t. then_fine IsStack _ _ ((character_fine IsStack no_error b line c) t)
@@ -89,28 +90,28 @@ module _ (program : Program) (costs : Costs) (r : ℕ) (active : List ℕ) (call
       (λ x q. put_fitting s (WithinBounds low high) x line c q)))
 
   reads_fine : (os : List Shape) (vs : List ReadVariable) (c : Context) (w : World) → ReadsFit scope os vs
-      → Known program r (reads_uses vs) → Here program r active c → Unstopped (reads program costs call next vs c w)
+      → Known program r (reads_uses vs) → Here program r active c → Avoids IsStack (reads program costs call next vs c w)
   reads_fine os [] c w f u h = tt
   reads_fine os (x ∷ rest) c w f u h = then_fine IsStack _ _
       (read_fine os x c w f.0 (front program r (read_uses x) (reads_uses rest) u) h)
       (λ d v. reads_fine os rest c v f.1 (back program r (read_uses x) (reads_uses rest) u) h)
 
   width_cases : (x : ℤ) (line : ℕ) (c : Context) (w : World) → let width : Act (Option ℕ) = cond (int_lt x (pos 1))
-      (fault 11 line c) (give (Some (unsigned_abs x))) in Unstopped (width w)
+      (fault 11 line c) (give (Some (unsigned_abs x))) in Avoids IsStack (width w)
   width_cases x line c w = choice_fine IsStack (int_lt x (pos 1)) (fault 11 line c) (give (Some (unsigned_abs x)))
       (λ t. no_stop) (λ t. tt) w
 
   width_fine : (os : List Shape) (width : Width) (c : Context) (w : World) → WidthFits scope os width → Known program r
-      (width_uses width) → Here program r active c → Unstopped (width_value program costs call next width c w)
+      (width_uses width) → Here program r active c → Avoids IsStack (width_value program costs call next width c w)
   width_fine os DefaultWidth c w f u h = tt
   width_fine os (GivenWidth e line) c w f u h = then_fine IsStack _ _
-      (value_fine program r active call calls os e NumberSort c w f u h) (λ x v. width_cases (number_of x) line c v)
+      (value_fine program r active call calls os e NumberSort c w f.0 u h) (λ x v. width_cases (number_of x) line c v)
 
-  text_fine : (bytes : List ℕ) (w : World) → Unstopped (write_text bytes w)
+  text_fine : (bytes : List ℕ) (w : World) → Avoids IsStack (write_text bytes w)
   text_fine bytes w = tt
 
   write_fine : (os : List Shape) (p : WriteParameter) (c : Context) (w : World) → WriteFits scope os p → Known program r
-      (write_uses p) → Here program r active c → Unstopped (write program costs call next p c w)
+      (write_uses p) → Here program r active c → Avoids IsStack (write program costs call next p c w)
   write_fine os (WriteInteger e width) c w f u h = then_fine IsStack _ _
       (value_fine program r active call calls os e NumberSort c w f.0
       (front program r (expr_uses e) (width_uses width) u) h)
@@ -133,7 +134,7 @@ module _ (program : Program) (costs : Costs) (r : ℕ) (active : List ℕ) (call
       (λ n t. then_fine IsStack _ _ ((held_fine IsStack no_error x) t) (λ y q. tt)))
 
   writes_fine : (os : List Shape) (ps : List WriteParameter) (c : Context) (w : World) → WritesFit scope os ps
-      → Known program r (writes_uses ps) → Here program r active c → Unstopped (writes program costs call next ps c w)
+      → Known program r (writes_uses ps) → Here program r active c → Avoids IsStack (writes program costs call next ps c w)
   writes_fine os [] c w f u h = tt
   writes_fine os (p ∷ rest) c w f u h = then_fine IsStack _ _
       (write_fine os p c w f.0 (front program r (write_uses p) (writes_uses rest) u) h)
@@ -142,7 +143,7 @@ module _ (program : Program) (costs : Costs) (r : ℕ) (active : List ℕ) (call
   place_fine : (index : Ordinal) (x : ℤ) (line : ℕ) (c : Context) → Fine IsStack (index_place index x line c)
   place_fine index x line c = choice_fine IsStack (is_between index.low x index.high) _ _ (λ t. tt) (λ t. no_stop)
 
-  put_or_fault : (b : Bool) (s : Spot) (v : Value) (line : ℕ) (c : Context) (w : World) → Unstopped
+  put_or_fault : (b : Bool) (s : Spot) (v : Value) (line : ℕ) (c : Context) (w : World) → Avoids IsStack
       (cond b (put s v) (fault 5 line c) w)
   put_or_fault true s v line c w = tt
   put_or_fault false s v line c w = no_stop
@@ -159,8 +160,8 @@ module _ (program : Program) (costs : Costs) (r : ℕ) (active : List ℕ) (call
 
   turns_fine : (b : Bool) (variable : ℕ) (low high : ℤ) (x : Value) (from_line : ℕ) (y : Value) (to_line : ℕ)
       (direction : Direction) (s : Statement) (c : Context) (w : World)
-      → ((u : World) → Unstopped (act program costs call next s c u))
-      → ((u : World) → Unstopped (next (Further variable direction (number_of y) s) c u)) → Unstopped
+      → ((u : World) → Avoids IsStack (act program costs call next s c u))
+      → ((u : World) → Avoids IsStack (next (Further variable direction (number_of y) s) c u)) → Avoids IsStack
       (cond b (give done) (turns program costs call next variable low high x from_line y to_line direction s c) w)
   turns_fine true variable low high x from_line y to_line direction s c w h k = tt
   turns_fine false variable low high x from_line y to_line direction s c w h k =
@@ -171,7 +172,7 @@ module _ (program : Program) (costs : Costs) (r : ℕ) (active : List ℕ) (call
 
   mutual
     act_fine : (os : List Shape) (s : Statement) (c : Context) (w : World) → StatementFits scope os s → Known program r
-        (statement_uses s) → Here program r active c → Unstopped (act program costs call next s c w)
+        (statement_uses s) → Here program r active c → Avoids IsStack (act program costs call next s c w)
     act_fine os Empty c w f u h = tt
     act_fine os (Assign p range e line) c w f u h = then_fine IsStack _ _
         (access_fine program r active call calls os p f.0 c w f.1 (front program r (place_uses p) (expr_uses e) u) h)
@@ -278,7 +279,7 @@ module _ (program : Program) (costs : Costs) (r : ℕ) (active : List ℕ) (call
         (λ d v. text_fine (10 ∷ []) v)
 
     acts_fine : (os : List Shape) (body : Statements) (c : Context) (w : World) → StatementsFit scope os body
-        → Known program r (statements_uses body) → Here program r active c → Unstopped
+        → Known program r (statements_uses body) → Here program r active c → Avoids IsStack
         (acts program costs call next body c w)
     acts_fine os no_statement c w f u h = tt
     acts_fine os (statement_before s rest) c w f u h = then_fine IsStack _ _
@@ -286,7 +287,7 @@ module _ (program : Program) (costs : Costs) (r : ℕ) (active : List ℕ) (call
         (λ d v. acts_fine os rest c v f.1 (back program r (statement_uses s) (statements_uses rest) u) h)
 
     selected_fine : (os : List Shape) (elements : Elements) (x : ℤ) (line : ℕ) (c : Context) (w : World)
-        → ElementsFit scope os elements → Known program r (elements_uses elements) → Here program r active c → Unstopped
+        → ElementsFit scope os elements → Known program r (elements_uses elements) → Here program r active c → Avoids IsStack
         (selected program costs call next elements x line c w)
     selected_fine os no_element x line c w f u h = no_stop
     selected_fine os (element_before constants s rest) x line c w f u h = choose_fine IsStack (is_among x constants)
@@ -304,14 +305,14 @@ module _ (program : Program) (costs : Costs) (r : ℕ) (active : List ℕ) (call
 
   further_fine : (b : Bool) (os : List Shape) (variable : ℕ) (direction : Direction) (last : ℤ) (s : Statement)
       (c : Context) (v : Value) (w : World) → StatementFits scope os s → Known program r (statement_uses s)
-      → Here program r active c → Unstopped (cond b (give done)
+      → Here program r active c → Avoids IsStack (cond b (give done)
       (turned program costs call next variable direction last s c v) w)
   further_fine true os variable direction last s c v w f u h = tt
   further_fine false os variable direction last s c v w f u h =
       then_fine IsStack (put (own_spot variable c) v w) _ (tt) (λ d t.
       then_fine IsStack _ _ (act_fine os s c t f u h) (λ d' q. nexts (Further variable direction last s) c q (os, f, u) h))
 
-  pub perform_fine : (t : Task) (c : Context) (w : World) → TaskIs program r t → Here program r active c → Unstopped
+  pub perform_fine : (t : Task) (c : Context) (w : World) → TaskIs program r t → Here program r active c → Avoids IsStack
       (perform program costs call next t c w)
   perform_fine (Block body) c w k h = acts_fine [] body c w k.0 k.1 h
   perform_fine (Again s) c w k h = act_fine k.0 s c w k.1 k.2 h

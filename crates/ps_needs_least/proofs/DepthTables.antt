@@ -80,7 +80,8 @@ module _ (program : Program) (F : List ℕ) where
           ≡ 0 = refl in let sum = taken.2 in (depth_holds, (taken.0, taken.1, omega (arith, sum, none)))
 
   -- where the program block is one of the routines that call one of themselves, there is no end
-  module _ (Endless : ℕ → Type 0) (frames : (r : ℕ) → Endless r → 1 ≤ price F r) (begins : Endless 0) (next : (r : ℕ) → Endless r → (s : ℕ) × MayCall program r s × Endless s) where
+  module _ (Endless : ℕ → Type 0) (frames : (r : ℕ) → Endless r → 1 ≤ price F r) (begins : Endless 0)
+      (next : (r : ℕ) → Endless r → (s : ℕ) × MayCall program r s × Endless s) where
     longer : (k : ℕ) → (r : ℕ) × (rest : List ℕ) × Path program (r ∷ rest) × Endless r × (k < spent F (r ∷ rest))
     longer zero = let some = frames 0 begins in let one = grown F 0 [] in let l : 0 < spent F (0 ∷ []) = omega
         (arith, some, one) in (0, [], program_block, begins, l)

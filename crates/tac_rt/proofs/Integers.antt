@@ -35,7 +35,9 @@ module _ (m : Machine) (s : State) (has : HasRoutines m) (to line : ℕ) where
   abbrev at_place : ℕ → Temporaries → Tape → State
   at_place pc t tape = here_at m s 15 routine has refl to line pc t s.memory tape
 
-  module _ (block : Block) (offset : ℕ) (target : Block) (place : ℕ) (middle : Memory) (fresh : IsFresh s.count s.memory) (storable : (z : ℤ) → (memory : Memory) × (store middle target place (Number z) ≡ Some memory)) where
+  module _ (block : Block) (offset : ℕ) (target : Block) (place : ℕ) (middle : Memory)
+      (fresh : IsFresh s.count s.memory)
+      (storable : (z : ℤ) → (memory : Memory) × (store middle target place (Number z) ≡ Some memory)) where
     record Out (x : ℤ) (pc : ℕ) (t : Temporaries) (tape : Tape) : Type 0 where
       code : ℤ
       after : Memory

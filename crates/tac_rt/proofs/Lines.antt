@@ -78,7 +78,8 @@ module _ (m : Machine) (s : State) (has : HasRoutines m) (to line : ℕ) (block 
 
   -- ---- a line end is found
 
-  module _ (middle after : Memory) (first : store s.memory block offset (Number (negsuc 1)) ≡ Some middle) (second : store middle block (offset + 4) (Number (pos 0)) ≡ Some after) where
+  module _ (middle after : Memory) (first : store s.memory block offset (Number (negsuc 1)) ≡ Some middle)
+      (second : store middle block (offset + 4) (Number (pos 0)) ≡ Some after) where
     ended_line : (t : Temporaries) (tape : Tape) → t 0 ≡ Some (Address block offset) → Comes m
         (at_place 8 t s.memory tape) (back s to (Number (pos 0)) after tape)
     ended_line t tape a =
@@ -155,7 +156,8 @@ module _ (m : Machine) (s : State) (has : HasRoutines m) (to line : ℕ) (block 
 
   -- ---- the input ends before a line end
 
-  module _ (middle after : Memory) (first : store s.memory block offset (Number (negsuc 0)) ≡ Some middle) (second : store middle block (offset + 4) (Number (pos 0)) ≡ Some after) where
+  module _ (middle after : Memory) (first : store s.memory block offset (Number (negsuc 0)) ≡ Some middle)
+      (second : store middle block (offset + 4) (Number (pos 0)) ≡ Some after) where
     ended_input : (t : Temporaries) (g : ℤ) (tape : Tape) → t 0 ≡ Some (Address block offset) → t 1 ≡ Some
         (Number (negsuc 0)) → t 2 ≡ Some (Number g) → Comes m (at_place 4 t s.memory tape)
         (back s to (Number (truth (same_number g (pos 0)))) after tape)

@@ -50,7 +50,9 @@ module _ (m : Machine) (s : State) (has : HasRoutines m) (to line : ℕ) where
 
   -- ---- the digits, highest first
 
-  module _ (b : ℕ) (bs : List ℕ) (t : Temporaries) (tape : Tape) (h : AreDigits (b ∷ bs)) (left : t 2 ≡ Some (Number (minus (worth (b ∷ bs))))) (power : t 3 ≡ Some (Number (pos (10 ^ length bs)))) (small : worth (b ∷ bs) ≤ 2147483648) (low : 10 ^ length bs < 2147483648) where
+  module _ (b : ℕ) (bs : List ℕ) (t : Temporaries) (tape : Tape) (h : AreDigits (b ∷ bs))
+      (left : t 2 ≡ Some (Number (minus (worth (b ∷ bs))))) (power : t 3 ≡ Some (Number (pos (10 ^ length bs))))
+      (small : worth (b ∷ bs) ≤ 2147483648) (low : 10 ^ length bs < 2147483648) where
     abbrev p : ℕ
     p = 10 ^ length bs
 
@@ -332,7 +334,8 @@ module _ (m : Machine) (s : State) (has : HasRoutines m) (to line : ℕ) where
   start x w u = slice_get (Number x ∷ Number (pos w) ∷ []) u
 
   -- from place 4 on: the width, and the first power
-  module _ (x : ℤ) (w n : ℕ) (t : Temporaries) (whole : t 0 ≡ Some (Number x)) (width : t 1 ≡ Some (Number (pos w))) (left : t 2 ≡ Some (Number (minus n))) (narrow : w < 2147483648) where
+  module _ (x : ℤ) (w n : ℕ) (t : Temporaries) (whole : t 0 ≡ Some (Number x)) (width : t 1 ≡ Some (Number (pos w)))
+      (left : t 2 ≡ Some (Number (minus n))) (narrow : w < 2147483648) where
     abbrev ready : Temporaries
     ready = put (put t 3 (Number (pos 1))) 1 (Number (pos w -ℤ pos 1))
 

@@ -190,7 +190,8 @@ module _ (m : Machine) (s : State) (has : HasRoutines m) (fresh : IsFresh s.coun
             >> rest.4,
       )
 
-  module _ (block : Block) (o : ℕ) (text : List ℕ) (w : ℕ) (h : BytesAt (text_at m.code) s.memory block o text) (l : o + length text < 2147483648) (narrow : w < 2147483648) where
+  module _ (block : Block) (o : ℕ) (text : List ℕ) (w : ℕ) (h : BytesAt (text_at m.code) s.memory block o text)
+      (l : o + length text < 2147483648) (narrow : w < 2147483648) where
     abbrev values : List Value
     values = Address block o ∷ Number (pos (length text)) ∷ Number (pos w) ∷ []
 

@@ -11,7 +11,7 @@ lower_marked-requires-clause-sound c = c.code_is_sound.ensures
 
 pub lower_marked-requires-clause-light : goal.lower_marked-requires-clause-light
 lower_marked-requires-clause-light c = c.weights_are_small.ensures
-    (program_in c.args.checked.now) c.requires.within_limits c.requires.formed c.requires.lie
+    (program_in c.args.checked.now) c.requires.within_limits c.requires.formed
 
 pub returns-in_err-code-clause-err : goal.returns-in_err-code-clause-err
 returns-in_err-code-clause-err c =

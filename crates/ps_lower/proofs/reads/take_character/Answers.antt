@@ -1,5 +1,5 @@
 use Rattle.std.proofs.Common.{true, ◌∷◌, [], pos, None}
-use Rattle.ps_tree.specs.declared.tree.Range.TheVariants.{Within}
+use Rattle.ps_tree.specs.declared.tree.operators.Range.TheVariants.{Within}
 use Rattle.tac_code.specs.declared.code.Instruction.TheVariants as i
 use Rattle.tac_rt.specs.declared.run_time.RunTime.TheVariants.{ReadCharacter}
 use Rattle.ps_lower_code.specs.Scopes.{greatest, fitting_code, helper}

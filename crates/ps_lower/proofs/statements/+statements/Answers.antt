@@ -1,8 +1,8 @@
 use Rattle.std.proofs.Common.{rules, arith, ◌≡◌, [], ◌∷◌, ◌++◌, length, map, OnOk, ap, subst, ◌∙◌}
 use borrow.Author.Rules.{get_or_read}
-use Rattle.ps_tree.specs.declared.tree.Statement.TheFolds.{the_lemmas}
+use Rattle.ps_tree.specs.declared.tree.statements.Statement.TheFolds.{the_lemmas}
 use Rattle.ps_tree.specs.View.{expr_of, place_of, statement_of, statements_of, elements_of}
-use Rattle.ps_tree.specs.declared.tree.CaseElement.{out-CaseElement}
+use Rattle.ps_tree.specs.declared.tree.statements.CaseElement.{out-CaseElement}
 use Rattle.ps_lower_code.specs.Values.{front_code, opposite}
 use Rattle.ps_lower_code.specs.Statements.{statement_code, statements_code}
 use Rattle.ps_lower.specs.Levels.{scope_of, opened_of, opened_within, where_open}

@@ -1,5 +1,5 @@
 use Rattle.std.proofs.Common.{sym, ap, ap₂, ◌∷◌, ◌++◌, ◌∙◌}
-use Rattle.ps_tree.specs.declared.tree.CaseElement.{out-CaseElement}
+use Rattle.ps_tree.specs.declared.tree.statements.CaseElement.{out-CaseElement}
 use Rattle.ps_tree.specs.View.{place_of, expr_of, statement_of}
 use Rattle.ps_needs_least.specs.Uses.{place_uses, expr_uses, statement_uses}
 use Rattle.ps_needs_least.proofs.Gathering.{adds_none, adds_as, adds_two, adds_three, gathered_start, gathered_next}
