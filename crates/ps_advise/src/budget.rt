@@ -7,7 +7,7 @@ const MOST_TRIALS: u32 = 400;
 const LEAST_BYTES: usize = 150_000;
 
 // The bytes of the texts behind faults, in which the next one is looked for.
-const BYTES_BEHIND: usize = 500_000;
+const BYTES_BEHIND: usize = 150_000;
 
 /// What is left to try: so many texts, with so many bytes together.
 #[derive(Drop)]

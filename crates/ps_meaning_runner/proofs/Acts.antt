@@ -4,14 +4,14 @@ use Rattle.std.proofs.Common.{length, get_or, drop, map, Result, Vec, Global, re
 use Rattle.std.proofs.lemmas.List.{drop_all}
 use Rattle.behavior.specs.Endings.{failed}
 use Rattle.ps_tree.specs.Tree as t
-use Rattle.ps_tree.specs.declared.tree.Range.TheVariants.{Within as WithinBounds}
+use Rattle.ps_tree.specs.declared.tree.operators.Range.TheVariants.{Within as WithinBounds}
 use Rattle.ps_tree.specs.declared.line.Line.{Line}
 use Rattle.ps_tree.specs.declared.tree.Expr.{Expr}
-use Rattle.ps_tree.specs.declared.tree.Statement.{Statement, Case}
-use Rattle.ps_tree.specs.declared.tree.CaseElement.{CaseElement, out-CaseElement}
+use Rattle.ps_tree.specs.declared.tree.statements.Statement.{Statement, Case}
+use Rattle.ps_tree.specs.declared.tree.statements.CaseElement.{CaseElement, out-CaseElement}
 use Rattle.ps_tree.specs.declared.tree.Place.{Place}
-use Rattle.ps_tree.specs.declared.tree.ReadVariable.{ReadVariable}
-use Rattle.ps_tree.specs.declared.tree.WriteParameter.{WriteParameter}
+use Rattle.ps_tree.specs.declared.tree.statements.ReadVariable.{ReadVariable}
+use Rattle.ps_tree.specs.declared.tree.statements.WriteParameter.{WriteParameter}
 use Rattle.ps_tree.specs.View.{place_of, expr_of, statement_of, statements_of, elements_of, read_of, write_of}
 use Rattle.ps_meaning.specs.Values as v
 use Rattle.ps_meaning.specs.Operators.{is_among}

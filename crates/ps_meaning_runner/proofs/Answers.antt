@@ -4,7 +4,7 @@ use Rattle.std.proofs.Common.{get_or, max, drop, Result, Ok, Err, refl, sym, ap,
 use Rattle.std.proofs.Common.{true, false, arith}
 use Rattle.std.specs.Prelude.{IsErrAnd}
 use mathlib.Core.Path.{fun_ext}
-use Rattle.ps_tree.specs.declared.tree.SetOperator.TheVariants.{Union}
+use Rattle.ps_tree.specs.declared.tree.operators.SetOperator.TheVariants.{Union}
 use Rattle.ps_tree.specs.declared.tree.Member.{Member}
 use Rattle.ps_tree.specs.declared.tree.Argument.{Argument}
 use Rattle.ps_tree.specs.Tree as t

@@ -3,19 +3,21 @@ use Rattle.std.proofs.Common.{◌≡◌, ℕ, suc, ◌-◌, List, Vec, Box, Glob
 use Rattle.ps_tree.specs.Tree as t
 use Rattle.ps_tree.specs.declared.line.Line.{Line}
 use Rattle.ps_tree.specs.declared.types.Ty.{Ty}
-use Rattle.ps_tree.specs.declared.tree.Range.{Range}
-use Rattle.ps_tree.specs.declared.tree.OrderRelation.{OrderRelation}
-use Rattle.ps_tree.specs.declared.tree.PointerRelation.{PointerRelation}
-use Rattle.ps_tree.specs.declared.tree.SetRelation.{SetRelation}
+use Rattle.ps_tree.specs.declared.tree.operators.Range.{Range}
+use Rattle.ps_tree.specs.declared.tree.operators.OrderRelation.{OrderRelation}
+use Rattle.ps_tree.specs.declared.tree.operators.PointerRelation.{PointerRelation}
+use Rattle.ps_tree.specs.declared.tree.operators.SetRelation.{SetRelation}
 use Rattle.ps_tree.specs.declared.tree.Place.{Place}
 use Rattle.ps_tree.specs.declared.tree.Argument.{Argument}
-use Rattle.ps_tree.specs.declared.tree.ReadVariable.{ReadVariable}
-use Rattle.ps_tree.specs.declared.tree.WriteParameter.{WriteParameter}
+use Rattle.ps_tree.specs.declared.tree.statements.ReadVariable.{ReadVariable}
+use Rattle.ps_tree.specs.declared.tree.statements.WriteParameter.{WriteParameter}
 use Rattle.ps_tree.specs.declared.tree.SetExpr.{SetExpr}
 use Rattle.ps_tree.specs.declared.tree.Structure.{Structure}
 use Rattle.ps_tree.specs.declared.tree.Expr.{Expr, Plus, Compare, ComparePointers, CompareSets, CompareStrings, In}
-use Rattle.ps_tree.specs.declared.tree.Statement.{Statement, Assign, AssignStructure, Call, CallFormal, Compound, If}
-use Rattle.ps_tree.specs.declared.tree.Statement.{IfElse, While, With, New, Pack, Unpack, Read, Readln, Write, Writeln}
+use Rattle.ps_tree.specs.declared.tree.statements.Statement.{Statement, Assign, AssignStructure, Call, CallFormal}
+use Rattle.ps_tree.specs.declared.tree.statements.Statement.{Compound, If}
+use Rattle.ps_tree.specs.declared.tree.statements.Statement.{IfElse, While, With, New, Pack, Unpack, Read, Readln}
+use Rattle.ps_tree.specs.declared.tree.statements.Statement.{Write, Writeln}
 use Rattle.ps_tree.specs.View.{type_of, place_of, expr_of, set_of, structure_of, arguments_of, statement_of}
 use Rattle.ps_tree.specs.View.{statements_of, read_of, write_of}
 use Rattle.ps_meaning.specs.Worlds as m

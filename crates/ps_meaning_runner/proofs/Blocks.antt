@@ -5,7 +5,7 @@ use Rattle.std.proofs.Math.Seq.{drop-cons}
 use Rattle.std.proofs.lemmas.List.{drop_all}
 use Rattle.ps_tree.specs.Types.{DataType}
 use Rattle.ps_tree.specs.declared.types.Ty.{Ty}
-use Rattle.ps_tree.specs.declared.tree.Routine.{Routine}
+use Rattle.ps_tree.specs.declared.tree.statements.Routine.{Routine}
 use Rattle.behavior.specs.Endings.{Stack}
 use Rattle.ps_tree.specs.Tree as Tree
 use Rattle.ps_tree.specs.View.{type_of, routine_of, program_of}

@@ -4,11 +4,11 @@ use Rattle.std.proofs.Common.{refl, sym, ap, subst, ◌∙◌, arith}
 use Rattle.ps_tree.specs.Tree as t
 use Rattle.ps_tree.specs.declared.tree.Member.{Member}
 use Rattle.ps_tree.specs.declared.tree.Argument.{Argument}
-use Rattle.ps_tree.specs.declared.tree.Statement.{Statement}
-use Rattle.ps_tree.specs.declared.tree.CaseElement.{CaseElement, out-CaseElement}
+use Rattle.ps_tree.specs.declared.tree.statements.Statement.{Statement}
+use Rattle.ps_tree.specs.declared.tree.statements.CaseElement.{CaseElement, out-CaseElement}
 use Rattle.ps_tree.specs.declared.tree.Place.{Place}
-use Rattle.ps_tree.specs.declared.tree.ReadVariable.{ReadVariable}
-use Rattle.ps_tree.specs.declared.tree.WriteParameter.{WriteParameter}
+use Rattle.ps_tree.specs.declared.tree.statements.ReadVariable.{ReadVariable}
+use Rattle.ps_tree.specs.declared.tree.statements.WriteParameter.{WriteParameter}
 use Rattle.ps_tree.specs.declared.tree.Selector.{Selector}
 use Rattle.ps_tree.specs.declared.tree.Expr.{Expr}
 use Rattle.ps_tree.specs.declared.tree.ArithmeticStep.{ArithmeticStep, out-ArithmeticStep}

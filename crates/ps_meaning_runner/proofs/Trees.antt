@@ -10,8 +10,8 @@ use Rattle.ps_tree.specs.declared.tree.SetExpr.{Constructor}
 use Rattle.ps_tree.specs.declared.tree.Argument.{Argument}
 use Rattle.ps_tree.specs.declared.tree.Member.{Member}
 use Rattle.ps_tree.specs.View.{expr_of, set_of, arguments_of, members_of, argument_of, member_of}
-use Rattle.ps_tree.specs.declared.tree.Statement.{Statement, Compound, Repeat, Case}
-use Rattle.ps_tree.specs.declared.tree.CaseElement.{CaseElement, out-CaseElement}
+use Rattle.ps_tree.specs.declared.tree.statements.Statement.{Statement, Compound, Repeat, Case}
+use Rattle.ps_tree.specs.declared.tree.statements.CaseElement.{CaseElement, out-CaseElement}
 use Rattle.ps_tree.specs.View.{statement_of, statements_of, elements_of}
 use Rattle.ps_tree.proofs.StatementLemmas as st
 use Rattle.ps_tree.proofs.TreeLemmas as t

@@ -2,11 +2,11 @@
 use Rattle.std.proofs.Common.{◌≡◌, ℕ, ℤ, zero, suc, ◌≤◌, Bool, true, false, if◌then◌else◌, ◌-◌, ◌≢◌, max, arith, Result}
 use Rattle.std.proofs.Common.{refl, sym, ap, subst, ◌∙◌}
 use Rattle.ps_tree.specs.Tree as t
-use Rattle.ps_tree.specs.declared.tree.Direction.{Direction}
-use Rattle.ps_tree.specs.declared.tree.Range.{Range}
-use Rattle.ps_tree.specs.declared.tree.Range.TheVariants.{Within as WithinBounds}
+use Rattle.ps_tree.specs.declared.tree.operators.Direction.{Direction}
+use Rattle.ps_tree.specs.declared.tree.operators.Range.{Range}
+use Rattle.ps_tree.specs.declared.tree.operators.Range.TheVariants.{Within as WithinBounds}
 use Rattle.ps_tree.specs.declared.tree.Expr.{Expr}
-use Rattle.ps_tree.specs.declared.tree.Statement.{Statement}
+use Rattle.ps_tree.specs.declared.tree.statements.Statement.{Statement}
 use Rattle.ps_meaning.specs.Values as v
 use Rattle.ps_meaning.specs.Operators.{is_equal}
 use Rattle.ps_meaning.specs.Worlds as m

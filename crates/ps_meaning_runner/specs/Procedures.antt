@@ -1,7 +1,7 @@
 -- What the required procedures do, part by part.
 use Rattle.std.specs.Prelude.{ℕ, ℤ, [], ◌∷◌, ◌++◌}
 use Rattle.ps_tree.specs.Tree.{Program, domain_at}
-use Rattle.ps_tree.specs.declared.tree.Range.TheVariants.{Within as WithinBounds}
+use Rattle.ps_tree.specs.declared.tree.operators.Range.TheVariants.{Within as WithinBounds}
 use Rattle.ps_meaning.specs.Values as v
 use Rattle.ps_meaning.specs.Text as t
 use Rattle.ps_meaning.specs.Worlds as m

@@ -2,7 +2,7 @@
 use Rattle.std.specs.Prelude.{◌≡◌, ℕ, ◌+◌, ◌*◌, ◌<◌, ℤ, Bool, true, false, if◌then◌else◌, Result, Ok, Err}
 use Rattle.behavior.specs.Transcripts.{Shown}
 use Rattle.ps_tree.specs.Tree as t
-use Rattle.ps_tree.specs.declared.tree.Direction.{Direction}
+use Rattle.ps_tree.specs.declared.tree.operators.Direction.{Direction}
 use Rattle.ps_meaning.specs.Values as v
 use Rattle.ps_meaning.specs.Operators.{is_equal, is_true, truth}
 use Rattle.ps_meaning.specs.Worlds as m

@@ -28,7 +28,7 @@ pub struct Bounds {
 
 /// The value that an error found, and the range that it is outside of, if it is an error of one.
 #[derive(Clone, Copy)]
-pub struct Found {
+pub struct FaultValue {
     pub value: i64,
     pub bounds: Option<Bounds>,
 }
@@ -168,7 +168,7 @@ fn outside(
     machine: &Machine,
     stop: usize,
     condition: Condition,
-) -> Option<Found> {
+) -> Option<FaultValue> {
     let Some(at) = stop.checked_sub(1) else {
         return None;
     };
@@ -178,7 +178,7 @@ fn outside(
     let before = stop.checked_sub(most.words.saturating_add(1));
     let low = low_at(image, before, register);
     match tested(image, machine, before, register) {
-        Some(value) => Some(Found {
+        Some(value) => Some(FaultValue {
             value,
             bounds: Some(Bounds {
                 low,
@@ -291,7 +291,12 @@ fn case_value(image: &ImageView<'_>, machine: &Machine, stop: usize) -> Option<i
 }
 
 /// The value that an error with this number found, at a stop with this link; none where the words before it don't tell it.
-pub fn found_at(image: &ImageView<'_>, machine: &Machine, link: u32, number: u32) -> Option<Found> {
+pub fn found_at(
+    image: &ImageView<'_>,
+    machine: &Machine,
+    link: u32,
+    number: u32,
+) -> Option<FaultValue> {
     let Some(stop) = (link as usize / 4).checked_sub(1) else {
         return None;
     };
@@ -313,7 +318,7 @@ pub fn found_at(image: &ImageView<'_>, machine: &Machine, link: u32, number: u32
         _ => None,
     };
     match value {
-        Some(value) => Some(Found {
+        Some(value) => Some(FaultValue {
             value,
             bounds: None,
         }),

@@ -14,7 +14,7 @@ mod types;
 mod values;
 mod words;
 
-pub use found::{Bounds, Found, found_at};
+pub use found::{Bounds, FaultValue, found_at};
 pub use frames::Standing;
 pub use memory::word_at;
 pub use names::{Text, token_at};

@@ -10,7 +10,7 @@ use ps_map::{Lines, Map, Place};
 use ps_map_maker::map_of;
 use ps_parse::{parse, release};
 use ps_scan::{Token, scan};
-use ps_scene::{Found, Length, Scene, Surroundings, found_at, scene_of, word_at};
+use ps_scene::{FaultValue, Length, Scene, Surroundings, found_at, scene_of, word_at};
 use ps_syntax::Program;
 use ps_text::Source;
 use ps_tree::program::Checked;
@@ -61,7 +61,7 @@ pub struct Account {
     pub from: u32,
     pub to: u32,
     /// The value that an error found, where it is known.
-    pub found: Option<Found>,
+    pub found: Option<FaultValue>,
     /// Where its steps were used up, the innermost loop in which it stood.
     pub round: Option<Loop>,
     pub scene: Scene,
@@ -125,12 +125,12 @@ fn host_at(outline: &Outline<'_>, number: u32, at: Place, lines: &Lines) -> Host
 }
 
 // The value that an error found; of the width of a field the value alone, since all below one are too small.
-fn found_of(image: &ImageView<'_>, machine: &Machine, facts: Facts) -> Option<Found> {
+fn found_of(image: &ImageView<'_>, machine: &Machine, facts: Facts) -> Option<FaultValue> {
     let (Some(Stop::Trap(link)), Some(number)) = (facts.stop, facts.number) else {
         return None;
     };
     match found_at(image, machine, link, number) {
-        Some(found) if number == 11 => Some(Found {
+        Some(found) if number == 11 => Some(FaultValue {
             value: found.value,
             bounds: None,
         }),
@@ -248,7 +248,7 @@ fn value_told(
     outline: &Outline<'_>,
     host: Host,
     token: usize,
-    found: Found,
+    found: FaultValue,
 ) -> Result<String, AllocError> {
     let step = step_at(outline, token);
     if step == 0 || found.bounds.is_none() {

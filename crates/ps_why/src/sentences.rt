@@ -2,7 +2,7 @@
 
 use ps_map::{Map, small};
 use ps_scan::Token;
-use ps_scene::{Found, Scene, Text, ordinal_in};
+use ps_scene::{FaultValue, Scene, Text, ordinal_in};
 use ps_text::Source;
 use ps_tree::types::Host;
 use risc_image::ImageView;
@@ -39,7 +39,7 @@ pub(crate) fn found_told<'a>(
     source: &'a Source<'a>,
     tokens: &'a [Token],
     host: Host,
-    found: Found,
+    found: FaultValue,
 ) -> Result<String, AllocError> {
     let text = Text { source, tokens };
     let mut out = ordinal_in(alloc, text, host, found.value)?;
@@ -58,7 +58,7 @@ pub(crate) fn step_told<'a>(
     source: &'a Source<'a>,
     tokens: &'a [Token],
     host: Host,
-    found: Found,
+    found: FaultValue,
     step: i64,
 ) -> Result<String, AllocError> {
     let text = Text { source, tokens };

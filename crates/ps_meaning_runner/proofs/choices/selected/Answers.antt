@@ -1,5 +1,5 @@
 use Rattle.std.proofs.Common.{◌≡◌, true, false, refl, sym, ap, ◌∙◌, arith}
-use Rattle.ps_tree.specs.declared.tree.CaseElement.{out-CaseElement}
+use Rattle.ps_tree.specs.declared.tree.statements.CaseElement.{out-CaseElement}
 use Rattle.ps_meaning.specs.Values.{number_of}
 use Rattle.ps_meaning.specs.Operators.{is_among}
 use Rattle.ps_meaning_runner.specs.View.{value_of}
