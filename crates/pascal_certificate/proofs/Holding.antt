@@ -10,7 +10,7 @@ use Rattle.pascal_certificate.specs.Facts.{Text, facts, fits, is_not_known, may_
 use Rattle.pascal_certificate.specs.Form.{CertifiesWith, IsCertificate, are_values, certificate_text}
 use Rattle.pascal_certificate.specs.Sealed.{IsSeal, sealed_values}
 use Rattle.pascal_certificate.specs.declared.comparison.Comparison.{Comparison}
-use Rattle.pascal_certificate.specs.declared.comparison.Found.{Found}
+use Rattle.pascal_certificate.specs.declared.comparison.Evidence.{Evidence}
 use Rattle.pascal_certificate.specs.declared.fact.Fact.{Fact}
 use Rattle.pascal_certificate.specs.declared.fact.Fact.TheVariants.{SourceSum, SourceBytes, ImageSum, ImageBytes}
 use Rattle.pascal_certificate.specs.declared.fact.Fact.TheVariants.{Target, StackEnough, Version, Kit, Sources}
@@ -69,7 +69,8 @@ certifies olds source image s i target stack rest text one other is none =
     (c.1 ∙ ap (λ l. string_bytes i.sum ∷ l) (d.1 ∙ ap (λ l. string_bytes i.size ∷ l) made))) in
     (target, f.0, is.1 ∙ ap certificate_text (all ∙ values_sealed source image s i (target ∷ stack ∷ f.0) one other))
 
-pub certifies_found : (olds : List Text) (found : Found) (comparison : Comparison) → comparison.holds ≡ holds olds found
+pub certifies_found : (olds : List Text) (found : Evidence) (comparison : Comparison) → comparison.holds
+    ≡ holds olds found
     → CertifiesFound olds found comparison
 certifies_found olds found comparison e = λ source image text target stack rest maker one other is held.
     let parts = and_parts found.is_built (length (differing olds found) == 0) (sym e ∙ held) in

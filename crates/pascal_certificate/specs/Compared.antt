@@ -6,24 +6,24 @@ use Rattle.pascal_certificate.specs.Sealed.{IsSeal, sealed_values}
 use Rattle.pascal_certificate.specs.Differences.{Difference, differences}
 use Rattle.pascal_certificate.specs.Verdict.{verdict_text}
 use Rattle.pascal_certificate.specs.declared.comparison.Comparison.{Comparison}
-use Rattle.pascal_certificate.specs.declared.comparison.Found.{Found}
+use Rattle.pascal_certificate.specs.declared.comparison.Evidence.{Evidence}
 use Rattle.pascal_certificate.specs.declared.verdict.Names.{Names}
 
 -- the facts that are not as these values have them
-abbrev pub differing : List Text → Found → List Difference
+abbrev pub differing : List Text → Evidence → List Difference
 differing olds found = differences facts olds
     (sealed_values found.source.now found.image.now (map (λ value. value.now) found.maker.now))
 
 -- each fact that differs is told
-abbrev pub IsTold : Names → List Text → Found → Comparison → Type 0
+abbrev pub IsTold : Names → List Text → Evidence → Comparison → Type 0
 IsTold names olds found comparison = comparison.verdict.items ≡ verdict_text names (differing olds found) found.is_built
 
 -- it holds where no fact differs and the image is that of the source
-abbrev pub holds : List Text → Found → Bool
+abbrev pub holds : List Text → Evidence → Bool
 holds olds found = found.is_built && (length (differing olds found) == 0)
 
 -- the certificate that holds is that of the source and the image, and tells of the stack what the program tells
-abbrev pub CertifiesFound : List Text → Found → Comparison → Type 0
+abbrev pub CertifiesFound : List Text → Evidence → Comparison → Type 0
 CertifiesFound olds found comparison =
     (source image : List ℕ) (text target stack : Text) (rest : List Text)
     → map (λ value. value.now) found.maker.now ≡ target ∷ stack ∷ rest

@@ -13,7 +13,7 @@ use std::alloc::{AllocError, Global};
 
 /// What is found beside a certificate.
 #[derive(Clone, Copy)]
-pub struct Found<'a, 'b> {
+pub struct Evidence<'a, 'b> {
     pub source: &'a Seal,
     pub image: &'a Seal,
     /// What the program tells of itself: a value for each fact behind the fourth.
@@ -57,7 +57,7 @@ pub fn compared(
     alloc: Global,
     names: &Names<'_>,
     olds: &[&[u8]],
-    found: &Found<'_, '_>,
+    found: &Evidence<'_, '_>,
 ) -> Result<Comparison, AllocError>
     ensures told { IfOk result (IsTold names.now (map (λ value. value.now) olds.now) found.now) }
     ensures holds { IfOk result (λ c. c.holds ≡ holds (map (λ value. value.now) olds.now) found.now) }

@@ -11,7 +11,7 @@ mod read;
 mod verdict;
 
 pub use compare::{Change, changes};
-pub use comparison::{Comparison, Found, compared};
+pub use comparison::{Comparison, Evidence, compared};
 pub use damage::{Damage, damage_of};
 pub use fact::{FACTS, Fact, NOT_KNOWN, fits, label};
 pub use made::{Seal, certificate_of, seal_of};

@@ -13,7 +13,7 @@ use Rattle.pascal_certificate.proofs.Sealing.{values_sealed}
 use Rattle.pascal_certificate.specs.Sealed.{IsSeal, sealed_values}
 use Rattle.pascal_certificate.specs.declared.made.Seal.{Seal}
 use Rattle.pascal_certificate.specs.declared.comparison.Comparison.{Comparison}
-use Rattle.pascal_certificate.specs.declared.comparison.Found.{Found}
+use Rattle.pascal_certificate.specs.declared.comparison.Evidence.{Evidence}
 use Rattle.pascal_cli.specs.Certificates.{HasAnother, IsBeside, IsBuiltOf, IsComparison, is_same}
 use Rattle.pascal_cli.specs.Certificates.{HasCertificate, KnowsStack, TellsOfStack, TellsStack, least_text}
 use Rattle.pascal_cli.specs.Certificates.{stack_told}
@@ -59,7 +59,7 @@ stack_is_told source None is = inl (refl, is)
 stack_is_told source (Some value) is = inr is
 
 -- what is found of a source and an image is compared with the values of a certificate
-compared_with : (values : List (List ℕ)) (found : Found) (comparison : Comparison) (source image : List ℕ)
+compared_with : (values : List (List ℕ)) (found : Evidence) (comparison : Comparison) (source image : List ℕ)
     → comparison.holds ≡ holds values found
     → (stack : List ℕ) → TellsOfStack (map (λ value. value.now) found.maker.now) stack → TellsStack source stack
     → CertifiesFound values found comparison → IsSeal source found.source.now → IsSeal image found.image.now
@@ -76,7 +76,7 @@ compared_with values found comparison source image e stack tells known certifies
     built_if true e is = is
     built_if false e is = absurd (true≢false (sym e))
 
-pub compared_ok : {E : Type 0} (r : Result Comparison E) (values : List (List ℕ)) (found : Found)
+pub compared_ok : {E : Type 0} (r : Result Comparison E) (values : List (List ℕ)) (found : Evidence)
     (source image : List ℕ) → IfOk r (λ comparison. comparison.holds ≡ holds values found)
     → (stack : List ℕ) → TellsOfStack (map (λ value. value.now) found.maker.now) stack → TellsStack source stack
     → IfOk r (CertifiesFound values found) → IsSeal source found.source.now → IsSeal image found.image.now

@@ -5,7 +5,7 @@ use Rattle.pascal_certificate.specs.Compared.{holds}
 use Rattle.pascal_certificate.specs.Form.{CertifiesWith, IsCertificate}
 use Rattle.pascal_certificate.specs.Sealed.{IsSeal}
 use Rattle.pascal_certificate.specs.declared.comparison.Comparison.{Comparison}
-use Rattle.pascal_certificate.specs.declared.comparison.Found.{Found}
+use Rattle.pascal_certificate.specs.declared.comparison.Evidence.{Evidence}
 use Rattle.ps_build.specs.Headline.{Compiles}
 use Rattle.ps_needs_image.specs.Needed.{IsNeeded}
 use Rattle.ps_needs_image.specs.declared.needed.Needed.{Needed}
@@ -83,13 +83,13 @@ abbrev pub AreCertified : (source image : List ℕ) → (values : List (List ℕ
 AreCertified source image values = (text : List ℕ) → IsCertificate text values → IsCertified source image text
 
 -- this is found of a source and an image
-abbrev pub IsFound : (source image : List ℕ) → Found → Type 0
+abbrev pub IsFound : (source image : List ℕ) → Evidence → Type 0
 IsFound source image found =
     IsSeal source found.source.now × IsSeal image found.image.now × IsBuiltOf source image found.is_built
 
 -- the values are not what is found of this source and this image, or the image is not that of the source
 abbrev pub AreOthers : (source image : List ℕ) → (values : List (List ℕ)) → Type 0
-AreOthers source image values = (found : Found) × IsFound source image found × (holds values found ≡ false)
+AreOthers source image values = (found : Evidence) × IsFound source image found × (holds values found ≡ false)
 
 -- a comparison tells which of both it is
 abbrev pub IsComparison : (source image : List ℕ) → (values : List (List ℕ)) → Comparison → Type 0

@@ -2,4 +2,4 @@
 
 /// The sum.
 pub(crate) const BELIEVED: &str =
-    "b360977835872c86255412c40a4a17949307bae689e6f56a5a004267075f5679";
+    "88b0f361ad8bb7f4912b71a4fefd6ee67b93ac65e2c22a584bb897275f0edbd0";

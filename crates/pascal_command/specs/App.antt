@@ -19,6 +19,8 @@ use Rattle.clap.specs.declared.error.kind.ErrorKind.TheVariants as kind
 use Rattle.pascal_command.specs.Command.{Limits, Request, Work, are_digits, certificate_name, certify, check, compile}
 use Rattle.pascal_command.specs.Command.{default_limits, explain, go, go_standard_input, image_name, list, needs, run}
 use Rattle.pascal_command.specs.Command.{source_name, topic_of, verify, watch}
+use Rattle.pascal_command.specs.declared.job.TheConstants.{DEFAULT_HEAP, DEFAULT_STACK, DEFAULT_STEPS, MAX_BUDGET}
+use Rattle.pascal_command.specs.declared.job.TheConstants.{MAX_STEPS}
 use Rattle.pascal_command.specs.declared.job.CommandFault.{CommandFault}
 use Rattle.pascal_command.specs.declared.job.CommandFault.TheVariants as fault
 use Rattle.pascal_command.specs.declared.job.Watch.TheVariants.{Cover, Profile, Trace, Why}
@@ -61,11 +63,11 @@ limit_rule name default = record (new_rule name) {
 
 -- an option of bytes
 abbrev pub budget_rule : Text → Text → Rule
-budget_rule name default = record (limit_rule name default) { parser = Some (vp.Signed (pos 0) (pos 16777152)) }
+budget_rule name default = record (limit_rule name default) { parser = Some (vp.Signed (pos 0) (pos MAX_BUDGET)) }
 
 -- the option of steps
 abbrev pub steps_rule : Rule
-steps_rule = record (limit_rule (codes "steps") (codes "1000000000")) { parser = Some (vp.Unsigned 1 1000000000000) }
+steps_rule = record (limit_rule (codes "steps") (codes "1000000000")) { parser = Some (vp.Unsigned 1 MAX_STEPS) }
 
 -- a command with the three options
 abbrev pub limited : App → App
@@ -168,9 +170,9 @@ row_number default name rows = option_map_or whole (one_of name rows) default
 
 abbrev pub row_limits : List Row → Limits
 row_limits rows = record {
-  stack = row_number 4194304 (codes "stack") rows;
-  heap = row_number 1048576 (codes "heap") rows;
-  steps = row_number 1000000000 (codes "steps") rows;
+  stack = row_number DEFAULT_STACK (codes "stack") rows;
+  heap = row_number DEFAULT_HEAP (codes "heap") rows;
+  steps = row_number DEFAULT_STEPS (codes "steps") rows;
 }
 
 abbrev pub row_request : Option (Text × List Row) → Request
@@ -187,9 +189,9 @@ IsWithin least most text =
 
 -- the rows have numbers within their ranges, where they have them
 abbrev pub HasLimits : List Row → Type 0
-HasLimits rows = IfSome (one_of (codes "stack") rows) (IsWithin 0 16777152)
-    × IfSome (one_of (codes "heap") rows) (IsWithin 0 16777152)
-    × IfSome (one_of (codes "steps") rows) (IsWithin 1 1000000000000)
+HasLimits rows = IfSome (one_of (codes "stack") rows) (IsWithin 0 MAX_BUDGET)
+    × IfSome (one_of (codes "heap") rows) (IsWithin 0 MAX_BUDGET)
+    × IfSome (one_of (codes "steps") rows) (IsWithin 1 MAX_STEPS)
 
 -- the numbers of the rows are digits alone
 abbrev pub row_digits : List Row → Bool

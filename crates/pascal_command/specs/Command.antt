@@ -9,6 +9,8 @@ use Rattle.std.specs.Str.{bytes_eq, chars}
 use Rattle.std.specs.Str.Parse.{digits_value, without_leading_sign}
 use Rattle.clap.specs.Lexer.{long_of, short_of}
 use Rattle.clap.specs.ValueTests.{is_signed_in, is_unsigned_in}
+use Rattle.pascal_command.specs.declared.job.TheConstants.{DEFAULT_HEAP, DEFAULT_STACK, DEFAULT_STEPS, MAX_BUDGET}
+use Rattle.pascal_command.specs.declared.job.TheConstants.{MAX_STEPS}
 use Rattle.pascal_command.specs.declared.job.CommandFault.{CommandFault}
 use Rattle.pascal_command.specs.declared.job.CommandFault.TheVariants as fault
 use Rattle.pascal_command.specs.declared.job.Job.{Job}
@@ -58,13 +60,13 @@ is_given name given = list_any (λ g. bytes_eq g.0 name) given
 abbrev pub value_of : Text → Given → Option Text
 value_of name given = option_map (λ g. g.1) (find (λ g. bytes_eq g.0 name) given)
 
--- The text may be the value of the name. A number is decimal: bytes of the stack and of the heap from 0 to 16777152,
--- steps from 1 to 1000000000000. A sign passes here; `has_digits` is asked of all that was given. A path is any text.
+-- The text may be the value of the name. A number is decimal: bytes of the stack and of the heap up to MAX_BUDGET,
+-- steps from 1 to MAX_STEPS. A sign passes here; `has_digits` is asked of all that was given. A path is any text.
 abbrev pub fits : Text → Text → Bool
 fits name text =
     if bytes_eq name (codes "stack") || bytes_eq name (codes "heap")
-    then is_signed_in (pos 0) (pos 16777152) text
-    else if bytes_eq name (codes "steps") then is_unsigned_in 1 1000000000000 text else true
+    then is_signed_in (pos 0) (pos MAX_BUDGET) text
+    else if bytes_eq name (codes "steps") then is_unsigned_in 1 MAX_STEPS text else true
 
 -- the name gets its value, which no earlier word may have given
 abbrev pub with_value : Text → Text → Given → (Given → Option Given) → Option Given
@@ -146,9 +148,9 @@ number_or default name given = option_map_or number_of (value_of name given) def
 
 abbrev pub limits_of : Given → Limits
 limits_of given = record {
-  stack = number_or 4194304 (codes "stack") given;
-  heap = number_or 1048576 (codes "heap") given;
-  steps = number_or 1000000000 (codes "steps") given;
+  stack = number_or DEFAULT_STACK (codes "stack") given;
+  heap = number_or DEFAULT_HEAP (codes "heap") given;
+  steps = number_or DEFAULT_STEPS (codes "steps") given;
 }
 
 abbrev pub default_limits : Limits

@@ -25,14 +25,18 @@ use thiserror::Error;
 
 /// The most bytes of memory that a stack or a heap may have: all below the device page.
 pub const MAX_BUDGET: u32 = 16_777_152;
+
 /// The most steps that a run may have.
 pub const MAX_STEPS: u64 = 1_000_000_000_000;
 
-const DEFAULT_STACK: u32 = 4_194_304;
+/// The bytes of the stack, where none are given.
+pub const DEFAULT_STACK: u32 = 4_194_304;
 
-const DEFAULT_HEAP: u32 = 1_048_576;
+/// The bytes of the heap, where none are given.
+pub const DEFAULT_HEAP: u32 = 1_048_576;
 
-const DEFAULT_STEPS: u64 = 1_000_000_000;
+/// The most steps of a run, where no number is given.
+pub const DEFAULT_STEPS: u64 = 1_000_000_000;
 
 /// What is told of a run.
 #[derive(Clone, Copy)]
@@ -156,7 +160,7 @@ fn budget_of(matches: &ArgMatches<'_>, name: &str, default: u32) -> u32
     ensures most { result ≤ MAX_BUDGET }
     ensures none { one_of name.now (rows_of (found_of matches.now)) ≡ None → result ≡ default }
     ensures some { (text : List ℕ) → one_of name.now (rows_of (found_of matches.now)) ≡ Some text
-        → IsWithin 0 16777152 text → result ≡ whole text }
+        → IsWithin 0 MAX_BUDGET text → result ≡ whole text }
 {
     matches
         .get_one::<u32>(name)
@@ -169,7 +173,7 @@ fn steps_of(matches: &ArgMatches<'_>) -> u64
     ensures most { result ≤ MAX_STEPS }
     ensures none { one_of (codes "steps") (rows_of (found_of matches.now)) ≡ None → result ≡ DEFAULT_STEPS }
     ensures some { (text : List ℕ) → one_of (codes "steps") (rows_of (found_of matches.now)) ≡ Some text
-        → IsWithin 1 1000000000000 text → result ≡ whole text }
+        → IsWithin 1 MAX_STEPS text → result ≡ whole text }
 {
     matches
         .get_one::<u64>("steps")

@@ -4,5 +4,8 @@
 mod job;
 mod options;
 
-pub use job::{CommandFault, Job, MAX_BUDGET, MAX_STEPS, NumberFault, Task, Watch, command};
+pub use job::{
+    CommandFault, DEFAULT_HEAP, DEFAULT_STACK, DEFAULT_STEPS, Job, MAX_BUDGET, MAX_STEPS,
+    NumberFault, Task, Watch, command,
+};
 pub use options::{OptionFault, Options, Part, Telling, Traces, options_of, plain_words};

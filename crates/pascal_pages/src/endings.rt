@@ -27,7 +27,7 @@ pub(crate) fn error_2_division_by_zero() -> Page
         number: "2",
         named: "error 2",
         told: "Error 2: division by zero",
-        text: "The number behind `div` is 0.\n\nWrong:\n\n    program average(output);\n    var sum, count: integer;\n    begin\n      sum := 0; count := 0;\n      writeln(sum div count)\n    end.\n\nSays:\n\n    line 5: division by zero\n\nMend: test the divisor first. `and` doesn't help here, since both sides of it\nare always computed: write one `if` within the other.\n\nRight:\n\n    program average(output);\n    var sum, count: integer;\n    begin\n      sum := 0; count := 0;\n      if count > 0 then writeln(sum div count:1)\n      else writeln('no numbers')\n    end.\n\nWrites:\n\n    no numbers\n\nRule: `i div 0` is an error (ISO 7185, 6.7.2.2).\n",
+        text: "The number after `div` is 0.\n\nWrong:\n\n    program average(output);\n    var sum, count: integer;\n    begin\n      sum := 0; count := 0;\n      writeln(sum div count)\n    end.\n\nSays:\n\n    line 5: division by zero\n\nMend: test the divisor first. `and` doesn't help here, since both sides of it\nare always computed: write one `if` within the other.\n\nRight:\n\n    program average(output);\n    var sum, count: integer;\n    begin\n      sum := 0; count := 0;\n      if count > 0 then writeln(sum div count:1)\n      else writeln('no numbers')\n    end.\n\nWrites:\n\n    no numbers\n\nRule: `i div 0` is an error (ISO 7185, 6.7.2.2).\n",
     }
 }
 
@@ -40,7 +40,7 @@ pub(crate) fn error_3_modulus_below_one() -> Page
         number: "3",
         named: "error 3",
         told: "Error 3: modulus below one",
-        text: "The number behind `mod` is 0 or less.\n\nWrong:\n\n    program clock(output);\n    var hours, day: integer;\n    begin\n      hours := 30; day := -24;\n      writeln(hours mod day)\n    end.\n\nSays:\n\n    line 5: modulus below one\n\nMend: the modulus is at least 1. The result is never below 0, so `-1 mod 12` in\nparentheses, `(-1) mod 12`, is 11.\n\nRight:\n\n    program clock(output);\n    var hours, day: integer;\n    begin\n      hours := 30; day := 24;\n      writeln(hours mod day:1, (-1) mod 12:3)\n    end.\n\nWrites:\n\n    6 11\n\nRule: `i mod j` with j of 0 or less is an error (ISO 7185, 6.7.2.2).\n",
+        text: "The number after `mod` is 0 or less.\n\nWrong:\n\n    program clock(output);\n    var hours, day: integer;\n    begin\n      hours := 30; day := -24;\n      writeln(hours mod day)\n    end.\n\nSays:\n\n    line 5: modulus below one\n\nMend: the modulus is at least 1. The result is never below 0, so `-1 mod 12` in\nparentheses, `(-1) mod 12`, is 11.\n\nRight:\n\n    program clock(output);\n    var hours, day: integer;\n    begin\n      hours := 30; day := 24;\n      writeln(hours mod day:1, (-1) mod 12:3)\n    end.\n\nWrites:\n\n    6 11\n\nRule: `i mod j` with j of 0 or less is an error (ISO 7185, 6.7.2.2).\n",
     }
 }
 
@@ -79,7 +79,7 @@ pub(crate) fn error_6_nil_pointer() -> Page
         number: "6",
         named: "error 6",
         told: "Error 6: nil pointer",
-        text: "A pointer that is `nil`, which points to nothing, is followed by `^`.\n\nWrong:\n\n    program list(output);\n    type link = ^node;\n         node = record value: integer; next: link end;\n    var first: link;\n    begin\n      first := nil;\n      writeln(first^.value)\n    end.\n\nSays:\n\n    line 7: nil pointer\n\nMend: test for `nil` first, in an `if` of its own (both sides of `and` are\ncomputed). `new(p)` makes an object and lets p point to it; before that p is\nnil.\n\nRight:\n\n    program list(output);\n    type link = ^node;\n         node = record value: integer; next: link end;\n    var first: link;\n    begin\n      first := nil;\n      if first = nil then writeln('empty') else writeln(first^.value)\n    end.\n\nWrites:\n\n    empty\n\nRule: a pointer with the value nil has no variable behind it (ISO 7185, 6.5.4).\n",
+        text: "A pointer that is `nil`, which points to nothing, is followed by `^`.\n\nWrong:\n\n    program list(output);\n    type link = ^node;\n         node = record value: integer; next: link end;\n    var first: link;\n    begin\n      first := nil;\n      writeln(first^.value)\n    end.\n\nSays:\n\n    line 7: nil pointer\n\nMend: test for `nil` first, in an `if` of its own (both sides of `and` are\ncomputed). `new(p)` makes an object and lets p point to it; before that p is\nnil.\n\nRight:\n\n    program list(output);\n    type link = ^node;\n         node = record value: integer; next: link end;\n    var first: link;\n    begin\n      first := nil;\n      if first = nil then writeln('empty') else writeln(first^.value)\n    end.\n\nWrites:\n\n    empty\n\nRule: a pointer with the value nil points to no variable (ISO 7185, 6.5.4).\n",
     }
 }
 
@@ -118,7 +118,7 @@ pub(crate) fn error_9_end_of_input() -> Page
         number: "9",
         named: "error 9",
         told: "Error 9: end of input",
-        text: "The program reads, and there is nothing left to be read.\n\nWrong:\n\n    program total(input, output);\n    var n, sum: integer;\n    begin\n      sum := 0;\n      repeat\n        readln(n);\n        sum := sum + n\n      until n = 0;\n      writeln(sum)\n    end.\n\nInput:\n\n    1\n    2\n    3\n\nSays:\n\n    line 6: end of input\n\nMend: ask `eof` before you read: it tells whether nothing is left. If the input\ncomes from a file, see that it has all that the program asks for; here a last\nline with 0 is missing.\n\nRight:\n\n    program total(input, output);\n    var n, sum: integer;\n    begin\n      sum := 0;\n      while not eof do begin\n        readln(n);\n        sum := sum + n\n      end;\n      writeln(sum:1)\n    end.\n\nInput:\n\n    1\n    2\n    3\n\nWrites:\n\n    6\n\nRule: nothing is read at the end of the file (ISO 7185, 6.6.5.2 and 6.9.1), and\nthere `eoln` has no value (6.6.6.5).\n",
+        text: "The program reads, and there is nothing left to be read.\n\nWrong:\n\n    program total(input, output);\n    var n, sum: integer;\n    begin\n      sum := 0;\n      repeat\n        readln(n);\n        sum := sum + n\n      until n = 0;\n      writeln(sum)\n    end.\n\nInput:\n\n    1\n    2\n    3\n\nSays:\n\n    line 6: end of input\n\nMend: ask `eof` before you read: it says whether nothing is left. If the input\ncomes from a file, see that it has all that the program asks for; here a last\nline with 0 is missing.\n\nRight:\n\n    program total(input, output);\n    var n, sum: integer;\n    begin\n      sum := 0;\n      while not eof do begin\n        readln(n);\n        sum := sum + n\n      end;\n      writeln(sum:1)\n    end.\n\nInput:\n\n    1\n    2\n    3\n\nWrites:\n\n    6\n\nRule: nothing is read at the end of the file (ISO 7185, 6.6.5.2 and 6.9.1), and\nthere `eoln` has no value (6.6.6.5).\n",
     }
 }
 
@@ -131,7 +131,7 @@ pub(crate) fn error_10_not_an_integer() -> Page
         number: "10",
         named: "error 10",
         told: "Error 10: not an integer",
-        text: "A number is to be read, and something else stands in the input.\n\nWrong:\n\n    program age(input, output);\n    var n: integer;\n    begin\n      readln(n);\n      writeln(n:1)\n    end.\n\nInput:\n\n    twelve\n\nSays:\n\n    line 4: not an integer\n\nMend: give the program digits, with a sign if need be: no words, no thousands\nseparators. Where the user may type anything, read characters and see what they\nare.\n\nRight:\n\n    program age(input, output);\n    var n: integer; c: char;\n    begin\n      n := 0;\n      while not eoln do begin\n        read(c);\n        if c in ['0'..'9'] then n := 10 * n + ord(c) - ord('0')\n      end;\n      writeln(n:1)\n    end.\n\nInput:\n\n    1x2\n\nWrites:\n\n    12\n\nRule: what is read for an integer is a signed number (ISO 7185, 6.9.1).\n",
+        text: "A number is to be read, but the input has something else.\n\nWrong:\n\n    program age(input, output);\n    var n: integer;\n    begin\n      readln(n);\n      writeln(n:1)\n    end.\n\nInput:\n\n    twelve\n\nSays:\n\n    line 4: not an integer\n\nMend: give the program digits, with a sign if need be: no words, no thousands\nseparators. Where the user may type anything, read characters and see what they\nare.\n\nRight:\n\n    program age(input, output);\n    var n: integer; c: char;\n    begin\n      n := 0;\n      while not eoln do begin\n        read(c);\n        if c in ['0'..'9'] then n := 10 * n + ord(c) - ord('0')\n      end;\n      writeln(n:1)\n    end.\n\nInput:\n\n    1x2\n\nWrites:\n\n    12\n\nRule: what is read for an integer is a signed number (ISO 7185, 6.9.1).\n",
     }
 }
 
@@ -144,7 +144,7 @@ pub(crate) fn error_11_field_width_below_one() -> Page
         number: "11",
         named: "error 11",
         told: "Error 11: field width below one",
-        text: "The width behind `:` in a `write` is 0 or less.\n\nWrong:\n\n    program widths(output);\n    var w: integer;\n    begin\n      for w := 2 downto 0 do writeln('x':w)\n    end.\n\nSays:\n\n    line 4: field width below one\n\nWrites:\n\n     x\n    x\n\nMend: a width is at least 1. A number takes as much room as it needs, however\nsmall its width is, so `n:1` writes it without spaces before it. To write no\nspace at all, write nothing.\n\nRight:\n\n    program widths(output);\n    var w: integer;\n    begin\n      for w := 2 downto 1 do writeln('x':w)\n    end.\n\nWrites:\n\n     x\n    x\n\nRule: a field width is at least one (ISO 7185, 6.9.3.1).\n",
+        text: "The width after `:` in a `write` is 0 or less.\n\nWrong:\n\n    program widths(output);\n    var w: integer;\n    begin\n      for w := 2 downto 0 do writeln('x':w)\n    end.\n\nSays:\n\n    line 4: field width below one\n\nWrites:\n\n     x\n    x\n\nMend: a width is at least 1. A number takes as much room as it needs, however\nsmall its width is, so `n:1` writes it without spaces before it. To write no\nspace at all, write nothing.\n\nRight:\n\n    program widths(output);\n    var w: integer;\n    begin\n      for w := 2 downto 1 do writeln('x':w)\n    end.\n\nWrites:\n\n     x\n    x\n\nRule: a field width is at least one (ISO 7185, 6.9.3.1).\n",
     }
 }
 
@@ -183,7 +183,7 @@ pub(crate) fn status_0_all_is_well() -> Page
         number: "0",
         named: "status 0",
         told: "Status 0: all is well",
-        text: "The program came to its end, the text was compiled or listed, or help was asked\nfor. Nothing stands on standard error.\n\nFile hello.pas:\n\n    program hello(output);\n    begin\n      writeln('hello')\n    end.\n\nSession:\n\n    $ pascal go hello.pas; echo $?\n    hello\n    0\n\nA status is a number that each program leaves behind; `echo $?` shows that of\nthe last one.\n\nRule: none of the language. All statuses are told in docs/REFUSALS.md.\n",
+        text: "The program came to its end, the text was compiled or listed, or help was asked\nfor. Standard error is empty.\n\nFile hello.pas:\n\n    program hello(output);\n    begin\n      writeln('hello')\n    end.\n\nSession:\n\n    $ pascal go hello.pas; echo $?\n    hello\n    0\n\nA status is a number that each program leaves behind; `echo $?` shows that of\nthe last one.\n\nRule: none of the language. All statuses are listed in docs/REFUSALS.md.\n",
     }
 }
 
@@ -196,7 +196,7 @@ pub(crate) fn status_1_refused_or_not_to_be_read_or_written() -> Page
         number: "1",
         named: "status 1",
         told: "Status 1: refused, or not to be read or written",
-        text: "The text was refused, a file couldn't be read or written, a device failed, or\nthe words of the command are wrong. One line on standard error tells which.\n\nFile hello.pas:\n\n    program hello(output)\n    begin\n      writeln('hello')\n    end.\n\nSession:\n\n    $ pascal go hello.pas; echo $?\n    refused at line 2: 20 NotAProgram\n    1\n    $ pascal go missing.pas; echo $?\n    cannot read missing.pas\n    1\n\nMend: what stands behind `refused` has a page of its own: `pascal explain 20`.\n\nRule: none of the language. All statuses are told in docs/REFUSALS.md.\n",
+        text: "The text was refused, a file couldn't be read or written, a device failed, or\nthe words of the command are wrong. One line on standard error says which.\n\nFile hello.pas:\n\n    program hello(output)\n    begin\n      writeln('hello')\n    end.\n\nSession:\n\n    $ pascal go hello.pas; echo $?\n    refused at line 2: 20 NotAProgram\n    1\n    $ pascal go missing.pas; echo $?\n    cannot read missing.pas\n    1\n\nMend: what follows `refused` has a page of its own: `pascal explain 20`.\n\nRule: none of the language. All statuses are listed in docs/REFUSALS.md.\n",
     }
 }
 
@@ -209,7 +209,7 @@ pub(crate) fn status_2_an_error_of_the_program() -> Page
         number: "2",
         named: "status 2",
         told: "Status 2: an error of the program",
-        text: "While the program ran it met an error: one line on standard error tells where\nand which. Lines `called at line ..` tell which calls were open then, the\ninnermost first.\n\nFile halve.pas:\n\n    program halve(output);\n    function half(n: integer): integer;\n    begin\n      half := 100 div n\n    end;\n    begin\n      writeln(half(0))\n    end.\n\nSession:\n\n    $ pascal go halve.pas; echo $?\n    line 4: division by zero\n    called at line 7\n    2\n\nMend: each error has a page of its own: `pascal explain division by zero`. What\nthe program wrote before it is kept.\n\nRule: an error is a violation that a processor may leave undetected (ISO 7185,\n3.1); this one tells each.\n",
+        text: "While the program ran it met an error: one line on standard error says where\nand which. Lines `called at line ..` show which calls were open then, the\ninnermost first.\n\nFile halve.pas:\n\n    program halve(output);\n    function half(n: integer): integer;\n    begin\n      half := 100 div n\n    end;\n    begin\n      writeln(half(0))\n    end.\n\nSession:\n\n    $ pascal go halve.pas; echo $?\n    line 4: division by zero\n    called at line 7\n    2\n\nMend: each error has a page of its own: `pascal explain division by zero`. What\nthe program wrote before it is kept.\n\nRule: an error is a violation that a processor may leave undetected (ISO 7185,\n3.1); this one reports each.\n",
     }
 }
 
@@ -222,7 +222,7 @@ pub(crate) fn status_3_out_of_stack_or_heap() -> Page
         number: "3",
         named: "status 3",
         told: "Status 3: out of stack or heap",
-        text: "The run was stopped since it needed more room than it was given.\n\nFile deep.pas:\n\n    program deep(output);\n    procedure down;\n    begin\n      down\n    end;\n    begin\n      down\n    end.\n\nSession:\n\n    $ pascal go deep.pas; echo $?\n    line 3: out of stack\n    3\n\nMend: give it more, by `--stack` or `--heap`, or see whether it ends at all:\n`pascal explain out of stack`.\n\nRule: none of the language. All statuses are told in docs/REFUSALS.md.\n",
+        text: "The run was stopped since it needed more room than it was given.\n\nFile deep.pas:\n\n    program deep(output);\n    procedure down;\n    begin\n      down\n    end;\n    begin\n      down\n    end.\n\nSession:\n\n    $ pascal go deep.pas; echo $?\n    line 3: out of stack\n    3\n\nMend: give it more, by `--stack` or `--heap`, or see whether it ends at all:\n`pascal explain out of stack`.\n\nRule: none of the language. All statuses are listed in docs/REFUSALS.md.\n",
     }
 }
 
@@ -235,7 +235,7 @@ pub(crate) fn status_4_step_limit() -> Page
         number: "4",
         named: "status 4",
         told: "Status 4: step limit",
-        text: "The run made as many steps as it was given, which are 1000000000 if nothing else\nis said, and had not come to its end.\n\nWrong:\n\n    program inf(output);\n    var i: integer;\n    begin\n      i := 1;\n      while i <= 10 do\n        if i < 0 then\n          i := i + 1\n    end.\n\nSays:\n\n    step limit\n\nMend: something within the loop must change what its condition looks at. A\nloop's statement is one statement: several stand between `begin` and `end`, and\na `;` right behind `do` leaves nothing to be done in it. If the program only\ntakes long, give it more steps: `pascal go --steps 100000000000 p.pas`.\n\nRight:\n\n    program ends(output);\n    var i: integer;\n    begin\n      i := 1;\n      while i <= 10 do begin\n        if i > 8 then writeln(i:1);\n        i := i + 1\n      end\n    end.\n\nWrites:\n\n    9\n    10\n\nRule: none of the language: a program may go on for ever.\n",
+        text: "The run made as many steps as it was given, which are 1000000000 if nothing else\nis said, and had not come to its end.\n\nWrong:\n\n    program inf(output);\n    var i: integer;\n    begin\n      i := 1;\n      while i <= 10 do\n        if i < 0 then\n          i := i + 1\n    end.\n\nSays:\n\n    step limit\n\nMend: something within the loop must change what its condition looks at. A\nloop's statement is one statement: several stand between `begin` and `end`, and\na `;` right after `do` leaves nothing to be done in it. If the program only\ntakes long, give it more steps: `pascal go --steps 100000000000 p.pas`.\n\nRight:\n\n    program ends(output);\n    var i: integer;\n    begin\n      i := 1;\n      while i <= 10 do begin\n        if i > 8 then writeln(i:1);\n        i := i + 1\n      end\n    end.\n\nWrites:\n\n    9\n    10\n\nRule: none of the language: a program may go on for ever.\n",
     }
 }
 
@@ -248,7 +248,7 @@ pub(crate) fn status_5_machine_fault() -> Page
         number: "5",
         named: "status 5",
         told: "Status 5: machine fault",
-        text: "The machine met something that no code of this compiler does, so the image was\ndamaged, or made by something else.\n\nSession:\n\n    $ pascal run bad.img; echo $?\n    machine fault: BadWord\n    5\n\nBytes bad.img:\n\n    50524931 00000000 01000000 00000000 00000000 00000000 000000E4\n\nMend: make the image anew by `pascal compile`. That an image as this compiler\nmade it meets no fault is proved.\n\nFile hello.pas:\n\n    program hello(output);\n    begin\n      writeln('hello')\n    end.\n\nSession:\n\n    $ pascal compile hello.pas hello.img\n    $ pascal run hello.img\n    hello\n\nRule: none of the language. The machine is told in docs/MACHINE.md.\n",
+        text: "The machine met something that no code of this compiler does, so the image was\ndamaged, or made by something else.\n\nSession:\n\n    $ pascal run bad.img; echo $?\n    machine fault: BadWord\n    5\n\nBytes bad.img:\n\n    50524931 00000000 01000000 00000000 00000000 00000000 000000E4\n\nMend: make the image anew by `pascal compile`. That an image as this compiler\nmade it meets no fault is proved.\n\nFile hello.pas:\n\n    program hello(output);\n    begin\n      writeln('hello')\n    end.\n\nSession:\n\n    $ pascal compile hello.pas hello.img\n    $ pascal run hello.img\n    hello\n\nRule: none of the language. The machine is described in docs/MACHINE.md.\n",
     }
 }
 
@@ -261,7 +261,7 @@ pub(crate) fn fault_cannot_read() -> Page
         number: "Fault: cannot read",
         named: "Fault: cannot read",
         told: "Fault: cannot read",
-        text: "A file couldn't be read: there is none of that name, it is a folder, or you may\nnot read it. `cannot read the command line` means that a word of the command is\nno UTF-8 text.\n\nSession:\n\n    $ pascal go helo.pas\n    cannot read helo.pas\n\nFile hello.pas:\n\n    program hello(output);\n    begin\n      writeln('hello')\n    end.\n\nMend: see how the file is called and where it lies: `ls` shows what is here, and\n`cd` goes elsewhere. A name with spaces stands between quotes: `pascal go \"my\nprogram.pas\"`.\n\nSession:\n\n    $ pascal go hello.pas\n    hello\n\nRule: none of the language.\n",
+        text: "A file couldn't be read: there is none of that name, it is a folder, or you may\nnot read it. `cannot read the command line` means that a word of the command is\nno UTF-8 text.\n\nSession:\n\n    $ pascal go helo.pas\n    cannot read helo.pas\n\nFile hello.pas:\n\n    program hello(output);\n    begin\n      writeln('hello')\n    end.\n\nMend: see how the file is called and where it lies: `ls` shows what is here, and\n`cd` goes elsewhere. Put a name with spaces between quotes: `pascal go \"my\nprogram.pas\"`.\n\nSession:\n\n    $ pascal go hello.pas\n    hello\n\nRule: none of the language.\n",
     }
 }
 
@@ -313,7 +313,7 @@ pub(crate) fn machine_fault_badword() -> Page
         number: "Machine fault: BadWord",
         named: "Machine fault: BadWord",
         told: "Machine fault: BadWord",
-        text: "A word that was to be done as an instruction is none.\n\nSession:\n\n    $ pascal run bad.img\n    machine fault: BadWord\n\nBytes bad.img:\n\n    50524931 00000000 01000000 00000000 00000000 00000000 000000E4\n\nMend: make the image anew by `pascal compile`; see Status 5.\n\nFile hello.pas:\n\n    program hello(output);\n    begin\n      writeln('hello')\n    end.\n\nSession:\n\n    $ pascal compile hello.pas hello.img\n    $ pascal run hello.img\n    hello\n\nRule: the words of the processor, told in docs/MACHINE.md.\n",
+        text: "A word that was to be done as an instruction is none.\n\nSession:\n\n    $ pascal run bad.img\n    machine fault: BadWord\n\nBytes bad.img:\n\n    50524931 00000000 01000000 00000000 00000000 00000000 000000E4\n\nMend: make the image anew by `pascal compile`; see Status 5.\n\nFile hello.pas:\n\n    program hello(output);\n    begin\n      writeln('hello')\n    end.\n\nSession:\n\n    $ pascal compile hello.pas hello.img\n    $ pascal run hello.img\n    hello\n\nRule: the words of the processor, described in docs/MACHINE.md.\n",
     }
 }
 
@@ -326,7 +326,7 @@ pub(crate) fn machine_fault_badaddress() -> Page
         number: "Machine fault: BadAddress",
         named: "Machine fault: BadAddress",
         told: "Machine fault: BadAddress",
-        text: "An instruction loads or stores where no memory is, or a word at an address that\nis no multiple of 4.\n\nSession:\n\n    $ pascal run odd.img\n    machine fault: BadAddress\n\nBytes odd.img:\n\n    50524931 00000000 01000000 00000000 00000000 00000000 01000080\n\nMend: make the image anew by `pascal compile`; see Status 5.\n\nFile hello.pas:\n\n    program hello(output);\n    begin\n      writeln('hello')\n    end.\n\nSession:\n\n    $ pascal compile hello.pas hello.img\n    $ pascal run hello.img\n    hello\n\nRule: the memory of the processor, told in docs/MACHINE.md.\n",
+        text: "An instruction loads or stores where no memory is, or a word at an address that\nis no multiple of 4.\n\nSession:\n\n    $ pascal run odd.img\n    machine fault: BadAddress\n\nBytes odd.img:\n\n    50524931 00000000 01000000 00000000 00000000 00000000 01000080\n\nMend: make the image anew by `pascal compile`; see Status 5.\n\nFile hello.pas:\n\n    program hello(output);\n    begin\n      writeln('hello')\n    end.\n\nSession:\n\n    $ pascal compile hello.pas hello.img\n    $ pascal run hello.img\n    hello\n\nRule: the memory of the processor, described in docs/MACHINE.md.\n",
     }
 }
 
@@ -339,7 +339,7 @@ pub(crate) fn machine_fault_baddivisor() -> Page
         number: "Machine fault: BadDivisor",
         named: "Machine fault: BadDivisor",
         told: "Machine fault: BadDivisor",
-        text: "The processor was to divide by a number that is not above 0.\n\nSession:\n\n    $ pascal run divisor.img\n    machine fault: BadDivisor\n\nBytes divisor.img:\n\n    50524931 00000000 02000000 00000000 00000000 00000000 F9FF0051 00001B40\n\nMend: make the image anew by `pascal compile`; see Status 5. A `div` by zero in\na Pascal program is another thing: `pascal explain division by zero`.\n\nFile hello.pas:\n\n    program hello(output);\n    begin\n      writeln('hello')\n    end.\n\nSession:\n\n    $ pascal compile hello.pas hello.img\n    $ pascal run hello.img\n    hello\n\nRule: the instruction DIV of the processor, told in docs/MACHINE.md.\n",
+        text: "The processor was to divide by a number that is not above 0.\n\nSession:\n\n    $ pascal run divisor.img\n    machine fault: BadDivisor\n\nBytes divisor.img:\n\n    50524931 00000000 02000000 00000000 00000000 00000000 F9FF0051 00001B40\n\nMend: make the image anew by `pascal compile`; see Status 5. A `div` by zero in\na Pascal program is another thing: `pascal explain division by zero`.\n\nFile hello.pas:\n\n    program hello(output);\n    begin\n      writeln('hello')\n    end.\n\nSession:\n\n    $ pascal compile hello.pas hello.img\n    $ pascal run hello.img\n    hello\n\nRule: the instruction DIV of the processor, described in docs/MACHINE.md.\n",
     }
 }
 
@@ -352,7 +352,7 @@ pub(crate) fn machine_fault_badjump() -> Page
         number: "Machine fault: BadJump",
         named: "Machine fault: BadJump",
         told: "Machine fault: BadJump",
-        text: "The processor was to go on where no memory is.\n\nSession:\n\n    $ pascal run --stack 0 --heap 0 jump.img\n    machine fault: BadJump\n\nBytes jump.img:\n\n    50524931 00000000 01000000 00000000 00000000 00000000 00000040\n\nMend: make the image anew by `pascal compile`; see Status 5.\n\nFile hello.pas:\n\n    program hello(output);\n    begin\n      writeln('hello')\n    end.\n\nSession:\n\n    $ pascal compile hello.pas hello.img\n    $ pascal run hello.img\n    hello\n\nRule: the steps of the processor, told in docs/MACHINE.md.\n",
+        text: "The processor was to go on where no memory is.\n\nSession:\n\n    $ pascal run --stack 0 --heap 0 jump.img\n    machine fault: BadJump\n\nBytes jump.img:\n\n    50524931 00000000 01000000 00000000 00000000 00000000 00000040\n\nMend: make the image anew by `pascal compile`; see Status 5.\n\nFile hello.pas:\n\n    program hello(output);\n    begin\n      writeln('hello')\n    end.\n\nSession:\n\n    $ pascal compile hello.pas hello.img\n    $ pascal run hello.img\n    hello\n\nRule: the steps of the processor, described in docs/MACHINE.md.\n",
     }
 }
 
@@ -365,6 +365,6 @@ pub(crate) fn machine_fault_unknowntrap() -> Page
         number: "Machine fault: UnknownTrap",
         named: "Machine fault: UnknownTrap",
         told: "Machine fault: UnknownTrap",
-        text: "The code stopped with an error, and the image doesn't tell of a line for it.\n\nSession:\n\n    $ pascal run trap.img\n    machine fault: UnknownTrap\n\nBytes trap.img:\n\n    50524931 00000000 03000000 00000000 00000000 00000000 C0FF0056 01000040 040060A0\n\nMend: make the image anew by `pascal compile`; see Status 5.\n\nFile hello.pas:\n\n    program hello(output);\n    begin\n      writeln('hello')\n    end.\n\nSession:\n\n    $ pascal compile hello.pas hello.img\n    $ pascal run hello.img\n    hello\n\nRule: the trap table of images, told in docs/MACHINE.md.\n",
+        text: "The code stopped with an error, and the image has no line for it.\n\nSession:\n\n    $ pascal run trap.img\n    machine fault: UnknownTrap\n\nBytes trap.img:\n\n    50524931 00000000 03000000 00000000 00000000 00000000 C0FF0056 01000040 040060A0\n\nMend: make the image anew by `pascal compile`; see Status 5.\n\nFile hello.pas:\n\n    program hello(output);\n    begin\n      writeln('hello')\n    end.\n\nSession:\n\n    $ pascal compile hello.pas hello.img\n    $ pascal run hello.img\n    hello\n\nRule: the trap table of images, described in docs/MACHINE.md.\n",
     }
 }

@@ -3,16 +3,16 @@
 mod command;
 
 use command::Table as Command;
-use command::programs::Asked as OfBuilt;
+use command::programs::BuiltQuery;
 use std::alloc::{AllocError, Global};
 use std::io;
 use test_code::Table as Code;
-use test_code::programs::Asked as OfCode;
+use test_code::programs::CodeQuery;
 use test_language::Table as Language;
-use test_language::blocks::Asked as OfBlock;
-use test_language::check::Asked as OfProgram;
-use test_language::front::Asked as OfTree;
-use test_language::tokens::Asked as OfTokens;
+use test_language::blocks::BlockQuery;
+use test_language::check::ProgramQuery;
+use test_language::front::TreeQuery;
+use test_language::tokens::TokenQuery;
 use test_tables::{Answers, Line, answer_rows};
 
 /// What is asked of a row, by the name of its table.
@@ -29,59 +29,71 @@ const TABLES: &[(&str, Table)] = &[
     ("lengths", Table::Language(Language::Lengths)),
     ("lines", Table::Language(Language::Lines)),
     ("slices", Table::Language(Language::Slices)),
-    ("kinds", Table::Language(Language::Tokens(OfTokens::Kinds))),
-    ("spans", Table::Language(Language::Tokens(OfTokens::Spans))),
+    (
+        "kinds",
+        Table::Language(Language::Tokens(TokenQuery::Kinds)),
+    ),
+    (
+        "spans",
+        Table::Language(Language::Tokens(TokenQuery::Spans)),
+    ),
     ("values", Table::Language(Language::Values)),
-    ("parse", Table::Language(Language::Tree(OfTree::Height))),
-    ("trees", Table::Language(Language::Tree(OfTree::Statements))),
+    ("parse", Table::Language(Language::Tree(TreeQuery::Height))),
+    (
+        "trees",
+        Table::Language(Language::Tree(TreeQuery::Statements)),
+    ),
     ("regions", Table::Language(Language::Regions)),
     (
         "declarations",
-        Table::Language(Language::Tree(OfTree::Block(OfBlock::Declarations))),
+        Table::Language(Language::Tree(TreeQuery::Block(BlockQuery::Declarations))),
     ),
     (
         "sizes",
-        Table::Language(Language::Tree(OfTree::Block(OfBlock::Sizes))),
+        Table::Language(Language::Tree(TreeQuery::Block(BlockQuery::Sizes))),
     ),
     (
         "fields",
-        Table::Language(Language::Tree(OfTree::Block(OfBlock::Fields))),
+        Table::Language(Language::Tree(TreeQuery::Block(BlockQuery::Fields))),
     ),
     (
         "types",
-        Table::Language(Language::Tree(OfTree::Block(OfBlock::Types))),
+        Table::Language(Language::Tree(TreeQuery::Block(BlockQuery::Types))),
     ),
     (
         "expressions",
-        Table::Language(Language::Tree(OfTree::Block(OfBlock::Expressions))),
+        Table::Language(Language::Tree(TreeQuery::Block(BlockQuery::Expressions))),
     ),
     (
         "statements",
-        Table::Language(Language::Tree(OfTree::Block(OfBlock::Statements))),
+        Table::Language(Language::Tree(TreeQuery::Block(BlockQuery::Statements))),
     ),
     (
         "check",
-        Table::Language(Language::Program(OfProgram::Verdict)),
+        Table::Language(Language::Program(ProgramQuery::Verdict)),
     ),
     (
         "programs",
-        Table::Language(Language::Program(OfProgram::Counts)),
+        Table::Language(Language::Program(ProgramQuery::Counts)),
     ),
-    ("runs", Table::Language(Language::Program(OfProgram::Run))),
+    (
+        "runs",
+        Table::Language(Language::Program(ProgramQuery::Run)),
+    ),
     (
         "trails",
-        Table::Language(Language::Program(OfProgram::Trail)),
+        Table::Language(Language::Program(ProgramQuery::Trail)),
     ),
     (
         "outputs",
-        Table::Language(Language::Program(OfProgram::Output)),
+        Table::Language(Language::Program(ProgramQuery::Output)),
     ),
-    ("code", Table::Code(Code::Programs(OfCode::Kept))),
-    ("printed", Table::Code(Code::Programs(OfCode::Printed))),
-    ("runs of code", Table::Code(Code::Programs(OfCode::Ran))),
-    ("homes", Table::Code(Code::Programs(OfCode::Tried))),
-    ("registers", Table::Code(Code::Programs(OfCode::Scanned))),
-    ("slots", Table::Code(Code::Programs(OfCode::Slotted))),
+    ("code", Table::Code(Code::Programs(CodeQuery::Kept))),
+    ("printed", Table::Code(Code::Programs(CodeQuery::Printed))),
+    ("runs of code", Table::Code(Code::Programs(CodeQuery::Ran))),
+    ("homes", Table::Code(Code::Programs(CodeQuery::Tried))),
+    ("registers", Table::Code(Code::Programs(CodeQuery::Scanned))),
+    ("slots", Table::Code(Code::Programs(CodeQuery::Slotted))),
     ("instructions", Table::Code(Code::Words)),
     ("steps", Table::Code(Code::Steps)),
     ("machines", Table::Code(Code::Runs)),
@@ -91,13 +103,16 @@ const TABLES: &[(&str, Table)] = &[
     ("views", Table::Code(Code::Images)),
     ("written", Table::Code(Code::Written)),
     ("loads", Table::Code(Code::Loaded)),
-    ("build", Table::Command(Command::Built(OfBuilt::Built))),
+    ("build", Table::Command(Command::Built(BuiltQuery::Built))),
     ("go", Table::Command(Command::Go)),
-    ("built", Table::Command(Command::Built(OfBuilt::Ran))),
+    ("built", Table::Command(Command::Built(BuiltQuery::Ran))),
     ("writers", Table::Command(Command::Writers)),
     ("images", Table::Command(Command::Images)),
     ("calls", Table::Command(Command::Calls)),
-    ("listings", Table::Command(Command::Built(OfBuilt::Listed))),
+    (
+        "listings",
+        Table::Command(Command::Built(BuiltQuery::Listed)),
+    ),
     ("reports", Table::Command(Command::Reports)),
     ("words", Table::Command(Command::Words)),
     ("puts", Table::Command(Command::Puts)),

@@ -168,7 +168,8 @@ accept_sound {B} k ts f y r e =
     ]
 
 -- ---- operators, each written by one kind of token
-module _ {O : Type 0} (of : Kind → Option O) (kind_of : O → Kind) (back : (k : Kind) (op : O) → of k ≡ Some op → k ≡ kind_of op) (forth : (op : O) → of (kind_of op) ≡ Some op) where
+module _ {O : Type 0} (of : Kind → Option O) (kind_of : O → Kind)
+    (back : (k : Kind) (op : O) → of k ≡ Some op → k ≡ kind_of op) (forth : (op : O) → of (kind_of op) ≡ Some op) where
   pub operator_ended : {B : Type 0} (f : Option (O × Span) → Parser B) → and_then (eat_operator of []) f ≡ f None []
   unfolding eat_operator
   operator_ended f = refl

@@ -165,7 +165,8 @@ module _ (E : Symbol Expr) (p : Parser Expr) (h : Exact (Ends 1) E p) where
   no_call xs ts r (more content ds) o = refl
 
   -- ---- factors
-  module _ (F : Symbol Factor) (q : Parser Factor) (i : Exact (Ends 4) F q) (begins : (x : Expr) (ts r : Tokens) → E x ts r → sees k.RightBracket ts ≡ false) where
+  module _ (F : Symbol Factor) (q : Parser Factor) (i : Exact (Ends 4) F q)
+      (begins : (x : Expr) (ts r : Tokens) → E x ts r → sees k.RightBracket ts ≡ false) where
     call_sound : (at left : Span) (ts : Tokens) (y : Factor) (r : Tokens) → read.call p at ts ≡ Ok (y, r)
         → IsFactor E F y (token k.Name at ∷ token k.LeftParen left ∷ ts) r
     unfolding read.call

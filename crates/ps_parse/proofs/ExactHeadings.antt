@@ -41,7 +41,8 @@ at_paren : (at : Span) (m : Tokens) → EndsSections (token k.RightParen at ∷ 
 unfolding same
 at_paren at m = (refl, refl)
 
-module _ (F : Symbol (List Section)) (p : Parser (List Section)) (i : Exact Anything F p) (begins : (xs : List Section) (ts r : Tokens) → F xs ts r → sees k.LeftParen ts ≡ true) where
+module _ (F : Symbol (List Section)) (p : Parser (List Section)) (i : Exact Anything F p)
+    (begins : (xs : List Section) (ts r : Tokens) → F xs ts r → sees k.LeftParen ts ≡ true) where
   chosen_sound : (b : Bool) (ts : Tokens) (xs : List Section) (r : Tokens) → (if b then p ts else Ok ([], ts)) ≡ Ok
       (xs, r) → IsFormals F xs ts r
   chosen_sound true ts xs r e = present (i.sound ts xs r e)

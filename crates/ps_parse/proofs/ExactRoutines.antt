@@ -24,7 +24,9 @@ use Rattle.ps_parse.proofs.ExactHeadings.{procedure_complete, procedure_sound, s
 use Rattle.ps_parse.proofs.ExactDefinitions.{Later, later_unseen, later_weaker, seen_other}
 
 -- ---- routines
-module _ (is_forward : Span → Bool) (F : Symbol (List Section)) (p : Parser (List Section)) (l : FormalsLevel F p) (B : Symbol Block) (pb : Parser Block) (hb : Exact Anything B pb) (begins : (b : Block) (ts r : Tokens) → B b ts r → Later 1 ts) where
+module _ (is_forward : Span → Bool) (F : Symbol (List Section)) (p : Parser (List Section)) (l : FormalsLevel F p)
+    (B : Symbol Block) (pb : Parser Block) (hb : Exact Anything B pb)
+    (begins : (b : Block) (ts r : Tokens) → B b ts r → Later 1 ts) where
   abbrev pub Heads : Symbol Heading
   Heads = IsHeading F
 

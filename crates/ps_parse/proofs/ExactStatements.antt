@@ -83,7 +83,8 @@ never : {P : Type 0} → false ≡ true → P
 never e = cc
 
 module _ (E : Symbol Expr) (p : Parser Expr) (h : Exact (Ends 1) E p) where
-  module _ (S : Bool → Symbol Statement) (q : Parser Statement) (i : Exact Follows (Greedy S) q) (sh : (ends : Bool) (x : Statement) (ts r : Tokens) → S ends x ts r → length r ≤ length ts) where
+  module _ (S : Bool → Symbol Statement) (q : Parser Statement) (i : Exact Follows (Greedy S) q)
+      (sh : (ends : Bool) (x : Statement) (ts r : Tokens) → S ends x ts r → length r ≤ length ts) where
     -- a statement of a sequence
     any_exact : Exact EndsInSequence (InSequence S) q
     any_exact = record {

@@ -230,7 +230,9 @@ module _ {A : Type 0} (item : Parser (Option A)) (h : Turn item) where
   local_many = local_many_from []
 
 -- ---- items that their first token shows
-module _ {A : Type 0} (begins : Tokens → Bool) (is_begin : Option Token → Bool) (shown : (ts : Tokens) → is_begin (first ts) ≡ begins ts) (none : begins [] ≡ false) (item : Parser A) (h : Local item) (t : Takes item) where
+module _ {A : Type 0} (begins : Tokens → Bool) (is_begin : Option Token → Bool)
+    (shown : (ts : Tokens) → is_begin (first ts) ≡ begins ts) (none : begins [] ≡ false) (item : Parser A)
+    (h : Local item) (t : Takes item) where
   begun : (b : Bool) (ts : Tokens) (x : A) (r : Tokens) → (if b then (Some <$> item) ts else Ok (None, ts)) ≡ Ok
       (Some x, r) → length r < length ts
   begun true ts x r e = (let s = both_steps (item ts) _ (Some x) r e in let end = second_part (Some s.0)

@@ -289,7 +289,8 @@ module _ (is_forward : Span → Bool) where
     )
 
   -- ---- blocks
-  module _ (type : Parser TypeDenoter) (formals : Parser (List Section)) (statement : Parser Statement) (block : Parser Block) (ht : Local type) (hf : Local formals) (hs : Local statement) (hb : Local block) where
+  module _ (type : Parser TypeDenoter) (formals : Parser (List Section)) (statement : Parser Statement)
+      (block : Parser Block) (ht : Local type) (hf : Local formals) (hs : Local statement) (hb : Local block) where
     local_constants : Local (part k.Const read.begins_name read.constant_definition)
     local_constants = local_part read.begins_name (seen k.Name)
         (sees_shown k.Name) refl read.constant_definition looks_at_constant.0 looks_at_constant.1 k.Const

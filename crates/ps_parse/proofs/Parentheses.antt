@@ -200,7 +200,8 @@ all_opened n at ts t =
 -- ---- closing
 
 -- what a group is, of which some parentheses were opened and some of these closed
-module _ (n : ℕ) (at : Span) (ts : Tokens) (t : Token) (o c m : ℕ) (x : Expr) (g : Outcome Factor) (r : Tokens) (is : g ≡ close n at ts t (o - c) (m, x) r) where
+module _ (n : ℕ) (at : Span) (ts : Tokens) (t : Token) (o c m : ℕ) (x : Expr) (g : Outcome Factor) (r : Tokens)
+    (is : g ≡ close n at ts t (o - c) (m, x) r) where
   last_level : o ≤ c → g ≡ and_then (expect k.RightParen r) (λ _. pure (f.Group at m x))
   unfolding close
   last_level done = let none : o - c ≡ 0 = omega arith in is ∙ ap (λ (i : ℕ). close n at ts t i (m, x) r) none

@@ -256,7 +256,9 @@ module _ {B : Type 0} (R : Symbol B) where
     viable_accept f h i = record { well = accept_well f h i; start = i.start }
 
 -- ---- operators
-module _ {O : Type 0} (of : Kind → Option O) (kind_of : O → Kind) (back : (k : Kind) (op : O) → of k ≡ Some op → k ≡ kind_of op) (forth : (op : O) → of (kind_of op) ≡ Some op) {B : Type 0} (R : Symbol B) where
+module _ {O : Type 0} (of : Kind → Option O) (kind_of : O → Kind)
+    (back : (k : Kind) (op : O) → of k ≡ Some op → k ≡ kind_of op) (forth : (op : O) → of (kind_of op) ≡ Some op)
+    {B : Type 0} (R : Symbol B) where
   operator_cases : (o : Option O) (t : Token) → of t.kind ≡ o → ((op : O) × (t ≡ token (kind_of op) t.span))
       ⊎ (o ≡ None)
   operator_cases None t e = inr refl

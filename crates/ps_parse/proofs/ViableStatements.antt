@@ -121,7 +121,9 @@ module _ (E : Symbol Expr) (p : Parser Expr) (v : Viable E p) where
         (λ xs. viable_expect _ k.RightParen _ (λ right. viable_pure (λ r ts d. in_sequence (call d)))))
         (viable_bind (viable_many (IsSelector E) (selector p) (selector_viable E p v)) (λ xs. assigned_viable at xs))
 
-    module _ (q : Parser Statement) (w : Viable (InSequence S) q) (told : (x : Statement) (ts r : Tokens) → q ts ≡ Ok (x, r) → sees k.Else r ≡ true → (l m : Tokens) → InSequence S x l m → S false x l m) where
+    module _ (q : Parser Statement) (w : Viable (InSequence S) q)
+        (told : (x : Statement) (ts r : Tokens) → q ts ≡ Ok (x, r) → sees k.Else r ≡ true → (l m : Tokens)
+        → InSequence S x l m → S false x l m) where
       sequence_viable : Viable (IsSequence S) (read.sequence p q)
       unfolding read.sequence
       sequence_viable = viable_separated (InSequence S) q w k.Semicolon

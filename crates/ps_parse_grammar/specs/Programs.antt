@@ -146,7 +146,8 @@ module _ (is_forward : Span → Bool) where
         → IsRoutine heading block (q.Completion at b)
         (token k.Function word ∷ token k.Name at ∷ token k.Semicolon semicolon ∷ ts) r
 
-  pub data IsBlock (type : Symbol TypeDenoter) (heading : Symbol Heading) (statement : Bool → Symbol Statement) (block : Symbol Block) : Block → Tokens → Tokens → Type 0 where
+  pub data IsBlock (type : Symbol TypeDenoter) (heading : Symbol Heading) (statement : Bool → Symbol Statement)
+      (block : Symbol Block) : Block → Tokens → Tokens → Type 0 where
     parts : (cs : List ConstantDefinition) (types : List TypeDefinition) (vs : List Variables) (rs : List Routine)
         (begin : Span) (ss : List Statement) {end : Span} {ts a b c d r : Tokens} →
         IsPart k.Const IsConstantDefinition cs ts a → IsPart k.Type (IsTypeDefinition type) types a b → IsPart k.Var

@@ -45,7 +45,9 @@ alive_within body place u (Used p v e) = let some = some_read (slice_get body p)
 alive_within body place u (Passed p next v l w rest) =
     let some = some_leads (slice_get body p) p next l in slice_get_within body p some.0 some.1
 
-module _ (seats : List ℕ) (from : ℕ) (window : Window) (claims : Claims) (body : List Instruction) (parameters : ℕ) (table : List ℕ) (is : IsWindow seats from window) (w : Walked window claims body 0 table) (free : (t : ℕ) → t < parameters → IsFreeFor window table t) where
+module _ (seats : List ℕ) (from : ℕ) (window : Window) (claims : Claims) (body : List Instruction) (parameters : ℕ)
+    (table : List ℕ) (is : IsWindow seats from window) (w : Walked window claims body 0 table)
+    (free : (t : ℕ) → t < parameters → IsFreeFor window table t) where
   step_at : (place : ℕ) (i : Instruction) → slice_get body place ≡ Some i → Step window claims i place
       (w.tables (suc place)) (w.tables place)
   step_at place i e = let le : 0 ≤ place = omega arith in w.steps place i le e
@@ -213,7 +215,8 @@ pub seats_all : (routine : TacRoutine) (seats : List ℕ) (count from : ℕ) →
 seats_all routine seats count from past fit seat above below some =
     let lt : seat < from = omega (arith, past, below) in fit seat above lt some
 
-module _ (homes : List Home) (seats : List ℕ) (routine : TacRoutine) (count : ℕ) (are : AreSeatsOf homes seats) (long : count ≡ 12 + length homes) (each : SeatsFit routine seats count 0 count) where
+module _ (homes : List Home) (seats : List ℕ) (routine : TacRoutine) (count : ℕ) (are : AreSeatsOf homes seats)
+    (long : count ≡ 12 + length homes) (each : SeatsFit routine seats count 0 count) where
   -- seats are homes, also for what is not a temporary
   seat_is : (t : ℕ) → slice_index seats t ≡ seat_number (home_in homes t)
   seat_is t = go (slice_get_cases homes t).1

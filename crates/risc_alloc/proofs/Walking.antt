@@ -17,7 +17,10 @@ walked_none window claims body from table all = record {
   claimed = λ place le lt. absurd (omega arith);
 }
 
-module _ (window : Window) (claims : Claims) (body : List Instruction) (k : ℕ) (next table : List ℕ) (w : Walked window claims body (suc k) next) (step : (i : Instruction) → slice_get body k ≡ Some i → Step window claims i k next table) (claimed : IsClaimed claims k table) where
+module _ (window : Window) (claims : Claims) (body : List Instruction) (k : ℕ) (next table : List ℕ)
+    (w : Walked window claims body (suc k) next)
+    (step : (i : Instruction) → slice_get body k ≡ Some i → Step window claims i k next table)
+    (claimed : IsClaimed claims k table) where
   after : ℕ → List ℕ
   after place = cond (nat_eq place k) table (w.tables place)
 

@@ -68,7 +68,9 @@ parameters_are None routine e = absurd (cc)
 parameters_are (Some x) routine e = let same : x ≡ routine = same_Some x routine e
     in ap (λ (y : TacRoutine). y.parameters) same
 
-module _ (code : Code) (homes : List Home) (each : (r : ℕ) (routine : TacRoutine) → slice_get (routines code) r ≡ Some routine → RoutineFits routine (homes_of code homes r)) where
+module _ (code : Code) (homes : List Home)
+    (each : (r : ℕ) (routine : TacRoutine) → slice_get (routines code) r ≡ Some routine
+    → RoutineFits routine (homes_of code homes r)) where
   at : (r : ℕ) → Fits (fetch code r) (parameters_in (slice_get (routines code) r)) (homes_of code homes r)
   at r = any_fits (slice_get (routines code) r) (drop (temporaries_before (routines code) r) homes) (each r)
 

@@ -22,7 +22,7 @@ use test_tables::words::letters;
 /// What is asked of a row.
 #[derive(Clone, Copy)]
 pub enum Table {
-    Programs(programs::Asked),
+    Programs(programs::CodeQuery),
     Words,
     Steps,
     Runs,

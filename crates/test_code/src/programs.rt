@@ -50,7 +50,7 @@ fn code(alloc: Global, row: &str) -> Result<Option<Tac>, AllocError> {
 
 /// What is asked of code.
 #[derive(Clone, Copy)]
-pub enum Asked {
+pub enum CodeQuery {
     /// Whether it is code at all.
     Kept,
     /// Its printed form.
@@ -69,16 +69,16 @@ fn put_asked(
     alloc: Global,
     line: &mut Line,
     tac: &Tac,
-    asked: Asked,
+    asked: CodeQuery,
     settings: &RowSettings,
 ) -> Result<(), AllocError> {
     match asked {
-        Asked::Kept => line.word("code"),
-        Asked::Printed => line.text(print(alloc, tac)),
-        Asked::Ran => return put_run(alloc, line, tac, settings),
-        Asked::Tried => return put_verdict(alloc, line, tac, &settings.homes),
-        Asked::Scanned => return put_placement(alloc, line, tac, &Scan.place(alloc, tac)?),
-        Asked::Slotted => return put_placement(alloc, line, tac, &EverySlot.place(alloc, tac)?),
+        CodeQuery::Kept => line.word("code"),
+        CodeQuery::Printed => line.text(print(alloc, tac)),
+        CodeQuery::Ran => return put_run(alloc, line, tac, settings),
+        CodeQuery::Tried => return put_verdict(alloc, line, tac, &settings.homes),
+        CodeQuery::Scanned => return put_placement(alloc, line, tac, &Scan.place(alloc, tac)?),
+        CodeQuery::Slotted => return put_placement(alloc, line, tac, &EverySlot.place(alloc, tac)?),
     }
     Ok(())
 }
@@ -88,7 +88,7 @@ pub(crate) fn answer(
     alloc: Global,
     line: &mut Line,
     row: &str,
-    asked: Asked,
+    asked: CodeQuery,
     settings: &RowSettings,
 ) -> Result<(), AllocError> {
     let Some(tac) = code(alloc, row)? else {

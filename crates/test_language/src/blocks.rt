@@ -29,7 +29,7 @@ use test_tables::Line;
 
 /// What is asked of a block.
 #[derive(Clone, Copy)]
-pub enum Asked {
+pub enum BlockQuery {
     /// How many names, domain types and variables it declares.
     Declarations,
     /// The sizes of its variables' types.
@@ -164,21 +164,21 @@ fn put_statements(
 
 fn put_asked(
     line: &mut Line,
-    asked: Asked,
+    asked: BlockQuery,
     declared: &Declared,
     site: Site<'_>,
     written: &[Statement],
 ) -> Result<(), CheckFault> {
     match (asked, assignment(written)) {
-        (Asked::Declarations, _) => put_counts(line, declared),
-        (Asked::Sizes, _) => put_sizes(line, &declared.variables),
-        (Asked::Fields, _) => put_fields(line, &declared.variables),
-        (Asked::Statements, _) => return put_statements(line, site, written),
+        (BlockQuery::Declarations, _) => put_counts(line, declared),
+        (BlockQuery::Sizes, _) => put_sizes(line, &declared.variables),
+        (BlockQuery::Fields, _) => put_fields(line, &declared.variables),
+        (BlockQuery::Statements, _) => return put_statements(line, site, written),
         (_, None) => line.word("no assignment"),
-        (Asked::Types, Some((variable, value))) => {
+        (BlockQuery::Types, Some((variable, value))) => {
             return put_relation_in(line, site, variable, value);
         }
-        (Asked::Expressions, Some((_, value))) => return put_form(line, site, value),
+        (BlockQuery::Expressions, Some((_, value))) => return put_form(line, site, value),
     }
     Ok(())
 }
@@ -214,7 +214,7 @@ fn put_declared<'a>(
     line: &mut Line,
     around: Site<'a>,
     block: &Block,
-    asked: Asked,
+    asked: BlockQuery,
     names: &'a Names,
     declared: &'a Declared,
 ) -> Result<(), CheckFault> {
@@ -248,7 +248,7 @@ fn put_below(
     line: &mut Line,
     around: Site<'_>,
     block: &Block,
-    asked: Asked,
+    asked: BlockQuery,
     names: &Names,
     declared: &mut Declared,
 ) -> Result<(), CheckFault> {
@@ -262,7 +262,7 @@ fn put_within(
     reading: &Reading,
     alloc: Global,
     block: &Block,
-    asked: Asked,
+    asked: BlockQuery,
     known: &mut Known,
 ) -> Result<(), CheckFault> {
     add_required(alloc, known)?;
@@ -303,7 +303,13 @@ fn put_fault(line: &mut Line, fault: CheckFault) {
 }
 
 /// Puts what is asked of the block of a text, or the rule that it breaks.
-pub(crate) fn answer(alloc: Global, line: &mut Line, source: &Source, block: &Block, asked: Asked) {
+pub(crate) fn answer(
+    alloc: Global,
+    line: &mut Line,
+    source: &Source,
+    block: &Block,
+    asked: BlockQuery,
+) {
     let Ok(lines) = LineTable::new(alloc, source) else {
         return line.fall_short();
     };

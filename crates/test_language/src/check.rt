@@ -9,7 +9,7 @@ use test_tables::Line;
 
 /// What is asked of a checked program.
 #[derive(Clone, Copy)]
-pub enum Asked {
+pub enum ProgramQuery {
     /// Whether there is one.
     Verdict,
     /// The nodes and the cells of each of its routines, and how many domain types it has.
@@ -36,15 +36,15 @@ fn put_asked(
     alloc: Global,
     line: &mut Line,
     program: &Checked,
-    asked: Asked,
+    asked: ProgramQuery,
     settings: &RunSettings,
 ) {
     match asked {
-        Asked::Verdict => line.word("accepted"),
-        Asked::Counts => put_counts(line, program),
-        Asked::Run => put_run(alloc, line, program, settings),
-        Asked::Output => put_output(alloc, line, program, settings),
-        Asked::Trail => put_trail(alloc, line, program, settings),
+        ProgramQuery::Verdict => line.word("accepted"),
+        ProgramQuery::Counts => put_counts(line, program),
+        ProgramQuery::Run => put_run(alloc, line, program, settings),
+        ProgramQuery::Output => put_output(alloc, line, program, settings),
+        ProgramQuery::Trail => put_trail(alloc, line, program, settings),
     }
 }
 
@@ -53,7 +53,7 @@ pub(crate) fn answer(
     alloc: Global,
     line: &mut Line,
     text: &[u8],
-    asked: Asked,
+    asked: ProgramQuery,
     settings: &RunSettings,
 ) {
     match checked(alloc, text) {

@@ -27,29 +27,29 @@ pub(crate) fn put_refusal(line: &mut Line, refusal: Refusal) {
 
 /// What is asked of a text's tree.
 #[derive(Clone, Copy)]
-pub enum Asked {
+pub enum TreeQuery {
     /// Its height.
     Height,
     /// Its statements.
     Statements,
     /// What the layers of the checker make of its block.
-    Block(blocks::Asked),
+    Block(blocks::BlockQuery),
 }
 
-fn put_asked(alloc: Global, line: &mut Line, source: &Source, program: &Program, asked: Asked) {
+fn put_asked(alloc: Global, line: &mut Line, source: &Source, program: &Program, asked: TreeQuery) {
     let block = &program.block;
     match asked {
-        Asked::Height => line.numbered("accepted, height ", u64::from(height(program))),
-        Asked::Statements => {
+        TreeQuery::Height => line.numbered("accepted, height ", u64::from(height(program))),
+        TreeQuery::Statements => {
             let text = source.bytes();
             Shown { text, line }.statements(block.statements.as_slice());
         }
-        Asked::Block(asked) => blocks::answer(alloc, line, source, block, asked),
+        TreeQuery::Block(asked) => blocks::answer(alloc, line, source, block, asked),
     }
 }
 
 /// Puts what is asked of a text's tree, or the refusal.
-pub(crate) fn answer(alloc: Global, line: &mut Line, text: &[u8], asked: Asked) {
+pub(crate) fn answer(alloc: Global, line: &mut Line, text: &[u8], asked: TreeQuery) {
     let Ok(source) = Source::new(text) else {
         return line.word("no source");
     };

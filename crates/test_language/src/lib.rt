@@ -23,11 +23,11 @@ pub enum Table {
     Lengths,
     Lines,
     Slices,
-    Tokens(tokens::Asked),
+    Tokens(tokens::TokenQuery),
     Values,
-    Tree(front::Asked),
+    Tree(front::TreeQuery),
     Regions,
-    Program(check::Asked),
+    Program(check::ProgramQuery),
 }
 
 /// Puts what is to be shown of a row.

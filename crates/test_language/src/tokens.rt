@@ -14,7 +14,7 @@ use test_tables::words::letters;
 
 /// What is asked of tokens.
 #[derive(Clone, Copy)]
-pub enum Asked {
+pub enum TokenQuery {
     /// Their kinds.
     Kinds,
     /// Where they begin, and the offsets behind their ends; of a refusal its place.
@@ -26,17 +26,17 @@ fn put_span(line: &mut Line, span: Span) {
     line.numbered("-", u64::from(span.to));
 }
 
-fn put_token(line: &mut Line, token: Token, asked: Asked) {
+fn put_token(line: &mut Line, token: Token, asked: TokenQuery) {
     line.space();
     match asked {
-        Asked::Kinds => line.seen("", &token.kind),
-        Asked::Spans => put_span(line, token.span),
+        TokenQuery::Kinds => line.seen("", &token.kind),
+        TokenQuery::Spans => put_span(line, token.span),
     }
 }
 
 // Puts why a text has no tokens, with the line or the place of the fault.
-fn put_fault(line: &mut Line, refusal: ScanRefusal, asked: Asked) {
-    if let (Asked::Spans, Some(place)) = (asked, refusal.place()) {
+fn put_fault(line: &mut Line, refusal: ScanRefusal, asked: TokenQuery) {
+    if let (TokenQuery::Spans, Some(place)) = (asked, refusal.place()) {
         line.numbered("", u64::from(refusal.number()));
         line.valued(" ", &refusal);
         line.word(" at ");
@@ -46,7 +46,7 @@ fn put_fault(line: &mut Line, refusal: ScanRefusal, asked: Asked) {
 }
 
 /// Puts what is asked of a text's tokens, or the refusal.
-pub(crate) fn put_tokens(alloc: Global, line: &mut Line, text: &[u8], asked: Asked) {
+pub(crate) fn put_tokens(alloc: Global, line: &mut Line, text: &[u8], asked: TokenQuery) {
     let Ok(source) = Source::new(text) else {
         return line.word("no source");
     };

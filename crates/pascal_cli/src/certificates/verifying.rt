@@ -14,7 +14,9 @@ use crate::certificates::{
     Beside, CERTIFICATE_LIMIT, Pair, built_beside, certificate, known_of, maker, read_pair,
 };
 use crate::failures::Failures;
-use pascal_certificate::{Comparison, Damage, Found, Names, compared, damage_of, parse, seal_of};
+use pascal_certificate::{
+    Comparison, Damage, Evidence, Names, compared, damage_of, parse, seal_of,
+};
 use pascal_command::Job;
 use std::alloc::{AllocError, Global};
 use std::rt::{Env, Files};
@@ -51,7 +53,7 @@ fn compared_found(
     names: &Names<'_>,
     values: &[&[u8]],
     pair: &Pair,
-    found: &Found<'_, '_>,
+    found: &Evidence<'_, '_>,
 ) -> Result<Comparison, AllocError>
     requires found { IsFound pair.now.source.items pair.now.image.items found.now }
     requires stack { (told : List ℕ) × TellsOfStack (map (λ value. value.now) found.now.maker.now) told
@@ -80,7 +82,7 @@ fn comparison<R: Files + Env + AllocGlobal>(
     let source = seal_of(rt.alloc(), &pair.source)?;
     let image = seal_of(rt.alloc(), &pair.image)?;
     let told = maker(&known);
-    let found = Found {
+    let found = Evidence {
         source: &source,
         image: &image,
         maker: &told,

@@ -12,6 +12,7 @@ ghost use Rattle.pascal_command.specs.App.{budget_rule, run_app};
 ghost use Rattle.pascal_command.specs.App.{steps_rule};
 ghost use Rattle.pascal_command.specs.App.{verify_app, watch_app, with_checks, with_runs, with_watches, words_rule};
 
+use crate::job::{MAX_BUDGET, MAX_STEPS};
 use clap::{Arg, ArgAction, Command, value_parser};
 use std::alloc::{AllocError, Global};
 
@@ -104,7 +105,7 @@ fn budget<'a>(alloc: Global, name: &'a str, default: &'a str, help: &'a str) -> 
     ensures local { result.global ≡ false }
 {
     limit(alloc, name, "BYTES", default, help).value_parser(value_parser!(u32).range(
-        0..=16_777_152,
+        0..=MAX_BUDGET as i64,
     ))
 }
 
@@ -114,7 +115,7 @@ fn step_limit<'a>(alloc: Global) -> Arg<'a>
 {
     let help = "Instructions that the run may make";
     limit(alloc, "steps", "COUNT", "1000000000", help).value_parser(value_parser!(u64).range(
-        1..=1_000_000_000_000,
+        1..=MAX_STEPS as i64,
     ))
 }
 

@@ -14,7 +14,7 @@ use test_tables::words::letters;
 /// What is asked of a row.
 #[derive(Clone, Copy)]
 pub(crate) enum Table {
-    Built(programs::Asked),
+    Built(programs::BuiltQuery),
     Go,
     Writers,
     Images,

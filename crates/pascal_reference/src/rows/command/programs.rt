@@ -97,7 +97,7 @@ pub(crate) fn put_reported(
 
 /// What is asked of the image that is built of a text.
 #[derive(Clone, Copy)]
-pub(crate) enum Asked {
+pub(crate) enum BuiltQuery {
     /// Whether there is one.
     Built,
     /// Its listing.
@@ -111,7 +111,7 @@ pub(crate) fn answer(
     alloc: Global,
     line: &mut Line,
     text: &[u8],
-    asked: Asked,
+    asked: BuiltQuery,
     settings: CallSettings,
 ) -> Result<(), AllocError> {
     match build(alloc, text) {
@@ -131,13 +131,13 @@ fn put_asked(
     alloc: Global,
     line: &mut Line,
     built: &Built,
-    asked: Asked,
+    asked: BuiltQuery,
     settings: CallSettings,
 ) -> Result<(), AllocError> {
     match asked {
-        Asked::Built => line.word("built"),
-        Asked::Listed => line.text(list(alloc, built)),
-        Asked::Ran => return put_run(alloc, line, built.bytes(), settings),
+        BuiltQuery::Built => line.word("built"),
+        BuiltQuery::Listed => line.text(list(alloc, built)),
+        BuiltQuery::Ran => return put_run(alloc, line, built.bytes(), settings),
     }
     Ok(())
 }
