@@ -11,400 +11,24 @@ import os
 import re
 import resource
 import shutil
-import signal
-import subprocess
-from typing import Any, Dict, Iterable, Iterator, List, Optional, Set, Tuple
+from typing import Any, Dict, Iterable, Iterator, List, Optional, Tuple
 
 import kit
 import stubs
 import verdicts
-from functions import Function, functions_of, module_of
-from stubs import Place, Texts
+from beside import Shared, Work, beside, is_library
+from edit import Edit, names_in, side_by_side
+from refusals import is_proved, is_proved_whole, last_line, refused_at, refused_for, told_something, unproved
+from stubs import Texts
 from together import Copy, Together
 
-# what a check ran to, and whether an edit was refused, with what was said
-Ran = subprocess.CompletedProcess
+# whether an edit was refused, with what was said
 Trial = Tuple[bool, str]
-
-# what the kit says of a proof that names what an edit took away, and of what rests on that
-TAKEN_AWAY = r"has no field|is not in scope|has no `|was not admitted"
-# and of what is refused only for what it rests on
-OF_OTHERS = r"which (?:is|are|was|were) not (?:proved|admitted)"
-PLACE = re.compile(r"(?:(?:note|warning): )?(?:\./)?(src/\S+?\.rt):(\d+):\d+: (.*)")
-# what is said against a text
-FAULT = re.compile(r"(note: )?(\./)?(src|specs|proofs)/\S+:\d+:\d+: (error|it is not proved)")
 # the lines of Rust of a crate of which copies are checked whole
 LINES_OF_SMALL = 200
 # the edits of crates that are tried in one check, if a crate has not more by itself; and the bytes that a check takes
 # for a line of a crate more
 MOST_OF_GROUP, BYTES_OF_LINE = 75, 100_000
-
-
-def puts_body(text: str, function: Function, old: str, new: str) -> bool:
-    """Whether a new text for a function's header goes on with the function's own clauses and another body, and then
-    gives what stood behind the header to a function of another name."""
-    lines = text.split("\n")
-    clauses = " ".join(" ".join(lines[function.header + 1 : function.body]).split())
-    rest = lines[function.header].split(f"fn {function.name}", 1)[1]
-    begun = " ".join(part for part in (old.strip(), clauses, "{") if part)
-    given = re.fullmatch(rf"{re.escape(begun)}(.*)\}} fn \w+{re.escape(rest)}", new.strip())
-    return bool(given) and lines[function.header].endswith(old.strip()) and given[1].count("{") == given[1].count("}")
-
-
-class Edit:
-    """A must-fail edit: the pairs of texts that it changes, with the file of each; the function at which it must fail,
-    if a line `at:` tells one; the places of the functions whose bodies it changes, if it changes nothing else; and the
-    names of the functions at which it can be tried, if there are any."""
-
-    def __init__(self, path: str, crate: Any) -> None:
-        self.path, self.name = path, os.path.basename(path)
-        with open(path, encoding="utf-8", errors="replace") as file:
-            self.text = file.read()
-        self.pairs, self.at, at, old = [], None, "", None
-        for line in self.text.split("\n"):
-            if line.startswith("file: "):
-                at = line[6:].strip()
-            elif line.startswith("at: "):
-                self.at = line[4:].strip()
-            elif line.startswith("old: "):
-                old = line[5:]
-            elif line.startswith("new:"):
-                self.pairs.append((at, old, re.sub(r"\A ", "", line[4:])))
-        self.places = self.find(crate)
-        self.names = names_of(self.places, verdicts.facts_of(crate).get("functions", [])) if self.places else None
-        if self.names is None:
-            self.places, self.names = None, [self.at] if self.at else None
-
-    def find(self, crate: Any) -> Optional[Set[Place]]:
-        """The functions whose bodies the edit changes, as (file, name, type), or None where it changes anything
-        else."""
-        places = set()
-        for at, old, new in self.pairs:
-            try:
-                with open(f"{crate.folder}/{at}", encoding="utf-8") as file:
-                    text = file.read()
-            except OSError:
-                return None
-            line = text[: text.find(old)].count("\n") if old and old in text else -1
-            functions = functions_of(text)
-            inside = [function for function in functions if function.body <= line <= function.last and line != function.header]
-            inside += [function for function in functions if line == function.header and puts_body(text, function, old, new)]
-            if not at.startswith("src/") or len(inside) != 1:
-                return None
-            places.add((at, inside[0].name, inside[0].owner))
-        return places
-
-    def apply(self, texts: Texts, crate: Any) -> Optional[Texts]:
-        """The texts with this edit made in them, or None where an old text is not there once."""
-        made = dict(texts)
-        for at, old, new in self.pairs:
-            if at not in made:
-                with open(f"{crate.folder}/{at}", encoding="utf-8") as file:
-                    made[at] = file.read()
-            if made[at].count(old) != 1:
-                return None
-            made[at] = made[at].replace(old, new)
-        return made
-
-
-def names_of(places: Iterable[Place], functions: List[str]) -> Optional[List[str]]:
-    """The names by which a check tells of functions at these places, or None where one fits no name, or several. A
-    method has its type's module, which may be another than its file's, and, where it is a trait's, the trait's name
-    behind the type's."""
-    found = []
-    for at, name, owner in places:
-        wanted = "::".join([*module_of(at), *([owner] if owner else []), name])
-        alike = [function for function in functions if function == wanted]
-        if owner and not alike:
-            alike = [function for function in functions if re.fullmatch(rf"(.*::)?{owner}::{name}", function)]
-            alike = alike or [function for function in functions if re.fullmatch(rf"(.*::)?{owner}\w+::{name}", function)]
-            beside = [name for name in alike if name.split("::")[:-2] == module_of(at)]
-            alike = beside if len(alike) > 1 else alike
-        if len(alike) != 1:
-            return None
-        found += alike
-    return found
-
-
-def side_by_side(edits: Iterable[Edit], crate: Any) -> Tuple[List[Edit], Texts]:
-    """As many of the edits as can stand in one copy, and that copy's texts: none that names the function at which it
-    must fail, no two of one function, none of a function that another's calls, each text still there once."""
-    group, texts, taken, sources = [], {}, set(), stubs.texts_of(crate)
-    for edit in edits:
-        if edit.places is None or edit.at or edit.places & taken or any(calls(other, edit, sources) or calls(edit, other, sources) for other in group):
-            continue
-        made = edit.apply(texts, crate)
-        if made is not None:
-            group.append(edit)
-            texts, taken = made, taken | edit.places
-    return group, texts
-
-
-def calls(one: Edit, other: Edit, sources: Texts) -> bool:
-    """Whether a function that an edit changes, or one in a cycle of calls with it, seems to call one that another
-    changes, which is in no cycle with it."""
-    cycles = stubs.cycles_of(sources, one.places) & stubs.cycles_of(sources, other.places)
-    return not cycles and any(stubs.names(text, place) for text in stubs.bodies_of(sources, one.places) for place in other.places)
-
-
-def refused_at(said: str, texts: Texts, crate: Any) -> Dict[Place, str]:
-    """The places of functions that a check refuses for themselves, with what it said, from its output."""
-    rt, found = kit.rt(), {}
-    spans = {at: functions_of(text) for at, text in texts.items()}
-    for line in said.split("\n"):
-        place = PLACE.match(line)
-        if not place or rt.unread(line, texts) or not re.search(r"not proved|error: ", place[3]) or re.search(OF_OTHERS, place[3]):
-            continue
-        for function in spans.get(place[1], []):
-            if function.top <= int(place[2]) - 1 <= function.last:
-                found.setdefault((place[1], function.name, function.owner), line)
-    for name, of in by_proof_files(said, spans):
-        found.setdefault(of, f"the answers of {name} are refused")
-    return found
-
-
-def by_proof_files(said: str, spans: Dict[str, List[Function]]) -> Iterator[Tuple[str, Place]]:
-    """The functions whose own answers or lemmas in proofs/ are refused: those of a function lie in a folder of its
-    path, and those of a cycle in a folder of their own, each answer named by its function."""
-    error = r"[A-Z]\w+\.antt:\d+:\d+: error: (?!.*(?:is not in scope|has no|was not admitted))"
-    refused = re.findall(rf"(?m)^(?:\./)?proofs/(\S+)/{error}(?:`((?:\w+::)*\w+)-)?", said)
-    for path, member in dict.fromkeys(refused):
-        *above, last = path.split("/")
-        of = [(at, function) for at, functions in spans.items() for function in functions if names_match(at, function, above, last, member)]
-        if len(of) == 1:
-            yield path, (of[0][0], of[0][1].name, of[0][1].owner)
-
-
-def names_match(at: str, function: Function, above: List[str], last: str, member: str) -> bool:
-    """Whether a folder of proofs/ is a function's: by its whole path, or, in a cycle, by that of its member before its
-    answers' names. (A method lies below its type's module, which may be another than its file's.)"""
-    path = [*above, *(member.split("::") if last.startswith("+") else [last])]
-    own = [function.owner, function.name] if function.owner else [function.name]
-    return path == [*module_of(at), *own] or bool(function.owner) and path[-2:] == own
-
-
-class Work:
-    """What the trials of a crate's edits have proved so far, which those that follow need not prove again, in a folder
-    that is made empty here."""
-
-    def __init__(self, crate: Any, flags: List[str]) -> None:
-        self.crate, self.flags, self.at = crate, flags, f"{crate.folder}/out/tried"
-        self.empty()
-
-    def empty(self) -> None:
-        shutil.rmtree(self.at, ignore_errors=True)
-        os.makedirs(self.at)
-        self.is_held = False
-
-    def remove(self) -> None:
-        shutil.rmtree(self.at, ignore_errors=True)
-        shutil.rmtree(self.copy_at(), ignore_errors=True)
-
-    def copy_at(self) -> str:
-        return f"{self.crate.folder}/out/stubbed"
-
-    def checked(self, stubbed: stubs.Stubbed, texts: Texts, names: Iterable[str], keeps: bool = True) -> Ran:
-        """The check of functions of a copy with these texts, which leaves what it proved for later ones, unless it is
-        the only one that is expected. One that is killed, most likely for memory, is made once more, and from nothing,
-        since it may have left something half written."""
-        words = [*self.flags, *(word for name in names for word in ("--only", name))]
-        ran = kit.rt().checked(stubbed.crate, texts, words, self.at if keeps else None)
-        if ran.returncode != -signal.SIGKILL:
-            return ran
-        self.empty()
-        return kit.rt().checked(stubbed.crate, texts, words, self.at)
-
-
-class Beside:
-    """Edits that are tried beside one another, in one copy of a crate. Each is made in a twin of its function, which
-    nothing calls; of a function that can have no twin, as a trait's method, one edit is made in its place, if it has no
-    answers. A member of a cycle of calls has one twin more, as it is, since its answers are cut out of the cycle's, and
-    so has a function whose answers name other proofs. Of all the rest, of which a twin is another by its name alone,
-    one has: the shortest of those with answers, or of all. An edit of few arms of a `match` of many is made in a twin
-    in which the others never return, and that function has a twin more, which has the same arms as they are."""
-
-    def __init__(self, crate: Any, edits: List[Edit], cuts: bool) -> None:
-        self.crate, self.sources, self.cuts = crate, stubs.texts_of(crate), cuts
-        # of each edit, and of each function of which a twin is as it is, the place and the name in the copy; of each
-        # edit the arms that its twin has, if it has not all, and the function whose twin holds it, with that one's arms
-        self.at, self.held, self.arms_of, self.twins = {}, {}, {}, []
-        self.edited, self.in_place = {}, set()
-        beside = [edit for edit in edits if len(edit.places or ()) == 1 and not edit.at]
-        twins = {place for edit in beside for place in edit.places if stubs.can_have_twin(self.sources, place)}
-        alike = {place for place in twins if stubs.differs_by_name(crate, self.sources, place)}
-        self.alike, self.first = alike, min(alike, key=self.order, default=None)
-        for edit in beside:
-            self.add(edit, *edit.places)
-        for edit in beside:
-            self.add_as_it_is(edit, *edit.places)
-        # (what this check proves is kept for those that are tried at functions, in their places or alone)
-        self.keeps = any(names_in(edit) and edit not in self.held for edit in edits)
-
-    def order(self, place: Place) -> Tuple[Any, ...]:
-        """Tells which of the functions that differ from their twins by name alone comes first."""
-        length = next(function.last - function.top for own, function in stubs.all_functions(self.sources) if own == place)
-        return not stubs.has_answers(self.crate, self.sources, place), length, place[0], place[1], place[2] or ""
-
-    def add(self, edit: Edit, place: Place) -> None:
-        if stubs.can_have_twin(self.sources, place):
-            made = edit.apply({}, self.crate)
-            arms = self.arms_of[edit] = self.arms(place, made)
-            self.add_twin(edit, edit, place, made, f"edited{len(self.at)}", arms)
-            self.held[edit] = (self.first, None) if place in self.alike and not arms else (place, arms)
-        elif not stubs.has_answers(self.crate, self.sources, place) and place not in self.in_place:
-            made = edit.apply(self.edited, self.crate)
-            if made is not None:
-                self.edited, self.at[edit], self.held[edit] = made, (place, edit.names[0]), (self.first, None)
-                self.in_place.add(place)
-
-    def add_as_it_is(self, edit: Edit, place: Place) -> None:
-        """Adds the twins of an edit's function as it is that hold edits."""
-        for arms in dict.fromkeys([self.arms_of.get(edit), None]):
-            if (place, arms) in self.held.values() and (place, arms) not in self.at:
-                self.add_twin((place, arms), edit, place, self.sources, f"as_it_is{len(self.at) if arms else ''}", arms)
-
-    def arms(self, place: Place, made: Texts) -> Optional[Tuple[int, ...]]:
-        """The arms to which a twin is cut down, by their numbers, if it is: it can't be where answers in files speak of
-        all of them."""
-        if not self.cuts or stubs.has_answers(self.crate, self.sources, place):
-            return None
-        return stubs.arms_of_edit(stubs.lines_at(self.sources, place), stubs.lines_at(made, place))
-
-    def add_twin(self, key: Any, edit: Edit, place: Place, sources: Texts, ending: str, arms: Optional[Tuple[int, ...]] = None) -> None:
-        twin = stubs.Twin(sources, place, f"{place[1]}_{ending}", arms)
-        self.twins.append(twin)
-        self.at[key] = twin.place, re.sub(r"\w+$", twin.name, edit.names[0])
-
-    def copied(self, work: Work) -> stubs.Stubbed:
-        return stubs.Stubbed(self.crate, work.copy_at(), self.in_place, self.twins)
-
-    def asked(self) -> List[str]:
-        """The names of the twins, and of what is edited in its place."""
-        return [name for _, name in self.at.values()]
-
-    def tried(self, work: Work) -> Optional[Dict[Edit, str]]:
-        """Checks all of them, and returns those that are refused, each with what was said; None where the check tells
-        nothing."""
-        if not self.twins:
-            return {}
-        stubbed = self.copied(work)
-        texts = stubbed.texts(self.edited)
-        said = work.checked(stubbed, texts, self.asked(), self.keeps)
-        return self.judged(said, texts) if told_something(said) else None
-
-    def judged(self, said: Ran, texts: Texts) -> Dict[Edit, str]:
-        """The edits that a check refuses, each with what it said."""
-        found, done = refused_at(said.stdout, texts, self.crate), {}
-        for edit, held in self.held.items():
-            place, name = self.at[edit]
-            _, as_it_is = self.at.get(held, (None, None))
-            why = found.get(place) or unproved(said, self.crate, name)
-            if why and is_proved(said, self.crate, as_it_is):
-                done[edit] = why
-        print(f"{self.crate.name}: of {len(self.held)} edits beside {len(self.at) - len(self.held)} functions as they are, {len(done)} are refused", flush=True)
-        return done
-
-
-def beside(work: Work, edits: List[Edit]) -> Dict[Edit, str]:
-    """Tries edits beside one another, all in one check, and returns those that are refused, each with what was said.
-    Where that tells nothing and twins were cut down to some arms, they are tried with all arms."""
-    trial = Beside(work.crate, edits, cuts=True)
-    done = trial.tried(work)
-    if done is None and any(trial.arms_of.values()):
-        done = Beside(work.crate, edits, cuts=False).tried(work)
-    return done or {}
-
-
-def told_something(said: Ran) -> bool:
-    """Whether a check of functions came to an end, and did not prove all."""
-    if said.returncode == 1 and re.match(r"only=\d+", last_line(said)):
-        return True
-    print(f"a check of edits told nothing: {said.stdout[-400:]}", flush=True)
-    return False
-
-
-def is_proved(said: Ran, crate: Any, name: Optional[str]) -> bool:
-    return f"fn {crate.name}::{name}: proved\n" in said.stdout
-
-
-def unproved(said: Ran, crate: Any, name: str) -> Optional[str]:
-    """The line that tells that no proof of a function was found, where the check says nothing more of it, or None."""
-    return next((line for line in said.stdout.split("\n") if line.startswith(f"fn {crate.name}::{name}: no proof: expected ")), None)
-
-
-class Apart:
-    """Edits at functions that have no twin: those of what stands outside functions that tell one, those of several
-    bodies, and the second of one body that is edited in its place. Each is made in a copy of the crate of its own, where
-    its functions have their bodies. One copy more is as it is: with one function of those that are proved in a copy
-    since they are in the crate, and all others."""
-
-    def __init__(self, work: Work, edits: List[Edit]) -> None:
-        self.crate, self.copies, self.held, self.as_it_is = work.crate, {}, {}, None
-        for number, edit in enumerate(edits):
-            made = edit.apply({}, self.crate)
-            if made is not None:
-                self.copies[edit] = self.copy(work, f"edited{number}", made, names_in(edit))
-        alike = sorted(name for edit in self.copies for name in names_in(edit) if self.differs_by_name(edit))
-        for edit in self.copies:
-            self.held[edit] = alike[:1] if self.differs_by_name(edit) else names_in(edit)
-        if self.copies:
-            self.as_it_is = self.copy(work, "as_it_is", {}, sorted({name for names in self.held.values() for name in names}))
-
-    def differs_by_name(self, edit: Edit) -> bool:
-        """Whether a copy with an edit's functions differs from the crate by its name alone, where these are as they
-        are."""
-        sources, places = stubs.texts_of(self.crate), stubs.places_of(self.crate, names_in(edit))
-        return not stubs.lemmas_name_functions(self.crate) and all(stubs.differs_by_name(self.crate, sources, place) for place in places)
-
-    def copy(self, work: Work, name: str, made: Texts, asked: List[str]) -> Copy:
-        stubbed = stubs.Stubbed(self.crate, f"{work.copy_at()}_{name}", stubs.places_of(self.crate, asked))
-        return Copy(stubbed, f"{self.crate.name}_{name}", stubbed.texts(made), asked)
-
-    def all(self) -> List[Copy]:
-        return [self.as_it_is, *self.copies.values()] if self.copies else []
-
-    def judged(self, ran: Ran) -> Dict[Edit, str]:
-        """The edits of which a check refuses a function in its copy, and proves in the one that is as it is what shows
-        that the edit is why, each with what it said."""
-        done, held = {}, self.as_it_is.said(ran) if self.copies else None
-        for edit, copy in self.copies.items():
-            said, names = copy.said(ran), names_in(edit)
-            why = refused_for(said, copy.texts, [why for why in (unproved(said, self.crate, name) for name in names) if why])
-            if why and any(is_refused(said, self.crate, name) for name in names) and all(is_proved(held, self.crate, name) for name in self.held[edit]):
-                done[edit] = why
-        if self.copies:
-            print(f"{self.crate.name}: of {len(self.copies)} edits in copies of their own {len(done)} are refused", flush=True)
-        return done
-
-
-def is_refused(said: Ran, crate: Any, name: str) -> bool:
-    """Whether a check tells that it found no proof of a function."""
-    return bool(re.search(rf"(?m)^fn {re.escape(crate.name)}::{re.escape(name)}: (not proved|no proof)", said.stdout))
-
-
-class Shared:
-    """What a crate's edits bring into a check of several crates: a copy of the crate with all twins, where there are
-    any, and copies of single edits."""
-
-    def __init__(self, crate: Any, edits: List[Edit], flags: List[str]) -> None:
-        work = Work(crate, flags)
-        self.beside, self.copy = Beside(crate, edits, cuts=True), None
-        self.apart = Apart(work, [edit for edit in edits if names_in(edit) and edit not in self.beside.held])
-        if self.beside.twins:
-            stubbed = self.beside.copied(work)
-            self.copy = Copy(stubbed, f"{crate.name}_edited", stubbed.texts(self.beside.edited), self.beside.asked())
-
-    def copies(self) -> List[Copy]:
-        return [*([self.copy] if self.copy else []), *self.apart.all()]
-
-    def judged(self, ran: Ran) -> Dict[Edit, str]:
-        """The edits that a check refuses, each with what it said."""
-        beside = self.beside.judged(self.copy.said(ran), self.copy.texts) if self.copy else {}
-        return {**beside, **self.apart.judged(ran)}
-
-
-def is_library(crate: Any) -> bool:
-    return os.path.isfile(f"{crate.folder}/src/lib.rt")
 
 
 def tried_together(left: List[Tuple[Any, List[Edit]]], flags: List[str]) -> Dict[str, Dict[Edit, str]]:
@@ -434,10 +58,6 @@ def round_of(stubbed: stubs.Stubbed, work: Work, edits: Iterable[Edit]) -> Dict[
     done = {edit: found[place] for edit in group for place in edit.places if place in found}
     print(f"a round of {len(group)} edits refused {len(done)}", flush=True)
     return done
-
-
-def last_line(ran: Ran) -> str:
-    return ran.stdout.rstrip("\n").split("\n")[-1]
 
 
 class Spent:
@@ -470,11 +90,6 @@ def tried(crate: Any, edit: Edit, flags: List[str]) -> Trial:
     return kind in (rt.REFUSED, rt.AT_LIMIT), said
 
 
-def names_in(edit: Edit) -> List[str]:
-    """The functions at which an edit is tried by itself."""
-    return [edit.at] if edit.at else edit.names or []
-
-
 def named(stubbed: stubs.Stubbed, work: Work, edit: Edit) -> Optional[str]:
     """Tries an edit at its function, and returns why that, or what it calls, is not proved: then the crate is not,
     either. None where that is not told, or only because a proof names what the edit took away."""
@@ -488,16 +103,6 @@ def named(stubbed: stubs.Stubbed, work: Work, edit: Edit) -> Optional[str]:
     if not told or told[1] == told[2]:
         return None
     return refused_for(ran, texts, [why for why in (unproved(ran, work.crate, name) for name in names) if why])
-
-
-def refused_for(ran: Ran, texts: Texts, otherwise: List[str]) -> Optional[str]:
-    """Why a check refuses these texts, by its errors, or by these lines where it tells none; None where it can't read
-    them, tells nothing, or refuses only what names what an edit took away."""
-    lines = ran.stdout.split("\n")
-    if ran.returncode != 1 or any(kit.rt().unread(line, texts) for line in lines):
-        return None
-    errors = [line for line in lines if FAULT.match(line)]
-    return next((line for line in errors or otherwise if not re.search(TAKEN_AWAY, line)), None)
 
 
 def key_of(crate: Any, edit: Edit) -> str:
@@ -635,13 +240,6 @@ class Whole:
         for folder in [empty.folder, *(copy.folder for copy in copies)]:
             shutil.rmtree(folder, ignore_errors=True)
         return done
-
-
-def is_proved_whole(said: Ran) -> bool:
-    """Whether a check says that all functions of a copy are proved, and nothing against any other text of it."""
-    lines = said.stdout.split("\n")
-    functions = [line for line in lines if line.startswith("fn ")]
-    return bool(functions) and all(re.search(r": (proved|assumed)\b", line) for line in functions) and not any(FAULT.match(line) for line in lines)
 
 
 def tried_whole(work: Work, edits: List[Edit], spent: Spent) -> Iterator[Tuple[Edit, Trial]]:
