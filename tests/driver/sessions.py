@@ -17,31 +17,35 @@ PAGES = ("README.md", "docs/MESSAGES.md")
 PROGRAM = re.compile(r"(?ms)^```\n(program .*?)^```$")
 SESSION = re.compile(r"(?m)^    \$ (?:\./)?pascal check (.*)\n((?:    .*\n|\n(?=    [^$\n]))*)")
 SHOWN = re.compile(r"(?m)^ *(\d+) \|(?: (.*))?$")
-# sessions of the second page
-LEAST = 10
+# the fewest sessions of the second page, and the most lines that a session may show otherwise than its program has them
+FEWEST, MOST_CHANGED = 10, 1
 
 
-def with_lines(text: str, shown: str) -> str:
-    """A text with the source lines that a session shows."""
+def with_lines(text: str, shown: str) -> Tuple[str, int]:
+    """A text with the source lines that a session shows, and how many of them it has otherwise."""
     lines = text.split("\n")
-    for number, line in SHOWN.findall(shown):
-        lines[int(number) - 1] = line
-    return "\n".join(lines)
+    changed = [(int(number) - 1, line) for number, line in SHOWN.findall(shown) if lines[int(number) - 1] != line]
+    for at, line in changed:
+        lines[at] = line
+    return "\n".join(lines), len(changed)
 
 
 def sessions_of(page: str) -> Iterator[Tuple[int, str, str, str]]:
-    """The sessions of a page: the line, the words behind `check`, what is shown, and the program that stands last
-    before it, with the lines that are shown."""
+    """The sessions of a page: the line, the words behind `check`, what is shown, and the last program before it."""
     content = text_of(page)
     for session in SESSION.finditer(content):
         programs = PROGRAM.findall(content[: session.start()])
         shown = re.sub(r"(?m)^    ", "", session[2]).strip("\n") + "\n"
-        yield content.count("\n", 0, session.start()) + 1, session[1], shown, with_lines(programs[-1], shown)
+        yield content.count("\n", 0, session.start()) + 1, session[1], shown, programs[-1]
 
 
 def held(words: str, shown: str, text: str, program: str) -> List[str]:
-    """Holds a session, and returns what was shown otherwise than the page says."""
+    """Holds a session of a text with the lines that are shown, and returns what was shown otherwise than the page
+    says."""
     name = words.split()[-1]
+    text, changed = with_lines(text, shown)
+    if changed > MOST_CHANGED:
+        return [f"{changed} lines of the program are shown otherwise"]
     with tempfile.TemporaryDirectory(prefix="session-") as folder:
         with open(f"{folder}/{name}", "w", encoding="utf-8") as file:
             file.write(text)
@@ -54,7 +58,7 @@ def held(words: str, shown: str, text: str, program: str) -> List[str]:
 def are_enough() -> List[str]:
     """The page of messages has as many sessions as it should."""
     count = len(list(sessions_of("docs/MESSAGES.md")))
-    return [] if count >= LEAST else [f"{count} sessions, and {LEAST} are the least"]
+    return [] if count >= FEWEST else [f"{count} sessions, and {FEWEST} are the fewest"]
 
 
 def trials(program: str) -> Iterator[Trial]:

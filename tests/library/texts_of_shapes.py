@@ -1,8 +1,8 @@
 """Pascal texts of a given length, each much of one thing: what a text can be long, wide or deep in.
 
 SHAPES gives them by their names. bench/shapes measures what they cost, tests/shapes tries some of them, made small.
-Names whose hashes are alike are not among them: the hashes begin with a number that is made of the whole text, so that
-none can be chosen.
+Names whose hashes are alike are not among them: the compiler's hashes begin with a number that is made of the whole
+text, so that none can be chosen. Those of the outline, by which `check` tells of a text, begin with a fixed number.
 """
 
 import dataclasses
@@ -456,6 +456,45 @@ def levels_routines(length: int) -> str:
     return filled(head, numbered("procedure b#;begin end;"), "begin end;" * (MOST_LEVELS - 1) + "begin end.\n", length)
 
 
+# as long as the code of texts whose uses are dear just fits into an image
+FITS_HOPS, FITS_SETS, FITS_FIRSTS = 130_000, 40_000, 36_000
+
+
+def levels_hops(length: int, declared: str, statement: str, head: str = "program p; ") -> str:
+    """Statements of the inmost of 15 routines that use what the outermost one declares."""
+    routines = f"procedure a0;{declared}" + "".join(f"procedure a{k};" for k in range(1, MOST_LEVELS))
+    return filled(f"{head}{routines}begin ", statement, " end;" + "begin end;" * (MOST_LEVELS - 1) + "begin end.\n", length)
+
+
+@shape()
+def levels_hops_sums(length: int) -> str:
+    """Sums of a variable 14 levels further out, each use of which goes over 14 static links, in as much code as may be."""
+    return levels_hops(min(length, FITS_HOPS), "var v:integer;", "v:=v" + "+v" * 100 + ";")
+
+
+@shape()
+def levels_hops_indices(length: int) -> str:
+    """The same of indices."""
+    declared = f"type t=1..1;var v:integer;a:array[{','.join('t' * 90)}]of integer;"
+    return levels_hops(min(length, FITS_HOPS), declared, f"v:=a[{','.join('v' * 90)}];")
+
+
+@shape()
+def levels_hops_sets(length: int) -> str:
+    """The same of sets as values."""
+    declared = f"var s:t;procedure q({names('x', MOST_PARAMETERS)}:t);begin end;"
+    calls = f"q({','.join('s' * MOST_PARAMETERS)});"
+    return levels_hops(min(length, FITS_SETS), declared, calls, "program p; type t=set of 1..2; ")
+
+
+@shape()
+def local_wide_many(length: int) -> str:
+    """Routines with 12 variables of a record of 64 fields with different first values, in as much code as may be."""
+    head = f"program p; type r={wide_record(64)}; "
+    routine = numbered(f"procedure a#;var {','.join('bcdefghijklm')}:r;begin end;")
+    return filled(head, routine, " begin end.\n", min(length, FITS_FIRSTS))
+
+
 @shape()
 def levels_results(length: int) -> str:
     """Results of the inmost of 15 functions."""
@@ -855,6 +894,20 @@ def with_lists_of_parameters(length: int) -> str:
 
 
 @shape()
+def with_lists_unlike(length: int) -> str:
+    """`with` statements that open 11 variables of such a type, behind 15 of integers with names of one letter."""
+    listed = ",".join(LETTERS[15:])
+    head = f"{long_type(length)}var {','.join(LETTERS[:15])}:integer;{listed}:tt; begin "
+    return filled(head, f"with {listed} do;", " end.\n", length)
+
+
+@shape()
+def records_alike_of_a_long_type(length: int) -> str:
+    """Record types with 15 fields of such a type."""
+    return filled(long_type(length), numbered(f"r#=record {','.join(LETTERS[:15])}:tt end;"), "begin end.\n", length)
+
+
+@shape()
 def routines_of_a_long_type(length: int) -> str:
     """Routines with 26 variables of such a type."""
     return filled(long_type(length), numbered(f"procedure p#;var {','.join(LETTERS)}:tt;begin end;"), "begin end.\n", length)
@@ -1065,6 +1118,29 @@ def with_lists_deep_64(length: int) -> str:
     return within_lists_deep(length, f"{narrow_types(26)};yy:integer", ",".join(LETTERS), SUM.replace("y", "yy"))
 
 
+def of_other_names(count: int) -> str:
+    """Variables of as many types, each of 40 fields whose names no other has."""
+    names, variables = fields(64 * count), fields(count)
+    lists = (",".join("q" + name for name in names[64 * k : 64 * k + 40]) for k in range(count))
+    return ";".join(f"v{name}:record {listed}:char end" for name, listed in zip(variables, lists))
+
+
+@shape(is_deep=True)
+def with_lists_deep_names(length: int) -> str:
+    """Sums of 26 names within as many `with` statements as may be, each of up to 64 types with fields of other names."""
+    count = max(1, min(64, length // 4000))
+    names = ["z" + letter for letter in LETTERS]
+    declared = f"{of_other_names(count)};{','.join(names)}:integer"
+    return within_lists_deep(length, declared, ",".join("v" + name for name in fields(count)), f"za:={'+'.join(names)};")
+
+
+@shape(is_deep=True)
+def with_deep_of_many_names(length: int) -> str:
+    """`with` statements of the last of types with fields of other names, which are a third of the text, within others."""
+    declared = f"{of_other_names(max(1, length // 650))};b:record x:char end"
+    return within_lists_deep(length, declared, "b", "with b do;")
+
+
 @shape()
 def with_lists_within(length: int) -> str:
     """`with` statements of 40 records, within one of 60."""
@@ -1165,6 +1241,21 @@ def for_deep_branches(length: int) -> str:
 def for_deep_sum(length: int) -> str:
     """A long sum within as many `for` statements as may be, and a call behind it."""
     return within_for(length, "2", "y:=y" + "+y" * 1000 + ";", "y:integer;", "q", "procedure q;begin end;")
+
+
+@shape(is_deep=True)
+def for_deep_read(length: int) -> str:
+    """Variables that are read within as many `for` statements as may be."""
+    opened = "".join(f"for v{k}:=1 to 2 do " for k in range(DEPTH))
+    head = f"program p(input); var y:integer;{names('v', DEPTH)}:integer; begin {opened}begin read(y"
+    return filled(head, ",y", ") end end.\n", length)
+
+
+@shape(is_deep=True)
+def for_deep_passed(length: int) -> str:
+    """Variables that are passed within as many `for` statements as may be."""
+    routine = f"procedure q(var {names('a', MOST_PARAMETERS)}:integer);begin end;"
+    return within_for(length, "2", f"q({','.join('y' * MOST_PARAMETERS)});", "y:integer;", routines=routine)
 
 
 @shape(is_deep=True)
@@ -1682,6 +1773,33 @@ many(
     "levels_last", "routines that are too deep behind others", "program p; ", "procedure a#;begin end;",
     "".join(f"procedure z{k};" for k in range(16)) + "begin end;" * 16 + "begin end.\n",
 )
+
+
+# the text behind each of several faults is checked again, up to some 500,000 bytes: most often where it is 64 KB long
+OFTEN_CHECKED = 65_536
+FAULTS = "".join(f"zz{letter}:=1;" for letter in "abcdefghijklmnopqrstuvwxy")
+
+
+@shape()
+def faults_behind_records(length: int) -> str:
+    """25 faults behind a `with` list of records of 64 fields."""
+    head = f"program p; var {narrow_types(1)}; begin with "
+    return filled(head, "a,", f"a do a0:='a';{FAULTS} end.\n", min(length, OFTEN_CHECKED))
+
+
+@shape(is_deep=True)
+def faults_behind_read(length: int) -> str:
+    """25 faults behind variables that are read within as many `for` statements as may be."""
+    text = for_deep_read(min(length, OFTEN_CHECKED) - len(FAULTS))
+    return text.replace(") end end.", f") end;{FAULTS} end.")
+
+
+@shape()
+def faults_near_names(length: int) -> str:
+    """25 unknown names of 60 letters behind names that differ from them in few."""
+    tail = "".join("x" * 58 + f"{letter}z:=1;" for letter in "abcdefghijklmnopqrstuvwxy") + " end.\n"
+    shorter = min(length, OFTEN_CHECKED)
+    return filled("program p; var ", lambda k: "x" * 55 + f"{k:05d}", ":integer; begin " + tail, shorter, ",")
 
 
 @shape()
