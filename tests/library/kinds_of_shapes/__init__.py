@@ -1,0 +1,1 @@
+"""Shapes of Pascal texts, by what they are much of."""
