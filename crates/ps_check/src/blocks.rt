@@ -24,7 +24,6 @@ use crate::state::{Done, Gathered, Local, Start};
 use ps_check_declarations::declarations::declarations;
 use ps_check_declarations::frame::{Declared, Frame, Parts};
 use ps_check_declarations::points::add_block;
-use ps_check_expressions::changed::Controls;
 use ps_check_expressions::inner::Inner;
 use ps_check_expressions::site::Site;
 use ps_check_judgement::change::Change;
@@ -75,7 +74,6 @@ fn scope_within<'a>(frame: &'a Frame<'a>, known: &'a [Meaning], alike: &'a [usiz
 
 /// The statements of a block and what they change, where its names have these meanings and the routines in it make
 /// these changes.
-#[tactic(auto, unfolding(ps_check_expressions::specs::View::controls_of))]
 fn read_statements(
     list: &[Statement],
     frame: &Frame,
@@ -96,7 +94,7 @@ fn read_statements(
         alloc,
         reading: &reading,
         scope: &scope,
-        controls: &Controls::Outside,
+        controls: &[],
         inner: &inner,
     };
     let mut changes = Vec::new(alloc);

@@ -1,12 +1,11 @@
 -- What the values of the program denote in the definitions.
-use Rattle.std.specs.Prelude.{ℕ, List, [], ◌∷◌, map}
+use Rattle.std.specs.Prelude.{ℕ, List, map}
 use Rattle.ps_tree.specs.View.{type_of, place_of, expr_of, set_of, structure_of}
 use Rattle.ps_check_names.specs.Regions.{Context, Region}
 use Rattle.ps_check_names.specs.Views.{scope_of}
 use Rattle.ps_check_expressions.specs.declared.value.TypedValue.{TypedValue}
 use Rattle.ps_check_expressions.specs.declared.value.TypedValue.TheVariants.{Simple, Set, Structure}
 use Rattle.ps_check_expressions.specs.declared.value.TypedPlace.{TypedPlace}
-use Rattle.ps_check_expressions.specs.declared.changed.Controls.{Controls, Outside, Inside'}
 use Rattle.ps_check_expressions.specs.declared.site.Site.{Site}
 use Rattle.ps_check_expressions.specs.Values.{Value, SimpleValue, SetValue, StructureValue, Variable}
 
@@ -18,11 +17,6 @@ value_of (Structure value ty) = StructureValue (structure_of value) (type_of ty)
 abbrev pub variable_of : TypedPlace → Variable
 variable_of v = record { place = place_of v.place; type = type_of v.ty; in_packed = v.in_packed }
 
--- the entries of control variables
-unfoldable pub controls_of : Controls → List ℕ
-controls_of Outside = []
-controls_of (Inside' entry p outer) = entry ∷ controls_of outer
-
 -- the context and the regions of a place in the program
 abbrev pub context_at : Site → Context
 context_at site = record {
@@ -30,17 +24,17 @@ context_at site = record {
   domains = map type_of site.reading.now.domains.now;
   has_input = site.reading.now.has_input;
   has_output = site.reading.now.has_output;
-  controls = controls_of site.controls.now;
+  controls = site.controls.now;
   inner = site.inner.now.changes.now;
 }
 
-abbrev pub with_controls : Context → Controls → Context
+abbrev pub with_controls : Context → List ℕ → Context
 with_controls c controls = record {
   text = c.text;
   domains = c.domains;
   has_input = c.has_input;
   has_output = c.has_output;
-  controls = controls_of controls;
+  controls = controls;
   inner = c.inner;
 }
 

@@ -1,47 +1,16 @@
 //! What is changed: variables that are assigned to, read, counted or passed as variable parameters (ISO 7185, 6.8.3.9),
 //! and results of functions (6.6.2).
 
-ghost use Rattle.std.specs.Prelude.{◌≡◌, ◌==◌};
-ghost use Rattle.std.specs.List.{list_any};
 ghost use Rattle.ps_tree.specs.View.{place_of};
 ghost use Rattle.ps_check_judgement.specs.Judged.{Answers};
 ghost use Rattle.ps_check_expressions.specs.Changed.{changed_entry, changed};
-ghost use Rattle.ps_check_expressions.specs.View.{context_at, controls_of};
+ghost use Rattle.ps_check_expressions.specs.View.{context_at};
 
 use crate::site::Site;
 use ps_check_judgement::answer::broken;
 use ps_check_judgement::change::Change;
 use ps_check_judgement::refusal::{CheckFault, Rule};
 use ps_tree::tree::{Place, PlaceBase};
-
-/// The control variables of the `for` statements around a place, by their entries, innermost first.
-#[derive(Clone, Copy)]
-pub enum Controls<'a> {
-    Outside,
-    Inside { entry: u32, outer: &'a Controls<'a> },
-}
-
-/// Whether an entry is that of a control variable.
-#[tactic(auto, unfolding(crate::specs::View::controls_of))]
-fn has_entry(controls: &Controls, entry: u32) -> bool
-    ensures { result ≡ list_any (λ e. e == entry) (controls_of controls.now) }
-{
-    let mut here = controls;
-    loop {
-        match here {
-            Controls::Outside => return false,
-            Controls::Inside {
-                entry: control,
-                outer,
-            } => {
-                if *control == entry {
-                    return true;
-                }
-                here = outer;
-            }
-        }
-    }
-}
 
 /// Adds the change of an entry that is not the control variable of an enclosing `for` statement.
 #[tactic(auto, unfolding(crate::specs::Changed::changed_entry))]
@@ -53,7 +22,7 @@ pub fn changed_entry(
     ensures { Answers result (λ _. (tt, changes.new.items))
         (changed_entry (context_at site.entry) change.up change.entry change.at changes.old.items) }
 {
-    if change.up == 0 && has_entry(site.controls, change.entry) {
+    if change.up == 0 && site.controls.contains(&change.entry) {
         return Err(broken(Rule::ControlVariable, change.at));
     }
     changes.push(change)?;

@@ -6,7 +6,6 @@ ghost use Rattle.ps_check_names.specs.Views.{scope_of, point_of};
 ghost use Rattle.ps_check_expressions.specs.Names.{denoted};
 ghost use Rattle.ps_check_expressions.specs.View.{context_at, regions_at, with_controls};
 
-use crate::changed::Controls;
 use crate::inner::Inner;
 use ps_check_judgement::refusal::CheckFault;
 use ps_check_names::reading::Reading;
@@ -15,13 +14,14 @@ use ps_text::Span;
 use std::alloc::Global;
 
 /// What the typing at a place of the program needs: the text that is read, the regions that enclose the place, the
-/// control variables of the enclosing `for` statements, and what the routines of its block change.
+/// control variables of the enclosing `for` statements by their entries, innermost first, and what the routines of its
+/// block change.
 #[derive(Clone, Copy)]
 pub struct Site<'a> {
     pub alloc: Global,
     pub reading: &'a Reading<'a>,
     pub scope: &'a Scope<'a>,
-    pub controls: &'a Controls<'a>,
+    pub controls: &'a [u32],
     pub inner: &'a Inner<'a>,
 }
 
@@ -51,7 +51,7 @@ impl<'a> Site<'a> {
     }
 
     /// The same place within a `for` statement.
-    pub fn with_controls<'b>(self, controls: &'b Controls<'b>) -> Site<'b>
+    pub fn with_controls<'b>(self, controls: &'b [u32]) -> Site<'b>
     where
         'a: 'b,
         ensures context { context_at result ≡ with_controls (context_at self.entry) controls.now }

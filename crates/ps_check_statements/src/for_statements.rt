@@ -1,6 +1,6 @@
 // What comes before `do` in a `for` statement (6.8.3.9).
 
-ghost use Rattle.std.specs.Prelude.{◌≡◌};
+ghost use Rattle.std.specs.Prelude.{◌≡◌, ◌∷◌, IfOk};
 ghost use Rattle.ps_tree.specs.View.{type_of, expr_of, statement_of};
 ghost use Rattle.ps_check_judgement.specs.Judged.{Answers};
 ghost use Rattle.ps_check_names.specs.Views.{point_of};
@@ -24,8 +24,10 @@ use ps_text::Span;
 use ps_tree::line::Line;
 use ps_tree::tree::{Direction, Expr, Statement};
 use ps_tree::types::{Ordinal, Ty, compatible};
+use std::alloc::{AllocError, Global};
 
-/// The control variable by its entry, with its type, and the bounds with the lines of their first tokens.
+/// The control variable by its entry, with its type, the bounds with the lines of their first tokens, and the control
+/// variables of the `for` statements around the repeated statement, innermost first.
 #[derive(Drop)]
 pub struct Head {
     pub variable: u32,
@@ -35,6 +37,7 @@ pub struct Head {
     pub direction: Direction,
     pub last: Box<Expr>,
     pub last_line: Line,
+    pub controls: Vec<u32>,
 }
 
 /// The control variable that a name denotes; the name is at `at`.
@@ -152,6 +155,16 @@ fn unthreatened(site: Site<'_>, variable: u32) -> Result<(), CheckFault>
     }
 }
 
+/// Control variables, with one more before them.
+fn with_one(alloc: Global, controls: &[u32], variable: u32) -> Result<Vec<u32>, AllocError>
+    ensures { IfOk result (λ all. all.items ≡ variable ∷ controls.now) }
+{
+    let mut all = Vec::new(alloc);
+    all.push(variable)?;
+    all.extend_from_slice(controls)?;
+    Ok(all)
+}
+
 /// The head of a `for` statement: the name of the control variable, and the bounds.
 pub(crate) fn for_head(
     site: Site<'_>,
@@ -161,10 +174,12 @@ pub(crate) fn for_head(
     way: Way,
     to: &Syntax,
 ) -> Result<Head, CheckFault>
-    ensures { Answers result (λ h. (head_of h, changes.new.items))
+    ensures controls { IfOk result (λ h. h.controls.items ≡ h.variable ∷ site.entry.controls.now) }
+    ensures head { Answers result (λ h. (head_of h, changes.new.items))
         (for_head (context_at site.entry) (regions_at site.entry) name from.now way to.now changes.old.items) }
 {
     let (variable, ordinal) = control_of(site, changes, name)?;
+    let controls = with_one(site.alloc, site.controls, variable)?;
     let first = boxed_bound(from, site, changes, ordinal);
     let (first, last) = paired(first, boxed_bound(to, site, changes, ordinal))?;
     Ok(Head {
@@ -175,6 +190,7 @@ pub(crate) fn for_head(
         direction: direction_of(way),
         last,
         last_line: site.reading.line(to.first_token()),
+        controls,
     })
 }
 

@@ -13,7 +13,6 @@ use crate::for_statements::{for_head, repeated};
 use crate::procedure::procedure_statement;
 use crate::with_statements::open_all;
 use indexmap::IndexSet;
-use ps_check_expressions::changed::Controls;
 use ps_check_expressions::expression::expr_value;
 use ps_check_expressions::function::ordinal_of;
 use ps_check_expressions::site::Site;
@@ -315,11 +314,7 @@ fn for_statement(
         (spec.statement body.now) changes.old.items) }
 {
     let head = for_head(site, changes, name, first, way, last)?;
-    let controls = Controls::Inside {
-        entry: head.variable,
-        outer: site.controls,
-    };
-    let body = boxed(body, site.with_controls(&controls), changes);
+    let body = boxed(body, site.with_controls(head.controls.as_slice()), changes);
     let (head, body) = paired(Ok(head), body)?;
     Ok(repeated(head, body, name.from))
 }

@@ -5,7 +5,6 @@ use crate::types::{put_fields, put_relation, put_sizes};
 use ps_check_declarations::declarations::declarations;
 use ps_check_declarations::frame::{Declared, Frame, Parts};
 use ps_check_declarations::points::add_block;
-use ps_check_expressions::changed::Controls;
 use ps_check_expressions::expression::{expr_value, variable_place};
 use ps_check_expressions::inner::Inner;
 use ps_check_expressions::site::Site;
@@ -278,7 +277,7 @@ fn put_within(
         alloc,
         reading,
         scope: &scope,
-        controls: &Controls::Outside,
+        controls: &[],
         inner: &inner,
     };
     put_below(

@@ -6,16 +6,16 @@ use Rattle.ps_check_expressions.proofs.RoutineLemmas.{next_yes}
 use Rattle.ps_check_statements.specs.Structured.{bound_at}
 use Rattle.ps_check_statements.proofs.for_statements.for_head.Goals as goal
 
-pub returns-in_err-first : goal.returns-in_err-first
-returns-in_err-first c =
+pub returns-in_err-first-clause-head : goal.returns-in_err-first-clause-head
+returns-in_err-first-clause-head c =
     handed_on _ _ _ _ c.from_residual-in_err-first.ensures.1
     (rw c.in_ok-variable.ensures (next_told _ _ (λ e. expr_of e.value)
     (λ e. (expr_of e.value, c.boxed_bound.new.changes.items)) c.boxed_bound-first.new.changes.items _
     (bound_at (context_at c.args.site) (regions_at c.args.site) c.in_ok-variable.ordinal c.args.to.now) _ _
     c.boxed_bound-first.ensures c.boxed_bound.ensures c.in_err-first.ensures))
 
-pub returns : goal.returns
-returns c =
+pub returns-clause-head : goal.returns-clause-head
+returns-clause-head c =
     rw (
       c.in_ok-variable.ensures,
       c.line.ensures,

@@ -4,7 +4,7 @@ use Rattle.ps_tree.specs.View.{expr_of, statement_of, statements_of}
 use Rattle.ps_tree.proofs.StatementLemmas.{statement_of_Case, statement_of_Compound, statement_of_Repeat}
 use Rattle.ps_check_judgement.proofs.Lists.{handed_on, told_bind}
 use Rattle.ps_check_judgement.proofs.Pairs.{next_told}
-use Rattle.ps_check_expressions.specs.View.{context_at, regions_at, controls_of}
+use Rattle.ps_check_expressions.specs.View.{context_at, regions_at}
 use Rattle.ps_check_expressions.proofs.RoutineLemmas.{still_answers, next_yes}
 use Rattle.ps_check_statements.specs.Statements as spec
 use Rattle.ps_check_statements.specs.View.{element_of}
@@ -165,23 +165,31 @@ repeat_statement-returns t c =
 
 pub for_statement-returns-in_err-head : goal.for_statement-returns-in_err-head
 for_statement-returns-in_err-head t c = handed_on _ _ _ _ c.from_residual.ensures.1
-    (told_bind _ _ _ c.in_err-head.ensures)
+    (told_bind _ _ _ c.in_err-head.ensures.head)
 
 pub for_statement-returns-in_err-head-2 : goal.for_statement-returns-in_err-head-2
-unfolding controls_of
 for_statement-returns-in_err-head-2 t c =
-    let h = rw (c.with_controls.ensures.context, c.with_controls.ensures.regions) at c.boxed-body.ensures in
+    let h = rw (
+      c.with_controls.ensures.context,
+      c.with_controls.ensures.regions,
+      c.as_slice.ensures.value,
+      c.in_ok-head.ensures.controls,
+    ) at c.boxed-body.ensures in
     handed_on _ _ _ _ c.from_residual-in_err-head-2.ensures.1
-    (rw c.in_ok-head.ensures (second_told c.in_ok-head.head c.boxed-body.result
+    (rw c.in_ok-head.ensures.head (second_told c.in_ok-head.head c.boxed-body.result
     (λ s. (statement_of s.value, c.boxed-body.new.changes.items)) _ _ _ h c.in_err-head-2.ensures))
 
 pub for_statement-returns : goal.for_statement-returns
-unfolding controls_of
 for_statement-returns t c =
-    let h = rw (c.with_controls.ensures.context, c.with_controls.ensures.regions) at c.boxed-body.ensures in
+    let h = rw (
+      c.with_controls.ensures.context,
+      c.with_controls.ensures.regions,
+      c.as_slice.ensures.value,
+      c.in_ok-head.ensures.controls,
+    ) at c.boxed-body.ensures in
     let parts = second_yes c.in_ok-head.head c.boxed-body.result
     (λ s. (statement_of s.value, c.boxed-body.new.changes.items)) _ _ _ h c.in_ok-head-2.ensures in
-    rw (c.in_ok-head.ensures, parts.1, parts.0, c.repeated.ensures) refl
+    rw (c.in_ok-head.ensures.head, parts.1, parts.0, c.repeated.ensures) refl
 
 -- ---- one construct
 
