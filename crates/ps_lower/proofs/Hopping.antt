@@ -5,7 +5,8 @@ use Rattle.std.proofs.lemmas.List.{append-nil}
 use Rattle.tac_code.specs.declared.code.Base.TheVariants as base
 use Rattle.tac_code.specs.declared.code.Instruction.{Instruction}
 use Rattle.tac_code.specs.declared.code.Instruction.TheVariants as i
-use Rattle.ps_lower_code.specs.Scopes.{Scope, is_outermost, hops, frame_code, frame_base, link_code}
+use Rattle.ps_lower_code.specs.Scopes.{Scope, is_outermost, hops, hops_in_turns, is_far, way_out, frame_code}
+use Rattle.ps_lower_code.specs.Scopes.{frame_base, link_code}
 use Rattle.ps_lower.proofs.Appends.{and_then, unchanged}
 use Rattle.ps_lower.proofs.Arms.{behind}
 
@@ -42,6 +43,18 @@ hopped_all k a count start n now h s =
     ∙ (let j : 0 ≡ count - n = omega arith in ap (λ y. now ++ again a y) j)
     ∙ s.left ∙ ap (λ l. start ++ l) (sym (hops_again k a 1 count))
 
+-- ---- by what is shorter
+
+pub far_way : {X E : Type 0} (k : Scope) (a count : ℕ) (r : Result X E) (old new : List Instruction) → true
+    ≡ is_far count → OnOk r (new ≡ old ++ hops_in_turns k a count) → OnOk r (new ≡ old ++ way_out k a count)
+far_way k a count r old new e h = subst
+    (λ b. OnOk r (new ≡ old ++ (if b then hops_in_turns k a count else hops k a 1 count))) e h
+
+pub near_way : {X E : Type 0} (k : Scope) (a count : ℕ) (r : Result X E) (old new : List Instruction) → false
+    ≡ is_far count → OnOk r (new ≡ old ++ hops k a 1 count) → OnOk r (new ≡ old ++ way_out k a count)
+near_way k a count r old new e h = subst
+    (λ b. OnOk r (new ≡ old ++ (if b then hops_in_turns k a count else hops k a 1 count))) e h
+
 -- ---- the frame this many levels up
 
 pub own_code : (k : Scope) (a up : ℕ) (old : List Instruction) → up ≡ 0 → old ≡ old ++ frame_code k a up
@@ -54,20 +67,20 @@ pub outer_code : (k : Scope) (a up : ℕ) (old : List Instruction) → ¬ (up �
     ++ frame_code k a up
 outer_code k a zero old h e = absurd (h refl)
 outer_code k a (suc up) old h e = unchanged old
-    ∙ ap (λ b. old ++ (if b then [] else (i.Load a base.Frame 0 ∷ hops k a 1 up))) e
+    ∙ ap (λ b. old ++ (if b then [] else (i.Load a base.Frame 0 ∷ way_out k a up))) e
 
 pub outer_base : (k : Scope) (a up : ℕ) → ¬ (up ≡ 0) → true ≡ is_outermost k up → base.Program ≡ frame_base k a up
 outer_base k a zero h e = absurd (h refl)
 outer_base k a (suc up) h e = ap (λ b. if b then base.Program else base.Temporary a) e
 
 pub between_code : (k : Scope) (a up less : ℕ) (old middle new : List Instruction) → ¬ (up ≡ 0) → false
-    ≡ is_outermost k up → less ≡ up - 1 → middle ≡ old ++ i.Load a base.Frame 0 ∷ [] → new ≡ middle ++ hops k a 1 less
+    ≡ is_outermost k up → less ≡ up - 1 → middle ≡ old ++ i.Load a base.Frame 0 ∷ [] → new ≡ middle ++ way_out k a less
     → new ≡ old ++ frame_code k a up
 between_code k a zero less old middle new h e l p q = absurd (h refl)
 between_code k a (suc up) less old middle new h e l p q =
-    and_then old middle new (i.Load a base.Frame 0 ∷ []) (hops k a 1 less) p q
-    ∙ (let j : less ≡ up = omega (arith, l) in ap (λ n. old ++ i.Load a base.Frame 0 ∷ hops k a 1 n) j)
-    ∙ ap (λ b. old ++ (if b then [] else (i.Load a base.Frame 0 ∷ hops k a 1 up))) e
+    and_then old middle new (i.Load a base.Frame 0 ∷ []) (way_out k a less) p q
+    ∙ (let j : less ≡ up = omega (arith, l) in ap (λ n. old ++ i.Load a base.Frame 0 ∷ way_out k a n) j)
+    ∙ ap (λ b. old ++ (if b then [] else (i.Load a base.Frame 0 ∷ way_out k a up))) e
 
 pub between_base : (k : Scope) (a up : ℕ) → ¬ (up ≡ 0) → false ≡ is_outermost k up → base.Temporary a
     ≡ frame_base k a up
@@ -86,15 +99,15 @@ pub outer_link : {X E : Type 0} (k : Scope) (a up : ℕ) (r : Result X E) (old n
 outer_link k a zero r old new h e p = absurd (h refl)
 outer_link k a (suc up) r old new h e p = subst
     (λ b. OnOk r (new ≡ old ++ (if b then i.Offset a base.Program 0 0 ∷ []
-    else (i.Load a base.Frame 0 ∷ hops k a 1 up)))) e p
+    else (i.Load a base.Frame 0 ∷ way_out k a up)))) e p
 
 pub between_link : {X E : Type 0} (k : Scope) (a up less : ℕ) (r : Result X E) (old middle new : List Instruction) → ¬
     (up ≡ 0) → false ≡ is_outermost k up → less ≡ up - 1 → middle ≡ old ++ i.Load a base.Frame 0 ∷ [] → OnOk r
-    (new ≡ middle ++ hops k a 1 less) → OnOk r (new ≡ old ++ link_code k a up)
+    (new ≡ middle ++ way_out k a less) → OnOk r (new ≡ old ++ link_code k a up)
 between_link k a zero less r old middle new h e l p q = absurd (h refl)
 between_link k a (suc up) less r old middle new h e l p q =
     subst (λ b. OnOk r (new ≡ old ++ (if b then i.Offset a base.Program 0 0 ∷ []
-    else (i.Load a base.Frame 0 ∷ hops k a 1 up)))) e
+    else (i.Load a base.Frame 0 ∷ way_out k a up)))) e
     (let j : less ≡ up = omega (arith, l) in
-    subst (λ n. OnOk r (new ≡ old ++ i.Load a base.Frame 0 ∷ hops k a 1 n)) j
-    (behind r new middle old (i.Load a base.Frame 0 ∷ []) (hops k a 1 less) p q))
+    subst (λ n. OnOk r (new ≡ old ++ i.Load a base.Frame 0 ∷ way_out k a n)) j
+    (behind r new middle old (i.Load a base.Frame 0 ∷ []) (way_out k a less) p q))

@@ -236,7 +236,7 @@ pub fn routine_value(
     up: u32,
     t: u32,
 ) -> Result<(), AllocError>
-    requires { t ≤ 4294960000 }
+    requires { t ≤ 4294950000 }
     ensures { OnOk result (out.new ≡ out.old
         ++ i.RoutineValue t routine ∷ link_code (scope_of level.now) (beside t) up) }
 {

@@ -1,19 +1,20 @@
 // The frames of the routines enclosing a routine, the entries in them, and the numbers of run-time routines.
 
-ghost use Rattle.std.specs.Prelude.{◌≡◌, ◌≤◌, ◌+◌, ◌++◌, get_or, length, OnOk, IfOk};
+ghost use Rattle.std.specs.Prelude.{◌≡◌, ◌≤◌, ◌+◌, ◌++◌, get_or, length, OnOk, IfOk, IsTrue};
 ghost use Rattle.tac_rt.specs.Numbers.{run_time_number};
-ghost use Rattle.ps_lower_code.specs.Scopes.{kind_at, routine_up, is_outermost, hops, frame_code, frame_base};
-ghost use Rattle.ps_lower_code.specs.Scopes.{link_code, formal_code};
+ghost use Rattle.ps_lower_code.specs.Scopes.{kind_at, routine_up, is_outermost, hops, hops_in_turns, is_far, way_out};
+ghost use Rattle.ps_lower_code.specs.Scopes.{frame_code, frame_base, link_code, formal_code};
 ghost use Rattle.ps_lower_layout.specs.Frames.{entry_offset};
 ghost use Rattle.ps_lower.specs.Levels.{scope_of, is_reference_at};
 ghost use Rattle.ps_tree.specs.Checked.{program_in};
 
 use crate::depth::{MAX_NUMBER, beside};
 use crate::frame::Spot;
+use crate::helpers::amount;
 use crate::level::Level;
 use crate::out::Code;
 use std::alloc::AllocError;
-use tac_code::code::Base;
+use tac_code::code::{Base, BitOperator, Instruction, Operand, Relation};
 use tac_rt::RunTime;
 
 /// Whether the frame `up` levels out is the program block's.
@@ -23,7 +24,7 @@ fn is_outermost(level: &Level, up: u32) -> bool
     u64::from(up) + 1 == level.chain.len() as u64
 }
 
-/// From the frame whose address is in a temporary, `count` levels further out.
+/// From the frame whose address is in a temporary, `count` levels further out, by a load for each.
 fn hops(out: &mut Code, level: &Level, t: u32, count: u32) -> Result<(), AllocError>
     ensures { OnOk result (out.new ≡ out.old ++ hops (scope_of level.now) t 1 count) }
 {
@@ -33,8 +34,47 @@ fn hops(out: &mut Code, level: &Level, t: u32, count: u32) -> Result<(), AllocEr
     Ok(())
 }
 
+/// The same by a loop, which counts the levels that are left in the temporary beside.
+fn hops_in_turns(out: &mut Code, level: &Level, t: u32, count: u32) -> Result<(), AllocError>
+    requires depth { t ≤ 4294960000 }
+    requires few { count ≤ MAX_NUMBER }
+    ensures { OnOk result (out.new ≡ out.old ++ hops_in_turns (scope_of level.now) t count) }
+{
+    let left = beside(t);
+    amount(out, count, left)?;
+    out.load(t, Base::Temporary(t), 0)?;
+    out.bits(BitOperator::Plus, left, left, Operand::Number(-1))?;
+    out.push(Instruction::BranchBack {
+        relation: Relation::NotEqual,
+        left,
+        right: Operand::Number(0),
+        back: 2,
+    })
+}
+
+/// Whether a loop is shorter than so many loads; it is for few levels, as routines are within few others.
+fn is_far(count: u32) -> bool
+    ensures far { result ≡ is_far count }
+    ensures few { IsTrue result → count ≤ MAX_NUMBER }
+{
+    4 < count && count < 16
+}
+
+/// From the frame whose address is in a temporary, `count` levels further out.
+fn way_out(out: &mut Code, level: &Level, t: u32, count: u32) -> Result<(), AllocError>
+    requires { t ≤ 4294960000 }
+    ensures { OnOk result (out.new ≡ out.old ++ way_out (scope_of level.now) t count) }
+{
+    if is_far(count) {
+        hops_in_turns(out, level, t, count)
+    } else {
+        hops(out, level, t, count)
+    }
+}
+
 /// Reaches the frame `up` levels out, and gives the base from which its parts are then addressed.
 pub fn frame(out: &mut Code, level: &Level, t: u32, up: u32) -> Result<Base, AllocError>
+    requires { t ≤ 4294960000 }
     ensures code { OnOk result (out.new ≡ out.old ++ frame_code (scope_of level.now) t up) }
     ensures base { IfOk result (λ base. base ≡ frame_base (scope_of level.now) t up) }
 {
@@ -45,12 +85,13 @@ pub fn frame(out: &mut Code, level: &Level, t: u32, up: u32) -> Result<Base, All
         return Ok(Base::Program);
     }
     out.load(t, Base::Frame, 0)?;
-    hops(out, level, t, up - 1)?;
+    way_out(out, level, t, up - 1)?;
     Ok(Base::Temporary(t))
 }
 
 /// The address of the frame `up` levels out.
 pub fn link(out: &mut Code, level: &Level, t: u32, up: u32) -> Result<(), AllocError>
+    requires { t ≤ 4294960000 }
     ensures { OnOk result (out.new ≡ out.old ++ link_code (scope_of level.now) t up) }
 {
     if up == 0 {
@@ -60,7 +101,7 @@ pub fn link(out: &mut Code, level: &Level, t: u32, up: u32) -> Result<(), AllocE
         return out.offset(t, Base::Program, 0, 0);
     }
     out.load(t, Base::Frame, 0)?;
-    hops(out, level, t, up - 1)
+    way_out(out, level, t, up - 1)
 }
 
 /// The number of the routine `up` levels out; 0 where there is none.

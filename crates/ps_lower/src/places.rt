@@ -130,7 +130,8 @@ fn field(level: &Level, field: &OpenedField) -> Site
 
 /// What a name denotes.
 pub fn name(out: &mut Code, level: &Level, name: &PlaceBase, t: u32) -> Result<Site, AllocError>
-    requires { name_reach (scope_of level.now) (base_of name.now) ≤ MAX_NUMBER }
+    requires depth { t ≤ 4294960000 }
+    requires reach { name_reach (scope_of level.now) (base_of name.now) ≤ MAX_NUMBER }
     ensures code { OnOk result (out.new ≡ out.old ++ name_code (scope_of level.now) (base_of name.now) t) }
     ensures site { IfOk result (λ s. site_of s ≡ name_site (scope_of level.now) (base_of name.now) t) }
 {

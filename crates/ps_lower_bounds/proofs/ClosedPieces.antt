@@ -25,7 +25,8 @@ use Rattle.ps_lower_layout.specs.Frames.{Kind, Own, Reference, Closure}
 use Rattle.ps_lower_code.specs.Fits.{FunctionFits, ExprFits}
 use Rattle.ps_lower_code.specs.Scopes.{beside, moved, least, greatest, range_code, is_any, check_code, has_bytes}
 use Rattle.ps_lower_code.specs.Scopes.{fitting_code, operand_check, operand_of, Site, Scope, kind_at, is_outermost}
-use Rattle.ps_lower_code.specs.Scopes.{hops, frame_code, link_code, formal_code, words_code}
+use Rattle.ps_lower_code.specs.Scopes.{hops, hops_in_turns, is_far, way_out, frame_code, link_code, formal_code}
+use Rattle.ps_lower_code.specs.Scopes.{words_code}
 use Rattle.ps_lower_code.specs.Values.{negated, literal_of, is_relation, is_truth, right_in, relation_code, finish}
 use Rattle.ps_lower_code.specs.Values.{truth_finish, load_code, store_code, index_code, function_code, minus_code}
 use Rattle.ps_lower_code.specs.Values.{reference_code, name_code, holds_all, outside_bits, masked, joined_word}
@@ -157,14 +158,23 @@ module _ (R T : ℕ) (k : Scope) where
   hops_closed t level zero b = tt
   hops_closed t level (suc up) b = (tt, tt, hops_closed t (suc level) up (suc b))
 
+  way_closed : (t up b : ℕ) → Closed R T b 0 (way_out k t up)
+  way_closed t up b = go (is_far up) refl
+    where
+      go : (q : Bool) → is_far up ≡ q → Closed R T b 0 (if q then hops_in_turns k t up else hops k t 1 up)
+      go true q =
+          let l = ltb-true up 16 (and_parts (nat_lt 4 up) (nat_lt up 16) q).1 in
+          (omega (arith, l), tt, (tt, tt, (omega arith, tt, (omega arith, omega arith, tt))))
+      go false q = hops_closed t 1 up b
+
   pub frame_closed : (t up : ℕ) → Closed R T 0 0 (frame_code k t up)
   frame_closed t zero = tt
-  frame_closed t (suc up) = either R T (is_outermost k (suc up)) [] _ tt (tt, tt, hops_closed t 1 up 1)
+  frame_closed t (suc up) = either R T (is_outermost k (suc up)) [] _ tt (tt, tt, way_closed t up 1)
 
   pub link_closed : (t up : ℕ) → Closed R T 0 0 (link_code k t up)
   link_closed t zero = (tt, tt, tt)
   link_closed t (suc up) = either R T (is_outermost k (suc up)) (i.Offset t base.Program 0 0 ∷ []) _ (tt, tt, tt)
-      (tt, tt, hops_closed t 1 up 1)
+      (tt, tt, way_closed t up 1)
 
   pub formal_closed : (t up index : ℕ) → Closed R T 0 0 (formal_code k t up index)
   formal_closed t up index = both R T (frame_code k t up) _ (frame_closed t up) (tt, tt, (tt, tt, tt))

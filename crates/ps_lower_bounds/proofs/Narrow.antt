@@ -18,8 +18,9 @@ use Rattle.ps_lower_layout.specs.Shapes.{word_counts, byte_count, component_byte
 use Rattle.ps_lower_layout.specs.Shapes.{words_before, field_part, Part, Whole, Byte, component_part}
 use Rattle.ps_lower_layout.specs.Frames.{Kind, Own, Reference, Closure, entries, entry_offset, input_offset}
 use Rattle.ps_lower_code.specs.Fits.{shape_in, CountIs, BaseFits}
-use Rattle.ps_lower_code.specs.Scopes.{Site, Scope, unless_known, routine_up, kind_at, is_outermost, hops, frame_code}
-use Rattle.ps_lower_code.specs.Scopes.{frame_base, link_code, formal_code, site_code, words_code}
+use Rattle.ps_lower_code.specs.Scopes.{Site, Scope, unless_known, routine_up, kind_at, is_outermost, hops}
+use Rattle.ps_lower_code.specs.Scopes.{hops_in_turns, is_far, way_out, frame_code, frame_base, link_code, formal_code}
+use Rattle.ps_lower_code.specs.Scopes.{site_code, words_code}
 use Rattle.ps_lower_code.specs.Values.{known_steps, element_site, load_code, store_code, index_code, field_site}
 use Rattle.ps_lower_code.specs.Values.{reference_code, entry_site, name_code, name_site}
 use Rattle.ps_lower_bounds.proofs.Few.{HasComponents}
@@ -214,14 +215,18 @@ module _ (k : Scope) where
   hops_narrow t level zero = tt
   hops_narrow t level (suc up) = (omega arith, hops_narrow t (suc level) up)
 
+  way_narrow : (t up : ℕ) → Narrow (way_out k t up)
+  way_narrow t up = either (is_far up) (hops_in_turns k t up) (hops k t 1 up) (tt, (omega arith, (tt, (tt, tt))))
+      (hops_narrow t 1 up)
+
   pub frame_narrow : (t up : ℕ) → Narrow (frame_code k t up)
   frame_narrow t zero = tt
-  frame_narrow t (suc up) = either (is_outermost k (suc up)) [] _ tt (omega arith, hops_narrow t 1 up)
+  frame_narrow t (suc up) = either (is_outermost k (suc up)) [] _ tt (omega arith, way_narrow t up)
 
   pub link_narrow : (t up : ℕ) → Narrow (link_code k t up)
   link_narrow t zero = omega arith
   link_narrow t (suc up) = either (is_outermost k (suc up)) (Offset t base.Program 0 0 ∷ []) _ (omega arith)
-      (omega arith, hops_narrow t 1 up)
+      (omega arith, way_narrow t up)
 
 module _ (k : Scope) (b : Framed k.program) where
   pub entry_most : (up index : ℕ) → entry_offset (routine_up k up) index ≤ 500000

@@ -18,8 +18,8 @@ use Rattle.ps_lower_layout.specs.Shapes.{shape_of, field_offset}
 use Rattle.ps_lower_layout.specs.Frames.{Kind, Own, Reference, Closure}
 use Rattle.ps_lower_code.specs.Scopes.{held, kept, beside, moved, least, greatest, range_code, is_any, check_code}
 use Rattle.ps_lower_code.specs.Scopes.{has_bytes, fitting_code, operand_check, operand_of, Site, Scope, kind_at}
-use Rattle.ps_lower_code.specs.Scopes.{is_outermost, hops, frame_code, frame_base, link_code, formal_code, site_code}
-use Rattle.ps_lower_code.specs.Scopes.{words_code}
+use Rattle.ps_lower_code.specs.Scopes.{is_outermost, hops, hops_in_turns, is_far, way_out, frame_code, frame_base}
+use Rattle.ps_lower_code.specs.Scopes.{link_code, formal_code, site_code, words_code}
 use Rattle.ps_lower_code.specs.Calling.{expr_calls, selectors_call}
 use Rattle.ps_lower_code.specs.Values.{literal_of, is_relation, is_truth, left_in, right_in, relation_code, finish}
 use Rattle.ps_lower_code.specs.Values.{truth_finish, known_steps, element_site, selectors_site, load_code, store_code}
@@ -179,9 +179,16 @@ module _ (k : Scope) (D X : ℕ) where
   hops_under t level zero h = tt
   hops_under t level (suc up) h = ((h, h), hops_under t (suc level) up h)
 
-  pub frame_under : (t up : ℕ) → t < D → Under D X (frame_code k t up)
+  -- the temporary beside counts the levels
+  way_under : (t up : ℕ) → beside t < D → Under D X (way_out k t up)
+  way_under t up h =
+      let l : t < D = omega (arith, h) in
+      either D X (is_far up) (hops_in_turns k t up) (hops k t 1 up) (h, ((l, l), ((h, h, tt), ((h, tt), tt))))
+      (hops_under t 1 up l)
+
+  pub frame_under : (t up : ℕ) → beside t < D → Under D X (frame_code k t up)
   frame_under t zero h = tt
-  frame_under t (suc up) h = either D X (is_outermost k (suc up)) [] _ tt ((h, tt), hops_under t 1 up h)
+  frame_under t (suc up) h = either D X (is_outermost k (suc up)) [] _ tt ((omega (arith, h), tt), way_under t up h)
 
   pub frame_base_under : (t up : ℕ) → t < D → BaseUnder D (frame_base k t up)
   frame_base_under t zero h = tt
@@ -191,16 +198,18 @@ module _ (k : Scope) (D X : ℕ) where
       go true = tt
       go false = h
 
-  pub link_under : (t up : ℕ) → t < D → Under D X (link_code k t up)
-  link_under t zero h = ((h, tt), tt)
-  link_under t (suc up) h = either D X (is_outermost k (suc up)) (i.Offset t base.Program 0 0 ∷ []) _ ((h, tt), tt)
-      ((h, tt), hops_under t 1 up h)
+  pub link_under : (t up : ℕ) → beside t < D → Under D X (link_code k t up)
+  link_under t zero h = ((omega (arith, h), tt), tt)
+  link_under t (suc up) h =
+      let l : t < D = omega (arith, h) in
+      either D X (is_outermost k (suc up)) (i.Offset t base.Program 0 0 ∷ []) _ ((l, tt), tt)
+      ((l, tt), way_under t up h)
 
   pub formal_under : (t up index : ℕ) → suc (beside t) ≤ D → Under D X (formal_code k t up index)
   formal_under t up index h =
       let l : t < D = omega (arith, h) in
       let u = frame_base_under t up l in
-      both D X (frame_code k t up) _ (frame_under t up l)
+      both D X (frame_code k t up) _ (frame_under t up h)
       ((h, at_base D X (frame_base k t up) _ u), ((l, at_base D X (frame_base k t up) _ u), tt))
 
   reference_under : (kind : Option Kind) (t up index : ℕ) → t < D → Under D X (reference_code k kind t up index)
@@ -216,9 +225,9 @@ module _ (k : Scope) (D X : ℕ) where
   entry_under (Some (Closure kinds result)) t up index h = frame_base_under t up h
   entry_under None t up index h = frame_base_under t up h
 
-  pub name_under : (name : PlaceBase) (t : ℕ) → t < D → Under D X (name_code k name t)
+  pub name_under : (name : PlaceBase) (t : ℕ) → beside t < D → Under D X (name_code k name t)
   name_under (Entry up index) t h = both D X (frame_code k t up) _ (frame_under t up h)
-      (reference_under (kind_at k up index) t up index h)
+      (reference_under (kind_at k up index) t up index (omega (arith, h)))
   name_under (Opened which type number) t h = tt
 
   pub name_site_under : (name : PlaceBase) (t : ℕ) → OpenedUnder D k.opened → t < D → BaseUnder D

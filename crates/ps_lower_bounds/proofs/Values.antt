@@ -126,7 +126,7 @@ module _ (k : Scope) (D X : ℕ) (o : OpenedUnder D k.opened) where
         let m = kept_most (selectors_call selectors) d in
         let t : kept (selectors_call selectors) d < D = omega (arith, r, m) in
         both D X (name_code k name (kept (selectors_call selectors) d)) _
-        (name_under k D X name (kept (selectors_call selectors) d) t)
+        (name_under k D X name (kept (selectors_call selectors) d) (omega (arith, r, m)))
         (selectors_under selectors (name_site k name (kept (selectors_call selectors) d))
         (kept (selectors_call selectors) d) x (name_site_under k D X name (kept (selectors_call selectors) d) o t) t
         (omega (arith, r, m)))

@@ -245,6 +245,46 @@ passes_means = refl
 passes_runs : tac_run (code_of run_time passes) (λ r. 0) (λ t. 0) 0 0 [] 199 ≡ (52 ∷ [], Normal)
 passes_runs = refl
 
+-- a routine writes a variable six levels out: procedure a; var v: integer; procedure b; .. procedure g; begin write(v)
+-- end; .. begin c end; begin v := 7; b end; begin a end
+abbrev chain_down : ℕ → List ℕ
+chain_down zero = 0 ∷ []
+chain_down (suc level) = suc level ∷ chain_down level
+
+abbrev within_others : (level : ℕ) → List DataType → List Statement → Routine
+within_others level variables body = record {
+  chain = chain_down level;
+  formals = no_formal;
+  result = None;
+  variables = variables;
+  line = 2;
+  body = statements body;
+}
+
+abbrev calls : ℕ → Statement
+calls r = CallProcedure r 0 no_argument 2
+
+abbrev reaches : Program
+reaches = record {
+  routines =
+      block [] (calls 1 ∷ [])
+      ∷ within_others 1 (int ∷ []) (set (own 0) (n 7) 2 ∷ calls 2 ∷ [])
+      ∷ within_others 2 [] (calls 3 ∷ [])
+      ∷ within_others 3 [] (calls 4 ∷ [])
+      ∷ within_others 4 [] (calls 5 ∷ [])
+      ∷ within_others 5 [] (calls 6 ∷ [])
+      ∷ within_others 6 [] (calls 7 ∷ [])
+      ∷ within_others 7 [] (digit (Load (outer 6 0)) ∷ []) ∷ [];
+  domains = [];
+}
+
+reaches_means : run_within reaches [] [] 0 0 [] 19 ≡ (55 ∷ [], Normal)
+unfolding digits
+reaches_means = refl
+
+reaches_runs : tac_run (code_of run_time reaches) (λ r. 0) (λ t. 0) 0 0 [] 199 ≡ (55 ∷ [], Normal)
+reaches_runs = refl
+
 -- an index outside its range, in a called procedure: a[3] := 1 and a[a[1]] for an array [1..2]
 abbrev pub element : ℕ → Expr → Place
 element up e = Variable (Entry up 0) (selector_before

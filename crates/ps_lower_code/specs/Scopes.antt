@@ -1,6 +1,7 @@
 -- What code is made from: temporaries by their classes, frames by their levels, and the pieces that all constructs
 -- share.
-use Rattle.std.specs.Prelude.{ℕ, zero, suc, ◌+◌, ◌%◌, ℤ, pos, Bool, true, false, ◌&&◌, nat_eq, if◌then◌else◌}
+use Rattle.std.specs.Prelude.{ℕ, zero, suc, ◌+◌, ◌%◌, ℤ, pos, negsuc, Bool, true, false, ◌&&◌, nat_eq, nat_lt}
+use Rattle.std.specs.Prelude.{if◌then◌else◌}
 use Rattle.std.specs.Prelude.{List, [], ◌∷◌, ◌++◌, length, Option, Some, None, get_or, slice_get, int_le}
 use Rattle.ps_tree.specs.declared.tree.operators.Range.{Range}
 use Rattle.ps_tree.specs.declared.tree.operators.Range.TheVariants.{Any, Within}
@@ -13,7 +14,9 @@ use Rattle.tac_code.specs.declared.code.Base.{Base}
 use Rattle.tac_code.specs.declared.code.Base.TheVariants as base
 use Rattle.tac_code.specs.declared.code.Instruction.{Instruction}
 use Rattle.tac_code.specs.declared.code.Instruction.TheVariants.{Literal, Copy, CheckRange, Offset, Load, Store, Call}
-use Rattle.tac_code.specs.declared.code.Instruction.TheVariants.{Trap}
+use Rattle.tac_code.specs.declared.code.Instruction.TheVariants.{Trap, Bits, BranchBack}
+use Rattle.tac_code.specs.declared.code.BitOperator.TheVariants.{Plus}
+use Rattle.tac_code.specs.declared.code.Relation.TheVariants.{NotEqual}
 use Rattle.tac_rt.specs.declared.run_time.RunTime.{RunTime}
 use Rattle.tac_rt.specs.declared.run_time.RunTime.TheVariants.{CopyWords}
 use Rattle.tac_rt.specs.Numbers.{run_time_number}
@@ -116,11 +119,27 @@ abbrev pub hops : Scope → (t level up : ℕ) → List Instruction
 hops k t level zero = []
 hops k t level (suc up) = Load t (base.Temporary t) (link_offset (routine_up k level)) ∷ hops k t (suc level) up
 
+-- The same by a loop, which counts the levels that are left in the temporary beside: all links have one offset.
+abbrev pub hops_in_turns : Scope → (t up : ℕ) → List Instruction
+hops_in_turns k t up =
+    Literal (beside t) (pos up)
+    ∷ Load t (base.Temporary t) (link_offset (routine_up k 1))
+    ∷ Bits Plus (beside t) (beside t) (operand.Number (negsuc 0))
+    ∷ BranchBack NotEqual (beside t) (operand.Number (pos 0)) 2 ∷ []
+
+-- The loop is shorter from five levels on. No routine is within 16 others.
+abbrev pub is_far : ℕ → Bool
+is_far up = nat_lt 4 up && nat_lt up 16
+
+-- from the frame at an address in t to the one `up` levels further out, by what is shorter
+abbrev pub way_out : Scope → (t up : ℕ) → List Instruction
+way_out k t up = if is_far up then hops_in_turns k t up else hops k t 1 up
+
 -- code that reaches the frame `up` levels out, and the base from which its parts are then addressed
 abbrev pub frame_code : Scope → (t up : ℕ) → List Instruction
 frame_code k t zero = []
 frame_code k t (suc up) = if is_outermost k (suc up) then [] else Load t base.Frame (link_offset (routine_up k 0))
-    ∷ hops k t 1 up
+    ∷ way_out k t up
 
 abbrev pub frame_base : Scope → (t up : ℕ) → Base
 frame_base k t zero = base.Frame
@@ -129,7 +148,7 @@ frame_base k t (suc up) = if is_outermost k (suc up) then base.Program else base
 -- the same, as an address in t
 abbrev pub link_code : Scope → (t up : ℕ) → List Instruction
 link_code k t zero = Offset t base.Frame 0 0 ∷ []
-link_code k t (suc up) = if is_outermost k (suc up) then Offset t base.Program 0 0 ∷ [] else Load t base.Frame (link_offset (routine_up k 0)) ∷ hops k t 1 up
+link_code k t (suc up) = if is_outermost k (suc up) then Offset t base.Program 0 0 ∷ [] else Load t base.Frame (link_offset (routine_up k 0)) ∷ way_out k t up
 
 -- a procedural or functional parameter: its routine in t, and its frame's address in the temporary beside it
 abbrev pub formal_code : Scope → (t up index : ℕ) → List Instruction

@@ -17,7 +17,7 @@ use Rattle.tac_code_steps.proofs.Temporaries.{put_same, put_other}
 use Rattle.tac_code_steps.proofs.Instructions.{offset_step, load_step}
 use Rattle.ps_lower_layout.specs.Shapes.{Shape}
 use Rattle.ps_lower_layout.specs.Frames.{Kinds, Closure, entry_offset, link_offset}
-use Rattle.ps_lower_code.specs.Scopes.{beside, routine_up, kind_at, is_outermost, hops, frame_code, frame_base}
+use Rattle.ps_lower_code.specs.Scopes.{beside, routine_up, kind_at, is_outermost, way_out, frame_code, frame_base}
 use Rattle.ps_lower_code.specs.Scopes.{link_code, formal_code}
 use Rattle.ps_lower_code.specs.Fits.{tail}
 use Rattle.ps_lower_relation.specs.Ghosts.{ClosureSlot, RoutineHere, EnvAt}
@@ -47,13 +47,13 @@ module _ (p : Setting) (n : ℕ) (c : Activated) where
 
       go : (q : Bool) → is_outermost (scope_in p c o) (suc up) ≡ q → Stands (code_in p) c.routine pc
           (if q then (i.Offset t base.Program 0 0 ∷ [])
-          else (i.Load t base.Frame (link_offset (routine_up (scope_in p c o) 0)) ∷ hops (scope_in p c o) t 1 up)) pc'
+          else (i.Load t base.Frame (link_offset (routine_up (scope_in p c o) 0)) ∷ way_out (scope_in p c o) t up)) pc'
           → Reached p c d x w k (state p c w k pc) pc' R w
       go true q st' =
           let r = frame_run p n c d x o w k t (suc up) pc pc alive l b
           (subst (λ y. Stands (code_in p) c.routine pc
-          (if y then [] else (i.Load t base.Frame (link_offset (routine_up (scope_in p c o) 0)) ∷ hops
-          (scope_in p c o) t 1 up)) pc) (sym q) refl) in
+          (if y then [] else (i.Load t base.Frame (link_offset (routine_up (scope_in p c o) 0)) ∷ way_out
+          (scope_in p c o) t up)) pc) (sym q) refl) in
           let word = Address (FrameBlock 0) 0 in
           let is : Some word ≡ Some r.result.0 = subst
           (λ y. base_at c.number r.work.temporaries (if y then base.Program else base.Temporary t)
@@ -66,8 +66,8 @@ module _ (p : Setting) (n : ℕ) (c : Activated) where
       go false q st' =
           let r = frame_run p n c d x o w k t (suc up) pc pc' alive l b
           (subst (λ y. Stands (code_in p) c.routine pc
-          (if y then [] else (i.Load t base.Frame (link_offset (routine_up (scope_in p c o) 0)) ∷ hops
-          (scope_in p c o) t 1 up)) pc') (sym q) st') in
+          (if y then [] else (i.Load t base.Frame (link_offset (routine_up (scope_in p c o) 0)) ∷ way_out
+          (scope_in p c o) t up)) pc') (sym q) st') in
           record {
             work = r.work;
             alive = r.alive;

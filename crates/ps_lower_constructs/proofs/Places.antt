@@ -1,27 +1,34 @@
 -- Frames by their levels, and names: the code that reaches them.
-use Rattle.std.proofs.Common.{◌≡◌, ℕ, zero, suc, ◌+◌, ◌*◌, ◌<◌, ◌≤◌, List, [], ◌∷◌, ◌++◌, length, drop, get_or}
+use Rattle.std.proofs.Common.{◌≡◌, ℕ, zero, suc, ◌+◌, ◌-◌, ◌*◌, ◌<◌, ◌≤◌, List, [], ◌∷◌, ◌++◌, length, drop, get_or}
 use Rattle.std.proofs.Common.{slice_get, Option, Some, None, Bool, true, false, if◌then◌else◌, refl, sym, ap, ◌∙◌}
-use Rattle.std.proofs.Common.{subst, arith, eqb-true}
+use Rattle.std.proofs.Common.{subst, arith, eqb-true, ltb-true, nat_lt, not, pos, negsuc}
+use Rattle.std.proofs.lemmas.Bool.{and_parts, ne_eqb}
 use Rattle.ps_tree.specs.Tree.{routine_at, PlaceBase, Entry, Opened}
 use Rattle.tac_code.specs.declared.code.Block.TheVariants.{Frame as FrameBlock}
 use Rattle.tac_code.specs.declared.code.Value.{Value as Word}
-use Rattle.tac_code.specs.declared.code.Value.TheVariants.{Address}
+use Rattle.tac_code.specs.declared.code.Value.TheVariants.{Address, Number}
+use Rattle.tac_code.specs.declared.code.Operand.TheVariants as operand
 use Rattle.tac_code.specs.declared.code.Base.{Base}
 use Rattle.tac_code.specs.declared.code.Base.TheVariants as base
-use Rattle.tac_code.specs.declared.code.Instruction.TheVariants.{Load}
+use Rattle.tac_code.specs.declared.code.Instruction.{Instruction}
+use Rattle.tac_code.specs.declared.code.Instruction.TheVariants.{Load, Bits, BranchBack}
+use Rattle.tac_code.specs.declared.code.BitOperator.TheVariants.{Plus}
+use Rattle.tac_code.specs.declared.code.Relation.TheVariants.{NotEqual}
 use Rattle.tac_code.specs.Memory.{load}
-use Rattle.tac_code.specs.Meaning.{Temporaries, base_value, text_at}
+use Rattle.tac_code.specs.Meaning.{Temporaries, base_value, text_at, related, gives}
 use Rattle.ps_meaning.specs.Worlds.{no_spot, Env, World, above, frame_of, spot_in}
 use Rattle.ps_meaning.specs.Expressions.{denoted}
-use Rattle.tac_code_steps.specs.Runs.{Stands, Comes}
-use Rattle.tac_code_steps.proofs.Runs.{split}
-use Rattle.tac_code_steps.proofs.Temporaries.{put_same}
+use Rattle.tac_code_steps.specs.Runs.{Stands, Comes, step_of}
+use Rattle.tac_code_steps.proofs.Runs.{split, a_step}
+use Rattle.tac_code_steps.proofs.Temporaries.{put_same, put_other}
 use Rattle.tac_code_steps.proofs.Pieces.{same_some, some_none}
-use Rattle.tac_code_steps.proofs.Instructions.{At, load_step}
+use Rattle.tac_code_steps.proofs.Instructions.{At, literal_step, bits_step, load_step, branch_back_step}
+use Rattle.tac_rt.proofs.Arithmetic.{counted_down}
 use Rattle.ps_lower_layout.specs.Shapes.{Shape, shape_of, field_offset, Part, Whole}
 use Rattle.ps_lower_layout.specs.Frames.{Kind, Own, Reference, Closure, entries, layout_of, entry_offset, link_offset}
 use Rattle.ps_lower_layout.specs.Frames.{is_program_block}
-use Rattle.ps_lower_code.specs.Scopes.{routine_up, kind_at, is_outermost, hops, frame_code, frame_base}
+use Rattle.ps_lower_code.specs.Scopes.{beside, routine_up, kind_at, is_outermost, hops, hops_in_turns, is_far, way_out}
+use Rattle.ps_lower_code.specs.Scopes.{frame_code, frame_base}
 use Rattle.ps_lower_code.specs.Values.{field_site, reference_code, entry_site, name_code, name_site}
 use Rattle.ps_lower_code.specs.Fits.{tail, shape_in, BaseFits}
 use Rattle.ps_lower_relation.specs.Ghosts.{Ghost, ReferenceSlot, layout_at, found, PlaceAt, EnvAt}
@@ -34,7 +41,7 @@ use Rattle.ps_lower_constructs.specs.Openings.{plain_scope, Opening, scope_in, c
 use Rattle.ps_lower_constructs.proofs.Kept.{below_more, stepped, opened_get}
 use Rattle.ps_lower_relation.proofs.Places.{field_path}
 use Rattle.ps_meaning.specs.Values.{step}
-use Rattle.ps_lower_constructs.proofs.Runs.{reached_from, here, gives_word}
+use Rattle.ps_lower_constructs.proofs.Runs.{keeps_refl, reached_from, here, gives_word, passes}
 
 pub base_is : (c : Activated) (pc : ℕ) (t : Temporaries) (b : Base) → base_value (activation c pc t) b
     ≡ base_at c.number t b
@@ -49,14 +56,14 @@ module _ (p : Setting) (n : ℕ) (c : Activated) where
   LevelIn env chain b w k = (word : Word) × (base_at c.number k.temporaries b ≡ Some word)
       × EnvAt p.program c.ghosts w.made env word chain
 
-  -- the link of a level is loaded
-  link_run : (d x : ℕ) (w : World) (k : Work) (pc t : ℕ) (b : Base) (env : Env) (word : Word) (r : ℕ) (s : ℕ)
-      (rest : List ℕ) → Alive p c w k → d ≤ t → base_at c.number k.temporaries b ≡ Some word
+  -- the link of a level, and the step that loads it
+  link_there : (w : World) (k : Work) (pc t : ℕ) (b : Base) (env : Env) (word : Word) (r s : ℕ) (rest : List ℕ)
+      → Alive p c w k → base_at c.number k.temporaries b ≡ Some word
       → EnvAt p.program c.ghosts w.made env word (r ∷ s ∷ rest) → At (machine_of p) (state p c w k pc)
       (Load t b (link_offset (routine_at p.program r)))
-      → Reached p c d x w k (state p c w k pc) (suc pc)
-      (λ w' k'. LevelIn (above env 1) (s ∷ rest) (base.Temporary t) w' k') w
-  link_run d x w k pc t b env word r s rest alive l at whole h =
+      → (link : Word) × (step_of (machine_of p) (state p c w k pc) ≡ gives t link (state p c w k pc))
+      × EnvAt p.program c.ghosts w.made (above env 1) link (s ∷ rest)
+  link_there w k pc t b env word r s rest alive at whole h =
       let v = level p.program c.ghosts w.made env word (r ∷ s ∷ rest) whole (omega arith) in
       let g = v.ghost in
       let inner : is_program_block (routine_at p.program g.routine).chain ≡ false = sym v.linked in
@@ -65,11 +72,24 @@ module _ (p : Setting) (n : ℕ) (c : Activated) where
       let offset : 0 + link_offset (routine_at p.program r) ≡ 4 *
       (layout_of (routine_at p.program g.routine)).link = omega arith in
       let loaded = ap (load (text_at (code_in p)) m (FrameBlock g.number)) offset ∙ link_read p.program
-      (text_at (code_in p)) m w c.ghosts g refl alive.holds.fits v.there inner in
-      gives_word p n c d x w k pc (suc pc) t g.link (λ w' k'. LevelIn (above env 1) (s ∷ rest) (base.Temporary t) w' k')
-      (load_step (machine_of p) (state p c w k pc) t b (link_offset (routine_at p.program r))
-      (FrameBlock g.number) 0 g.link h address loaded) refl l alive
-      (g.link, put_same k.temporaries t g.link, v.rest)
+      (text_at (code_in p)) m w c.ghosts g refl alive.holds.fits v.there inner in (
+        g.link,
+        load_step (machine_of p) (state p c w k pc) t b (link_offset (routine_at p.program r))
+            (FrameBlock g.number) 0 g.link h address loaded,
+        v.rest,
+      )
+
+  -- it is loaded
+  link_run : (d x : ℕ) (w : World) (k : Work) (pc t : ℕ) (b : Base) (env : Env) (word : Word) (r s : ℕ)
+      (rest : List ℕ) → Alive p c w k → d ≤ t → base_at c.number k.temporaries b ≡ Some word
+      → EnvAt p.program c.ghosts w.made env word (r ∷ s ∷ rest) → At (machine_of p) (state p c w k pc)
+      (Load t b (link_offset (routine_at p.program r)))
+      → Reached p c d x w k (state p c w k pc) (suc pc)
+      (λ w' k'. LevelIn (above env 1) (s ∷ rest) (base.Temporary t) w' k') w
+  link_run d x w k pc t b env word r s rest alive l at whole h =
+      let y = link_there w k pc t b env word r s rest alive at whole h in
+      gives_word p n c d x w k pc (suc pc) t y.0 (λ w' k'. LevelIn (above env 1) (s ∷ rest) (base.Temporary t) w' k')
+      y.1 refl l alive (y.0, put_same k.temporaries t y.0, y.2)
 
   -- from the frame in t further up
   hops_run : (d x : ℕ) (o : Opening) (w : World) (k : Work) (t l up pc pc' : ℕ) (env : Env) (chain : List ℕ)
@@ -96,6 +116,110 @@ module _ (p : Setting) (n : ℕ) (c : Activated) where
       (λ k' a' y. subst (λ e. LevelIn e (drop up (s ∷ rest)) (base.Temporary t) w k')
       (above_one p.program c.ghosts w.made env up) y)
 
+  -- a turn of the loop
+  abbrev turn : ℕ → List Instruction
+  turn t = Load t (base.Temporary t) 0 ∷ Bits Plus (beside t) (beside t) (operand.Number (negsuc 0))
+      ∷ BranchBack NotEqual (beside t) (operand.Number (pos 0)) 2 ∷ []
+
+  -- the frame's address is in t, and so many levels are left
+  abbrev LeftIn : (t left : ℕ) (word : Word) → World → Work → Type 0
+  LeftIn t left word w k = (k.temporaries t ≡ Some word) × (k.temporaries (beside t) ≡ Some (Number (pos left)))
+
+  -- a turn as far as its branch, and what follows
+  turn_run : (d x : ℕ) (w : World) (k : Work) (t left pc pc' : ℕ) (env : Env) (r s : ℕ) (rest : List ℕ) (word : Word)
+      (R : World → Work → Type 0) → Alive p c w k → d ≤ t → suc left < 2147483648 → LeftIn t (suc left) word w k
+      → EnvAt p.program c.ghosts w.made env word (r ∷ s ∷ rest) → Stands (code_in p) c.routine pc (turn t) pc'
+      → ((k2 : Work) (link : Word) → Alive p c w k2 → LeftIn t left link w k2
+      → EnvAt p.program c.ghosts w.made (above env 1) link (s ∷ rest) → Reached p c d x w k2
+      (state p c w k2 (suc (suc pc))) pc' R w)
+      → Reached p c d x w k (state p c w k pc) pc' R w
+  turn_run d x w k t left pc pc' env r s rest word R alive dt small h v st further =
+      let y = link_there w k pc t (base.Temporary t) env word r s rest alive h.0 v st.0 in
+      let apart : beside t ≡ t → ⊥ = λ same. omega arith in
+      let back : t ≡ beside t → ⊥ = λ same. omega arith in
+      let one = gives_word p n c d x w k pc (suc pc) t y.0 (λ w' k'. LeftIn t (suc left) y.0 w' k') y.1 refl dt alive
+      (put_same k.temporaries t y.0, put_other k.temporaries t y.0 (beside t) apart ∙ h.1) in
+      let s1 = state p c w one.work (suc pc) in
+      let less = bits_step (machine_of p) s1 Plus (beside t) (beside t) (operand.Number (negsuc 0)) (pos (suc left))
+      (negsuc 0) st.1.0 one.result.1 refl
+      ∙ ap (λ z. gives (beside t) (Number z) s1) (counted_down (suc left) left 0 (omega arith) small) in
+      let two = gives_word p n c d x w one.work (suc pc) (suc (suc pc)) (beside t) (Number (pos left))
+      (λ w' k'. LeftIn t left y.0 w' k') less refl (omega (arith, dt)) one.alive (
+        put_other one.work.temporaries (beside t) (Number (pos left)) t back ∙ one.result.0,
+        put_same one.work.temporaries (beside t) (Number (pos left)),
+      ) in
+      reached_from p n c d x d x w w k one.work (state p c w k pc) s1 pc' R R w (omega arith) (omega arith) one.comes
+      one.keeps
+      (reached_from p n c d x d x w w one.work two.work s1 (state p c w two.work (suc (suc pc))) pc' R R w (omega arith)
+      (omega arith) two.comes two.keeps (further two.work y.0 two.alive two.result y.2) (λ k' a' z. z))
+      (λ k' a' z. z)
+
+  -- further up by the loop, from its first load
+  turns_run : (d x : ℕ) (w : World) (k : Work) (t left pc pc' : ℕ) (env : Env) (chain : List ℕ) (word : Word)
+      → Alive p c w k → d ≤ t → suc left < length chain → suc left < 2147483648 → LeftIn t (suc left) word w k
+      → EnvAt p.program c.ghosts w.made env word chain → Stands (code_in p) c.routine pc (turn t) pc'
+      → Reached p c d x w k (state p c w k pc) pc'
+      (λ w' k'. LevelIn (above env (suc left)) (drop (suc left) chain) (base.Temporary t) w' k') w
+  turns_run d x w k t left pc pc' env [] word alive dt b small h v st = absurd (omega (arith, b))
+  turns_run d x w k t left pc pc' env (r ∷ []) word alive dt b small h v st = absurd (omega (arith, b))
+  turns_run d x w k t zero pc pc' env (r ∷ s ∷ rest) word alive dt b small h v st =
+      let R : World → Work → Type 0 = λ w' k'. LevelIn (above env 1) (s ∷ rest) (base.Temporary t) w' k' in
+      turn_run d x w k t zero pc pc' env r s rest word R alive dt small h v st
+      (λ k2 link alive2 h2 v2. passes p n c d x w k2 (suc (suc pc)) pc' R
+      (branch_back_step (machine_of p) (state p c w k2 (suc (suc pc))) NotEqual (beside t) (operand.Number (pos 0)) 2
+      false st.1.1.0 (ap (λ o. related NotEqual o (Some (Number (pos 0)))) h2.1)) st.1.1.1 alive2 (link, h2.0, v2))
+  turns_run d x w k t (suc m) pc pc' env (r ∷ s ∷ rest) word alive dt b small h v st =
+      let R : World → Work → Type 0 = λ w' k'. LevelIn (above env (suc (suc m))) (drop (suc m) (s ∷ rest))
+      (base.Temporary t) w' k' in
+      let more : suc m ≡ 0 → ⊥ = λ same. omega arith in
+      turn_run d x w k t (suc m) pc pc' env r s rest word R alive dt small h v st
+      (λ k2 link alive2 h2 v2.
+      let s2 = state p c w k2 (suc (suc pc)) in
+      let start : suc (suc pc) - 2 ≡ pc = omega arith in
+      let back = branch_back_step (machine_of p) s2 NotEqual (beside t) (operand.Number (pos 0)) 2 true st.1.1.0
+      (ap (λ o. related NotEqual o (Some (Number (pos 0)))) h2.1 ∙ ap (λ q. Some (not q)) (ne_eqb (suc m) 0 more)) in
+      reached_from p n c d x d x w w k2 k2 s2 (state p c w k2 pc) pc'
+      (λ w' k'. LevelIn (above (above env 1) (suc m)) (drop (suc m) (s ∷ rest)) (base.Temporary t) w' k') R w
+      (omega arith) (omega arith)
+      (subst (λ q. Comes (machine_of p) s2 (state p c w k2 q)) start
+      (a_step s2 (state p c w k2 (suc (suc pc) - 2)) back)) (keeps_refl d x w k2)
+      (turns_run d x w k2 t m pc pc' (above env 1) (s ∷ rest) link alive2 dt (omega (arith, b)) (omega (arith, small))
+      h2 v2 st)
+      (λ k' a' z. subst (λ e. LevelIn e (drop (suc m) (s ∷ rest)) (base.Temporary t) w k')
+      (above_one p.program c.ghosts w.made env (suc m)) z))
+
+  -- further up by what is shorter
+  way_run : (d x : ℕ) (o : Opening) (w : World) (k : Work) (t up pc pc' : ℕ) (env : Env) (chain : List ℕ)
+      → Alive p c w k → d ≤ t → up < length chain → ((i : ℕ) → get_or (chain_of c) (1 + i) 0 ≡ get_or chain i 0)
+      → LevelIn env chain (base.Temporary t) w k → Stands (code_in p) c.routine pc (way_out (scope_in p c o) t up) pc'
+      → Reached p c d x w k (state p c w k pc) pc'
+      (λ w' k'. LevelIn (above env up) (drop up chain) (base.Temporary t) w' k') w
+  way_run d x o w k t up pc pc' env chain alive dt b q v st = go up (is_far up) refl b st
+    where
+      go : (n : ℕ) (far : Bool) → is_far n ≡ far → n < length chain → Stands (code_in p) c.routine pc
+          (if far then hops_in_turns (scope_in p c o) t n else hops (scope_in p c o) t 1 n) pc'
+          → Reached p c d x w k (state p c w k pc) pc'
+          (λ w' k'. LevelIn (above env n) (drop n chain) (base.Temporary t) w' k') w
+      go n false f l st' = hops_run d x o w k t 1 n pc pc' env chain alive dt l q v st'
+      go zero true f l st' = let m = ltb-true 4 0 (and_parts (nat_lt 4 0) (nat_lt 0 16) f).0 in absurd
+          (omega (arith, m))
+      go (suc left) true f less st' =
+          let l = ltb-true (suc left) 16 (and_parts (nat_lt 4 (suc left)) (nat_lt (suc left) 16) f).1 in
+          let apart : t ≡ beside t → ⊥ = λ same. omega arith in
+          let R : World → Work → Type 0 = λ w' k'. LevelIn (above env (suc left)) (drop (suc left) chain)
+          (base.Temporary t) w' k' in
+          let one = gives_word p n c d x w k pc (suc pc) (beside t) (Number (pos (suc left)))
+          (λ w' k'. LeftIn t (suc left) v.0 w' k')
+          (literal_step (machine_of p) (state p c w k pc) (beside t) (pos (suc left)) st'.0) refl (omega (arith, dt))
+          alive (
+            put_other k.temporaries (beside t) (Number (pos (suc left))) t apart ∙ v.1,
+            put_same k.temporaries (beside t) (Number (pos (suc left))),
+          ) in
+          reached_from p n c d x d x w w k one.work (state p c w k pc) (state p c w one.work (suc pc)) pc' R R w
+          (omega arith) (omega arith) one.comes one.keeps
+          (turns_run d x w one.work t left (suc pc) pc' env chain v.0 one.alive dt less (omega (arith, l)) one.result
+          v.2 st'.1) (λ k' a' z. z)
+
   -- the frame this many levels up
   pub frame_run : (d x : ℕ) (o : Opening) (w : World) (k : Work) (t up pc pc' : ℕ) → Alive p c w k → d ≤ t → up < length
       (chain_of c) → Stands (code_in p) c.routine pc (frame_code (scope_in p c o) t up) pc'
@@ -105,7 +229,7 @@ module _ (p : Setting) (n : ℕ) (c : Activated) where
       (λ w' k'. LevelIn c.env (chain_of c) base.Frame w' k') st alive
       (Address (FrameBlock c.number) 0, refl, alive.stands)
   frame_run d x o w k t (suc up) pc pc' alive dt b st = go (is_outermost (scope_in p c o) (suc up)) refl c.outer refl st
-      (λ s rest e pc1 k1 alive1 v st1. hops_run d x o w k1 t 1 up pc1 pc' (above c.env 1) (s ∷ rest) alive1 dt
+      (λ s rest e pc1 k1 alive1 v st1. way_run d x o w k1 t up pc1 pc' (above c.env 1) (s ∷ rest) alive1 dt
       (omega (arith, b, ap length e)) (λ i. let z : 1 + i ≡ suc i = omega arith in ap (λ j. get_or (chain_of c) j 0) z
       ∙ ap (λ xs. get_or xs i 0) e) v st1)
     where
@@ -126,10 +250,10 @@ module _ (p : Setting) (n : ℕ) (c : Activated) where
 
       go : (q : Bool) → is_outermost (scope_in p c o) (suc up) ≡ q → (outer : List ℕ) → c.outer ≡ outer → Stands
           (code_in p) c.routine pc (if q then [] else (Load t base.Frame (link_offset (routine_up (scope_in p c o) 0))
-          ∷ hops (scope_in p c o) t 1 up)) pc'
+          ∷ way_out (scope_in p c o) t up)) pc'
           → ((s : ℕ) (rest : List ℕ) → c.outer ≡ s ∷ rest → (pc1 : ℕ) (k1 : Work) → Alive p c w k1 → LevelIn
           (above c.env 1) (s ∷ rest) (base.Temporary t) w k1 → Stands (code_in p) c.routine pc1
-          (hops (scope_in p c o) t 1 up) pc' → Reached p c d x w k1 (state p c w k1 pc1) pc'
+          (way_out (scope_in p c o) t up) pc' → Reached p c d x w k1 (state p c w k1 pc1) pc'
           (λ w' k'. LevelIn (above (above c.env 1) up) (drop up (s ∷ rest)) (base.Temporary t) w' k') w)
           → Reached p c d x w k (state p c w k pc) pc' R w
       go true q outer e st' further =

@@ -26,7 +26,8 @@ use Rattle.ps_lower_layout.specs.Shapes.{shape_of, word_count, byte_count, field
 use Rattle.ps_lower_layout.specs.Frames.{Kind, Own, Reference, Closure}
 use Rattle.ps_lower_code.specs.Scopes.{even_from, kept, held, beside, moved, least, greatest, is_any, range_code}
 use Rattle.ps_lower_code.specs.Scopes.{check_code, has_bytes, fitting_code, operand_check, unless_known, Site, Scope}
-use Rattle.ps_lower_code.specs.Scopes.{kind_at, is_outermost, hops, frame_code, frame_base, link_code, formal_code}
+use Rattle.ps_lower_code.specs.Scopes.{kind_at, is_outermost, hops, is_far, way_out, frame_code, frame_base, link_code}
+use Rattle.ps_lower_code.specs.Scopes.{formal_code}
 use Rattle.ps_lower_code.specs.Scopes.{site_code, words_code, copy_code}
 use Rattle.ps_lower_code.specs.Calling.{selectors_call, expr_calls, arguments_call}
 use Rattle.ps_lower_code.specs.Values.{literal_of, negated, is_relation, is_truth, finish, truth_finish, known_steps}
@@ -136,9 +137,12 @@ even_hops : (k : Scope) (t level up : ℕ) → Even (hops k t level up)
 even_hops k t level zero = none
 even_hops k t level (suc up) = more tt (even_hops k t (suc level) up)
 
+even_way : (k : Scope) (t up : ℕ) → Even (way_out k t up)
+even_way k t up = either (is_far up) (more tt (more tt (more tt (more tt none)))) (even_hops k t 1 up)
+
 even_frame : (k : Scope) (t up : ℕ) → Even (frame_code k t up)
 even_frame k t zero = none
-even_frame k t (suc up) = either (is_outermost k (suc up)) none (more tt (even_hops k t 1 up))
+even_frame k t (suc up) = either (is_outermost k (suc up)) none (more tt (even_way k t up))
 
 frame_plain : (k : Scope) (t up : ℕ) → NotScratch (frame_base k t up)
 frame_plain k t zero = tt
@@ -150,7 +154,7 @@ frame_plain k t (suc up) = go (is_outermost k (suc up))
 
 pub even_link : (k : Scope) (t up : ℕ) → Even (link_code k t up)
 even_link k t zero = more tt none
-even_link k t (suc up) = either (is_outermost k (suc up)) (more tt none) (more tt (even_hops k t 1 up))
+even_link k t (suc up) = either (is_outermost k (suc up)) (more tt none) (more tt (even_way k t up))
 
 pub even_formal : (k : Scope) (t up index : ℕ) → Even (formal_code k t up index)
 even_formal k t up index = both (even_frame k t up) (more tt (more tt none))

@@ -21,8 +21,8 @@ returns-then-is_outermost-clause-base c = outer_base (scope_of c.args.level.now)
 
 pub returns-clause-code : goal.returns-clause-code
 returns-clause-code c = between_code (scope_of c.args.level.now) c.args.t c.args.up
-    (c.args.up - 1) c.args.out.now c.load.new.self c.hops.new.out c.if-up-eq0.false
-    (sym c.if-is_outermost.false ∙ c.is_outermost.ensures) refl c.in_ok-load.ensures c.in_ok-hops.ensures
+    (c.args.up - 1) c.args.out.now c.load.new.self c.way_out.new.out c.if-up-eq0.false
+    (sym c.if-is_outermost.false ∙ c.is_outermost.ensures) refl c.in_ok-load.ensures c.in_ok-way_out.ensures
 
 pub returns-clause-base : goal.returns-clause-base
 returns-clause-base c = between_base (scope_of c.args.level.now) c.args.t c.args.up c.if-up-eq0.false

@@ -14,5 +14,5 @@ returns-then-is_outermost c = outer_link (scope_of c.args.level.now) c.args.t c.
 
 pub returns : goal.returns
 returns c = between_link (scope_of c.args.level.now) c.args.t c.args.up
-    (c.args.up - 1) c.hops.result c.args.out.now c.load.new.self c.hops.new.out c.if-up-eq0.false
-    (sym c.if-is_outermost.false ∙ c.is_outermost.ensures) refl c.in_ok-load.ensures c.hops.ensures
+    (c.args.up - 1) c.way_out.result c.args.out.now c.load.new.self c.way_out.new.out c.if-up-eq0.false
+    (sym c.if-is_outermost.false ∙ c.is_outermost.ensures) refl c.in_ok-load.ensures c.way_out.ensures

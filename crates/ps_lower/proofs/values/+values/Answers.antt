@@ -387,6 +387,12 @@ member-held-first-requires t c = depth_far c.args.d c.args.x _ c.requires
 pub place-place_temporary-t-requires : goal.place-place_temporary-t-requires
 place-place_temporary-t-requires t c = depth_far c.args.d c.args.x _ c.requires
 
+pub place-name-requires-clause-depth : goal.place-name-requires-clause-depth
+place-name-requires-clause-depth t c =
+    let l = depth_near c.args.d c.args.x _ c.requires in
+    let s = c.place_temporary-t.ensures.small in
+    omega (arith, l, s)
+
 pub front-even_from-t-requires : goal.front-even_from-t-requires
 front-even_from-t-requires t c = depth_farther c.args.d c.args.x _ c.requires
 
