@@ -2,4 +2,4 @@
 
 /// The sum.
 pub(crate) const BELIEVED: &str =
-    "88b0f361ad8bb7f4912b71a4fefd6ee67b93ac65e2c22a584bb897275f0edbd0";
+    "35014a45352222537461e30abd48da268107680937b1dac4492eaae32f29dbfd";
