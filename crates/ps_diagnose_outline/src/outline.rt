@@ -7,6 +7,7 @@ use indexmap::IndexSet;
 use ps_scan::{Kind, Token};
 use ps_syntax::{Constant, Program, Sign};
 use ps_text::{Source, Span};
+use ps_tree::names::Seed;
 use std::alloc::Global;
 use std::collections::HashMap;
 
@@ -19,7 +20,7 @@ pub struct Outline<'a> {
     pub(crate) source: &'a Source<'a>,
     pub(crate) tokens: &'a [Token],
     pub(crate) program: &'a Program,
-    pub(crate) spellings: IndexSet<Vec<u8>>,
+    pub(crate) spellings: IndexSet<Vec<u8>, Seed>,
     /// Where the tokens begin.
     pub(crate) starts: Vec<u32>,
     /// Of those that are names, the numbers of their spellings.
@@ -32,7 +33,7 @@ pub struct Outline<'a> {
     pub(crate) denoters: Vec<Denoter>,
     pub(crate) constructions: Vec<Construction>,
     /// The first defining point of a spelling in a region.
-    pub(crate) places: HashMap<u64, u32>,
+    pub(crate) places: HashMap<u64, u32, Seed>,
     /// At most how many variables are open by `with` at a place.
     pub(crate) most_opened: u32,
 }
@@ -52,11 +53,12 @@ impl<'a> Outline<'a> {
         tokens: &'a [Token],
         program: &'a Program,
     ) -> Outline<'a> {
+        let seed = Seed::of(source.bytes());
         Outline {
             source,
             tokens,
             program,
-            spellings: IndexSet::new(alloc),
+            spellings: IndexSet::with_hasher(alloc, seed),
             starts: Vec::new(alloc),
             spelled: Vec::new(alloc),
             points: Vec::new(alloc),
@@ -64,7 +66,7 @@ impl<'a> Outline<'a> {
             turns: Vec::new(alloc),
             denoters: Vec::new(alloc),
             constructions: Vec::new(alloc),
-            places: HashMap::new(alloc),
+            places: HashMap::with_hasher(alloc, seed),
             most_opened: 0,
         }
     }
