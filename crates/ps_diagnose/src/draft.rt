@@ -3,6 +3,7 @@
 use ps_diagnostic::{Edit, Label};
 use ps_scan::Token;
 use ps_text::{Source, Span};
+use std::alloc::Global;
 
 /// What a message is made of: the text, its tokens (those before the place where the scanner refuses it), and the number and the
 /// place of the refusal.
@@ -34,4 +35,18 @@ pub struct Draft {
     pub trials: Vec<Trial>,
     pub notes: Vec<String>,
     pub helps: Vec<String>,
+}
+
+impl Draft {
+    /// What tells nothing yet.
+    pub fn new(alloc: Global) -> Draft {
+        Draft {
+            text: String::new(alloc),
+            labels: Vec::new(alloc),
+            expects: false,
+            trials: Vec::new(alloc),
+            notes: Vec::new(alloc),
+            helps: Vec::new(alloc),
+        }
+    }
 }

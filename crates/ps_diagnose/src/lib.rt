@@ -1,4 +1,4 @@
-//! Code: what a diagnostic tells beside the place of a refusal: the kinds of tokens that could stand there, names near by spelling, how the required names are spelled, changes of the text.
+//! Code: what a diagnostic tells beside the place of a refusal: the kinds of tokens that could stand there, names near by spelling, how the required names are spelled, changes of the text, a message as it is put together.
 #![tactic(auto)]
 
 mod begun;
@@ -9,6 +9,7 @@ mod groups;
 mod kinds;
 mod near;
 mod required;
+mod telling;
 
 pub use begun::{Answer, begins};
 pub use changes::changed;
@@ -18,3 +19,4 @@ pub use groups::grouped;
 pub use kinds::written;
 pub use near::nearest;
 pub use required::RequiredName;
+pub use telling::{Telling, Text, place_of};

@@ -1,0 +1,164 @@
+//! A message as it is put together: its sentence, second places, helps and changes that are worth a trial. Where memory
+//! is refused, that is remembered to the end, and what would have been told is left out: so one test does for all.
+
+use crate::draft::{Draft, Trial};
+use ps_diagnostic::{Edit, Label};
+use ps_text::Span;
+use std::alloc::{AllocError, Global};
+
+/// A text that is being told.
+#[derive(Drop)]
+pub struct Text {
+    pub string: String,
+    /// Whether memory was refused for it.
+    pub has_failed: bool,
+}
+
+impl Text {
+    /// A text without anything.
+    pub fn new(alloc: Global) -> Text {
+        Text {
+            string: String::new(alloc),
+            has_failed: false,
+        }
+    }
+
+    /// Puts a piece behind the others.
+    pub fn put(&mut self, piece: &str) {
+        if self.string.push_str(piece).is_err() {
+            self.has_failed = true;
+        }
+    }
+
+    /// Puts pieces behind one another.
+    pub fn put_all(&mut self, pieces: &[&str]) {
+        for piece in pieces.iter() {
+            self.put(piece);
+        }
+    }
+
+    /// Puts a piece that was made for it, if there was memory for that.
+    pub fn put_made(&mut self, piece: Result<String, AllocError>) {
+        match piece {
+            Ok(piece) => self.put(piece.as_str()),
+            Err(_) => self.has_failed = true,
+        }
+    }
+
+    /// Puts a sign.
+    pub fn put_sign(&mut self, sign: char) {
+        if self.string.push(sign).is_err() {
+            self.has_failed = true;
+        }
+    }
+
+    /// Puts a number.
+    pub fn put_number(&mut self, number: i64) {
+        if write!(self.string, "{number}").is_err() {
+            self.has_failed = true;
+        }
+    }
+
+    /// Puts the line and the column of an offset, from 1 on.
+    pub fn put_place(&mut self, bytes: &[u8], offset: u32) {
+        let (line, column) = place_of(bytes, offset);
+        self.put_number(i64::from(line));
+        self.put_sign(':');
+        self.put_number(i64::from(column));
+    }
+}
+
+/// The line and the column of an offset, from 1 on; behind the end of the text those of its end.
+pub fn place_of(bytes: &[u8], offset: u32) -> (u32, u32) {
+    let mut line: u32 = 1;
+    let mut column: u32 = 1;
+    for byte in bytes.get(..offset as usize).unwrap_or(bytes).iter() {
+        if *byte == b'\n' {
+            line = line.saturating_add(1);
+            column = 1;
+        } else {
+            column = column.saturating_add(1);
+        }
+    }
+    (line, column)
+}
+
+/// A draft that is being told.
+#[derive(Drop)]
+pub struct Telling {
+    pub draft: Draft,
+    /// Whether memory was refused for it.
+    pub has_failed: bool,
+}
+
+impl Telling {
+    /// What tells nothing yet.
+    pub fn new(alloc: Global) -> Telling {
+        Telling {
+            draft: Draft::new(alloc),
+            has_failed: false,
+        }
+    }
+
+    // Remembers whether memory was refused for a text, and gives it back.
+    fn taken(&mut self, text: Text) -> String {
+        self.has_failed = self.has_failed || text.has_failed;
+        text.string
+    }
+
+    /// Tells the sentence.
+    pub fn say(&mut self, text: Text) {
+        self.draft.text = self.taken(text);
+    }
+
+    /// Tells a second place.
+    pub fn label(&mut self, span: Span, text: Text) {
+        let text = self.taken(text);
+        if self.draft.labels.push(Label { span, text }).is_err() {
+            self.has_failed = true;
+        }
+    }
+
+    /// Tells something beside.
+    pub fn note(&mut self, text: Text) {
+        let text = self.taken(text);
+        if self.draft.notes.push(text).is_err() {
+            self.has_failed = true;
+        }
+    }
+
+    /// Tells what to do.
+    pub fn help(&mut self, text: Text) {
+        let text = self.taken(text);
+        if self.draft.helps.push(text).is_err() {
+            self.has_failed = true;
+        }
+    }
+
+    /// Proposes changes, which are put behind, in words.
+    pub fn propose(&mut self, alloc: Global, cost: u32, words: Text) {
+        let text = self.taken(words);
+        let edits = Vec::new(alloc);
+        if self.draft.trials.push(Trial { text, edits, cost }).is_err() {
+            self.has_failed = true;
+        }
+    }
+
+    /// Adds to the last changes that something stands in the place of a span.
+    pub fn change(&mut self, span: Span, put: Text) {
+        let put = self.taken(put);
+        if let Some(trial) = self.draft.trials.last_mut()
+            && trial.edits.push(Edit { span, put }).is_err()
+        {
+            self.has_failed = true;
+        }
+    }
+
+    /// What has been told, if no memory was refused for it.
+    pub fn finished(self) -> Result<Draft, AllocError> {
+        if self.has_failed {
+            return Err(AllocError);
+        }
+        Ok(self.draft)
+    }
+}
