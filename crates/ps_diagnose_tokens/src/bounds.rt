@@ -8,9 +8,10 @@ use crate::rule::Step::{
     PutBehind, Rule, Same, Says, TakeAway, Tell, Token, Touches, Why,
 };
 use crate::rule::{Fact, More, Steps};
-use crate::tell::{Telling, Text, joined, put_behind};
+use crate::tell::{joined, put_behind};
 use crate::tests::first_of;
 use crate::walk::{Open, Stage};
+use ps_diagnose::{Telling, Text};
 use ps_scan::Kind;
 
 // What a program may begin with whose heading is missing.

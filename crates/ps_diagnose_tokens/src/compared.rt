@@ -13,8 +13,9 @@ use crate::rule::Step::{
 };
 use crate::rule::{Fact, More, Steps};
 use crate::spread::{expression_end, expression_start, first_between};
-use crate::tell::{Telling, Text, empty, exchange_text, joined};
+use crate::tell::{exchange_text, joined};
 use crate::tests::first_of;
+use ps_diagnose::{Telling, Text};
 use ps_scan::Kind;
 
 // The most bytes of a condition for which parentheses are proposed: the change tells it twice.
@@ -142,13 +143,13 @@ pub(crate) fn propose_parentheses(cx: &Context<'_>, to: &mut Telling) {
         to.help(joined(cx, &["each comparison stands between parentheses"]));
         return;
     }
-    let mut text = empty(cx.alloc);
+    let mut text = Text::new(cx.alloc);
     put_condition(cx, &mut text, start, end);
     if cx.piece(span).contains(&b'\n') {
         let mut words = joined(cx, &["put each comparison from `", cx.told(start), "` at "]);
-        words.put_place(cx, span.from);
+        words.put_place(cx.bytes, span.from);
         words.put(" on between parentheses");
-        to.propose(cx, 0, words);
+        to.propose(cx.alloc, 0, words);
         to.change(span, text);
     } else {
         exchange_text(cx, to, span, text);

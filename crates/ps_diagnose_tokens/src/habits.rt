@@ -12,8 +12,9 @@ use crate::rule::Step::{
 };
 use crate::rule::{Fact, More, Place, Steps};
 use crate::spread::statement_end;
-use crate::tell::{Telling, joined, move_up};
+use crate::tell::{joined, move_up};
 use crate::tests::first_of;
+use ps_diagnose::Telling;
 use ps_scan::Kind;
 use ps_text::Span;
 
@@ -133,10 +134,10 @@ pub(crate) fn enclose(cx: &Context<'_>, to: &mut Telling, first: &Place, behind:
     };
     let (begin, end) = (cx.span(first).from, cx.span(behind).from);
     let mut words = joined(cx, &["put `begin` before `", cx.told(first), "` at "]);
-    words.put_place(cx, begin);
+    words.put_place(cx.bytes, begin);
     words.put_all(&[", and `end` before `", cx.told(behind), "` at "]);
-    words.put_place(cx, end);
-    to.propose(cx, 0, words);
+    words.put_place(cx.bytes, end);
+    to.propose(cx.alloc, 0, words);
     to.change(
         Span {
             from: begin,

@@ -10,9 +10,9 @@ use crate::rule::Step::{
     Token, Touches,
 };
 use crate::rule::{Fact, More, Steps};
-use crate::tell::{Telling, exchange, joined};
+use crate::tell::{exchange, joined};
 use crate::tests::first_of;
-use ps_diagnose::RequiredName;
+use ps_diagnose::{RequiredName, Telling};
 use ps_scan::Kind;
 
 // What is left out; the last rule fits each refusal.

@@ -7,8 +7,9 @@ use crate::rule::Step::{Fails, Fits, InPart, Is, IsNot, NotBefore, Or, Rule};
 use crate::rule::{Fact, Steps};
 use crate::spread::statement_end;
 use crate::table::{numbers_of, text_at};
-use crate::tell::{Telling, Text, exchange, exchange_text, joined, refusal, shown, take_away};
+use crate::tell::{exchange, exchange_text, joined, refusal, shown, take_away};
 use crate::tests::first_of;
+use ps_diagnose::{Telling, Text};
 use ps_scan::Kind;
 
 /// The part of the table for the place.

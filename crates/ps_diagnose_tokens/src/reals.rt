@@ -2,9 +2,9 @@
 
 use crate::context::Context;
 use crate::letters::{Class, byte_at, end_of, is_in, span_at};
-use crate::tell::{Telling, Text, empty, shown};
+use crate::tell::shown;
 use crate::tests::is_named;
-use ps_diagnose::RequiredName;
+use ps_diagnose::{RequiredName, Telling, Text};
 use ps_text::Span;
 
 // The most uses that are told.
@@ -120,7 +120,7 @@ fn put_use(cx: &Context<'_>, out: &mut Text, found: Span) {
     out.put(sign);
     out.put(shown(text));
     out.put("` at ");
-    out.put_place(cx, found.from);
+    out.put_place(cx.bytes, found.from);
 }
 
 // Puts the uses of real numbers that are not at the place.
@@ -148,7 +148,7 @@ fn put_uses(cx: &Context<'_>, out: &mut Text) {
 
 /// Tells the other uses of real numbers, if there are any.
 pub(crate) fn note_others(cx: &Context<'_>, to: &mut Telling) {
-    let mut text = empty(cx.alloc);
+    let mut text = Text::new(cx.alloc);
     put_uses(cx, &mut text);
     if !text.string.is_empty() || text.has_failed {
         to.note(text);

@@ -11,12 +11,12 @@ use crate::rule::Place::Here;
 use crate::rule::Step::{Expects, Put, Says, Tell, Token};
 use crate::rule::{More, Steps};
 use crate::scanned::{comment_before, comment_of_line, rule_of_scanner};
-use crate::tell::{Telling, nothing, refusal};
+use crate::tell::refusal;
 use crate::telling::tell_rule;
 use crate::{
     assigned, bounds, compared, declaring, ended, habits, left_out, lists, missing, parts, slips,
 };
-use ps_diagnose::{Draft, ReportedFault};
+use ps_diagnose::{Draft, ReportedFault, Telling};
 use std::alloc::{AllocError, Global};
 use std::mem::replace;
 
@@ -96,23 +96,12 @@ fn tell(cx: &Context<'_>, to: &mut Telling, number: u8) {
     }
 }
 
-// What has been told, if no memory was refused for it.
-fn answer(to: Telling) -> Result<Draft, AllocError> {
-    if to.has_failed {
-        return Err(AllocError);
-    }
-    Ok(to.draft)
-}
-
 // What is told of a refusal by the scanner or the parser.
 fn told(alloc: Global, fault: &ReportedFault<'_>) -> Result<Draft, AllocError> {
     let cx = context_of(alloc, fault)?;
-    let mut to = Telling {
-        draft: nothing(alloc),
-        has_failed: false,
-    };
+    let mut to = Telling::new(alloc);
     tell(&cx, &mut to, fault.number);
-    answer(to)
+    to.finished()
 }
 
 // Whether a refusal is one by the scanner or the parser.
@@ -158,11 +147,11 @@ pub fn missing_before(
 ) -> Result<(), AllocError> {
     let cx = context_of(alloc, fault)?;
     let mut to = Telling {
-        draft: replace(draft, nothing(alloc)),
+        draft: replace(draft, Draft::new(alloc)),
         has_failed: false,
     };
     tell_missing(&cx, &mut to, token);
-    *draft = answer(to)?;
+    *draft = to.finished()?;
     Ok(())
 }
 

@@ -11,10 +11,10 @@ use crate::rule::Step::{
 use crate::rule::{Fact, More, Steps};
 use crate::signs::rule_of_byte;
 use crate::slashes::exchange_slashes;
-use crate::tell::{Telling, add_change, exchange, exchange_text, joined, shown, take_away};
+use crate::tell::{add_change, exchange, exchange_text, joined, shown, take_away};
 use crate::telling::advise;
 use crate::tests::{first_of, is_named};
-use ps_diagnose::RequiredName;
+use ps_diagnose::{RequiredName, Telling};
 use ps_scan::Kind;
 use ps_text::Span;
 
@@ -216,9 +216,9 @@ pub(crate) fn comment_before(cx: &Context<'_>, to: &mut Telling) {
         return;
     };
     let mut text = joined(cx, &["the comment that begins at "]);
-    text.put_place(cx, comment.from);
+    text.put_place(cx.bytes, comment.from);
     text.put(" ends at ");
-    text.put_place(cx, comment.to);
+    text.put_place(cx.bytes, comment.to);
     text.put(", at the first `}` behind it");
     to.note(text);
 }
@@ -284,10 +284,10 @@ pub(crate) fn propose_closed(cx: &Context<'_>, to: &mut Telling) {
     let end = before_signs(cx.bytes, cx.place.from as usize);
     let at = span_at(end, end);
     let mut words = joined(cx, &["write `''` for `'` at "]);
-    words.put_place(cx, from);
+    words.put_place(cx.bytes, from);
     words.put_all(&[", and put `'` behind `", word_before(cx, end), "` at "]);
-    words.put_place(cx, at.from);
-    to.propose(cx, 0, words);
+    words.put_place(cx.bytes, at.from);
+    to.propose(cx.alloc, 0, words);
     to.change(Span { from, to: last }, joined(cx, &["''"]));
     to.change(at, joined(cx, &["'"]));
 }

@@ -11,8 +11,9 @@ use crate::rule::Step::{
 };
 use crate::rule::{Fact, More, Steps};
 use crate::table::{SIGNS_OF_PROGRAMS, SIGNS_OF_STATEMENTS};
-use crate::tell::{Telling, Text, empty, exchange, exchange_text, joined, shown};
+use crate::tell::{exchange, exchange_text, joined, shown};
 use crate::tests::first_of;
+use ps_diagnose::{Telling, Text};
 use ps_scan::Kind;
 
 /// What a sign that begins no token is.
@@ -236,7 +237,7 @@ fn next_like<'a>(bytes: &'a [u8], from: usize, sign: Sign) -> Option<(usize, &'a
 // Tells the exchange of a quote by an apostrophe.
 fn put_exchange(cx: &Context<'_>, out: &mut Text, quote: &str, at: usize) {
     out.put_all(&["write `'` for `", quote, "` at "]);
-    out.put_place(cx, span_at(at, at).from);
+    out.put_place(cx.bytes, span_at(at, at).from);
 }
 
 // Adds the exchange of a quote by an apostrophe.
@@ -250,14 +251,14 @@ pub(crate) fn exchange_quotes(cx: &Context<'_>, to: &mut Telling) {
     let at = cx.place.from as usize;
     let quote = letter_here(cx);
     let second = next_like(cx.bytes, at.saturating_add(quote.len()), sign_here(cx));
-    let mut words = empty(cx.alloc);
+    let mut words = Text::new(cx.alloc);
     put_exchange(cx, &mut words, quote, at);
     if let Some((next, other)) = second {
         words.put(", and ");
         put_exchange(cx, &mut words, other, next);
         words.put(words_of_apostrophes(cx, at, next));
     }
-    to.propose(cx, 0, words);
+    to.propose(cx.alloc, 0, words);
     change_quote(cx, to, quote, at);
     if let Some((next, other)) = second {
         double_between(cx, to, at, next);
@@ -305,7 +306,7 @@ fn words_of_spaces(cx: &Context<'_>, count: u32) -> Text {
         return joined(cx, &["write a plain space for it"]);
     }
     let mut words = joined(cx, &["write plain spaces for it and the others, "]);
-    words.put_number(count);
+    words.put_number(i64::from(count));
     words.put(" in all");
     words
 }
@@ -313,7 +314,7 @@ fn words_of_spaces(cx: &Context<'_>, count: u32) -> Text {
 /// Proposes plain spaces for all of the kind at the place.
 pub(crate) fn exchange_spaces(cx: &Context<'_>, to: &mut Telling) {
     let text = letter_here(cx);
-    to.propose(cx, 0, words_of_spaces(cx, count_of(cx, text)));
+    to.propose(cx.alloc, 0, words_of_spaces(cx, count_of(cx, text)));
     for at in cx.place.from as usize..cx.bytes.len() {
         if stands_at(cx.bytes, at, text) {
             let span = span_at(at, at.saturating_add(text.len()));
@@ -341,8 +342,8 @@ pub(crate) fn exchange_sign(cx: &Context<'_>, to: &mut Telling, sign: &str, put:
     let before = space_beside(byte_before(cx.bytes, at));
     let behind = space_beside(byte_at(cx.bytes, end));
     let mut words = joined(cx, &["write `", put, "` for `", sign, "` at "]);
-    words.put_place(cx, cx.place.from);
-    to.propose(cx, 0, words);
+    words.put_place(cx.bytes, cx.place.from);
+    to.propose(cx.alloc, 0, words);
     let mut spaced = joined(cx, &[before]);
     spaced.put(put);
     spaced.put(behind);
@@ -370,7 +371,7 @@ pub(crate) fn exchange_hexadecimal(cx: &Context<'_>, to: &mut Telling) {
     let Ok(number) = u32::from_str_radix(digits, 16) else {
         return;
     };
-    let mut put = empty(cx.alloc);
-    put.put_number(number);
+    let mut put = Text::new(cx.alloc);
+    put.put_number(i64::from(number));
     exchange_text(cx, to, span_at(at, end), put);
 }

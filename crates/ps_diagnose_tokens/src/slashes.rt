@@ -3,7 +3,8 @@
 use crate::context::Context;
 use crate::letters::{byte_at, span_at, trimmed_end};
 use crate::reals::behind;
-use crate::tell::{Telling, Text, empty, exchange_text, joined, shown};
+use crate::tell::{exchange_text, joined, shown};
+use ps_diagnose::{Telling, Text};
 
 // The text of a comment that may stand between braces.
 fn text_of(inner: &[u8]) -> Option<&str> {
@@ -43,13 +44,13 @@ fn next_from(cx: &Context<'_>, from: usize) -> Option<usize> {
 // Tells the first comment that is changed.
 fn words_of(cx: &Context<'_>, from: usize, are_more: bool) -> Text {
     let Some((end, text)) = comment_at(cx, from) else {
-        return empty(cx.alloc);
+        return Text::new(cx.alloc);
     };
     let span = span_at(from, end);
     let put = joined(cx, &["{", text, " }"]);
     let mut words = joined(cx, &["write `", shown(put.string.as_bytes())]);
     words.put_all(&["` for `", shown(cx.piece(span)), "` at "]);
-    words.put_place(cx, span.from);
+    words.put_place(cx.bytes, span.from);
     if are_more {
         words.put(", and so with all that stands behind `//`");
     }
@@ -82,7 +83,7 @@ pub(crate) fn exchange_slashes(cx: &Context<'_>, to: &mut Telling) {
         return;
     };
     let are_more = next_from(cx, behind(cx.bytes, first)).is_some();
-    to.propose(cx, 0, words_of(cx, first, are_more));
+    to.propose(cx.alloc, 0, words_of(cx, first, are_more));
     change_comments(cx, to, first);
 }
 
@@ -115,10 +116,10 @@ pub(crate) fn exchange_stars(cx: &Context<'_>, to: &mut Telling) {
     };
     let last = span_at(end, end.saturating_add(2));
     let mut words = joined(cx, &["write `(*` for `/*` at "]);
-    words.put_place(cx, cx.place.from);
+    words.put_place(cx.bytes, cx.place.from);
     words.put(", and `*)` for `*/` at ");
-    words.put_place(cx, last.from);
-    to.propose(cx, 0, words);
+    words.put_place(cx.bytes, last.from);
+    to.propose(cx.alloc, 0, words);
     to.change(span_at(from, behind), joined(cx, &["(*"]));
     to.change(last, joined(cx, &["*)"]));
 }

@@ -1,8 +1,8 @@
 //! Words of the language that are spelled otherwise.
 
 use crate::context::Context;
-use crate::tell::{Telling, empty, exchange};
-use ps_diagnose::{RequiredName, nearest};
+use crate::tell::exchange;
+use ps_diagnose::{RequiredName, Telling, Text, nearest};
 use ps_scan::Kind;
 use std::alloc::AllocError;
 
@@ -46,9 +46,9 @@ fn word_near(
     name: &[u8],
     words: &[&'static str],
 ) -> Result<Option<&'static str>, AllocError> {
-    let mut small = empty(cx.alloc);
+    let mut small = Text::new(cx.alloc);
     for byte in name.iter() {
-        small.put_byte(byte.to_ascii_lowercase());
+        small.put_sign(byte.to_ascii_lowercase() as char);
     }
     if small.has_failed {
         return Err(AllocError);

@@ -1,148 +1,15 @@
-//! Putting a draft together: its sentence, second places, helps and changes that are worth a trial. Where memory is
-//! refused, that is remembered to the end, and what would have been told is left out.
+//! Pieces of the text as they are told, and the changes that are proposed.
 
 use crate::context::Context;
-use ps_diagnose::{Draft, Trial};
-use ps_diagnostic::{Edit, Label};
+use ps_diagnose::{Telling, Text};
 use ps_text::Span;
-use std::alloc::Global;
 
 // The most signs of a piece of the text that are told.
 const MOST: usize = 40;
 
-/// A text that is being told.
-#[derive(Drop)]
-pub(crate) struct Text {
-    pub(crate) string: String,
-    /// Whether memory was refused for it.
-    pub(crate) has_failed: bool,
-}
-
-/// A text without anything.
-pub(crate) fn empty(alloc: Global) -> Text {
-    Text {
-        string: String::new(alloc),
-        has_failed: false,
-    }
-}
-
-impl Text {
-    /// Puts a piece behind the others.
-    pub(crate) fn put(&mut self, piece: &str) {
-        if self.string.push_str(piece).is_err() {
-            self.has_failed = true;
-        }
-    }
-
-    /// Puts pieces behind one another.
-    pub(crate) fn put_all(&mut self, pieces: &[&str]) {
-        for piece in pieces.iter() {
-            self.put(piece);
-        }
-    }
-
-    /// Puts a number.
-    pub(crate) fn put_number(&mut self, number: u32) {
-        if write!(self.string, "{number}").is_err() {
-            self.has_failed = true;
-        }
-    }
-
-    /// Puts a character of one byte.
-    pub(crate) fn put_byte(&mut self, byte: u8) {
-        if self.string.push(byte as char).is_err() {
-            self.has_failed = true;
-        }
-    }
-
-    /// Puts the line and the column of an offset, from 1 on.
-    pub(crate) fn put_place(&mut self, cx: &Context<'_>, offset: u32) {
-        let (line, column) = place_of(cx.bytes, offset);
-        self.put_number(line);
-        self.put(":");
-        self.put_number(column);
-    }
-}
-
-/// A draft that is being told.
-#[derive(Drop)]
-pub(crate) struct Telling {
-    pub(crate) draft: Draft,
-    /// Whether memory was refused for it.
-    pub(crate) has_failed: bool,
-}
-
-/// What is told of nothing yet.
-pub(crate) fn nothing(alloc: Global) -> Draft {
-    Draft {
-        text: String::new(alloc),
-        labels: Vec::new(alloc),
-        expects: false,
-        trials: Vec::new(alloc),
-        notes: Vec::new(alloc),
-        helps: Vec::new(alloc),
-    }
-}
-
-impl Telling {
-    // Remembers whether memory was refused for a text, and gives it back.
-    fn taken(&mut self, text: Text) -> String {
-        self.has_failed = self.has_failed || text.has_failed;
-        text.string
-    }
-
-    /// Tells the sentence.
-    pub(crate) fn say(&mut self, text: Text) {
-        self.draft.text = self.taken(text);
-    }
-
-    /// Tells a second place.
-    pub(crate) fn label(&mut self, span: Span, text: Text) {
-        let text = self.taken(text);
-        if self.draft.labels.push(Label { span, text }).is_err() {
-            self.has_failed = true;
-        }
-    }
-
-    /// Tells something beside.
-    pub(crate) fn note(&mut self, text: Text) {
-        let text = self.taken(text);
-        if self.draft.notes.push(text).is_err() {
-            self.has_failed = true;
-        }
-    }
-
-    /// Tells what to do.
-    pub(crate) fn help(&mut self, text: Text) {
-        let text = self.taken(text);
-        if self.draft.helps.push(text).is_err() {
-            self.has_failed = true;
-        }
-    }
-
-    /// Proposes changes, which are put behind, in words.
-    pub(crate) fn propose(&mut self, cx: &Context<'_>, cost: u32, words: Text) {
-        let text = self.taken(words);
-        let edits = Vec::new(cx.alloc);
-        if self.draft.trials.push(Trial { text, edits, cost }).is_err() {
-            self.has_failed = true;
-        }
-    }
-
-    /// Adds to the last changes that something stands in the place of a span.
-    pub(crate) fn change(&mut self, span: Span, put: Text) {
-        let put = self.taken(put);
-        if let Some(trial) = self.draft.trials.last_mut()
-            && trial.edits.push(Edit { span, put }).is_err()
-        {
-            self.has_failed = true;
-        }
-    }
-}
-
 /// Pieces as one text.
 pub(crate) fn joined(cx: &Context<'_>, pieces: &[&str]) -> Text {
-    let mut text = empty(cx.alloc);
+    let mut text = Text::new(cx.alloc);
     text.put_all(pieces);
     text
 }
@@ -169,21 +36,6 @@ pub(crate) fn shown(bytes: &[u8]) -> &str {
     }
 }
 
-/// The line and the column of an offset, from 1 on.
-pub(crate) fn place_of(bytes: &[u8], offset: u32) -> (u32, u32) {
-    let mut line: u32 = 1;
-    let mut column: u32 = 1;
-    for byte in bytes.get(..offset as usize).unwrap_or(bytes).iter() {
-        if *byte == b'\n' {
-            line = line.saturating_add(1);
-            column = 1;
-        } else {
-            column = column.saturating_add(1);
-        }
-    }
-    (line, column)
-}
-
 /// Begins the sentence that the token cannot stand at the place; why is put behind it.
 pub(crate) fn refusal(cx: &Context<'_>) -> Text {
     joined(cx, &["`", cx.told(cx.at), "` cannot stand here: "])
@@ -199,8 +51,8 @@ pub(crate) fn add_change(
     words: &[&str],
 ) {
     let mut text = joined(cx, words);
-    text.put_place(cx, span.from);
-    to.propose(cx, cost, text);
+    text.put_place(cx.bytes, span.from);
+    to.propose(cx.alloc, cost, text);
     to.change(span, joined(cx, &[put]));
 }
 
@@ -260,9 +112,9 @@ pub(crate) fn move_up(
         words.put_all(&[" as `", word, moved, "`"]);
     }
     words.put_all(&[" before `", cx.told(before), "` at "]);
-    words.put_place(cx, from);
-    to.propose(cx, 0, words);
+    words.put_place(cx.bytes, from);
+    to.propose(cx.alloc, 0, words);
     let line = str::from_utf8(cx.piece(piece)).unwrap_or("");
     to.change(Span { from, to: from }, joined(cx, &[word, line, "\n"]));
-    to.change(span, empty(cx.alloc));
+    to.change(span, Text::new(cx.alloc));
 }

@@ -23,11 +23,11 @@ use crate::signs::{
 use crate::slashes::{exchange_hash, exchange_slashes, exchange_stars};
 use crate::spelled::{propose_file, propose_words};
 use crate::tell::{
-    Telling, Text, exchange_text, joined, move_up, place_of, put_before, put_behind, refusal,
-    shown, take_away,
+    exchange_text, joined, move_up, put_before, put_behind, refusal, shown, take_away,
 };
 use crate::tests::holds;
 use crate::underscores::exchange_underscores;
+use ps_diagnose::{Telling, Text, place_of};
 
 /// Tells what a rule tells: the steps behind its tests, up to the next rule.
 pub(crate) fn tell_rule(cx: &Context<'_>, to: &mut Telling, steps: Steps) {
@@ -149,9 +149,10 @@ fn put_piece(cx: &Context<'_>, out: &mut Text, step: &'static Step) -> bool {
         Step::Put(text) => out.put(text),
         Step::Token(place) => out.put(cx.told(at_or_here(cx, place))),
         Step::Tokens(reach) => out.put(shown(cx.piece(span_of(cx, reach)))),
-        Step::Where(place) => out.put_place(cx, cx.span(at_or_here(cx, place)).from),
+        Step::Where(place) => out.put_place(cx.bytes, cx.span(at_or_here(cx, place)).from),
         Step::Line(place) => {
-            out.put_number(place_of(cx.bytes, cx.span(at_or_here(cx, place)).from).0)
+            let (line, _) = place_of(cx.bytes, cx.span(at_or_here(cx, place)).from);
+            out.put_number(i64::from(line));
         }
         Step::Declares(place) => out.put(declared_by(cx.kind(at_or_here(cx, place)))),
         Step::Routine => out.put(routine(cx)),
@@ -166,7 +167,7 @@ fn put_bytes(cx: &Context<'_>, out: &mut Text, step: &'static Step) -> bool {
     match step {
         Step::Letter => out.put(letter_here(cx)),
         Step::Code => put_code(cx, out),
-        Step::Byte => out.put_number(byte_at(cx.bytes, cx.place.from as usize) as u32),
+        Step::Byte => out.put_number(i64::from(byte_at(cx.bytes, cx.place.from as usize))),
         Step::Found => out.put(shown(cx.piece(cx.place))),
         Step::Run(class) => out.put(shown_from(cx, cx.place.from as usize, *class)),
         _ => return false,

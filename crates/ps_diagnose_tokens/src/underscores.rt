@@ -2,7 +2,8 @@
 
 use crate::context::Context;
 use crate::letters::{Class, end_of, span_at, start_of};
-use crate::tell::{Telling, Text, empty, joined, shown, take_away};
+use crate::tell::{joined, shown, take_away};
+use ps_diagnose::{Telling, Text};
 use ps_text::Span;
 use std::alloc::{AllocError, Global};
 
@@ -17,11 +18,12 @@ fn put_plain(out: &mut Text, name: &[u8]) {
         if *byte == b'_' {
             is_behind = !is_first;
         } else {
-            out.put_byte(if is_behind {
+            let letter = if is_behind {
                 byte.to_ascii_uppercase()
             } else {
                 *byte
-            });
+            };
+            out.put_sign(letter as char);
             is_behind = false;
             is_first = false;
         }
@@ -63,7 +65,7 @@ fn name_at(bytes: &[u8], at: usize) -> Span {
 // Adds the changes of all names.
 fn change_names(cx: &Context<'_>, to: &mut Telling, all: &[Span]) {
     for name in all.iter() {
-        let mut put = empty(cx.alloc);
+        let mut put = Text::new(cx.alloc);
         put_plain(&mut put, cx.piece(*name));
         to.change(*name, put);
     }
@@ -83,13 +85,13 @@ fn put_others(cx: &Context<'_>, out: &mut Text, all: &[Span]) {
     for (number, name) in all.iter().enumerate() {
         if number < MOST {
             out.put(before_place(number, all.len()));
-            out.put_place(cx, name.from);
+            out.put_place(cx.bytes, name.from);
         }
     }
     let more = all.len().saturating_sub(MOST);
     if more > 0 {
         out.put(" and at ");
-        out.put_number(more.min(u32::MAX as usize) as u32);
+        out.put_number(i64::from(more.min(u32::MAX as usize) as u32));
         out.put(if more == 1 {
             " other place"
         } else {
@@ -114,7 +116,7 @@ fn put_places(cx: &Context<'_>, out: &mut Text, all: &[Span], name: &[u8]) {
         [] => {}
         [first, others @ ..] if are_alike(cx, all, name) => {
             out.put(" at ");
-            out.put_place(cx, first.from);
+            out.put_place(cx.bytes, first.from);
             put_others(cx, out, others);
         }
         _ => out.put(", and so with all names that have a `_`"),
@@ -127,7 +129,7 @@ fn propose_names(cx: &Context<'_>, to: &mut Telling, all: &[Span], name: &[u8]) 
     put_plain(&mut words, name);
     words.put_all(&["` for `", shown(name), "`"]);
     put_places(cx, &mut words, all, name);
-    to.propose(cx, 0, words);
+    to.propose(cx.alloc, 0, words);
     change_names(cx, to, all);
 }
 
