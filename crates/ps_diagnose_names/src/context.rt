@@ -1,9 +1,8 @@
 //! What is known where a reason is looked for, and how forms are put into words.
 
 use crate::spot::{Seen, Spot};
-use crate::text::Text;
 use crate::why::Why;
-use ps_diagnose::ReportedFault;
+use ps_diagnose::{ReportedFault, Text};
 use ps_diagnose_outline::{Outline, PointKind, Type};
 use ps_text::Span;
 use std::alloc::Global;
@@ -55,19 +54,6 @@ pub(crate) fn long(count: usize) -> i64 {
     i64::try_from(count).unwrap_or(i64::MAX)
 }
 
-// How many bytes stand before an offset on its line.
-fn column_of(text: &[u8], offset: usize) -> usize {
-    let mut column: usize = 0;
-    for byte in text.get(..offset).unwrap_or(&[]) {
-        column = if *byte == b'\n' {
-            0
-        } else {
-            column.saturating_add(1)
-        };
-    }
-    column
-}
-
 // What stands between the apostrophes of a string.
 fn inner(literal: &[u8]) -> &str {
     match literal {
@@ -84,21 +70,6 @@ fn put_spaces(out: &mut Text, count: u32) {
 }
 
 impl<'a> Context<'a> {
-    /// Puts a number.
-    pub(crate) fn put_number(&self, out: &mut Text, number: i64) {
-        out.put_made(number.to_string(self.alloc));
-    }
-
-    /// Puts a place as line and column.
-    pub(crate) fn put_place(&self, out: &mut Text, offset: u32) {
-        let within = offset.min(self.fault.source.len());
-        let line = self.fault.source.line_of(within);
-        let column = column_of(self.fault.source.bytes(), within as usize);
-        self.put_number(out, i64::from(line));
-        out.put_sign(':');
-        self.put_number(out, long(column).saturating_add(1));
-    }
-
     /// Puts what stands in a span.
     pub(crate) fn put_text(&self, out: &mut Text, span: Span) {
         out.put_made(self.outline.text(self.alloc, span));
@@ -118,7 +89,7 @@ impl<'a> Context<'a> {
         match self.outline.words(self.alloc, ty) {
             Ok(Some(words)) => out.put(words.as_str()),
             Ok(None) => out.put("of another type"),
-            Err(_) => out.is_short = true,
+            Err(_) => out.has_failed = true,
         }
     }
 
@@ -135,11 +106,11 @@ impl<'a> Context<'a> {
             'u' => self.put_type(out, why.second),
             'N' if why.number == 0 => out.put("none"),
             'M' if why.further == 0 => out.put("none"),
-            'n' | 'N' => self.put_number(out, why.number),
-            'm' | 'M' => self.put_number(out, why.further),
+            'n' | 'N' => out.put_number(why.number),
+            'm' | 'M' => out.put_number(why.further),
             'w' => out.put(why.word),
             'k' => out.put(kind_words(why.kind)),
-            'l' => self.put_place(out, why.other.from),
+            'l' => out.put_place(self.fault.source.bytes(), why.other.from),
             'i' => out.put(inner(self.outline.bytes(own.text))),
             's' => put_spaces(out, own.spaces),
             _ => {}

@@ -38,18 +38,14 @@ impl<'a> Walk<'a> {
 
     #[cycle(heading)]
     fn heading(&mut self, heading: &'a Heading) {
-        match heading {
-            Heading::Procedure(_, sections) => self.sections(sections.as_slice()),
+        let sections = match heading {
+            Heading::Procedure(_, sections) => sections,
             Heading::Function(name, sections, result) => {
                 self.note(result.from, Spot::Result(*name, *result));
-                self.sections(sections.as_slice())
+                sections
             }
-        }
-    }
-
-    #[cycle(heading)]
-    fn sections(&mut self, sections: &'a [Section]) {
-        for section in sections {
+        };
+        for section in sections.as_slice() {
             match section {
                 Section::Value(_, name) | Section::Variable(_, name) => {
                     self.note(name.from, Spot::TypeName(*name));

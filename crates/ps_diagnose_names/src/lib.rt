@@ -17,7 +17,6 @@ mod routines;
 mod selected;
 mod spot;
 mod tell;
-mod text;
 mod twice;
 mod undeclared;
 mod unknown;

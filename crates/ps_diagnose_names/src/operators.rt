@@ -6,27 +6,16 @@ use crate::why::{Change, Help, Mark, Why};
 use ps_diagnose::RequiredName;
 use ps_diagnose_outline::{Form, Part, Type};
 use ps_scan::Kind;
-use ps_syntax::{Adding, Factor, Multiplying, Sign, Simple, Term};
+use ps_syntax::{AddedTerm, Adding, Factor, Multiplying, Sign, Simple, Term};
 use ps_text::Span;
 
-/// The multiplying operator beside an operand, by the operand's number from 0.
-pub(crate) fn multiplying_of(term: &Term, number: u32) -> Multiplying {
-    match term.more.get(number.saturating_sub(1) as usize) {
-        Some(multiplied) => multiplied.operator,
-        None => Multiplying::Times,
-    }
-}
-
-/// The adding operator beside an operand, by the operand's number from 0; a sign applies to the first.
-pub(crate) fn adding_of(simple: &Simple, number: u32) -> Adding {
-    match (
-        &simple.sign,
-        simple.more.get(number.saturating_sub(1) as usize),
-    ) {
-        (Some((Sign::Minus, _)), _) if number == 0 => Adding::Minus,
-        (Some((Sign::Plus, _)), _) if number == 0 => Adding::Plus,
-        (_, Some(added)) => added.operator,
-        (_, None) => Adding::Plus,
+/// The adding operator beside an operand, before which one stands unless it is the first; a sign applies to the first.
+pub(crate) fn adding_of(simple: &Simple, added: Option<&AddedTerm>) -> Adding {
+    match (added, &simple.sign, simple.more.get(0)) {
+        (Some(added), _, _) => added.operator,
+        (None, Some((Sign::Minus, _)), _) => Adding::Minus,
+        (None, None, Some(next)) => next.operator,
+        (None, _, _) => Adding::Plus,
     }
 }
 
@@ -89,14 +78,16 @@ impl<'a> Context<'a> {
     }
 
     /// An operand of `*`, `div`, `mod` or `and`.
-    pub(crate) fn wrong_multiplied(&self, term: &Term, number: u32, why: &mut Why) -> bool {
-        let Some(factor) = factor_of(term, number) else {
-            return false;
-        };
+    pub(crate) fn wrong_multiplied(
+        &self,
+        term: &Term,
+        factor: &Factor,
+        operator: Multiplying,
+        why: &mut Why,
+    ) -> bool {
         let Some(ty) = self.told(self.outline.type_of_factor(factor)) else {
             return false;
         };
-        let operator = multiplying_of(term, number);
         let text = self.factor_span(factor);
         let first = self.outline.type_of_factor(&term.first);
         if matches!(operator, Multiplying::Times) && self.no_set(first, "*", text, ty, why) {
@@ -161,17 +152,23 @@ impl<'a> Context<'a> {
     }
 
     /// An operand of `+`, `-` or `or`, or of a sign.
-    pub(crate) fn wrong_added(&self, simple: &Simple, number: u32, why: &mut Why) -> bool {
-        let Some(term) = term_of(simple, number) else {
-            return false;
+    pub(crate) fn wrong_added(
+        &self,
+        simple: &Simple,
+        added: Option<&AddedTerm>,
+        why: &mut Why,
+    ) -> bool {
+        let term = match added {
+            Some(added) => &added.term,
+            None => &simple.first,
         };
         let Some(ty) = self.told(self.outline.type_of_term(term)) else {
             return false;
         };
         let text = self.term_span(term);
-        match adding_of(simple, number) {
+        match adding_of(simple, added) {
             Adding::Or => self.wrong_or(simple, text, ty, why),
-            Adding::Plus => self.wrong_plus(simple, number, text, ty, why),
+            Adding::Plus => self.wrong_plus(simple, added, text, ty, why),
             Adding::Minus => self.wrong_sum(simple, "-", text, ty, why),
         }
     }
@@ -194,7 +191,7 @@ impl<'a> Context<'a> {
     fn wrong_plus(
         &self,
         simple: &Simple,
-        number: u32,
+        added: Option<&AddedTerm>,
         text: Span,
         ty: Type,
         why: &mut Why,
@@ -204,7 +201,7 @@ impl<'a> Context<'a> {
             return self.wrong_sum(simple, "+", text, ty, why);
         }
         why.form = "`+` cannot take a string";
-        if let Some(added) = simple.more.get(number.saturating_sub(1) as usize) {
+        if let Some(added) = added.or(simple.more.get(0)) {
             why.mark = Mark::At("this `+`", added.at);
             why.help = Help::Is("strings are not joined: `write(a, b)` writes one behind another");
             if self.is_written() {
@@ -309,28 +306,6 @@ impl<'a> Context<'a> {
             Some(first) => matches!(first.kind, Kind::Plus | Kind::Comma | Kind::LeftParen),
             None => false,
         }
-    }
-}
-
-// An operand of multiplying operators, by its number from 0.
-fn factor_of(term: &Term, number: u32) -> Option<&Factor> {
-    match number.checked_sub(1) {
-        None => Some(&term.first),
-        Some(more) => match term.more.get(more as usize) {
-            Some(multiplied) => Some(&multiplied.factor),
-            None => None,
-        },
-    }
-}
-
-// An operand of adding operators, by its number from 0.
-fn term_of(simple: &Simple, number: u32) -> Option<&Term> {
-    match number.checked_sub(1) {
-        None => Some(&simple.first),
-        Some(more) => match simple.more.get(more as usize) {
-            Some(added) => Some(&added.term),
-            None => None,
-        },
     }
 }
 

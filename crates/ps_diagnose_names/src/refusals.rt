@@ -2,11 +2,10 @@
 
 use crate::context::Context;
 use crate::spot::{Spot, seen_among};
-use crate::tell::{Told, untold};
 use crate::uses::other_uses;
 use crate::walk::Walk;
 use crate::why::Why;
-use ps_diagnose::{Draft, ReportedFault};
+use ps_diagnose::{Draft, ReportedFault, Telling};
 use ps_diagnose_outline::Outline;
 use ps_syntax::Program;
 use ps_text::Span;
@@ -86,7 +85,7 @@ impl<'a> Context<'a> {
     }
 
     // Writes what is told of a refusal, and tells whether anything is.
-    fn write(&self, out: &mut Told) -> Result<bool, AllocError> {
+    fn write(&self, out: &mut Telling) -> Result<bool, AllocError> {
         if self.fault.number == 30 {
             self.unknown(out)?;
             return Ok(true);
@@ -97,16 +96,6 @@ impl<'a> Context<'a> {
             self.tell(&why, out);
         }
         Ok(is_known)
-    }
-}
-
-// What is told, if anything is, and if there was memory for it.
-fn draft_of(out: Told, is_told: bool) -> Result<Option<Draft>, AllocError> {
-    let Told { draft, is_short } = out;
-    match (is_short, is_told) {
-        (true, _) => Err(AllocError),
-        (false, true) => Ok(Some(draft)),
-        (false, false) => Ok(None),
     }
 }
 
@@ -123,7 +112,8 @@ pub fn drafted(
         place: fault.place,
     };
     let context = context_of(alloc, own, &*program)?;
-    let mut out = untold(alloc);
+    let mut out = Telling::new(alloc);
     let is_told = context.write(&mut out)?;
-    draft_of(out, is_told)
+    let draft = out.finished()?;
+    Ok(if is_told { Some(draft) } else { None })
 }

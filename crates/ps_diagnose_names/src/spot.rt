@@ -2,7 +2,8 @@
 
 use ps_diagnose_outline::count_of;
 use ps_syntax::{
-    Constant, Element, Expr, Factor, Member, Ordinal, Parameter, Relational, Simple, Term, Variable,
+    AddedTerm, Constant, Element, Expr, Factor, Member, Multiplying, Ordinal, Parameter,
+    Relational, Simple, Term, Variable,
 };
 use ps_text::Span;
 
@@ -39,10 +40,10 @@ pub(crate) enum Spot<'a> {
     /// An index: the variable, how many selectors and how many indices stand before it.
     Index(&'a Variable, u32, u32, &'a Expr),
     Compare(&'a Simple, Relational, &'a Simple),
-    /// An operand of adding operators, by its number from 0.
-    Added(&'a Simple, u32),
-    /// An operand of multiplying operators, by its number from 0.
-    Multiplied(&'a Term, u32),
+    /// An operand of adding operators, with the operator before it unless it is the first.
+    Added(&'a Simple, Option<&'a AddedTerm>),
+    /// An operand of multiplying operators, and the operator beside it.
+    Multiplied(&'a Term, &'a Factor, Multiplying),
     Not(Span, &'a Factor),
     /// A member of a set constructor.
     Member(&'a [Member], &'a Expr),

@@ -2,7 +2,7 @@
 
 use crate::context::Context;
 use crate::facts::CHAR;
-use crate::operators::{adding_of, multiplying_of};
+use crate::operators::adding_of;
 use crate::spot::Spot;
 use crate::why::{Change, Help, Why};
 use ps_diagnose::RequiredName;
@@ -144,14 +144,12 @@ impl<'a> Context<'a> {
             Spot::Condition(_) | Spot::Not(..) => Some(Type::Boolean),
             Spot::Control(_) => Some(self.control_type().unwrap_or(Type::Integer)),
             Spot::Bound(control, _) => self.outline.type_of_name(control),
-            Spot::Added(simple, number) => Some(match adding_of(simple, number) {
+            Spot::Added(simple, added) => Some(match adding_of(simple, added) {
                 Adding::Or => Type::Boolean,
                 Adding::Plus | Adding::Minus => Type::Integer,
             }),
-            Spot::Multiplied(term, number) => Some(match multiplying_of(term, number) {
-                Multiplying::And => Type::Boolean,
-                _ => Type::Integer,
-            }),
+            Spot::Multiplied(_, _, Multiplying::And) => Some(Type::Boolean),
+            Spot::Multiplied(..) => Some(Type::Integer),
             Spot::Passed(name, number, _) => self.type_passed(name, number),
             Spot::Compare(left, _, right) => self
                 .outline

@@ -6,10 +6,8 @@ use crate::facts::{
     required_kind,
 };
 use crate::spot::Spot;
-use crate::tell::Told;
-use crate::text::Text;
 use crate::why::{Change, Help, Mark, Why};
-use ps_diagnose::nearest;
+use ps_diagnose::{Telling, Text, nearest};
 use ps_diagnose_outline::{Form, Point, PointKind, RegionKind, required_names};
 use ps_scan::Kind;
 use ps_syntax::Variable;
@@ -30,7 +28,7 @@ const MOST_PLACES: usize = 6;
 
 impl<'a> Context<'a> {
     /// Tells of a name that is not declared.
-    pub(crate) fn unknown(&self, out: &mut Told) -> Result<(), AllocError> {
+    pub(crate) fn unknown(&self, out: &mut Telling) -> Result<(), AllocError> {
         if let Some((variable, before)) = self.seen.selected {
             return self.unknown_field(out, variable, before);
         }
@@ -62,11 +60,11 @@ impl<'a> Context<'a> {
         for span in self.uses.iter().take(told) {
             number = number.saturating_add(1);
             text.put(joint(number, told, self.uses.len()));
-            self.put_place(&mut text, span.from);
+            text.put_place(self.fault.source.bytes(), span.from);
         }
         if told < self.uses.len() {
             text.put(" and at ");
-            self.put_number(&mut text, long(self.uses.len().saturating_sub(told)));
+            text.put_number(long(self.uses.len().saturating_sub(told)));
             text.put(" more places");
         }
         text.put(" too");
@@ -76,7 +74,7 @@ impl<'a> Context<'a> {
     // A field behind a point.
     fn unknown_field(
         &self,
-        out: &mut Told,
+        out: &mut Telling,
         variable: &Variable,
         before: u32,
     ) -> Result<(), AllocError> {
@@ -113,7 +111,7 @@ impl<'a> Context<'a> {
     }
 
     // Tells the fields of a record, and tries the nearest.
-    fn tell_fields(&self, out: &mut Told, why: &mut Why, region: u32) -> Result<(), AllocError> {
+    fn tell_fields(&self, out: &mut Telling, why: &mut Why, region: u32) -> Result<(), AllocError> {
         let fields = self.fields_of(region)?;
         if let Some(near) = self.nearest_of(fields.as_slice())? {
             why.other = near.name;

@@ -68,10 +68,7 @@ impl<'a> Walk<'a> {
                 last,
                 body,
                 ..
-            } => {
-                self.bounds(*variable, first.get(), last.get());
-                self.counted(*variable, body.get())
-            }
+            } => { self.counted(*variable, first.get(), last.get(), body.get()) }
             Statement::With(records, body) => {
                 self.records(records.as_slice());
                 self.statement(body.get())
@@ -79,9 +76,12 @@ impl<'a> Walk<'a> {
         }
     }
 
-    // What a `for` does, which lies round the place if it is the first to find something.
+    // A `for`, whose statement lies round the place if it is the first to find something.
     #[cycle(statement)]
-    fn counted(&mut self, variable: Span, body: &'a Statement) {
+    fn counted(&mut self, variable: Span, first: &'a Expr, last: &'a Expr, body: &'a Statement) {
+        self.note(variable.from, Spot::Control(variable));
+        self.value(first, Spot::Bound(variable, first));
+        self.value(last, Spot::Bound(variable, last));
         let was_empty = self.found.is_empty();
         self.statement(body);
         if was_empty && !self.found.is_empty() && self.controls.push(variable).is_err() {
@@ -127,13 +127,6 @@ impl<'a> Walk<'a> {
             }
             number = number.saturating_add(1);
         }
-    }
-
-    // The control variable and the bounds of a `for`.
-    fn bounds(&mut self, variable: Span, first: &'a Expr, last: &'a Expr) {
-        self.note(variable.from, Spot::Control(variable));
-        self.value(first, Spot::Bound(variable, first));
-        self.value(last, Spot::Bound(variable, last));
     }
 
     fn records(&mut self, records: &'a [Variable]) {
@@ -193,32 +186,32 @@ impl<'a> Walk<'a> {
     #[cycle(expression)]
     fn simple(&mut self, simple: &'a Simple) {
         if simple.sign.is_some() || !simple.more.is_empty() {
-            self.note(simple.first.first_token(), Spot::Added(simple, 0));
-            self.note(simple.first_token(), Spot::Added(simple, 0));
+            self.note(simple.first.first_token(), Spot::Added(simple, None));
+            self.note(simple.first_token(), Spot::Added(simple, None));
         }
         self.term(&simple.first);
-        let mut number: u32 = 1;
         for added in simple.more.as_slice() {
-            self.note(added.term.first_token(), Spot::Added(simple, number));
+            self.note(added.term.first_token(), Spot::Added(simple, Some(added)));
             self.term(&added.term);
-            number = number.saturating_add(1);
         }
     }
 
     #[cycle(expression)]
     fn term(&mut self, term: &'a Term) {
-        if !term.more.is_empty() {
-            self.note(term.first_token(), Spot::Multiplied(term, 0));
+        if let Some(next) = term.more.get(0) {
+            self.note(
+                term.first_token(),
+                Spot::Multiplied(term, &term.first, next.operator),
+            );
         }
         self.factor(&term.first);
-        let mut number: u32 = 1;
         for multiplied in term.more.as_slice() {
+            let factor = &multiplied.factor;
             self.note(
-                multiplied.factor.first_token(),
-                Spot::Multiplied(term, number),
+                factor.first_token(),
+                Spot::Multiplied(term, factor, multiplied.operator),
             );
-            self.factor(&multiplied.factor);
-            number = number.saturating_add(1);
+            self.factor(factor);
         }
     }
 

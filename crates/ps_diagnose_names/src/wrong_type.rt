@@ -29,8 +29,10 @@ impl<'a> Context<'a> {
                 self.wrong_index(variable, before, number, value, why)
             }
             Spot::Not(at, factor) => self.wrong_not(at, factor, why),
-            Spot::Added(simple, number) => self.wrong_added(simple, number, why),
-            Spot::Multiplied(term, number) => self.wrong_multiplied(term, number, why),
+            Spot::Added(simple, added) => self.wrong_added(simple, added, why),
+            Spot::Multiplied(term, factor, operator) => {
+                self.wrong_multiplied(term, factor, operator, why)
+            }
             Spot::Compare(left, relation, right) => self.wrong_compare(left, relation, right, why),
             Spot::Member(all, value) => self.wrong_member(all, value, why),
             Spot::Passed(routine, number, value) => {
