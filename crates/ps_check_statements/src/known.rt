@@ -53,18 +53,17 @@ fn same_source(a: Source, b: Source) -> bool
     }
 }
 
-/// The bytes by which a source is found.
-pub(crate) fn key_of(alloc: Global, source: Source) -> Result<Vec<u8>, AllocError> {
+/// The bytes by which a source is found: its numbers, and two bits for its kind. Where two sources have the same, the
+/// later stands in the place of the other.
+pub(crate) fn key_of(source: Source) -> [u8; 16] {
     let (kind, first, second) = match source {
-        Source::Variable { up, place } => (0, up as usize, place),
-        Source::Own { record, field } => (1, record, field),
-        Source::Outer { which, field } => (2, which, field),
-        Source::Pointed(number) => (3, number as usize, 0),
+        Source::Variable { up, place } => (0, up as u128, place),
+        Source::Own { record, field } => (1, record as u128, field),
+        Source::Outer { which, field } => (2, which as u128, field),
+        Source::Pointed(number) => (3, number as u128, 0),
     };
-    let mut key = Vec::from_slice(alloc, first.to_le_bytes().as_slice())?;
-    key.extend_from_slice(second.to_le_bytes().as_slice())?;
-    key.push(kind)?;
-    Ok(key)
+    let key = first << 66 | (second as u128) << 2 | kind;
+    key.to_le_bytes()
 }
 
 /// Puts a source and the number of a record in the place of others.

@@ -161,7 +161,7 @@ fn open_again<'a>(
         all.0.records.items all.1) }
     ensures wides { IfOk result (λ all. all.0.wides.now ≡ opened.entry.wides.now) }
 {
-    let key = key_of(site.alloc, source)?;
+    let key = key_of(source);
     match known.find(key.as_slice(), source) {
         Some(like) => Ok((opened.with_like(site.alloc, ty, like)?, known)),
         None => {

@@ -12,12 +12,12 @@ with_like-requires c =
     λ other is. gives_one domains Γ records c.args.source c.in-Some.like (type_of c.args.ty) other
     (c.in-Some.ensures domains Γ records c.requires.known) c.requires.given is
 
-pub returns-in-Some-clause-known : goal.returns-in-Some-clause-known
-returns-in-Some-clause-known c = rw c.in_ok-with_like-in-Some.ensures.records (knows_more (context_at c.args.site).domains
+pub returns-in_ok-with_like-in-Some-clause-known : goal.returns-in_ok-with_like-in-Some-clause-known
+returns-in_ok-with_like-in-Some-clause-known c = rw c.in_ok-with_like-in-Some.ensures.records (knows_more (context_at c.args.site).domains
     (regions_at c.args.site) c.args.opened.records.items c.args.known c.args.ty c.requires.known)
 
-pub returns-clause-known : goal.returns-clause-known
-returns-clause-known c =
+pub returns-in_ok-with-in-None-clause-known : goal.returns-in_ok-with-in-None-clause-known
+returns-in_ok-with-in-None-clause-known c =
     let domains = (context_at c.args.site).domains in
     let Γ = regions_at c.args.site in
     let records = c.args.opened.records.items in
