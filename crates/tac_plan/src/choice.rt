@@ -104,6 +104,29 @@ fn minded_of(
     Ok(minded)
 }
 
+// The plan of a routine in which regions hold something.
+fn drafted(
+    alloc: Global,
+    site: Site<'_>,
+    items: &mut Items,
+    parts: &[Part],
+) -> Result<Plan, OutOfMemory> {
+    let minded = minded_of(alloc, &site, items, parts)?;
+    let mut draft = Draft::new(alloc, site, items, minded.as_slice())?;
+    draft.plan(parts)
+}
+
+// A plan for a routine that has such words, if some region holds one.
+fn planned(alloc: Global, site: Site<'_>, items: &mut Items) -> Result<Option<Plan>, OutOfMemory> {
+    let regions = regions_of(alloc, site.flow)?;
+    let parts = parts_of(alloc, &site, items, regions.as_slice())?;
+    if parts.len() == 0 {
+        return Ok(None);
+    }
+    let plan = drafted(alloc, site, items, parts.as_slice())?;
+    Ok(Some(plan))
+}
+
 /// A plan for a routine. None where nothing is won, or none is found.
 pub fn plan_of(
     alloc: Global,
@@ -121,18 +144,11 @@ pub fn plan_of(
     if items.list.len() == 0 {
         return Ok(None);
     }
-    let regions = regions_of(alloc, &flow)?;
     let site = Site {
         number,
         routine,
         temporaries: most_temporaries(routine),
         flow: &flow,
     };
-    let parts = parts_of(alloc, &site, &mut items, regions.as_slice())?;
-    if parts.len() == 0 {
-        return Ok(None);
-    }
-    let minded = minded_of(alloc, &site, &mut items, parts.as_slice())?;
-    let mut draft = Draft::new(alloc, site, &items, minded.as_slice())?;
-    Ok(Some(draft.plan(parts.as_slice())?))
+    planned(alloc, site, &mut items)
 }

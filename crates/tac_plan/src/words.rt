@@ -351,6 +351,27 @@ fn held_pins(
     }))
 }
 
+// Holders for as many of the first words of a choice as there are some for.
+fn most_pins(
+    alloc: Global,
+    items: &Items,
+    list: &[usize],
+    look: &Look<'_>,
+    usable: u64,
+) -> Result<Pins, OutOfMemory> {
+    let mut many = list.len();
+    for _ in 0..list.len() {
+        if many <= list.len() {
+            let held = &list[..many];
+            if let Some(pins) = held_pins(alloc, items, held, look, usable)? {
+                return Ok(pins);
+            }
+        }
+        many = many.saturating_sub(1);
+    }
+    Ok(Pins::none(alloc, look.may_see()))
+}
+
 /// Chooses what a region holds, the word that is worth most first.
 pub fn pins_in(
     alloc: Global,
@@ -373,15 +394,5 @@ pub fn pins_in(
         return Ok(Pins::none(alloc, true));
     }
     let choice = chosen(alloc, items, &look)?;
-    let mut many = choice.list.len();
-    for _ in 0..choice.list.len() {
-        if many <= choice.list.len() {
-            let held = &choice.list.as_slice()[..many];
-            if let Some(pins) = held_pins(alloc, items, held, &look, usable)? {
-                return Ok(pins);
-            }
-        }
-        many = many.saturating_sub(1);
-    }
-    Ok(Pins::none(alloc, look.may_see()))
+    most_pins(alloc, items, choice.list.as_slice(), &look, usable)
 }

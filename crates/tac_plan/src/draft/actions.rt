@@ -207,27 +207,27 @@ impl<'a> Draft<'a> {
         if at >= self.words.len() {
             return Action::Keep(0);
         }
-        let holder = self.words[at].holder;
-        let waits = place < self.settles
-            && (self.is_unseen || self.holder_of(from) == holder)
-            && !self.is_busy(place, from, holder);
-        if self.words[at].is_fixed && !waits {
-            self.words[at].is_held = self.holder_of(from) == holder;
-            self.words[at].is_elsewhere = true;
+        let mut held = self.words[at];
+        let is_there = self.holder_of(from) == held.holder;
+        let is_busy = self.is_busy(place, from, held.holder);
+        let waits = place < self.settles && (self.is_unseen || is_there) && !is_busy;
+        if held.is_fixed && !waits {
+            held.is_held = is_there;
+            held.is_elsewhere = true;
+            self.words[at] = held;
             return Action::Keep(0);
         }
-        if self.is_laid_bare(place) || self.is_busy(place, from, holder) {
-            self.words[at].is_held = false;
-            self.words[at].is_elsewhere = true;
-            self.words[at].is_stale = false;
-            return Action::Keep(0);
-        }
-        self.words[at].is_held = true;
-        self.words[at].is_stale = true;
-        if self.holder_of(from) == holder {
+        let is_lost = is_busy || self.is_laid_bare(place);
+        held.is_held = !is_lost;
+        held.is_elsewhere |= is_lost;
+        held.is_stale = !is_lost;
+        self.words[at] = held;
+        if is_lost {
+            Action::Keep(0)
+        } else if is_there {
             Action::Spare
         } else {
-            Action::Move(holder)
+            Action::Move(held.holder)
         }
     }
 
