@@ -19,7 +19,7 @@ const LONGEST: u32 = 100;
 impl<'a> Context<'a> {
     /// A value that cannot be assigned.
     pub(crate) fn not_assignable(&self, why: &mut Why) -> bool {
-        match (self.seen.assignment, self.seen.passed) {
+        match (self.seen().assignment, self.passed()) {
             (Some((variable, value)), _) => self.wrong_assignment(variable, value, why),
             (None, Some(passed)) => self.wrong_passing(passed, why),
             (None, None) => false,

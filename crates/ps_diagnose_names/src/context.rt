@@ -1,6 +1,6 @@
 //! What is known where a reason is looked for, and how forms are put into words.
 
-use crate::spot::{Seen, Spot};
+use crate::spot::{Passed, Seen, Spot, seen_among};
 use crate::why::Why;
 use ps_diagnose::{ReportedFault, Text};
 use ps_diagnose_outline::{Outline, PointKind, Type};
@@ -15,8 +15,6 @@ pub(crate) struct Context<'a> {
     pub(crate) outline: Outline<'a>,
     /// What the place may be the place of, from the outside in.
     pub(crate) spots: Vec<Spot<'a>>,
-    /// The same by their kinds.
-    pub(crate) seen: Seen<'a>,
     /// The control variables of the `for` statements round the place, from the inside out.
     pub(crate) controls: Vec<Span>,
     /// Where else the name stands that is not declared.
@@ -70,6 +68,22 @@ fn put_spaces(out: &mut Text, count: u32) {
 }
 
 impl<'a> Context<'a> {
+    /// What the place may be the place of, by kinds. It is made where it is asked for, and is no field: else the type that
+    /// every function here takes would lead to those of the whole tree, and each proof would be the longer.
+    pub(crate) fn seen(&self) -> Seen<'a> {
+        seen_among(self.spots.as_slice())
+    }
+
+    /// The parameter at the place.
+    pub(crate) fn passed(&self) -> Option<Passed<'a>> {
+        self.seen().passed
+    }
+
+    /// Whether the place is a control variable.
+    pub(crate) fn is_control(&self) -> bool {
+        self.seen().is_control
+    }
+
     /// Puts what stands in a span.
     pub(crate) fn put_text(&self, out: &mut Text, span: Span) {
         out.put_made(self.outline.text(self.alloc, span));

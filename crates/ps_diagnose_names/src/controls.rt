@@ -16,7 +16,7 @@ impl<'a> Context<'a> {
         };
         match self.open_control(point) {
             Some(control) => self.changed_within(control, why),
-            None if self.seen.is_control => self.foreign_control(point, why),
+            None if self.is_control() => self.foreign_control(point, why),
             None => {
                 why.form = "`@p` controls a `for` of the block around, and is changed here";
                 if let Some(control) = self.for_of(point) {
@@ -77,13 +77,13 @@ impl<'a> Context<'a> {
     // A change within the `for`.
     fn changed_within(&self, control: Span, why: &mut Why) {
         why.mark = self.for_mark(control);
-        if self.seen.is_control {
+        if self.is_control() {
             why.form = "`@p` controls a `for`, and another one within it";
             why.help = Help::Is("each of two loops in one another has a variable of its own");
             return;
         }
         why.help = Help::Is("a loop that may end early is a `while` or a `repeat`");
-        let Some(passed) = self.seen.passed else {
+        let Some(passed) = self.passed() else {
             why.form = "`@p` controls a `for`, and is assigned within it";
             return;
         };
@@ -119,7 +119,7 @@ impl<'a> Context<'a> {
 
     /// A part of a packed variable that is passed.
     pub(crate) fn packed_variable(&self, why: &mut Why) -> bool {
-        let Some(passed) = self.seen.passed else {
+        let Some(passed) = self.passed() else {
             return false;
         };
         let Some(formal) = self.formal_of(passed) else {

@@ -12,7 +12,7 @@ impl<'a> Context<'a> {
         if self.unlike_passed(why) {
             return true;
         }
-        let Some((name, given)) = self.seen.called else {
+        let Some((name, given)) = self.seen().called else {
             return false;
         };
         match self.outline.declared(name) {
@@ -85,7 +85,7 @@ impl<'a> Context<'a> {
 
     // A routine that is passed and has other parameters.
     fn unlike_passed(&self, why: &mut Why) -> bool {
-        let Some(passed) = self.seen.passed else {
+        let Some(passed) = self.passed() else {
             return false;
         };
         match self.formal_of(passed) {

@@ -36,7 +36,7 @@ impl<'a> Context<'a> {
 
     // A name of a kind that cannot stand there, as far as the constructs round it tell.
     fn kind_told(&self, why: &mut Why) -> bool {
-        let is_found = match (self.seen.passed, self.seen.target) {
+        let is_found = match (self.passed(), self.seen().target) {
             (Some(passed), _) => self.wrong_parameter(passed, why),
             (None, Some(name)) => self.kind_in(name, &TARGET, why),
             (None, None) => false,
@@ -258,7 +258,7 @@ impl<'a> Context<'a> {
     // A constant's place elsewhere.
     fn no_constant(&self, why: &mut Why) -> bool {
         let is_told = self.kind_in(self.fault.place, &CONSTANT, why);
-        if is_told && self.seen.case_constant.is_some() {
+        if is_told && self.seen().case_constant.is_some() {
             why.help = Help::Is("compare with variables by `if .. then .. else`");
         }
         is_told

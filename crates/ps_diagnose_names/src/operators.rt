@@ -121,7 +121,7 @@ impl<'a> Context<'a> {
             "`@w` binds tighter than `@a`: each comparison stands between parentheses",
             before,
         );
-        if let Some((left, ..)) = self.seen.compared {
+        if let Some((left, ..)) = self.seen().compared {
             let inner = Span {
                 from: self.simple_span(left).from,
                 to: operand.to,
@@ -299,7 +299,7 @@ impl<'a> Context<'a> {
 
     // Whether the place is in a parameter of `write`, or behind a sign as it stands in one.
     fn is_written(&self) -> bool {
-        if let Some(passed) = self.seen.passed {
+        if let Some(passed) = self.passed() {
             return self.is_writing(passed.routine);
         }
         match self.outline.token_before(self.fault.place.from) {

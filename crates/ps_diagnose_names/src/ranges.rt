@@ -11,7 +11,7 @@ use ps_text::Span;
 impl<'a> Context<'a> {
     /// A range that goes down.
     pub(crate) fn bad_subrange(&self, why: &mut Why) -> bool {
-        let Some((low, high)) = self.seen.range else {
+        let Some((low, high)) = self.seen().range else {
             return false;
         };
         let first = constant_span(low);
@@ -48,7 +48,7 @@ impl<'a> Context<'a> {
 
     /// A set of values that no set holds.
     pub(crate) fn set_base(&self, why: &mut Why) -> bool {
-        let Some(base) = self.seen.set_base else {
+        let Some(base) = self.seen().set_base else {
             return false;
         };
         let text = match base {
@@ -85,7 +85,7 @@ impl<'a> Context<'a> {
 
     /// A constant that stands twice in a `case`.
     pub(crate) fn case_twice(&self, why: &mut Why) -> bool {
-        let Some((constant, elements)) = self.seen.case_constant else {
+        let Some((constant, elements)) = self.seen().case_constant else {
             return false;
         };
         let Some(first) = self.same_constant(constant, elements) else {

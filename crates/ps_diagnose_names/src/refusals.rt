@@ -1,7 +1,7 @@
 //! The sentence of a refusal.
 
 use crate::context::Context;
-use crate::spot::{Spot, seen_among};
+use crate::spot::Spot;
 use crate::uses::other_uses;
 use crate::walk::Walk;
 use crate::why::Why;
@@ -49,13 +49,11 @@ fn context_of<'a>(
         _ => Vec::new(alloc),
     };
     let (spots, controls) = looked_for(alloc, fault.place.from, program)?;
-    let seen = seen_among(spots.as_slice());
     Ok(Context {
         alloc,
         fault,
         outline,
         spots,
-        seen,
         controls,
         uses,
     })

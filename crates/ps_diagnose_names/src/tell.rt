@@ -207,7 +207,7 @@ impl<'a> Context<'a> {
 
     // Tries a comparison for each operand of `or`, where the right side of one is meant as several values.
     fn try_each_compared(&self, out: &mut Telling) {
-        let Some((left, relation, values)) = self.seen.compared else {
+        let Some((left, relation, values)) = self.seen().compared else {
             return;
         };
         if values.first_token() != self.fault.place.from {
@@ -238,7 +238,7 @@ impl<'a> Context<'a> {
 
     // Tries a comma for each `+` of the sum at the place.
     fn try_commas(&self, out: &mut Telling, why: &Why) {
-        let Some(sum) = self.seen.sum else {
+        let Some(sum) = self.seen().sum else {
             return;
         };
         let terms = sum.more.as_slice();

@@ -61,7 +61,7 @@ impl<'a> Context<'a> {
 
     // What may be meant: a constant of the enumeration that is wanted, or a string where the name is written once, and used nowhere else.
     fn with_value(&self, why: &mut Why) {
-        let is_writing = match self.seen.passed {
+        let is_writing = match self.passed() {
             Some(passed) => self.is_writing(passed.routine),
             None => false,
         };

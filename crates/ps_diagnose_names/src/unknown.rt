@@ -29,7 +29,7 @@ const MOST_PLACES: usize = 6;
 impl<'a> Context<'a> {
     /// Tells of a name that is not declared.
     pub(crate) fn unknown(&self, out: &mut Telling) -> Result<(), AllocError> {
-        if let Some((variable, before)) = self.seen.selected {
+        if let Some((variable, before)) = self.seen().selected {
             return self.unknown_field(out, variable, before);
         }
         let mut why = Why::new();
@@ -289,7 +289,7 @@ impl<'a> Context<'a> {
                 why.kind = point.kind;
                 why.text = routine;
                 why.mark = Mark::Here(point.name);
-                if self.seen.is_control {
+                if self.is_control() {
                     why.help = Help::Is("declare it in this block too");
                     self.with_variable(self.block_here(), why);
                 } else if is_variable(point.kind) {
